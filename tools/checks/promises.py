@@ -10,7 +10,7 @@ docs/PROMISES.md, in the sections of crates ('## `NAME`'):
     Words: `FILE.antt`: `definition`, ..           the file in crates/NAME/specs, and public definitions there. The last column of
                                                    a table is read in the same way
 
-A path with a slash begins with a crate's name. Each promise has its 'At', and each row of a table a file. The items of its numbered list begin with a file, in which all that stands in backticks
+A path with a slash begins with a crate's name, or with `Promised/`, the folder of `specs` with what promises rest on. Each promise has its 'At', and each row of a table a file. The items of its numbered list begin with a file, in which all that stands in backticks
 behind it is written.
 
 Each function with a contract that other crates may call, and each public type or trait with ghost items, has a comment above it, or its
@@ -222,7 +222,8 @@ class Section:
         found: list[tuple[str, list[Token]]] = []
         for line, token in tokens:
             if token.endswith(ending):
-                path = f"crates/{token}" if "/" in token else f"crates/{self.crate}/{part}/{token}"
+                is_own = token.startswith("Promised/") or "/" not in token
+                path = f"crates/{self.crate}/{part}/{token}" if is_own else f"crates/{token}"
                 if self.tell(line, unless(is_there(path), f"there is no file {path}")):
                     found.append((path, []))
             elif not path:

@@ -40,12 +40,14 @@ class Name(NamedTuple):
 
 # What is read by a law in its place: two trees, and two labels as trees of one node, pass `same` exactly if they are equal. The rules of an
 # impl are those of the arguments that fit and make its header the reference.
-EQUALITY = Name("Rattle.type_terms.specs.Laws", "SameIsEqual")
+EQUALITY = Name("Rattle.type_terms.specs.Promised.ReadByLaws", "SameIsEqual")
 LAWS = {
     Name("Rattle.type_terms.specs.Codes", "same"): EQUALITY,
     Name("Rattle.type_terms.specs.Codes", "same_label"): EQUALITY,
-    Name("Rattle.type_terms.specs.Rules", "impl_rules"): Name("Rattle.overlap_check.specs.ImplRules", "ImplRulesAreInstances"),
+    Name("Rattle.type_terms.specs.Promised.Rules", "impl_rules"): Name("Rattle.type_terms.specs.Promised.ReadByLaws", "ImplRulesAreInstances"),
 }
+BOOK = ".specs.Promised."
+NO_DEFINITION = ("use", "infixl", "infixr")
 HEAD = re.compile(r"^( *)(?:(?:unfoldable|abbrev|pub) )*(?:(record|data) )?(?:(?:abbrev|pub) )*([^\s:(){}]+)(?=[\s:(){]|$)")
 DECLARED = re.compile(r"^ +(?:abbrev|unfoldable|pub (?:abbrev|record|data)) ")
 RECORD = re.compile(r"\b(record|data)\b")
@@ -53,6 +55,7 @@ NO_ITEM = re.compile(r"pub mod | *module ")
 MUTUAL = re.compile(r"(?:abbrev )?mutual$")
 WORD = re.compile(r"[^\s(){}\[\],;]+")
 USE = re.compile(r"^ *(?:(?:unfoldable|abbrev|pub|ghost) )*use (Rattle\.[\w.]+?)(?:\.\{([^}]*)\})?(?: as (\w+))?;?\s*$")
+PASSED = re.compile(r"^pub use (Rattle\.[\w.]+)(?: as (\w+))?$", re.M)
 CLAUSE = re.compile(r" *(requires|ensures)\b *(\w*)")
 BODY = re.compile(r" *(\{|\}|\{ *\})$")
 IMPL = re.compile(r"impl(?:<[^>]*>)? (?:.* for )?(\w+)")
@@ -62,6 +65,21 @@ WIDE = 160
 
 
 # ---- modules of specs/
+
+
+@lru_cache(maxsize=None)
+def passed_on(crate: str) -> dict[str, str]:
+    """What specs/Lib.antt of the crate passes on of other libraries: names, with the whole names of their modules."""
+    path = TOP / "crates" / crate / "specs" / "Lib.antt"
+    text = path.read_text(encoding="utf-8") if path.is_file() else ""
+    return {found[2] or found[1].rpartition(".")[2]: found[1] for found in PASSED.finditer(text)}
+
+
+def standing(module: str) -> str:
+    """The module's own name, where a crate that passes it on stands in the given one."""
+    parts = module.split(".")
+    passed = passed_on(parts[1]) if len(parts) > 3 and parts[0] == "Rattle" and parts[2] == "specs" else {}
+    return standing(".".join([passed[parts[3]], *parts[4:]])) if parts[-1] and len(parts) > 3 and parts[3] in passed else module
 
 
 class Imports:
@@ -76,7 +94,7 @@ class Imports:
         found = USE.match(line)
         if not found:
             return False
-        module, names, alias = found[1], found[2] or "", found[3]
+        module, names, alias = standing(found[1]), found[2] or "", found[3]
         if alias and not names:
             self.aliases[alias] = module
         for it in names.split(",") if names else []:
@@ -107,6 +125,9 @@ class Module:
             self.is_mutual, self.item = True, ""
             return
         self.is_mutual = self.is_mutual and text.startswith(" ")
+        if "◌" in self.item and all(it in text.split() for it in self.item.split("◌") if it):
+            self.items[self.item].append(text)
+            return
         head = HEAD.match(text)
         if head and self.begins(text, len(head[1]), head[3]):
             self.item = head[3]
@@ -150,7 +171,11 @@ def named(texts: Iterable[str], imports: Imports, own: str = "") -> set[Name]:
     """The definitions that the texts name: those of the module that they stand in, and those that it imports."""
     module = module_of(own)
     found: set[Optional[Name]] = set()
-    for word in (it for text in texts for it in WORD.findall(text)):
+    words = {it for text in texts for it in WORD.findall(text)}
+    for operator in (it for it in {**imports.names, **(module.items if module else {})} if "◌" in it):
+        if all(part in words for part in operator.split("◌") if part):
+            found.add(Name(own, operator) if module and operator in module.items else find(imports.names[operator]))
+    for word in words:
         head, _, rest = word.partition(".")
         for part in (word, word.rstrip("."), head):
             if module and part in module.items:
@@ -318,6 +343,36 @@ def counts_of_contracts() -> dict[str, int]:
     return {"wide_contract_lines": wide, "names_in_several_files": several}
 
 
+# ---- the promised book
+
+
+def promised_modules() -> list[str]:
+    """The modules of all folders specs/Promised."""
+    files = sorted((TOP / "crates").glob("*/specs/Promised/*.antt"))
+    return [f"Rattle.{it.parts[-4]}{BOOK}{it.stem}" for it in files]
+
+
+def is_commented(it: Name) -> bool:
+    """Whether a comment stands above the definition, or above the `mutual` block that begins with it."""
+    parts = it.module.split(".")
+    lines = TOP.joinpath("crates", parts[1], "specs", *parts[3:]).with_suffix(".antt").read_text(encoding="utf-8").split("\n")
+    heads = [k for k, line in enumerate(lines) if (found := HEAD.match(line)) and found[3] == it.name]
+    return any(re.match(r" *--|(abbrev )?mutual", lines[k - 1]) for k in heads if k)
+
+
+def check_book(tally: Tally) -> None:
+    """Checks that exactly what the promised calls rest on stands in specs/Promised, and that each of it has a comment."""
+    reached = set().union(*(contract_of(*it).definitions() | ties_of(*it) for it in CALLS))
+    standing = {Name(module, name) for module in promised_modules() if (found := module_of(module)) for name in found.items}
+    for it in sorted(reached - standing):
+        tally.tell(f"{it.module}.{it.name}", "a promise rests on it, and it does not stand in specs/Promised")
+    for it in sorted(standing - reached - set(LAWS)):
+        if it.name not in NO_DEFINITION:
+            tally.tell(f"{it.module}.{it.name}", "it stands in specs/Promised, and no promise rests on it")
+    for it in sorted(reached & standing):
+        tally.expect(f"{it.module}.{it.name}", is_commented(it), "it has no comment")
+
+
 def figures() -> dict[str, tuple[int, ...]]:
     """The figures by name, each as its numbers."""
     found: dict[str, tuple[int, ...]] = {}
@@ -353,6 +408,7 @@ def check(tally: Tally, given: argparse.Namespace) -> None:
             print(f"{function}: {count_of(given.crate, function)}")
             tally.passed += 1
         return
+    check_book(tally)
     found = figures()
     if given.write:
         write(found)

@@ -3,11 +3,11 @@ use Rattle.std.proofs.Common.{◌≡◌, ℕ, suc, ◌+◌, Bool, true, false, c
 use Rattle.std.proofs.lemmas.Option.{slice_get-map}
 use Rattle.std.specs.Prelude.{slice_get, filter, codes, length}
 use Rattle.std.specs.Option.{option_map, option_map_or}
-use Rattle.type_terms.specs.Label.{Sort}
-use Rattle.type_terms.specs.Trees.{is_sort}
+use Rattle.type_terms.specs.Promised.Label.{Sort}
+use Rattle.type_terms.specs.Promised.Trees.{is_sort}
 use Rattle.std.specs.Fmt.{decimal}
 use Rattle.text_definitions.specs.Output.{place_in, unknown_text}
-use Rattle.text_definitions.specs.Declarations.{Variable}
+use Rattle.text_definitions.specs.Promised.Declarations.{Variable}
 use Rattle.text_definitions.specs.Names.{of_kind, text_at, param_texts}
 use Rattle.workspace.specs.Views.{sort_of_kind, sorted_params, variable_of}
 use Rattle.workspace.specs.declared.declared.Param.{Param}

@@ -1,10 +1,12 @@
 -- The step at a `dyn`, and steps that others stand for.
 use Rattle.std.proofs.Common.{◌≡◌, ℕ, ◌+◌, ◌≤◌, List, [], ◌∷◌, ◌++◌, Some, None, refl, sym, ap, ◌∙◌, subst, append-nil, arith, codes}
-use Rattle.type_terms.specs.Label.{dynamic, of_type}
-use Rattle.type_terms.specs.Trees.{Trees, none, tree, leaf, ◌+++◌}
+use Rattle.type_terms.specs.Promised.Label.{dynamic, of_type}
+use Rattle.type_terms.specs.Promised.Trees.{Trees, none, tree, leaf, ◌+++◌}
 use Rattle.text_definitions.specs.Output.{Names, texts, between, angled}
-use Rattle.type_terms.specs.Terms.{Entry, Is, trees_at, args_lists, bounds_lists}
-use Rattle.type_terms.specs.Kinds.{args_trees, autos_trees, principal_trees, bounds_trees, region_trees, region_label, bound_label, kind_trees}
+use Rattle.type_terms.specs.Promised.Handles.{Entry, Is, trees_at, bounds_lists}
+use Rattle.type_terms.specs.Terms.{args_lists}
+use Rattle.type_terms.specs.Kinds.{args_trees, autos_trees, principal_trees, bounds_trees, kind_trees}
+use Rattle.type_terms.specs.Promised.Handles.{region_trees, region_label, bound_label}
 use Rattle.type_terms.specs.declared.TraitId.{TraitId}
 use Rattle.type_terms.specs.declared.number.BoundVar.{BoundVar}
 use Rattle.type_terms.specs.declared.number.BoundVarIndexKind.{BoundVarIndexKind}

@@ -1,12 +1,12 @@
 -- The variables with a value of their own.
 use Rattle.std.proofs.Common.{◌≡◌, ℕ, zero, suc, ◌+◌, ◌<◌, ◌≤◌, arith, Bool, true, false, List, [], ◌∷◌, ◌++◌, map, length, drop, get_or, refl, sym, ap, subst, ◌∙◌, if◌then◌else◌, append_assoc, append-nil}
-use Rattle.type_terms.specs.Label.{infer}
-use Rattle.type_terms.specs.Trees.{Trees, leaf}
+use Rattle.type_terms.specs.Promised.Label.{infer}
+use Rattle.type_terms.specs.Promised.Trees.{Trees, leaf}
 use Rattle.type_terms.specs.Codes.{same}
-use Rattle.text_definitions.specs.Declarations.{Variable}
+use Rattle.text_definitions.specs.Promised.Declarations.{Variable}
 use Rattle.text_definitions.specs.Names.{valued, own_from}
-use Rattle.type_terms.specs.Kinds.{arg_trees, ArgHeld, ArgsHeld}
-use Rattle.type_terms.specs.Terms.{Entry}
+use Rattle.type_terms.specs.Promised.Handles.{arg_trees, ArgHeld, ArgsHeld}
+use Rattle.type_terms.specs.Promised.Handles.{Entry}
 use Rattle.type_terms.specs.declared.kinds.GenericArgKind.{GenericArgKind}
 use Rattle.workspace.specs.Views.{sort_of_kind, variable_of}
 use Rattle.workspace.specs.declared.cell.ParamKind.{ParamKind}

@@ -1,11 +1,14 @@
 -- The steps at lists of types and of auto traits.
 use Rattle.std.proofs.Common.{◌≡◌, ℕ, ◌+◌, true, false, List, [], ◌∷◌, ◌++◌, length, ◌≢◌, if◌then◌else◌, refl, sym, ap, ◌∙◌, subst, append_assoc, append-nil, arith, codes}
 use Rattle.std.specs.Borrow.{Bor}
-use Rattle.type_terms.specs.Label.{of_type, of_const, tuple, slice, array, fn_ptr}
-use Rattle.type_terms.specs.Trees.{Trees, none, tree, ◌+++◌, IsA, is_no_tree}
+use Rattle.type_terms.specs.Promised.Label.{of_type, of_const, tuple, slice, array, fn_ptr}
+use Rattle.type_terms.specs.Promised.Trees.{Trees, none, tree, ◌+++◌, IsA}
+use Rattle.type_terms.specs.Trees.{is_no_tree}
 use Rattle.text_definitions.specs.Output.{Names, texts, type_text, between, tuple_text, angled, output_part, ends_in_unit, is_unit, inputs, last_text}
-use Rattle.type_terms.specs.Terms.{Entry, term, Is, Has, trees_at, types, consts, type_lists, Lawful}
-use Rattle.type_terms.specs.Kinds.{TysHeld, tys_trees, args_trees, autos_trees, ArgsHeld}
+use Rattle.type_terms.specs.Promised.Handles.{Entry, term, Is, Has, trees_at, types, consts}
+use Rattle.type_terms.specs.Terms.{type_lists, Lawful}
+use Rattle.type_terms.specs.Kinds.{TysHeld, tys_trees, args_trees, autos_trees}
+use Rattle.type_terms.specs.Promised.Handles.{ArgsHeld}
 use Rattle.type_terms.specs.declared.kinds.Ty.{Ty}
 use Rattle.type_terms.specs.declared.kinds.Const.{Const}
 use Rattle.type_terms.specs.declared.TraitId.{TraitId}

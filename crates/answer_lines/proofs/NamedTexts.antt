@@ -1,8 +1,8 @@
 -- The texts of all values.
 use Rattle.std.proofs.Common.{◌≡◌, ℕ, List, [], map, ap, ◌∙◌}
-use Rattle.type_terms.specs.Label.{Sort}
-use Rattle.type_terms.specs.Trees.{Trees}
-use Rattle.text_definitions.specs.Declarations.{Declarations, Question, Variable}
+use Rattle.type_terms.specs.Promised.Label.{Sort}
+use Rattle.type_terms.specs.Promised.Trees.{Trees}
+use Rattle.text_definitions.specs.Promised.Declarations.{Declarations, Question, Variable}
 use Rattle.text_definitions.specs.Names.{question_names, free_unknowns, value_texts, valued, own_unknowns, answer_values}
 use Rattle.answer_lines.specs.Valued.{text_by}
 

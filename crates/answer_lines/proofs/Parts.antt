@@ -1,11 +1,13 @@
 -- The steps at what is left of lists, and what a loop over pieces keeps.
 use Rattle.std.proofs.Common.{◌≡◌, ℕ, ◌+◌, ◌<◌, Bool, true, false, List, [], ◌∷◌, ◌++◌, length, sym, ap, ◌∙◌, subst, append_assoc, append-nil, arith, codes}
 use Rattle.std.specs.Borrow.{Bor}
-use Rattle.type_terms.specs.Label.{of_const}
-use Rattle.type_terms.specs.Trees.{Trees, none, tree, ◌+++◌, IsA}
+use Rattle.type_terms.specs.Promised.Label.{of_const}
+use Rattle.type_terms.specs.Promised.Trees.{Trees, none, tree, ◌+++◌, IsA}
 use Rattle.text_definitions.specs.Output.{Names, texts, type_text}
-use Rattle.type_terms.specs.Terms.{Entry, Has, trees_at, types, consts, Lawful}
-use Rattle.type_terms.specs.Kinds.{TysHeld, tys_trees, args_trees, arg_trees, autos_trees, ArgHeld, ArgsHeld, region_trees}
+use Rattle.type_terms.specs.Promised.Handles.{Entry, Has, trees_at, types, consts}
+use Rattle.type_terms.specs.Terms.{Lawful}
+use Rattle.type_terms.specs.Kinds.{TysHeld, tys_trees, args_trees, autos_trees}
+use Rattle.type_terms.specs.Promised.Handles.{arg_trees, ArgHeld, ArgsHeld, region_trees}
 use Rattle.type_terms.specs.declared.TraitId.{TraitId}
 use Rattle.type_terms.specs.declared.region.Region.{Region}
 use Rattle.type_terms.specs.declared.kinds.Ty.{Ty}

@@ -1,7 +1,7 @@
 -- How steps come together, and the texts of lists.
 use Rattle.std.proofs.Common.{◌≡◌, ℕ, ◌+◌, ◌<◌, ◌≤◌, List, [], ◌∷◌, ◌++◌, refl, sym, ap, ◌∙◌, append_assoc, append-nil, arith, codes}
 use Rattle.text_definitions.specs.Output.{Names, between, tuple_text, inputs, last_text}
-use Rattle.type_terms.specs.Terms.{Entry}
+use Rattle.type_terms.specs.Promised.Handles.{Entry}
 use Rattle.answer_lines.specs.declared.piece.Piece.{Piece}
 use Rattle.answer_lines.specs.Pieces.{text_behind, pending, piece_text, PieceHeld, piece_load, Prints}
 use Rattle.answer_lines.proofs.Texts.{pending-append, load-pieces, held-append, between-behind}

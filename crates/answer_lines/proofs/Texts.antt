@@ -1,9 +1,9 @@
 -- Texts of trees, and what pieces come to.
 use Rattle.std.proofs.Common.{◌≡◌, ℕ, ◌+◌, true, false, List, [], ◌∷◌, ◌++◌, refl, sym, ap, append_assoc, append-nil, arith, cond}
-use Rattle.type_terms.specs.Label.{Sort, of_type, of_const, of_lifetime}
-use Rattle.type_terms.specs.Trees.{Trees, none, tree, ◌+++◌, sort_of, is_sort, IsA}
+use Rattle.type_terms.specs.Promised.Label.{Sort, of_type, of_const, of_lifetime}
+use Rattle.type_terms.specs.Promised.Trees.{Trees, none, tree, ◌+++◌, sort_of, is_sort, IsA}
 use Rattle.text_definitions.specs.Output.{Names, texts, type_text, node_text, between}
-use Rattle.type_terms.specs.Terms.{Entry}
+use Rattle.type_terms.specs.Promised.Handles.{Entry}
 use Rattle.answer_lines.specs.declared.piece.Piece.{Piece}
 use Rattle.answer_lines.specs.Pieces.{text_behind, pending, piece_text, PiecesHeld, load, pieces_load}
 

@@ -3,10 +3,10 @@ use Rattle.std.proofs.Common.{◌≡◌, ℕ, ◌<◌, ◌≤◌, ◌⊎◌, inl
 use Rattle.std.specs.Prelude.{slice_get, nat_lt}
 use Rattle.std.proofs.lemmas.Option.{slice_get_cases}
 use Rattle.std.proofs.lemmas.Bool.Decides.{nat_tests}
-use Rattle.type_terms.specs.Label.{Label, Sort, infer}
-use Rattle.type_terms.specs.Trees.{Trees, none, tree}
+use Rattle.type_terms.specs.Promised.Label.{Label, Sort, infer}
+use Rattle.type_terms.specs.Promised.Trees.{Trees, none, tree}
 use Rattle.type_terms.specs.Visits.{Visits, ended, passed, broken, entered, broken_below}
-use Rattle.text_definitions.specs.Declarations.{Question}
+use Rattle.text_definitions.specs.Promised.Declarations.{Question}
 use Rattle.text_definitions.specs.Names.{of_kind, with_free}
 use Rattle.workspace.specs.Views.{variable_of, question_of}
 use Rattle.workspace.specs.declared.declared.Param.{Param}

@@ -1,6 +1,6 @@
 -- What the values of the code stand for among the definitions.
 use Rattle.std.specs.Prelude.{ℕ, List, map}
-use Rattle.type_terms.specs.Label.{Sort}
+use Rattle.type_terms.specs.Promised.Label.{Sort}
 use Rattle.answer_lines.specs.Kinds as term
 use Rattle.answer_lines.specs.declared.question.Unknown.{Unknown}
 

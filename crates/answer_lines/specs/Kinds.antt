@@ -1,5 +1,5 @@
 -- What the values of the code stand for among the definitions.
-use Rattle.type_terms.specs.Label.{Sort, of_type, of_const}
+use Rattle.type_terms.specs.Promised.Label.{Sort, of_type, of_const}
 use Rattle.answer_lines.specs.declared.names.TermKind.{TermKind}
 use Rattle.answer_lines.specs.declared.names.TermKind.TheVariants.{Ty as KTy, Const as KConst}
 

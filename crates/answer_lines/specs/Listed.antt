@@ -1,12 +1,12 @@
 -- What listed values stand for among the definitions.
 use Rattle.std.specs.Prelude.{ℕ, suc, List, [], ◌∷◌, map, if◌then◌else◌}
-use Rattle.type_terms.specs.Label.{infer}
-use Rattle.type_terms.specs.Trees.{Trees, leaf}
+use Rattle.type_terms.specs.Promised.Label.{infer}
+use Rattle.type_terms.specs.Promised.Trees.{Trees, leaf}
 use Rattle.type_terms.specs.Codes.{same}
-use Rattle.text_definitions.specs.Declarations.{Variable}
+use Rattle.text_definitions.specs.Promised.Declarations.{Variable}
 use Rattle.text_definitions.specs.Names.{valued, own_from}
-use Rattle.type_terms.specs.Kinds.{arg_trees, ArgHeld}
-use Rattle.type_terms.specs.Terms.{Entry}
+use Rattle.type_terms.specs.Promised.Handles.{arg_trees, ArgHeld}
+use Rattle.type_terms.specs.Promised.Handles.{Entry}
 use Rattle.type_terms.specs.declared.kinds.GenericArgKind.{GenericArgKind}
 use Rattle.workspace.specs.Views.{sort_of_kind, variable_of}
 use Rattle.workspace.specs.declared.cell.ParamKind.{ParamKind}

@@ -1,7 +1,7 @@
 -- What the visitor that lists inference variables returns.
 use Rattle.std.specs.Prelude.{◌≡◌, Bool, true, false, refl}
-use Rattle.type_terms.specs.Label.{Label, infer, principal, auto_trait}
-use Rattle.type_terms.specs.Trees.{Trees, none, tree}
+use Rattle.type_terms.specs.Promised.Label.{Label, infer, principal, auto_trait}
+use Rattle.type_terms.specs.Promised.Trees.{Trees, none, tree}
 use Rattle.type_terms.specs.Visits.{IsBound}
 use Rattle.type_terms.specs.declared.visit.Seen.{Seen}
 use Rattle.type_terms.specs.declared.visit.Seen.TheVariants.{Break, Enter, Pass}

@@ -1,10 +1,11 @@
 -- What pieces stand for.
 use Rattle.std.specs.Prelude.{◌≡◌, ℕ, ◌+◌, ◌<◌, Bool, true, false, List, [], ◌∷◌, ◌++◌, codes}
-use Rattle.type_terms.specs.Trees.{Trees, none, tree, ◌+++◌}
-use Rattle.type_terms.specs.Label.{adt, tuple, fn_ptr}
+use Rattle.type_terms.specs.Promised.Trees.{Trees, none, tree, ◌+++◌}
+use Rattle.type_terms.specs.Promised.Label.{adt, tuple, fn_ptr}
 use Rattle.text_definitions.specs.Output.{Names, angled, between, texts, type_text, output_part}
-use Rattle.type_terms.specs.Terms.{Entry, Has, trees_at, types, consts}
-use Rattle.type_terms.specs.Kinds.{kind_trees, args_trees, tys_trees, autos_trees, ArgsHeld, TysHeld}
+use Rattle.type_terms.specs.Promised.Handles.{Entry, Has, trees_at, types, consts}
+use Rattle.type_terms.specs.Kinds.{kind_trees, args_trees, tys_trees, autos_trees, TysHeld}
+use Rattle.type_terms.specs.Promised.Handles.{ArgsHeld}
 use Rattle.type_terms.specs.declared.TraitId.{TraitId}
 use Rattle.type_terms.specs.declared.kinds.Ty.{Ty}
 use Rattle.type_terms.specs.declared.kinds.TyKind.{TyKind}

@@ -1,8 +1,8 @@
 -- The texts of names in explanations.
 use Rattle.std.specs.Prelude.{◌≡◌, ℕ, List, ◌++◌, map, codes, slice_get}
 use Rattle.std.specs.Option.{option_map_or}
-use Rattle.type_terms.specs.Label.{Sort}
-use Rattle.text_definitions.specs.Declarations.{Declarations}
+use Rattle.type_terms.specs.Promised.Label.{Sort}
+use Rattle.text_definitions.specs.Promised.Declarations.{Declarations}
 use Rattle.text_definitions.specs.Names.{of_kind, struct_text, text_at, trait_text}
 use Rattle.text_definitions.specs.Output.{Names}
 use Rattle.workspace.specs.Views.{param_names, variable_of}

@@ -1,6 +1,6 @@
 -- Values as texts.
-use Rattle.type_terms.specs.Trees.{Trees}
-use Rattle.text_definitions.specs.Declarations.{Variable}
+use Rattle.type_terms.specs.Promised.Trees.{Trees}
+use Rattle.text_definitions.specs.Promised.Declarations.{Variable}
 use Rattle.text_definitions.specs.Names.{question_names}
 use Rattle.text_definitions.specs.Output as output
 use Rattle.workspace.specs.Views.{question_of}

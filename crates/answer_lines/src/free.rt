@@ -1,13 +1,13 @@
 //! The variables in a query's values that are not the query's own.
 ghost use Rattle.std.specs.Prelude.{◌≡◌, length, nat_lt, OnOk, IfOk, map, []};
-ghost use Rattle.type_terms.specs.Label.{infer};
-ghost use Rattle.type_terms.specs.Trees.{leaf};
+ghost use Rattle.type_terms.specs.Promised.Label.{infer};
+ghost use Rattle.type_terms.specs.Promised.Trees.{leaf};
 ghost use Rattle.text_definitions.specs.Names as names;
 ghost use Rattle.text_definitions.specs.Names.{of_kind, with_free};
 ghost use Rattle.text_definitions.specs.Output.{is_in};
 ghost use Rattle.answer_lines.specs.Kinds.{sort_of_kind};
-ghost use Rattle.type_terms.specs.Terms.{Has, consts, trees_at};
-ghost use Rattle.type_terms.specs.Kinds.{arg_trees, ArgHeld};
+ghost use Rattle.type_terms.specs.Promised.Handles.{Has, consts, trees_at};
+ghost use Rattle.type_terms.specs.Promised.Handles.{arg_trees, ArgHeld};
 ghost use Rattle.workspace.specs.Views.{question_of};
 ghost use Rattle.answer_lines.specs.Called.{unknowns_of};
 ghost use Rattle.answer_lines.specs.Listed.{listed_of, ListHeld};

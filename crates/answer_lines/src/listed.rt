@@ -1,10 +1,10 @@
 //! The values of a query's variables that a line lists.
 ghost use Rattle.std.specs.Prelude.{◌≡◌, ◌≤◌, ◌++◌, ◌∷◌, [], map, OnOk, IfOk, suc};
-ghost use Rattle.type_terms.specs.Label.{infer};
-ghost use Rattle.type_terms.specs.Trees.{leaf};
+ghost use Rattle.type_terms.specs.Promised.Label.{infer};
+ghost use Rattle.type_terms.specs.Promised.Trees.{leaf};
 ghost use Rattle.type_terms.specs.Codes.{same};
-ghost use Rattle.type_terms.specs.Kinds.{region_trees, arg_trees, ArgHeld, ArgsHeld};
-ghost use Rattle.type_terms.specs.Terms.{Has, types, consts, trees_at};
+ghost use Rattle.type_terms.specs.Promised.Handles.{region_trees, arg_trees, ArgHeld, ArgsHeld};
+ghost use Rattle.type_terms.specs.Promised.Handles.{Has, types, consts, trees_at};
 ghost use Rattle.workspace.specs.Views.{sort_of_kind};
 ghost use Rattle.answer_lines.specs.Listed.{listed_of, ListHeld, own_number, counted, valued_one, valued_of};
 

@@ -3,7 +3,7 @@ ghost use Rattle.std.specs.Prelude.{◌≡◌, map, IfOk};
 ghost use Rattle.text_definitions.specs.Names as names;
 ghost use Rattle.text_definitions.specs.Output.{type_text};
 ghost use Rattle.answer_lines.specs.Answers.{value_of};
-ghost use Rattle.type_terms.specs.Kinds.{arg_trees, ArgHeld, ArgsHeld};
+ghost use Rattle.type_terms.specs.Promised.Handles.{arg_trees, ArgHeld, ArgsHeld};
 ghost use Rattle.workspace.specs.Views.{question_of};
 ghost use Rattle.answer_lines.specs.Listed.{listed_of, ListHeld};
 ghost use Rattle.answer_lines.specs.Valued.{names_of, text_by};

@@ -1,7 +1,7 @@
 //! Parameters and variables of one kind.
 ghost use Rattle.std.specs.Prelude.{◌≡◌, ◌++◌, slice_get, filter, OnOk};
 ghost use Rattle.std.specs.Option.{option_map};
-ghost use Rattle.type_terms.specs.Trees.{is_sort};
+ghost use Rattle.type_terms.specs.Promised.Trees.{is_sort};
 ghost use Rattle.answer_lines.specs.Kinds as term;
 ghost use Rattle.workspace.specs.Views as param;
 

@@ -3,9 +3,11 @@
 ghost use Rattle.std.specs.Prelude.{◌≡◌, ◌≢◌, ◌++◌, false, length, OnOk, codes, []};
 ghost use Rattle.std.specs.Fmt.{decimal};
 ghost use Rattle.type_terms.specs.Trees.{is_no_tree};
-ghost use Rattle.type_terms.specs.Label.{tuple, fn_ptr, adt};
-ghost use Rattle.type_terms.specs.Terms.{Has, Lawful, trees_at, types, consts, bounds_lists};
-ghost use Rattle.type_terms.specs.Kinds.{kind_trees, args_trees, tys_trees, autos_trees, int_number, uint_number, is_mut, KindHeld, ArgsHeld, TysHeld};
+ghost use Rattle.type_terms.specs.Promised.Label.{tuple, fn_ptr, adt};
+ghost use Rattle.type_terms.specs.Promised.Handles.{Has, trees_at, types, consts, bounds_lists};
+ghost use Rattle.type_terms.specs.Terms.{Lawful};
+ghost use Rattle.type_terms.specs.Kinds.{kind_trees, args_trees, tys_trees, autos_trees, int_number, uint_number, is_mut, KindHeld, TysHeld};
+ghost use Rattle.type_terms.specs.Promised.Handles.{ArgsHeld};
 ghost use Rattle.text_definitions.specs.Output.{type_text, int_name, ends_in_unit};
 ghost use Rattle.answer_lines.specs.Shown.{IsBeginning};
 ghost use Rattle.answer_lines.specs.Pieces.{ref_sign, raw_ptr_sign, arg_sign, more_args, PieceHeld, PrintsTrees, PrintsPiece, PushesTypes, PushesOutput, PrintsPrincipalOf, PrintsAutos, PrintsKind, PrintsAdt, PrintsTuple, PrintsFn, PrintsArg, PrintsTypes, PrintsArgs, PrintsMoreAutos};

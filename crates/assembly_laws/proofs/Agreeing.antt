@@ -1,7 +1,8 @@
 -- Readings agree where what stands for the variables agrees.
 use Rattle.std.proofs.Common.{◌≡◌, ℕ, zero, suc, Bool, true, false, not, ◌&&◌, ◌||◌, List, [], ◌∷◌, ◌++◌, refl, sym, ◌∙◌, ap, Some}
-use Rattle.type_terms.specs.Label.{Label, Sort, of_type, of_const, of_lifetime, dynamic, principal, auto_trait, param, placeholder, infer, canonical, bound, static, predicate}
-use Rattle.type_terms.specs.Trees.{Trees, none, tree, ◌+++◌, erase_label, placed, is_no_tree, is_sort, sort_of}
+use Rattle.type_terms.specs.Promised.Label.{Label, Sort, of_type, of_const, of_lifetime, dynamic, principal, auto_trait, param, placeholder, infer, canonical, bound, static, predicate}
+use Rattle.type_terms.specs.Promised.Trees.{Trees, none, tree, ◌+++◌, erase_label, is_sort, sort_of}
+use Rattle.type_terms.specs.Trees.{placed, is_no_tree}
 use Rattle.type_terms.proofs.Walking.{left, right}
 use Rattle.type_terms.specs.Made.{terms}
 use Rattle.type_terms.specs.Made.{bounds}

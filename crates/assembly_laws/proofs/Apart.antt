@@ -1,8 +1,9 @@
 -- Arguments that are apart have no common instance: what is fixed stays as it is, whatever is put in, and what is read as one is not kept apart by its first levels.
 use Rattle.std.proofs.Common.{◌≡◌, ℕ, zero, true, not, List, refl, sym, ap, ◌∙◌, subst}
-use Rattle.type_terms.specs.Label.{Label, of_type, of_const, of_lifetime, static, fn_ptr, principal, param, placeholder, infer, canonical, bound}
-use Rattle.type_terms.specs.Trees.{Trees, none, tree, erase, erase_label, instantiate, flags, label_flags}
-use Rattle.type_terms.specs.Answers.{is_open}
+use Rattle.type_terms.specs.Promised.Label.{Label, of_type, of_const, of_lifetime, static, fn_ptr, principal, param, placeholder, infer, canonical, bound}
+use Rattle.type_terms.specs.Promised.Trees.{Trees, none, tree, erase, erase_label, instantiate}
+use Rattle.type_terms.specs.Trees.{flags, label_flags}
+use Rattle.type_terms.specs.Promised.Answers.{is_open}
 use Rattle.type_terms.specs.Codes.{same}
 use Rattle.type_terms.proofs.Applies.{same-complete}
 use Rattle.evaluation.specs.Instances.{read_with}

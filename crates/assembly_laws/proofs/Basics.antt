@@ -2,10 +2,10 @@
 use Rattle.std.proofs.Common.{List, ◌++◌, ◌≡◌, [], refl, ◌∷◌, ap, map, ◌∙◌}
 use Rattle.assembly_laws.specs.Candidates.{Candidate}
 use Rattle.assembly_laws.specs.DeclaredWell.{are_distinct}
-use Rattle.type_terms.specs.Rules.{autos_with, same_head}
-use Rattle.type_terms.specs.Trees.{Trees, none, erase, tree, erase_label}
-use Rattle.type_terms.specs.Worlds.{Reference}
-use Rattle.type_terms.specs.Label.{Label}
+use Rattle.type_terms.specs.Promised.Rules.{autos_with, same_head}
+use Rattle.type_terms.specs.Promised.Trees.{Trees, none, erase, tree, erase_label}
+use Rattle.type_terms.specs.Promised.Worlds.{Reference}
+use Rattle.type_terms.specs.Promised.Label.{Label}
 use Rattle.assembly_laws.specs.Asking.{with_plain_head}
 use Rattle.type_terms.proofs.TermBasics.{head-alone, label-is}
 

@@ -1,13 +1,14 @@
 -- The bounds of `dyn` types, with the supertraits of their principal traits, have made terms as arguments.
 use Rattle.std.proofs.Common.{◌≡◌, ℕ, zero, suc, Bool, true, false, not, ◌&&◌, ◌||◌, List, refl, ap, sym, subst}
 use Rattle.std.specs.List.{list_all}
-use Rattle.type_terms.specs.Label.{Label, of_type, of_const, of_lifetime, static, dynamic, principal, auto_trait, infer, param, placeholder, canonical, bound, inside, shift_label, of_trait, predicate}
-use Rattle.type_terms.specs.Trees.{Trees, none, tree, is_no_tree, is_sort, sort_of, some_node, nth, shift, instantiate}
-use Rattle.type_terms.specs.Worlds.{World, Reference, StructDecl, TraitDecl, ImplDecl}
-use Rattle.type_terms.specs.Rules.{principal_with}
-use Rattle.type_terms.specs.Proofs.{In}
+use Rattle.type_terms.specs.Promised.Label.{Label, of_type, of_const, of_lifetime, static, dynamic, principal, auto_trait, infer, param, placeholder, canonical, bound, inside, shift_label, of_trait, predicate}
+use Rattle.type_terms.specs.Promised.Trees.{Trees, none, tree, is_sort, sort_of, some_node, nth, shift, instantiate}
+use Rattle.type_terms.specs.Trees.{is_no_tree}
+use Rattle.type_terms.specs.Promised.Worlds.{World, Reference, StructDecl, TraitDecl, ImplDecl}
+use Rattle.type_terms.specs.Promised.Rules.{principal_with}
+use Rattle.type_terms.specs.Promised.Proofs.{In}
 use Rattle.type_terms.proofs.NoHolds.{member-each}
-use Rattle.type_terms.specs.Answers.{is_open}
+use Rattle.type_terms.specs.Promised.Answers.{is_open}
 use Rattle.type_terms.specs.Made.{Standing, terms, bounds, traits, is_leaf_label, is_made}
 use Rattle.type_terms.proofs.Made.{left, right, both, false-true, no-tree, made-ordinary, makes-ordinary, made-rest, made-alone, made-append, last-bound, last-trait, never-dynamic, never-dynamic-bound, never-principal}
 use Rattle.infer_table.specs.declared.canonical.CanonicalVarKind.{CanonicalVarKind}

@@ -1,14 +1,14 @@
 -- A rule of the view that concludes a solution is a candidate: row by row.
 use Rattle.std.proofs.Common.{◌≡◌, ℕ, Bool, true, false, ◌||◌, ◌==◌, if◌then◌else◌, List, [], ◌∷◌, ◌++◌, map, ◌⊎◌, inl, inr, refl, sym, ◌∙◌, ap, subst}
 use Rattle.std.specs.List.{flat_map}
-use Rattle.type_terms.specs.Label.{Label, of_type, param, placeholder, infer, canonical, bound, static}
-use Rattle.type_terms.specs.Label.{value}
-use Rattle.type_terms.specs.Trees.{Trees, tree, erase_label, is_sort, some_node}
-use Rattle.type_terms.specs.Worlds.{World, Reference}
-use Rattle.type_terms.specs.Rules.{Rule, rules, impl_rules, built_in_rules, plain_rules, sized, copy, clone, tuple_trait, fn_ptr_trait, is_fn_trait, unsize, is_auto, sized_rules, copy_rules, auto_rules, tuple_rules, fn_ptr_rules, call_rules, unsize_rules, object_rules}
-use Rattle.type_terms.specs.Proofs.{In}
-use Rattle.type_terms.specs.Proofs as Model
-use Rattle.type_terms.specs.Answers.{is_closed, is_open}
+use Rattle.type_terms.specs.Promised.Label.{Label, of_type, param, placeholder, infer, canonical, bound, static}
+use Rattle.type_terms.specs.Promised.Label.{value}
+use Rattle.type_terms.specs.Promised.Trees.{Trees, tree, erase_label, is_sort, some_node}
+use Rattle.type_terms.specs.Promised.Worlds.{World, Reference}
+use Rattle.type_terms.specs.Promised.Rules.{Rule, rules, impl_rules, built_in_rules, plain_rules, sized, copy, clone, tuple_trait, fn_ptr_trait, is_fn_trait, unsize, is_auto, sized_rules, copy_rules, auto_rules, tuple_rules, fn_ptr_rules, call_rules, unsize_rules, object_rules}
+use Rattle.type_terms.specs.Promised.Proofs.{In}
+use Rattle.type_terms.specs.Promised.Proofs as Model
+use Rattle.type_terms.specs.Promised.Answers.{is_closed, is_open}
 use Rattle.type_terms.proofs.Members.{here, there, in-nothing, in-cases, in-append}
 use Rattle.type_terms.proofs.Fitting.{child-shut}
 use Rattle.type_terms.proofs.Walking.{right}
@@ -73,7 +73,7 @@ module _ (H : Reference → Type 0) (V : World) (declared : is_declared_view V �
   gives-rule : (source : CandidateSource) (ps : List Reference) → Every (Proved H) (map (read_reference xs) ps) → SolvesEquations H a.kinds v (by_rule V a source [] ps)
   gives-rule source ps e = record { own = []; sorted = refl; equal = tt; solves = each ps e }
     where
-      each : (qs : List Reference) → Every (Proved H) (map (read_reference xs) qs) → Every (λ n. IsSolution H (nested_at xs n)) (map (premise a (Rattle.type_terms.specs.Rules.is_coinductive V a.reference.trait)) qs)
+      each : (qs : List Reference) → Every (Proved H) (map (read_reference xs) qs) → Every (λ n. IsSolution H (nested_at xs n)) (map (premise a (Rattle.type_terms.specs.Promised.Rules.is_coinductive V a.reference.trait)) qs)
       each [] f = tt
       each (q ∷ qs) f = (record { asks = refl; proper = refl; closed = f.0.0; proof = f.0.1 }, each qs f.1)
 

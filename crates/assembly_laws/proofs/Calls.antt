@@ -1,11 +1,11 @@
 -- Rows that equate: calls of fn pointers, and arrays that unsize to slices.
 use Rattle.std.proofs.Common.{◌≡◌, Bool, true, false, if◌then◌else◌, List, [], ◌∷◌, map, ◌⊎◌, inl, inr, refl, sym, ◌∙◌, ap, subst}
-use Rattle.type_terms.specs.Label.{Label, tuple, array, slice, fn_ptr}
-use Rattle.type_terms.specs.Trees.{Trees, none, tree, ◌+++◌}
-use Rattle.type_terms.specs.Worlds.{World, Reference}
-use Rattle.type_terms.specs.Rules.{Rule, row, fn_ptr_call, unsize_array, call_rules, unsize_array_rules, but_last, last_asked, sized, is_coinductive}
+use Rattle.type_terms.specs.Promised.Label.{Label, tuple, array, slice, fn_ptr}
+use Rattle.type_terms.specs.Promised.Trees.{Trees, none, tree, ◌+++◌}
+use Rattle.type_terms.specs.Promised.Worlds.{World, Reference}
+use Rattle.type_terms.specs.Promised.Rules.{Rule, row, fn_ptr_call, unsize_array, call_rules, unsize_array_rules, but_last, last_asked, sized, is_coinductive}
 use Rattle.type_terms.specs.Codes.{same}
-use Rattle.type_terms.specs.Proofs.{In}
+use Rattle.type_terms.specs.Promised.Proofs.{In}
 use Rattle.type_terms.proofs.Members.{in-nothing, in-cases}
 use Rattle.type_terms.proofs.Matching.{same-sound}
 use Rattle.type_terms.proofs.OpenWorld.{was-true}

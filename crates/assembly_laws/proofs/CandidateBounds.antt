@@ -1,26 +1,28 @@
 -- The bounds on candidates and nested goals, of which declarations whose names stand for one struct are within.
 use Rattle.std.proofs.Common.{◌≡◌, ℕ, zero, suc, ◌+◌, ◌*◌, ◌≤◌, max, Bool, true, false, List, [], ◌∷◌, ◌++◌, map, length, if◌then◌else◌, ◌==◌, ◌&&◌, ◌||◌, not, refl, sym, ap, subst, arith}
 use Rattle.std.specs.Prelude.{fold, Some}
-use Rattle.type_terms.specs.Label.{Label, of_lifetime, array, slice, dynamic, adt, fn_ptr, principal, param, placeholder, infer, canonical, bound, of_trait, predicate}
-use Rattle.type_terms.specs.Trees.{Trees, none, tree, erase_label}
-use Rattle.type_terms.specs.Worlds.{World, Reference, StructDecl, TraitDecl, ImplDecl, structs_named}
-use Rattle.type_terms.specs.Rules.{sized, clone, copy, tuple_trait, fn_ptr_trait, is_fn_trait, unsize, is_auto, is_coinductive, sized_rules, copy_rules, auto_rules, tuple_rules, fn_ptr_rules, unsize_to_dyn_rules, last_asked, principal_with, autos_with, are_dyn_compatible, together}
-use Rattle.type_terms.specs.Proofs.{In}
+use Rattle.type_terms.specs.Promised.Label.{Label, of_lifetime, array, slice, dynamic, adt, fn_ptr, principal, param, placeholder, infer, canonical, bound, of_trait, predicate}
+use Rattle.type_terms.specs.Promised.Trees.{Trees, none, tree, erase_label}
+use Rattle.type_terms.specs.Promised.Worlds.{World, Reference, StructDecl, TraitDecl, ImplDecl, structs_named}
+use Rattle.type_terms.specs.Promised.Rules.{sized, clone, copy, tuple_trait, fn_ptr_trait, is_fn_trait, unsize, is_auto, is_coinductive, sized_rules, copy_rules, auto_rules, tuple_rules, fn_ptr_rules, unsize_to_dyn_rules, last_asked, principal_with, autos_with, are_dyn_compatible, together}
+use Rattle.type_terms.specs.Promised.Proofs.{In}
 use Rattle.infer_table.specs.Canonical.{CanonicalForm}
 use Rattle.evaluation.specs.Plans.{nested_in}
 use Rattle.evaluation.specs.declared.candidate.CandidateSource.TheVariants.{BuiltinImpl, ParamEnv}
 use Rattle.evaluation.specs.declared.candidate.BuiltinImplSource.TheVariants.{Trivial}
 use Rattle.evaluation.specs.Tables.{frame_tables}
-use Rattle.evaluation.specs.Widths.{count, with_self, width, width_of_predicates, number_of}
+use Rattle.evaluation.specs.Promised.Widths.{count, with_self, width}
+use Rattle.evaluation.specs.Widths.{width_of_predicates, number_of}
 use Rattle.evaluation.proofs.Widths.{IsWithin, within}
 use Rattle.assembly_laws.specs.Facts.{clauses_of}
 use Rattle.assembly_laws.specs.Asking.{GoalOverKinds, goal_over_kinds, all_known, self_of, next_of, begins_unknown, with_plain_head, clauses}
-use Rattle.declarations.specs.Elaboration.{elaborate, supertraits}
+use Rattle.declarations.specs.Promised.Elaboration.{elaborate, supertraits}
 use Rattle.assembly_laws.specs.Meaning.{ViewMeaning}
 use Rattle.assembly_laws.specs.Declared.{StructsAreOne}
 use Rattle.assembly_laws.specs.Candidates.{Candidate, premise, by_rule, by_the_impl, rules_behind, misc, all_equal, unsure, unknowable, by_clauses, by_impls, can_match, by_sized, by_copy, by_auto, by_tuple, by_fn_ptr, call_of, by_call, unsize_array_of, upcasts_of, unsize_struct_of, unsize_known, unsizing_outlives, unsize_recording, by_unsize, built_in, object_source, written_source, objects_of, by_objects, as_written, clause_source}
 use Rattle.assembly_laws.specs.Cover.{all_candidates}
-use Rattle.assembly_laws.specs.Solver.{greatest, width_of, supers_of, declared_width, clauses_in, widest_of, most_candidates, number_at}
+use Rattle.assembly_laws.specs.Promised.Widths.{greatest, width_of, supers_of, declared_width, clauses_in, number_at}
+use Rattle.assembly_laws.specs.Solver.{widest_of, most_candidates}
 use Rattle.assembly_laws.proofs.Premises.{CandidatesAreFew, PremisesAreFew}
 use Rattle.assembly_laws.proofs.Cover.{IsAsked, asked-by}
 use Rattle.assembly_laws.proofs.DeclaredWidths.{greatest-at}

@@ -1,8 +1,8 @@
 -- How many bounds and supertraits there are.
 use Rattle.std.proofs.Common.{ℕ, zero, suc, ◌≤◌, List, [], ◌∷◌, length, arith}
-use Rattle.type_terms.specs.Worlds.{World, Reference}
-use Rattle.type_terms.specs.Rules.{strict_supertraits}
-use Rattle.declarations.specs.Elaboration.{off_stack, all_levels, elaborate, new_of, pushed, rest_of, supertraits}
+use Rattle.type_terms.specs.Promised.Worlds.{World, Reference}
+use Rattle.type_terms.specs.Promised.Rules.{strict_supertraits}
+use Rattle.declarations.specs.Promised.Elaboration.{off_stack, all_levels, elaborate, new_of, pushed, rest_of, supertraits}
 use Rattle.type_terms.proofs.ListBasics.{length-append}
 
 -- no more references come off the stack than there is fuel

@@ -1,21 +1,21 @@
 -- There are not too many candidates, and they have not too many nested goals together.
 use Rattle.std.proofs.Common.{◌≡◌, ℕ, zero, suc, ◌+◌, ◌*◌, ◌≤◌, Bool, true, false, not, ◌&&◌, List, [], ◌∷◌, ◌++◌, map, length, if◌then◌else◌, ◌==◌, refl, sym, ◌∙◌, ap, subst, arith}
 use Rattle.std.specs.List.{flat_map}
-use Rattle.type_terms.specs.Label.{Label, str, array, slice, tuple, dynamic, adt, fn_ptr, auto_trait, ref, raw_pointer, principal}
-use Rattle.type_terms.specs.Trees.{Trees, none, tree, instantiate}
-use Rattle.type_terms.specs.Worlds.{World, Reference, StructDecl, TraitDecl, structs_named, traits_named, all_with_args}
-use Rattle.type_terms.specs.Rules.{Rule, sized_struct, auto_struct, unsize_to_dyn, row, is_dyn, is_written, are_dyn_compatible, is_coinductive, are_declared, upcasts_autos, some_unsizing, with_unsizing, sized, each_asked, last_asked, asked, together, fields_of, sized_rules, copy_rules, auto_rules, auto_rules_plain, tuple_rules, fn_ptr_rules, unsize_to_dyn_rules, principal_with, autos_with, last_unsizes, strict_supertraits, strict_supertraits_within}
-use Rattle.type_terms.specs.Proofs.{In}
+use Rattle.type_terms.specs.Promised.Label.{Label, str, array, slice, tuple, dynamic, adt, fn_ptr, auto_trait, ref, raw_pointer, principal}
+use Rattle.type_terms.specs.Promised.Trees.{Trees, none, tree, instantiate}
+use Rattle.type_terms.specs.Promised.Worlds.{World, Reference, StructDecl, TraitDecl, structs_named, traits_named, all_with_args}
+use Rattle.type_terms.specs.Promised.Rules.{Rule, sized_struct, auto_struct, unsize_to_dyn, row, is_dyn, is_written, are_dyn_compatible, is_coinductive, are_declared, upcasts_autos, some_unsizing, with_unsizing, sized, each_asked, last_asked, asked, together, fields_of, sized_rules, copy_rules, auto_rules, auto_rules_plain, tuple_rules, fn_ptr_rules, unsize_to_dyn_rules, principal_with, autos_with, last_unsizes, strict_supertraits, strict_supertraits_within}
+use Rattle.type_terms.specs.Promised.Proofs.{In}
 use Rattle.type_terms.proofs.Members.{here, in-filter, same-number}
 use Rattle.evaluation.specs.Plans.{nested_in}
 use Rattle.evaluation.specs.declared.candidate.CandidateSource.{CandidateSource}
 use Rattle.evaluation.specs.Tables.{frame_tables}
-use Rattle.evaluation.specs.Widths.{count}
+use Rattle.evaluation.specs.Promised.Widths.{count}
 use Rattle.evaluation.proofs.Widths.{IsWithin, count-append}
 use Rattle.assembly_laws.specs.Asking.{GoalOverKinds}
 use Rattle.assembly_laws.specs.Candidates.{Candidate, premise, as_written, if_so, by_rule, all_equal, misc, upcast_source, upcasts_from, upcasts_to, upcasts_of, unsize_by_struct, bounds_from}
-use Rattle.declarations.specs.Elaboration.{all_levels, elaborate, supertraits}
-use Rattle.assembly_laws.specs.Solver.{supers_of}
+use Rattle.declarations.specs.Promised.Elaboration.{all_levels, elaborate, supertraits}
+use Rattle.assembly_laws.specs.Promised.Widths.{supers_of}
 use Rattle.assembly_laws.proofs.CandidateCounts.{elaborate-few, supertraits-few}
 use Rattle.assembly_laws.proofs.CandidateWidths.{count-instance}
 use Rattle.assembly_laws.proofs.Unsizing.{traits_of, within-same}

@@ -1,15 +1,16 @@
 -- No term of a candidate is wider than the goal and what is declared.
 use Rattle.std.proofs.Common.{◌≡◌, ℕ, zero, suc, ◌+◌, ◌≤◌, max, Bool, List, [], ◌∷◌, map, refl, sym, ◌∙◌, ap, subst, arith}
-use Rattle.type_terms.specs.Label.{Label, param, canonical, bound, inside, shift_label}
-use Rattle.type_terms.specs.Label.{never}
-use Rattle.type_terms.specs.Trees.{Trees, none, tree, nth, shift, instantiate}
-use Rattle.type_terms.specs.Worlds.{Reference}
+use Rattle.type_terms.specs.Promised.Label.{Label, param, canonical, bound, inside, shift_label}
+use Rattle.type_terms.specs.Promised.Label.{never}
+use Rattle.type_terms.specs.Promised.Trees.{Trees, none, tree, nth, shift, instantiate}
+use Rattle.type_terms.specs.Promised.Worlds.{Reference}
 use Rattle.evaluation.specs.Lists.{Every}
-use Rattle.evaluation.specs.Widths.{count, with_self, width, width_of_predicates, NestedWithin, EquationWithin}
+use Rattle.evaluation.specs.Promised.Widths.{count, with_self, width}
+use Rattle.evaluation.specs.Widths.{width_of_predicates, NestedWithin, EquationWithin}
 use Rattle.evaluation.proofs.Widths.{IsWithin, IsOneIf, IsOne, leaf-one, count-put, within-put, within, width-within, count-append, within-append}
 use Rattle.assembly_laws.specs.Asking.{GoalOverKinds}
 use Rattle.assembly_laws.specs.Candidates.{premise, all_equal, moved, rules_behind}
-use Rattle.assembly_laws.specs.Solver.{width_of}
+use Rattle.assembly_laws.specs.Promised.Widths.{width_of}
 
 -- ---- equations
 pub equal-within : (n : ℕ) (x y : Trees) → width x ≤ n → width y ≤ n → Every (EquationWithin n) (all_equal x y)

@@ -1,17 +1,18 @@
 -- By a view that is declared well what closed references lead to is closed.
 use Rattle.std.proofs.Common.{◌≡◌, ℕ, zero, suc, ◌==◌, Bool, true, false, not, ◌&&◌, ◌||◌, if◌then◌else◌, List, [], ◌∷◌, ◌++◌, map, length, ◌⊎◌, inl, inr, refl, sym, subst}
 use Rattle.std.specs.List.{flat_map, list_all}
-use Rattle.type_terms.specs.Label.{Label, array, slice, str, tuple, dynamic, adt, fn_ptr, raw_pointer, ref, auto_trait, principal, placeholder, infer, canonical, bound, predicate, bool, char, never, int, uint}
-use Rattle.type_terms.specs.Trees.{Trees, none, tree, leaf, ◌+++◌, instantiate, is_no_tree, is_sort, sort_of, some_node, arguments}
-use Rattle.type_terms.specs.Label.{of_lifetime}
+use Rattle.type_terms.specs.Promised.Label.{Label, array, slice, str, tuple, dynamic, adt, fn_ptr, raw_pointer, ref, auto_trait, principal, placeholder, infer, canonical, bound, predicate, bool, char, never, int, uint}
+use Rattle.type_terms.specs.Promised.Trees.{Trees, none, tree, leaf, ◌+++◌, instantiate, is_sort, sort_of, some_node}
+use Rattle.type_terms.specs.Trees.{is_no_tree, arguments}
+use Rattle.type_terms.specs.Promised.Label.{of_lifetime}
 use Rattle.type_terms.specs.Codes.{same}
-use Rattle.type_terms.specs.Worlds.{World, Reference, StructDecl, TraitDecl, structs_named, traits_named, with_args, all_with_args}
-use Rattle.type_terms.specs.Rules.{BuiltIn, Rule, row, rules, impl_rules, built_in_rules, plain_rules, sized, copy, clone, tuple_trait, fn_ptr_trait, is_fn_trait, unsize, is_auto, sized_rules, copy_rules, auto_rules, auto_rules_plain, tuple_rules, fn_ptr_rules, call_rules, but_last, unsize_rules, unsize_array_rules, unsize_to_dyn_rules, unsize_upcast_rules, unsize_struct_rules, upcasts_principal, upcasts_autos, equal_rows, same_reference, some_unsizing, with_unsizing, last_unsizes, object_rules, principal_with, autos_with, are_declared, are_dyn_compatible, is_dyn, is_written, strict_supertraits, strict_supertraits_within, written_supertraits, fields_of, together, each_asked, last_asked, asked}
-use Rattle.type_terms.specs.Rules as Model
-use Rattle.type_terms.specs.Proofs.{In}
-use Rattle.type_terms.specs.Answers.{is_closed, is_open, children}
-use Rattle.type_terms.specs.Walks.{is_known_in}
-use Rattle.type_terms.specs.LinkedSet.{is_stray}
+use Rattle.type_terms.specs.Promised.Worlds.{World, Reference, StructDecl, TraitDecl, structs_named, traits_named, with_args, all_with_args}
+use Rattle.type_terms.specs.Promised.Rules.{BuiltIn, Rule, row, rules, impl_rules, built_in_rules, plain_rules, sized, copy, clone, tuple_trait, fn_ptr_trait, is_fn_trait, unsize, is_auto, sized_rules, copy_rules, auto_rules, auto_rules_plain, tuple_rules, fn_ptr_rules, call_rules, but_last, unsize_rules, unsize_array_rules, unsize_to_dyn_rules, unsize_upcast_rules, unsize_struct_rules, upcasts_principal, upcasts_autos, equal_rows, same_reference, some_unsizing, with_unsizing, last_unsizes, object_rules, principal_with, autos_with, are_declared, are_dyn_compatible, is_dyn, is_written, strict_supertraits, strict_supertraits_within, written_supertraits, fields_of, together, each_asked, last_asked, asked}
+use Rattle.type_terms.specs.Promised.Rules as Model
+use Rattle.type_terms.specs.Promised.Proofs.{In}
+use Rattle.type_terms.specs.Promised.Answers.{is_closed, is_open, children}
+use Rattle.type_terms.specs.Promised.Walks.{is_known_in}
+use Rattle.type_terms.specs.Promised.LinkedSet.{is_stray}
 use Rattle.type_terms.proofs.Members.{in-nothing, in-cases, in-append, in-flat, in-filter}
 use Rattle.type_terms.proofs.ProofEntries.{map-in}
 use Rattle.type_terms.proofs.Fitting.{impl-rule, closed-arguments, append-shut, head-shut, child-shut, next-shut, or-no}

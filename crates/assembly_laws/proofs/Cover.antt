@@ -1,11 +1,11 @@
 -- In every linked set with the crate each solution of a goal is one by a candidate.
 use Rattle.std.proofs.Common.{◌≡◌, true, false, not, ◌&&◌, ◌||◌, ◌==◌, List, [], ◌∷◌, refl, sym, ◌∙◌, ap, subst, Option, Some, None}
-use Rattle.type_terms.specs.Label.{of_trait, predicate}
-use Rattle.type_terms.specs.Trees.{Trees, none, tree}
-use Rattle.type_terms.specs.Worlds.{World, Reference}
-use Rattle.type_terms.specs.Rules.{unsize}
-use Rattle.type_terms.specs.Answers.{written_in}
-use Rattle.type_terms.specs.Walks.{is_known_in}
+use Rattle.type_terms.specs.Promised.Label.{of_trait, predicate}
+use Rattle.type_terms.specs.Promised.Trees.{Trees, none, tree}
+use Rattle.type_terms.specs.Promised.Worlds.{World, Reference}
+use Rattle.type_terms.specs.Promised.Rules.{unsize}
+use Rattle.type_terms.specs.Promised.Answers.{written_in}
+use Rattle.type_terms.specs.Promised.Walks.{is_known_in}
 use Rattle.type_terms.proofs.Walking.{left, right}
 use Rattle.type_terms.specs.Made.{terms}
 use Rattle.type_terms.specs.Made.{is_made}
@@ -16,7 +16,7 @@ use Rattle.evaluation.specs.Instances.{read_with}
 use Rattle.evaluation.specs.Content.{given, trait_of}
 use Rattle.evaluation.specs.FrameTables.{kinds_known}
 use Rattle.assembly_laws.specs.Facts.{reference_in, children_of, trait_or_first}
-use Rattle.declarations.specs.Elaboration.{supertraits}
+use Rattle.declarations.specs.Promised.Elaboration.{supertraits}
 use Rattle.assembly_laws.specs.Meaning.{ViewMeaning}
 use Rattle.assembly_laws.specs.Knowing.{is_knowable}
 use Rattle.assembly_laws.specs.Declared.{is_declared_view}

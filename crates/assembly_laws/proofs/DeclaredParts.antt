@@ -1,8 +1,8 @@
 -- What a declared view says of its impls and of the bounds of its traits.
 use Rattle.std.proofs.Common.{◌≡◌, true, ◌&&◌}
 use Rattle.std.specs.List.{list_all}
-use Rattle.type_terms.specs.Worlds.{World, Reference, StructDecl, TraitDecl, ImplDecl}
-use Rattle.type_terms.specs.Proofs.{In}
+use Rattle.type_terms.specs.Promised.Worlds.{World, Reference, StructDecl, TraitDecl, ImplDecl}
+use Rattle.type_terms.specs.Promised.Proofs.{In}
 use Rattle.type_terms.proofs.NoHolds.{member-each}
 use Rattle.type_terms.proofs.Walking.{left, right}
 use Rattle.assembly_laws.specs.Declared.{are_terms, are_references, is_declared_view}

@@ -1,15 +1,16 @@
 -- What is declared is no wider than is said; impls are narrow.
 use Rattle.std.proofs.Common.{◌≡◌, ℕ, zero, ◌≤◌, max, List, [], ◌∷◌, map, length, ◌⊎◌, inl, inr, subst, arith}
 use Rattle.std.specs.Prelude.{fold}
-use Rattle.type_terms.specs.Worlds.{World, Reference, ImplDecl}
-use Rattle.type_terms.specs.Rules.{is_coinductive}
-use Rattle.type_terms.specs.Proofs.{In}
+use Rattle.type_terms.specs.Promised.Worlds.{World, Reference, ImplDecl}
+use Rattle.type_terms.specs.Promised.Rules.{is_coinductive}
+use Rattle.type_terms.specs.Promised.Proofs.{In}
 use Rattle.type_terms.proofs.Members.{here, there, in-cases, in-nothing}
 use Rattle.evaluation.specs.Lists.{Every}
-use Rattle.evaluation.specs.Widths.{width, width_of_predicates}
+use Rattle.evaluation.specs.Promised.Widths.{width}
+use Rattle.evaluation.specs.Widths.{width_of_predicates}
 use Rattle.assembly_laws.specs.Asking.{GoalOverKinds}
 use Rattle.assembly_laws.specs.Candidates.{by_the_impl, rules_behind}
-use Rattle.assembly_laws.specs.Solver.{greatest, width_of, declared_width}
+use Rattle.assembly_laws.specs.Promised.Widths.{greatest, width_of, declared_width}
 use Rattle.assembly_laws.proofs.Premises.{IsNarrow}
 use Rattle.assembly_laws.proofs.CandidateWidths.{equal-within, premises-within, behind-within, behind-all-within}
 

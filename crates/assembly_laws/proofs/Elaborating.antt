@@ -1,12 +1,12 @@
 -- What holds of references, and of the written supertraits of those of which it holds, holds of all that they are elaborated to.
 use Rattle.std.proofs.Common.{ℕ, zero, suc, Bool, true, false, if◌then◌else◌, ◌==◌, List, [], ◌∷◌, ◌++◌, map, length}
 use Rattle.std.specs.List.{flat_map}
-use Rattle.type_terms.specs.Worlds.{World, Reference, TraitDecl, traits_named, with_args}
-use Rattle.type_terms.specs.Rules.{written_supertraits}
-use Rattle.type_terms.specs.Proofs.{In}
+use Rattle.type_terms.specs.Promised.Worlds.{World, Reference, TraitDecl, traits_named, with_args}
+use Rattle.type_terms.specs.Promised.Rules.{written_supertraits}
+use Rattle.type_terms.specs.Promised.Proofs.{In}
 use Rattle.type_terms.proofs.Members.{here, there, in-filter}
 use Rattle.evaluation.specs.Lists.{Every}
-use Rattle.declarations.specs.Elaboration.{is_put, new_of, pushed, off_stack, all_levels, elaborate, rest_of, supertraits}
+use Rattle.declarations.specs.Promised.Elaboration.{is_put, new_of, pushed, off_stack, all_levels, elaborate, rest_of, supertraits}
 use Rattle.evaluation.proofs.ListLaws.{Every-map as every-map}
 use Rattle.evaluation.proofs.Basics.{both-lists}
 

@@ -2,9 +2,9 @@
 -- for each.
 use Rattle.std.proofs.Common.{◌≡◌, ℕ, suc, Bool, true, false, ◌&&◌, ◌==◌, if◌then◌else◌, List, [], ◌∷◌, ◌⊎◌, inl, inr, refl}
 use Rattle.std.specs.List.{list_any}
-use Rattle.type_terms.specs.Worlds.{World, Reference}
-use Rattle.type_terms.specs.Rules.{BuiltIn, unsize_dyn, unsize_upcast, Rule, row, equal_rows, same_reference, strict_supertraits, upcasts_principal}
-use Rattle.type_terms.specs.Proofs.{In}
+use Rattle.type_terms.specs.Promised.Worlds.{World, Reference}
+use Rattle.type_terms.specs.Promised.Rules.{BuiltIn, unsize_dyn, unsize_upcast, Rule, row, equal_rows, same_reference, strict_supertraits, upcasts_principal}
+use Rattle.type_terms.specs.Promised.Proofs.{In}
 use Rattle.type_terms.proofs.Members.{here, there, in-nothing, in-append, some-member}
 use Rattle.type_terms.proofs.OpenWorld.{was-true}
 use Rattle.type_terms.proofs.Walking.{left, right}

@@ -1,11 +1,12 @@
 -- The sides of the equations of candidates are made terms.
 use Rattle.std.proofs.Common.{◌≡◌, ℕ, ◌+◌, Bool, true, false, not, ◌&&◌, ◌||◌, if◌then◌else◌, List, [], length, ◌⊎◌, inl, inr, refl, sym, ap, subst, None, suc, ◌∷◌}
 use Rattle.std.specs.List.{list_all}
-use Rattle.type_terms.specs.Label.{Label, of_type, of_const, of_lifetime, tuple, dynamic, array, slice, adt, fn_ptr, principal, auto_trait, infer, param, placeholder, canonical, bound, static, predicate}
-use Rattle.type_terms.specs.Trees.{Trees, none, tree, is_a, is_no_tree, sort_of, some_node}
-use Rattle.type_terms.specs.Worlds.{World, Reference, StructDecl, TraitDecl, ImplDecl}
-use Rattle.type_terms.specs.Rules.{but_last, is_unsizing, with_unsizing, principal_with, autos_with}
-use Rattle.type_terms.specs.Proofs.{In}
+use Rattle.type_terms.specs.Promised.Label.{Label, of_type, of_const, of_lifetime, tuple, dynamic, array, slice, adt, fn_ptr, principal, auto_trait, infer, param, placeholder, canonical, bound, static, predicate}
+use Rattle.type_terms.specs.Promised.Trees.{Trees, none, tree, sort_of, some_node}
+use Rattle.type_terms.specs.Trees.{is_a, is_no_tree}
+use Rattle.type_terms.specs.Promised.Worlds.{World, Reference, StructDecl, TraitDecl, ImplDecl}
+use Rattle.type_terms.specs.Promised.Rules.{but_last, is_unsizing, with_unsizing, principal_with, autos_with}
+use Rattle.type_terms.specs.Promised.Proofs.{In}
 use Rattle.type_terms.proofs.NoHolds.{member-each}
 use Rattle.type_terms.specs.Made.{Standing, is_leaf_label, is_made}
 use Rattle.type_terms.specs.Made.{terms}
@@ -20,7 +21,7 @@ use Rattle.type_terms.proofs.Made.{false-true}
 use Rattle.type_terms.proofs.Walking.{left, right}
 use Rattle.type_terms.proofs.Made.{is_ordinary, made-append}
 use Rattle.evaluation.proofs.Labels.{IsLeafFor, PutsLeaves, made-put-in, made-more}
-use Rattle.declarations.specs.Elaboration.{elaborate, supertraits, rest_of}
+use Rattle.declarations.specs.Promised.Elaboration.{elaborate, supertraits, rest_of}
 use Rattle.assembly_laws.specs.Declared.{is_declared, is_counted, are_terms, are_references, is_declared_view}
 use Rattle.assembly_laws.specs.Asking.{GoalOverKinds, clauses, self_of, with_plain_head}
 use Rattle.evaluation.specs.Variables.{is_variable_over}

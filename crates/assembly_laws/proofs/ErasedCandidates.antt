@@ -1,15 +1,15 @@
 -- A candidate of a view's declarations up to lifetimes is one of the declarations as they are written.
 use Rattle.std.proofs.Common.{◌≡◌, ℕ, zero, suc, ◌==◌, Bool, true, false, not, ◌&&◌, ◌||◌, if◌then◌else◌, cond, List, [], ◌∷◌, ◌++◌, map, filter, length, inl, inr, refl, sym, ◌∙◌, ap, subst, Some}
 use Rattle.std.specs.List.{flat_map, list_all, list_any}
-use Rattle.type_terms.specs.Label.{Label, of_type, of_const, of_lifetime, array, slice, dynamic, fn_ptr, param, placeholder, infer, canonical, bound}
-use Rattle.type_terms.specs.Trees.{Trees, none, tree, ◌+++◌, instantiate, some_node, erase, erase_label}
-use Rattle.type_terms.specs.Worlds.{World, CrateDecl, Reference, StructDecl}
-use Rattle.type_terms.specs.Erased.{erased_struct, erased_impl}
-use Rattle.type_terms.specs.Rules.{BuiltIn, Rule, row, sized, unsize, is_coinductive, unsize_to_dyn_rules, principal_with, autos_with, are_declared, are_dyn_compatible, elaborated, is_dyn, upcasts_autos, strict_supertraits, strict_supertraits_within, written_supertraits, fields_of, together, is_parameter, is_unsizing, some_unsizing, with_unsizing, last_unsizes}
-use Rattle.type_terms.specs.Rules as Model
+use Rattle.type_terms.specs.Promised.Label.{Label, of_type, of_const, of_lifetime, array, slice, dynamic, fn_ptr, param, placeholder, infer, canonical, bound}
+use Rattle.type_terms.specs.Promised.Trees.{Trees, none, tree, ◌+++◌, instantiate, some_node, erase, erase_label}
+use Rattle.type_terms.specs.Promised.Worlds.{World, CrateDecl, Reference, StructDecl}
+use Rattle.type_terms.specs.Promised.Erased.{erased_struct, erased_impl}
+use Rattle.type_terms.specs.Promised.Rules.{BuiltIn, Rule, row, sized, unsize, is_coinductive, unsize_to_dyn_rules, principal_with, autos_with, are_declared, are_dyn_compatible, elaborated, is_dyn, upcasts_autos, strict_supertraits, strict_supertraits_within, written_supertraits, fields_of, together, is_parameter, is_unsizing, some_unsizing, with_unsizing, last_unsizes}
+use Rattle.type_terms.specs.Promised.Rules as Model
 use Rattle.type_terms.proofs.Supertraits.{flat-same}
 use Rattle.type_terms.proofs.Walking.{left, right}
-use Rattle.declarations.specs.Elaboration.{elaborate, supertraits, off_stack, new_of, pushed, all_levels, rest_of}
+use Rattle.declarations.specs.Promised.Elaboration.{elaborate, supertraits, off_stack, new_of, pushed, all_levels, rest_of}
 use Rattle.evaluation.specs.Lists.{Every, SomeOf}
 use Rattle.evaluation.specs.declared.candidate.CandidateSource.{CandidateSource}
 use Rattle.evaluation.specs.declared.candidate.CandidateSource.TheVariants.{ParamEnv}

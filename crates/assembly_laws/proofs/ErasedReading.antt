@@ -1,7 +1,8 @@
 -- What is read of a term is read of it without its lifetimes.
 use Rattle.std.proofs.Common.{◌≡◌, ℕ, suc, ◌+◌, Bool, true, false, not, ◌&&◌, List, refl, sym, ◌∙◌, ap}
-use Rattle.type_terms.specs.Label.{Label, of_type, of_const, of_lifetime, static, fn_ptr, principal, param, placeholder, infer, canonical, bound}
-use Rattle.type_terms.specs.Trees.{Trees, none, tree, leaf, ◌+++◌, is_a, is_no_tree, is_sort, sort_of, nth, instantiate, shift, some_node, erase}
+use Rattle.type_terms.specs.Promised.Label.{Label, of_type, of_const, of_lifetime, static, fn_ptr, principal, param, placeholder, infer, canonical, bound}
+use Rattle.type_terms.specs.Promised.Trees.{Trees, none, tree, leaf, ◌+++◌, is_sort, sort_of, nth, instantiate, shift, some_node, erase}
+use Rattle.type_terms.specs.Trees.{is_a, is_no_tree}
 use Rattle.type_terms.proofs.Fitting.{child-shut, next-shut}
 use Rattle.type_terms.proofs.Walking.{left, right}
 use Rattle.evaluation.specs.Instances.{read_with, put_in, of_sort, term_at}

@@ -2,12 +2,12 @@
 -- as they are written.
 use Rattle.std.proofs.Common.{◌≡◌, ℕ, zero, suc, ◌==◌, Bool, true, false, not, ◌&&◌, ◌||◌, if◌then◌else◌, List, [], ◌∷◌, ◌++◌, map, length, inl, inr, refl, sym, ◌∙◌, ap, subst}
 use Rattle.std.specs.List.{flat_map, list_all, list_any}
-use Rattle.type_terms.specs.Label.{Label, of_type, of_const, of_lifetime, array, slice, adt, fn_ptr, raw_pointer, ref, principal, param, placeholder, infer, canonical, bound, bool, char}
-use Rattle.type_terms.specs.Trees.{Trees, none, tree, leaf, some_node, erase, erase_label}
-use Rattle.type_terms.specs.Worlds.{World, CrateDecl, Reference, ImplDecl, structs_named}
-use Rattle.type_terms.specs.Erased.{erased_reference, erased_impl}
-use Rattle.type_terms.specs.Rules.{same_head, sized, sized_struct, auto_struct, copy, clone, tuple_trait, fn_ptr_trait, is_fn_trait, unsize, is_auto, is_coinductive, is_written, sized_rules, copy_rules, auto_rules, auto_rules_plain, tuple_rules, fn_ptr_rules, unsize_to_dyn_rules, last_asked, each_asked}
-use Rattle.type_terms.specs.Proofs.{In}
+use Rattle.type_terms.specs.Promised.Label.{Label, of_type, of_const, of_lifetime, array, slice, adt, fn_ptr, raw_pointer, ref, principal, param, placeholder, infer, canonical, bound, bool, char}
+use Rattle.type_terms.specs.Promised.Trees.{Trees, none, tree, leaf, some_node, erase, erase_label}
+use Rattle.type_terms.specs.Promised.Worlds.{World, CrateDecl, Reference, ImplDecl, structs_named}
+use Rattle.type_terms.specs.Promised.Erased.{erased_reference, erased_impl}
+use Rattle.type_terms.specs.Promised.Rules.{same_head, sized, sized_struct, auto_struct, copy, clone, tuple_trait, fn_ptr_trait, is_fn_trait, unsize, is_auto, is_coinductive, is_written, sized_rules, copy_rules, auto_rules, auto_rules_plain, tuple_rules, fn_ptr_rules, unsize_to_dyn_rules, last_asked, each_asked}
+use Rattle.type_terms.specs.Promised.Proofs.{In}
 use Rattle.type_terms.proofs.Members.{here, there, same-number}
 use Rattle.type_terms.proofs.Walking.{left, right}
 use Rattle.declarations.specs.Heads.{begins_declared}

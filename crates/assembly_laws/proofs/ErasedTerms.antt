@@ -1,8 +1,9 @@
 -- Made terms without their lifetimes are declared terms, where no place is open but those of parameters.
 use Rattle.std.proofs.Common.{◌≡◌, zero, Bool, true, false, not, ◌&&◌, ◌||◌, refl, ◌∙◌, ap}
-use Rattle.type_terms.specs.Label.{Label, Sort, of_type, of_const, of_lifetime, dynamic, principal, auto_trait, predicate, param, placeholder, infer, canonical, bound}
-use Rattle.type_terms.specs.Trees.{Trees, none, tree, erase, erase_label, sort_of, is_sort, is_no_tree, some_node, Single}
-use Rattle.type_terms.specs.LinkedSet.{is_stray}
+use Rattle.type_terms.specs.Promised.Label.{Label, Sort, of_type, of_const, of_lifetime, dynamic, principal, auto_trait, predicate, param, placeholder, infer, canonical, bound}
+use Rattle.type_terms.specs.Promised.Trees.{Trees, none, tree, erase, erase_label, sort_of, is_sort, some_node}
+use Rattle.type_terms.specs.Trees.{is_no_tree, Single}
+use Rattle.type_terms.specs.Promised.LinkedSet.{is_stray}
 use Rattle.type_terms.proofs.Fitting.{child-shut, next-shut, or-no}
 use Rattle.type_terms.specs.Made.{Standing, terms, bounds, traits, is_leaf_label, is_made}
 use Rattle.type_terms.proofs.Made.{left, right, both, false-true, is_ordinary, made-ordinary, makes-ordinary, last-bound, last-trait, never-dynamic, never-dynamic-bound, never-principal}

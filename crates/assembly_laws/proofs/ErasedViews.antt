@@ -1,18 +1,18 @@
 -- By the view alone, and in every linked set that holds it, up to lifetimes, each solution of a goal is one by a candidate.
 use Rattle.std.proofs.Common.{◌≡◌, ℕ, Bool, true, false, not, ◌&&◌, ◌||◌, ◌==◌, if◌then◌else◌, List, [], ◌∷◌, ◌++◌, map, refl, sym, ◌∙◌, ap, subst, Option, Some, None}
 use Rattle.std.specs.List.{list_all, list_any}
-use Rattle.type_terms.specs.Label.{Label, Sort, of_type, of_const, of_lifetime, dynamic, adt, ref, of_trait, principal, param, placeholder, infer, canonical, bound, predicate}
-use Rattle.type_terms.specs.Label.{value}
-use Rattle.type_terms.specs.Label.{static}
-use Rattle.type_terms.specs.Trees.{Trees, none, tree, some_node, erase, erase_label}
-use Rattle.type_terms.specs.Worlds.{World, CrateDecl, Reference, StructDecl, TraitDecl, ImplDecl, structs_named}
-use Rattle.type_terms.specs.Erased.{erased_reference, erased_struct, erased_trait, erased_impl, erased_world}
-use Rattle.type_terms.specs.Rules.{unsize}
-use Rattle.type_terms.specs.Proofs.{In}
-use Rattle.type_terms.specs.Elaborated.{HasElaboratedProof}
-use Rattle.type_terms.specs.Answers.{written_in, is_undeclared}
-use Rattle.type_terms.specs.LinkedSet.{is_open_place}
-use Rattle.type_terms.specs.Walks.{Met, local, entered, struct_leaf, open_place, other_leaf, struct_is, trait_is, is_home, dyn_met, visited, until_decisive, item_in, ends_local, is_known_in}
+use Rattle.type_terms.specs.Promised.Label.{Label, Sort, of_type, of_const, of_lifetime, dynamic, adt, ref, of_trait, principal, param, placeholder, infer, canonical, bound, predicate}
+use Rattle.type_terms.specs.Promised.Label.{value}
+use Rattle.type_terms.specs.Promised.Label.{static}
+use Rattle.type_terms.specs.Promised.Trees.{Trees, none, tree, some_node, erase, erase_label}
+use Rattle.type_terms.specs.Promised.Worlds.{World, CrateDecl, Reference, StructDecl, TraitDecl, ImplDecl, structs_named}
+use Rattle.type_terms.specs.Promised.Erased.{erased_reference, erased_struct, erased_trait, erased_impl, erased_world}
+use Rattle.type_terms.specs.Promised.Rules.{unsize}
+use Rattle.type_terms.specs.Promised.Proofs.{In}
+use Rattle.type_terms.specs.Promised.Proofs.{HasElaboratedProof}
+use Rattle.type_terms.specs.Promised.Answers.{written_in, is_undeclared}
+use Rattle.type_terms.specs.Promised.Versions.{is_open_place}
+use Rattle.type_terms.specs.Promised.Walks.{Met, local, entered, struct_leaf, open_place, other_leaf, struct_is, trait_is, is_home, dyn_met, visited, until_decisive, item_in, ends_local, is_known_in}
 use Rattle.type_terms.proofs.Members.{here, there, in-map}
 use Rattle.type_terms.proofs.ProofEntries.{map-in}
 use Rattle.type_terms.proofs.NoHolds.{each-member}
@@ -45,7 +45,7 @@ use Rattle.assembly_laws.proofs.ErasedRows.{HeadsStay, struct-head, declared-hea
 use Rattle.assembly_laws.proofs.HavingViews.{ProvesBy, SearchedThere}
 use Rattle.assembly_laws.proofs.NumberedViews.{proves-by, auto-of-struct}
 use Rattle.assembly_laws.proofs.ViewProofs.{view-proves}
-use Rattle.type_terms.specs.Renumbering.{HoldsView}
+use Rattle.type_terms.specs.Promised.Renumbering.{HoldsView}
 use Rattle.assembly_laws.proofs.Solver.{solutions-by-candidates}
 use Rattle.type_terms.proofs.Matching.{or-false-left as no-left}
 use Rattle.type_terms.proofs.BooleanBasics.{true-false}

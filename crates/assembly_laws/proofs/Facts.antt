@@ -1,10 +1,10 @@
 -- Proofs of facts are proofs of the model.
 use Rattle.std.proofs.Common.{◌≡◌, ℕ, Bool, true, false, ◌&&◌, if◌then◌else◌, List, [], ◌∷◌, filter, map, inl, inr, refl, sym, ◌∙◌, ap, subst}
-use Rattle.type_terms.specs.Trees.{Trees, none, tree}
+use Rattle.type_terms.specs.Promised.Trees.{Trees, none, tree}
 use Rattle.type_terms.specs.Codes.{same, same_label, same_numbers, numbers}
-use Rattle.type_terms.specs.Worlds.{World, Reference}
-use Rattle.type_terms.specs.Rules.{rules, is_coinductive}
-use Rattle.type_terms.specs.Proofs.{In}
+use Rattle.type_terms.specs.Promised.Worlds.{World, Reference}
+use Rattle.type_terms.specs.Promised.Rules.{rules, is_coinductive}
+use Rattle.type_terms.specs.Promised.Proofs.{In}
 use Rattle.evaluation.specs.Lists.{Every, IsAmong}
 use Rattle.evaluation.specs.Proof.{FactHasProof, facts, EntriesContinue}
 use Rattle.evaluation.proofs.ListLaws.{Every-mono, Every-at, both-right}

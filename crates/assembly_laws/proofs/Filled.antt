@@ -1,6 +1,6 @@
 -- Terms for the variables of a goal and of a candidate: the table of the candidate allows those that are given.
 use Rattle.std.proofs.Common.{◌≡◌, ℕ, suc, false, List, [], ◌∷◌, ◌++◌, map, refl, sym, ◌∙◌, ap, subst}
-use Rattle.type_terms.specs.Trees.{Trees}
+use Rattle.type_terms.specs.Promised.Trees.{Trees}
 use Rattle.infer_table.specs.declared.canonical.CanonicalVarKind.{CanonicalVarKind}
 use Rattle.infer_table.specs.declared.canonical.CanonicalVarKind.TheVariants.{Ty, PlaceholderTy, Const, PlaceholderConst, Region}
 use Rattle.evaluation.specs.Lists.{Every}

@@ -1,6 +1,6 @@
 -- Terms with which a candidate's equations hold and its premises are solutions realize the goal's values in the tables of frames.
 use Rattle.std.proofs.Common.{◌≡◌, Bool, true, List, [], ◌∷◌, ◌++◌, refl, sym, ◌∙◌, ap, subst}
-use Rattle.type_terms.specs.Trees.{Trees}
+use Rattle.type_terms.specs.Promised.Trees.{Trees}
 use Rattle.infer_table.specs.declared.canonical.CanonicalVarKind.{CanonicalVarKind}
 use Rattle.evaluation.specs.Lists.{Every}
 use Rattle.evaluation.specs.Law.{NestedIsSolved}

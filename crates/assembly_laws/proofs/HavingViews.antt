@@ -1,13 +1,13 @@
 -- What is asked of where solutions are looked for, by a view alone: what is known and has a proof follows by a rule of the view.
 use Rattle.std.specs.Prelude.{◌≡◌, ℕ, true, false, [], Some}
-use Rattle.type_terms.specs.LinkedSet.{is_stray}
-use Rattle.type_terms.specs.Trees.{none, some_node}
-use Rattle.type_terms.specs.Worlds.{World, Reference, TraitDecl}
-use Rattle.type_terms.specs.Rules.{Rule, rules, strict_supertraits}
-use Rattle.type_terms.specs.Proofs.{In}
-use Rattle.type_terms.specs.Proofs as Model
-use Rattle.type_terms.specs.Answers.{is_closed}
-use Rattle.type_terms.specs.Walks.{is_known_in}
+use Rattle.type_terms.specs.Promised.LinkedSet.{is_stray}
+use Rattle.type_terms.specs.Promised.Trees.{none, some_node}
+use Rattle.type_terms.specs.Promised.Worlds.{World, Reference, TraitDecl}
+use Rattle.type_terms.specs.Promised.Rules.{Rule, rules, strict_supertraits}
+use Rattle.type_terms.specs.Promised.Proofs.{In}
+use Rattle.type_terms.specs.Promised.Proofs as Model
+use Rattle.type_terms.specs.Promised.Answers.{is_closed}
+use Rattle.type_terms.specs.Promised.Walks.{is_known_in}
 use Rattle.infer_table.specs.Canonical.{CanonicalForm}
 use Rattle.evaluation.specs.Lists.{SomeOf}
 use Rattle.evaluation.specs.Content.{Values}

@@ -1,9 +1,10 @@
 -- A header or clause of an impl, over variables of a candidate, is read as the instance by the impl's arguments.
 use Rattle.std.proofs.Common.{◌≡◌, ℕ, zero, suc, ◌+◌, Bool, true, false, not, ◌&&◌, ◌||◌, ◌==◌, if◌then◌else◌, List, [], ◌∷◌, ◌++◌, length, refl, sym, ◌∙◌, ap, arith}
-use Rattle.type_terms.specs.Label.{Label, Sort, of_type, of_const, of_lifetime, dynamic, static, fn_ptr, auto_trait, principal, param, placeholder, infer, canonical, bound, predicate}
-use Rattle.type_terms.specs.Label.{never}
-use Rattle.type_terms.specs.Label.{value}
-use Rattle.type_terms.specs.Trees.{Trees, none, tree, leaf, ◌+++◌, IsA, is_no_tree, is_sort, sort_of, nth, instantiate, shift, some_node}
+use Rattle.type_terms.specs.Promised.Label.{Label, Sort, of_type, of_const, of_lifetime, dynamic, static, fn_ptr, auto_trait, principal, param, placeholder, infer, canonical, bound, predicate}
+use Rattle.type_terms.specs.Promised.Label.{never}
+use Rattle.type_terms.specs.Promised.Label.{value}
+use Rattle.type_terms.specs.Promised.Trees.{Trees, none, tree, leaf, ◌+++◌, IsA, is_sort, sort_of, nth, instantiate, shift, some_node}
+use Rattle.type_terms.specs.Trees.{is_no_tree}
 use Rattle.type_terms.proofs.Fitting.{child-shut, next-shut}
 use Rattle.type_terms.proofs.Members.{self-number}
 use Rattle.type_terms.proofs.Walking.{left, right}

@@ -1,24 +1,26 @@
 -- Declarations whose terms an interner holds are declared well, but for what is left to be told of them.
 use Rattle.std.proofs.Common.{◌≡◌, ℕ, Bool, true, false, not, ◌&&◌, List, [], ◌∷◌, map, ◌⊎◌, inl, inr, refl, sym, ◌∙◌, ap, subst, ◌≢◌}
 use Rattle.std.specs.List.{list_all}
-use Rattle.type_terms.specs.Label.{of_type}
-use Rattle.type_terms.specs.Trees.{Trees, none, tree, erase, some_node, IsA, Single}
-use Rattle.type_terms.specs.Worlds.{World, Reference, StructDecl, TraitDecl, ImplDecl}
-use Rattle.type_terms.specs.Erased.{erased_reference, erased_struct, erased_trait, erased_impl}
-use Rattle.type_terms.specs.LinkedSet.{is_stray, all_args, all_written}
-use Rattle.type_terms.specs.Proofs.{In}
+use Rattle.type_terms.specs.Promised.Label.{of_type}
+use Rattle.type_terms.specs.Promised.Trees.{Trees, none, tree, erase, some_node, IsA}
+use Rattle.type_terms.specs.Trees.{Single}
+use Rattle.type_terms.specs.Promised.Worlds.{World, Reference, StructDecl, TraitDecl, ImplDecl}
+use Rattle.type_terms.specs.Promised.Erased.{erased_reference, erased_struct, erased_trait, erased_impl}
+use Rattle.type_terms.specs.Promised.LinkedSet.{is_stray, all_args, all_written}
+use Rattle.type_terms.specs.Promised.Proofs.{In}
 use Rattle.type_terms.proofs.Members.{here, there, in-nothing, in-cases}
 use Rattle.type_terms.proofs.ProofEntries.{map-in}
 use Rattle.type_terms.proofs.NoHolds.{member-each}
 use Rattle.type_terms.proofs.Fitting.{not-true}
 use Rattle.type_terms.proofs.Walking.{left, right, both}
 use Rattle.type_terms.specs.Made.{terms, is_made, is_in_range}
-use Rattle.type_terms.specs.Terms.{Entry, Has, Lawful, trees_at, types, args_lists, bounds_lists}
+use Rattle.type_terms.specs.Promised.Handles.{Entry, Has, trees_at, types, bounds_lists}
+use Rattle.type_terms.specs.Terms.{Lawful, args_lists}
 use Rattle.term_folds.specs.declared.predicate.TraitRef.{TraitRef}
 use Rattle.infer_table.proofs.ContentFacts.{is-trees}
 use Rattle.declarations.specs.Items.{Items, HeldImpl, reference_in, struct_in, trait_in, impl_in, declared}
 use Rattle.declarations.specs.Held.{ReferenceHeld, StructHeld, TraitHeld, ImplHeld, AreHeld}
-use Rattle.declarations.specs.Merges.{Each}
+use Rattle.declarations.specs.Promised.Elaboration.{Each}
 use Rattle.assembly_laws.specs.Declared.{are_terms, are_references, is_declared_view, is_lifetime_parameter, parameters_are_sorted}
 use Rattle.assembly_laws.specs.DeclaredWell.{impls_are_determined, height_in, bounds_lead_down}
 use Rattle.assembly_laws.specs.HeldViews.{HeldIsDeclaredWell}

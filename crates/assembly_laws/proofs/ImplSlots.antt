@@ -1,9 +1,10 @@
 -- The terms for an impl's parameters as slots have them: the header and the clauses are read with them as with the terms.
 use Rattle.std.proofs.Common.{◌≡◌, ℕ, zero, suc, ◌+◌, Bool, true, false, if◌then◌else◌, List, [], ◌∷◌, ◌++◌, map, length, refl, sym, ◌∙◌, ap, Some, arith}
-use Rattle.type_terms.specs.Label.{Label, Sort, of_type, of_const, of_lifetime, placeholder, infer, canonical, param, bound, static}
-use Rattle.type_terms.specs.Label.{never}
-use Rattle.type_terms.specs.Label.{value}
-use Rattle.type_terms.specs.Trees.{Trees, none, tree, leaf, ◌+++◌, is_a, some_node, placed, erase_label}
+use Rattle.type_terms.specs.Promised.Label.{Label, Sort, of_type, of_const, of_lifetime, placeholder, infer, canonical, param, bound, static}
+use Rattle.type_terms.specs.Promised.Label.{never}
+use Rattle.type_terms.specs.Promised.Label.{value}
+use Rattle.type_terms.specs.Promised.Trees.{Trees, none, tree, leaf, ◌+++◌, some_node, erase_label}
+use Rattle.type_terms.specs.Trees.{is_a, placed}
 use Rattle.type_terms.specs.Made.{terms}
 use Rattle.type_terms.specs.Made.{is_made}
 use Rattle.infer_table.specs.Solutions.{HasValues}

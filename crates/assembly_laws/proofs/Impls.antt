@@ -1,14 +1,15 @@
 -- The rule of an impl that concludes a solution is the impl's candidate.
 use Rattle.std.proofs.Common.{◌≡◌, ℕ, zero, suc, ◌+◌, Bool, true, false, not, ◌&&◌, ◌||◌, ◌==◌, if◌then◌else◌, List, [], ◌∷◌, map, length, ◌⊎◌, inl, inr, refl, sym, ◌∙◌, ap, subst, Some, arith}
 use Rattle.std.specs.List.{flat_map, list_all}
-use Rattle.type_terms.specs.Label.{Label, Sort, of_type, of_const, of_lifetime, param}
-use Rattle.type_terms.specs.Label.{never}
-use Rattle.type_terms.specs.Trees.{Trees, none, tree, leaf, ◌+++◌, is_a, IsA, Fits, is_sort, nth, instantiate, some_node, first_of, standing_at, arguments_from, arguments, erase_label}
-use Rattle.type_terms.specs.Worlds.{World, Reference, StructDecl, TraitDecl, ImplDecl, with_args, all_with_args}
-use Rattle.type_terms.specs.Rules.{Rule, impl_rules, same_head, is_coinductive}
+use Rattle.type_terms.specs.Promised.Label.{Label, Sort, of_type, of_const, of_lifetime, param}
+use Rattle.type_terms.specs.Promised.Label.{never}
+use Rattle.type_terms.specs.Promised.Trees.{Trees, none, tree, leaf, ◌+++◌, IsA, Fits, is_sort, nth, instantiate, some_node, erase_label}
+use Rattle.type_terms.specs.Trees.{is_a, first_of, standing_at, arguments_from, arguments}
+use Rattle.type_terms.specs.Promised.Worlds.{World, Reference, StructDecl, TraitDecl, ImplDecl, with_args, all_with_args}
+use Rattle.type_terms.specs.Promised.Rules.{Rule, impl_rules, same_head, is_coinductive}
 use Rattle.type_terms.specs.Codes.{same_label, numbers}
-use Rattle.type_terms.specs.Proofs.{In}
-use Rattle.type_terms.specs.Answers.{is_closed, is_open}
+use Rattle.type_terms.specs.Promised.Proofs.{In}
+use Rattle.type_terms.specs.Promised.Answers.{is_closed, is_open}
 use Rattle.type_terms.proofs.Members.{here, there, in-nothing, in-cases, in-flat, self-number, same-number}
 use Rattle.type_terms.proofs.Fitting.{ByImpl, impl-rule, closed-arguments}
 use Rattle.type_terms.proofs.NoHolds.{member-each}

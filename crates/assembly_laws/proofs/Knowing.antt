@@ -1,14 +1,15 @@
 -- What is knowable with unknowns is known whatever they stand for.
 use Rattle.std.proofs.Common.{◌≡◌, ℕ, Bool, true, false, not, ◌&&◌, ◌||◌, ◌==◌, if◌then◌else◌, List, [], ◌∷◌, ◌++◌, refl, sym, ◌∙◌, ap, subst, Option, Some, None}
 use Rattle.std.specs.List.{list_all, list_any}
-use Rattle.type_terms.specs.Label.{Label, of_type, of_const, of_lifetime, dynamic, static, adt, auto_trait, principal, param, placeholder, infer, canonical, bound, predicate}
-use Rattle.type_terms.specs.Label.{value}
-use Rattle.type_terms.specs.Label.{ref}
-use Rattle.type_terms.specs.Trees.{Trees, none, tree, leaf, ◌+++◌, is_a, is_no_tree, is_sort, sort_of}
-use Rattle.type_terms.specs.Worlds.{World, Reference, StructDecl, structs_named}
-use Rattle.type_terms.specs.Walks.{local, struct_leaf, other_leaf, struct_is, trait_is, is_home, dyn_met, visited, is_known_in, item_in, until_decisive, ends_local}
-use Rattle.type_terms.specs.Walks.{entered}
-use Rattle.type_terms.specs.LinkedSet.{is_open_place}
+use Rattle.type_terms.specs.Promised.Label.{Label, of_type, of_const, of_lifetime, dynamic, static, adt, auto_trait, principal, param, placeholder, infer, canonical, bound, predicate}
+use Rattle.type_terms.specs.Promised.Label.{value}
+use Rattle.type_terms.specs.Promised.Label.{ref}
+use Rattle.type_terms.specs.Promised.Trees.{Trees, none, tree, leaf, ◌+++◌, is_sort, sort_of}
+use Rattle.type_terms.specs.Trees.{is_a, is_no_tree}
+use Rattle.type_terms.specs.Promised.Worlds.{World, Reference, StructDecl, structs_named}
+use Rattle.type_terms.specs.Promised.Walks.{local, struct_leaf, other_leaf, struct_is, trait_is, is_home, dyn_met, visited, is_known_in, item_in, until_decisive, ends_local}
+use Rattle.type_terms.specs.Promised.Walks.{entered}
+use Rattle.type_terms.specs.Promised.Versions.{is_open_place}
 use Rattle.type_terms.proofs.Walking.{left, right}
 use Rattle.type_terms.specs.Made.{terms}
 use Rattle.type_terms.specs.Made.{bounds}

@@ -1,6 +1,6 @@
 -- Where the candidates by `dyn` targets, impls and object bounds are sound, and all are narrow, all are lawful.
 use Rattle.std.proofs.Common.{◌≡◌, ◌==◌, Bool, true, false, if◌then◌else◌, List, [], ◌∷◌, ◌++◌, Some}
-use Rattle.type_terms.specs.Rules.{unsize, unsize_to_dyn_rules}
+use Rattle.type_terms.specs.Promised.Rules.{unsize, unsize_to_dyn_rules}
 use Rattle.infer_table.specs.Canonical.{CanonicalForm}
 use Rattle.evaluation.specs.Lists.{Every}
 use Rattle.assembly_laws.specs.Meaning.{ViewMeaning}

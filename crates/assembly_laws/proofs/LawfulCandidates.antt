@@ -1,12 +1,12 @@
 -- The candidates of a goal are lawful, where they are sound and narrow.
 use Rattle.std.proofs.Common.{◌≡◌, ℕ, ◌≤◌, ◌==◌, max, Bool, true, false, not, ◌&&◌, ◌||◌, if◌then◌else◌, List, [], ◌∷◌, map, length, ◌⊎◌, inl, inr, refl, sym, ap, subst, arith, Option, Some, None}
 use Rattle.std.specs.List.{list_all}
-use Rattle.type_terms.specs.Label.{of_trait, predicate}
-use Rattle.type_terms.specs.Trees.{Trees, none, tree, some_node}
-use Rattle.type_terms.specs.Worlds.{World, Reference, StructDecl, TraitDecl, ImplDecl}
-use Rattle.type_terms.specs.Rules.{unsize, is_coinductive}
-use Rattle.type_terms.specs.Answers.{written_in}
-use Rattle.type_terms.specs.Proofs.{In}
+use Rattle.type_terms.specs.Promised.Label.{of_trait, predicate}
+use Rattle.type_terms.specs.Promised.Trees.{Trees, none, tree, some_node}
+use Rattle.type_terms.specs.Promised.Worlds.{World, Reference, StructDecl, TraitDecl, ImplDecl}
+use Rattle.type_terms.specs.Promised.Rules.{unsize, is_coinductive}
+use Rattle.type_terms.specs.Promised.Answers.{written_in}
+use Rattle.type_terms.specs.Promised.Proofs.{In}
 use Rattle.type_terms.proofs.Members.{here, there, in-cases, in-nothing}
 use Rattle.type_terms.proofs.NoHolds.{member-each}
 use Rattle.type_terms.proofs.Walking.{left, right}
@@ -23,7 +23,8 @@ use Rattle.evaluation.specs.declared.candidate.CandidateSource.TheVariants.{Para
 use Rattle.evaluation.proofs.ListLaws.{Every-both, among-all}
 use Rattle.evaluation.specs.Content.{ChosenTerms, trait_of}
 use Rattle.evaluation.specs.FrameTables.{kinds_known, Allows, EquationIsMet, Nested, fact}
-use Rattle.evaluation.specs.Widths.{width, count, width_of_predicates}
+use Rattle.evaluation.specs.Promised.Widths.{width, count}
+use Rattle.evaluation.specs.Widths.{width_of_predicates}
 use Rattle.evaluation.specs.TableOperations.{begin}
 use Rattle.evaluation.specs.TableOperations.{fresh}
 use Rattle.evaluation.specs.Tables.{frame_tables}
@@ -35,7 +36,8 @@ use Rattle.evaluation.specs.Variables.{is_variable_over}
 use Rattle.assembly_laws.specs.Candidates.{Candidate, premise, by_rule, by_the_impl, unknowable, by_clauses, rules_behind, clause_source, all_equal}
 use Rattle.assembly_laws.specs.Declared.{are_terms, are_references, is_declared_view, is_declared, is_counted}
 use Rattle.assembly_laws.specs.Determined.{ImplsAreDetermined}
-use Rattle.assembly_laws.specs.Solver.{solver_handled, declared_width}
+use Rattle.assembly_laws.specs.Solver.{solver_handled}
+use Rattle.assembly_laws.specs.Promised.Widths.{declared_width}
 use Rattle.assembly_laws.specs.Cover.{all_candidates}
 use Rattle.assembly_laws.specs.Lawful.{IsSoundFor}
 use Rattle.assembly_laws.proofs.Premises.{IsNarrow, other_candidates}

@@ -1,12 +1,12 @@
 -- The where-clauses of a goal are lawful candidates.
 use Rattle.std.proofs.Common.{◌≡◌, ℕ, suc, ◌==◌, Bool, true, not, ◌&&◌, if◌then◌else◌, List, [], ◌∷◌, ◌++◌, ◌⊎◌, inl, inr, refl, sym, ◌∙◌, ap, subst}
 use Rattle.std.specs.List.{flat_map}
-use Rattle.type_terms.specs.Label.{Label, param, placeholder, infer, canonical, bound, of_trait, predicate}
-use Rattle.type_terms.specs.Trees.{Trees, none, tree}
-use Rattle.type_terms.specs.Worlds.{World, Reference}
-use Rattle.type_terms.specs.Answers.{is_open}
-use Rattle.type_terms.specs.Rules.{Rule, Way, by_clause, same_reference, clause_rules, super_rules, strict_supertraits, built_in_rules, impl_rules}
-use Rattle.type_terms.specs.Proofs.{In}
+use Rattle.type_terms.specs.Promised.Label.{Label, param, placeholder, infer, canonical, bound, of_trait, predicate}
+use Rattle.type_terms.specs.Promised.Trees.{Trees, none, tree}
+use Rattle.type_terms.specs.Promised.Worlds.{World, Reference}
+use Rattle.type_terms.specs.Promised.Answers.{is_open}
+use Rattle.type_terms.specs.Promised.Rules.{Rule, Way, by_clause, same_reference, clause_rules, super_rules, strict_supertraits, built_in_rules, impl_rules}
+use Rattle.type_terms.specs.Promised.Proofs.{In}
 use Rattle.type_terms.proofs.Members.{here, there, in-nothing, in-cases, in-left, in-right, same-number, self-number}
 use Rattle.type_terms.specs.Made.{terms}
 use Rattle.type_terms.specs.Made.{is_made}

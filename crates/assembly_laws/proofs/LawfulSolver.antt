@@ -22,7 +22,8 @@ use Rattle.assembly_laws.specs.Meaning.{ViewMeaning, proved_at}
 use Rattle.assembly_laws.specs.Lifetimes.{GivesLifetimes, goal_gives_lifetimes}
 use Rattle.assembly_laws.specs.Asking.{GoalOverKinds, goal_over_kinds, clauses, self_of, begins_unknown}
 use Rattle.assembly_laws.specs.Candidates.{Candidate, unsure, unknowable, by_clauses, built_in, by_impls, by_objects}
-use Rattle.assembly_laws.specs.Solver.{solver_planned, solver_handled, most_candidates, number_at, widest_of, plan_for, by_mode, everything, in_coherence, outside_coherence}
+use Rattle.assembly_laws.specs.Solver.{solver_planned, solver_handled, most_candidates, widest_of, plan_for, by_mode, everything, in_coherence, outside_coherence}
+use Rattle.assembly_laws.specs.Promised.Widths.{number_at}
 use Rattle.assembly_laws.proofs.CandidateKinds.{every-split}
 use Rattle.assembly_laws.proofs.Realizing.{by-candidates, by-unknowable, unsure-realizes}
 use Rattle.assembly_laws.specs.Cover.{AreTermsOf, GivenIsRealized, all_candidates, SolutionsAreCandidates}

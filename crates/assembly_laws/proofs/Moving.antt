@@ -1,9 +1,10 @@
 -- A header or clause over variables of a candidate: how it is made, which variables stand there, and when two readings agree.
 use Rattle.std.proofs.Common.{◌≡◌, ℕ, ◌+◌, ◌==◌, Bool, true, false, not, ◌&&◌, ◌||◌, if◌then◌else◌, List, ◌⊎◌, inl, inr, refl, sym, ◌∙◌, ap, subst, arith, None}
 use Rattle.std.proofs.lemmas.Bool.Decides.{nat_tests}
-use Rattle.type_terms.specs.Label.{Label, Sort, of_type, of_const, of_lifetime, static, param, placeholder, infer, canonical, bound, char, dynamic, principal, auto_trait, predicate}
-use Rattle.type_terms.specs.Label.{bool}
-use Rattle.type_terms.specs.Trees.{Trees, none, tree, leaf, ◌+++◌, is_sort, sort_of, is_no_tree, is_a, some_node}
+use Rattle.type_terms.specs.Promised.Label.{Label, Sort, of_type, of_const, of_lifetime, static, param, placeholder, infer, canonical, bound, char, dynamic, principal, auto_trait, predicate}
+use Rattle.type_terms.specs.Promised.Label.{bool}
+use Rattle.type_terms.specs.Promised.Trees.{Trees, none, tree, leaf, ◌+++◌, is_sort, sort_of, some_node}
+use Rattle.type_terms.specs.Trees.{is_no_tree, is_a}
 use Rattle.type_terms.specs.Made.{terms}
 use Rattle.type_terms.specs.Made.{bounds}
 use Rattle.type_terms.specs.Made.{is_leaf_label, is_made}

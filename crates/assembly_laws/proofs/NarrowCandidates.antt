@@ -1,25 +1,27 @@
 -- Every candidate but where-clauses is no wider than the goal and what is declared.
 use Rattle.std.proofs.Common.{◌≡◌, ℕ, suc, ◌≤◌, max, Bool, true, false, not, ◌&&◌, ◌||◌, ◌==◌, if◌then◌else◌, List, [], ◌∷◌, ◌++◌, length, sym, ap, subst, arith}
 use Rattle.std.specs.List.{flat_map}
-use Rattle.type_terms.specs.Label.{tuple, dynamic, array, slice, adt, fn_ptr}
-use Rattle.type_terms.specs.Trees.{Trees, none, tree}
-use Rattle.type_terms.specs.Worlds.{World, Reference, StructDecl, TraitDecl, ImplDecl, structs_named}
-use Rattle.type_terms.specs.Rules.{Rule, sized, clone, copy, tuple_trait, fn_ptr_trait, is_fn_trait, unsize, is_auto, is_coinductive, sized_rules, copy_rules, auto_rules, tuple_rules, fn_ptr_rules, unsize_to_dyn_rules, but_last, last_asked, together, principal_with, autos_with, are_dyn_compatible, are_declared, upcasts_autos, some_unsizing, with_unsizing, last_unsizes}
-use Rattle.type_terms.specs.Proofs.{In}
+use Rattle.type_terms.specs.Promised.Label.{tuple, dynamic, array, slice, adt, fn_ptr}
+use Rattle.type_terms.specs.Promised.Trees.{Trees, none, tree}
+use Rattle.type_terms.specs.Promised.Worlds.{World, Reference, StructDecl, TraitDecl, ImplDecl, structs_named}
+use Rattle.type_terms.specs.Promised.Rules.{Rule, sized, clone, copy, tuple_trait, fn_ptr_trait, is_fn_trait, unsize, is_auto, is_coinductive, sized_rules, copy_rules, auto_rules, tuple_rules, fn_ptr_rules, unsize_to_dyn_rules, but_last, last_asked, together, principal_with, autos_with, are_dyn_compatible, are_declared, upcasts_autos, some_unsizing, with_unsizing, last_unsizes}
+use Rattle.type_terms.specs.Promised.Proofs.{In}
 use Rattle.type_terms.proofs.Members.{here, there, in-filter}
 use Rattle.evaluation.specs.Lists.{Every}
 use Rattle.evaluation.specs.declared.candidate.CandidateSource.{CandidateSource}
 use Rattle.evaluation.specs.declared.candidate.CandidateSource.TheVariants.{BuiltinImpl}
 use Rattle.evaluation.specs.declared.candidate.BuiltinImplSource.TheVariants.{Trivial}
 use Rattle.evaluation.specs.FrameTables.{Equation}
-use Rattle.evaluation.specs.Widths.{count, width, width_of_predicates, EquationWithin, number_of}
+use Rattle.evaluation.specs.Promised.Widths.{count, width}
+use Rattle.evaluation.specs.Widths.{width_of_predicates, EquationWithin, number_of}
 use Rattle.evaluation.proofs.Widths.{IsWithin, within, width-within, single-count}
 use Rattle.assembly_laws.specs.Asking.{GoalOverKinds, all_known, self_of, next_of, begins_unknown}
-use Rattle.declarations.specs.Elaboration.{elaborate, supertraits}
+use Rattle.declarations.specs.Promised.Elaboration.{elaborate, supertraits}
 use Rattle.assembly_laws.specs.Meaning.{ViewMeaning}
 use Rattle.assembly_laws.specs.Declared.{FieldsAreOne}
 use Rattle.assembly_laws.specs.Candidates.{Candidate, all_equal, by_rule, unsure, unknowable, by_the_impl, can_match, by_impls, as_written, misc, if_so, by_sized, by_copy, by_auto, by_tuple, by_fn_ptr, call_of, by_call, unsize_array_of, upcast_source, upcasts_from, upcasts_to, upcasts_of, unsize_by_struct, unsize_struct_of, unsize_known, unsizing_outlives, unsize_recording, by_unsize, built_in, bounds_from, object_source, written_source, objects_of, by_objects}
-use Rattle.assembly_laws.specs.Solver.{greatest, width_of, supers_of, declared_width, widest_of}
+use Rattle.assembly_laws.specs.Promised.Widths.{greatest, width_of, supers_of, declared_width}
+use Rattle.assembly_laws.specs.Solver.{widest_of}
 use Rattle.assembly_laws.proofs.Premises.{IsNarrow, CandidatesAreNarrow}
 use Rattle.assembly_laws.proofs.Cover.{IsAsked, asked-by}
 use Rattle.assembly_laws.proofs.Recording.{every-recorded}

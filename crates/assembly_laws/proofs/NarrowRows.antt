@@ -1,16 +1,16 @@
 -- The premises of built-in rules, and the arguments of bounds and supertraits, are no wider than the goal and what is declared.
 use Rattle.std.proofs.Common.{ℕ, zero, suc, ◌≤◌, Bool, true, false, not, ◌&&◌, if◌then◌else◌, ◌==◌, List, [], ◌∷◌, ◌++◌, map, arith}
-use Rattle.type_terms.specs.Label.{Label, bool, char, never, str, int, uint, array, slice, tuple, dynamic, adt, fn_ptr, principal, auto_trait, ref, raw_pointer}
-use Rattle.type_terms.specs.Trees.{Trees, none, tree, leaf, instantiate, ◌+++◌}
-use Rattle.type_terms.specs.Worlds.{World, Reference, StructDecl, TraitDecl, structs_named}
-use Rattle.type_terms.specs.Rules.{Rule, row, sized_struct, auto_struct, unsize_to_dyn, sized, unsize, is_dyn, is_written, asked, each_asked, last_asked, together, fields_of, sized_rules, copy_rules, auto_rules, auto_rules_plain, tuple_rules, fn_ptr_rules, unsize_to_dyn_rules, are_dyn_compatible, principal_with, autos_with, but_last, is_unsizing, with_unsizing, last_unsizes}
-use Rattle.type_terms.specs.Proofs.{In}
+use Rattle.type_terms.specs.Promised.Label.{Label, bool, char, never, str, int, uint, array, slice, tuple, dynamic, adt, fn_ptr, principal, auto_trait, ref, raw_pointer}
+use Rattle.type_terms.specs.Promised.Trees.{Trees, none, tree, leaf, instantiate, ◌+++◌}
+use Rattle.type_terms.specs.Promised.Worlds.{World, Reference, StructDecl, TraitDecl, structs_named}
+use Rattle.type_terms.specs.Promised.Rules.{Rule, row, sized_struct, auto_struct, unsize_to_dyn, sized, unsize, is_dyn, is_written, asked, each_asked, last_asked, together, fields_of, sized_rules, copy_rules, auto_rules, auto_rules_plain, tuple_rules, fn_ptr_rules, unsize_to_dyn_rules, are_dyn_compatible, principal_with, autos_with, but_last, is_unsizing, with_unsizing, last_unsizes}
+use Rattle.type_terms.specs.Promised.Proofs.{In}
 use Rattle.type_terms.proofs.Members.{in-filter}
 use Rattle.evaluation.specs.Lists.{Every}
-use Rattle.evaluation.specs.Widths.{count}
+use Rattle.evaluation.specs.Promised.Widths.{count}
 use Rattle.evaluation.proofs.Widths.{IsWithin, within, width-within, count-append, within-append}
-use Rattle.declarations.specs.Elaboration.{elaborate, supertraits}
-use Rattle.assembly_laws.specs.Solver.{width_of}
+use Rattle.declarations.specs.Promised.Elaboration.{elaborate, supertraits}
+use Rattle.assembly_laws.specs.Promised.Widths.{width_of}
 use Rattle.assembly_laws.proofs.CandidateWidths.{count-instance, within-instance, instance-within}
 use Rattle.assembly_laws.proofs.Elaborating.{every-flat, elaborated-so, supertraits-so}
 use Rattle.evaluation.proofs.Basics.{both-lists}

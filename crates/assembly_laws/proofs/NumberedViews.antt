@@ -1,16 +1,18 @@
 -- A linked set that holds a view by other numbers proves by it.
 use Rattle.std.proofs.Common.{◌≡◌, ℕ, ◌==◌, true, if◌then◌else◌, List, [], ◌∷◌, map, ◌⊎◌, inl, inr, refl, sym, ◌∙◌, subst}
 use Rattle.std.specs.List.{flat_map}
-use Rattle.type_terms.specs.Label.{Label, adt, principal, auto_trait, predicate}
-use Rattle.type_terms.specs.Trees.{Trees, none, tree}
-use Rattle.type_terms.specs.Worlds.{World, Reference, TraitDecl, ImplDecl, view_of, sees, traits_named}
-use Rattle.type_terms.specs.Rules.{Rule, rules, strict_supertraits, is_auto}
-use Rattle.type_terms.specs.Proofs.{In, HasProof}
-use Rattle.type_terms.specs.Proofs as Model
-use Rattle.type_terms.specs.Answers.{is_closed}
-use Rattle.type_terms.specs.Walks.{is_known, is_known_in}
-use Rattle.type_terms.specs.LinkedSet.{is_stray, Unknown}
-use Rattle.type_terms.specs.Renumbering.{View, Renumbering, HoldsView, view_before, renumbered, renumbered_label, renumbered_reference, renumbered_trait, renumbered_impl, renumbered_rule, asker_in_set}
+use Rattle.type_terms.specs.Promised.Label.{Label, adt, principal, auto_trait, predicate}
+use Rattle.type_terms.specs.Promised.Trees.{Trees, none, tree}
+use Rattle.type_terms.specs.Promised.Worlds.{World, Reference, TraitDecl, ImplDecl, view_of, sees, traits_named}
+use Rattle.type_terms.specs.Promised.Rules.{Rule, rules, strict_supertraits, is_auto}
+use Rattle.type_terms.specs.Promised.Proofs.{In, HasProof}
+use Rattle.type_terms.specs.Promised.Proofs as Model
+use Rattle.type_terms.specs.Promised.Answers.{is_closed}
+use Rattle.type_terms.specs.Promised.Walks.{is_known, is_known_in}
+use Rattle.type_terms.specs.Promised.LinkedSet.{is_stray}
+use Rattle.type_terms.specs.LinkedSet.{Unknown}
+use Rattle.type_terms.specs.Promised.Renumbering.{View, Renumbering, HoldsView, view_before, renumbered, renumbered_label, renumbered_reference, renumbered_trait, renumbered_impl, asker_in_set}
+use Rattle.type_terms.specs.Renumbering.{renumbered_rule}
 use Rattle.type_terms.proofs.Members.{in-filter, filter-in, in-map, in-left, flat-in, some-member, member-some, self-number, not-both}
 use Rattle.type_terms.proofs.NoHolds.{shut, every-member}
 use Rattle.type_terms.proofs.WorkedProofs.{needs-rule}

@@ -1,13 +1,13 @@
 -- Object bounds: each reference that a `dyn` concludes is the instance of one that the candidates go over.
 use Rattle.std.proofs.Common.{◌≡◌, ℕ, zero, suc, Bool, true, false, not, ◌&&◌, ◌||◌, ◌==◌, if◌then◌else◌, List, [], ◌∷◌, ◌++◌, map, length, ◌⊎◌, inl, inr, refl, sym, ◌∙◌, ap, subst}
 use Rattle.std.specs.List.{flat_map, list_all, list_any}
-use Rattle.type_terms.specs.Label.{Label, dynamic, principal}
-use Rattle.type_terms.specs.Trees.{Trees, none, tree, some_node}
-use Rattle.type_terms.specs.Worlds.{World, Reference, TraitDecl, traits_named, with_args, all_with_args}
-use Rattle.type_terms.specs.Rules.{Rule, row, object_auto, object_principal, equal_rows, sized, same_reference, is_declared, are_dyn_compatible, principal_with, autos_with, elaborated, written_supertraits, strict_supertraits, strict_supertraits_within, object_rules, object_bound_rules}
-use Rattle.type_terms.specs.Proofs.{In}
-use Rattle.type_terms.specs.Answers.{is_open}
-use Rattle.type_terms.specs.LinkedSet.{is_stray}
+use Rattle.type_terms.specs.Promised.Label.{Label, dynamic, principal}
+use Rattle.type_terms.specs.Promised.Trees.{Trees, none, tree, some_node}
+use Rattle.type_terms.specs.Promised.Worlds.{World, Reference, TraitDecl, traits_named, with_args, all_with_args}
+use Rattle.type_terms.specs.Promised.Rules.{Rule, row, object_auto, object_principal, equal_rows, sized, same_reference, is_declared, are_dyn_compatible, principal_with, autos_with, elaborated, written_supertraits, strict_supertraits, strict_supertraits_within, object_rules, object_bound_rules}
+use Rattle.type_terms.specs.Promised.Proofs.{In}
+use Rattle.type_terms.specs.Promised.Answers.{is_open}
+use Rattle.type_terms.specs.Promised.LinkedSet.{is_stray}
 use Rattle.type_terms.proofs.Members.{here, there, in-nothing, in-cases, in-append, in-map, in-filter, in-flat, self-number}
 use Rattle.type_terms.proofs.ProofEntries.{map-in}
 use Rattle.type_terms.proofs.Supertraits.{flat-same}
@@ -22,7 +22,7 @@ use Rattle.evaluation.specs.declared.candidate.CandidateSource.{CandidateSource}
 use Rattle.evaluation.specs.Instances.{read_with}
 use Rattle.evaluation.specs.Content.{Values, given}
 use Rattle.assembly_laws.specs.Declared.{are_terms, are_references, is_declared_view}
-use Rattle.declarations.specs.Elaboration.{supertraits, elaborate}
+use Rattle.declarations.specs.Promised.Elaboration.{supertraits, elaborate}
 use Rattle.assembly_laws.specs.Asking.{GoalOverKinds}
 use Rattle.assembly_laws.specs.Candidates.{by_rule, all_equal, if_so, bounds_from, object_source, written_source, objects_of}
 use Rattle.assembly_laws.specs.Cover.{slots, SolvesEquations, Proved, read_reference}

@@ -1,7 +1,7 @@
 -- Facts that every file needs.
 use Rattle.std.proofs.Common.{◌≡◌, true, refl}
-use Rattle.type_terms.specs.Label.{Sort, of_type, of_const, of_lifetime}
-use Rattle.type_terms.specs.Trees.{is_sort}
+use Rattle.type_terms.specs.Promised.Label.{Sort, of_type, of_const, of_lifetime}
+use Rattle.type_terms.specs.Promised.Trees.{is_sort}
 
 pub is-sort : (j k : Sort) → is_sort j k ≡ true → j ≡ k
 is-sort of_type of_type h = refl

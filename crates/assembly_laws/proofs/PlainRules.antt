@@ -1,12 +1,13 @@
 -- Rules that read plain types have plain premises, and instances of what is declared by plain arguments are plain.
 use Rattle.std.proofs.Common.{◌≡◌, ℕ, zero, suc, ◌==◌, Bool, true, false, not, ◌&&◌, ◌||◌, if◌then◌else◌, List, [], ◌∷◌, map, refl, sym, subst}
 use Rattle.std.specs.List.{flat_map, list_all}
-use Rattle.type_terms.specs.Label.{Label, of_lifetime, array, slice, str, tuple, dynamic, adt, fn_ptr, raw_pointer, auto_trait, principal, param, placeholder, infer, canonical, bound, bool, char, never, int, uint, ref, predicate}
-use Rattle.type_terms.specs.Trees.{Trees, none, tree, is_no_tree, is_sort, sort_of, nth, instantiate, shift, some_node}
-use Rattle.type_terms.specs.Label.{inside}
-use Rattle.type_terms.specs.Worlds.{World, Reference, StructDecl, structs_named}
-use Rattle.type_terms.specs.Rules.{Rule, row, sized, sized_struct, auto_struct, sized_rules, copy_rules, auto_rules, auto_rules_plain, is_written, tuple_rules, fn_ptr_rules, last_asked, each_asked, fields_of, together}
-use Rattle.type_terms.specs.Proofs.{In}
+use Rattle.type_terms.specs.Promised.Label.{Label, of_lifetime, array, slice, str, tuple, dynamic, adt, fn_ptr, raw_pointer, auto_trait, principal, param, placeholder, infer, canonical, bound, bool, char, never, int, uint, ref, predicate}
+use Rattle.type_terms.specs.Promised.Trees.{Trees, none, tree, is_sort, sort_of, nth, instantiate, shift, some_node}
+use Rattle.type_terms.specs.Trees.{is_no_tree}
+use Rattle.type_terms.specs.Promised.Label.{inside}
+use Rattle.type_terms.specs.Promised.Worlds.{World, Reference, StructDecl, structs_named}
+use Rattle.type_terms.specs.Promised.Rules.{Rule, row, sized, sized_struct, auto_struct, sized_rules, copy_rules, auto_rules, auto_rules_plain, is_written, tuple_rules, fn_ptr_rules, last_asked, each_asked, fields_of, together}
+use Rattle.type_terms.specs.Promised.Proofs.{In}
 use Rattle.type_terms.proofs.Members.{here, there, in-filter}
 use Rattle.type_terms.proofs.Fitting.{append-shut, head-shut, child-shut, next-shut, or-no}
 use Rattle.type_terms.proofs.Walking.{left, right}

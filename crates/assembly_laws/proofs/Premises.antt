@@ -1,6 +1,6 @@
 -- What the solver's laws rest on: that candidates are sound, narrow and few, and that their equations are of terms.
 use Rattle.std.specs.Prelude.{◌≡◌, ℕ, suc, ◌≤◌, ◌==◌, Bool, true, false, List, ◌∷◌, ◌++◌, length, Some}
-use Rattle.type_terms.specs.Rules.{unsize, unsize_to_dyn_rules}
+use Rattle.type_terms.specs.Promised.Rules.{unsize, unsize_to_dyn_rules}
 use Rattle.infer_table.specs.Canonical.{CanonicalForm}
 use Rattle.infer_table.specs.declared.certainty.TypingMode.{TypingMode}
 use Rattle.infer_table.specs.Responses.{AnswerTrees}
@@ -16,7 +16,8 @@ use Rattle.assembly_laws.specs.Asking.{GoalOverKinds, goal_over_kinds, self_of, 
 use Rattle.assembly_laws.specs.Candidates.{Candidate, unknowable, built_in, misc, if_so, as_written, upcasts_of, by_impls, by_objects}
 use Rattle.assembly_laws.specs.Declared.{is_declared_view}
 use Rattle.assembly_laws.specs.Determined.{ImplsAreDetermined}
-use Rattle.assembly_laws.specs.Solver.{solver_handled, most_candidates, number_at, widest_of}
+use Rattle.assembly_laws.specs.Solver.{solver_handled, most_candidates, widest_of}
+use Rattle.assembly_laws.specs.Promised.Widths.{number_at}
 use Rattle.assembly_laws.specs.Cover.{AreTermsOf, GivenIsRealized, all_candidates, SolutionsAreCandidates}
 use Rattle.assembly_laws.specs.Lawful.{IsSoundFor, CandidatesAreLawful}
 

@@ -2,9 +2,10 @@
 use Rattle.std.proofs.Common.{◌≡◌, ℕ, zero, suc, ◌+◌, ◌<◌, Bool, true, false, not, ◌&&◌, ◌||◌, ◌==◌, if◌then◌else◌, List, ◌⊎◌, inl, inr, refl, sym, ◌∙◌, ap, subst, arith, zero-add}
 use Rattle.std.specs.Prelude.{nat_lt}
 use Rattle.std.proofs.lemmas.Bool.Decides.{nat_tests}
-use Rattle.type_terms.specs.Label.{Label, Sort, of_type, of_const, of_lifetime, static, fn_ptr, principal, param, placeholder, infer, canonical, bound, inside}
-use Rattle.type_terms.specs.Label.{never}
-use Rattle.type_terms.specs.Trees.{Trees, none, tree, leaf, ◌+++◌, is_a, is_sort, fits, nth, instantiate, some_node, first_of, standing_at, arguments_from, arguments}
+use Rattle.type_terms.specs.Promised.Label.{Label, Sort, of_type, of_const, of_lifetime, static, fn_ptr, principal, param, placeholder, infer, canonical, bound, inside}
+use Rattle.type_terms.specs.Promised.Label.{never}
+use Rattle.type_terms.specs.Promised.Trees.{Trees, none, tree, leaf, ◌+++◌, is_sort, nth, instantiate, some_node}
+use Rattle.type_terms.specs.Trees.{is_a, fits, first_of, standing_at, arguments_from, arguments}
 use Rattle.type_terms.proofs.Fitting.{not-true, append-shut, child-shut, next-shut, first-shut, standing-shut, or-no}
 use Rattle.type_terms.proofs.Matching.{first-left, nth-arguments, or-false-left as no-left}
 use Rattle.type_terms.proofs.Members.{self-number, same-number}

@@ -1,10 +1,11 @@
 -- Terms put in for variables, and the making of instances of declarations.
 use Rattle.std.proofs.Common.{◌≡◌, ℕ, zero, suc, Bool, true, false, ◌&&◌, if◌then◌else◌, List, [], ◌∷◌, map, refl, sym, ◌∙◌, ap, Option, Some, None}
-use Rattle.type_terms.specs.Label.{Label, of_type, of_const, of_lifetime, static, param, placeholder, infer, canonical, bound}
-use Rattle.type_terms.specs.Label.{never}
-use Rattle.type_terms.specs.Label.{value}
-use Rattle.type_terms.specs.Trees.{Trees, none, tree, leaf, ◌+++◌, is_a, is_sort, sort_of, erase_label, placed, nth}
-use Rattle.type_terms.specs.Rules.{asked, each_asked, last_asked}
+use Rattle.type_terms.specs.Promised.Label.{Label, of_type, of_const, of_lifetime, static, param, placeholder, infer, canonical, bound}
+use Rattle.type_terms.specs.Promised.Label.{never}
+use Rattle.type_terms.specs.Promised.Label.{value}
+use Rattle.type_terms.specs.Promised.Trees.{Trees, none, tree, leaf, ◌+++◌, is_sort, sort_of, erase_label, nth}
+use Rattle.type_terms.specs.Trees.{is_a, placed}
+use Rattle.type_terms.specs.Promised.Rules.{asked, each_asked, last_asked}
 use Rattle.evaluation.specs.Instances.{read_with, default_label, of_sort, term_at}
 use Rattle.evaluation.specs.Content.{given}
 pub use Rattle.assembly_laws.specs.Cover.{read_reference}

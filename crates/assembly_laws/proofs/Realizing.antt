@@ -1,8 +1,9 @@
 -- Each solution of a goal in a linked set is realized, in the tables of frames, by a candidate.
 use Rattle.std.proofs.Common.{◌≡◌, ℕ, zero, suc, Bool, true, false, ◌&&◌, if◌then◌else◌, List, [], ◌∷◌, map, refl, sym, ◌∙◌, ap, subst, Option, Some, None}
-use Rattle.type_terms.specs.Label.{Label, of_type, of_const, of_lifetime, infer, param, placeholder, canonical, bound, static, of_trait, predicate}
-use Rattle.type_terms.specs.Trees.{Trees, none, tree, is_a, leaf}
-use Rattle.type_terms.specs.Worlds.{World, Reference}
+use Rattle.type_terms.specs.Promised.Label.{Label, of_type, of_const, of_lifetime, infer, param, placeholder, canonical, bound, static, of_trait, predicate}
+use Rattle.type_terms.specs.Promised.Trees.{Trees, none, tree, leaf}
+use Rattle.type_terms.specs.Trees.{is_a}
+use Rattle.type_terms.specs.Promised.Worlds.{World, Reference}
 use Rattle.infer_table.specs.Canonical.{CanonicalForm}
 use Rattle.infer_table.specs.declared.canonical.CanonicalVarKind.{CanonicalVarKind}
 use Rattle.infer_table.specs.declared.canonical.CanonicalVarKind.TheVariants.{Ty, PlaceholderTy, Const, PlaceholderConst, Region}

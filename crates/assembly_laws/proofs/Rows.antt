@@ -1,17 +1,17 @@
 -- Rules that read the outermost types alone: those of an instance are the instances of those of what is asked.
 use Rattle.std.proofs.Common.{◌≡◌, ℕ, zero, Bool, true, false, ◌&&◌, ◌==◌, if◌then◌else◌, List, [], ◌∷◌, ◌++◌, map, refl, sym, ◌∙◌, ap}
 use Rattle.std.specs.List.{flat_map, list_all}
-use Rattle.type_terms.specs.Label.{Label, array, slice, tuple, adt, fn_ptr, raw_pointer, param, placeholder, infer, canonical}
-use Rattle.type_terms.specs.Label.{ref}
-use Rattle.type_terms.specs.Trees.{Trees, none, tree, ◌+++◌, some_node, instantiate}
-use Rattle.type_terms.specs.Worlds.{World, Reference, StructDecl, ImplDecl, structs_named}
-use Rattle.type_terms.specs.Rules.{Rule, BuiltIn, sized, row, sized_struct, sized_tuple, auto_struct, auto_element, auto_tuple, copy_tuple, sized_rules, copy_rules, auto_rules, auto_rules_plain, is_written, tuple_rules, fn_ptr_rules, last_asked, each_asked, asked, fields_of, together}
-use Rattle.type_terms.specs.Proofs.{In}
+use Rattle.type_terms.specs.Promised.Label.{Label, array, slice, tuple, adt, fn_ptr, raw_pointer, param, placeholder, infer, canonical}
+use Rattle.type_terms.specs.Promised.Label.{ref}
+use Rattle.type_terms.specs.Promised.Trees.{Trees, none, tree, ◌+++◌, some_node, instantiate}
+use Rattle.type_terms.specs.Promised.Worlds.{World, Reference, StructDecl, ImplDecl, structs_named}
+use Rattle.type_terms.specs.Promised.Rules.{Rule, BuiltIn, sized, row, sized_struct, sized_tuple, auto_struct, auto_element, auto_tuple, copy_tuple, sized_rules, copy_rules, auto_rules, auto_rules_plain, is_written, tuple_rules, fn_ptr_rules, last_asked, each_asked, asked, fields_of, together}
+use Rattle.type_terms.specs.Promised.Proofs.{In}
 use Rattle.type_terms.proofs.Members.{in-filter}
 use Rattle.type_terms.proofs.Supertraits.{flat-same}
 use Rattle.type_terms.proofs.NoHolds.{member-each}
 use Rattle.type_terms.proofs.Walking.{left, right}
-use Rattle.type_terms.specs.Answers.{is_open}
+use Rattle.type_terms.specs.Promised.Answers.{is_open}
 use Rattle.evaluation.specs.Instances.{read_with}
 use Rattle.evaluation.specs.Content.{given}
 use Rattle.assembly_laws.specs.Declared.{are_terms, are_references, is_declared_view}

@@ -1,6 +1,6 @@
 -- Every candidate that is not proved to be sound by rows is sound too: by types that unsize to a `dyn`, upcasts, impls and object bounds.
 use Rattle.std.proofs.Common.{◌≡◌, ◌==◌, Bool, true, false, List, ◌++◌, refl}
-use Rattle.type_terms.specs.Rules.{unsize, unsize_to_dyn_rules}
+use Rattle.type_terms.specs.Promised.Rules.{unsize, unsize_to_dyn_rules}
 use Rattle.evaluation.specs.Lists.{Every}
 use Rattle.assembly_laws.specs.Meaning.{ViewMeaning}
 use Rattle.assembly_laws.specs.DeclaredWell.{IsDeclaredWell}

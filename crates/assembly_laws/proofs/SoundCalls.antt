@@ -1,10 +1,11 @@
 -- A call of a fn pointer is a sound candidate, where its arguments are equated with the tuple of the inputs.
 use Rattle.std.proofs.Common.{◌≡◌, zero, Bool, true, false, not, ◌&&◌, ◌||◌, if◌then◌else◌, [], ◌++◌, map, ◌⊎◌, inl, inr, refl, sym, ◌∙◌, ap, subst, Some}
-use Rattle.type_terms.specs.Label.{Label, of_type, tuple, dynamic, fn_ptr, auto_trait, principal, param, placeholder, infer, canonical, bound, predicate}
-use Rattle.type_terms.specs.Trees.{Trees, none, tree, ◌+++◌, erase_label, is_no_tree, is_sort}
-use Rattle.type_terms.specs.Worlds.{World}
-use Rattle.type_terms.specs.Rules.{Rule, Way, built_in, row, fn_ptr_call, built_in_rules, is_fn_trait, call_rules, but_last, last_asked, sized}
-use Rattle.type_terms.specs.Proofs.{In}
+use Rattle.type_terms.specs.Promised.Label.{Label, of_type, tuple, dynamic, fn_ptr, auto_trait, principal, param, placeholder, infer, canonical, bound, predicate}
+use Rattle.type_terms.specs.Promised.Trees.{Trees, none, tree, ◌+++◌, erase_label, is_sort}
+use Rattle.type_terms.specs.Trees.{is_no_tree}
+use Rattle.type_terms.specs.Promised.Worlds.{World}
+use Rattle.type_terms.specs.Promised.Rules.{Rule, Way, built_in, row, fn_ptr_call, built_in_rules, is_fn_trait, call_rules, but_last, last_asked, sized}
+use Rattle.type_terms.specs.Promised.Proofs.{In}
 use Rattle.type_terms.proofs.Members.{here}
 use Rattle.type_terms.proofs.Fitting.{child-shut}
 use Rattle.type_terms.proofs.Walking.{left, right}

@@ -1,11 +1,11 @@
 -- Where the equations of a candidate hold it is a rule of the view: what all kinds of candidates share, and where-clauses.
 use Rattle.std.proofs.Common.{◌≡◌, Bool, true, false, not, ◌&&◌, List, [], ◌∷◌, map, inl, inr, refl, sym, ◌∙◌, ap, subst, Option, Some, None}
-use Rattle.type_terms.specs.Label.{of_trait, predicate}
-use Rattle.type_terms.specs.Trees.{Trees, none, tree, some_node}
-use Rattle.type_terms.specs.Worlds.{World, Reference}
-use Rattle.type_terms.specs.Answers.{is_open}
-use Rattle.type_terms.specs.Rules.{Way, rules}
-use Rattle.type_terms.specs.Proofs.{In}
+use Rattle.type_terms.specs.Promised.Label.{of_trait, predicate}
+use Rattle.type_terms.specs.Promised.Trees.{Trees, none, tree, some_node}
+use Rattle.type_terms.specs.Promised.Worlds.{World, Reference}
+use Rattle.type_terms.specs.Promised.Answers.{is_open}
+use Rattle.type_terms.specs.Promised.Rules.{Way, rules}
+use Rattle.type_terms.specs.Promised.Proofs.{In}
 use Rattle.type_terms.specs.Made.{terms}
 use Rattle.type_terms.specs.Made.{is_made}
 use Rattle.infer_table.specs.Canonical.{CanonicalForm, GoalTrees}

@@ -1,11 +1,12 @@
 -- Impls are sound candidates: where the header is read as the goal, the impl's arguments can be read off the goal's instance.
 use Rattle.std.proofs.Common.{◌≡◌, ℕ, zero, ◌==◌, Bool, true, false, not, ◌&&◌, if◌then◌else◌, List, [], ◌∷◌, ◌++◌, map, length, refl, sym, ◌∙◌, ap, subst, Some}
 use Rattle.std.specs.List.{flat_map}
-use Rattle.type_terms.specs.Label.{Sort, of_trait, predicate}
-use Rattle.type_terms.specs.Trees.{Trees, none, tree, fits, some_node, instantiate, arguments}
-use Rattle.type_terms.specs.Worlds.{World, Reference, ImplDecl, with_args, all_with_args}
-use Rattle.type_terms.specs.Rules.{Rule, by_impl, impl_rules, same_reference, built_in_rules, clause_rules, is_coinductive}
-use Rattle.type_terms.specs.Proofs.{In}
+use Rattle.type_terms.specs.Promised.Label.{Sort, of_trait, predicate}
+use Rattle.type_terms.specs.Promised.Trees.{Trees, none, tree, some_node, instantiate}
+use Rattle.type_terms.specs.Trees.{fits, arguments}
+use Rattle.type_terms.specs.Promised.Worlds.{World, Reference, ImplDecl, with_args, all_with_args}
+use Rattle.type_terms.specs.Promised.Rules.{Rule, by_impl, impl_rules, same_reference, built_in_rules, clause_rules, is_coinductive}
+use Rattle.type_terms.specs.Promised.Proofs.{In}
 use Rattle.type_terms.proofs.Members.{here, there, in-left, flat-in, self-number, same-number}
 use Rattle.type_terms.proofs.Fitting.{not-true, child-shut}
 use Rattle.type_terms.proofs.NoHolds.{member-each}

@@ -1,12 +1,12 @@
 -- Object bounds are sound candidates: the bound that is equated is one of the `dyn`'s, and the rule's premises are among the supertraits that are asked.
 use Rattle.std.proofs.Common.{◌≡◌, ℕ, suc, ◌==◌, Bool, true, false, not, ◌&&◌, if◌then◌else◌, List, [], ◌∷◌, ◌++◌, map, ◌⊎◌, inl, inr, refl, sym, ◌∙◌, ap, subst, Some}
 use Rattle.std.specs.List.{flat_map, list_any}
-use Rattle.type_terms.specs.Label.{Label, of_type, dynamic, auto_trait, param, placeholder, infer, canonical, bound}
-use Rattle.type_terms.specs.Trees.{Trees, none, tree, erase_label, is_sort, some_node}
-use Rattle.type_terms.specs.Worlds.{World, Reference}
-use Rattle.type_terms.specs.Answers.{is_undeclared}
-use Rattle.type_terms.specs.Rules.{Rule, Way, BuiltIn, built_in, row, object_auto, object_principal, equal_rows, sized, unsize, is_auto, is_declared, same_reference, impl_rules, plain_rules, built_in_rules, clause_rules, sized_rules, auto_rules, unsize_rules, object_rules, object_bound_rules, are_dyn_compatible, principal_with, autos_with, elaborated, strict_supertraits, is_coinductive}
-use Rattle.type_terms.specs.Proofs.{In}
+use Rattle.type_terms.specs.Promised.Label.{Label, of_type, dynamic, auto_trait, param, placeholder, infer, canonical, bound}
+use Rattle.type_terms.specs.Promised.Trees.{Trees, none, tree, erase_label, is_sort, some_node}
+use Rattle.type_terms.specs.Promised.Worlds.{World, Reference}
+use Rattle.type_terms.specs.Promised.Answers.{is_undeclared}
+use Rattle.type_terms.specs.Promised.Rules.{Rule, Way, BuiltIn, built_in, row, object_auto, object_principal, equal_rows, sized, unsize, is_auto, is_declared, same_reference, impl_rules, plain_rules, built_in_rules, clause_rules, sized_rules, auto_rules, unsize_rules, object_rules, object_bound_rules, are_dyn_compatible, principal_with, autos_with, elaborated, strict_supertraits, is_coinductive}
+use Rattle.type_terms.specs.Promised.Proofs.{In}
 use Rattle.type_terms.proofs.Members.{here, there, in-nothing, in-cases, in-left, in-right, in-map, member-some, same-number}
 use Rattle.type_terms.proofs.Fitting.{head-shut, child-shut}
 use Rattle.type_terms.proofs.Walking.{left, right, both}
@@ -18,7 +18,7 @@ use Rattle.evaluation.specs.Instances.{read_with}
 use Rattle.evaluation.specs.Content.{given, ChosenTerms}
 use Rattle.evaluation.specs.FrameTables.{Nested, fact, Equation, EquationIsMet, is_open_label}
 use Rattle.assembly_laws.specs.Facts.{FactFollows, is_plain, is_unerased, clauses_of, beside}
-use Rattle.declarations.specs.Elaboration.{supertraits, elaborate}
+use Rattle.declarations.specs.Promised.Elaboration.{supertraits, elaborate}
 use Rattle.assembly_laws.specs.Meaning.{ViewMeaning}
 use Rattle.assembly_laws.specs.Declared.{is_declared_view, BoundsAreErased}
 use Rattle.assembly_laws.specs.Asking.{GoalOverKinds, goal_over_kinds, all_known, are_clauses, is_rigid, self_of, with_plain_head}

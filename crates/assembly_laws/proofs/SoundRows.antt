@@ -1,11 +1,11 @@
 -- The built-in rules that read the outermost types alone are sound candidates: the rule of an instance is the instance of the rule.
 use Rattle.std.proofs.Common.{◌≡◌, ℕ, Bool, true, false, ◌&&◌, ◌||◌, ◌==◌, if◌then◌else◌, List, [], ◌∷◌, ◌++◌, map, ◌⊎◌, inl, inr, refl, sym, ◌∙◌, ap, subst, Some}
 use Rattle.std.specs.List.{flat_map}
-use Rattle.type_terms.specs.Label.{Label, of_type, canonical, of_trait, predicate}
-use Rattle.type_terms.specs.Trees.{Trees, none, tree, erase_label, some_node}
-use Rattle.type_terms.specs.Worlds.{World, Reference}
-use Rattle.type_terms.specs.Rules.{Rule, Way, impl_rules, built_in_rules, plain_rules, clause_rules, is_coinductive, sized, copy, clone, tuple_trait, fn_ptr_trait, is_fn_trait, unsize, is_auto, sized_rules, copy_rules, auto_rules, is_written, tuple_rules, fn_ptr_rules, call_rules, unsize_rules, object_rules}
-use Rattle.type_terms.specs.Proofs.{In}
+use Rattle.type_terms.specs.Promised.Label.{Label, of_type, canonical, of_trait, predicate}
+use Rattle.type_terms.specs.Promised.Trees.{Trees, none, tree, erase_label, some_node}
+use Rattle.type_terms.specs.Promised.Worlds.{World, Reference}
+use Rattle.type_terms.specs.Promised.Rules.{Rule, Way, impl_rules, built_in_rules, plain_rules, clause_rules, is_coinductive, sized, copy, clone, tuple_trait, fn_ptr_trait, is_fn_trait, unsize, is_auto, sized_rules, copy_rules, auto_rules, is_written, tuple_rules, fn_ptr_rules, call_rules, unsize_rules, object_rules}
+use Rattle.type_terms.specs.Promised.Proofs.{In}
 use Rattle.type_terms.proofs.Members.{here, there, in-left, in-right, in-map}
 use Rattle.type_terms.proofs.Fitting.{child-shut}
 use Rattle.infer_table.specs.Canonical.{CanonicalForm}

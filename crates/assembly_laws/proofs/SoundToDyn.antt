@@ -1,11 +1,12 @@
 -- Types that unsize to a `dyn` are sound candidates where the self type is known: it is no `dyn`, or a placeholder, for which none stands.
 use Rattle.std.proofs.Common.{◌≡◌, ℕ, ◌==◌, Bool, true, false, not, ◌&&◌, ◌||◌, if◌then◌else◌, List, [], ◌∷◌, ◌++◌, map, ◌⊎◌, inl, inr, refl, sym, ◌∙◌, ap, subst, Option, Some, None}
-use Rattle.type_terms.specs.Label.{never}
-use Rattle.type_terms.specs.Label.{Label, of_type, dynamic, param, placeholder, infer, canonical, bound}
-use Rattle.type_terms.specs.Trees.{Trees, none, tree, leaf, erase_label, is_a, is_sort, is_no_tree}
-use Rattle.type_terms.specs.Worlds.{World, Reference}
-use Rattle.type_terms.specs.Rules.{Rule, built_in, row, unsize, unsize_to_dyn, asked as asks_for, sized, is_dyn, built_in_rules, unsize_rules, unsize_array_rules, unsize_to_dyn_rules, unsize_upcast_rules, unsize_struct_rules, are_dyn_compatible, principal_with, autos_with}
-use Rattle.type_terms.specs.Proofs.{In}
+use Rattle.type_terms.specs.Promised.Label.{never}
+use Rattle.type_terms.specs.Promised.Label.{Label, of_type, dynamic, param, placeholder, infer, canonical, bound}
+use Rattle.type_terms.specs.Promised.Trees.{Trees, none, tree, leaf, erase_label, is_sort}
+use Rattle.type_terms.specs.Trees.{is_a, is_no_tree}
+use Rattle.type_terms.specs.Promised.Worlds.{World, Reference}
+use Rattle.type_terms.specs.Promised.Rules.{Rule, built_in, row, unsize, unsize_to_dyn, asked as asks_for, sized, is_dyn, built_in_rules, unsize_rules, unsize_array_rules, unsize_to_dyn_rules, unsize_upcast_rules, unsize_struct_rules, are_dyn_compatible, principal_with, autos_with}
+use Rattle.type_terms.specs.Promised.Proofs.{In}
 use Rattle.type_terms.proofs.Members.{here, in-left, in-right}
 use Rattle.type_terms.proofs.Fitting.{head-shut, child-shut, next-shut}
 use Rattle.type_terms.proofs.Walking.{left, right, both}

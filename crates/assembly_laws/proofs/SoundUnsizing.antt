@@ -1,12 +1,12 @@
 -- Arrays and structs that unsize are sound candidates, where what is compared is equated.
 use Rattle.std.proofs.Common.{◌≡◌, ℕ, zero, suc, ◌==◌, Bool, true, false, ◌&&◌, if◌then◌else◌, List, [], ◌∷◌, ◌++◌, map, ◌⊎◌, inl, inr, refl, sym, ◌∙◌, ap, subst, Some}
 use Rattle.std.specs.List.{flat_map, list_all}
-use Rattle.type_terms.specs.Label.{Label, of_type, array, slice, adt, param, placeholder, infer, canonical, bound}
-use Rattle.type_terms.specs.Trees.{Trees, none, tree, erase_label, instantiate, is_sort}
+use Rattle.type_terms.specs.Promised.Label.{Label, of_type, array, slice, adt, param, placeholder, infer, canonical, bound}
+use Rattle.type_terms.specs.Promised.Trees.{Trees, none, tree, erase_label, instantiate, is_sort}
 use Rattle.type_terms.specs.Codes.{same}
-use Rattle.type_terms.specs.Worlds.{World, StructDecl, structs_named}
-use Rattle.type_terms.specs.Rules.{Rule, Way, built_in, row, unsize, unsize_array, unsize_struct, built_in_rules, unsize_rules, unsize_array_rules, unsize_to_dyn_rules, unsize_upcast_rules, unsize_struct_rules, is_unsizing, some_unsizing, with_unsizing, last_unsizes}
-use Rattle.type_terms.specs.Proofs.{In}
+use Rattle.type_terms.specs.Promised.Worlds.{World, StructDecl, structs_named}
+use Rattle.type_terms.specs.Promised.Rules.{Rule, Way, built_in, row, unsize, unsize_array, unsize_struct, built_in_rules, unsize_rules, unsize_array_rules, unsize_to_dyn_rules, unsize_upcast_rules, unsize_struct_rules, is_unsizing, some_unsizing, with_unsizing, last_unsizes}
+use Rattle.type_terms.specs.Promised.Proofs.{In}
 use Rattle.type_terms.proofs.Members.{here, in-left, in-right, in-filter, flat-in}
 use Rattle.type_terms.proofs.Fitting.{append-shut, child-shut, next-shut}
 use Rattle.type_terms.proofs.Walking.{left, right}

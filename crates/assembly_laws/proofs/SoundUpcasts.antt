@@ -1,11 +1,11 @@
 -- Upcasts are sound candidates: the target's principal is equated with the source's, or with one of its supertraits.
 use Rattle.std.proofs.Common.{◌≡◌, ℕ, suc, ◌==◌, Bool, true, false, ◌&&◌, if◌then◌else◌, List, [], ◌∷◌, ◌++◌, map, ◌⊎◌, inl, inr, refl, sym, ◌∙◌, ap, subst, Some}
-use Rattle.type_terms.specs.Label.{Label, of_type, dynamic, param, placeholder, infer, canonical, bound}
-use Rattle.type_terms.specs.Trees.{Trees, none, tree, erase_label, is_sort}
-use Rattle.type_terms.specs.Worlds.{World, Reference}
-use Rattle.type_terms.specs.Rules.{Rule, Way, built_in, row, unsize, unsize_dyn, unsize_upcast, equal_rows, is_declared, same_reference, built_in_rules, unsize_rules, unsize_array_rules, unsize_to_dyn_rules, unsize_upcast_rules, unsize_struct_rules, upcasts_principal, upcasts_autos, are_declared, principal_with, autos_with, strict_supertraits}
+use Rattle.type_terms.specs.Promised.Label.{Label, of_type, dynamic, param, placeholder, infer, canonical, bound}
+use Rattle.type_terms.specs.Promised.Trees.{Trees, none, tree, erase_label, is_sort}
+use Rattle.type_terms.specs.Promised.Worlds.{World, Reference}
+use Rattle.type_terms.specs.Promised.Rules.{Rule, Way, built_in, row, unsize, unsize_dyn, unsize_upcast, equal_rows, is_declared, same_reference, built_in_rules, unsize_rules, unsize_array_rules, unsize_to_dyn_rules, unsize_upcast_rules, unsize_struct_rules, upcasts_principal, upcasts_autos, are_declared, principal_with, autos_with, strict_supertraits}
 use Rattle.std.specs.List.{list_all}
-use Rattle.type_terms.specs.Proofs.{In}
+use Rattle.type_terms.specs.Promised.Proofs.{In}
 use Rattle.type_terms.proofs.Members.{here, there, in-left, in-right, in-map, flat-in, same-number}
 use Rattle.type_terms.proofs.Fitting.{head-shut, child-shut}
 use Rattle.type_terms.proofs.Walking.{left, right, both}
@@ -17,7 +17,7 @@ use Rattle.evaluation.specs.Instances.{read_with}
 use Rattle.evaluation.specs.Content.{given, ChosenTerms}
 use Rattle.evaluation.specs.FrameTables.{Equation, EquationIsMet, is_open_label}
 use Rattle.assembly_laws.specs.Facts.{is_unerased}
-use Rattle.declarations.specs.Elaboration.{supertraits, elaborate}
+use Rattle.declarations.specs.Promised.Elaboration.{supertraits, elaborate}
 use Rattle.assembly_laws.specs.Meaning.{ViewMeaning}
 use Rattle.assembly_laws.specs.Declared.{is_declared_view, BoundsAreErased}
 use Rattle.assembly_laws.specs.Asking.{GoalOverKinds, goal_over_kinds, is_rigid, self_of, with_plain_head}

@@ -1,11 +1,11 @@
 -- The stack of supertraits loses none: its fuel is enough, and what is written above what was taken is taken too.
 use Rattle.std.proofs.Common.{◌≡◌, ℕ, zero, suc, ◌+◌, ◌≤◌, Bool, true, false, ◌||◌, if◌then◌else◌, List, [], ◌∷◌, ◌++◌, length, ◌⊎◌, inl, inr, refl, sym, ◌∙◌, ap, subst, arith}
-use Rattle.type_terms.specs.Worlds.{World, Reference}
-use Rattle.type_terms.specs.Rules.{same_reference, written_supertraits, strict_supertraits, strict_supertraits_within}
-use Rattle.type_terms.specs.Proofs.{In}
+use Rattle.type_terms.specs.Promised.Worlds.{World, Reference}
+use Rattle.type_terms.specs.Promised.Rules.{same_reference, written_supertraits, strict_supertraits, strict_supertraits_within}
+use Rattle.type_terms.specs.Promised.Proofs.{In}
 use Rattle.type_terms.proofs.Members.{here, there, in-nothing, in-cases, in-append, in-flat, flat-in, some-member}
 use Rattle.type_terms.proofs.Fitting.{same-reference-sound}
-use Rattle.declarations.specs.Elaboration.{is_put, new_of, pushed, off_stack, all_levels, elaborate, supertraits}
+use Rattle.declarations.specs.Promised.Elaboration.{is_put, new_of, pushed, off_stack, all_levels, elaborate, supertraits}
 use Rattle.type_terms.specs.Codes.{same}
 use Rattle.assembly_laws.proofs.Levels.{LeadDown, strict-closed, all-closed}
 use Rattle.declarations.proofs.Basics.{length-pushed, put-move}

@@ -1,13 +1,13 @@
 -- `S<..>: Unsize<S<..>>`: a rule of an instance is a candidate.
 use Rattle.std.proofs.Common.{◌≡◌, ℕ, zero, suc, Bool, true, false, ◌&&◌, ◌||◌, ◌==◌, if◌then◌else◌, List, [], ◌∷◌, ◌++◌, map, ◌⊎◌, inl, inr, refl, sym, ◌∙◌, ap, subst}
 use Rattle.std.specs.List.{flat_map, list_all}
-use Rattle.type_terms.specs.Label.{Label, adt}
-use Rattle.type_terms.specs.Trees.{Trees, none, tree, ◌+++◌, some_node, instantiate}
-use Rattle.type_terms.specs.Worlds.{World, Reference, StructDecl, ImplDecl, structs_named}
+use Rattle.type_terms.specs.Promised.Label.{Label, adt}
+use Rattle.type_terms.specs.Promised.Trees.{Trees, none, tree, ◌+++◌, some_node, instantiate}
+use Rattle.type_terms.specs.Promised.Worlds.{World, Reference, StructDecl, ImplDecl, structs_named}
 use Rattle.type_terms.specs.Codes.{same}
-use Rattle.type_terms.specs.Rules.{Rule, row, unsize, unsize_struct, is_unsizing, some_unsizing, with_unsizing, last_unsizes, unsize_struct_rules}
-use Rattle.type_terms.specs.Proofs.{In}
-use Rattle.type_terms.specs.Answers.{is_open}
+use Rattle.type_terms.specs.Promised.Rules.{Rule, row, unsize, unsize_struct, is_unsizing, some_unsizing, with_unsizing, last_unsizes, unsize_struct_rules}
+use Rattle.type_terms.specs.Promised.Proofs.{In}
+use Rattle.type_terms.specs.Promised.Answers.{is_open}
 use Rattle.type_terms.proofs.Members.{in-nothing, in-cases, in-filter, in-flat}
 use Rattle.type_terms.proofs.Matching.{same-sound}
 use Rattle.type_terms.proofs.NoHolds.{member-each}

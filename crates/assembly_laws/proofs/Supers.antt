@@ -1,13 +1,13 @@
 -- The supertraits of a solution are solutions.
 use Rattle.std.proofs.Common.{◌≡◌, ℕ, zero, suc, Bool, true, false, not, ◌||◌, ◌==◌, if◌then◌else◌, List, [], ◌∷◌, ◌++◌, filter, length, refl, sym, ◌∙◌, ap, subst}
 use Rattle.std.specs.List.{flat_map}
-use Rattle.type_terms.specs.Label.{Label, param, placeholder, infer, canonical, bound, inside, shift_label}
-use Rattle.type_terms.specs.Trees.{Trees, none, tree, nth, instantiate, shift, some_node}
-use Rattle.type_terms.specs.Worlds.{World, Reference, TraitDecl, traits_named, with_args, all_with_args}
-use Rattle.type_terms.specs.Rules.{written_supertraits, strict_supertraits, strict_supertraits_within}
-use Rattle.type_terms.specs.Proofs.{In}
-use Rattle.type_terms.specs.Answers.{is_closed, is_open}
-use Rattle.type_terms.specs.LinkedSet.{is_stray}
+use Rattle.type_terms.specs.Promised.Label.{Label, param, placeholder, infer, canonical, bound, inside, shift_label}
+use Rattle.type_terms.specs.Promised.Trees.{Trees, none, tree, nth, instantiate, shift, some_node}
+use Rattle.type_terms.specs.Promised.Worlds.{World, Reference, TraitDecl, traits_named, with_args, all_with_args}
+use Rattle.type_terms.specs.Promised.Rules.{written_supertraits, strict_supertraits, strict_supertraits_within}
+use Rattle.type_terms.specs.Promised.Proofs.{In}
+use Rattle.type_terms.specs.Promised.Answers.{is_closed, is_open}
+use Rattle.type_terms.specs.Promised.LinkedSet.{is_stray}
 use Rattle.type_terms.proofs.Members.{here, there, in-nothing, in-flat, flat-in, in-map, in-filter}
 use Rattle.type_terms.proofs.ProofEntries.{map-in}
 use Rattle.type_terms.proofs.Fitting.{head-shut, child-shut, next-shut, append-shut, or-no}
@@ -18,7 +18,7 @@ use Rattle.assembly_laws.specs.Declared.{is_declared_view}
 use Rattle.assembly_laws.proofs.HavingViews.{ProvesBy}
 use Rattle.assembly_laws.proofs.DeclaredParts.{bound-declared}
 pub use Rattle.assembly_laws.specs.Cover.{Proved}
-use Rattle.declarations.specs.Elaboration.{is_put, new_of, pushed, off_stack, all_levels, elaborate, rest_of, supertraits}
+use Rattle.declarations.specs.Promised.Elaboration.{is_put, new_of, pushed, off_stack, all_levels, elaborate, rest_of, supertraits}
 use Rattle.assembly_laws.proofs.Reading.{read_reference}
 use Rattle.assembly_laws.proofs.Instances.{read-declared}
 use Rattle.type_terms.proofs.TermBasics.{label-kept}

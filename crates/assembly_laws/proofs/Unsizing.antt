@@ -1,10 +1,11 @@
 -- `T: Unsize<dyn B>`: the rule of an instance is the instance of the rule of what is asked.
 use Rattle.std.proofs.Common.{◌≡◌, ℕ, zero, suc, Bool, true, false, not, ◌&&◌, ◌||◌, ◌==◌, if◌then◌else◌, List, [], ◌∷◌, ◌++◌, map, length, refl, sym, ◌∙◌, ap, subst}
 use Rattle.std.specs.List.{flat_map, list_all, list_any}
-use Rattle.type_terms.specs.Label.{Label, of_lifetime, dynamic, static, principal, auto_trait, param, placeholder, infer, canonical, bound, predicate}
-use Rattle.type_terms.specs.Trees.{Trees, none, tree, is_no_tree, is_sort, sort_of}
-use Rattle.type_terms.specs.Worlds.{World, Reference, TraitDecl, traits_named, all_with_args}
-use Rattle.type_terms.specs.Rules.{row, unsize_to_dyn, unsize_to_dyn_rules, is_dyn, is_declared, are_declared, are_dyn_compatible, elaborated, principal_with, autos_with, asked, sized, strict_supertraits, strict_supertraits_within, written_supertraits}
+use Rattle.type_terms.specs.Promised.Label.{Label, of_lifetime, dynamic, static, principal, auto_trait, param, placeholder, infer, canonical, bound, predicate}
+use Rattle.type_terms.specs.Promised.Trees.{Trees, none, tree, is_sort, sort_of}
+use Rattle.type_terms.specs.Trees.{is_no_tree}
+use Rattle.type_terms.specs.Promised.Worlds.{World, Reference, TraitDecl, traits_named, all_with_args}
+use Rattle.type_terms.specs.Promised.Rules.{row, unsize_to_dyn, unsize_to_dyn_rules, is_dyn, is_declared, are_declared, are_dyn_compatible, elaborated, principal_with, autos_with, asked, sized, strict_supertraits, strict_supertraits_within, written_supertraits}
 use Rattle.type_terms.proofs.Walking.{left, right}
 use Rattle.type_terms.specs.Made.{terms}
 use Rattle.type_terms.specs.Made.{bounds}

@@ -1,12 +1,12 @@
 -- `dyn A: Unsize<dyn B>`: a rule of an instance is a candidate.
 use Rattle.std.proofs.Common.{◌≡◌, ℕ, suc, Bool, true, false, ◌&&◌, ◌||◌, ◌==◌, if◌then◌else◌, List, [], ◌∷◌, ◌++◌, map, length, ◌⊎◌, inl, inr, refl, sym, ◌∙◌, ap, subst}
 use Rattle.std.specs.List.{list_all, list_any}
-use Rattle.type_terms.specs.Label.{Label, dynamic}
-use Rattle.type_terms.specs.Trees.{Trees, none, tree}
-use Rattle.type_terms.specs.Worlds.{World, Reference}
-use Rattle.type_terms.specs.Rules.{Rule, same_reference, is_declared, are_declared, principal_with, autos_with, elaborated, strict_supertraits, upcasts_principal, upcasts_autos, unsize_upcast_rules}
-use Rattle.type_terms.specs.Proofs.{In}
-use Rattle.type_terms.specs.Answers.{is_open}
+use Rattle.type_terms.specs.Promised.Label.{Label, dynamic}
+use Rattle.type_terms.specs.Promised.Trees.{Trees, none, tree}
+use Rattle.type_terms.specs.Promised.Worlds.{World, Reference}
+use Rattle.type_terms.specs.Promised.Rules.{Rule, same_reference, is_declared, are_declared, principal_with, autos_with, elaborated, strict_supertraits, upcasts_principal, upcasts_autos, unsize_upcast_rules}
+use Rattle.type_terms.specs.Promised.Proofs.{In}
+use Rattle.type_terms.specs.Promised.Answers.{is_open}
 use Rattle.type_terms.proofs.Members.{here, there, in-nothing, in-cases, in-left, in-map, self-number}
 use Rattle.type_terms.proofs.ProofEntries.{map-in}
 use Rattle.type_terms.proofs.Fitting.{same-reference-sound, child-shut}
@@ -18,7 +18,7 @@ use Rattle.evaluation.specs.Lists.{SomeOf}
 use Rattle.evaluation.specs.Instances.{read_with}
 use Rattle.evaluation.specs.Content.{Values, given}
 use Rattle.assembly_laws.specs.Declared.{is_declared_view}
-use Rattle.declarations.specs.Elaboration.{supertraits}
+use Rattle.declarations.specs.Promised.Elaboration.{supertraits}
 use Rattle.assembly_laws.specs.Asking.{GoalOverKinds}
 use Rattle.assembly_laws.specs.Candidates.{by_rule, all_equal, misc, if_so, upcast_source, upcasts_from, upcasts_to, upcasts_of}
 use Rattle.assembly_laws.specs.Cover.{slots, SolvesEquations, read_reference}

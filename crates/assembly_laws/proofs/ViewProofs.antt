@@ -1,12 +1,12 @@
 -- What has a proof by a view, together with its supertraits, follows by a rule of the view.
 use Rattle.std.proofs.Common.{◌≡◌, ℕ, true, if◌then◌else◌, []}
 use Rattle.std.specs.List.{flat_map}
-use Rattle.type_terms.specs.Worlds.{World, Reference}
-use Rattle.type_terms.specs.Rules.{Rule, rules, strict_supertraits}
-use Rattle.type_terms.specs.Proofs.{In}
-use Rattle.type_terms.specs.Elaborated.{HasElaboratedProof}
-use Rattle.type_terms.specs.Answers.{is_closed}
-use Rattle.type_terms.specs.Walks.{is_known_in}
+use Rattle.type_terms.specs.Promised.Worlds.{World, Reference}
+use Rattle.type_terms.specs.Promised.Rules.{Rule, rules, strict_supertraits}
+use Rattle.type_terms.specs.Promised.Proofs.{In}
+use Rattle.type_terms.specs.Promised.Proofs.{HasElaboratedProof}
+use Rattle.type_terms.specs.Promised.Answers.{is_closed}
+use Rattle.type_terms.specs.Promised.Walks.{is_known_in}
 use Rattle.type_terms.proofs.Members.{in-left, flat-in}
 use Rattle.type_terms.proofs.NoHolds.{every-member}
 use Rattle.type_terms.proofs.ElaboratedProofs.{elaborated-rule, elaborated-supers}

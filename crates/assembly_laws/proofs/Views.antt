@@ -1,9 +1,9 @@
 -- What is proved in a linked set, by a crate's view.
 use Rattle.std.proofs.Common.{◌≡◌, false, List, [], ◌∷◌, ◌⊎◌, inl, inr, subst}
-use Rattle.type_terms.specs.Worlds.{World, view_of}
-use Rattle.type_terms.specs.Rules.{Rule, rules, strict_supertraits}
-use Rattle.type_terms.specs.Proofs.{In, Every, HasProof}
-use Rattle.type_terms.specs.Walks.{is_known_in}
+use Rattle.type_terms.specs.Promised.Worlds.{World, view_of}
+use Rattle.type_terms.specs.Promised.Rules.{Rule, rules, strict_supertraits}
+use Rattle.type_terms.specs.Promised.Proofs.{In, Every, HasProof}
+use Rattle.type_terms.specs.Promised.Walks.{is_known_in}
 use Rattle.type_terms.specs.LinkedSet.{Unknown}
 use Rattle.type_terms.proofs.Members.{here, there, in-nothing, in-cases, not-both}
 use Rattle.type_terms.proofs.WorkedProofs.{needs-rule}

@@ -1,15 +1,15 @@
 -- Worked rows: the stack's order, a diamond, and what is knowable with unknowns.
 use Rattle.std.proofs.Common.{◌≡◌, ℕ, true, false, List, [], ◌∷◌, map, refl}
-use Rattle.type_terms.specs.Label.{of_type, adt, canonical}
-use Rattle.type_terms.specs.Label.{ref}
-use Rattle.type_terms.specs.Trees.{Trees, none, tree, leaf}
-use Rattle.type_terms.specs.Worlds.{World, Reference}
-use Rattle.type_terms.specs.Rules.{asked, strict_supertraits}
+use Rattle.type_terms.specs.Promised.Label.{of_type, adt, canonical}
+use Rattle.type_terms.specs.Promised.Label.{ref}
+use Rattle.type_terms.specs.Promised.Trees.{Trees, none, tree, leaf}
+use Rattle.type_terms.specs.Promised.Worlds.{World, Reference}
+use Rattle.type_terms.specs.Promised.Rules.{asked, strict_supertraits}
 use Rattle.type_terms.specs.Worked.{beside_core, trait_of, struct, base, first, T, u8}
-use Rattle.declarations.specs.Elaboration.{elaborate, supertraits}
+use Rattle.declarations.specs.Promised.Elaboration.{elaborate, supertraits}
 use Rattle.assembly_laws.specs.Knowing.{is_knowable}
 use Rattle.assembly_laws.specs.Declared.{is_declared_view}
-use Rattle.type_terms.specs.Core.{core_world}
+use Rattle.type_terms.specs.Promised.Core.{core_world}
 
 abbrev traits_of : List Reference → List ℕ
 traits_of rs = map (λ (r : Reference). r.trait) rs

@@ -1,9 +1,9 @@
 -- Worked rows: the candidates of upcasts, of structs that unsize, and of object bounds.
 use Rattle.std.proofs.Common.{◌≡◌, ℕ, List, [], ◌∷◌, map, length, refl}
-use Rattle.type_terms.specs.Label.{of_type, dynamic, static, slice, param, canonical, principal}
-use Rattle.type_terms.specs.Trees.{Trees, none, tree, leaf}
-use Rattle.type_terms.specs.Worlds.{World, Reference}
-use Rattle.type_terms.specs.Rules.{asked, unsize}
+use Rattle.type_terms.specs.Promised.Label.{of_type, dynamic, static, slice, param, canonical, principal}
+use Rattle.type_terms.specs.Promised.Trees.{Trees, none, tree, leaf}
+use Rattle.type_terms.specs.Promised.Worlds.{World, Reference}
+use Rattle.type_terms.specs.Promised.Rules.{asked, unsize}
 use Rattle.type_terms.specs.Worked.{beside_core, trait_of, struct, base, T, u8, to, applied, dyn_of}
 use Rattle.infer_table.specs.declared.canonical.CanonicalVarKind.TheVariants.{Ty}
 use Rattle.evaluation.specs.declared.candidate.CandidateSource.{CandidateSource}

@@ -1,9 +1,9 @@
 -- Worked rows: which views are declared well.
 use Rattle.std.proofs.Common.{◌≡◌, true, false, List, [], ◌∷◌, refl}
-use Rattle.type_terms.specs.Label.{of_type, of_const, of_lifetime, param}
-use Rattle.type_terms.specs.Trees.{none, tree, leaf}
-use Rattle.type_terms.specs.Worlds.{World, TraitDecl, ImplDecl}
-use Rattle.type_terms.specs.Rules.{asked}
+use Rattle.type_terms.specs.Promised.Label.{of_type, of_const, of_lifetime, param}
+use Rattle.type_terms.specs.Promised.Trees.{none, tree, leaf}
+use Rattle.type_terms.specs.Promised.Worlds.{World, TraitDecl, ImplDecl}
+use Rattle.type_terms.specs.Promised.Rules.{asked}
 use Rattle.type_terms.specs.Worked.{beside_core, trait_of, struct, impl_of, to, applied, base, T, u8}
 use Rattle.assembly_laws.specs.DeclaredWell.{is_declared_well}
 

@@ -1,10 +1,10 @@
 -- In coherence the questions of a goal without where-clauses and placeholders have none.
 use Rattle.std.proofs.Common.{◌≡◌, ℕ, Bool, true, false, not, ◌||◌, if◌then◌else◌, List, [], ◌∷◌, map, length, refl, sym, ◌∙◌, ap, Option, Some, None}
 use Rattle.std.specs.Prelude.{option_map}
-use Rattle.type_terms.specs.Label.{Label, of_type, of_const, of_lifetime, infer, param, placeholder, static}
-use Rattle.type_terms.specs.Trees.{none}
-use Rattle.type_terms.specs.Worlds.{World, Reference}
-use Rattle.type_terms.specs.Rules.{is_coinductive}
+use Rattle.type_terms.specs.Promised.Label.{Label, of_type, of_const, of_lifetime, infer, param, placeholder, static}
+use Rattle.type_terms.specs.Promised.Trees.{none}
+use Rattle.type_terms.specs.Promised.Worlds.{World, Reference}
+use Rattle.type_terms.specs.Promised.Rules.{is_coinductive}
 use Rattle.infer_table.specs.Canonical.{CanonicalForm, kind_of_leaf, kind_in_clause, goal_leaves, canonical_label, relabeled}
 use Rattle.infer_table.specs.Solutions.{resolved}
 use Rattle.infer_table.specs.Unification.{TableTrees}
@@ -25,7 +25,7 @@ use Rattle.evaluation.specs.Tables.{frame_tables}
 use Rattle.evaluation.proofs.FrameTableLaws.{tables_are_lawful}
 use Rattle.evaluation.proofs.Kept.{AreKept, AreSo, questions_so, made_kept}
 use Rattle.evaluation.specs.Plans.{Plan, each_of, first_alone, after}
-use Rattle.declarations.specs.Elaboration.{supertraits}
+use Rattle.declarations.specs.Promised.Elaboration.{supertraits}
 use Rattle.assembly_laws.specs.Meaning.{ViewMeaning, SolutionPlace, by_view, in_set, proved_at}
 use Rattle.assembly_laws.specs.Knowing.{is_knowable}
 use Rattle.assembly_laws.specs.Asking.{GoalOverKinds, goal_over_kinds, clauses, self_of, begins_unknown, all_known}

@@ -1,9 +1,9 @@
 -- The set of `core` alone holds `core` as it is written.
 use Rattle.std.proofs.Common.{◌==◌, [], refl}
-use Rattle.type_terms.specs.Worlds.{World, CrateDecl, StructDecl, TraitDecl, view_of, core}
-use Rattle.type_terms.specs.Erased.{erased_world}
-use Rattle.type_terms.specs.Renumbering.{Permutation, Renumbering, IsRenumbering, renumbered_crate, renumbered_struct, renumbered_trait}
-use Rattle.type_terms.specs.Core.{core_world}
+use Rattle.type_terms.specs.Promised.Worlds.{World, CrateDecl, StructDecl, TraitDecl, view_of, core}
+use Rattle.type_terms.specs.Promised.Erased.{erased_world}
+use Rattle.type_terms.specs.Promised.Renumbering.{Permutation, Renumbering, IsRenumbering, renumbered_crate, renumbered_struct, renumbered_trait}
+use Rattle.type_terms.specs.Promised.Core.{core_world}
 use Rattle.type_terms.proofs.TermRules.{filter-map}
 use Rattle.type_terms.proofs.CoreLinked.{core-linked}
 use Rattle.type_terms.proofs.ViewLaws.{as-it-was}

@@ -1,10 +1,10 @@
 -- The goals that are decided: references with where-clauses over canonical variables.
 use Rattle.std.specs.Prelude.{Bool, true, false, ◌&&◌, ◌||◌, ◌==◌, not, List, [], ◌∷◌, Option, Some, None}
-use Rattle.type_terms.specs.Label.{Label, of_type, of_trait, predicate, canonical}
-use Rattle.type_terms.specs.Trees.{Trees, none, tree, erase_label, is_sort, sort_of}
-use Rattle.type_terms.specs.Worlds.{World, Reference}
-use Rattle.type_terms.specs.Answers.{written_in, is_open}
-use Rattle.type_terms.specs.Rules.{unsize}
+use Rattle.type_terms.specs.Promised.Label.{Label, of_type, of_trait, predicate, canonical}
+use Rattle.type_terms.specs.Promised.Trees.{Trees, none, tree, erase_label, is_sort, sort_of}
+use Rattle.type_terms.specs.Promised.Worlds.{World, Reference}
+use Rattle.type_terms.specs.Promised.Answers.{written_in, is_open}
+use Rattle.type_terms.specs.Promised.Rules.{unsize}
 use Rattle.type_terms.specs.Made.{terms}
 use Rattle.type_terms.specs.Made.{is_made}
 use Rattle.infer_table.specs.Canonical.{CanonicalForm}

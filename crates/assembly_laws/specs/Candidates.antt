@@ -1,12 +1,12 @@
 -- The candidates of a goal, as data: where-clauses, built-in rules, impls, object bounds, and what other crates may say.
 use Rattle.std.specs.Prelude.{ℕ, zero, suc, ◌+◌, Bool, true, false, ◌||◌, ◌&&◌, ◌==◌, not, if◌then◌else◌, List, [], ◌∷◌, ◌++◌, map, length, Option, Some, None, min}
 use Rattle.std.specs.List.{flat_map}
-use Rattle.type_terms.specs.Label.{Label, Sort, of_type, of_const, char, tuple, dynamic, array, slice, adt, fn_ptr, param, canonical, predicate, region_outlives, type_outlives}
-use Rattle.type_terms.specs.Label.{bool}
-use Rattle.type_terms.specs.Trees.{Trees, none, tree, leaf, ◌+++◌, nth, sort_of, some_node, is_sort}
-use Rattle.type_terms.specs.Worlds.{World, Reference, StructDecl, ImplDecl, structs_named}
-use Rattle.type_terms.specs.Rules.{Rule, same_head, sized, clone, copy, tuple_trait, fn_ptr_trait, is_fn_trait, unsize, is_auto, is_coinductive, sized_rules, copy_rules, auto_rules, tuple_rules, fn_ptr_rules, unsize_to_dyn_rules, but_last, last_asked, principal_with, autos_with, are_declared, are_dyn_compatible, upcasts_autos, some_unsizing, with_unsizing, last_unsizes}
-use Rattle.type_terms.specs.Answers.{is_open}
+use Rattle.type_terms.specs.Promised.Label.{Label, Sort, of_type, of_const, char, tuple, dynamic, array, slice, adt, fn_ptr, param, canonical, predicate, region_outlives, type_outlives}
+use Rattle.type_terms.specs.Promised.Label.{bool}
+use Rattle.type_terms.specs.Promised.Trees.{Trees, none, tree, leaf, ◌+++◌, nth, sort_of, some_node, is_sort}
+use Rattle.type_terms.specs.Promised.Worlds.{World, Reference, StructDecl, ImplDecl, structs_named}
+use Rattle.type_terms.specs.Promised.Rules.{Rule, same_head, sized, clone, copy, tuple_trait, fn_ptr_trait, is_fn_trait, unsize, is_auto, is_coinductive, sized_rules, copy_rules, auto_rules, tuple_rules, fn_ptr_rules, unsize_to_dyn_rules, but_last, last_asked, principal_with, autos_with, are_declared, are_dyn_compatible, upcasts_autos, some_unsizing, with_unsizing, last_unsizes}
+use Rattle.type_terms.specs.Promised.Answers.{is_open}
 use Rattle.infer_table.specs.declared.canonical.CanonicalVarKind.{CanonicalVarKind}
 use Rattle.infer_table.specs.declared.canonical.CanonicalVarKind.TheVariants.{Ty, Const, Region}
 use Rattle.infer_table.specs.declared.certainty.Certainty.TheVariants.{Yes, Maybe}
@@ -26,7 +26,7 @@ use Rattle.std.proofs.Math.Nat.{min-le_right}
 use Rattle.type_terms.specs.declared.ImplId.{ImplId}
 use Rattle.type_terms.specs.declared.TheConstants.{MAX_INDEX}
 use Rattle.assembly_laws.specs.Facts.{tree_of_reference}
-use Rattle.declarations.specs.Elaboration.{elaborate, supertraits}
+use Rattle.declarations.specs.Promised.Elaboration.{elaborate, supertraits}
 use Rattle.declarations.specs.Apart.{are_apart}
 use Rattle.assembly_laws.specs.Asking.{GoalOverKinds, self_of, next_of, begins_unknown, with_plain_head}
 

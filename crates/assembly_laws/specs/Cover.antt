@@ -1,12 +1,12 @@
 -- Each solution of a goal is one by a candidate.
 use Rattle.std.specs.Prelude.{◌≡◌, ℕ, ◌&&◌, true, false, List, [], ◌∷◌, ◌++◌, map, Some}
-use Rattle.type_terms.specs.Label.{dynamic}
-use Rattle.type_terms.specs.Trees.{Trees, none, tree}
+use Rattle.type_terms.specs.Promised.Label.{dynamic}
+use Rattle.type_terms.specs.Promised.Trees.{Trees, none, tree}
 use Rattle.type_terms.specs.Made.{terms}
 use Rattle.type_terms.specs.Made.{is_made}
-use Rattle.type_terms.specs.Worlds.{World, Reference}
-use Rattle.type_terms.specs.Rules.{principal_with}
-use Rattle.type_terms.specs.Answers.{is_closed}
+use Rattle.type_terms.specs.Promised.Worlds.{World, Reference}
+use Rattle.type_terms.specs.Promised.Rules.{principal_with}
+use Rattle.type_terms.specs.Promised.Answers.{is_closed}
 use Rattle.infer_table.specs.Canonical.{CanonicalForm}
 use Rattle.infer_table.specs.declared.canonical.CanonicalVarKind.{CanonicalVarKind}
 use Rattle.evaluation.specs.Lists.{Every, SomeOf}
@@ -17,7 +17,7 @@ use Rattle.evaluation.specs.FrameTables.{Nested, Equation, term_of, is_open_labe
 use Rattle.evaluation.specs.TableOperations.{begin}
 use Rattle.evaluation.specs.Tables.{frame_tables}
 use Rattle.assembly_laws.specs.Slots.{as_slots, with_slots}
-use Rattle.declarations.specs.Elaboration.{elaborate}
+use Rattle.declarations.specs.Promised.Elaboration.{elaborate}
 use Rattle.assembly_laws.specs.Meaning.{ViewMeaning, SolutionPlace, proved_at}
 use Rattle.assembly_laws.specs.Lifetimes.{goal_gives_lifetimes}
 use Rattle.assembly_laws.specs.Knowing.{is_knowable}

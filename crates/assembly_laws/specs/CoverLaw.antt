@@ -1,6 +1,6 @@
 -- In coherence each solution of a goal, by the view and in every linked set with the crate, is realized by a candidate that was considered before the answer.
 use Rattle.std.specs.Prelude.{◌≡◌, ℕ, suc, ◌≤◌, Bool, true, List, ◌∷◌, length, Option, Some}
-use Rattle.type_terms.specs.Worlds.{World}
+use Rattle.type_terms.specs.Promised.Worlds.{World}
 use Rattle.infer_table.specs.Canonical.{CanonicalForm}
 use Rattle.infer_table.specs.declared.certainty.TypingMode.TheVariants.{Coherence}
 use Rattle.infer_table.specs.Responses.{AnswerTrees}

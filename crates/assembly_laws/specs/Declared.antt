@@ -1,10 +1,11 @@
 -- Declarations as they are to be, up to lifetimes.
 use Rattle.std.specs.Prelude.{◌≡◌, ◌≤◌, ◌<◌, ◌==◌, ℕ, suc, Bool, true, false, ◌&&◌, ◌||◌, not, nat_lt, List, length}
 use Rattle.std.specs.List.{list_all}
-use Rattle.type_terms.specs.Label.{Label, Sort, of_lifetime, param, placeholder, infer, canonical, bound, fn_ptr, principal}
-use Rattle.type_terms.specs.Trees.{Trees, is_sort, some_node, Single}
-use Rattle.type_terms.specs.Worlds.{World, Reference, StructDecl, TraitDecl, ImplDecl, structs_named}
-use Rattle.type_terms.specs.Proofs.{In}
+use Rattle.type_terms.specs.Promised.Label.{Label, Sort, of_lifetime, param, placeholder, infer, canonical, bound, fn_ptr, principal}
+use Rattle.type_terms.specs.Promised.Trees.{Trees, is_sort, some_node}
+use Rattle.type_terms.specs.Trees.{Single}
+use Rattle.type_terms.specs.Promised.Worlds.{World, Reference, StructDecl, TraitDecl, ImplDecl, structs_named}
+use Rattle.type_terms.specs.Promised.Proofs.{In}
 use Rattle.type_terms.specs.Made.{terms}
 use Rattle.type_terms.specs.Made.{is_made}
 

@@ -1,14 +1,15 @@
 -- Views that are declared well: all that is asked of them so that goals may be decided by their rules; and tests that tell.
 use Rattle.std.specs.Prelude.{◌≡◌, ◌==◌, ℕ, zero, suc, Bool, true, false, ◌&&◌, not, nat_lt, List, [], ◌∷◌, map, length}
 use Rattle.std.specs.List.{list_all, list_any}
-use Rattle.type_terms.specs.Label.{Label, param}
-use Rattle.type_terms.specs.Trees.{Trees, none, tree, is_no_tree, some_node}
-use Rattle.type_terms.specs.Worlds.{World, Reference, StructDecl, TraitDecl, ImplDecl, traits_named}
-use Rattle.type_terms.specs.Core.{core_world}
+use Rattle.type_terms.specs.Promised.Label.{Label, param}
+use Rattle.type_terms.specs.Promised.Trees.{Trees, none, tree, some_node}
+use Rattle.type_terms.specs.Trees.{is_no_tree}
+use Rattle.type_terms.specs.Promised.Worlds.{World, Reference, StructDecl, TraitDecl, ImplDecl, traits_named}
+use Rattle.type_terms.specs.Promised.Core.{core_world}
 use Rattle.assembly_laws.specs.Candidates.{is_param}
 use Rattle.assembly_laws.specs.Declared.{is_declared_view, StructsAreOne, FieldsAreOne, BoundsAreErased, is_lifetime_parameter, parameters_are_sorted, LeadDown}
 use Rattle.assembly_laws.specs.Determined.{ImplsAreDetermined}
-use Rattle.assembly_laws.specs.Solver.{greatest}
+use Rattle.assembly_laws.specs.Promised.Widths.{greatest}
 
 -- the view is declared well
 pub record IsDeclaredWell (V : World) : Type 0 where

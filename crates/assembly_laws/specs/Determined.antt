@@ -1,9 +1,9 @@
 -- Impls whose clauses hold no type or const parameter that does not stand, of the same sort, in the header.
 use Rattle.std.specs.Prelude.{◌≡◌, ℕ, true}
-use Rattle.type_terms.specs.Label.{Sort}
-use Rattle.type_terms.specs.Trees.{some_node}
-use Rattle.type_terms.specs.Worlds.{World, Reference, ImplDecl}
-use Rattle.type_terms.specs.Proofs.{In}
+use Rattle.type_terms.specs.Promised.Label.{Sort}
+use Rattle.type_terms.specs.Promised.Trees.{some_node}
+use Rattle.type_terms.specs.Promised.Worlds.{World, Reference, ImplDecl}
+use Rattle.type_terms.specs.Promised.Proofs.{In}
 use Rattle.assembly_laws.specs.Candidates.{is_param}
 
 abbrev pub ImplsAreDetermined : World → Type 0

@@ -1,11 +1,11 @@
 -- The facts of frames as references with clauses, and what follows by the rules of a view.
 use Rattle.std.specs.Prelude.{◌≡◌, ℕ, zero, suc, Bool, true, false, not, List, [], ◌∷◌, Option, Some, None}
-use Rattle.type_terms.specs.Label.{Label, of_lifetime, param, placeholder, infer, canonical, bound, fn_ptr, principal, of_trait, predicate}
-use Rattle.type_terms.specs.Trees.{Trees, none, tree, some_node}
-use Rattle.type_terms.specs.Worlds.{World, Reference}
-use Rattle.type_terms.specs.Rules.{Way, rules, is_coinductive}
-use Rattle.type_terms.specs.Proofs.{In}
-use Rattle.type_terms.specs.Proofs as Model
+use Rattle.type_terms.specs.Promised.Label.{Label, of_lifetime, param, placeholder, infer, canonical, bound, fn_ptr, principal, of_trait, predicate}
+use Rattle.type_terms.specs.Promised.Trees.{Trees, none, tree, some_node}
+use Rattle.type_terms.specs.Promised.Worlds.{World, Reference}
+use Rattle.type_terms.specs.Promised.Rules.{Way, rules, is_coinductive}
+use Rattle.type_terms.specs.Promised.Proofs.{In}
+use Rattle.type_terms.specs.Promised.Proofs as Model
 use Rattle.evaluation.specs.Lists.{Every, IsAmong}
 use Rattle.evaluation.specs.Proof.{FactHasProof}
 use Rattle.evaluation.specs.Content.{Fact}

@@ -1,9 +1,10 @@
 -- Views of declarations whose terms an interner holds: what is left to be told of them.
 use Rattle.std.specs.Prelude.{◌≡◌, Bool, true, ◌&&◌, not, List, map}
-use Rattle.type_terms.specs.Trees.{some_node}
-use Rattle.type_terms.specs.Worlds.{World, StructDecl}
-use Rattle.type_terms.specs.LinkedSet.{is_stray, all_written}
-use Rattle.type_terms.specs.Terms.{Entry, Lawful}
+use Rattle.type_terms.specs.Promised.Trees.{some_node}
+use Rattle.type_terms.specs.Promised.Worlds.{World, StructDecl}
+use Rattle.type_terms.specs.Promised.LinkedSet.{is_stray, all_written}
+use Rattle.type_terms.specs.Promised.Handles.{Entry}
+use Rattle.type_terms.specs.Terms.{Lawful}
 use Rattle.declarations.specs.Items.{Items, declared}
 use Rattle.declarations.specs.Held.{AreHeld}
 use Rattle.assembly_laws.specs.Declared.{parameters_are_sorted}

@@ -1,12 +1,12 @@
 -- What is known to a crate of references in a linked set.
 use Rattle.std.specs.Prelude.{◌≡◌, ℕ, true, IsTrue, List, []}
-use Rattle.type_terms.specs.Worlds.{World, Reference, view_of}
-use Rattle.type_terms.specs.Rules.{Rule, rules, strict_supertraits}
-use Rattle.type_terms.specs.Proofs.{In, Every, HasProof}
-use Rattle.type_terms.specs.Walks.{is_known_in}
-use Rattle.type_terms.specs.Answers.{is_closed}
-use Rattle.type_terms.specs.Renumbering.{View}
-use Rattle.type_terms.specs.LinkedSet.{LinkedSet}
+use Rattle.type_terms.specs.Promised.Worlds.{World, Reference, view_of}
+use Rattle.type_terms.specs.Promised.Rules.{Rule, rules, strict_supertraits}
+use Rattle.type_terms.specs.Promised.Proofs.{In, Every, HasProof}
+use Rattle.type_terms.specs.Promised.Walks.{is_known_in}
+use Rattle.type_terms.specs.Promised.Answers.{is_closed}
+use Rattle.type_terms.specs.Promised.Renumbering.{View}
+use Rattle.type_terms.specs.Promised.LinkedSet.{LinkedSet}
 -- which references that may hold unknowns are known: those of which no other crate can have an impl for an instance
 pub use Rattle.orphan_check.specs.Knowing.{is_knowable}
 

@@ -1,6 +1,6 @@
 -- The laws of the solver's candidates, and of the solver.
 use Rattle.std.specs.Prelude.{◌≡◌, ℕ, ◌==◌, Bool, true, false, List, ◌∷◌, ◌++◌, map, Some}
-use Rattle.type_terms.specs.Rules.{unsize, unsize_to_dyn_rules}
+use Rattle.type_terms.specs.Promised.Rules.{unsize, unsize_to_dyn_rules}
 use Rattle.infer_table.specs.Canonical.{CanonicalForm}
 use Rattle.infer_table.specs.declared.certainty.TypingMode.{TypingMode}
 use Rattle.infer_table.specs.declared.certainty.TypingMode.TheVariants.{Coherence}

@@ -2,10 +2,11 @@
 -- the fields up to lifetimes.
 use Rattle.std.specs.Prelude.{◌≡◌, ◌==◌, Bool, true, false, ◌&&◌, ◌||◌, not, Option, Some, None}
 use Rattle.std.specs.List.{list_all}
-use Rattle.type_terms.specs.Label.{Label, of_lifetime, adt, param}
-use Rattle.type_terms.specs.Trees.{Trees, tree, is_a, nth, some_node}
-use Rattle.type_terms.specs.Worlds.{World, StructDecl, structs_named}
-use Rattle.type_terms.specs.Rules.{unsize}
+use Rattle.type_terms.specs.Promised.Label.{Label, of_lifetime, adt, param}
+use Rattle.type_terms.specs.Promised.Trees.{Trees, tree, nth, some_node}
+use Rattle.type_terms.specs.Trees.{is_a}
+use Rattle.type_terms.specs.Promised.Worlds.{World, StructDecl, structs_named}
+use Rattle.type_terms.specs.Promised.Rules.{unsize}
 use Rattle.infer_table.specs.Canonical.{CanonicalForm}
 use Rattle.assembly_laws.specs.Meaning.{ViewMeaning}
 use Rattle.assembly_laws.specs.Asking.{GoalOverKinds, goal_over_kinds, self_of, next_of}

@@ -1,11 +1,11 @@
 -- What declarations mean, and where solutions are looked for.
 use Rattle.std.specs.Prelude.{◌≡◌, ℕ, Bool, true, List, []}
-use Rattle.type_terms.specs.Worlds.{World, CrateDecl, Reference, ImplDecl}
-use Rattle.type_terms.specs.Erased.{erased_world}
-use Rattle.type_terms.specs.Renumbering.{View, Renumbering, HoldsView, renumbered_reference}
-use Rattle.type_terms.specs.Proofs.{In, HasProof}
-use Rattle.type_terms.specs.Elaborated.{HasElaboratedProof}
-use Rattle.type_terms.specs.LinkedSet.{LinkedSet}
+use Rattle.type_terms.specs.Promised.Worlds.{World, CrateDecl, Reference, ImplDecl}
+use Rattle.type_terms.specs.Promised.Erased.{erased_world}
+use Rattle.type_terms.specs.Promised.Renumbering.{View, Renumbering, HoldsView, renumbered_reference}
+use Rattle.type_terms.specs.Promised.Proofs.{In, HasProof}
+use Rattle.type_terms.specs.Promised.Proofs.{HasElaboratedProof}
+use Rattle.type_terms.specs.Promised.LinkedSet.{LinkedSet}
 use Rattle.declarations.specs.Heads.{begins_declared}
 
 -- the declarations that a crate sees, as they are written, and the crate; and whether they are found to be declared well, and the goal to

@@ -1,7 +1,7 @@
 -- What stands for variables of these kinds where they have values: what the tables of frames put there.
 use Rattle.std.specs.Prelude.{List, [], ◌∷◌}
-use Rattle.type_terms.specs.Label.{of_type, of_const, static}
-use Rattle.type_terms.specs.Trees.{Trees, leaf}
+use Rattle.type_terms.specs.Promised.Label.{of_type, of_const, static}
+use Rattle.type_terms.specs.Promised.Trees.{Trees, leaf}
 use Rattle.infer_table.specs.declared.canonical.CanonicalVarKind.{CanonicalVarKind}
 use Rattle.infer_table.specs.declared.canonical.CanonicalVarKind.TheVariants.{Ty, PlaceholderTy, Const, PlaceholderConst, Region}
 use Rattle.evaluation.specs.Instances.{of_sort, as_place, first_term, other_terms}

@@ -1,10 +1,10 @@
 -- The solver: the plan of each goal, and what it means.
-use Rattle.std.specs.Prelude.{◌≡◌, ℕ, zero, ◌+◌, ◌*◌, max, Bool, true, false, ◌||◌, ◌&&◌, not, if◌then◌else◌, List, [], ◌∷◌, ◌++◌, map, length, Option, Some, None, is_some, fold}
+use Rattle.std.specs.Prelude.{◌≡◌, ℕ, ◌+◌, ◌*◌, max, Bool, true, false, ◌||◌, ◌&&◌, not, if◌then◌else◌, List, [], ◌∷◌, ◌++◌, length, Option, Some, None, is_some}
 use Rattle.std.specs.List.{list_any}
-use Rattle.type_terms.specs.Trees.{none, is_no_tree}
-use Rattle.type_terms.specs.Worlds.{World, Reference, StructDecl, TraitDecl, ImplDecl}
-use Rattle.type_terms.specs.Rules.{strict_supertraits, together}
-use Rattle.type_terms.specs.Answers.{is_closed}
+use Rattle.type_terms.specs.Promised.Trees.{none}
+use Rattle.type_terms.specs.Trees.{is_no_tree}
+use Rattle.type_terms.specs.Promised.Worlds.{World, Reference}
+use Rattle.type_terms.specs.Promised.Answers.{is_closed}
 use Rattle.infer_table.specs.Canonical.{CanonicalForm}
 use Rattle.infer_table.specs.declared.canonical.CanonicalVarKind.{CanonicalVarKind}
 use Rattle.infer_table.specs.declared.canonical.CanonicalVarKind.TheVariants.{PlaceholderTy, PlaceholderConst}
@@ -21,7 +21,8 @@ use Rattle.evaluation.specs.Handler.{Handled}
 use Rattle.evaluation.specs.Content.{Fact, fact_of, trait_of}
 use Rattle.evaluation.specs.FrameTables.{kinds_known, FrameTable}
 use Rattle.evaluation.specs.TableAnswers.{has_values}
-use Rattle.evaluation.specs.Widths.{width, count, number_of}
+use Rattle.evaluation.specs.Promised.Widths.{count}
+use Rattle.evaluation.specs.Widths.{number_of}
 use Rattle.evaluation.specs.TableOperations.{begin}
 use Rattle.evaluation.specs.Tables.{frame_tables}
 use Rattle.evaluation.specs.Plans.{Plan, Planned, planned, each_of, first_alone}
@@ -31,6 +32,7 @@ use Rattle.assembly_laws.specs.Meaning.{ViewMeaning, SolutionPlace, proved_at}
 use Rattle.assembly_laws.specs.Knowing.{is_knowable}
 use Rattle.assembly_laws.specs.Asking.{GoalOverKinds, goal_over_kinds, clauses, self_of, begins_unknown}
 use Rattle.assembly_laws.specs.Candidates.{unsure, unknowable, by_clauses, built_in, by_impls, by_objects}
+use Rattle.assembly_laws.specs.Promised.Widths.{declared_width, number_at}
 
 abbrev pub SolverPast : Type 0
 SolverPast = List (Considered (workings frame_tables))
@@ -132,35 +134,8 @@ module _ (applicable : AnswerTrees → Bool) (same : AnswerTrees → AnswerTrees
   plan_for m mode (Some a) =
       if not m.is_sound || begins_unknown a.kinds (self_of a) then each_of frame_tables (unsure ∷ []) everything [] else by_mode m mode a
 
--- ---- numbers
-abbrev pub greatest : {A : Type 0} → (A → ℕ) → List A → ℕ
-greatest f xs = fold max zero (map f xs)
-
--- The greater of the number of nodes and the width of the reference's terms.
-abbrev pub width_of : Reference → ℕ
-width_of r = max (count r.args) (width r.args)
-
--- How many strict supertraits the trait has.
-abbrev pub supers_of : World → TraitDecl → ℕ
-supers_of V x = length (strict_supertraits V (record { trait = x.name; args = none }))
-
--- the longest list of types, bounds or fields in the view, or of a trait's supertraits
-abbrev pub declared_width : World → ℕ
-declared_width V =
-    max (greatest (λ (x : StructDecl). max (count (together x.fields)) (greatest width x.fields)) V.structs)
-    (max (greatest (λ (x : TraitDecl). max (supers_of V x) (max (length x.bounds) (greatest width_of x.bounds))) V.traits)
-    (greatest (λ (i : ImplDecl). max (width_of i.header) (greatest width_of i.clauses)) V.impls))
-
--- How many where-clauses all impls of the world have together.
-abbrev pub clauses_in : World → ℕ
-clauses_in V = fold ◌+◌ zero (map (λ (i : ImplDecl). length i.clauses) V.impls)
-
 abbrev pub widest_of : World → CanonicalForm → ℕ
 widest_of V f = max (number_of (record { form = f; coinductive = false })) (declared_width V)
-
--- the clauses of all impls, the supertraits of the goal for each bound of a `dyn` and once more, and what the rows ask
-abbrev pub number_at : World → ℕ → ℕ
-number_at V m = clauses_in V + ((m + (m + 1)) * m + (4 * m + 4))
 
 -- one for each where-clause and impl, for each row, for each supertrait of an upcast, for each bound of a `dyn`, and the unknowable one
 abbrev pub most_candidates : World → CanonicalForm → ℕ

@@ -1,9 +1,9 @@
 -- `core` as a text writes it stands in a linked set.
 use Rattle.std.specs.Prelude.{◌≡◌, true, [], map}
-use Rattle.type_terms.specs.Label.{of_lifetime, ref, static, param}
-use Rattle.type_terms.specs.Trees.{Trees, none, tree}
-use Rattle.type_terms.specs.Worlds.{World, ImplDecl, core}
-use Rattle.type_terms.specs.Core.{core_world}
+use Rattle.type_terms.specs.Promised.Label.{of_lifetime, ref, static, param}
+use Rattle.type_terms.specs.Promised.Trees.{Trees, none, tree}
+use Rattle.type_terms.specs.Promised.Worlds.{World, ImplDecl, core}
+use Rattle.type_terms.specs.Promised.Core.{core_world}
 use Rattle.assembly_laws.specs.Meaning.{ViewMeaning, LinkedWith}
 use Rattle.assembly_laws.specs.DeclaredWell.{is_declared_well}
 

@@ -1,6 +1,7 @@
 //! What making and instantiating terms costs.
 ghost use Rattle.std.specs.Prelude.{IfOk};
-ghost use Rattle.type_terms.specs.Terms.{Has, Keeps, args_lists, types};
+ghost use Rattle.type_terms.specs.Promised.Handles.{Has, Keeps, types};
+ghost use Rattle.type_terms.specs.Terms.{args_lists};
 
 use std::alloc::Global;
 use term_folds::binder::EarlyBinder;

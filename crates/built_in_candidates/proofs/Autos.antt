@@ -2,11 +2,12 @@
 use Rattle.std.proofs.Common.{◌≡◌, ℕ, Bool, true, false, cond, ◌||◌, ◌&&◌, List, [], ◌∷◌, ◌++◌, Some, None, refl, sym, ap, ◌∙◌, subst}
 use Rattle.std.specs.Prelude.{◌==◌, filter, if◌then◌else◌}
 use Rattle.std.specs.List.{list_any}
-use Rattle.type_terms.specs.Label.{Label, of_type, array, slice, ref, raw_pointer}
-use Rattle.type_terms.specs.Trees.{Trees, none, tree, leaf, nth, ◌+++◌, IsA, erase_label}
-use Rattle.type_terms.specs.Worlds.{World, ImplDecl}
-use Rattle.type_terms.specs.Rules.{asked, each_asked, together, same_head, auto_rules, auto_rules_plain}
-use Rattle.type_terms.specs.Terms.{Entry, Keeps, Has, Lawful, types, trees_at}
+use Rattle.type_terms.specs.Promised.Label.{Label, of_type, array, slice, ref, raw_pointer}
+use Rattle.type_terms.specs.Promised.Trees.{Trees, none, tree, leaf, nth, ◌+++◌, IsA, erase_label}
+use Rattle.type_terms.specs.Promised.Worlds.{World, ImplDecl}
+use Rattle.type_terms.specs.Promised.Rules.{asked, each_asked, together, same_head, auto_rules, auto_rules_plain}
+use Rattle.type_terms.specs.Promised.Handles.{Entry, Keeps, Has, types, trees_at}
+use Rattle.type_terms.specs.Terms.{Lawful}
 use Rattle.type_terms.specs.declared.kinds.Ty.{Ty}
 use Rattle.type_terms.specs.Kept.{has-later, trees-later}
 use Rattle.term_folds.specs.Signatures.{StartsWithType}

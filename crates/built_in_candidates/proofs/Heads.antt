@@ -1,9 +1,9 @@
 -- Rules that read the first of the arguments alone.
 use Rattle.std.proofs.Common.{◌≡◌, ℕ, List, refl, sym, ap, subst, ◌∙◌}
-use Rattle.type_terms.specs.Label.{Label, bool, adt}
-use Rattle.type_terms.specs.Trees.{Trees, none, tree, nth, erase_label}
-use Rattle.type_terms.specs.Worlds.{World}
-use Rattle.type_terms.specs.Rules.{Rule, sized_rules, copy_rules, tuple_rules, fn_ptr_rules}
+use Rattle.type_terms.specs.Promised.Label.{Label, bool, adt}
+use Rattle.type_terms.specs.Promised.Trees.{Trees, none, tree, nth, erase_label}
+use Rattle.type_terms.specs.Promised.Worlds.{World}
+use Rattle.type_terms.specs.Promised.Rules.{Rule, sized_rules, copy_rules, tuple_rules, fn_ptr_rules}
 use Rattle.term_folds.specs.Signatures.{StartsWithType}
 use Rattle.declarations.specs.Items.{Items}
 use Rattle.assembly_laws.specs.Asking.{with_plain_head}

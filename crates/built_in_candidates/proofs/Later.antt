@@ -1,9 +1,10 @@
 -- What is asked of declarations and goals stays true as the interner grows.
 use Rattle.std.proofs.Common.{◌≡◌, List, map, sym, subst, true}
 use Rattle.std.specs.Prelude.{◌==◌}
-use Rattle.type_terms.specs.Trees.{Trees}
-use Rattle.type_terms.specs.Rules.{unsize}
-use Rattle.type_terms.specs.Terms.{Entry, Keeps, Has, types, args_lists, trees_at}
+use Rattle.type_terms.specs.Promised.Trees.{Trees}
+use Rattle.type_terms.specs.Promised.Rules.{unsize}
+use Rattle.type_terms.specs.Promised.Handles.{Entry, Keeps, Has, types, trees_at}
+use Rattle.type_terms.specs.Terms.{args_lists}
 use Rattle.type_terms.specs.declared.AdtId.{AdtId}
 use Rattle.type_terms.specs.declared.kinds.Ty.{Ty}
 use Rattle.type_terms.specs.Kept.{trees-later}
@@ -15,7 +16,7 @@ use Rattle.declarations.specs.declared.items.AdtDef.{AdtDef}
 use Rattle.declarations.specs.Applied.{sort_of_param, SpeaksOf}
 use Rattle.declarations.specs.Held.{AreHeld, StructHeld, ImplHeld}
 use Rattle.declarations.specs.Items.{Items, HeldImpl}
-use Rattle.declarations.specs.Merges.{Each}
+use Rattle.declarations.specs.Promised.Elaboration.{Each}
 use Rattle.declarations.proofs.Growth.{each-kept, all-held}
 use Rattle.assembly_laws.specs.Asking.{self_of, with_plain_head}
 use Rattle.built_in_candidates.specs.Goals.{asked_of}

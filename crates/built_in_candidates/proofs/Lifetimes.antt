@@ -1,8 +1,8 @@
 -- What is recorded of lifetimes: the lifetime of a `dyn` stands behind its bounds, and is read off the first of the types.
 use Rattle.std.proofs.Common.{◌≡◌, ℕ, zero, suc, List, [], ◌∷◌, map, refl, sym, ap, ◌∙◌, option_map}
 use Rattle.std.specs.List.{slice_get}
-use Rattle.type_terms.specs.Label.{Label, of_type, dynamic}
-use Rattle.type_terms.specs.Trees.{Trees, none, tree, leaf, nth, ◌+++◌, IsA}
+use Rattle.type_terms.specs.Promised.Label.{Label, of_type, dynamic}
+use Rattle.type_terms.specs.Promised.Trees.{Trees, none, tree, leaf, nth, ◌+++◌, IsA}
 use Rattle.term_folds.specs.Signatures.{StartsWithType}
 use Rattle.assembly_laws.specs.Asking.{next_of}
 use Rattle.assembly_laws.specs.Candidates.{Candidate, recording, last_of, lifetime_of, outlives, unsizing_outlives}

@@ -6,13 +6,13 @@ use Rattle.std.proofs.lemmas.List.{map-append}
 use Rattle.std.proofs.lemmas.List.Sums.{length-filter}
 use Rattle.std.proofs.lemmas.List.Folds.{list_any-append}
 use Rattle.std.proofs.lemmas.Option.{same_Some, slice_get-map}
-use Rattle.type_terms.specs.Label.{Label, of_type, of_lifetime, of_const, dynamic, principal, auto_trait, param, placeholder, infer, canonical, bound}
-use Rattle.type_terms.specs.Trees.{Trees, none, tree, leaf, nth, ◌+++◌, sort_of}
-use Rattle.type_terms.specs.Worlds.{World, Reference, TraitDecl, traits_named}
-use Rattle.type_terms.specs.Rules.{asked, sized, principal_with, autos_with, are_declared, are_dyn_compatible, upcasts_autos, elaborated}
-use Rattle.type_terms.specs.Proofs.{In}
+use Rattle.type_terms.specs.Promised.Label.{Label, of_type, of_lifetime, of_const, dynamic, principal, auto_trait, param, placeholder, infer, canonical, bound}
+use Rattle.type_terms.specs.Promised.Trees.{Trees, none, tree, leaf, nth, ◌+++◌, sort_of}
+use Rattle.type_terms.specs.Promised.Worlds.{World, Reference, TraitDecl, traits_named}
+use Rattle.type_terms.specs.Promised.Rules.{asked, sized, principal_with, autos_with, are_declared, are_dyn_compatible, upcasts_autos, elaborated}
+use Rattle.type_terms.specs.Promised.Proofs.{In}
 use Rattle.type_terms.proofs.Members.{some-member, member-some, same-number, true-or-false, so-false, not-both}
-use Rattle.type_terms.specs.Terms.{Entry, Is, bounds_lists, trees_at}
+use Rattle.type_terms.specs.Promised.Handles.{Entry, Is, bounds_lists, trees_at}
 use Rattle.type_terms.specs.Kinds.{principal_trees, autos_trees, bounds_trees}
 use Rattle.type_terms.specs.declared.TraitId.{TraitId}
 use Rattle.type_terms.specs.declared.kinds.Principal.{Principal}
@@ -26,9 +26,9 @@ use Rattle.evaluation.specs.declared.candidate.BuiltinImplSource.{BuiltinImplSou
 use Rattle.evaluation.specs.declared.candidate.BuiltinImplSource.TheVariants.{Misc, Object, TraitUpcasting}
 use Rattle.declarations.specs.Items.{Items, reference_in, written}
 use Rattle.declarations.specs.Held.{ReferenceHeld}
-use Rattle.declarations.specs.Merges.{Each}
+use Rattle.declarations.specs.Promised.Elaboration.{Each}
 use Rattle.declarations.specs.Applied.{references_in, TraitRefsHeld, AreApplied, HaveBounds}
-use Rattle.declarations.specs.Elaboration.{elaborate, supertraits}
+use Rattle.declarations.specs.Promised.Elaboration.{elaborate, supertraits}
 use Rattle.declarations.proofs.Elaborating.{lead-down}
 use Rattle.assembly_laws.specs.Asking.{GoalOverKinds, with_plain_head}
 use Rattle.assembly_laws.specs.Candidates.{Candidate, by_rule, misc, all_equal, if_so, bounds_from, written_source, object_source, upcasts_from, upcasts_to, upcasts_of, objects_of}

@@ -1,9 +1,11 @@
 -- Arguments as values, and equations between them.
 use Rattle.std.proofs.Common.{◌≡◌, true, false, List, [], ◌∷◌, ◌++◌, refl, sym, ap, subst, ◌∙◌, map}
-use Rattle.type_terms.specs.Label.{Label, Sort, of_type, of_const}
-use Rattle.type_terms.specs.Trees.{Trees, none, tree, ◌+++◌, IsA, sort_of}
-use Rattle.type_terms.specs.Terms.{Entry, Keeps, Lawful, consts, trees_at}
-use Rattle.type_terms.specs.Kinds.{ArgHeld, ArgsHeld, arg_trees, args_trees, region_label}
+use Rattle.type_terms.specs.Promised.Label.{Label, Sort, of_type, of_const}
+use Rattle.type_terms.specs.Promised.Trees.{Trees, none, tree, ◌+++◌, IsA, sort_of}
+use Rattle.type_terms.specs.Promised.Handles.{Entry, Keeps, consts, trees_at}
+use Rattle.type_terms.specs.Terms.{Lawful}
+use Rattle.type_terms.specs.Promised.Handles.{ArgHeld, ArgsHeld, arg_trees, region_label}
+use Rattle.type_terms.specs.Kinds.{args_trees}
 use Rattle.type_terms.specs.declared.kinds.GenericArgKind.{GenericArgKind}
 use Rattle.type_terms.specs.declared.kinds.GenericArgKind.TheVariants.{Lifetime, Ty, Const}
 use Rattle.type_terms.specs.Kept.{trees-is, arg-trees-later, arg-held-later}

@@ -1,14 +1,14 @@
 -- The impls that can match a goal, by the heads of their self types, are those that do.
 use Rattle.std.proofs.Common.{◌≡◌, ℕ, Bool, true, false, cond, ◌&&◌, List, [], ◌∷◌, refl, ap, ◌∙◌}
 use Rattle.std.specs.Prelude.{◌==◌, map, filter}
-use Rattle.type_terms.specs.Label.{Label}
-use Rattle.type_terms.specs.Trees.{Trees, none, tree, nth, erase, erase_label}
-use Rattle.type_terms.specs.Worlds.{ImplDecl}
-use Rattle.type_terms.specs.Erased.{erased_impl}
-use Rattle.type_terms.specs.Terms.{Entry, trees_at}
+use Rattle.type_terms.specs.Promised.Label.{Label}
+use Rattle.type_terms.specs.Promised.Trees.{Trees, none, tree, nth, erase, erase_label}
+use Rattle.type_terms.specs.Promised.Worlds.{ImplDecl}
+use Rattle.type_terms.specs.Promised.Erased.{erased_impl}
+use Rattle.type_terms.specs.Promised.Handles.{Entry, trees_at}
 use Rattle.term_folds.specs.Signatures.{StartsWithType}
 use Rattle.declarations.specs.Items.{Items, HeldImpl, impl_in, written}
-use Rattle.declarations.specs.Merges.{Each}
+use Rattle.declarations.specs.Promised.Elaboration.{Each}
 use Rattle.declarations.specs.Relevant.{relevant_in}
 use Rattle.assembly_laws.specs.Asking.{GoalOverKinds, self_of, with_plain_head}
 use Rattle.assembly_laws.specs.Candidates.{is_relevant_to}

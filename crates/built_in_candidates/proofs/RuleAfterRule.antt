@@ -1,7 +1,7 @@
 -- Candidates by built-in rules, as the definitions read the goal before the interner grew.
 use Rattle.std.proofs.Common.{◌≡◌, ℕ, List, sym, ap, ◌∙◌, Option, option_map}
 use Rattle.std.specs.List.{slice_get}
-use Rattle.type_terms.specs.Terms.{Entry, Keeps}
+use Rattle.type_terms.specs.Promised.Handles.{Entry, Keeps}
 use Rattle.infer_table.specs.declared.input.CanonicalInput.{CanonicalInput}
 use Rattle.infer_table.specs.Goals.{GoalHeld}
 use Rattle.evaluation.specs.declared.candidate.CandidateSpec.{CandidateSpec}

@@ -2,13 +2,15 @@
 use Rattle.std.proofs.Common.{◌≡◌, ◌+◌, ℕ, zero, suc, Bool, true, false, ◌||◌, if◌then◌else◌, List, [], ◌∷◌, ◌++◌, map, length, refl, sym, ap, ◌∙◌, subst, arith, Some}
 use Rattle.std.specs.Prelude.{◌==◌, IfSome}
 use Rattle.std.specs.List.{flat_map, list_any}
-use Rattle.type_terms.specs.Label.{Label, adt, of_type}
-use Rattle.type_terms.specs.Trees.{Trees, none, tree, ◌+++◌, IsA}
-use Rattle.type_terms.specs.Worlds.{World, Reference, StructDecl, structs_named}
-use Rattle.type_terms.specs.Rules.{is_unsizing, some_unsizing, with_unsizing, last_unsizes}
+use Rattle.type_terms.specs.Promised.Label.{Label, adt, of_type}
+use Rattle.type_terms.specs.Promised.Trees.{Trees, none, tree, ◌+++◌, IsA}
+use Rattle.type_terms.specs.Promised.Worlds.{World, Reference, StructDecl, structs_named}
+use Rattle.type_terms.specs.Promised.Rules.{is_unsizing, some_unsizing, with_unsizing, last_unsizes}
 use Rattle.type_terms.proofs.Members.{self-number, same-number}
-use Rattle.type_terms.specs.Terms.{Entry, Lawful, trees_at}
-use Rattle.type_terms.specs.Kinds.{ArgHeld, ArgsHeld, arg_trees, args_trees}
+use Rattle.type_terms.specs.Promised.Handles.{Entry, trees_at}
+use Rattle.type_terms.specs.Terms.{Lawful}
+use Rattle.type_terms.specs.Promised.Handles.{ArgHeld, ArgsHeld, arg_trees}
+use Rattle.type_terms.specs.Kinds.{args_trees}
 use Rattle.type_terms.specs.declared.kinds.GenericArgKind.{GenericArgKind}
 use Rattle.type_terms.specs.declared.kinds.Ty.{Ty}
 use Rattle.declarations.specs.declared.items.AdtDef.{AdtDef}

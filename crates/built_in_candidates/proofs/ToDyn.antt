@@ -1,17 +1,17 @@
 -- Types that unsize to a `dyn`: what is read off the two types, and what is asked.
 use Rattle.std.proofs.Common.{◌≡◌, Bool, true, false, not, ◌&&◌, if◌then◌else◌, List, [], ◌∷◌, ◌++◌, refl, sym, ap, ◌∙◌, subst, Option, Some, None}
-use Rattle.type_terms.specs.Label.{Label, of_type, of_lifetime, dynamic, param, placeholder, infer, canonical, bound, principal, auto_trait}
-use Rattle.type_terms.specs.Trees.{Trees, none, tree, leaf, ◌+++◌, IsA, sort_of, erase_label}
-use Rattle.type_terms.specs.Worlds.{World, Reference}
-use Rattle.type_terms.specs.Rules.{asked, sized, is_dyn, row, unsize_to_dyn, unsize_to_dyn_rules, are_dyn_compatible, principal_with, autos_with}
+use Rattle.type_terms.specs.Promised.Label.{Label, of_type, of_lifetime, dynamic, param, placeholder, infer, canonical, bound, principal, auto_trait}
+use Rattle.type_terms.specs.Promised.Trees.{Trees, none, tree, leaf, ◌+++◌, IsA, sort_of, erase_label}
+use Rattle.type_terms.specs.Promised.Worlds.{World, Reference}
+use Rattle.type_terms.specs.Promised.Rules.{asked, sized, is_dyn, row, unsize_to_dyn, unsize_to_dyn_rules, are_dyn_compatible, principal_with, autos_with}
 use Rattle.type_terms.specs.Kinds.{principal_trees, autos_trees, bounds_trees}
-use Rattle.type_terms.specs.Terms.{Entry}
+use Rattle.type_terms.specs.Promised.Handles.{Entry}
 use Rattle.type_terms.specs.declared.TraitId.{TraitId}
 use Rattle.type_terms.specs.declared.kinds.Principal.{Principal}
 use Rattle.type_terms.specs.declared.kinds.BoundsData.{BoundsData}
 use Rattle.term_folds.specs.declared.predicate.TraitRef.{TraitRef}
 use Rattle.declarations.specs.Items.{Items, reference_in}
-use Rattle.declarations.specs.Merges.{Each}
+use Rattle.declarations.specs.Promised.Elaboration.{Each}
 use Rattle.declarations.specs.Applied.{references_in}
 use Rattle.assembly_laws.specs.Asking.{GoalOverKinds, with_plain_head}
 use Rattle.assembly_laws.specs.Candidates.{as_written, by_rule, misc, if_so}

@@ -1,9 +1,10 @@
 -- Trees of types, one after the other, asked for a trait.
 use Rattle.std.proofs.Common.{◌≡◌, ℕ, List, [], ◌∷◌, ◌++◌, refl, sym, ap, subst, ◌∙◌, map}
-use Rattle.type_terms.specs.Label.{of_type}
-use Rattle.type_terms.specs.Trees.{Trees, none, tree, ◌+++◌, IsA, instantiate}
-use Rattle.type_terms.specs.Rules.{asked, each_asked, last_asked, together}
-use Rattle.type_terms.specs.Terms.{Entry, Lawful, trees_at}
+use Rattle.type_terms.specs.Promised.Label.{of_type}
+use Rattle.type_terms.specs.Promised.Trees.{Trees, none, tree, ◌+++◌, IsA, instantiate}
+use Rattle.type_terms.specs.Promised.Rules.{asked, each_asked, last_asked, together}
+use Rattle.type_terms.specs.Promised.Handles.{Entry, trees_at}
+use Rattle.type_terms.specs.Terms.{Lawful}
 use Rattle.type_terms.specs.Kinds.{TysHeld, tys_trees}
 use Rattle.type_terms.specs.declared.kinds.Ty.{Ty}
 use Rattle.infer_table.proofs.BindFacts.{type-is}

@@ -1,8 +1,8 @@
 -- Rows of `Unsize`, by what is read off the two types.
 use Rattle.std.proofs.Common.{◌≡◌, List, [], ◌∷◌, Option, Some, None, refl, sym, ap, subst, ◌∙◌}
-use Rattle.type_terms.specs.Label.{Label, Sort, of_type, array, slice}
-use Rattle.type_terms.specs.Trees.{Trees, none, tree, ◌+++◌, IsA}
-use Rattle.type_terms.specs.Worlds.{World}
+use Rattle.type_terms.specs.Promised.Label.{Label, Sort, of_type, array, slice}
+use Rattle.type_terms.specs.Promised.Trees.{Trees, none, tree, ◌+++◌, IsA}
+use Rattle.type_terms.specs.Promised.Worlds.{World}
 use Rattle.infer_table.specs.Values.{Value}
 use Rattle.evaluation.specs.FrameTables.{Equation}
 use Rattle.assembly_laws.specs.Asking.{GoalOverKinds}

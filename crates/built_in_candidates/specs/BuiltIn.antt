@@ -1,12 +1,12 @@
 -- The candidates of built-in rules that read the self type alone, whatever trait the goal asks.
 use Rattle.std.specs.Prelude.{◌≡◌, List}
-use Rattle.type_terms.specs.Worlds.{World}
-use Rattle.type_terms.specs.Rules.{sized_rules, copy_rules, auto_rules, tuple_rules, fn_ptr_rules}
-use Rattle.type_terms.specs.Terms.{Entry, trees_at}
+use Rattle.type_terms.specs.Promised.Worlds.{World}
+use Rattle.type_terms.specs.Promised.Rules.{sized_rules, copy_rules, auto_rules, tuple_rules, fn_ptr_rules}
+use Rattle.type_terms.specs.Promised.Handles.{Entry, trees_at}
 use Rattle.evaluation.specs.declared.candidate.CandidateSource.TheVariants.{BuiltinImpl}
 use Rattle.evaluation.specs.declared.candidate.BuiltinImplSource.TheVariants.{Trivial}
 use Rattle.declarations.specs.Items.{Items}
-use Rattle.declarations.specs.Merges.{Each}
+use Rattle.declarations.specs.Promised.Elaboration.{Each}
 use Rattle.assembly_laws.specs.Asking.{GoalOverKinds, self_of, with_plain_head}
 use Rattle.assembly_laws.specs.Candidates.{Candidate, as_written, misc}
 

@@ -1,10 +1,10 @@
 -- Calls of `fn` pointers: the candidates, and what is read off the goal's arguments.
 use Rattle.std.specs.Prelude.{◌≡◌, List, Option, Some, None}
-use Rattle.type_terms.specs.Label.{fn_ptr}
-use Rattle.type_terms.specs.Trees.{Trees, none, tree, ◌+++◌}
-use Rattle.type_terms.specs.Worlds.{World}
-use Rattle.type_terms.specs.Terms.{Entry}
-use Rattle.type_terms.specs.Kinds.{ArgHeld, arg_trees}
+use Rattle.type_terms.specs.Promised.Label.{fn_ptr}
+use Rattle.type_terms.specs.Promised.Trees.{Trees, none, tree, ◌+++◌}
+use Rattle.type_terms.specs.Promised.Worlds.{World}
+use Rattle.type_terms.specs.Promised.Handles.{Entry}
+use Rattle.type_terms.specs.Promised.Handles.{ArgHeld, arg_trees}
 use Rattle.type_terms.specs.declared.kinds.GenericArgKind.{GenericArgKind}
 use Rattle.assembly_laws.specs.Asking.{GoalOverKinds, self_of}
 use Rattle.assembly_laws.specs.Candidates.{Candidate, call_of}

@@ -1,8 +1,8 @@
 -- What is asked of a goal in code.
 use Rattle.std.specs.Prelude.{ℕ, List, Bool, map}
-use Rattle.type_terms.specs.Worlds.{World}
-use Rattle.type_terms.specs.Rules.{is_coinductive}
-use Rattle.type_terms.specs.Terms.{Entry}
+use Rattle.type_terms.specs.Promised.Worlds.{World}
+use Rattle.type_terms.specs.Promised.Rules.{is_coinductive}
+use Rattle.type_terms.specs.Promised.Handles.{Entry}
 use Rattle.infer_table.specs.declared.goal.Goal.{Goal}
 use Rattle.infer_table.specs.declared.input.CanonicalInput.{CanonicalInput}
 use Rattle.infer_table.specs.Goals.{GoalHeld, environment_trees}

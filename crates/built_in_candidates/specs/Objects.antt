@@ -1,18 +1,19 @@
 -- `dyn` types: their bounds with a self type put in, and the bounds of one trait among them.
 use Rattle.std.specs.Prelude.{◌≡◌, ℕ, suc, ◌==◌, ◌&&◌, not, if◌then◌else◌, List, [], ◌∷◌, ◌++◌, Option, Some, None, IfSome}
-use Rattle.type_terms.specs.Label.{Label, of_lifetime, dynamic}
-use Rattle.type_terms.specs.Trees.{Trees, none, tree, leaf, ◌+++◌, sort_of, outer_binder}
-use Rattle.type_terms.specs.Worlds.{World, Reference}
-use Rattle.type_terms.specs.Rules.{sized, principal_with, autos_with, are_declared, are_dyn_compatible, upcasts_autos}
-use Rattle.type_terms.specs.Terms.{Entry, Has, bounds_lists, trees_at}
+use Rattle.type_terms.specs.Promised.Label.{Label, of_lifetime, dynamic}
+use Rattle.type_terms.specs.Promised.Trees.{Trees, none, tree, leaf, ◌+++◌, sort_of}
+use Rattle.type_terms.specs.Trees.{outer_binder}
+use Rattle.type_terms.specs.Promised.Worlds.{World, Reference}
+use Rattle.type_terms.specs.Promised.Rules.{sized, principal_with, autos_with, are_declared, are_dyn_compatible, upcasts_autos}
+use Rattle.type_terms.specs.Promised.Handles.{Entry, Has, bounds_lists, trees_at}
 use Rattle.type_terms.specs.declared.kinds.Bounds.{Bounds}
 use Rattle.term_folds.specs.declared.predicate.TraitRef.{TraitRef}
 use Rattle.evaluation.specs.declared.candidate.BuiltinImplSource.{BuiltinImplSource}
 use Rattle.evaluation.specs.declared.candidate.BuiltinImplSource.TheVariants.{Misc, Object, TraitUpcasting}
 use Rattle.declarations.specs.Items.{Items, reference_in, trait_at}
-use Rattle.declarations.specs.Merges.{Each}
+use Rattle.declarations.specs.Promised.Elaboration.{Each}
 use Rattle.declarations.specs.Applied.{sorts_of, sorts_of_params}
-use Rattle.declarations.specs.Elaboration.{elaborate, supertraits}
+use Rattle.declarations.specs.Promised.Elaboration.{elaborate, supertraits}
 use Rattle.assembly_laws.specs.Asking.{GoalOverKinds}
 use Rattle.assembly_laws.specs.Candidates.{Candidate, if_so, upcasts_to}
 

@@ -1,10 +1,12 @@
 -- `Unsize`: what is read off the self type and the target, and of which goals the candidates can be made.
 use Rattle.std.specs.Prelude.{◌≡◌, Bool, true, false, if◌then◌else◌, List, [], ◌∷◌, ◌++◌, map, Option, Some, None}
-use Rattle.type_terms.specs.Label.{array, slice, adt, dynamic}
-use Rattle.type_terms.specs.Trees.{Trees, none, tree, ◌+++◌, instantiate, outer_binder}
-use Rattle.type_terms.specs.Worlds.{World, Reference}
-use Rattle.type_terms.specs.Rules.{asked, sized, unsize, are_dyn_compatible, principal_with, autos_with}
-use Rattle.type_terms.specs.Terms.{Entry, Has, args_lists, trees_at}
+use Rattle.type_terms.specs.Promised.Label.{array, slice, adt, dynamic}
+use Rattle.type_terms.specs.Promised.Trees.{Trees, none, tree, ◌+++◌, instantiate}
+use Rattle.type_terms.specs.Trees.{outer_binder}
+use Rattle.type_terms.specs.Promised.Worlds.{World, Reference}
+use Rattle.type_terms.specs.Promised.Rules.{asked, sized, unsize, are_dyn_compatible, principal_with, autos_with}
+use Rattle.type_terms.specs.Promised.Handles.{Entry, Has, trees_at}
+use Rattle.type_terms.specs.Terms.{args_lists}
 use Rattle.type_terms.specs.declared.AdtId.{AdtId}
 use Rattle.type_terms.specs.declared.TraitId.{TraitId}
 use Rattle.type_terms.specs.declared.kinds.GenericArgKind.{GenericArgKind}
@@ -13,7 +15,7 @@ use Rattle.term_folds.specs.Signatures.{StartsWithType}
 use Rattle.declarations.specs.declared.items.AdtDef.{AdtDef}
 use Rattle.declarations.specs.Applied.{sort_of_param, sorts_of}
 use Rattle.declarations.specs.Items.{Items}
-use Rattle.declarations.specs.Merges.{Each}
+use Rattle.declarations.specs.Promised.Elaboration.{Each}
 use Rattle.assembly_laws.specs.Asking.{GoalOverKinds, next_of}
 use Rattle.assembly_laws.specs.Candidates.{Candidate, by_rule, misc, if_so}
 use Rattle.built_in_candidates.specs.Constituents.{AreArguments}

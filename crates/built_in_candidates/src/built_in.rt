@@ -1,9 +1,9 @@
 //! Candidates by the built-in rules of single traits, and of auto traits.
 ghost use Rattle.type_terms.specs.Growth.{GrewOrFull};
 ghost use Rattle.std.specs.Prelude.{◌≡◌, List, IfOk, IfSome};
-ghost use Rattle.type_terms.specs.Worlds.{World};
-ghost use Rattle.type_terms.specs.Rules.{Rule, sized, asked};
-ghost use Rattle.type_terms.specs.Terms.{Has, types, trees_at};
+ghost use Rattle.type_terms.specs.Promised.Worlds.{World};
+ghost use Rattle.type_terms.specs.Promised.Rules.{Rule, sized, asked};
+ghost use Rattle.type_terms.specs.Promised.Handles.{Has, types, trees_at};
 ghost use Rattle.term_folds.specs.Signatures.{StartsWithType};
 ghost use Rattle.infer_table.specs.Goals.{GoalHeld};
 ghost use Rattle.evaluation.specs.Readings.{SpecHeld};

@@ -2,8 +2,8 @@
 ghost use Rattle.type_terms.specs.Growth.{GrewOrFull};
 ghost use Rattle.std.specs.Prelude.{◌≡◌, ◌==◌, true, List, IfOk, IfSome, option_map};
 ghost use Rattle.std.specs.List.{slice_get};
-ghost use Rattle.type_terms.specs.Rules.{unsize, is_auto};
-ghost use Rattle.type_terms.specs.Terms.{Entry, trees_at};
+ghost use Rattle.type_terms.specs.Promised.Rules.{unsize, is_auto};
+ghost use Rattle.type_terms.specs.Promised.Handles.{Entry, trees_at};
 ghost use Rattle.evaluation.specs.Readings.{SpecHeld};
 ghost use Rattle.declarations.specs.Items.{written};
 ghost use Rattle.declarations.specs.Applied.{HaveBounds};

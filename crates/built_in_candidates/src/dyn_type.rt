@@ -2,15 +2,16 @@
 ghost use Rattle.type_terms.specs.Growth.{GrewOrFull};
 ghost use Rattle.std.specs.Prelude.{◌≡◌, ◌==◌, List, length, filter, count_by, IfOk};
 ghost use Rattle.std.specs.List.{list_any, slice_get};
-ghost use Rattle.type_terms.specs.Trees.{Trees, ◌+++◌};
-ghost use Rattle.type_terms.specs.Rules.{principal_with, autos_with, are_declared, are_dyn_compatible};
-ghost use Rattle.type_terms.specs.Terms.{Has, Entry, types, args_lists, bounds_lists, trees_at};
+ghost use Rattle.type_terms.specs.Promised.Trees.{Trees, ◌+++◌};
+ghost use Rattle.type_terms.specs.Promised.Rules.{principal_with, autos_with, are_declared, are_dyn_compatible};
+ghost use Rattle.type_terms.specs.Promised.Handles.{Has, Entry, types, bounds_lists, trees_at};
+ghost use Rattle.type_terms.specs.Terms.{args_lists};
 ghost use Rattle.evaluation.specs.Merge.{if_there};
 ghost use Rattle.declarations.specs.Items.{written};
 ghost use Rattle.declarations.specs.Held.{AreHeld};
-ghost use Rattle.declarations.specs.Merges.{Each};
+ghost use Rattle.declarations.specs.Promised.Elaboration.{Each};
 ghost use Rattle.declarations.specs.Applied.{references_in, TraitRefsHeld, AreApplied, HaveBounds};
-ghost use Rattle.declarations.specs.Elaboration.{elaborate};
+ghost use Rattle.declarations.specs.Promised.Elaboration.{elaborate};
 ghost use Rattle.built_in_candidates.specs.Objects.{AreArgumentsOf, AreBoundsOf, WithLifetime, numbered_to};
 
 use crate::built_in::SIZED;

@@ -1,8 +1,8 @@
 //! What unsizing to a `dyn` records of lifetimes. Nothing judges it: outlives premises always hold.
 ghost use Rattle.std.specs.Prelude.{◌≡◌, ℕ, List, Some, IfOk, IfErr, IfSome, option_map};
-ghost use Rattle.type_terms.specs.Worlds.{World};
-ghost use Rattle.type_terms.specs.Terms.{Has, Entry, types, trees_at};
-ghost use Rattle.type_terms.specs.Kinds.{region_trees, RegionHeld};
+ghost use Rattle.type_terms.specs.Promised.Worlds.{World};
+ghost use Rattle.type_terms.specs.Promised.Handles.{Has, Entry, types, trees_at};
+ghost use Rattle.type_terms.specs.Promised.Handles.{region_trees, RegionHeld};
 ghost use Rattle.type_terms.specs.declared.Fault.TheVariants.{Memory};
 ghost use Rattle.infer_table.specs.Constraints.{constraints_trees};
 ghost use Rattle.infer_table.specs.Content.{IsHeldConstraint};

@@ -1,9 +1,9 @@
 //! Parts of candidates.
 ghost use Rattle.std.specs.Prelude.{◌≡◌, Bool, List, IfOk, IfErr, map, []};
-ghost use Rattle.type_terms.specs.Terms.{Entry};
+ghost use Rattle.type_terms.specs.Promised.Handles.{Entry};
 ghost use Rattle.type_terms.specs.declared.Fault.TheVariants.{Memory};
 ghost use Rattle.infer_table.specs.Goals.{GoalHeld};
-ghost use Rattle.type_terms.specs.Worlds.{World};
+ghost use Rattle.type_terms.specs.Promised.Worlds.{World};
 ghost use Rattle.evaluation.specs.Lists.{Every};
 ghost use Rattle.evaluation.specs.Readings.{SpecHeld, EquationHeld, is_coinductive_step};
 ghost use Rattle.evaluation.specs.StepReadings.{nested_read, spec_read, equation_read};

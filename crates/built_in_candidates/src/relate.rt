@@ -1,7 +1,8 @@
 //! Equations between the arguments of references.
 ghost use Rattle.type_terms.specs.Growth.{GrewOrFull};
 ghost use Rattle.std.specs.Prelude.{◌≡◌, IfOk, IfErr, map};
-ghost use Rattle.type_terms.specs.Terms.{Has, args_lists, trees_at};
+ghost use Rattle.type_terms.specs.Promised.Handles.{Has, trees_at};
+ghost use Rattle.type_terms.specs.Terms.{args_lists};
 ghost use Rattle.type_terms.specs.declared.Fault.TheVariants.{Memory};
 ghost use Rattle.evaluation.specs.Lists.{Every};
 ghost use Rattle.evaluation.specs.Readings.{EquationHeld};

@@ -2,10 +2,10 @@
 ghost use Rattle.type_terms.specs.Growth.{GrewOrFull};
 ghost use Rattle.std.specs.Prelude.{◌≡◌, ◌==◌, ℕ, true, List, [], IfOk, IfErr, IfSome, option_map};
 ghost use Rattle.std.specs.List.{slice_get};
-ghost use Rattle.type_terms.specs.Trees.{Trees, ◌+++◌};
-ghost use Rattle.type_terms.specs.Worlds.{World};
-ghost use Rattle.type_terms.specs.Rules.{unsize};
-ghost use Rattle.type_terms.specs.Terms.{Has, Entry, types, trees_at};
+ghost use Rattle.type_terms.specs.Promised.Trees.{Trees, ◌+++◌};
+ghost use Rattle.type_terms.specs.Promised.Worlds.{World};
+ghost use Rattle.type_terms.specs.Promised.Rules.{unsize};
+ghost use Rattle.type_terms.specs.Promised.Handles.{Has, Entry, types, trees_at};
 ghost use Rattle.type_terms.specs.declared.Fault.TheVariants.{Memory};
 ghost use Rattle.term_folds.specs.Signatures.{StartsWithType};
 ghost use Rattle.infer_table.specs.Goals.{GoalHeld};

@@ -1,16 +1,16 @@
 //! The candidate by which a type unsizes to a `dyn`.
 ghost use Rattle.type_terms.specs.Growth.{GrewOrFull};
 ghost use Rattle.std.specs.Prelude.{◌≡◌, [], ◌∷◌, ◌++◌, IfOk, IfErr, IfSome};
-ghost use Rattle.type_terms.specs.Trees.{◌+++◌};
-ghost use Rattle.type_terms.specs.Rules.{asked, sized, principal_with, autos_with, unsize_to_dyn_rules};
-ghost use Rattle.type_terms.specs.Terms.{Has, types, bounds_lists, trees_at};
+ghost use Rattle.type_terms.specs.Promised.Trees.{◌+++◌};
+ghost use Rattle.type_terms.specs.Promised.Rules.{asked, sized, principal_with, autos_with, unsize_to_dyn_rules};
+ghost use Rattle.type_terms.specs.Promised.Handles.{Has, types, bounds_lists, trees_at};
 ghost use Rattle.type_terms.specs.declared.Fault.TheVariants.{Memory};
 ghost use Rattle.infer_table.specs.Goals.{GoalHeld};
 ghost use Rattle.evaluation.specs.Merge.{if_there};
 ghost use Rattle.evaluation.specs.Readings.{SpecHeld};
 ghost use Rattle.declarations.specs.Items.{written};
 ghost use Rattle.declarations.specs.Held.{AreHeld};
-ghost use Rattle.declarations.specs.Merges.{Each};
+ghost use Rattle.declarations.specs.Promised.Elaboration.{Each};
 ghost use Rattle.declarations.specs.Applied.{references_in, TraitRefsHeld, HaveBounds};
 ghost use Rattle.assembly_laws.specs.Asking.{with_plain_head};
 ghost use Rattle.assembly_laws.specs.Candidates.{as_written, misc};

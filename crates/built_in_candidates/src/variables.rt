@@ -1,6 +1,6 @@
 //! The variables of a goal's canonical form.
 ghost use Rattle.std.specs.Prelude.{◌≡◌};
-ghost use Rattle.type_terms.specs.Terms.{Has, types, trees_at};
+ghost use Rattle.type_terms.specs.Promised.Handles.{Has, types, trees_at};
 ghost use Rattle.evaluation.specs.FrameTables.{kind_at};
 ghost use Rattle.assembly_laws.specs.Asking.{begins_unknown};
 

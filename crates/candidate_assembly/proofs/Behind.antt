@@ -2,15 +2,18 @@
 use Rattle.std.proofs.Math.Bridge.{le_prop}
 use Rattle.std.proofs.Common.{◌≡◌, ℕ, zero, suc, ◌+◌, ◌≤◌, subst, arith, Bool, true, false, List, [], ◌∷◌, map, refl, sym, ap, ◌∙◌, Some, None}
 use Rattle.std.specs.Prelude.{cond}
-use Rattle.type_terms.specs.Label.{Sort, canonical, param, inside}
-use Rattle.type_terms.specs.Trees.{Trees, none, tree, leaf, ◌+++◌, nth, shift, instantiate, is_sort, outer_binder}
-use Rattle.type_terms.specs.Worlds.{Reference, with_args, all_with_args}
-use Rattle.type_terms.specs.Terms.{Entry, Is, Keeps, args_lists, trees_at}
+use Rattle.type_terms.specs.Promised.Label.{Sort, canonical, param, inside}
+use Rattle.type_terms.specs.Promised.Trees.{Trees, none, tree, leaf, ◌+++◌, nth, shift, instantiate, is_sort}
+use Rattle.type_terms.specs.Trees.{outer_binder}
+use Rattle.type_terms.specs.Promised.Worlds.{Reference, with_args, all_with_args}
+use Rattle.type_terms.specs.Promised.Handles.{Entry, Is, Keeps, trees_at}
+use Rattle.type_terms.specs.Terms.{args_lists}
 use Rattle.type_terms.specs.declared.ImplId.{ImplId}
 use Rattle.type_terms.specs.declared.TheConstants.{MAX_INDEX}
 use Rattle.type_terms.specs.Kept.{trees-is, trees-later}
 use Rattle.declarations.specs.Applied.{TraitRefsHeld, sort_of_param, sorts_of, SpeaksOf, references_in}
-use Rattle.type_terms.specs.Kinds.{args_trees, arg_trees}
+use Rattle.type_terms.specs.Kinds.{args_trees}
+use Rattle.type_terms.specs.Promised.Handles.{arg_trees}
 use Rattle.type_terms.specs.declared.kinds.GenericArgKind.{GenericArgKind}
 use Rattle.term_folds.specs.Arguments.{sort_at, misfit, first_misfit}
 use Rattle.term_folds.specs.declared.instantiate.InstantiateError.TheVariants.{ParamKind}
@@ -21,7 +24,7 @@ use Rattle.infer_table.proofs.SolutionLaws.{is_sort-equal as is-sort}
 use Rattle.declarations.specs.declared.items.GenericParamKind.{GenericParamKind}
 use Rattle.declarations.specs.declared.items.GenericParamKind.TheVariants.{Lifetime, «Type» as TypeParam, Const}
 use Rattle.declarations.specs.Items.{reference_in}
-use Rattle.declarations.specs.Merges.{Each}
+use Rattle.declarations.specs.Promised.Elaboration.{Each}
 use Rattle.term_folds.specs.declared.predicate.TraitRef.{TraitRef}
 use Rattle.evaluation.specs.Instances.{put_in}
 use Rattle.assembly_laws.specs.Candidates.{moved, rules_behind, impl_id}

@@ -2,8 +2,8 @@
 use Rattle.std.proofs.Common.{◌≡◌, ℕ, zero, suc, Bool, true, false, List, [], ◌∷◌, Some, None, refl, subst}
 use Rattle.std.specs.Prelude.{◌==◌, option_map, if◌then◌else◌}
 use Rattle.std.specs.List.{slice_get}
-use Rattle.type_terms.specs.Worlds.{World}
-use Rattle.type_terms.specs.Terms.{Entry}
+use Rattle.type_terms.specs.Promised.Worlds.{World}
+use Rattle.type_terms.specs.Promised.Handles.{Entry}
 use Rattle.term_folds.specs.declared.predicate.Clause.{Clause}
 use Rattle.term_folds.specs.declared.predicate.Clause.TheVariants.{Trait, RegionOutlives, TypeOutlives}
 use Rattle.term_folds.specs.declared.predicate.TraitRef.{TraitRef}

@@ -2,7 +2,7 @@
 use Rattle.std.proofs.Common.{◌≡◌, suc, Bool, true, false, cond, List, [], ◌∷◌, ◌++◌, map, reverse, length, refl, ◌∙◌, ap, Option, None}
 use Rattle.std.specs.Prelude.{filter}
 use Rattle.std.proofs.lemmas.List.{reverse-append}
-use Rattle.type_terms.specs.Terms.{Entry}
+use Rattle.type_terms.specs.Promised.Handles.{Entry}
 use Rattle.type_terms.specs.declared.ImplId.{ImplId}
 use Rattle.evaluation.specs.declared.candidate.CandidateSource.{CandidateSource}
 use Rattle.evaluation.specs.declared.candidate.Considered as InCode

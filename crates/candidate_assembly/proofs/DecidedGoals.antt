@@ -1,10 +1,10 @@
 -- Goals that are decided, while the interner grows, and what comes next for them.
 use Rattle.std.proofs.Common.{◌≡◌, ◌==◌, Bool, true, false, if◌then◌else◌, List, [], ◌∷◌, ◌++◌, map, length, reverse, refl, sym, ◌∙◌, ap, subst, Option, Some, None}
 use Rattle.std.specs.List.{slice_get}
-use Rattle.type_terms.specs.Worlds.{World}
-use Rattle.type_terms.specs.Rules.{unsize}
-use Rattle.type_terms.specs.Answers.{written_in}
-use Rattle.type_terms.specs.Terms.{Entry, Keeps, trees_at}
+use Rattle.type_terms.specs.Promised.Worlds.{World}
+use Rattle.type_terms.specs.Promised.Rules.{unsize}
+use Rattle.type_terms.specs.Promised.Answers.{written_in}
+use Rattle.type_terms.specs.Promised.Handles.{Entry, Keeps, trees_at}
 use Rattle.term_folds.specs.Signatures.{StartsWithType}
 use Rattle.infer_table.specs.Canonical.{CanonicalForm, GoalTrees}
 use Rattle.infer_table.specs.Inputs.{form_of}

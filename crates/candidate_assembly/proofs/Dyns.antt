@@ -1,8 +1,8 @@
 -- Whether the self type of a goal is a `dyn`.
 use Rattle.std.proofs.Common.{◌≡◌, true, false, refl, sym, ap, ◌∙◌, None}
-use Rattle.type_terms.specs.Label.{Label, dynamic}
-use Rattle.type_terms.specs.Trees.{Trees, none, tree, nth, erase_label}
-use Rattle.type_terms.specs.Rules.{is_dyn}
+use Rattle.type_terms.specs.Promised.Label.{Label, dynamic}
+use Rattle.type_terms.specs.Promised.Trees.{Trees, none, tree, nth, erase_label}
+use Rattle.type_terms.specs.Promised.Rules.{is_dyn}
 use Rattle.term_folds.specs.Signatures.{StartsWithType}
 use Rattle.assembly_laws.specs.Asking.{with_plain_head}
 use Rattle.built_in_candidates.specs.Objects.{bounds_of}

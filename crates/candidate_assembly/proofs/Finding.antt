@@ -1,12 +1,15 @@
 -- What visits find that look for what is not a goal's, and for names that are not declared.
 use Rattle.std.proofs.Common.{◌≡◌, ◌≢◌, arith, subst, ℕ, List, [], ◌∷◌, refl, sym, ◌∙◌, ap, Bool, true, false, not, ◌&&◌, ◌||◌, Option, Some, None, is_some}
-use Rattle.type_terms.specs.Label.{Label, of_type, of_const, of_lifetime, static, param, placeholder, infer, canonical, bound, dynamic, principal, auto_trait, predicate, adt}
-use Rattle.type_terms.specs.Trees.{Trees, none, tree, leaf, ◌+++◌, IsA, sort_of, is_sort, is_no_tree, some_node}
-use Rattle.type_terms.specs.Worlds.{World}
-use Rattle.type_terms.specs.Walks.{trait_is}
-use Rattle.type_terms.specs.Answers.{is_undeclared}
-use Rattle.type_terms.specs.Terms.{Entry, Lawful, Has, trees_at, term, types, consts, args_lists, bounds_lists}
-use Rattle.type_terms.specs.Kinds.{region_label, region_trees, autos_trees, principal_trees, bounds_trees}
+use Rattle.type_terms.specs.Promised.Label.{Label, of_type, of_const, of_lifetime, static, param, placeholder, infer, canonical, bound, dynamic, principal, auto_trait, predicate, adt}
+use Rattle.type_terms.specs.Promised.Trees.{Trees, none, tree, leaf, ◌+++◌, IsA, sort_of, is_sort, some_node}
+use Rattle.type_terms.specs.Trees.{is_no_tree}
+use Rattle.type_terms.specs.Promised.Worlds.{World}
+use Rattle.type_terms.specs.Promised.Walks.{trait_is}
+use Rattle.type_terms.specs.Promised.Answers.{is_undeclared}
+use Rattle.type_terms.specs.Promised.Handles.{Entry, Has, trees_at, term, types, consts, bounds_lists}
+use Rattle.type_terms.specs.Terms.{Lawful, args_lists}
+use Rattle.type_terms.specs.Promised.Handles.{region_label, region_trees}
+use Rattle.type_terms.specs.Kinds.{autos_trees, principal_trees, bounds_trees}
 use Rattle.type_terms.specs.declared.TraitId.{TraitId}
 use Rattle.type_terms.specs.declared.kinds.Principal.{Principal}
 use Rattle.type_terms.specs.declared.kinds.BoundsData.{BoundsData}

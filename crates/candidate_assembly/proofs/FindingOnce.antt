@@ -1,7 +1,7 @@
 -- A visitor that looks for some trees may enter a type once: it finds them where it would without.
 use Rattle.std.proofs.Common.{◌≡◌, ℕ, List, refl, sym, ◌∙◌, ap, subst, Bool, Option, is_some}
-use Rattle.type_terms.specs.Trees.{Trees}
-use Rattle.type_terms.specs.Terms.{Entry}
+use Rattle.type_terms.specs.Promised.Trees.{Trees}
+use Rattle.type_terms.specs.Promised.Handles.{Entry}
 use Rattle.type_terms.specs.declared.once.Once.{Once}
 use Rattle.type_terms.specs.Visits.{Visits}
 use Rattle.type_terms.specs.Entering.{HasEntered, SeesOnce}

@@ -1,10 +1,11 @@
 -- What is read off the first of some arguments.
 use Rattle.std.proofs.Common.{◌≡◌, refl, sym, ap, ◌∙◌, subst, Bool, true, false, ◌&&◌, not, List, Option, Some}
-use Rattle.type_terms.specs.Label.{Label, Sort, of_type, of_const, of_lifetime, adt, dynamic, param, placeholder, infer, canonical, bound}
-use Rattle.type_terms.specs.Trees.{Trees, none, tree, ◌+++◌, sort_of, is_sort}
-use Rattle.type_terms.specs.Answers.{is_open}
-use Rattle.type_terms.specs.Terms.{Entry, Lawful, trees_at}
-use Rattle.type_terms.specs.Kinds.{arg_trees}
+use Rattle.type_terms.specs.Promised.Label.{Label, Sort, of_type, of_const, of_lifetime, adt, dynamic, param, placeholder, infer, canonical, bound}
+use Rattle.type_terms.specs.Promised.Trees.{Trees, none, tree, ◌+++◌, sort_of, is_sort}
+use Rattle.type_terms.specs.Promised.Answers.{is_open}
+use Rattle.type_terms.specs.Promised.Handles.{Entry, trees_at}
+use Rattle.type_terms.specs.Terms.{Lawful}
+use Rattle.type_terms.specs.Promised.Handles.{arg_trees}
 use Rattle.type_terms.specs.declared.kinds.GenericArgKind.{GenericArgKind}
 use Rattle.type_terms.specs.declared.kinds.GenericArgKind.TheVariants.{Lifetime, Ty as AType, Const as AConst}
 use Rattle.type_terms.specs.declared.kinds.Ty.{Ty}

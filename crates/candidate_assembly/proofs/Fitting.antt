@@ -4,13 +4,16 @@ use Rattle.std.specs.Prelude.{◌==◌, IfSome}
 use Rattle.std.specs.Option.{option_map_or}
 use Rattle.std.specs.List.{list_any}
 use Rattle.std.proofs.lemmas.Bool.{eqb-true}
-use Rattle.type_terms.specs.Label.{Label, Sort, of_type, of_const, of_lifetime, adt, dynamic, principal, auto_trait, param, placeholder, infer, canonical, bound}
-use Rattle.type_terms.specs.Trees.{Trees, none, tree, leaf, ◌+++◌, sort_of, is_sort, own_binder, outside, outer_binder, erase_label}
-use Rattle.type_terms.specs.Worlds.{Reference}
-use Rattle.type_terms.specs.Rules.{unsize, principal_with, autos_with}
-use Rattle.type_terms.specs.Answers.{written_in}
-use Rattle.type_terms.specs.Terms.{Entry, Lawful, trees_at}
-use Rattle.type_terms.specs.Kinds.{ArgsHeld, args_trees, autos_trees, principal_trees, bounds_trees, region_label, region_trees}
+use Rattle.type_terms.specs.Promised.Label.{Label, Sort, of_type, of_const, of_lifetime, adt, dynamic, principal, auto_trait, param, placeholder, infer, canonical, bound}
+use Rattle.type_terms.specs.Promised.Trees.{Trees, none, tree, leaf, ◌+++◌, sort_of, is_sort, erase_label}
+use Rattle.type_terms.specs.Trees.{own_binder, outside, outer_binder}
+use Rattle.type_terms.specs.Promised.Worlds.{Reference}
+use Rattle.type_terms.specs.Promised.Rules.{unsize, principal_with, autos_with}
+use Rattle.type_terms.specs.Promised.Answers.{written_in}
+use Rattle.type_terms.specs.Promised.Handles.{Entry, trees_at}
+use Rattle.type_terms.specs.Terms.{Lawful}
+use Rattle.type_terms.specs.Promised.Handles.{ArgsHeld, region_label, region_trees}
+use Rattle.type_terms.specs.Kinds.{args_trees, autos_trees, principal_trees, bounds_trees}
 use Rattle.type_terms.specs.declared.TraitId.{TraitId}
 use Rattle.type_terms.specs.declared.kinds.GenericArgKind.{GenericArgKind}
 use Rattle.type_terms.specs.declared.kinds.Principal.{Principal}
@@ -26,7 +29,7 @@ use Rattle.infer_table.specs.Values.{sort_of_arg}
 use Rattle.declarations.specs.declared.items.AdtDef.{AdtDef}
 use Rattle.declarations.specs.declared.items.TraitDef.{TraitDef}
 use Rattle.declarations.specs.Items.{Items, reference_in, struct_at, trait_at, written}
-use Rattle.declarations.specs.Merges.{Each}
+use Rattle.declarations.specs.Promised.Elaboration.{Each}
 use Rattle.declarations.specs.Applied.{sort_of_param, sorts_of, sorts_of_params}
 use Rattle.assembly_laws.specs.Asking.{next_of, with_plain_head, begins_with_type, is_rigid}
 use Rattle.infer_table.proofs.SolutionLaws.{is_sort-equal}

@@ -2,10 +2,11 @@
 use Rattle.std.proofs.Common.{◌≡◌, ◌≤◌, ℕ, zero, suc, ◌+◌, ◌==◌, arith, refl, ap, subst, Bool, true, false, ◌&&◌, ◌||◌, not, if◌then◌else◌, List, [], ◌∷◌, map, filter, length, Some, None}
 use Rattle.std.specs.Prelude.{IfSome}
 use Rattle.std.specs.List.{list_all}
-use Rattle.type_terms.specs.Label.{Label, Sort, of_type, of_const, of_lifetime, static, dynamic, adt, principal, auto_trait, predicate, param, placeholder, infer, canonical, bound}
-use Rattle.type_terms.specs.Trees.{Trees, none, tree, nth, sort_of, is_sort, is_no_tree, is_a, some_node, erase_label}
-use Rattle.type_terms.specs.Worlds.{World, StructDecl, structs_named}
-use Rattle.type_terms.specs.Terms.{Entry, trees_at}
+use Rattle.type_terms.specs.Promised.Label.{Label, Sort, of_type, of_const, of_lifetime, static, dynamic, adt, principal, auto_trait, predicate, param, placeholder, infer, canonical, bound}
+use Rattle.type_terms.specs.Promised.Trees.{Trees, none, tree, nth, sort_of, is_sort, some_node, erase_label}
+use Rattle.type_terms.specs.Trees.{is_no_tree, is_a}
+use Rattle.type_terms.specs.Promised.Worlds.{World, StructDecl, structs_named}
+use Rattle.type_terms.specs.Promised.Handles.{Entry, trees_at}
 use Rattle.type_terms.specs.declared.AdtId.{AdtId}
 use Rattle.type_terms.specs.declared.kinds.Ty.{Ty}
 use Rattle.type_terms.specs.Made.{Standing, terms, bounds, traits, is_leaf_label, is_made}
@@ -14,7 +15,7 @@ use Rattle.term_folds.specs.Arguments.{sort_at, misfit, first_misfit}
 use Rattle.declarations.specs.declared.items.AdtDef.{AdtDef}
 use Rattle.declarations.specs.Applied.{sort_of_param, sorts_of, SpeaksOf}
 use Rattle.declarations.specs.Items.{Items, struct_at, struct_in, written}
-use Rattle.declarations.specs.Merges.{Each}
+use Rattle.declarations.specs.Promised.Elaboration.{Each}
 use Rattle.declarations.proofs.Lookups.{turned}
 use Rattle.assembly_laws.specs.Asking.{next_of, with_plain_head}
 use Rattle.assembly_laws.specs.Declared.{is_declared, are_terms}

@@ -2,14 +2,15 @@
 use Rattle.std.proofs.Common.{◌≡◌, ◌<◌, arith, ℕ, refl, sym, ap, subst, ◌∙◌, Bool, true, false, ◌&&◌, ◌||◌, not, if◌then◌else◌, List, [], ◌∷◌, ◌++◌, map, Option, Some, None, cond}
 use Rattle.std.specs.Prelude.{◌==◌, filter, Result, Ok, Err, is_ok}
 use Rattle.std.specs.List.{list_any, list_all}
-use Rattle.type_terms.specs.Label.{of_type, of_const, of_lifetime, adt, ref, dynamic, principal, param, placeholder, infer, canonical, bound, value, static}
-use Rattle.type_terms.specs.Trees.{Trees, none, tree, some_node, depth}
-use Rattle.type_terms.specs.Worlds.{World, Reference, StructDecl, TraitDecl}
-use Rattle.type_terms.specs.Erased.{erased_world, erased_struct, erased_trait, erased_reference}
-use Rattle.type_terms.specs.Walks.{Met, local, struct_leaf, dyn_leaf, entered, other_leaf, open_place, struct_is, trait_is, is_home, dyn_met, visited, until_decisive, ends_local, walk, open_walk, item_in, is_known_in}
-use Rattle.type_terms.specs.Answers.{written_in, is_undeclared, is_open, is_closed}
-use Rattle.type_terms.specs.LinkedSet.{is_open_place}
-use Rattle.type_terms.specs.Terms.{Entry, trees_at}
+use Rattle.type_terms.specs.Promised.Label.{of_type, of_const, of_lifetime, adt, ref, dynamic, principal, param, placeholder, infer, canonical, bound, value, static}
+use Rattle.type_terms.specs.Promised.Trees.{Trees, none, tree, some_node}
+use Rattle.type_terms.specs.Trees.{depth}
+use Rattle.type_terms.specs.Promised.Worlds.{World, Reference, StructDecl, TraitDecl}
+use Rattle.type_terms.specs.Promised.Erased.{erased_world, erased_struct, erased_trait, erased_reference}
+use Rattle.type_terms.specs.Promised.Walks.{Met, local, struct_leaf, dyn_leaf, entered, other_leaf, open_place, struct_is, trait_is, is_home, dyn_met, visited, until_decisive, ends_local, walk, open_walk, item_in, is_known_in}
+use Rattle.type_terms.specs.Promised.Answers.{written_in, is_undeclared, is_open, is_closed}
+use Rattle.type_terms.specs.Promised.Versions.{is_open_place}
+use Rattle.type_terms.specs.Promised.Handles.{Entry, trees_at}
 use Rattle.type_terms.proofs.Made.{left, right}
 use Rattle.term_folds.specs.declared.predicate.TraitRef.{TraitRef}
 use Rattle.infer_table.specs.Solutions.{resolved}

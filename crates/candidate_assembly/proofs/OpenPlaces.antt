@@ -1,8 +1,9 @@
 -- Flags tell whether an open place stands in a term.
 use Rattle.std.proofs.Common.{◌≡◌, zero, suc, refl, ap, sym, ◌∙◌, Bool, true, false, not, ◌||◌, ◌==◌, bit_and, List}
-use Rattle.type_terms.specs.Label.{Label, of_type, of_const, of_lifetime, param, infer, placeholder, canonical, bound, fn_ptr, principal}
-use Rattle.type_terms.specs.Trees.{Trees, none, tree, flags, some_node}
-use Rattle.type_terms.specs.Answers.{is_open}
+use Rattle.type_terms.specs.Promised.Label.{Label, of_type, of_const, of_lifetime, param, infer, placeholder, canonical, bound, fn_ptr, principal}
+use Rattle.type_terms.specs.Promised.Trees.{Trees, none, tree, some_node}
+use Rattle.type_terms.specs.Trees.{flags}
+use Rattle.type_terms.specs.Promised.Answers.{is_open}
 use Rattle.type_terms.specs.Made.{terms, is_made, is_in_range}
 use Rattle.type_terms.specs.Scans.{has_flag}
 use Rattle.type_terms.proofs.ScanFacts.{scan-tree}

@@ -1,15 +1,15 @@
 -- What rules ask of types over a candidate's variables is over them too.
 use Rattle.std.proofs.Common.{◌==◌, ℕ, zero, suc, Bool, true, false, not, ◌&&◌, if◌then◌else◌, List, [], ◌∷◌, ◌++◌, map, refl}
-use Rattle.type_terms.specs.Label.{Label, tuple, dynamic, array, slice, adt, fn_ptr, str, raw_pointer, ref, bool, char, never, int, uint, principal, auto_trait}
-use Rattle.type_terms.specs.Trees.{Trees, none, tree, instantiate}
-use Rattle.type_terms.specs.Worlds.{World, Reference, StructDecl, TraitDecl, structs_named}
-use Rattle.type_terms.specs.Rules.{Rule, row, sized, asked, each_asked, last_asked, together, fields_of, sized_struct, auto_struct, unsize_to_dyn, sized_rules, copy_rules, auto_rules, auto_rules_plain, is_written, tuple_rules, fn_ptr_rules, is_dyn, are_dyn_compatible, unsize_to_dyn_rules, but_last, principal_with, autos_with, is_unsizing, with_unsizing, last_unsizes}
-use Rattle.type_terms.specs.Proofs.{In}
+use Rattle.type_terms.specs.Promised.Label.{Label, tuple, dynamic, array, slice, adt, fn_ptr, str, raw_pointer, ref, bool, char, never, int, uint, principal, auto_trait}
+use Rattle.type_terms.specs.Promised.Trees.{Trees, none, tree, instantiate}
+use Rattle.type_terms.specs.Promised.Worlds.{World, Reference, StructDecl, TraitDecl, structs_named}
+use Rattle.type_terms.specs.Promised.Rules.{Rule, row, sized, asked, each_asked, last_asked, together, fields_of, sized_struct, auto_struct, unsize_to_dyn, sized_rules, copy_rules, auto_rules, auto_rules_plain, is_written, tuple_rules, fn_ptr_rules, is_dyn, are_dyn_compatible, unsize_to_dyn_rules, but_last, principal_with, autos_with, is_unsizing, with_unsizing, last_unsizes}
+use Rattle.type_terms.specs.Promised.Proofs.{In}
 use Rattle.type_terms.proofs.Members.{in-filter}
 use Rattle.type_terms.proofs.Made.{false-true}
 use Rattle.evaluation.specs.Lists.{Every}
 use Rattle.evaluation.specs.Fitting.{AreOver}
-use Rattle.declarations.specs.Elaboration.{elaborate, supertraits}
+use Rattle.declarations.specs.Promised.Elaboration.{elaborate, supertraits}
 use Rattle.assembly_laws.proofs.Elaborating.{every-flat, elaborated-so, supertraits-so}
 use Rattle.candidate_assembly.proofs.Over.{ArePlain, over-head, over-append, over-instance}
 use Rattle.evaluation.proofs.Basics.{both-lists}

@@ -1,13 +1,13 @@
 -- The impls that can match a goal's reference, by heads and handles, are those that are considered for the goal.
 use Rattle.std.proofs.Common.{◌≡◌, Bool, true, false, cond, ◌&&◌, not, List, [], ◌∷◌, refl, ap}
 use Rattle.std.specs.Prelude.{◌==◌, filter, map}
-use Rattle.type_terms.specs.Trees.{Trees, none, tree, erase, erase_label}
-use Rattle.type_terms.specs.Worlds.{ImplDecl}
-use Rattle.type_terms.specs.Terms.{Entry, trees_at}
+use Rattle.type_terms.specs.Promised.Trees.{Trees, none, tree, erase, erase_label}
+use Rattle.type_terms.specs.Promised.Worlds.{ImplDecl}
+use Rattle.type_terms.specs.Promised.Handles.{Entry, trees_at}
 use Rattle.term_folds.specs.Signatures.{StartsWithType}
 use Rattle.declarations.specs.Apart.{are_apart}
 use Rattle.declarations.specs.Items.{Items, HeldImpl, impl_in}
-use Rattle.declarations.specs.Merges.{Each}
+use Rattle.declarations.specs.Promised.Elaboration.{Each}
 use Rattle.declarations.specs.Relevant as declared
 use Rattle.assembly_laws.specs.Asking.{GoalOverKinds, with_plain_head}
 use Rattle.assembly_laws.specs.Candidates.{is_relevant_to, can_match}

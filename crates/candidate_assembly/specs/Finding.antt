@@ -1,9 +1,9 @@
 -- Visitors that look for names that are not declared, and for parameters and variables that are no variables of a goal.
 use Rattle.std.specs.Prelude.{Bool, true, false, ◌||◌, not, List}
-use Rattle.type_terms.specs.Label.{Label, adt, dynamic, principal, auto_trait}
-use Rattle.type_terms.specs.Trees.{Trees, none, tree}
-use Rattle.type_terms.specs.Worlds.{World}
-use Rattle.type_terms.specs.Answers.{is_undeclared}
+use Rattle.type_terms.specs.Promised.Label.{Label, adt, dynamic, principal, auto_trait}
+use Rattle.type_terms.specs.Promised.Trees.{Trees, none, tree}
+use Rattle.type_terms.specs.Promised.Worlds.{World}
+use Rattle.type_terms.specs.Promised.Answers.{is_undeclared}
 use Rattle.type_terms.specs.Visits.{IsBound}
 use Rattle.type_terms.specs.declared.visit.Seen.{Seen}
 use Rattle.type_terms.specs.declared.visit.Seen.TheVariants.{Break, Enter}

@@ -3,12 +3,13 @@
 use Rattle.std.specs.Prelude.{◌≡◌, ℕ, Bool, true, false, ◌&&◌, ◌||◌, ◌==◌, not, List, [], ◌∷◌, map}
 use Rattle.std.specs.Option.{option_map_or}
 use Rattle.std.specs.List.{list_any}
-use Rattle.type_terms.specs.Label.{Sort, of_type, of_trait, predicate, dynamic, principal, adt}
-use Rattle.type_terms.specs.Trees.{Trees, none, tree, is_sort, outer_binder}
-use Rattle.type_terms.specs.Worlds.{Reference}
-use Rattle.type_terms.specs.Rules.{unsize, autos_with}
-use Rattle.type_terms.specs.Answers.{written_in}
-use Rattle.type_terms.specs.Terms.{Entry, trees_at}
+use Rattle.type_terms.specs.Promised.Label.{Sort, of_type, of_trait, predicate, dynamic, principal, adt}
+use Rattle.type_terms.specs.Promised.Trees.{Trees, none, tree, is_sort}
+use Rattle.type_terms.specs.Trees.{outer_binder}
+use Rattle.type_terms.specs.Promised.Worlds.{Reference}
+use Rattle.type_terms.specs.Promised.Rules.{unsize, autos_with}
+use Rattle.type_terms.specs.Promised.Answers.{written_in}
+use Rattle.type_terms.specs.Promised.Handles.{Entry, trees_at}
 use Rattle.term_folds.specs.Signatures.{StartsWithType}
 use Rattle.infer_table.specs.Canonical.{CanonicalForm}
 use Rattle.infer_table.specs.declared.input.CanonicalInput.{CanonicalInput}

@@ -1,7 +1,7 @@
 -- Impls whose parameters can become variables of a candidate.
 use Rattle.std.specs.Prelude.{◌≡◌, ◌==◌, ◌&&◌, ℕ, List, length, map, filter, Option}
-use Rattle.type_terms.specs.Worlds.{ImplDecl}
-use Rattle.type_terms.specs.Terms.{Entry, trees_at}
+use Rattle.type_terms.specs.Promised.Worlds.{ImplDecl}
+use Rattle.type_terms.specs.Promised.Handles.{Entry, trees_at}
 use Rattle.type_terms.specs.declared.ImplId.{ImplId}
 use Rattle.infer_table.specs.declared.canonical.CanonicalVarKind.{CanonicalVarKind}
 use Rattle.infer_table.specs.declared.canonical.CanonicalVarKind.TheVariants.{Ty, Const as ConstVar, Region}
@@ -12,7 +12,7 @@ use Rattle.term_folds.specs.declared.predicate.TraitRef.{TraitRef}
 use Rattle.declarations.specs.Applied.{sort_of_param, SpeaksOf}
 use Rattle.declarations.specs.Held.{AreHeld}
 use Rattle.declarations.specs.Items.{Items, written}
-use Rattle.declarations.specs.Merges.{Each}
+use Rattle.declarations.specs.Promised.Elaboration.{Each}
 use Rattle.declarations.specs.Relevant.{is_above}
 use Rattle.assembly_laws.specs.Asking.{GoalOverKinds, with_plain_head}
 use Rattle.assembly_laws.specs.Candidates.{can_match, kinds_of_params}

@@ -1,15 +1,15 @@
 -- Declarations that are ready stay so while the interner grows, and mean the same.
 use Rattle.std.proofs.Common.{◌≡◌, true, List, [], ◌∷◌, map, length, sym, ◌∙◌, ap, subst}
-use Rattle.type_terms.specs.Label.{Sort}
-use Rattle.type_terms.specs.Trees.{Trees}
-use Rattle.type_terms.specs.Worlds.{World}
-use Rattle.type_terms.specs.Terms.{Entry, Keeps, trees_at}
+use Rattle.type_terms.specs.Promised.Label.{Sort}
+use Rattle.type_terms.specs.Promised.Trees.{Trees}
+use Rattle.type_terms.specs.Promised.Worlds.{World}
+use Rattle.type_terms.specs.Promised.Handles.{Entry, Keeps, trees_at}
 use Rattle.term_folds.specs.declared.predicate.TraitRef.{TraitRef}
 use Rattle.declarations.specs.declared.items.ImplDef.{ImplDef}
 use Rattle.declarations.specs.Applied.{sort_of_param, SpeaksOf}
 use Rattle.declarations.specs.Held.{ReferenceHeld, ImplHeld, AreHeld}
 use Rattle.declarations.specs.Items.{Items, HeldImpl}
-use Rattle.declarations.specs.Merges.{Each}
+use Rattle.declarations.specs.Promised.Elaboration.{Each}
 use Rattle.declarations.proofs.Elaborating.{have-bounds-later}
 use Rattle.declarations.proofs.Growth.{args-same, all-held, all-written}
 use Rattle.assembly_laws.specs.Asking.{with_plain_head}

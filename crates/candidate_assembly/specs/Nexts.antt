@@ -1,6 +1,6 @@
 -- What comes next for a goal in code, after each history that the considered candidates show.
 use Rattle.std.specs.Prelude.{◌≡◌, Bool, if◌then◌else◌, List, map, Option, Some, None, option_map}
-use Rattle.type_terms.specs.Terms.{Entry}
+use Rattle.type_terms.specs.Promised.Handles.{Entry}
 use Rattle.infer_table.specs.Inputs.{form_of}
 use Rattle.infer_table.specs.declared.certainty.TypingMode.{TypingMode}
 use Rattle.infer_table.specs.declared.certainty.TypingMode.TheVariants.{Coherence}

@@ -1,6 +1,6 @@
 -- Declarations by which goals are decided, and goals for which it is known whether they are.
 use Rattle.std.specs.Prelude.{◌≡◌, Bool, true, IsTrue, if◌then◌else◌, List, Some, None}
-use Rattle.type_terms.specs.Terms.{Entry}
+use Rattle.type_terms.specs.Promised.Handles.{Entry}
 use Rattle.infer_table.specs.Inputs.{form_of}
 use Rattle.infer_table.specs.declared.input.CanonicalInput.{CanonicalInput}
 use Rattle.infer_table.specs.Goals.{GoalHeld}

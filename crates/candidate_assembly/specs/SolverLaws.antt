@@ -2,7 +2,7 @@
 -- goal to goal, and the solutions of nested goals are looked for where those of the goal are.
 use Rattle.std.proofs.Common.{◌≡◌, ◌≤◌, ℕ, ◌+◌, ◌*◌, max, arith, false, ◌&&◌, refl, sym, ◌∙◌, ap}
 use Rattle.std.proofs.lemmas.Nat.{mul-le}
-use Rattle.type_terms.specs.Worlds.{World}
+use Rattle.type_terms.specs.Promised.Worlds.{World}
 use Rattle.infer_table.specs.Canonical.{CanonicalForm}
 use Rattle.infer_table.specs.declared.certainty.TypingMode.{TypingMode}
 use Rattle.infer_table.specs.declared.certainty.TypingMode.TheVariants.{Coherence, PostAnalysis}
@@ -20,7 +20,8 @@ use Rattle.assembly_laws.specs.Meaning.{proved_at}
 use Rattle.assembly_laws.specs.DeclaredWell.{is_declared_well}
 use Rattle.assembly_laws.specs.Lifetimes.{form_gives_lifetimes, given_by, GivesLifetimes}
 use Rattle.assembly_laws.specs.Lawful.{ViewIsDeclaredWell}
-use Rattle.assembly_laws.specs.Solver.{declared_width, widest_of, number_at, clauses_in, IsSolution}
+use Rattle.assembly_laws.specs.Promised.Widths.{declared_width, number_at, clauses_in}
+use Rattle.assembly_laws.specs.Solver.{widest_of, IsSolution}
 use Rattle.assembly_laws.proofs.DeclaredWell.{tests-tell}
 use Rattle.assembly_laws.proofs.SolverLaw.{solver-is-lawful-and-covers}
 use Rattle.assembly_laws.proofs.Worlds.{same-place, keep-worlds}

@@ -4,12 +4,13 @@
 //! With `struct V<T>`, a goal `V<u8>: Clone` fits, and `V<u8, u8>: Clone` and `?x: Clone` are not decided.
 ghost use Rattle.std.specs.Prelude.{◌≡◌, ◌&&◌, ◌||◌, ◌==◌, not, ◌∷◌, true, IsTrue, IfSome, map, Some, None, if◌then◌else◌};
 ghost use Rattle.std.specs.List.{list_any};
-ghost use Rattle.type_terms.specs.Label.{of_type};
-ghost use Rattle.type_terms.specs.Trees.{Trees, ◌+++◌, is_sort};
-ghost use Rattle.type_terms.specs.Rules.{unsize};
-ghost use Rattle.type_terms.specs.Answers.{written_in};
-ghost use Rattle.type_terms.specs.Terms.{Has, types, args_lists, bounds_lists, trees_at};
-ghost use Rattle.type_terms.specs.Kinds.{ArgHeld, region_trees};
+ghost use Rattle.type_terms.specs.Promised.Label.{of_type};
+ghost use Rattle.type_terms.specs.Promised.Trees.{Trees, ◌+++◌, is_sort};
+ghost use Rattle.type_terms.specs.Promised.Rules.{unsize};
+ghost use Rattle.type_terms.specs.Promised.Answers.{written_in};
+ghost use Rattle.type_terms.specs.Promised.Handles.{Has, types, bounds_lists, trees_at};
+ghost use Rattle.type_terms.specs.Terms.{args_lists};
+ghost use Rattle.type_terms.specs.Promised.Handles.{ArgHeld, region_trees};
 ghost use Rattle.type_terms.specs.Made.{terms, is_made};
 ghost use Rattle.type_terms.specs.declared.region.Region.{Region};
 ghost use Rattle.term_folds.specs.Clauses.{ClauseHeld};

@@ -3,8 +3,8 @@
 ghost use Rattle.type_terms.specs.Growth.{GrewOrFull};
 ghost use Rattle.std.specs.Prelude.{◌≡◌, map, IfOk, IfSome, option_map};
 ghost use Rattle.std.specs.List.{slice_get};
-ghost use Rattle.type_terms.specs.Worlds.{World};
-ghost use Rattle.type_terms.specs.Terms.{trees_at};
+ghost use Rattle.type_terms.specs.Promised.Worlds.{World};
+ghost use Rattle.type_terms.specs.Promised.Handles.{trees_at};
 ghost use Rattle.term_folds.specs.Signatures.{StartsWithType};
 ghost use Rattle.infer_table.specs.Goals.{GoalHeld};
 ghost use Rattle.evaluation.specs.Readings.{SpecHeld};

@@ -2,9 +2,10 @@
 ghost use Rattle.type_terms.specs.Growth.{GrewOrFull};
 ghost use Rattle.std.specs.Prelude.{◌≡◌, map, IfOk, IfErr, None};
 ghost use Rattle.type_terms.specs.Trees.{outer_binder};
-ghost use Rattle.type_terms.specs.Worlds.{with_args, all_with_args};
-ghost use Rattle.type_terms.specs.Terms.{Has, args_lists, trees_at};
-ghost use Rattle.type_terms.specs.Kinds.{ArgsHeld};
+ghost use Rattle.type_terms.specs.Promised.Worlds.{with_args, all_with_args};
+ghost use Rattle.type_terms.specs.Promised.Handles.{Has, trees_at};
+ghost use Rattle.type_terms.specs.Terms.{args_lists};
+ghost use Rattle.type_terms.specs.Promised.Handles.{ArgsHeld};
 ghost use Rattle.type_terms.specs.declared.Fault.TheVariants.{Memory};
 ghost use Rattle.term_folds.specs.Arguments.{first_misfit};
 ghost use Rattle.infer_table.specs.Raw.{variables_from};
@@ -12,7 +13,7 @@ ghost use Rattle.infer_table.specs.Values.{values_of};
 ghost use Rattle.declarations.specs.Items.{reference_in};
 ghost use Rattle.declarations.specs.Held.{ReferenceHeld};
 ghost use Rattle.declarations.specs.Applied.{references_in, TraitRefsHeld};
-ghost use Rattle.declarations.specs.Merges.{Each};
+ghost use Rattle.declarations.specs.Promised.Elaboration.{Each};
 ghost use Rattle.candidate_assembly.specs.Headers.{var_kind};
 
 use declarations::items::GenericParamKind;

@@ -1,9 +1,9 @@
 //! Which goals are knowable: no crate outside the view can have an impl for them. `Local: Foreign` is knowable. `Vec<u8>: Foreign` is not,
 //! because a later version of the trait's crate may add an impl.
 ghost use Rattle.std.specs.Prelude.{◌≡◌, ◌==◌, ◌&&◌, ◌||◌, true, is_ok, IfOk, IfErr};
-ghost use Rattle.type_terms.specs.Walks.{trait_is};
-ghost use Rattle.type_terms.specs.Answers.{is_closed, written_in};
-ghost use Rattle.type_terms.specs.Terms.{trees_at};
+ghost use Rattle.type_terms.specs.Promised.Walks.{trait_is};
+ghost use Rattle.type_terms.specs.Promised.Answers.{is_closed, written_in};
+ghost use Rattle.type_terms.specs.Promised.Handles.{trees_at};
 ghost use Rattle.type_terms.specs.declared.Fault.TheVariants.{Memory};
 ghost use Rattle.declarations.specs.Items.{reference_in, written};
 ghost use Rattle.declarations.specs.Held.{ReferenceHeld};

@@ -1,9 +1,9 @@
 //! Laws of candidates, in terms that contracts can use.
 ghost use Rattle.std.specs.Prelude.{◌≡◌, ◌+◌, ℕ, List, Some, None, map};
 ghost use Rattle.std.specs.List.{slice_get};
-ghost use Rattle.type_terms.specs.Worlds.{World, Reference};
-ghost use Rattle.type_terms.specs.Erased.{erased_world, erased_reference};
-ghost use Rattle.type_terms.specs.Terms.{Entry};
+ghost use Rattle.type_terms.specs.Promised.Worlds.{World, Reference};
+ghost use Rattle.type_terms.specs.Promised.Erased.{erased_world, erased_reference};
+ghost use Rattle.type_terms.specs.Promised.Handles.{Entry};
 ghost use Rattle.type_terms.specs.declared.ImplId.{ImplId};
 ghost use Rattle.evaluation.specs.declared.candidate.CandidateSource.TheVariants.{Impl};
 ghost use Rattle.declarations.specs.Items.{Items, written};

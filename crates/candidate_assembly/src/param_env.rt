@@ -2,7 +2,7 @@
 ghost use Rattle.type_terms.specs.Growth.{GrewOrFull};
 ghost use Rattle.std.specs.Prelude.{◌≡◌, IfOk, IfSome, option_map};
 ghost use Rattle.std.specs.List.{slice_get};
-ghost use Rattle.type_terms.specs.Worlds.{World};
+ghost use Rattle.type_terms.specs.Promised.Worlds.{World};
 ghost use Rattle.infer_table.specs.Goals.{GoalHeld};
 ghost use Rattle.evaluation.specs.Readings.{SpecHeld};
 ghost use Rattle.declarations.specs.Items.{reference_in};

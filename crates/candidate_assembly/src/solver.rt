@@ -1,7 +1,7 @@
 //! The solver: the declarations that a crate sees, as a handler of goals.
 ghost use Rattle.std.specs.Prelude.{◌≡◌, List};
-ghost use Rattle.type_terms.specs.Rules.{is_coinductive};
-ghost use Rattle.type_terms.specs.Terms.{Entry};
+ghost use Rattle.type_terms.specs.Promised.Rules.{is_coinductive};
+ghost use Rattle.type_terms.specs.Promised.Handles.{Entry};
 ghost use Rattle.declarations.specs.Items.{written};
 ghost use Rattle.candidate_assembly.specs.SolverMeaning.{solver_by_view};
 ghost use Rattle.candidate_assembly.specs.SolverLaws.{solver-laws};

@@ -1,12 +1,14 @@
 //! Visitors of a goal's terms. They look for variables that are not the goal's, and for names that are not declared. Each type is entered
 //! once, however often it occurs.
 ghost use Rattle.std.specs.Prelude.{◌≡◌, true, not, List};
-ghost use Rattle.type_terms.specs.Label.{of_type, of_const, of_lifetime};
-ghost use Rattle.type_terms.specs.Trees.{some_node};
-ghost use Rattle.type_terms.specs.Walks.{struct_is, trait_is};
-ghost use Rattle.type_terms.specs.Answers.{is_open, is_undeclared};
-ghost use Rattle.type_terms.specs.Terms.{Entry, Has, types, args_lists, bounds_lists, trees_at};
-ghost use Rattle.type_terms.specs.Kinds.{autos_trees, region_label};
+ghost use Rattle.type_terms.specs.Promised.Label.{of_type, of_const, of_lifetime};
+ghost use Rattle.type_terms.specs.Promised.Trees.{some_node};
+ghost use Rattle.type_terms.specs.Promised.Walks.{struct_is, trait_is};
+ghost use Rattle.type_terms.specs.Promised.Answers.{is_open, is_undeclared};
+ghost use Rattle.type_terms.specs.Promised.Handles.{Entry, Has, types, bounds_lists, trees_at};
+ghost use Rattle.type_terms.specs.Terms.{args_lists};
+ghost use Rattle.type_terms.specs.Kinds.{autos_trees};
+ghost use Rattle.type_terms.specs.Promised.Handles.{region_label};
 ghost use Rattle.type_terms.specs.Made.{terms, is_made};
 ghost use Rattle.evaluation.specs.TableAnswers.{is_kind_of};
 ghost use Rattle.evaluation.specs.FrameTables.{kind_at};

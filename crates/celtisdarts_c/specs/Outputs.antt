@@ -1,6 +1,6 @@
 -- The output for a text, and the word that tells of which kind it is.
 use Rattle.std.specs.Prelude.{◌≡◌, ℕ, List}
-use Rattle.coherence.specs.Told.{IsToldText}
+use Rattle.coherence.specs.Promised.Told.{IsToldText}
 use Rattle.coherence.specs.declared.status.Status.{Status}
 use Rattle.coherence.specs.declared.status.Status.TheVariants as statuses
 

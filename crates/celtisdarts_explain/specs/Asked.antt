@@ -1,8 +1,8 @@
 -- The checks and queries of a crate, as its session takes them.
 use Rattle.std.specs.Prelude.{ℕ}
-use Rattle.text_definitions.specs.Declarations.{Declarations, Question}
-use Rattle.sessions.specs.Releases.{IsSectionOf}
-use Rattle.sessions.specs.Subjects.{AsksProof, AsksRefutation}
+use Rattle.text_definitions.specs.Promised.Declarations.{Declarations, Question}
+use Rattle.sessions.specs.Promised.Releases.{IsSectionOf}
+use Rattle.sessions.specs.Promised.Subjects.{AsksProof, AsksRefutation}
 use Rattle.workspace.specs.declared.declared.Asked.{Asked}
 use Rattle.workspace.specs.declared.declared.Asked.TheVariants.{Prove, Refute}
 use Rattle.workspace.specs.declared.declared.Check.{Check}

@@ -1,11 +1,11 @@
 -- What the texts state as checked, in addition to the claims of traces.
 use Rattle.std.specs.Prelude.{◌≡◌, ℕ, true}
 use Rattle.type_terms.specs.declared.ImplId.{ImplId}
-use Rattle.text_definitions.specs.Declarations.{Question}
+use Rattle.text_definitions.specs.Promised.Declarations.{Question}
 use Rattle.proof_checker.specs.Steps.{term_of}
-use Rattle.sessions.specs.Promises.{view_in}
+use Rattle.sessions.specs.Promised.Promises.{view_in}
 use Rattle.sessions.specs.Shown.{AreProofOfQuestion}
-use Rattle.sessions.specs.Subjects.{Subject, AsksProof}
+use Rattle.sessions.specs.Promised.Subjects.{Subject, AsksProof}
 use Rattle.session_walks.specs.Rules.{HasRulesByBoth}
 use Rattle.session_walks.specs.declared.walks.PairWalk.{PairWalk}
 use Rattle.session_walks.specs.declared.walks.ProofWalk.{ProofWalk}

@@ -1,8 +1,8 @@
 //! Explanations of checks.
 
 ghost use Rattle.celtisdarts_explain.specs.Asked.{IsCheckOf};
-ghost use Rattle.sessions.specs.Releases.{IsSectionOf};
-ghost use Rattle.sessions.specs.Subjects.{StaysOn};
+ghost use Rattle.sessions.specs.Promised.Releases.{IsSectionOf};
+ghost use Rattle.sessions.specs.Promised.Subjects.{StaysOn};
 
 use crate::breaking::breaking;
 use crate::supertraits::supertraits;

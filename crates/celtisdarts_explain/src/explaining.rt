@@ -5,7 +5,7 @@
 
 ghost use Rattle.std.specs.Prelude.{◌≡◌, ◌<◌, length, IfSome, OnOk};
 ghost use Rattle.sessions.specs.SeenViews.{IsLeftView};
-ghost use Rattle.sessions.specs.Subjects.{IsOfText, StaysOn};
+ghost use Rattle.sessions.specs.Promised.Subjects.{IsOfText, StaysOn};
 ghost use Rattle.workspace.specs.Numbered.{IsFew};
 
 use crate::checks::explain_checked;

@@ -5,9 +5,9 @@ ghost use Rattle.celtisdarts_explain.specs.Asked.{IsAskedOf};
 ghost use Rattle.celtisdarts_explain.specs.Told.{ShowsProofOf};
 ghost use Rattle.session_walks.specs.Claims.{ClaimsHold};
 ghost use Rattle.session_walks.specs.Walked.{ProofWalkHeld, WalkHeld};
-ghost use Rattle.sessions.specs.Subjects.{AsksProof, AsksRefutation, StaysOn};
-ghost use Rattle.text_definitions.specs.Declarations.{Question};
-ghost use Rattle.type_terms.specs.Kinds.{ArgsHeld};
+ghost use Rattle.sessions.specs.Promised.Subjects.{AsksProof, AsksRefutation, StaysOn};
+ghost use Rattle.text_definitions.specs.Promised.Declarations.{Question};
+ghost use Rattle.type_terms.specs.Promised.Handles.{ArgsHeld};
 
 use crate::proofs::{proved, tell_proof};
 use crate::spending::{Next, Spending, too_long};

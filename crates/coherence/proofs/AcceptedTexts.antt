@@ -3,10 +3,11 @@ use Rattle.std.proofs.Common.{◌≡◌, ◌++◌, ℕ, List, Ok, refl, sym}
 use Rattle.std.specs.Prelude.{codes}
 use Rattle.std.specs.List.{AllZip}
 use Rattle.std.proofs.lemmas.List.{append_cancel_left}
-use Rattle.text_definitions.specs.Declarations.{Declarations, of_supers}
-use Rattle.sessions.specs.CoherentTexts.{CratesAreAccepted, CratesAreHeld, AcceptedTextsAreCoherent, HeldTextsAreCoherent}
-use Rattle.coherence.specs.Lines.{crate_text}
-use Rattle.coherence.specs.Told.{crate_topic, check_topic, topics, line_of_crate, TellsTopic, AllSayAccepted, AllSayHeld, SupertraitsStand, AcceptedTextsHold}
+use Rattle.text_definitions.specs.Promised.Declarations.{Declarations, of_supers}
+use Rattle.sessions.specs.Promised.CoherentTexts.{CratesAreAccepted, CratesAreHeld, HeldTextsAreCoherent}
+use Rattle.sessions.specs.CoherentTexts.{AcceptedTextsAreCoherent}
+use Rattle.coherence.specs.Promised.CrateAnswers.{crate_text}
+use Rattle.coherence.specs.Promised.Told.{crate_topic, check_topic, topics, line_of_crate, TellsTopic, AllSayAccepted, AllSayHeld, SupertraitsStand, AcceptedTextsHold}
 use Rattle.coherence.proofs.CheckAnswersHold.{held-answer}
 use Rattle.coherence.proofs.SolvedQuestions.{text-holds}
 use Rattle.coherence.proofs.CrateAnswersHold.{accepted-answer}

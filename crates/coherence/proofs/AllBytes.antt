@@ -1,10 +1,10 @@
 -- What a text gives is known from its first 1,048,577 bytes.
 use Rattle.std.proofs.Common.{◌≡◌, ℕ, List, take, Result, subst, Option, Some, None, inl, inr, IfSome}
-use Rattle.text_definitions.specs.Declarations.{Declarations}
+use Rattle.text_definitions.specs.Promised.Declarations.{Declarations}
 use Rattle.text_reader.specs.Prefixes.{FirstBytesDecide}
-use Rattle.language_definitions.specs.TextSays.{TextSays}
+use Rattle.language_definitions.specs.Promised.TextSays.{TextSays}
 use Rattle.language_definitions.proofs.SameTexts.{text-says, text-gives}
-use Rattle.coherence.specs.Told.{IsToldText, BeginsToldText, TellsAll, TellsSome}
+use Rattle.coherence.specs.Promised.Told.{IsToldText, BeginsToldText, TellsAll, TellsSome}
 use Rattle.coherence.specs.declared.status.Status.{Status}
 
 module _ (law : FirstBytesDecide) where

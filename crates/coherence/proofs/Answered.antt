@@ -3,20 +3,20 @@ use Rattle.std.proofs.Common.{◌≡◌, ℕ, List, [], Option, Some, None, map,
 use Rattle.std.specs.List.{slice_get}
 use Rattle.std.specs.Option.{option_map, option_map_or}
 use Rattle.std.proofs.lemmas.Option.{same_Some}
-use Rattle.type_terms.specs.Trees.{erase}
-use Rattle.text_definitions.specs.Declarations.{Declarations, NamedCrate, Question}
+use Rattle.type_terms.specs.Promised.Trees.{erase}
+use Rattle.text_definitions.specs.Promised.Declarations.{Declarations, NamedCrate, Question}
 use Rattle.text_definitions.specs.Names.{answer_values}
 use Rattle.text_definitions.specs.Output.{Answer, yes, output_text}
-use Rattle.type_terms.specs.Kinds.{arg_trees}
-use Rattle.type_terms.specs.Terms.{Entry}
+use Rattle.type_terms.specs.Promised.Handles.{arg_trees}
+use Rattle.type_terms.specs.Promised.Handles.{Entry}
 use Rattle.type_terms.specs.declared.kinds.GenericArgKind.{GenericArgKind}
-use Rattle.sessions.specs.Promises.{IsVerdictOf, IsProved, IsRefutation}
+use Rattle.sessions.specs.Promised.Promises.{IsVerdictOf, IsProved, IsRefutation}
 use Rattle.sessions.specs.QuestionAnswers as answers
-use Rattle.sessions.specs.Releases as releases
-use Rattle.sessions.specs.Releases.{IsSectionOf, IsLaterAnswer, IsSupersAnswer}
-use Rattle.sessions.specs.Subjects.{Subject, AsksProof, AsksRefutation}
+use Rattle.sessions.specs.Promised.Releases as releases
+use Rattle.sessions.specs.Promised.Releases.{IsSectionOf, IsLaterAnswer, IsSupersAnswer}
+use Rattle.sessions.specs.Promised.Subjects.{Subject, AsksProof, AsksRefutation}
 use Rattle.sessions.specs.Verdicts.{Verdict}
-use Rattle.coherence.specs.Lines.{crate_text, number_in_crate}
+use Rattle.coherence.specs.Promised.CrateAnswers.{crate_text, number_in_crate}
 
 pub verdict-of : (s : Subject) (d : Declarations) (c : ℕ) (v : Verdict) → s.declarations ≡ d → s.of_crate ≡ c → IsVerdictOf s.depth s.declarations s.of_crate v → IsVerdictOf s.depth d c v
 verdict-of s d c v e f h = subst (λ k. IsVerdictOf s.depth d k v) f (subst (λ (x : Declarations). IsVerdictOf s.depth x s.of_crate v) e h)

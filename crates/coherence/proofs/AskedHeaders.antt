@@ -1,22 +1,22 @@
 -- The supertraits of a header that a check asks for, read from the erased traits of the view.
 use Rattle.std.proofs.Common.{◌≡◌, ℕ, true, List, [], ◌∷◌, map, refl, sym, ap, ◌∙◌}
-use Rattle.type_terms.specs.Erased.{erased_reference, erased_trait}
-use Rattle.type_terms.specs.Proofs.{In}
-use Rattle.type_terms.specs.Supers.{opaque_reference}
-use Rattle.type_terms.specs.Worlds.{World, Reference, TraitDecl, ImplDecl, view_of}
+use Rattle.type_terms.specs.Promised.Erased.{erased_reference, erased_trait}
+use Rattle.type_terms.specs.Promised.Proofs.{In}
+use Rattle.type_terms.specs.Promised.Supers.{opaque_reference}
+use Rattle.type_terms.specs.Promised.Worlds.{World, Reference, TraitDecl, ImplDecl, view_of}
 use Rattle.type_terms.proofs.Members.{here, there, in-map}
 use Rattle.type_terms.proofs.TermRules.{erased-views}
 use Rattle.type_terms.proofs.Walking.{left}
-use Rattle.text_definitions.specs.Declarations.{Declarations, world_of}
+use Rattle.text_definitions.specs.Promised.Declarations.{Declarations, world_of}
 use Rattle.assembly_laws.specs.Declared.{is_declared_view}
 use Rattle.assembly_laws.proofs.DeclaredParts.{header-declared, bound-declared}
 use Rattle.assembly_laws.proofs.PlainRules.{tame}
-use Rattle.view_lowering.specs.Plain.{plain, all_kept, none_kept, plain_reference, plain_trait, plain_impl, plainly_seen_from, unbound_reference}
+use Rattle.view_lowering.specs.Promised.SeenWorlds.{plain, all_kept, none_kept, plain_reference, plain_trait, plain_impl, plainly_seen_from, unbound_reference}
 use Rattle.view_lowering.proofs.WellSeen.{texts-seen-well}
-use Rattle.sessions.specs.Promises.{view_in}
-use Rattle.sessions.specs.Releases.{asked_supers}
-use Rattle.sessions.specs.Subjects.{IsOfText}
-use Rattle.coherence.specs.CheckAnswers.{asked_header, header_supers}
+use Rattle.sessions.specs.Promised.Promises.{view_in}
+use Rattle.sessions.specs.Promised.Releases.{asked_supers}
+use Rattle.sessions.specs.Promised.Subjects.{IsOfText}
+use Rattle.coherence.specs.Promised.CheckAnswers.{asked_header, header_supers}
 use Rattle.coherence.proofs.OpaqueHeaders.{opaque-same, plain-is-erased}
 use Rattle.coherence.proofs.SupersInTurn.{turns_of, supertraits-in-turn, turns-by-traits}
 use Rattle.sessions.proofs.GivenTexts.{text-given}

@@ -4,8 +4,9 @@ use Rattle.std.specs.Prelude.{IfOk, IfErr, IfSome, IsErrAnd, map, slice_get}
 use Rattle.std.proofs.Math.Seq.{take-append_seam}
 use Rattle.std.proofs.lemmas.List.{length-map}
 use Rattle.std.proofs.lemmas.Option.{same_Some}
-use Rattle.text_definitions.specs.Declarations.{Declarations, Question}
-use Rattle.text_definitions.specs.Text.{TextGives, text_limit}
+use Rattle.text_definitions.specs.Promised.Declarations.{Declarations, Question}
+use Rattle.text_definitions.specs.Text.{TextGives}
+use Rattle.text_definitions.specs.Promised.Text.{text_limit}
 use Rattle.type_terms.specs.declared.CrateId.{CrateId}
 use Rattle.text_reader.specs.Behind.{FitsBehind, LinesBehindTexts, behind}
 use Rattle.text_reader.specs.Queries.{IsQueryLine}
@@ -18,7 +19,7 @@ use Rattle.workspace.specs.declared.declared.Asked.{Asked}
 use Rattle.workspace.specs.declared.declared.QuestionEntry.{QuestionEntry}
 use Rattle.workspace.specs.declared.tables.Tables.{Tables}
 use Rattle.sessions.specs.SeenViews.{IsViewOf, IsLeftView}
-use Rattle.sessions.specs.Subjects.{IsOfText}
+use Rattle.sessions.specs.Promised.Subjects.{IsOfText}
 use Rattle.sessions.specs.declared.seen_view.SeenView.{SeenView}
 use Rattle.coherence.specs.Asking.{AskedText, IsAnswerBehind, IsAskFault, IsLastLine, IsQueryBehind, IsShortage, Serves, of_run_fault}
 use Rattle.coherence.specs.Groups.{IsAskedIn}

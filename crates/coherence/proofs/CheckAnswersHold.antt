@@ -4,27 +4,28 @@ use Rattle.std.specs.Fmt.{decimal}
 use Rattle.std.specs.Prelude.{codes, slice_get}
 use Rattle.std.proofs.lemmas.List.{append_cancel_left}
 use Rattle.std.proofs.lemmas.Option.{same_Some}
-use Rattle.type_terms.specs.Answers.{IsDeterminate}
-use Rattle.type_terms.specs.Erased.{erased_reference, erased_impl, erased_world}
-use Rattle.type_terms.specs.Proofs.{In, Every, HasProof}
-use Rattle.type_terms.specs.Supers.{opaque_reference, IsHeld}
-use Rattle.type_terms.specs.Worlds.{World, Reference, ImplDecl, sees, view_of}
+use Rattle.type_terms.specs.Promised.Answers.{IsDeterminate}
+use Rattle.type_terms.specs.Promised.Erased.{erased_reference, erased_impl, erased_world}
+use Rattle.type_terms.specs.Promised.Proofs.{In, Every, HasProof}
+use Rattle.type_terms.specs.Promised.Supers.{opaque_reference, IsHeld}
+use Rattle.type_terms.specs.Promised.Worlds.{World, Reference, ImplDecl, sees, view_of}
 use Rattle.type_terms.proofs.Members.{in-filter, filter-in, in-map}
 use Rattle.type_terms.proofs.ProofEntries.{map-in}
 use Rattle.type_terms.proofs.ViewLaws.{sees-itself}
-use Rattle.text_definitions.specs.Declarations.{Declarations, NamedImpl, Check, of_later, of_supers, Question, world_of}
+use Rattle.text_definitions.specs.Promised.Declarations.{Declarations, NamedImpl, Check, of_later, of_supers, Question, world_of}
 use Rattle.text_definitions.specs.Names.{answer_values}
 use Rattle.text_definitions.specs.Output.{Answer, answer_text, values_text}
 use Rattle.language_definitions.proofs.SamePrinted.{yes-values-text-is}
 use Rattle.sessions.specs.QuestionAnswers as answers
-use Rattle.sessions.specs.Promises.{view_in}
-use Rattle.sessions.specs.Releases as releases
-use Rattle.sessions.specs.Releases.{StopsAt, asked_supers, given_clauses}
-use Rattle.sessions.specs.Subjects.{IsOfText}
+use Rattle.sessions.specs.Promised.Promises.{view_in}
+use Rattle.sessions.specs.Promised.Releases as releases
+use Rattle.sessions.specs.Promised.Releases.{StopsAt, asked_supers, given_clauses}
+use Rattle.sessions.specs.Promised.Subjects.{IsOfText}
 use Rattle.sessions.proofs.OpaqueTerms.{reference-opaque-erased}
-use Rattle.coherence.specs.CheckAnswers.{header_supers, StopsWith, CheckAnswer, says_compatible, says_breaking, says_held, says_stopped}
-use Rattle.coherence.specs.Lines.{crate_text, number_in_crate, IsCheckLine, of_version, of_headers, IsQuestionLine, of_prove, of_refute}
-use Rattle.coherence.specs.ProvedAnswers.{QuestionAnswer, says_yes, says_unproved, says_maybe, says_no, says_open}
+use Rattle.coherence.specs.Promised.CheckAnswers.{header_supers, StopsWith, CheckAnswer, says_compatible, says_breaking, says_held, says_stopped}
+use Rattle.coherence.specs.Promised.CrateAnswers.{crate_text, number_in_crate}
+use Rattle.coherence.specs.Lines.{IsCheckLine, of_version, of_headers, IsQuestionLine, of_prove, of_refute}
+use Rattle.coherence.specs.Promised.ProvedAnswers.{QuestionAnswer, says_yes, says_unproved, says_maybe, says_no, says_open}
 use Rattle.coherence.proofs.AskedHeaders.{supers-are-asked}
 use Rattle.coherence.proofs.ImplPlaces.{HaveNumbers, impls-have-numbers}
 use Rattle.coherence.proofs.SolvedQuestions.{to-yes, to-no}

@@ -4,23 +4,24 @@ use Rattle.std.specs.Prelude.{find, slice_get}
 use Rattle.std.specs.Fmt.{decimal}
 use Rattle.std.specs.Option.{option_map, option_map_or}
 use Rattle.std.proofs.lemmas.Option.{same_Some}
-use Rattle.type_terms.specs.Erased.{erased_impl, erased_world}
-use Rattle.type_terms.specs.Trees.{erase}
-use Rattle.type_terms.specs.Proofs.{In}
-use Rattle.type_terms.specs.Walks.{keeps_orphan_rule}
-use Rattle.type_terms.specs.Worlds.{World, ImplDecl, sees, core}
+use Rattle.type_terms.specs.Promised.Erased.{erased_impl, erased_world}
+use Rattle.type_terms.specs.Promised.Trees.{erase}
+use Rattle.type_terms.specs.Promised.Proofs.{In}
+use Rattle.type_terms.specs.Promised.Walks.{keeps_orphan_rule}
+use Rattle.type_terms.specs.Promised.Worlds.{World, ImplDecl, sees, core}
 use Rattle.type_terms.proofs.Members.{in-filter, filter-in, same-number, self-number, so-false}
 use Rattle.type_terms.proofs.Walking.{left, right}
-use Rattle.text_definitions.specs.Declarations.{Declarations, NamedImpl, world_of}
+use Rattle.text_definitions.specs.Promised.Declarations.{Declarations, NamedImpl, world_of}
 use Rattle.text_definitions.specs.Output.{answer_text, crate_start, before_text}
-use Rattle.orphan_check.specs.Items.{OrphanError, nonlocal, uncovered, orphan_error}
-use Rattle.overlap_check.specs.OpenedHeaders.{opened}
-use Rattle.overlap_check.specs.Verdicts as verdicts
-use Rattle.overlap_check.specs.Verdicts.{IsAccepted}
-use Rattle.coherence.specs.Lines.{header_text, crate_text, impl_home, number_in_crate, orphan_line, verdict_line}
-use Rattle.sessions.specs.Promises.{view_in, IsVerdictOf}
-use Rattle.sessions.specs.Subjects.{IsOfText}
-use Rattle.coherence.specs.CrateAnswers.{orphan_reason, first_orphan, CrateAnswer, is_accepted, is_orphan, is_overlap}
+use Rattle.type_terms.specs.Promised.OrphanErrors.{OrphanError, nonlocal, uncovered, orphan_error}
+use Rattle.type_terms.specs.Promised.OpenedHeaders.{opened}
+use Rattle.type_terms.specs.Promised.Verdicts as verdicts
+use Rattle.type_terms.specs.Promised.Verdicts.{IsAccepted}
+use Rattle.coherence.specs.Lines.{header_text, orphan_line, verdict_line}
+use Rattle.coherence.specs.Promised.CrateAnswers.{crate_text, impl_home, number_in_crate}
+use Rattle.sessions.specs.Promised.Promises.{view_in, IsVerdictOf}
+use Rattle.sessions.specs.Promised.Subjects.{IsOfText}
+use Rattle.coherence.specs.Promised.CrateAnswers.{orphan_reason, first_orphan, CrateAnswer, is_accepted, is_orphan, is_overlap}
 use Rattle.view_lowering.proofs.Tests.{is_good_impl}
 use Rattle.coherence.proofs.HeaderNames.{KnowsParams, AllOk}
 use Rattle.view_lowering.proofs.Texts.{texts-are-well}

@@ -3,8 +3,8 @@ use Rattle.std.proofs.Common.{◌≡◌, ◌∙◌, refl, sym}
 use Rattle.std.specs.Prelude.{Result, Ok, Err, IsErrAnd, IfErr}
 use Rattle.type_terms.specs.declared.Fault.{Fault}
 use Rattle.type_terms.specs.declared.Fault.TheVariants as wants
-use Rattle.sessions.specs.Shortages.{SessionFullAtLimit}
-use Rattle.sessions.specs.Subjects.{Subject}
+use Rattle.sessions.specs.Promised.Shortages.{SessionFullAtLimit}
+use Rattle.sessions.specs.Promised.Subjects.{Subject}
 use Rattle.coherence.specs.Faults.{of_fault, IsFullAtLimit}
 use Rattle.coherence.specs.declared.status.RunFault.{RunFault}
 use Rattle.coherence.specs.declared.status.RunFault.TheVariants as faults

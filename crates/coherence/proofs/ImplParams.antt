@@ -3,19 +3,20 @@ use Rattle.std.proofs.Common.{◌≡◌, ℕ, zero, suc, ◌+◌, Bool, true, fa
 use Rattle.std.specs.Prelude.{slice_get}
 use Rattle.std.specs.Option.{option_map_or}
 use Rattle.std.proofs.lemmas.Option.{same_Some}
-use Rattle.type_terms.specs.Label.{Label, Sort, of_type, of_const, of_lifetime, dynamic, principal, auto_trait, predicate, fn_ptr, param, placeholder, infer, canonical, bound}
-use Rattle.type_terms.specs.Trees.{Trees, none, tree, erase, erase_label, is_sort, is_no_tree, some_node}
-use Rattle.type_terms.specs.LinkedSet.{is_stray}
+use Rattle.type_terms.specs.Promised.Label.{Label, Sort, of_type, of_const, of_lifetime, dynamic, principal, auto_trait, predicate, fn_ptr, param, placeholder, infer, canonical, bound}
+use Rattle.type_terms.specs.Promised.Trees.{Trees, none, tree, erase, erase_label, is_sort, some_node}
+use Rattle.type_terms.specs.Trees.{is_no_tree}
+use Rattle.type_terms.specs.Promised.LinkedSet.{is_stray}
 use Rattle.type_terms.specs.Made.{Standing, terms, bounds, traits, is_made}
 use Rattle.type_terms.proofs.Made.{left, right, false-true, no-tree, made-ordinary, last-bound, last-trait, never-dynamic, never-dynamic-bound, never-principal}
 use Rattle.type_terms.proofs.Members.{same-number, self-number}
-use Rattle.text_definitions.specs.Declarations.{NamedImpl}
+use Rattle.text_definitions.specs.Promised.Declarations.{NamedImpl}
 use Rattle.assembly_laws.specs.Declared.{is_declared}
 use Rattle.view_lowering.proofs.Sorts.{is_bad}
 use Rattle.view_lowering.proofs.Tests.{is_good, all_stand, is_good_impl}
-use Rattle.view_lowering.specs.Plain.{plain, plain_label, all_kept}
+use Rattle.view_lowering.specs.Promised.SeenWorlds.{plain, plain_label, all_kept}
 use Rattle.view_lowering.specs.Seen.{param_sorts}
-use Rattle.overlap_check.specs.OpenedHeaders.{is_param}
+use Rattle.type_terms.specs.Promised.OpenedHeaders.{is_param}
 use Rattle.coherence.proofs.HeaderNames.{KnowsParams, AllOk, mapped-at}
 use Rattle.type_terms.proofs.TermBasics.{sort-self, sort-equal}
 use Rattle.type_terms.proofs.BooleanBasics.{same-three}

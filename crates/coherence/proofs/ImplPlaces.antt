@@ -5,8 +5,9 @@ use Rattle.std.proofs.lemmas.Option.{same_Some}
 use Rattle.type_terms.proofs.Members.{same-number}
 use Rattle.type_terms.proofs.Walking.{left, right}
 use Rattle.text_definitions.specs.Adding.{added, impl_of, item_meanings}
-use Rattle.text_definitions.specs.Declarations.{Declarations, NamedImpl, last_later, nothing_declared}
-use Rattle.text_definitions.specs.Syntax.{Line, crate_line, struct_line, trait_line, impl_line, prove_line, refute_line, later_line, supers_line}
+use Rattle.text_definitions.specs.Promised.Declarations.{Declarations, NamedImpl, last_later}
+use Rattle.text_definitions.specs.Declarations.{nothing_declared}
+use Rattle.text_definitions.specs.Promised.Syntax.{Line, crate_line, struct_line, trait_line, impl_line, prove_line, refute_line, later_line, supers_line}
 use Rattle.coherence.proofs.Sets.{snoc-at}
 use Rattle.text_definitions.specs.Text.{LineGives, other_byte, blank, unwritten, faulty, adds, LinesGive, ends, fails, goes_on, TextGives, too_long, fits}
 

@@ -3,15 +3,15 @@ use Rattle.std.proofs.Common.{◌≡◌, ℕ, List, [], ◌∷◌, map, refl}
 use Rattle.std.specs.Prelude.{slice_get}
 use Rattle.std.specs.List.{AllByRecursion}
 use Rattle.std.specs.Option.{option_map_or}
-use Rattle.type_terms.specs.Label.{Label, of_type, of_const, of_lifetime, infer}
-use Rattle.type_terms.specs.Supers.{opaque}
-use Rattle.type_terms.specs.Trees.{Trees}
-use Rattle.text_definitions.specs.Declarations.{Declarations}
+use Rattle.type_terms.specs.Promised.Label.{Label, of_type, of_const, of_lifetime, infer}
+use Rattle.type_terms.specs.Promised.Supers.{opaque}
+use Rattle.type_terms.specs.Promised.Trees.{Trees}
+use Rattle.text_definitions.specs.Promised.Declarations.{Declarations}
 use Rattle.text_definitions.specs.Names.{struct_text, trait_text, text_at}
 use Rattle.text_definitions.specs.Output.{type_text}
-use Rattle.language_definitions.specs.PrintedTypes.{unknowns_within}
+use Rattle.language_definitions.specs.Promised.PrintedTypes.{unknowns_within}
 use Rattle.language_definitions.proofs.SamePrintedTypes.{Agrees, type-same}
-use Rattle.coherence.specs.CrateAnswers.{impl_type_text}
+use Rattle.coherence.specs.Promised.CrateAnswers.{impl_type_text}
 
 abbrev pub named_type_text : Declarations → ℕ → Trees → List ℕ
 named_type_text d k t =

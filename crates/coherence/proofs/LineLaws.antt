@@ -6,7 +6,7 @@ use Rattle.std.proofs.Math.Seq.{take-length, take-append-add}
 use Rattle.std.proofs.KnownBytes.{Appends-trans}
 use Rattle.std.proofs.lemmas.List.Concat.{flat_map-cons, flat_map-append}
 use Rattle.text_definitions.specs.Output.{Answer, output_text}
-use Rattle.coherence.specs.Streams.{AppendsPrefix}
+use Rattle.coherence.specs.Promised.Streams.{AppendsPrefix}
 
 -- ---- whole lines
 one-line : (ls : List Answer) (l : Answer) → flat_map output_text ls ++ output_text l ≡ flat_map output_text (ls ++ l ∷ [])

@@ -2,14 +2,14 @@
 use Rattle.std.proofs.Common.{◌≡◌, ℕ, zero, suc, ◌<◌, List, [], ◌∷◌, map, length, Some, refl, sym, ap, ◌∙◌, subst}
 use Rattle.std.specs.List.{slice_get}
 use Rattle.std.proofs.lemmas.Option.{slice_get_within, same_Some}
-use Rattle.type_terms.specs.Worlds.{ImplDecl, sees, view_of}
-use Rattle.type_terms.specs.Erased.{erased_world, erased_impl}
-use Rattle.type_terms.specs.Proofs.{In}
+use Rattle.type_terms.specs.Promised.Worlds.{ImplDecl, sees, view_of}
+use Rattle.type_terms.specs.Promised.Erased.{erased_world, erased_impl}
+use Rattle.type_terms.specs.Promised.Proofs.{In}
 use Rattle.type_terms.proofs.Members.{in-filter}
-use Rattle.text_definitions.specs.Declarations.{Declarations, NamedImpl, world_of}
+use Rattle.text_definitions.specs.Promised.Declarations.{Declarations, NamedImpl, world_of}
 use Rattle.workspace.specs.Numbered.{IsNumbered}
-use Rattle.sessions.specs.Promises.{IsVerdictOf, view_in}
-use Rattle.sessions.specs.Releases.{StopsAt}
+use Rattle.sessions.specs.Promised.Promises.{IsVerdictOf, view_in}
+use Rattle.sessions.specs.Promised.Releases.{StopsAt}
 use Rattle.sessions.specs.Verdicts.{Verdict, accepted, orphan, overlap}
 use Rattle.coherence.specs.KeptLines.{NamesImpls}
 

@@ -1,11 +1,11 @@
 -- Terms without binders: a header with placeholders for its parameters is the one that is asked, and without any lifetime parameter they are erased.
 use Rattle.std.proofs.Common.{◌≡◌, Bool, true, false, ◌||◌, refl}
-use Rattle.type_terms.specs.Label.{Label, of_type, of_const, of_lifetime, static, fn_ptr, principal, param, placeholder, infer, canonical, bound}
-use Rattle.type_terms.specs.Supers.{opaque}
-use Rattle.type_terms.specs.Trees.{Trees, none, tree, erase, some_node}
+use Rattle.type_terms.specs.Promised.Label.{Label, of_type, of_const, of_lifetime, static, fn_ptr, principal, param, placeholder, infer, canonical, bound}
+use Rattle.type_terms.specs.Promised.Supers.{opaque}
+use Rattle.type_terms.specs.Promised.Trees.{Trees, none, tree, erase, some_node}
 use Rattle.assembly_laws.proofs.PlainRules.{is_wild}
-use Rattle.view_lowering.specs.Plain.{plain, plain_label, all_kept, none_kept}
-use Rattle.coherence.specs.CheckAnswers.{asked_header}
+use Rattle.view_lowering.specs.Promised.SeenWorlds.{plain, plain_label, all_kept, none_kept}
+use Rattle.coherence.specs.Promised.CheckAnswers.{asked_header}
 use Rattle.type_terms.proofs.BooleanBasics.{true-false as refuse}
 
 node : (l : Label) {c d o p : Trees} → c ≡ d → o ≡ p → tree l c o ≡ tree l d p

@@ -4,18 +4,18 @@ use Rattle.std.specs.Prelude.{find, slice_get}
 use Rattle.std.specs.List.{list_any}
 use Rattle.std.specs.Option.{option_map, option_map_or}
 use Rattle.std.proofs.lemmas.Option.{same_Some}
-use Rattle.type_terms.specs.Label.{Sort}
-use Rattle.type_terms.specs.Trees.{Trees}
-use Rattle.type_terms.specs.Worlds.{World, ImplDecl}
-use Rattle.type_terms.specs.Walks.{Met, visited, ends_local}
-use Rattle.type_terms.specs.Versions.{is_open_place}
-use Rattle.text_definitions.specs.Declarations.{Declarations}
+use Rattle.type_terms.specs.Promised.Label.{Sort}
+use Rattle.type_terms.specs.Promised.Trees.{Trees}
+use Rattle.type_terms.specs.Promised.Worlds.{World, ImplDecl}
+use Rattle.type_terms.specs.Promised.Walks.{Met, visited, ends_local}
+use Rattle.type_terms.specs.Promised.Versions.{is_open_place}
+use Rattle.text_definitions.specs.Promised.Declarations.{Declarations}
 use Rattle.text_definitions.specs.Output.{before_text}
-use Rattle.overlap_check.specs.OpenedHeaders.{opened, with_variables}
-use Rattle.orphan_check.specs.Items.{OrphanError, nonlocal, uncovered, orphan_error}
+use Rattle.type_terms.specs.Promised.OpenedHeaders.{opened, with_variables}
+use Rattle.type_terms.specs.Promised.OrphanErrors.{OrphanError, nonlocal, uncovered, orphan_error}
 use Rattle.coherence.specs.Lines.{header_text}
-use Rattle.sessions.specs.Promises.{view_in}
-use Rattle.coherence.specs.CrateAnswers.{types_met, impl_type_text, orphan_reason}
+use Rattle.sessions.specs.Promised.Promises.{view_in}
+use Rattle.coherence.specs.Promised.CrateAnswers.{types_met, impl_type_text, orphan_reason}
 use Rattle.coherence.proofs.TypesMet.{nonlocal-met, uncovered-met}
 use Rattle.coherence.proofs.HeaderNames.{KnowsParams, AllOk, text-opened}
 use Rattle.coherence.proofs.ImplTypeTexts.{impl-type-text-is}

@@ -2,19 +2,19 @@
 use Rattle.std.proofs.Common.{◌≡◌, ℕ, Bool, true, false, List, [], ◌∷◌, map, refl, sym, ap, ◌∙◌, subst}
 use Rattle.std.specs.Prelude.{filter, unwrap_or, if◌then◌else◌}
 use Rattle.std.specs.List.{slice_get, AllZip, zip}
-use Rattle.type_terms.specs.Elaborated.{HasElaboratedProof}
-use Rattle.type_terms.specs.Label.{Label, Sort, infer}
-use Rattle.type_terms.specs.Proofs.{HasProof}
-use Rattle.type_terms.specs.Renumbering.{renumbered_reference}
-use Rattle.type_terms.specs.Trees.{Trees, none, tree, leaf, ◌+++◌, IsA, is_sort}
-use Rattle.type_terms.specs.Worlds.{Reference}
-use Rattle.text_definitions.specs.Declarations.{Declarations}
+use Rattle.type_terms.specs.Promised.Proofs.{HasElaboratedProof}
+use Rattle.type_terms.specs.Promised.Label.{Label, Sort, infer}
+use Rattle.type_terms.specs.Promised.Proofs.{HasProof}
+use Rattle.type_terms.specs.Promised.Renumbering.{renumbered_reference}
+use Rattle.type_terms.specs.Promised.Trees.{Trees, none, tree, leaf, ◌+++◌, IsA, is_sort}
+use Rattle.type_terms.specs.Promised.Worlds.{Reference}
+use Rattle.text_definitions.specs.Promised.Declarations.{Declarations}
 use Rattle.sessions.specs.QuestionAnswers.{FitKinds, of_kind, filled, filled_reference, SolutionBy, IsProveAnswer, yes, IsRefuteAnswer, no}
-use Rattle.sessions.specs.CoherentTexts.{TextIsCoherent}
-use Rattle.sessions.specs.JoinedTexts.{text_world}
-use Rattle.sessions.specs.OwnValues.{SpeakOfOwn}
-use Rattle.sessions.specs.Promises.{view_in}
-use Rattle.coherence.specs.ProvedAnswers.{with_values, reference_with, SolvedBy, YesTells, NoTells, TextHolds}
+use Rattle.sessions.specs.Promised.CoherentTexts.{TextIsCoherent}
+use Rattle.sessions.specs.Promised.CoherentTexts.{text_world}
+use Rattle.sessions.specs.Promised.OwnValues.{SpeakOfOwn}
+use Rattle.sessions.specs.Promised.Promises.{view_in}
+use Rattle.coherence.specs.Promised.ProvedAnswers.{with_values, reference_with, SolvedBy, YesTells, NoTells, TextHolds}
 
 -- ---- values put in
 kind-same : (s : Sort) (ks : List Sort) (ts : List Trees) → of_kind s ks ts ≡ map (λ v. v.1) (filter (λ v. is_sort v.0 s) (zip ks ts))

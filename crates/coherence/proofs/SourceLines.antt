@@ -1,7 +1,7 @@
 -- What is given next, of declarations.
 use Rattle.std.proofs.Common.{◌≡◌, ℕ, zero, suc, ◌+◌, ◌-◌, ◌<◌, ◌⊎◌, inl, inr, List, length, Option, Some, None, Ok, Err, refl, ◌∙◌, subst, arith}
 use Rattle.std.specs.Prelude.{IfSome}
-use Rattle.text_definitions.specs.Declarations.{Declarations}
+use Rattle.text_definitions.specs.Promised.Declarations.{Declarations}
 use Rattle.text_definitions.specs.Output.{fault, output_text}
 use Rattle.workspace.specs.Numbered.{IsNumbered}
 use Rattle.coherence.specs.KeptLines.{HasKeptLineAt, IsCheckLineOf, IsLineOf, KeepsLines}

@@ -5,14 +5,15 @@ use Rattle.std.proofs.lemmas.List.{length-append, length-map, take_all}
 use Rattle.std.proofs.lemmas.List.FromFn.{length-map-range_with_len, length-enumerate_from}
 use Rattle.std.proofs.lemmas.List.Folds.{flat_map-map}
 use Rattle.type_terms.proofs.Lists.{slice_get-append, slice_get-map}
-use Rattle.text_definitions.specs.Declarations.{Declarations}
+use Rattle.text_definitions.specs.Promised.Declarations.{Declarations}
 use Rattle.text_definitions.specs.Output.{Answer, answer_text, output_text}
 use Rattle.text_definitions.specs.Text.{TextGives}
 use Rattle.language_definitions.proofs.SameTexts.{text-says}
-use Rattle.sessions.specs.Subjects.{IsOfText}
-use Rattle.coherence.specs.LineByLine.{OutputProgress, HasNoMore, line_count, status_of, IsAnswerOf, of_crate, of_check, of_question, IsAnswerAt}
-use Rattle.coherence.specs.Streams.{AppendsPrefix}
-use Rattle.coherence.specs.Told.{LineTopic, fault_topic, crate_topic, check_topic, question_topic, topics, TellsTopic, with_ends, IsToldText, TellsSome}
+use Rattle.sessions.specs.Promised.Subjects.{IsOfText}
+use Rattle.coherence.specs.LineByLine.{OutputProgress, HasNoMore, line_count, IsAnswerOf, of_crate, of_check, of_question, IsAnswerAt}
+use Rattle.coherence.specs.Promised.Told.{status_of}
+use Rattle.coherence.specs.Promised.Streams.{AppendsPrefix}
+use Rattle.coherence.specs.Promised.Told.{LineTopic, fault_topic, crate_topic, check_topic, question_topic, topics, TellsTopic, with_ends, IsToldText, TellsSome}
 use Rattle.coherence.proofs.CheckAnswersHold.{check-answer, question-answer}
 use Rattle.coherence.proofs.CrateAnswersHold.{crate-answer}
 use Rattle.coherence.proofs.Topics.{take-more, get-range, get-enumerated, get-behind, one-more}

@@ -2,8 +2,9 @@
 use Rattle.std.specs.Prelude.{◌≡◌, ℕ, ◌+◌, ◌-◌, ◌<◌, ◌≤◌, List, length, Option, Ok, Err, IfSome, refl}
 use Rattle.std.specs.Coded.{Coded, code_by, coded_ℕ, coded×}
 use Rattle.name_resolution.specs.FaultNumbers.{fault_number}
-use Rattle.text_definitions.specs.Declarations.{Declarations, Question}
-use Rattle.text_definitions.specs.Text.{LineGives, TextGives, text_limit}
+use Rattle.text_definitions.specs.Promised.Declarations.{Declarations, Question}
+use Rattle.text_definitions.specs.Text.{LineGives, TextGives}
+use Rattle.text_definitions.specs.Promised.Text.{text_limit}
 use Rattle.text_reader.specs.Behind.{IsOneLine}
 use Rattle.text_reader.specs.Queries.{FitsTables}
 use Rattle.workspace.specs.Stored.{declarations_code}

@@ -2,8 +2,8 @@
 use Rattle.std.specs.Prelude.{◌≡◌}
 use Rattle.type_terms.specs.declared.Fault.{Fault}
 use Rattle.type_terms.specs.declared.Fault.TheVariants as wants
-use Rattle.sessions.specs.Shortages.{IsAtLimit}
-use Rattle.sessions.specs.Subjects.{Subject}
+use Rattle.sessions.specs.Promised.Shortages.{IsAtLimit}
+use Rattle.sessions.specs.Promised.Subjects.{Subject}
 use Rattle.coherence.specs.declared.status.RunFault.{RunFault}
 use Rattle.coherence.specs.declared.status.RunFault.TheVariants as faults
 

@@ -1,11 +1,7 @@
+pub mod Promised
 pub mod Depths
-pub mod Streams
 pub mod Faults
 pub mod Lines
-pub mod CrateAnswers
-pub mod CheckAnswers
-pub mod ProvedAnswers
-pub mod Told
 pub mod Groups
 pub mod KeptLines
 pub mod LineByLine

@@ -1,24 +1,17 @@
 -- The output for a text, line by line.
 use Rattle.std.specs.Prelude.{◌≡◌, ℕ, ◌+◌, ◌-◌, ◌<◌, ◌⊎◌, Bool, true, false, List, length, Option, Some, None, Result, Ok, Err, slice_get, refl}
 use Rattle.std.specs.Coded.{Coded, code_by, coded_ℕ, coded_bool, coded×, coded_result}
-use Rattle.text_definitions.specs.Declarations.{Declarations, Check, Question}
+use Rattle.text_definitions.specs.Promised.Declarations.{Declarations, Check, Question}
 use Rattle.text_definitions.specs.Output.{Answer, fault, output_text}
 use Rattle.workspace.specs.Stored.{declarations_code}
-use Rattle.sessions.specs.Promises.{IsVerdictOf}
+use Rattle.sessions.specs.Promised.Promises.{IsVerdictOf}
 use Rattle.sessions.specs.Verdicts.{Verdict}
 use Rattle.coherence.specs.Lines.{verdict_line, IsCheckLine, IsQuestionLine}
-use Rattle.coherence.specs.declared.status.Status.{Status}
-use Rattle.coherence.specs.declared.status.Status.TheVariants as statuses
 
 -- How many lines there are for what a text gives: declarations, or its first fault.
 abbrev pub line_count : Result Declarations (ℕ × ℕ) → ℕ
 line_count (Ok d) = length d.crates - 1 + length d.checks + length d.questions
 line_count (Err f) = 1
-
--- `Done` for a text without fault, else `TextFault`.
-abbrev pub status_of : Result Declarations (ℕ × ℕ) → Status
-status_of (Ok d) = statuses.Done
-status_of (Err f) = statuses.TextFault
 
 -- Line n for these declarations, counted from 0, is right. Lines of the crates but `core` come first, then those of checks, and then those
 -- of queries.

@@ -1,29 +1,17 @@
 -- The lines of the output as data, which the functions of this crate make of what a session answers. `Told` says what a run writes.
-use Rattle.std.specs.Prelude.{◌≡◌, ℕ, suc, true, false, List, [], take, count_by, slice_get, ◌==◌}
+use Rattle.std.specs.Prelude.{◌≡◌, ℕ, true, false, List, [], slice_get}
 use Rattle.std.specs.Option.{option_map, option_map_or}
-use Rattle.type_terms.specs.Trees.{Trees}
-use Rattle.type_terms.specs.Worlds.{core}
-use Rattle.text_definitions.specs.Declarations.{Declarations, Check, of_later, of_supers, Question}
+use Rattle.type_terms.specs.Promised.Trees.{Trees}
+use Rattle.text_definitions.specs.Promised.Declarations.{Declarations, Check, of_later, of_supers, Question}
 use Rattle.text_definitions.specs.Names.{header_names, answer_values}
 use Rattle.text_definitions.specs.Output.{Answer, accepted, nonlocal, uncovered, overlap, compatible, breaking, held, missing, undecided, yes, maybe, unproved, no, unrefuted, type_text}
 use Rattle.sessions.specs.OrphanErrors as errors
-use Rattle.sessions.specs.Promises.{IsProved, IsRefutation}
+use Rattle.sessions.specs.Promised.Promises.{IsProved, IsRefutation}
 use Rattle.sessions.specs.QuestionAnswers as answers
-use Rattle.sessions.specs.Releases as releases
-use Rattle.sessions.specs.Releases.{IsLaterAnswer, IsSupersAnswer}
+use Rattle.sessions.specs.Promised.Releases as releases
+use Rattle.sessions.specs.Promised.Releases.{IsLaterAnswer, IsSupersAnswer}
 use Rattle.sessions.specs.Verdicts as verdicts
-
--- ---- the line of a crate
-abbrev pub crate_text : Declarations → ℕ → List ℕ
-crate_text d c = option_map_or (λ n. n.text) (slice_get d.crates c) []
-
--- The crate of impl number k.
-abbrev pub impl_home : Declarations → ℕ → ℕ
-impl_home d k = option_map_or (λ i. i.item.home) (slice_get d.impls k) core
-
--- Its number among those of its crate, from 1.
-abbrev pub number_in_crate : Declarations → ℕ → ℕ
-number_in_crate d k = count_by (λ i. i.item.home == impl_home d k) (take (suc k) d.impls)
+use Rattle.coherence.specs.Promised.CrateAnswers.{crate_text, impl_home, number_in_crate}
 
 -- A type of its header. A variable has the name of the parameter that it stands for.
 abbrev pub header_text : Declarations → ℕ → Trees → List ℕ

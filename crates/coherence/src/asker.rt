@@ -2,7 +2,7 @@
 
 ghost use Rattle.std.specs.Prelude.{◌≡◌, ◌<◌, ◌≤◌, ℕ, List, length, Ok, IfOk, IfErr, IfSome};
 ghost use Rattle.std.specs.Option.{option_map, option_and_then};
-ghost use Rattle.text_definitions.specs.Declarations.{known};
+ghost use Rattle.text_definitions.specs.Promised.Declarations.{known};
 ghost use Rattle.text_definitions.specs.Text.{TextGives};
 ghost use Rattle.text_reader.specs.Behind.{FitsBehind, behind};
 ghost use Rattle.text_reader.specs.Outcomes.{IsTextError};
@@ -11,7 +11,7 @@ ghost use Rattle.workspace.specs.Numbered.{IsNumbered, IsFew};
 ghost use Rattle.workspace.specs.Tables.{with_question, number_of_crate};
 ghost use Rattle.workspace.specs.Views.{asker_of, question_of};
 ghost use Rattle.sessions.specs.SeenViews.{IsLeftView};
-ghost use Rattle.sessions.specs.Subjects.{IsOfText, StaysOn};
+ghost use Rattle.sessions.specs.Promised.Subjects.{IsOfText, StaysOn};
 ghost use Rattle.coherence.specs.Asking.{IsAnswerBehind, IsAskFault, IsLastLine, IsQueryBehind, IsShortage};
 ghost use Rattle.coherence.specs.Groups.{IsAskedIn};
 ghost use Rattle.coherence.specs.KeptLines.{IsLineOf};

@@ -1,6 +1,6 @@
 //! What the lines of a text's crates say of the text as a whole. These are laws, with no code to run.
 
-ghost use Rattle.coherence.specs.Told.{AcceptedTextsHold, AllSayHeld, SupertraitsStand};
+ghost use Rattle.coherence.specs.Promised.Told.{AcceptedTextsHold, AllSayHeld, SupertraitsStand};
 
 use sessions::{accepted_texts_are_coherent, held_texts_are_coherent};
 

@@ -3,7 +3,7 @@
 
 ghost use Rattle.std.specs.Prelude.{◌≡◌, ◌≢◌, ◌+◌, ◌<◌, ◌≤◌, ℕ, length, IfOk, IfErr, IfSome, OnOk};
 ghost use Rattle.workspace.specs.Numbered.{IsNumbered, IsFew};
-ghost use Rattle.sessions.specs.Subjects.{IsOfText, StaysOn};
+ghost use Rattle.sessions.specs.Promised.Subjects.{IsOfText, StaysOn};
 ghost use Rattle.coherence.specs.Faults.{IsFullAtLimit};
 ghost use Rattle.coherence.specs.Groups.{IsAskedIn, IsCheckedIn, ArePlacesWhere, IsGroup};
 ghost use Rattle.coherence.specs.LineByLine.{CountsLine};

@@ -1,7 +1,7 @@
 //! From a text in memory to its output in memory. No stream is read or written.
 
 ghost use Rattle.std.specs.Prelude.{◌≡◌, ◌⊎◌, IfOk, IfErr};
-ghost use Rattle.coherence.specs.Told.{IsToldText};
+ghost use Rattle.coherence.specs.Promised.Told.{IsToldText};
 
 use crate::status::{RunFault, Status};
 use crate::text_run::answer_text;

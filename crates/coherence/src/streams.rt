@@ -2,7 +2,7 @@
 
 ghost use Rattle.std.specs.Prelude.{◌≡◌, ◌≤◌, ◌<◌, ◌⊎◌, length, take, IfOk, IfErr, IfSome, OnOk};
 ghost use Rattle.std.specs.Io.KnownBytes.{Appends};
-ghost use Rattle.coherence.specs.Streams.{ConsumesAtMost, AppendsPrefix};
+ghost use Rattle.coherence.specs.Promised.Streams.{ConsumesAtMost, AppendsPrefix};
 
 use crate::status::RunFault;
 use std::alloc::Global;

@@ -2,8 +2,8 @@
 
 ghost use Rattle.std.specs.Prelude.{◌≡◌, ◌≢◌, IfOk, IfErr, IfSome, OnErr};
 ghost use Rattle.std.specs.Io.KnownBytes.{Keeps};
-ghost use Rattle.coherence.specs.Streams.{ConsumesAtMost};
-ghost use Rattle.coherence.specs.Told.{AcceptedTextsHold, AllSayHeld, SupertraitsStand, TellsAll, TellsSome};
+ghost use Rattle.coherence.specs.Promised.Streams.{ConsumesAtMost};
+ghost use Rattle.coherence.specs.Promised.Told.{AcceptedTextsHold, AllSayHeld, SupertraitsStand, TellsAll, TellsSome};
 
 use crate::coherent::{accepted_lines_tell, held_lines_tell};
 use crate::output_lines::OutputLines;

@@ -5,12 +5,13 @@ use Rattle.std.specs.Prelude.{map, filter, not, nat_lt, ◌==◌}
 use Rattle.std.specs.Option.{option_map}
 use Rattle.std.specs.List.{slice_get}
 use Rattle.std.specs.List.Sorted.{IsNonDecreasingBy}
-use Rattle.type_terms.specs.Label.{Label}
+use Rattle.type_terms.specs.Promised.Label.{Label}
 use Rattle.type_terms.specs.declared.ImplId.{ImplId}
 use Rattle.declarations.specs.Heads.{same_self}
 use Rattle.declarations.specs.Items.{HeldImpl, ids_with, ids_headed}
 use Rattle.declarations.specs.Index.{ids_of}
-use Rattle.declarations.specs.Merges.{Each, Rises}
+use Rattle.declarations.specs.Promised.Elaboration.{Each}
+use Rattle.declarations.specs.Merges.{Rises}
 use Rattle.declarations.specs.Relevant.{is_above, next_above, names_of, smaller_of}
 use Rattle.declarations.proofs.Merging.{rises-filtered}
 use Rattle.declarations.proofs.Relevance.{rel, spread}

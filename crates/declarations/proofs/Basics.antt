@@ -1,9 +1,9 @@
 -- Small facts that the proofs of several files cite.
 use Rattle.std.proofs.Common.{List, ◌++◌, [], ◌∷◌, length, ◌≡◌, ◌+◌, arith, ◌∙◌, refl, ap, ◌||◌, Bool, true, false}
-use Rattle.declarations.specs.Elaboration.{pushed, is_put}
-use Rattle.declarations.specs.Merges.{Each}
-use Rattle.type_terms.specs.Rules.{same_reference}
-use Rattle.type_terms.specs.Worlds.{Reference}
+use Rattle.declarations.specs.Promised.Elaboration.{pushed, is_put}
+use Rattle.declarations.specs.Promised.Elaboration.{Each}
+use Rattle.type_terms.specs.Promised.Rules.{same_reference}
+use Rattle.type_terms.specs.Promised.Worlds.{Reference}
 
 pub each-append : {A : Type 0} (P : A → Type 0) (xs ys : List A) → Each P xs → Each P ys → Each P (xs ++ ys)
 each-append P [] ys h g = g

@@ -3,9 +3,9 @@ use Rattle.std.proofs.Common.{◌≡◌, ℕ, List, [], ◌∷◌, ◌++◌, ref
 use Rattle.std.specs.Prelude.{Result, IfErr, IsErrAnd}
 use Rattle.type_terms.specs.declared.Fault.{Fault}
 use Rattle.type_terms.specs.declared.Fault.TheVariants.{Full}
-use Rattle.type_terms.specs.Trees.{Trees, none, instantiate}
-use Rattle.type_terms.specs.Worlds.{Reference, with_args}
-use Rattle.type_terms.specs.Terms.{Entry, Keeps, trees_at}
+use Rattle.type_terms.specs.Promised.Trees.{Trees, none, instantiate}
+use Rattle.type_terms.specs.Promised.Worlds.{Reference, with_args}
+use Rattle.type_terms.specs.Promised.Handles.{Entry, Keeps, trees_at}
 use Rattle.term_folds.specs.declared.predicate.TraitRef.{TraitRef}
 use Rattle.type_terms.specs.Pieces.{Piece, one_piece, each_piece}
 use Rattle.declarations.specs.Items.{reference_in}

@@ -2,13 +2,14 @@
 use Rattle.std.proofs.Common.{◌≡◌, ℕ, ◌<◌, ◌+◌, Bool, true, false, cond, List, [], ◌∷◌, ◌++◌, length, Some, None, refl, sym, ap, ◌∙◌, subst, ◌⊎◌, inl, inr}
 use Rattle.std.specs.Prelude.{◌==◌, map, IfSome}
 use Rattle.std.proofs.lemmas.Option.{same_Some}
-use Rattle.type_terms.specs.Trees.{Trees, instantiate, outer_binder}
-use Rattle.type_terms.specs.Proofs.{In}
-use Rattle.type_terms.specs.Worlds.{World, Reference, TraitDecl, with_args, all_with_args}
-use Rattle.type_terms.specs.Rules.{written_supertraits, strict_supertraits}
+use Rattle.type_terms.specs.Promised.Trees.{Trees, instantiate}
+use Rattle.type_terms.specs.Trees.{outer_binder}
+use Rattle.type_terms.specs.Promised.Proofs.{In}
+use Rattle.type_terms.specs.Promised.Worlds.{World, Reference, TraitDecl, with_args, all_with_args}
+use Rattle.type_terms.specs.Promised.Rules.{written_supertraits, strict_supertraits}
 use Rattle.type_terms.proofs.Members.{here, there, in-cases, in-nothing, flat-in}
 use Rattle.type_terms.proofs.ProofEntries.{map-in}
-use Rattle.type_terms.specs.Terms.{Entry, Keeps, trees_at}
+use Rattle.type_terms.specs.Promised.Handles.{Entry, Keeps, trees_at}
 use Rattle.type_terms.specs.declared.TraitId.{TraitId}
 use Rattle.term_folds.specs.Arguments.{first_misfit}
 use Rattle.term_folds.specs.declared.predicate.TraitRef.{TraitRef}
@@ -16,8 +17,8 @@ use Rattle.declarations.specs.declared.items.TraitDef.{TraitDef}
 use Rattle.declarations.specs.declared.elaborate.Elaborator.{Elaborator}
 use Rattle.declarations.specs.Items.{Items, reference_in, trait_in, trait_at, written}
 use Rattle.declarations.specs.Held.{ReferenceHeld, AreHeld}
-use Rattle.declarations.specs.Merges.{Each}
-use Rattle.declarations.specs.Elaboration.{pushed, new_of, all_levels, elaborate}
+use Rattle.declarations.specs.Promised.Elaboration.{Each}
+use Rattle.declarations.specs.Promised.Elaboration.{pushed, new_of, all_levels, elaborate}
 use Rattle.declarations.specs.Applied.{references_in, TraitRefsHeld, IsApplied, AreApplied, IsBoundOf, HaveBounds, sorts_of, sorts_of_params}
 use Rattle.declarations.specs.Stacked.{StacksUnseen}
 use Rattle.declarations.proofs.Growth.{each-kept, references-kept, args-same, all-written}

@@ -1,18 +1,19 @@
 -- References that are put on a stack if they were not put there before.
 use Rattle.std.proofs.Common.{◌≡◌, ℕ, Bool, true, false, ◌==◌, ◌&&◌, ◌||◌, if◌then◌else◌, List, [], ◌∷◌, ◌++◌, refl, sym, ap, ◌∙◌, subst, append_assoc, ◌⊎◌, inl, inr}
 use Rattle.std.specs.List.{list_any}
-use Rattle.type_terms.specs.Worlds.{Reference}
+use Rattle.type_terms.specs.Promised.Worlds.{Reference}
 use Rattle.type_terms.specs.Codes.{same}
-use Rattle.type_terms.specs.Proofs.{In}
+use Rattle.type_terms.specs.Promised.Proofs.{In}
 use Rattle.type_terms.proofs.Matching.{same-sound}
 use Rattle.type_terms.proofs.Members.{same-number, self-number, here, there, in-nothing, in-append, in-cases}
-use Rattle.type_terms.specs.Terms.{Entry, Has, Is, Lawful, args_lists, trees_at}
+use Rattle.type_terms.specs.Promised.Handles.{Entry, Has, Is, trees_at}
+use Rattle.type_terms.specs.Terms.{Lawful, args_lists}
 use Rattle.type_terms.specs.Kept.{is-at}
 use Rattle.term_folds.specs.declared.predicate.TraitRef.{TraitRef}
 use Rattle.declarations.specs.declared.elaborate.Elaborator.{Elaborator}
 use Rattle.declarations.specs.Items.{reference_in}
 use Rattle.declarations.specs.Held.{ReferenceHeld}
-use Rattle.declarations.specs.Elaboration.{is_put, new_of}
+use Rattle.declarations.specs.Promised.Elaboration.{is_put, new_of}
 use Rattle.declarations.specs.Applied.{references_in, TraitRefsHeld}
 use Rattle.declarations.proofs.Bounded.{all-put}
 use Rattle.declarations.proofs.Stacks.{same-self, new-same, put-last}

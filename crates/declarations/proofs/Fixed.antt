@@ -3,8 +3,9 @@ use Rattle.std.proofs.Common.{◌≡◌, ℕ, zero, suc, refl, sym, ap, ◌∙�
 use Rattle.std.specs.Prelude.{true, bit_or}
 use Rattle.std.specs.Int.{bit_at}
 use Rattle.std.proofs.lemmas.Nat.Bits.{bit_at_or, bit_at-zero, same_from_bits}
-use Rattle.type_terms.specs.Label.{Label, of_type, of_const, of_lifetime, static, fn_ptr, principal, param, placeholder, infer, canonical, bound}
-use Rattle.type_terms.specs.Trees.{Trees, none, tree, erase, erase_label, instantiate, flags, label_flags}
+use Rattle.type_terms.specs.Promised.Label.{Label, of_type, of_const, of_lifetime, static, fn_ptr, principal, param, placeholder, infer, canonical, bound}
+use Rattle.type_terms.specs.Promised.Trees.{Trees, none, tree, erase, erase_label, instantiate}
+use Rattle.type_terms.specs.Trees.{flags, label_flags}
 use Rattle.type_terms.proofs.Members.{same-number}
 use Rattle.declarations.specs.Apart.{is_fixed}
 use Rattle.type_terms.proofs.TermBasics.{three}

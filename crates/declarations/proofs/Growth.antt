@@ -1,9 +1,10 @@
 -- What stays of declarations as the interner grows.
 use Rattle.std.proofs.Common.{◌≡◌, List, [], ◌∷◌, length, refl, sym, ap, ◌∙◌}
 use Rattle.std.specs.Prelude.{map}
-use Rattle.type_terms.specs.Worlds.{World, StructDecl, TraitDecl, ImplDecl, Reference}
-use Rattle.type_terms.specs.Erased.{erased_world}
-use Rattle.type_terms.specs.Terms.{Entry, Keeps, Has, types, args_lists, trees_at}
+use Rattle.type_terms.specs.Promised.Worlds.{World, StructDecl, TraitDecl, ImplDecl, Reference}
+use Rattle.type_terms.specs.Promised.Erased.{erased_world}
+use Rattle.type_terms.specs.Promised.Handles.{Entry, Keeps, Has, types, trees_at}
+use Rattle.type_terms.specs.Terms.{args_lists}
 use Rattle.type_terms.specs.Kept.{has-later, trees-later}
 use Rattle.term_folds.specs.declared.predicate.TraitRef.{TraitRef}
 use Rattle.type_terms.specs.declared.AdtId.{AdtId}
@@ -14,7 +15,7 @@ use Rattle.declarations.specs.declared.items.TraitDef.{TraitDef}
 use Rattle.declarations.specs.declared.items.ImplDef.{ImplDef}
 use Rattle.declarations.specs.Apart.{is_fixed}
 use Rattle.declarations.specs.Heads.{head_of, begins_declared}
-use Rattle.declarations.specs.Merges.{Each}
+use Rattle.declarations.specs.Promised.Elaboration.{Each}
 use Rattle.declarations.specs.Unsizing.{field_trees, unsizing_flags}
 use Rattle.declarations.specs.Items.{Items, HeldImpl, reference_in, struct_in, trait_in, impl_in, written, declared}
 use Rattle.declarations.specs.Held.{ReferenceHeld, StructHeld, TraitHeld, ImplHeld, AreHeld}

@@ -1,7 +1,8 @@
 -- Instances of trees: their sorts, and how far binder numbers lead out of them.
 use Rattle.std.proofs.Common.{◌≡◌, ℕ, zero, suc, ◌≤◌, max, Bool, true, false, cond, [], ◌∷◌, ◌++◌, Option, Some, None, refl, ap, ◌∙◌, arith}
-use Rattle.type_terms.specs.Label.{Label, Sort, inside, param, principal, fn_ptr, shift_label, bound}
-use Rattle.type_terms.specs.Trees.{Trees, none, tree, ◌+++◌, nth, shift, instantiate, sort_of, is_sort, outer_binder, own_binder, outside}
+use Rattle.type_terms.specs.Promised.Label.{Label, Sort, inside, param, principal, fn_ptr, shift_label, bound}
+use Rattle.type_terms.specs.Promised.Trees.{Trees, none, tree, ◌+++◌, nth, shift, instantiate, sort_of, is_sort}
+use Rattle.type_terms.specs.Trees.{outer_binder, own_binder, outside}
 use Rattle.type_terms.proofs.TreeLaws.{shift-closed, nth-binder}
 use Rattle.term_folds.specs.Arguments.{sort_at, misfit, first_misfit}
 use Rattle.term_folds.specs.declared.instantiate.InstantiateError.TheVariants.{ParamKind}

@@ -3,7 +3,7 @@ use Rattle.std.proofs.Common.{◌≡◌, Bool, true, false, cond, ◌&&◌, List
 use Rattle.std.specs.Prelude.{◌==◌}
 use Rattle.std.specs.Option.{option_map, option_map_or, option_eq}
 use Rattle.std.specs.HashMap.{HashMap, get_by}
-use Rattle.type_terms.specs.Label.{Label}
+use Rattle.type_terms.specs.Promised.Label.{Label}
 use Rattle.type_terms.specs.Codes.{same_label}
 use Rattle.type_terms.proofs.Applies.{same-label-itself}
 use Rattle.type_terms.proofs.Matching.{same-label-sound}

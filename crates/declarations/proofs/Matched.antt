@@ -2,14 +2,15 @@
 use Rattle.std.proofs.Common.{◌≡◌, ℕ, Bool, true, false, ◌&&◌, ◌||◌, not, List, [], ◌∷◌, Option, Some, None, refl, sym, ap, ◌∙◌}
 use Rattle.std.specs.Prelude.{◌==◌, map, filter}
 use Rattle.std.specs.Option.{option_map}
-use Rattle.type_terms.specs.Label.{Label}
-use Rattle.type_terms.specs.Trees.{Trees, none, tree, erase}
+use Rattle.type_terms.specs.Promised.Label.{Label}
+use Rattle.type_terms.specs.Promised.Trees.{Trees, none, tree, erase}
 use Rattle.type_terms.specs.Codes.{same}
 use Rattle.type_terms.proofs.Applies.{same-complete}
 use Rattle.type_terms.proofs.Made.{false-true}
 use Rattle.type_terms.proofs.Matching.{same-sound}
 use Rattle.type_terms.proofs.Members.{same-number, self-number}
-use Rattle.type_terms.specs.Terms.{Entry, Lawful, Has, trees_at, args_lists}
+use Rattle.type_terms.specs.Promised.Handles.{Entry, Has, trees_at}
+use Rattle.type_terms.specs.Terms.{Lawful, args_lists}
 use Rattle.type_terms.specs.declared.TraitId.{TraitId}
 use Rattle.term_folds.specs.Signatures.{StartsWithType}
 use Rattle.term_folds.specs.declared.predicate.TraitRef.{TraitRef}
@@ -20,7 +21,8 @@ use Rattle.declarations.specs.Heads.{head_of, label_of, same_self}
 use Rattle.declarations.specs.Held.{AreHeld, ReferenceHeld, ImplHeld}
 use Rattle.declarations.specs.Index.{has_key, has_open_head, ids_of}
 use Rattle.declarations.specs.Items.{Items, HeldImpl, impl_in, reference_in}
-use Rattle.declarations.specs.Merges.{Each, IsMerge}
+use Rattle.declarations.specs.Promised.Elaboration.{Each}
+use Rattle.declarations.specs.Merges.{IsMerge}
 use Rattle.declarations.specs.Relevant.{is_relevant_to, is_match, matches_in, names_of}
 use Rattle.declarations.proofs.Keys.{same-self-itself}
 use Rattle.declarations.proofs.Meeting.{one-handle, not-apart-itself, fixed-apart}

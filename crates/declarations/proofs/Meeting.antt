@@ -2,14 +2,17 @@
 use Rattle.std.proofs.Common.{◌≡◌, ℕ, zero, suc, Bool, true, false, ◌&&◌, ◌||◌, not, List, [], ◌∷◌, length, Option, Some, None, refl, sym, ap, ◌∙◌, arith}
 use Rattle.std.specs.Prelude.{◌==◌, if◌then◌else◌}
 use Rattle.std.specs.Cmp.Lexicographic.{pointwise}
-use Rattle.type_terms.specs.Label.{Label, of_type, of_const, of_lifetime, static, fn_ptr, auto_trait, value, principal, param, placeholder, infer, canonical, bound, predicate}
-use Rattle.type_terms.specs.Trees.{Trees, none, tree, leaf, ◌+++◌, erase_label, sort_of, IsA, Single}
+use Rattle.type_terms.specs.Promised.Label.{Label, of_type, of_const, of_lifetime, static, fn_ptr, auto_trait, value, principal, param, placeholder, infer, canonical, bound, predicate}
+use Rattle.type_terms.specs.Promised.Trees.{Trees, none, tree, leaf, ◌+++◌, erase_label, sort_of, IsA}
+use Rattle.type_terms.specs.Trees.{Single}
 use Rattle.type_terms.specs.Codes.{same, same_label}
-use Rattle.type_terms.specs.Answers.{is_open}
+use Rattle.type_terms.specs.Promised.Answers.{is_open}
 use Rattle.type_terms.specs.Made.{terms, is_made, is_in_range}
-use Rattle.type_terms.specs.Terms.{Entry, Lawful, Has, term, types, consts, trees_at}
+use Rattle.type_terms.specs.Promised.Handles.{Entry, Has, term, types, consts, trees_at}
+use Rattle.type_terms.specs.Terms.{Lawful}
 use Rattle.type_terms.specs.Kept.{is-at, trees-is}
-use Rattle.type_terms.specs.Kinds.{region_label, region_trees, const_label, arg_trees, args_trees, tys_trees, principal_trees, autos_trees, ArgHeld, ArgsHeld, TysHeld}
+use Rattle.type_terms.specs.Promised.Handles.{region_label, region_trees, arg_trees, ArgHeld, ArgsHeld}
+use Rattle.type_terms.specs.Kinds.{const_label, args_trees, tys_trees, principal_trees, autos_trees, TysHeld}
 use Rattle.type_terms.specs.declared.region.Region.{Region}
 use Rattle.type_terms.specs.declared.region.RegionKind.{RegionKind}
 use Rattle.type_terms.specs.declared.region.RegionKind.TheVariants.{ReStatic, ReEarlyParam, RePlaceholder, ReBound, ReVar}

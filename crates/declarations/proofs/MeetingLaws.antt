@@ -1,9 +1,10 @@
 -- Trees that are read as one are not told apart by what stands on their first levels, and what is apart has no instance in common.
 use Rattle.std.proofs.Common.{◌≡◌, ℕ, zero, suc, Bool, true, false, not, ◌&&◌, ◌||◌, refl, sym, ap, ◌∙◌, subst}
-use Rattle.type_terms.specs.Label.{Label, Sort, of_type, of_const, of_lifetime, param, placeholder, infer, canonical, bound, inside}
-use Rattle.type_terms.specs.Trees.{Trees, none, tree, ◌+++◌, Single, erase, erase_label, instantiate, nth, shift}
+use Rattle.type_terms.specs.Promised.Label.{Label, Sort, of_type, of_const, of_lifetime, param, placeholder, infer, canonical, bound, inside}
+use Rattle.type_terms.specs.Promised.Trees.{Trees, none, tree, ◌+++◌, erase, erase_label, instantiate, nth, shift}
+use Rattle.type_terms.specs.Trees.{Single}
 use Rattle.type_terms.specs.Codes.{same, same_label}
-use Rattle.type_terms.specs.Answers.{is_open}
+use Rattle.type_terms.specs.Promised.Answers.{is_open}
 use Rattle.type_terms.proofs.TreeLaws.{single-nth, single-shift}
 use Rattle.type_terms.proofs.Applies.{same-label-itself}
 use Rattle.declarations.specs.Apart.{is_fixed, has_parts, tops_may_meet, may_meet, levels, are_apart}

@@ -3,7 +3,8 @@ use Rattle.std.proofs.Common.{◌≡◌, ℕ, ◌+◌, ◌<◌, ◌≤◌, Bool,
 use Rattle.std.specs.List.{IsFirstAndRest, FoldsTo}
 use Rattle.std.specs.Prelude.{map, filter}
 use Rattle.type_terms.specs.declared.ImplId.{ImplId}
-use Rattle.declarations.specs.Merges.{Each, Rises, IsMerge, IsNext}
+use Rattle.declarations.specs.Promised.Elaboration.{Each}
+use Rattle.declarations.specs.Merges.{Rises, IsMerge, IsNext}
 
 pub empty-is : (xs : List ImplId) → length xs ≡ 0 → xs ≡ []
 empty-is [] h = refl

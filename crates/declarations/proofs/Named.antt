@@ -5,9 +5,9 @@ use Rattle.std.proofs.lemmas.Option.{same_Some}
 use Rattle.std.specs.Option.{option_map}
 use Rattle.std.specs.List.{IsDistinct}
 use Rattle.std.specs.Map.{lookup, keys_of}
-use Rattle.type_terms.specs.Worlds.{structs_named, traits_named}
-use Rattle.type_terms.specs.Erased.{erased_struct, erased_trait, erased_impl}
-use Rattle.type_terms.specs.Terms.{Entry}
+use Rattle.type_terms.specs.Promised.Worlds.{structs_named, traits_named}
+use Rattle.type_terms.specs.Promised.Erased.{erased_struct, erased_trait, erased_impl}
+use Rattle.type_terms.specs.Promised.Handles.{Entry}
 use Rattle.type_terms.specs.declared.AdtId.{AdtId}
 use Rattle.type_terms.specs.declared.TraitId.{TraitId}
 use Rattle.type_terms.specs.declared.ImplId.{ImplId}
@@ -18,7 +18,7 @@ use Rattle.declarations.specs.declared.items.AdtDef.{AdtDef}
 use Rattle.declarations.specs.declared.items.TraitDef.{TraitDef}
 use Rattle.declarations.specs.declared.declarations.ImplEntry.{ImplEntry}
 use Rattle.declarations.specs.Items.{Items, IsOnly, struct_in, trait_in, impl_in, declared}
-use Rattle.declarations.specs.Merges.{Each}
+use Rattle.declarations.specs.Promised.Elaboration.{Each}
 use Rattle.declarations.specs.Held.{AreHeld, StructHeld, TraitHeld, ImplHeld}
 use Rattle.declarations.specs.Inside.{impl_of}
 use Rattle.declarations.specs.Relevant.{impls_named}

@@ -4,9 +4,9 @@ use Rattle.std.proofs.lemmas.List.{map_push}
 use Rattle.std.specs.Prelude.{◌==◌, map, filter}
 use Rattle.std.specs.Option.{option_map}
 use Rattle.std.specs.Map.{lookup}
-use Rattle.type_terms.specs.Label.{Label}
+use Rattle.type_terms.specs.Promised.Label.{Label}
 use Rattle.type_terms.specs.Codes.{same_numbers, numbers}
-use Rattle.type_terms.specs.Trees.{Trees, none, tree, nth}
+use Rattle.type_terms.specs.Promised.Trees.{Trees, none, tree, nth}
 use Rattle.type_terms.specs.declared.AdtId.{AdtId}
 use Rattle.type_terms.specs.declared.TraitId.{TraitId}
 use Rattle.type_terms.specs.declared.ImplId.{ImplId}
@@ -22,11 +22,12 @@ use Rattle.declarations.specs.declared.declarations.ImplEntry.{ImplEntry}
 use Rattle.declarations.specs.Apart.{is_fixed}
 use Rattle.declarations.specs.Heads.{label_of, same_self, head_of, begins_declared}
 use Rattle.declarations.specs.Index.{is_head, is_key, has_head, has_key, ids_of, head_with}
-use Rattle.declarations.specs.Merges.{Each, Rises}
+use Rattle.declarations.specs.Promised.Elaboration.{Each}
+use Rattle.declarations.specs.Merges.{Rises}
 use Rattle.declarations.specs.Items.{Items, HeldImpl, with_struct, with_trait, with_impl, struct_in, trait_in, impl_in, held_impl, declared}
 use Rattle.declarations.specs.Held.{AreHeld, StructHeld, TraitHeld, ImplHeld}
-use Rattle.type_terms.specs.Terms.{Entry, trees_at}
-use Rattle.type_terms.specs.Erased.{erased_struct, erased_trait, erased_impl}
+use Rattle.type_terms.specs.Promised.Handles.{Entry, trees_at}
+use Rattle.type_terms.specs.Promised.Erased.{erased_struct, erased_trait, erased_impl}
 use Rattle.declarations.specs.Inside.{impl_of}
 use Rattle.declarations.proofs.Lookups.{turned, one-number}
 use Rattle.declarations.proofs.Merging.{rises-pushed}

@@ -2,16 +2,17 @@
 use Rattle.std.proofs.Common.{◌≡◌, ℕ, Bool, true, false, cond, ◌&&◌, ◌||◌, List, [], ◌∷◌, Option, Some, None, refl, sym, ap, ◌∙◌, inl, inr, if◌then◌else◌}
 use Rattle.std.proofs.lemmas.Bool.{cases_Bool}
 use Rattle.std.specs.Prelude.{◌==◌, map, filter}
-use Rattle.type_terms.specs.Label.{Label, of_type, of_const, of_lifetime, static, auto_trait, value, principal, param, placeholder, infer, canonical, bound}
-use Rattle.type_terms.specs.Trees.{Trees, none, tree, erase, erase_label, IsA}
+use Rattle.type_terms.specs.Promised.Label.{Label, of_type, of_const, of_lifetime, static, auto_trait, value, principal, param, placeholder, infer, canonical, bound}
+use Rattle.type_terms.specs.Promised.Trees.{Trees, none, tree, erase, erase_label, IsA}
 use Rattle.type_terms.specs.Codes.{same_label}
-use Rattle.type_terms.specs.Rules.{same_head}
-use Rattle.type_terms.specs.Erased.{erased_impl}
-use Rattle.type_terms.specs.Worlds.{ImplDecl}
+use Rattle.type_terms.specs.Promised.Rules.{same_head}
+use Rattle.type_terms.specs.Promised.Erased.{erased_impl}
+use Rattle.type_terms.specs.Promised.Worlds.{ImplDecl}
 use Rattle.type_terms.proofs.Matching.{same-label-sound}
-use Rattle.type_terms.specs.Terms.{Entry, trees_at}
+use Rattle.type_terms.specs.Promised.Handles.{Entry, trees_at}
 use Rattle.declarations.specs.Heads.{is_rigid, head_of, begins_declared, same_self}
-use Rattle.declarations.specs.Merges.{Each, IsMerge}
+use Rattle.declarations.specs.Promised.Elaboration.{Each}
+use Rattle.declarations.specs.Merges.{IsMerge}
 use Rattle.declarations.specs.Items.{Items, HeldImpl, impl_in, declared, ids_with, ids_headed}
 use Rattle.declarations.specs.Held.{ImplHeld, AreHeld}
 use Rattle.declarations.specs.Relevant.{is_relevant_to, relevant_impls, names_of}

@@ -1,9 +1,9 @@
 -- A visit that looks for a parameter finds it where it stands.
 use Rattle.std.proofs.Common.{◌≡◌, ℕ, Bool, true, false, cond, List, [], ◌∷◌, Option, refl, sym, ap, ◌∙◌}
 use Rattle.std.specs.Prelude.{◌||◌, ◌&&◌, ◌++◌, zero, suc, not, map, length, is_some}
-use Rattle.type_terms.specs.Label.{Label, of_type, of_const, of_lifetime, param, placeholder, infer, canonical, bound}
-use Rattle.type_terms.specs.Trees.{Trees, none, tree, some_node, erase, erase_label}
-use Rattle.type_terms.specs.Rules.{is_parameter, is_unsizing}
+use Rattle.type_terms.specs.Promised.Label.{Label, of_type, of_const, of_lifetime, param, placeholder, infer, canonical, bound}
+use Rattle.type_terms.specs.Promised.Trees.{Trees, none, tree, some_node, erase, erase_label}
+use Rattle.type_terms.specs.Promised.Rules.{is_parameter, is_unsizing}
 use Rattle.type_terms.specs.declared.visit.Seen.{Seen}
 use Rattle.type_terms.specs.declared.visit.Seen.TheVariants.{Break, Enter, Pass}
 use Rattle.type_terms.specs.Pieces.{one_piece}

@@ -3,14 +3,15 @@ use Rattle.std.proofs.Common.{◌≡◌, ℕ, ◌<◌, Bool, true, false, cond, 
 use Rattle.std.proofs.lemmas.Bool.Decides.{nat_tests}
 use Rattle.std.specs.Prelude.{map, filter, ◌==◌}
 use Rattle.std.specs.Option.{option_map, option_map_or}
-use Rattle.type_terms.specs.Trees.{Trees}
-use Rattle.type_terms.specs.Terms.{Entry, trees_at}
+use Rattle.type_terms.specs.Promised.Trees.{Trees}
+use Rattle.type_terms.specs.Promised.Handles.{Entry, trees_at}
 use Rattle.type_terms.specs.declared.ImplId.{ImplId}
 use Rattle.type_terms.proofs.Members.{self-number}
 use Rattle.declarations.specs.Apart.{are_apart}
 use Rattle.declarations.specs.Index.{ids_of}
 use Rattle.declarations.specs.Items.{Items, HeldImpl, impl_at}
-use Rattle.declarations.specs.Merges.{Each, Rises, IsMerge}
+use Rattle.declarations.specs.Promised.Elaboration.{Each}
+use Rattle.declarations.specs.Merges.{Rises, IsMerge}
 use Rattle.declarations.specs.Relevant.{is_above}
 use Rattle.declarations.specs.Walks.{header_meets, first_that}
 use Rattle.declarations.proofs.Above.{first, in-front}

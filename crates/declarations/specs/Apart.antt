@@ -1,9 +1,10 @@
 -- Arguments that no impl can have in common with a goal.
 use Rattle.std.specs.Prelude.{ℕ, zero, suc, Bool, true, false, ◌||◌, ◌&&◌, ◌==◌, not}
-use Rattle.type_terms.specs.Label.{Label, array, slice, tuple, dynamic, adt, fn_ptr, ref, raw_pointer, principal}
-use Rattle.type_terms.specs.Trees.{Trees, none, tree, erase_label, flags}
+use Rattle.type_terms.specs.Promised.Label.{Label, array, slice, tuple, dynamic, adt, fn_ptr, ref, raw_pointer, principal}
+use Rattle.type_terms.specs.Promised.Trees.{Trees, none, tree, erase_label}
+use Rattle.type_terms.specs.Trees.{flags}
 use Rattle.type_terms.specs.Codes.{same, same_label}
-use Rattle.type_terms.specs.Answers.{is_open}
+use Rattle.type_terms.specs.Promised.Answers.{is_open}
 
 -- Nothing is open in them and no lifetime stands in them: whatever is put in, they stay as they are.
 abbrev pub is_fixed : Trees → Bool

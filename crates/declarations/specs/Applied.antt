@@ -1,9 +1,10 @@
 -- References that have an argument for each parameter, and traits whose supertraits can be read off them.
 use Rattle.std.specs.Prelude.{◌≡◌, ℕ, ◌<◌, List, [], ◌∷◌, map, IfSome, None}
-use Rattle.type_terms.specs.Label.{Sort, of_type, of_const, of_lifetime}
-use Rattle.type_terms.specs.Trees.{Trees, none, tree, sort_of, outer_binder}
-use Rattle.type_terms.specs.Worlds.{Reference}
-use Rattle.type_terms.specs.Terms.{Entry, trees_at}
+use Rattle.type_terms.specs.Promised.Label.{Sort, of_type, of_const, of_lifetime}
+use Rattle.type_terms.specs.Promised.Trees.{Trees, none, tree, sort_of}
+use Rattle.type_terms.specs.Trees.{outer_binder}
+use Rattle.type_terms.specs.Promised.Worlds.{Reference}
+use Rattle.type_terms.specs.Promised.Handles.{Entry, trees_at}
 use Rattle.type_terms.specs.declared.TraitId.{TraitId}
 use Rattle.term_folds.specs.Arguments.{first_misfit}
 use Rattle.term_folds.specs.declared.predicate.TraitRef.{TraitRef}
@@ -12,7 +13,7 @@ use Rattle.declarations.specs.declared.items.GenericParamKind.TheVariants.{Lifet
 use Rattle.declarations.specs.declared.items.TraitDef.{TraitDef}
 use Rattle.declarations.specs.Held.{ReferenceHeld}
 use Rattle.declarations.specs.Items.{Items, reference_in, trait_at}
-use Rattle.declarations.specs.Merges.{Each}
+use Rattle.declarations.specs.Promised.Elaboration.{Each}
 
 -- The references, over the terms of an interner.
 abbrev pub references_in : List Entry → List TraitRef → List Reference

@@ -1,7 +1,7 @@
 -- What stands outermost in a type.
 use Rattle.std.specs.Prelude.{Bool, true, false, Option, Some, None, if◌then◌else◌}
-use Rattle.type_terms.specs.Label.{Label, bool, char, str, never, array, slice, tuple, dynamic, int, uint, adt, fn_ptr, ref, raw_pointer, of_type, param}
-use Rattle.type_terms.specs.Trees.{Trees, none, tree, erase_label}
+use Rattle.type_terms.specs.Promised.Label.{Label, bool, char, str, never, array, slice, tuple, dynamic, int, uint, adt, fn_ptr, ref, raw_pointer, of_type, param}
+use Rattle.type_terms.specs.Promised.Trees.{Trees, none, tree, erase_label}
 use Rattle.type_terms.specs.Codes.{same_label}
 use Rattle.type_terms.specs.Kinds.{int_number, uint_number, is_mut}
 use Rattle.declarations.specs.declared.simplify.SimplifiedType.{SimplifiedType}

@@ -1,13 +1,14 @@
 -- Declarations whose terms are an interner's.
 use Rattle.std.specs.Prelude.{◌≡◌, true, List, length}
-use Rattle.type_terms.specs.Terms.{Entry, Has, types, args_lists, trees_at}
+use Rattle.type_terms.specs.Promised.Handles.{Entry, Has, types, trees_at}
+use Rattle.type_terms.specs.Terms.{args_lists}
 use Rattle.term_folds.specs.declared.predicate.TraitRef.{TraitRef}
 use Rattle.declarations.specs.declared.items.AdtDef.{AdtDef}
 use Rattle.declarations.specs.declared.items.TraitDef.{TraitDef}
 use Rattle.declarations.specs.declared.items.ImplDef.{ImplDef}
 use Rattle.declarations.specs.Apart.{is_fixed}
 use Rattle.declarations.specs.Heads.{head_of, begins_declared}
-use Rattle.declarations.specs.Merges.{Each}
+use Rattle.declarations.specs.Promised.Elaboration.{Each}
 use Rattle.declarations.specs.Unsizing.{field_trees, unsizing_flags}
 use Rattle.declarations.specs.Items.{Items, HeldImpl}
 

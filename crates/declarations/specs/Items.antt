@@ -1,9 +1,9 @@
 -- What a contract sees of declarations, and the world that they are.
 use Rattle.std.specs.Prelude.{◌≡◌, ℕ, Bool, ◌<◌, ◌==◌, ◌&&◌, if◌then◌else◌, List, [], ◌∷◌, ◌++◌, map, filter, length, Option, None, Some}
-use Rattle.type_terms.specs.Label.{Label}
-use Rattle.type_terms.specs.Worlds.{World, Reference, StructDecl, TraitDecl, ImplDecl}
-use Rattle.type_terms.specs.Erased.{erased_world}
-use Rattle.type_terms.specs.Terms.{Entry, trees_at}
+use Rattle.type_terms.specs.Promised.Label.{Label}
+use Rattle.type_terms.specs.Promised.Worlds.{World, Reference, StructDecl, TraitDecl, ImplDecl}
+use Rattle.type_terms.specs.Promised.Erased.{erased_world}
+use Rattle.type_terms.specs.Promised.Handles.{Entry, trees_at}
 use Rattle.type_terms.specs.declared.AdtId.{AdtId}
 use Rattle.type_terms.specs.declared.TraitId.{TraitId}
 use Rattle.type_terms.specs.declared.ImplId.{ImplId}
@@ -13,7 +13,7 @@ use Rattle.declarations.specs.declared.items.TraitDef.{TraitDef}
 use Rattle.declarations.specs.declared.items.ImplDef.{ImplDef}
 use Rattle.declarations.specs.Apart.{is_fixed}
 use Rattle.declarations.specs.Heads.{head_of, same_self}
-use Rattle.declarations.specs.Merges.{Each}
+use Rattle.declarations.specs.Promised.Elaboration.{Each}
 
 -- An impl with its number, the head of its self type, if that is no parameter, and whether its header is fixed.
 pub record HeldImpl : Type 0 where

@@ -1,3 +1,4 @@
+pub mod Promised
 pub mod Apart
 pub mod Heads
 pub mod Index

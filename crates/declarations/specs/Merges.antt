@@ -1,11 +1,7 @@
 -- Rising lists of impls, and their merges.
 use Rattle.std.specs.Prelude.{◌≡◌, ◌<◌, List, [], ◌∷◌, ◌⊎◌}
 use Rattle.type_terms.specs.declared.ImplId.{ImplId}
-
--- P holds of each.
-abbrev pub Each : {A : Type 0} → (A → Type 0) → List A → Type 0
-Each P [] = Unit {0}
-Each P (x ∷ xs) = P x × Each P xs
+use Rattle.declarations.specs.Promised.Elaboration.{Each}
 
 -- Each number is below all later ones.
 abbrev pub Rises : List ImplId → Type 0

@@ -1,10 +1,10 @@
 -- Impls by number, and those that can match a self type.
 use Rattle.std.specs.Prelude.{◌≡◌, ℕ, Bool, true, false, ◌==◌, ◌&&◌, nat_lt, not, if◌then◌else◌, List, [], ◌∷◌, map, filter, Option, Some, None}
-use Rattle.type_terms.specs.Trees.{Trees, none, tree, erase}
-use Rattle.type_terms.specs.Worlds.{World, Reference, ImplDecl}
-use Rattle.type_terms.specs.Rules.{same_head}
+use Rattle.type_terms.specs.Promised.Trees.{Trees, none, tree, erase}
+use Rattle.type_terms.specs.Promised.Worlds.{World, Reference, ImplDecl}
+use Rattle.type_terms.specs.Promised.Rules.{same_head}
 use Rattle.std.specs.List.{FoldsTo}
-use Rattle.type_terms.specs.Terms.{Entry}
+use Rattle.type_terms.specs.Promised.Handles.{Entry}
 use Rattle.type_terms.specs.declared.ImplId.{ImplId}
 use Rattle.declarations.specs.Apart.{are_apart}
 use Rattle.declarations.specs.Items.{Items, declared, written}

@@ -1,10 +1,10 @@
 -- Stacks of references.
 use Rattle.std.specs.Prelude.{◌≡◌, List, ◌++◌}
-use Rattle.type_terms.specs.Proofs.{In}
-use Rattle.type_terms.specs.Terms.{Entry}
+use Rattle.type_terms.specs.Promised.Proofs.{In}
+use Rattle.type_terms.specs.Promised.Handles.{Entry}
 use Rattle.term_folds.specs.declared.predicate.TraitRef.{TraitRef}
 use Rattle.declarations.specs.declared.elaborate.Elaborator.{Elaborator}
-use Rattle.declarations.specs.Elaboration.{new_of}
+use Rattle.declarations.specs.Promised.Elaboration.{new_of}
 use Rattle.declarations.specs.Applied.{references_in}
 
 -- Those of the references that were not put on the stack before are put there, each once.

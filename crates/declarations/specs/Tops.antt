@@ -1,9 +1,10 @@
 -- What the outermost nodes of two types, or the bounds of two `dyn` types, tell of whether they can become one, and the parts below them.
 use Rattle.std.specs.Prelude.{◌≡◌, ℕ, suc, Bool, true, false, List, Option, None, Some}
-use Rattle.type_terms.specs.Label.{Label}
-use Rattle.type_terms.specs.Trees.{Trees, none, tree, ◌+++◌}
-use Rattle.type_terms.specs.Answers.{is_open}
-use Rattle.type_terms.specs.Terms.{Entry, Has, trees_at, types, consts, args_lists, type_lists, bounds_lists}
+use Rattle.type_terms.specs.Promised.Label.{Label}
+use Rattle.type_terms.specs.Promised.Trees.{Trees, none, tree, ◌+++◌}
+use Rattle.type_terms.specs.Promised.Answers.{is_open}
+use Rattle.type_terms.specs.Promised.Handles.{Entry, Has, trees_at, types, consts, bounds_lists}
+use Rattle.type_terms.specs.Terms.{args_lists, type_lists}
 use Rattle.declarations.specs.Apart.{may_meet}
 use Rattle.declarations.specs.declared.apart.Parts.{Parts}
 use Rattle.declarations.specs.declared.apart.Parts.TheVariants.{Inner, Array, Args, Items, Bounds}

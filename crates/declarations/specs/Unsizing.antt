@@ -1,10 +1,10 @@
 -- Parameters that unsize a struct.
 use Rattle.std.specs.Prelude.{◌≡◌, refl, ℕ, zero, suc, Bool, List, [], ◌∷◌, ◌++◌, map, length, cond, Option, Some, None}
-use Rattle.type_terms.specs.Trees.{Trees, none, tree}
-use Rattle.type_terms.specs.Label.{principal, auto_trait}
-use Rattle.type_terms.specs.Rules.{is_parameter, is_unsizing}
-use Rattle.type_terms.specs.Worlds.{StructDecl}
-use Rattle.type_terms.specs.Terms.{Entry, trees_at}
+use Rattle.type_terms.specs.Promised.Trees.{Trees, none, tree}
+use Rattle.type_terms.specs.Promised.Label.{principal, auto_trait}
+use Rattle.type_terms.specs.Promised.Rules.{is_parameter, is_unsizing}
+use Rattle.type_terms.specs.Promised.Worlds.{StructDecl}
+use Rattle.type_terms.specs.Promised.Handles.{Entry, trees_at}
 use Rattle.type_terms.specs.declared.kinds.Ty.{Ty}
 use Rattle.type_terms.specs.Visits.{IsBound}
 use Rattle.type_terms.specs.declared.visit.Seen.{Seen}

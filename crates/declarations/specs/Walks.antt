@@ -1,8 +1,8 @@
 -- A walk along impls that passes over those that are apart from a reference.
 use Rattle.std.specs.Prelude.{Bool, false, not, if◌then◌else◌, List, [], ◌∷◌, Option, None, Some}
 use Rattle.std.specs.Option.{option_map_or}
-use Rattle.type_terms.specs.Trees.{Trees}
-use Rattle.type_terms.specs.Terms.{Entry, trees_at}
+use Rattle.type_terms.specs.Promised.Trees.{Trees}
+use Rattle.type_terms.specs.Promised.Handles.{Entry, trees_at}
 use Rattle.type_terms.specs.declared.ImplId.{ImplId}
 use Rattle.declarations.specs.Apart.{are_apart}
 use Rattle.declarations.specs.Items.{Items, impl_at}

@@ -1,7 +1,9 @@
 //! What keeps the arguments of an impl's header apart from those of a reference, so that the impl can be passed over.
 ghost use Rattle.std.specs.Prelude.{◌≡◌, ◌≢◌, ℕ, suc, ◌&&◌, ◌||◌, List};
-ghost use Rattle.type_terms.specs.Terms.{Entry, Has, types, consts, args_lists, bounds_lists, trees_at};
-ghost use Rattle.type_terms.specs.Kinds.{ArgHeld, ArgsHeld, TysHeld, PrincipalHeld, arg_trees, args_trees, tys_trees, principal_trees};
+ghost use Rattle.type_terms.specs.Promised.Handles.{Entry, Has, types, consts, bounds_lists, trees_at};
+ghost use Rattle.type_terms.specs.Terms.{args_lists};
+ghost use Rattle.type_terms.specs.Promised.Handles.{ArgHeld, ArgsHeld, arg_trees};
+ghost use Rattle.type_terms.specs.Kinds.{TysHeld, PrincipalHeld, args_trees, tys_trees, principal_trees};
 ghost use Rattle.term_folds.specs.Arguments.{arg_sort};
 ghost use Rattle.declarations.specs.Apart.{is_fixed, are_apart, may_meet};
 ghost use Rattle.declarations.specs.Heads.{head_of};

@@ -1,11 +1,12 @@
 //! The table of declarations.
 ghost use Rattle.std.specs.Prelude.{◌≡◌, ◌==◌, ◌||◌, List, [], ◌∷◌, ◌++◌, map, filter, true, if◌then◌else◌, IfSome, IfErr, OnOk, OnErr};
 ghost use Rattle.std.specs.Option.{option_map};
-ghost use Rattle.type_terms.specs.Terms.{Entry, Has, types, args_lists, trees_at};
+ghost use Rattle.type_terms.specs.Promised.Handles.{Entry, Has, types, trees_at};
+ghost use Rattle.type_terms.specs.Terms.{args_lists};
 ghost use Rattle.type_terms.specs.declared.Fault.TheVariants.{Memory};
-ghost use Rattle.type_terms.specs.Erased.{erased_struct, erased_trait, erased_impl};
-ghost use Rattle.type_terms.specs.Worlds.{structs_named, traits_named};
-ghost use Rattle.type_terms.specs.Walks.{trait_is};
+ghost use Rattle.type_terms.specs.Promised.Erased.{erased_struct, erased_trait, erased_impl};
+ghost use Rattle.type_terms.specs.Promised.Worlds.{structs_named, traits_named};
+ghost use Rattle.type_terms.specs.Promised.Walks.{trait_is};
 ghost use Rattle.term_folds.specs.Signatures.{StartsWithType};
 ghost use Rattle.declarations.specs.Apart.{is_fixed};
 ghost use Rattle.declarations.specs.Heads.{label_of, head_of};

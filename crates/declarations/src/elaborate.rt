@@ -2,18 +2,19 @@
 ghost use Rattle.std.specs.Prelude.{◌≡◌, ◌&&◌, ◌==◌, ◌++◌, ◌∷◌, [], IfOk, IfErr, OnOk, None};
 ghost use Rattle.std.specs.List.{list_any};
 ghost use Rattle.type_terms.specs.Trees.{outer_binder};
-ghost use Rattle.type_terms.specs.Worlds.{with_args, all_with_args};
-ghost use Rattle.type_terms.specs.Rules.{written_supertraits};
-ghost use Rattle.type_terms.specs.Terms.{Has, args_lists, trees_at};
+ghost use Rattle.type_terms.specs.Promised.Worlds.{with_args, all_with_args};
+ghost use Rattle.type_terms.specs.Promised.Rules.{written_supertraits};
+ghost use Rattle.type_terms.specs.Promised.Handles.{Has, trees_at};
+ghost use Rattle.type_terms.specs.Terms.{args_lists};
 ghost use Rattle.type_terms.specs.declared.Fault.TheVariants.{Memory};
 ghost use Rattle.term_folds.specs.Arguments.{first_misfit};
 ghost use Rattle.type_terms.specs.Growth.{GrewOrFull};
 ghost use Rattle.declarations.specs.Items.{reference_in, written};
 ghost use Rattle.declarations.specs.Held.{ReferenceHeld, AreHeld};
-ghost use Rattle.declarations.specs.Elaboration.{elaborate, supertraits};
+ghost use Rattle.declarations.specs.Promised.Elaboration.{elaborate, supertraits};
 ghost use Rattle.declarations.specs.Applied.{references_in, TraitRefsHeld, IsApplied, AreApplied, HaveBounds};
 ghost use Rattle.declarations.specs.Stacked.{StacksUnseen};
-ghost use Rattle.declarations.specs.Merges.{Each};
+ghost use Rattle.declarations.specs.Promised.Elaboration.{Each};
 
 use crate::declarations::Declarations;
 use std::alloc::Global;

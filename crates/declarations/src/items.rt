@@ -1,8 +1,8 @@
 //! Structs, traits and impls as they are declared, with their terms as handles.
 ghost use Rattle.std.specs.Prelude.{◌≡◌, IfErr, IfOk};
-ghost use Rattle.type_terms.specs.Terms.{Has, types};
+ghost use Rattle.type_terms.specs.Promised.Handles.{Has, types};
 ghost use Rattle.type_terms.specs.declared.Fault.TheVariants.{Memory};
-ghost use Rattle.declarations.specs.Merges.{Each};
+ghost use Rattle.declarations.specs.Promised.Elaboration.{Each};
 ghost use Rattle.declarations.specs.Held.{StructHeld};
 
 use crate::unsizing::unsizing_params;

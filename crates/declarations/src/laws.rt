@@ -1,12 +1,13 @@
 //! Laws of declarations, over what the contracts speak of.
 ghost use Rattle.std.specs.Prelude.{◌≡◌, ◌∷◌, [], List};
-ghost use Rattle.type_terms.specs.Worlds.{World, Reference};
-ghost use Rattle.type_terms.specs.Terms.{Entry, Keeps};
+ghost use Rattle.type_terms.specs.Promised.Worlds.{World, Reference};
+ghost use Rattle.type_terms.specs.Promised.Handles.{Entry, Keeps};
 ghost use Rattle.declarations.specs.Items.{Items, written, declared};
 ghost use Rattle.declarations.specs.Held.{AreHeld, ReferenceHeld};
 ghost use Rattle.term_folds.specs.declared.predicate.TraitRef.{TraitRef};
 ghost use Rattle.declarations.specs.Applied.{HaveBounds, IsApplied};
-ghost use Rattle.declarations.specs.Elaboration.{elaborate, supertraits, diamond, asked_of_u8};
+ghost use Rattle.declarations.specs.Promised.Elaboration.{elaborate, supertraits};
+ghost use Rattle.declarations.specs.Elaboration.{diamond, asked_of_u8};
 
 /// Declarations whose terms are an interner's stay so as it grows, and they are the same world, with supertraits that can be read
 /// off references. A reference that has its trait's arguments has them still.

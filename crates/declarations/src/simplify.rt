@@ -1,7 +1,7 @@
 //! The head of a type, as far as it tells which impls can match.
 ghost use Rattle.std.specs.Prelude.{◌≡◌};
 ghost use Rattle.std.specs.Option.{option_map};
-ghost use Rattle.type_terms.specs.Terms.{Has, types, trees_at};
+ghost use Rattle.type_terms.specs.Promised.Handles.{Has, types, trees_at};
 ghost use Rattle.declarations.specs.Heads.{label_of, head_of};
 
 use type_terms::AdtId;

@@ -1,10 +1,10 @@
 //! Parameters that unsize a struct.
 ghost use Rattle.std.specs.Prelude.{◌≡◌, ℕ, map, IfErr, IfOk};
-ghost use Rattle.type_terms.specs.Trees.{some_node};
-ghost use Rattle.type_terms.specs.Rules.{is_parameter, is_unsizing};
-ghost use Rattle.type_terms.specs.Terms.{Has, types, trees_at};
+ghost use Rattle.type_terms.specs.Promised.Trees.{some_node};
+ghost use Rattle.type_terms.specs.Promised.Rules.{is_parameter, is_unsizing};
+ghost use Rattle.type_terms.specs.Promised.Handles.{Has, types, trees_at};
 ghost use Rattle.type_terms.specs.declared.Fault.TheVariants.{Memory};
-ghost use Rattle.declarations.specs.Merges.{Each};
+ghost use Rattle.declarations.specs.Promised.Elaboration.{Each};
 ghost use Rattle.declarations.specs.Unsizing.{unsizing_flags, field_trees};
 
 use std::alloc::Global;

@@ -3,8 +3,9 @@ use Rattle.std.proofs.Common.{◌≡◌, ℕ, zero, suc, ◌+◌, ◌<◌, ◌�
 use Rattle.std.specs.Prelude.{IsSome, unwrap_or, option_map, option_and_then}
 use Rattle.std.specs.List.{slice_get}
 use Rattle.std.proofs.lemmas.Bool.{eqb-true}
-use Rattle.type_terms.specs.Label.{Label, Sort, of_type, of_const, of_lifetime, infer, param, placeholder, canonical, bound, static, dynamic, principal, auto_trait, predicate}
-use Rattle.type_terms.specs.Trees.{Trees, none, tree, leaf, ◌+++◌, sort_of, is_sort, is_a, is_no_tree, placed, Single}
+use Rattle.type_terms.specs.Promised.Label.{Label, Sort, of_type, of_const, of_lifetime, infer, param, placeholder, canonical, bound, static, dynamic, principal, auto_trait, predicate}
+use Rattle.type_terms.specs.Promised.Trees.{Trees, none, tree, leaf, ◌+++◌, sort_of, is_sort}
+use Rattle.type_terms.specs.Trees.{is_a, is_no_tree, placed, Single}
 use Rattle.infer_table.specs.Canonical.{kind_of_leaf, kind_in_clause, leaves, goal_leaves}
 use Rattle.infer_table.specs.Solutions.{Assignment, IsSorted, Binding, tree_of, resolved, is_variable, HasValues, Acyclic}
 use Rattle.infer_table.specs.Unification.{TableTrees, Worklist, unified}

@@ -4,7 +4,7 @@ use Rattle.evaluation.specs.Instances.{term_at}
 use Rattle.evaluation.specs.Lists.{Every, SomeOf}
 use Rattle.evaluation.specs.Replayed.{after}
 use Rattle.evaluation.specs.Script.{Script, done, ask}
-use Rattle.type_terms.specs.Trees.{none}
+use Rattle.type_terms.specs.Promised.Trees.{none}
 
 pub after-none : {Q A X : Type 0} (s : Script Q A X) → after s [] ≡ s
 after-none (done x) = refl

@@ -1,8 +1,8 @@
 -- The first table of a frame, its new unknowns and its answers, in code and over trees.
 use Rattle.std.proofs.Common.{◌≡◌, ℕ, suc, ◌+◌, arith, List, [], ◌∷◌, ◌++◌, map, refl, ◌∙◌, ap, Option, Some, None}
 use Rattle.std.specs.Prelude.{option_and_then}
-use Rattle.type_terms.specs.Label.{Label, of_type, of_const, of_lifetime, infer, placeholder}
-use Rattle.type_terms.specs.Trees.{none}
+use Rattle.type_terms.specs.Promised.Label.{Label, of_type, of_const, of_lifetime, infer, placeholder}
+use Rattle.type_terms.specs.Promised.Trees.{none}
 use Rattle.infer_table.specs.Content.{Table}
 use Rattle.infer_table.specs.Unification.{TableTrees, Worklist, unified}
 use Rattle.infer_table.specs.declared.canonical.CanonicalVarKind.{CanonicalVarKind}

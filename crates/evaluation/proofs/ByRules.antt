@@ -1,8 +1,8 @@
 -- A proof list by the rules of a set of crates is a proof of the model.
 use Rattle.std.proofs.Common.{◌≡◌, suc, Bool, true, false, List, [], ◌∷◌, ◌++◌, map, inl, inr, refl, sym, ap, subst, if◌then◌else◌, Some}
-use Rattle.type_terms.specs.Worlds.{World, Reference}
-use Rattle.type_terms.specs.Rules.{is_coinductive}
-use Rattle.type_terms.specs.Proofs.{In, ProofEntry, Stands, Follows}
+use Rattle.type_terms.specs.Promised.Worlds.{World, Reference}
+use Rattle.type_terms.specs.Promised.Rules.{is_coinductive}
+use Rattle.type_terms.specs.Promised.Proofs.{In, ProofEntry, Stands, Follows}
 use Rattle.evaluation.specs.Lists.{IsAmong}
 use Rattle.evaluation.specs.Proof.{EntriesContinue}
 use Rattle.evaluation.specs.ByRules.{HasRule, ProofsAreProofs}

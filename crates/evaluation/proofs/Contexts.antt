@@ -1,7 +1,8 @@
 -- Contexts stay ready while the interner grows.
 use Rattle.std.specs.Prelude.{◌≡◌, List, [], ◌∷◌, ◌++◌, Option, Some, None}
 use Rattle.std.proofs.Common.{subst, sym}
-use Rattle.type_terms.specs.Terms.{Entry, Keeps, args_lists}
+use Rattle.type_terms.specs.Promised.Handles.{Entry, Keeps}
+use Rattle.type_terms.specs.Terms.{args_lists}
 use Rattle.type_terms.specs.Kept.{args-held-later, has-later}
 use Rattle.infer_table.specs.Content.{Table, Ready}
 use Rattle.infer_table.specs.Kept.{constraints-kept, ready-later}

@@ -1,7 +1,8 @@
 -- Of a goal that its own variables determine, a table whose own variables are free knows nothing but their values.
 use Rattle.std.proofs.Common.{◌≡◌, ℕ, zero, suc, Bool, true, false, ◌&&◌, ◌||◌, List, [], ◌∷◌, ◌++◌, map, refl, sym, ◌∙◌, ap, subst, Some, if◌then◌else◌, ◌⊎◌, inl, inr}
-use Rattle.type_terms.specs.Label.{Label, Sort, of_type, of_const, of_lifetime, bool, char, value, infer, param, placeholder, canonical, bound, static}
-use Rattle.type_terms.specs.Trees.{Trees, none, tree, leaf, sort_of, is_a}
+use Rattle.type_terms.specs.Promised.Label.{Label, Sort, of_type, of_const, of_lifetime, bool, char, value, infer, param, placeholder, canonical, bound, static}
+use Rattle.type_terms.specs.Promised.Trees.{Trees, none, tree, leaf, sort_of}
+use Rattle.type_terms.specs.Trees.{is_a}
 use Rattle.infer_table.specs.Content.{IsProper}
 use Rattle.infer_table.specs.Canonical.{StandsInGoal, kind_of_leaf, kind_in_clause, leaves, goal_leaves}
 use Rattle.infer_table.specs.Solutions.{Assignment, Binding, tree_of, is_variable, resolved, occurs, HasValues, is_rigid}

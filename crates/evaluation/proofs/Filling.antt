@@ -1,8 +1,9 @@
 -- What is filled in code is what is put into the tables of frames.
 use Rattle.std.proofs.Common.{◌≡◌, ℕ, zero, suc, ◌+◌, ◌==◌, not, arith, Bool, true, false, ◌&&◌, List, [], ◌∷◌, map, refl, sym, ◌∙◌, ap, Some, None, if◌then◌else◌}
 use Rattle.std.specs.List.{slice_get}
-use Rattle.type_terms.specs.Label.{Label, Sort, of_type, of_const, of_lifetime, infer, param, placeholder, canonical, bound, static}
-use Rattle.type_terms.specs.Trees.{Trees, none, tree, leaf, ◌+++◌, is_sort, is_a, placed}
+use Rattle.type_terms.specs.Promised.Label.{Label, Sort, of_type, of_const, of_lifetime, infer, param, placeholder, canonical, bound, static}
+use Rattle.type_terms.specs.Promised.Trees.{Trees, none, tree, leaf, ◌+++◌, is_sort}
+use Rattle.type_terms.specs.Trees.{is_a, placed}
 use Rattle.type_terms.specs.Made.{terms, is_leaf_label, is_made}
 use Rattle.infer_table.specs.Canonical.{GoalTrees}
 use Rattle.infer_table.specs.Unification.{TableTrees}

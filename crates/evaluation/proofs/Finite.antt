@@ -1,7 +1,8 @@
 -- Values that are made of given terms: each of their terms is one of these.
 use Rattle.std.proofs.Common.{◌≡◌, ℕ, zero, suc, Bool, true, false, List, [], ◌∷◌, ◌++◌, map, refl, sym, ◌∙◌, ap, subst, Option, if◌then◌else◌, ◌⊎◌, inl, inr}
-use Rattle.type_terms.specs.Label.{Sort, of_type, of_const, of_lifetime, placeholder}
-use Rattle.type_terms.specs.Trees.{Trees, none, leaf, is_a}
+use Rattle.type_terms.specs.Promised.Label.{Sort, of_type, of_const, of_lifetime, placeholder}
+use Rattle.type_terms.specs.Promised.Trees.{Trees, none, leaf}
+use Rattle.type_terms.specs.Trees.{is_a}
 use Rattle.infer_table.specs.Solutions.{HasValues}
 use Rattle.infer_table.specs.declared.canonical.CanonicalVarKind.{CanonicalVarKind}
 use Rattle.evaluation.specs.Lists.{IsAmong}

@@ -1,7 +1,7 @@
 -- The table with which a frame begins answers nothing but its own variables.
 use Rattle.std.proofs.Common.{◌≡◌, ℕ, zero, suc, ◌<◌, ◌==◌, arith, Bool, true, false, not, ◌&&◌, ◌||◌, List, [], ◌∷◌, ◌++◌, map, length, refl, sym, ◌∙◌, ap, subst, if◌then◌else◌, is_some}
-use Rattle.type_terms.specs.Label.{Label, Sort, of_type, of_const, of_lifetime, infer, placeholder, canonical}
-use Rattle.type_terms.specs.Trees.{leaf, sort_of, is_sort}
+use Rattle.type_terms.specs.Promised.Label.{Label, Sort, of_type, of_const, of_lifetime, infer, placeholder, canonical}
+use Rattle.type_terms.specs.Promised.Trees.{leaf, sort_of, is_sort}
 use Rattle.type_terms.specs.Codes.{same_label}
 use Rattle.type_terms.proofs.Matching.{same-label-sound}
 use Rattle.infer_table.specs.Canonical.{kind_of_leaf, is_among, with_label, leaves, place_of, canonical_label, relabeled}

@@ -1,7 +1,8 @@
 -- A table whose answer holds no values leaves the variables with which it began free.
 use Rattle.std.proofs.Common.{◌≡◌, ℕ, Bool, true, false, ◌&&◌, List, [], ◌∷◌, refl, sym, ◌∙◌, ap, subst, Some, None, if◌then◌else◌, ◌⊎◌, inl, inr}
-use Rattle.type_terms.specs.Label.{Label, Sort, of_type, of_const, of_lifetime, infer}
-use Rattle.type_terms.specs.Trees.{Trees, none, tree, leaf, ◌+++◌, sort_of, is_sort, is_a, Single, erase_label, placed}
+use Rattle.type_terms.specs.Promised.Label.{Label, Sort, of_type, of_const, of_lifetime, infer}
+use Rattle.type_terms.specs.Promised.Trees.{Trees, none, tree, leaf, ◌+++◌, sort_of, is_sort, erase_label}
+use Rattle.type_terms.specs.Trees.{is_a, Single, placed}
 use Rattle.infer_table.specs.Content.{IsProper}
 use Rattle.infer_table.specs.Solutions.{Assignment, Binding, tree_of, is_variable, value_in, replace, resolved, HasValues, Acyclic, is_rigid}
 use Rattle.infer_table.specs.Unification.{TableTrees, term_sort}

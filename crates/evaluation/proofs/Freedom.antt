@@ -1,8 +1,8 @@
 -- Where an answer holds no values, the variables with which the table began can have all values.
 use Rattle.std.proofs.Common.{◌≡◌, ℕ, zero, suc, ◌+◌, ◌<◌, ◌≤◌, arith, Bool, true, false, ◌&&◌, List, [], ◌∷◌, map, refl, sym, ◌∙◌, ap, subst, Some, if◌then◌else◌, is_some, ◌⊎◌, inl, inr}
 use Rattle.std.proofs.lemmas.Bool.{eqb-true}
-use Rattle.type_terms.specs.Label.{Label, Sort, of_type, of_const, of_lifetime, infer, param, placeholder, canonical, static}
-use Rattle.type_terms.specs.Trees.{Trees, none, tree, leaf, sort_of, is_sort}
+use Rattle.type_terms.specs.Promised.Label.{Label, Sort, of_type, of_const, of_lifetime, infer, param, placeholder, canonical, static}
+use Rattle.type_terms.specs.Promised.Trees.{Trees, none, tree, leaf, sort_of, is_sort}
 use Rattle.type_terms.specs.Codes.{same}
 use Rattle.type_terms.proofs.Matching.{same-sound}
 use Rattle.infer_table.specs.Canonical.{HasNoCanonical, kind_of_leaf, place_of, canonical_label, relabeled}

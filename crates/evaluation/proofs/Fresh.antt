@@ -1,7 +1,7 @@
 -- New unknowns and recorded constraints in the tables of frames.
 use Rattle.std.proofs.Common.{◌≡◌, ℕ, zero, suc, ◌+◌, ◌<◌, ◌≤◌, arith, Bool, true, List, [], ◌∷◌, ◌++◌, sym, subst, None}
-use Rattle.type_terms.specs.Label.{Label, Sort, of_type, of_const, infer}
-use Rattle.type_terms.specs.Trees.{Trees, leaf}
+use Rattle.type_terms.specs.Promised.Label.{Label, Sort, of_type, of_const, infer}
+use Rattle.type_terms.specs.Promised.Trees.{Trees, leaf}
 use Rattle.infer_table.specs.Solutions.{Binding, Acyclic}
 use Rattle.infer_table.specs.Unification.{TableTrees}
 use Rattle.infer_table.specs.declared.canonical.CanonicalVarKind.{CanonicalVarKind}

@@ -1,8 +1,9 @@
 -- Which labels stand in made terms, and what putting leaves in makes of these.
 use Rattle.std.proofs.Common.{◌≡◌, ℕ, Bool, true, false, not, ◌||◌, List, [], ◌∷◌, ◌++◌, refl, sym, ◌∙◌, ap, subst, Option, Some, None, if◌then◌else◌, is_some, ◌⊎◌, inl, inr}
 use Rattle.std.specs.Prelude.{IsSome}
-use Rattle.type_terms.specs.Label.{Label, Sort, of_lifetime, infer, static, dynamic, principal, auto_trait, predicate}
-use Rattle.type_terms.specs.Trees.{Trees, none, tree, leaf, ◌+++◌, sort_of, is_sort, is_no_tree, placed, Single}
+use Rattle.type_terms.specs.Promised.Label.{Label, Sort, of_lifetime, infer, static, dynamic, principal, auto_trait, predicate}
+use Rattle.type_terms.specs.Promised.Trees.{Trees, none, tree, leaf, ◌+++◌, sort_of, is_sort}
+use Rattle.type_terms.specs.Trees.{is_no_tree, placed, Single}
 use Rattle.infer_table.specs.Canonical.{OpenKinds, kind_of_leaf, kind_in_clause, is_among, with_label, leaves}
 use Rattle.infer_table.specs.Solutions.{Binding, replace, is_variable, resolved}
 use Rattle.evaluation.specs.Lists.{Every}

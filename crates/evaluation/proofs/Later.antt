@@ -1,7 +1,7 @@
 -- What stays of a candidate while the interner grows.
 use Rattle.std.proofs.Common.{◌≡◌, List, [], ◌∷◌, map, refl}
-use Rattle.type_terms.specs.Trees.{Trees}
-use Rattle.type_terms.specs.Terms.{Entry, Keeps}
+use Rattle.type_terms.specs.Promised.Trees.{Trees}
+use Rattle.type_terms.specs.Promised.Handles.{Entry, Keeps}
 use Rattle.type_terms.specs.Kept.{arg-held-later, arg-trees-later}
 use Rattle.infer_table.specs.Worklists.{equation_trees}
 use Rattle.infer_table.specs.declared.terms.Equation.{Equation}

@@ -1,10 +1,11 @@
 -- Goals and replies as trees stay the same while the interner grows.
 use Rattle.std.specs.Prelude.{◌≡◌, List, [], ◌∷◌, Option, Some, None, option_map, refl}
 use Rattle.std.proofs.Common.{ap}
-use Rattle.type_terms.specs.Label.{Label, of_trait, predicate}
-use Rattle.type_terms.specs.Trees.{Trees, none, tree, ◌+++◌}
-use Rattle.type_terms.specs.Terms.{Entry, Keeps, types, args_lists}
-use Rattle.type_terms.specs.Kinds.{region_trees}
+use Rattle.type_terms.specs.Promised.Label.{Label, of_trait, predicate}
+use Rattle.type_terms.specs.Promised.Trees.{Trees, none, tree, ◌+++◌}
+use Rattle.type_terms.specs.Promised.Handles.{Entry, Keeps, types}
+use Rattle.type_terms.specs.Terms.{args_lists}
+use Rattle.type_terms.specs.Promised.Handles.{region_trees}
 use Rattle.type_terms.specs.Kept.{trees-later}
 use Rattle.term_folds.specs.Clauses.{ClauseHeld}
 use Rattle.term_folds.specs.declared.predicate.Clause.{Clause}

@@ -1,8 +1,9 @@
 -- The nodes of a goal over a table: what stands in it, and what its readings tell of its unknowns.
 use Rattle.std.proofs.Common.{◌≡◌, ℕ, zero, suc, Bool, true, false, not, ◌||◌, List, [], ◌∷◌, ◌++◌, refl, sym, ◌∙◌, ap, subst, Some, if◌then◌else◌, is_some, ◌⊎◌, inl, inr}
 use Rattle.std.specs.Prelude.{IsSome}
-use Rattle.type_terms.specs.Label.{Label, Sort, of_type, of_const, of_lifetime, infer, param, placeholder, canonical, bound, static, dynamic, principal, auto_trait, predicate}
-use Rattle.type_terms.specs.Trees.{Trees, none, tree, leaf, ◌+++◌, erase_label, sort_of, is_sort, placed, is_no_tree}
+use Rattle.type_terms.specs.Promised.Label.{Label, Sort, of_type, of_const, of_lifetime, infer, param, placeholder, canonical, bound, static, dynamic, principal, auto_trait, predicate}
+use Rattle.type_terms.specs.Promised.Trees.{Trees, none, tree, leaf, ◌+++◌, erase_label, sort_of, is_sort}
+use Rattle.type_terms.specs.Trees.{placed, is_no_tree}
 use Rattle.infer_table.specs.Content.{IsProper}
 use Rattle.infer_table.specs.Canonical.{OpenKinds, StandsIn, with_label, is_among, leaves}
 use Rattle.infer_table.specs.Solutions.{Binding, tree_of, replace, resolved, occurs, is_variable}

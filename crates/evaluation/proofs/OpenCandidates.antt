@@ -5,7 +5,7 @@ use Rattle.evaluation.proofs.Contexts.{every-more, nested-later}
 use Rattle.infer_table.specs.Kept.{ready-later}
 use Rattle.type_terms.specs.Kept.{args-held-later}
 use Rattle.std.proofs.lemmas.List.{map-append}
-use Rattle.type_terms.specs.Terms.{Entry, Keeps}
+use Rattle.type_terms.specs.Promised.Handles.{Entry, Keeps}
 use Rattle.infer_table.proofs.PairFacts.{table-kept}
 use Rattle.infer_table.specs.Certainties.{joined, is_certain}
 use Rattle.infer_table.specs.Content.{Table, Ready}

@@ -1,7 +1,7 @@
 -- The laws of what can be done with the table of a frame: nothing is gained, and nothing is lost that meets what is put in.
 use Rattle.std.proofs.Common.{◌≡◌, ℕ, Bool, true, false, List, [], ◌∷◌, map, refl, sym, ◌∙◌, ap, subst, Option, Some, if◌then◌else◌, ◌⊎◌, inl, inr}
 use Rattle.std.specs.Prelude.{option_map}
-use Rattle.type_terms.specs.Trees.{Trees}
+use Rattle.type_terms.specs.Promised.Trees.{Trees}
 use Rattle.infer_table.specs.Canonical.{goal_leaves}
 use Rattle.infer_table.specs.Solutions.{Assignment, IsSorted}
 use Rattle.infer_table.specs.Unification.{TableTrees}

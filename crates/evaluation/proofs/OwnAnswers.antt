@@ -1,10 +1,12 @@
 -- An answer that says all that is to be said, and that is a function of trees.
 use Rattle.std.specs.Prelude.{◌≡◌, List, [], ◌∷◌, map, Some, Result, Ok, Err, IfOk, refl}
 use Rattle.std.proofs.Common.{ap, sym, ◌∙◌}
-use Rattle.type_terms.specs.Label.{Label, Sort, of_type, of_const, of_lifetime}
-use Rattle.type_terms.specs.Trees.{Trees, none, tree, ◌+++◌, sort_of, IsA}
-use Rattle.type_terms.specs.Terms.{Entry, Lawful, types, consts}
-use Rattle.type_terms.specs.Kinds.{ArgHeld, ArgsHeld, arg_trees, args_trees}
+use Rattle.type_terms.specs.Promised.Label.{Label, Sort, of_type, of_const, of_lifetime}
+use Rattle.type_terms.specs.Promised.Trees.{Trees, none, tree, ◌+++◌, sort_of, IsA}
+use Rattle.type_terms.specs.Promised.Handles.{Entry, types, consts}
+use Rattle.type_terms.specs.Terms.{Lawful}
+use Rattle.type_terms.specs.Promised.Handles.{ArgHeld, ArgsHeld, arg_trees}
+use Rattle.type_terms.specs.Kinds.{args_trees}
 use Rattle.type_terms.specs.declared.kinds.GenericArgKind.{GenericArgKind}
 use Rattle.type_terms.specs.declared.kinds.GenericArgKind.TheVariants.{Lifetime, Ty, Const}
 use Rattle.type_terms.specs.Kept.{is-at}

@@ -1,8 +1,9 @@
 -- An instance of a canonical question is an instance of the goal that was asked.
 use Rattle.std.proofs.Common.{◌≡◌, ℕ, zero, suc, Bool, true, false, ◌&&◌, ◌||◌, List, [], ◌∷◌, map, refl, sym, ◌∙◌, ap, subst, Option, Some, None, if◌then◌else◌, is_some, inl, inr}
 use Rattle.std.specs.Prelude.{IsSome}
-use Rattle.type_terms.specs.Label.{Label, Sort, of_type, of_const, of_lifetime, infer, param, placeholder, canonical, bound, static, dynamic, principal, auto_trait, predicate}
-use Rattle.type_terms.specs.Trees.{Trees, none, tree, leaf, ◌+++◌, erase_label, sort_of, is_sort, is_a, placed, is_no_tree}
+use Rattle.type_terms.specs.Promised.Label.{Label, Sort, of_type, of_const, of_lifetime, infer, param, placeholder, canonical, bound, static, dynamic, principal, auto_trait, predicate}
+use Rattle.type_terms.specs.Promised.Trees.{Trees, none, tree, leaf, ◌+++◌, erase_label, sort_of, is_sort}
+use Rattle.type_terms.specs.Trees.{is_a, placed, is_no_tree}
 use Rattle.type_terms.specs.Codes.{same_label}
 use Rattle.type_terms.proofs.Matching.{same-label-sound}
 use Rattle.infer_table.specs.Canonical.{OpenKinds, GoalTrees, kind_of_leaf, kind_in_clause, StandsIn, HasNoCanonical, is_among, place_of, canonical_label, goal_leaves, leaves, renamed}

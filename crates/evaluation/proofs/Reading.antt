@@ -1,7 +1,8 @@
 -- Terms in the place of open leaves: what reading makes of other operations on trees.
 use Rattle.std.proofs.Common.{◌≡◌, ℕ, Bool, true, false, List, [], ◌∷◌, map, refl, sym, ◌∙◌, ap, subst, Option, Some, None, if◌then◌else◌, is_some}
-use Rattle.type_terms.specs.Label.{Label, Sort, of_type, of_const, of_lifetime, infer, param, placeholder, canonical, bound, static}
-use Rattle.type_terms.specs.Trees.{Trees, none, tree, leaf, ◌+++◌, erase_label, sort_of, is_sort, placed}
+use Rattle.type_terms.specs.Promised.Label.{Label, Sort, of_type, of_const, of_lifetime, infer, param, placeholder, canonical, bound, static}
+use Rattle.type_terms.specs.Promised.Trees.{Trees, none, tree, leaf, ◌+++◌, erase_label, sort_of, is_sort}
+use Rattle.type_terms.specs.Trees.{placed}
 pub use Rattle.type_terms.proofs.TreeLaws.{append-none, append-assoc}
 use Rattle.infer_table.specs.Canonical.{OpenKinds, relabeled}
 use Rattle.infer_table.specs.Solutions.{Assignment, Binding, tree_of, replace, is_variable}

@@ -1,7 +1,7 @@
 -- What a frame's table answers is what a context over its content answers.
 use Rattle.std.proofs.Common.{◌≡◌, Bool, true, false, List, [], ◌∷◌, map, refl, sym, ◌∙◌, ap, Option, Some, None, if◌then◌else◌, is_some}
-use Rattle.type_terms.specs.Label.{Label, Sort}
-use Rattle.type_terms.specs.Trees.{Trees, none, tree, leaf, ◌+++◌, sort_of}
+use Rattle.type_terms.specs.Promised.Label.{Label, Sort}
+use Rattle.type_terms.specs.Promised.Trees.{Trees, none, tree, leaf, ◌+++◌, sort_of}
 use Rattle.infer_table.specs.Canonical.{OpenKinds, kind_of_leaf, canonical_label, leaves, relabeled}
 use Rattle.infer_table.specs.Solutions.{Binding, resolved}
 use Rattle.infer_table.specs.declared.canonical.CanonicalVarKind.{CanonicalVarKind}

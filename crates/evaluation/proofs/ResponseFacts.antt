@@ -1,7 +1,7 @@
 -- When the values of a response are the canonical variables of their places.
 use Rattle.std.proofs.Common.{◌≡◌, ℕ, zero, suc, Bool, true, false, ◌&&◌, ◌+◌, ◌<◌, ◌≤◌, List, [], ◌∷◌, length, get_or, refl, subst, sym, arith}
-use Rattle.type_terms.specs.Terms.{Entry}
-use Rattle.type_terms.specs.Kinds.{ArgHeld, ArgsHeld}
+use Rattle.type_terms.specs.Promised.Handles.{Entry}
+use Rattle.type_terms.specs.Promised.Handles.{ArgHeld, ArgsHeld}
 use Rattle.type_terms.specs.declared.kinds.GenericArgKind.{GenericArgKind}
 use Rattle.infer_table.specs.Leaves.{leaf_label}
 use Rattle.evaluation.specs.Responses.{is_variable, are_variables}

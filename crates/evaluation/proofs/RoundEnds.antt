@@ -1,7 +1,7 @@
 -- How a round ends, goal by goal.
 use Rattle.std.proofs.Common.{◌≡◌, Bool, true, false, ◌||◌, List, [], ◌∷◌, ◌++◌, refl, sym, ◌∙◌, ap, subst, Option, Some, None, Result, Ok, Err}
 use Rattle.std.specs.Borrow.{Bor}
-use Rattle.type_terms.specs.Terms.{Entry, Keeps}
+use Rattle.type_terms.specs.Promised.Handles.{Entry, Keeps}
 use Rattle.type_terms.specs.declared.kinds.GenericArgKind.{GenericArgKind}
 use Rattle.infer_table.specs.Certainties.{joined}
 use Rattle.infer_table.specs.Content.{Table, Ready}

@@ -1,7 +1,7 @@
 -- What rounds do with a table of a frame is what an evaluation does with its content.
 use Rattle.std.proofs.Common.{◌≡◌, Bool, not, List, refl, ◌∙◌, ap, Option, Some, None}
 use Rattle.std.specs.Prelude.{option_map}
-use Rattle.type_terms.specs.Label.{Label}
+use Rattle.type_terms.specs.Promised.Label.{Label}
 use Rattle.infer_table.specs.Canonical.{canonical_form}
 use Rattle.infer_table.specs.Unification.{TableTrees}
 use Rattle.infer_table.specs.declared.canonical.CanonicalVarKind.{CanonicalVarKind}

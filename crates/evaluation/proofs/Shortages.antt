@@ -1,10 +1,10 @@
 -- Where an evaluation ends for want of room.
 use Rattle.std.proofs.Common.{◌≡◌, ℕ, arith, List, ap, sym, ◌∙◌, inl, inr, Result, Ok, Err}
 use Rattle.std.specs.Prelude.{IsErrAnd, IfErr}
-use Rattle.type_terms.specs.Terms.{Entry, types, consts}
+use Rattle.type_terms.specs.Promised.Handles.{Entry, types, consts}
 use Rattle.type_terms.specs.declared.Fault.{Fault}
 use Rattle.type_terms.specs.declared.Fault.TheVariants.{Full, Memory}
-use Rattle.type_terms.specs.Failures.{SomeKindIsFull, full}
+use Rattle.type_terms.specs.Promised.Handles.{SomeKindIsFull, full}
 use Rattle.infer_table.specs.Raw.{IsFull}
 use Rattle.infer_table.specs.declared.certainty.EqError.{EqError}
 use Rattle.infer_table.specs.declared.certainty.EqError.TheVariants as Eq

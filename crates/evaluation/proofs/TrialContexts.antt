@@ -1,7 +1,7 @@
 -- Contexts that are ready.
 use Rattle.std.proofs.Common.{◌≡◌, List, [], sym, subst}
-use Rattle.type_terms.specs.Terms.{Entry}
-use Rattle.type_terms.specs.Kinds.{ArgsHeld}
+use Rattle.type_terms.specs.Promised.Handles.{Entry}
+use Rattle.type_terms.specs.Promised.Handles.{ArgsHeld}
 use Rattle.infer_table.specs.Content.{Ready}
 use Rattle.evaluation.specs.Lists.{Every}
 use Rattle.evaluation.specs.Readings.{ResultHeld}

@@ -1,7 +1,7 @@
 -- Terms for the variables of a goal and of a candidate: the table of the candidate allows those that are given.
 use Rattle.std.proofs.Common.{◌≡◌, ℕ, zero, suc, ◌+◌, arith, true, false, ◌&&◌, List, [], ◌∷◌, ◌++◌, map, length, refl, sym, ◌∙◌, ap, subst, Some, None}
-use Rattle.type_terms.specs.Label.{Sort, of_type, of_const, of_lifetime, infer}
-use Rattle.type_terms.specs.Trees.{Trees, none, tree, is_sort}
+use Rattle.type_terms.specs.Promised.Label.{Sort, of_type, of_const, of_lifetime, infer}
+use Rattle.type_terms.specs.Promised.Trees.{Trees, none, tree, is_sort}
 use Rattle.infer_table.specs.Unification.{TableTrees}
 use Rattle.infer_table.specs.declared.canonical.CanonicalVarKind.{CanonicalVarKind}
 use Rattle.infer_table.specs.declared.canonical.CanonicalVarKind.TheVariants.{Ty, PlaceholderTy, Const, PlaceholderConst, Region}

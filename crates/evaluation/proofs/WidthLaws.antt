@@ -1,7 +1,8 @@
 -- The questions and the answers of a frame's table are no wider than what was put in, nor is what equations and answers leave.
 use Rattle.std.proofs.Common.{◌≡◌, ℕ, ◌+◌, ◌≤◌, arith, Bool, true, false, ◌&&◌, if◌then◌else◌, List, [], ◌∷◌, map, Some, sym, subst, ◌⊎◌, inl, inr}
-use Rattle.type_terms.specs.Label.{Label, of_type, of_const, of_lifetime, infer, param, placeholder, canonical, bound, static}
-use Rattle.type_terms.specs.Trees.{Trees, leaf, sort_of, is_a}
+use Rattle.type_terms.specs.Promised.Label.{Label, of_type, of_const, of_lifetime, infer, param, placeholder, canonical, bound, static}
+use Rattle.type_terms.specs.Promised.Trees.{Trees, leaf, sort_of}
+use Rattle.type_terms.specs.Trees.{is_a}
 use Rattle.infer_table.specs.Canonical.{OpenKinds, kind_of_leaf, kind_in_clause, relabeled, canonical_label, goal_leaves}
 use Rattle.infer_table.specs.Solutions.{Binding, resolved}
 use Rattle.infer_table.specs.Unification.{TableTrees}
@@ -19,7 +20,8 @@ use Rattle.type_terms.specs.Made.{terms, is_made}
 use Rattle.evaluation.specs.Equations.{IsValue}
 use Rattle.evaluation.specs.FrameTables.{FrameTable, Nested, slot_at, goal_in, question, Equation, is_open_label, term_of, in_turn, pairs_in, unknown}
 use Rattle.evaluation.specs.TableAnswers.{own_labels, answer_leaves, respond, is_fitting_answer, put_into, originals_of}
-use Rattle.evaluation.specs.Widths.{width, width_of_predicates, number_of, number_of_values, BindingsWithin, TableWithin, NestedWithin, EquationWithin}
+use Rattle.evaluation.specs.Promised.Widths.{width}
+use Rattle.evaluation.specs.Widths.{width_of_predicates, number_of, number_of_values, BindingsWithin, TableWithin, NestedWithin, EquationWithin}
 use Rattle.evaluation.proofs.Equating.{made-in-turn, with-content-is}
 use Rattle.evaluation.proofs.Fresh.{fresh-made, recorded-made}
 use Rattle.evaluation.specs.TableOperations.{equate, apply, fresh, recorded}

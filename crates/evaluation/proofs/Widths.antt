@@ -2,8 +2,9 @@
 use Rattle.std.proofs.Common.{◌≡◌, ℕ, zero, suc, ◌+◌, ◌≤◌, arith, Bool, true, false, if◌then◌else◌, List, [], ◌∷◌, map, Option, Some, None, refl, sym, ◌∙◌, ap, subst}
 use Rattle.std.specs.Prelude.{is_some, option_map, unwrap_or}
 use Rattle.std.specs.List.{slice_get}
-use Rattle.type_terms.specs.Label.{Label, Sort, of_type, of_const, of_lifetime, infer, bound, canonical, fn_ptr, dynamic, principal, auto_trait, inside}
-use Rattle.type_terms.specs.Trees.{Trees, none, tree, leaf, ◌+++◌, is_sort, sort_of, placed, Single}
+use Rattle.type_terms.specs.Promised.Label.{Label, Sort, of_type, of_const, of_lifetime, infer, bound, canonical, fn_ptr, dynamic, principal, auto_trait, inside}
+use Rattle.type_terms.specs.Promised.Trees.{Trees, none, tree, leaf, ◌+++◌, is_sort, sort_of}
+use Rattle.type_terms.specs.Trees.{placed, Single}
 use Rattle.infer_table.specs.Canonical.{OpenKinds, relabeled}
 use Rattle.infer_table.specs.Solutions.{Binding, is_variable, replace, resolved}
 use Rattle.infer_table.specs.Resolving.{is_root, followed}
@@ -20,7 +21,8 @@ use Rattle.evaluation.specs.Lists.{Every}
 use Rattle.evaluation.specs.Instances.{put_in}
 use Rattle.evaluation.specs.FrameTables.{and_then, in_turn}
 use Rattle.evaluation.proofs.Applying.{for-bindings}
-use Rattle.evaluation.specs.Widths.{count, with_self, width, width_of_predicates, BindingsWithin, number_of_values}
+use Rattle.evaluation.specs.Promised.Widths.{count, with_self, width}
+use Rattle.evaluation.specs.Widths.{width_of_predicates, BindingsWithin, number_of_values}
 
 -- ---- trees
 -- no node has more than n terms

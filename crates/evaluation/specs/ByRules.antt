@@ -1,9 +1,9 @@
 -- Proofs by the rules of a set of crates and of where-clauses.
 use Rattle.std.specs.Prelude.{List}
-use Rattle.type_terms.specs.Worlds.{World, Reference}
-use Rattle.type_terms.specs.Rules.{Way, rules, is_coinductive}
-use Rattle.type_terms.specs.Proofs.{In}
-use Rattle.type_terms.specs.Proofs as Model
+use Rattle.type_terms.specs.Promised.Worlds.{World, Reference}
+use Rattle.type_terms.specs.Promised.Rules.{Way, rules, is_coinductive}
+use Rattle.type_terms.specs.Promised.Proofs.{In}
+use Rattle.type_terms.specs.Promised.Proofs as Model
 use Rattle.evaluation.specs.Proof.{FactHasProof}
 
 -- one of the rules that conclude the reference has these premises

@@ -1,7 +1,7 @@
 -- A candidate that is evaluated in code asks and answers what it does over the tables of frames.
 use Rattle.std.specs.Prelude.{◌≡◌, Bool, List, Option}
-use Rattle.type_terms.specs.Label.{Label}
-use Rattle.type_terms.specs.Trees.{Trees}
+use Rattle.type_terms.specs.Promised.Label.{Label}
+use Rattle.type_terms.specs.Promised.Trees.{Trees}
 use Rattle.infer_table.specs.declared.canonical.CanonicalVarKind.{CanonicalVarKind}
 use Rattle.infer_table.specs.declared.certainty.TypingMode.{TypingMode}
 use Rattle.infer_table.specs.Responses.{AnswerTrees}

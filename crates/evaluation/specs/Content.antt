@@ -1,7 +1,8 @@
 -- What stands for the variables of canonical goals, and for the unknowns of a table.
 use Rattle.std.specs.Prelude.{◌≡◌, ℕ, Bool, true, ◌&&◌, List, [], ◌∷◌, Option, Some, None}
-use Rattle.type_terms.specs.Label.{Label, of_type, of_const, of_lifetime, param, placeholder, infer, canonical, bound, static, of_trait, predicate}
-use Rattle.type_terms.specs.Trees.{Trees, none, tree, leaf, is_a}
+use Rattle.type_terms.specs.Promised.Label.{Label, of_type, of_const, of_lifetime, param, placeholder, infer, canonical, bound, static, of_trait, predicate}
+use Rattle.type_terms.specs.Promised.Trees.{Trees, none, tree, leaf}
+use Rattle.type_terms.specs.Trees.{is_a}
 use Rattle.infer_table.specs.Canonical.{GoalTrees, CanonicalForm}
 use Rattle.infer_table.specs.Solutions.{Assignment, Binding, tree_of}
 use Rattle.infer_table.specs.declared.canonical.CanonicalVarKind.{CanonicalVarKind}

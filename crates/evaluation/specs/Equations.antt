@@ -1,7 +1,8 @@
 -- Equations over the tables of frames: when they hold, and what unification makes of a table.
 use Rattle.std.specs.Prelude.{◌≡◌, ◌<◌, ℕ, Bool, true, Some}
-use Rattle.type_terms.specs.Label.{Label, Sort, of_type, of_const, of_lifetime, infer, param, placeholder}
-use Rattle.type_terms.specs.Trees.{Trees, Single, sort_of}
+use Rattle.type_terms.specs.Promised.Label.{Label, Sort, of_type, of_const, of_lifetime, infer, param, placeholder}
+use Rattle.type_terms.specs.Promised.Trees.{Trees, sort_of}
+use Rattle.type_terms.specs.Trees.{Single}
 use Rattle.infer_table.specs.Solutions.{Binding, HasValues, Acyclic}
 use Rattle.infer_table.specs.Unification.{TableTrees, Worklist, term_sort, unified}
 use Rattle.evaluation.specs.Lists.{Every}

@@ -1,7 +1,7 @@
 -- The values that the variables of a question can have if each is one of given terms: finitely many.
 use Rattle.std.specs.Prelude.{◌≡◌, Bool, true, false, List, [], ◌∷◌, ◌++◌, map, Option}
-use Rattle.type_terms.specs.Label.{of_type, of_const, of_lifetime, placeholder}
-use Rattle.type_terms.specs.Trees.{Trees, leaf}
+use Rattle.type_terms.specs.Promised.Label.{of_type, of_const, of_lifetime, placeholder}
+use Rattle.type_terms.specs.Promised.Trees.{Trees, leaf}
 use Rattle.infer_table.specs.declared.canonical.CanonicalVarKind.{CanonicalVarKind}
 use Rattle.evaluation.specs.Lists.{IsAmong}
 use Rattle.evaluation.specs.Instances.{default_label}

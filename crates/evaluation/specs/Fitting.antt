@@ -1,8 +1,9 @@
 -- What may be put into a table of a frame, as the candidates of a lawful handler are.
 use Rattle.std.specs.Prelude.{◌≡◌, Bool, true, false, List, Option, Some, None}
 use Rattle.std.specs.List.{slice_get}
-use Rattle.type_terms.specs.Label.{Label, Sort, infer, param, placeholder, canonical}
-use Rattle.type_terms.specs.Trees.{Trees, none, tree, sort_of, is_sort, is_a}
+use Rattle.type_terms.specs.Promised.Label.{Label, Sort, infer, param, placeholder, canonical}
+use Rattle.type_terms.specs.Promised.Trees.{Trees, none, tree, sort_of, is_sort}
+use Rattle.type_terms.specs.Trees.{is_a}
 use Rattle.type_terms.specs.Made.{terms, is_leaf_label, is_made}
 use Rattle.infer_table.specs.Canonical.{GoalTrees}
 use Rattle.infer_table.specs.Values.{Value}

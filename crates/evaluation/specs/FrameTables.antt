@@ -1,7 +1,8 @@
 -- The tables of frames: what they hold, as trees, which terms they allow, and what can be done with them.
 use Rattle.std.specs.Prelude.{◌≡◌, ℕ, zero, suc, ltb, Bool, true, false, ◌&&◌, List, [], ◌∷◌, map, Option, Some, None, if◌then◌else◌}
-use Rattle.type_terms.specs.Label.{Label, Sort, of_type, of_const, of_lifetime, param, placeholder, infer, canonical, bound, static}
-use Rattle.type_terms.specs.Trees.{Trees, leaf, sort_of, is_sort, is_a, none}
+use Rattle.type_terms.specs.Promised.Label.{Label, Sort, of_type, of_const, of_lifetime, param, placeholder, infer, canonical, bound, static}
+use Rattle.type_terms.specs.Promised.Trees.{Trees, leaf, sort_of, is_sort, none}
+use Rattle.type_terms.specs.Trees.{is_a}
 use Rattle.infer_table.specs.Canonical.{GoalTrees, canonical_form, goal_leaves}
 use Rattle.infer_table.specs.Solutions.{IsSorted}
 use Rattle.infer_table.specs.Unification.{TableTrees, Worklist, unified}

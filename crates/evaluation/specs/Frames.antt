@@ -1,6 +1,6 @@
 -- The table in which a candidate is evaluated, over trees: what it begins as, and what is done with it.
 use Rattle.std.specs.Prelude.{List, [], ◌∷◌, ◌++◌, map, Option, Some, option_map, option_and_then}
-use Rattle.type_terms.specs.Trees.{Trees, none}
+use Rattle.type_terms.specs.Promised.Trees.{Trees, none}
 use Rattle.infer_table.specs.Content.{Table}
 use Rattle.infer_table.specs.Unification.{TableTrees, unified}
 use Rattle.infer_table.specs.declared.canonical.CanonicalVarKind.{CanonicalVarKind}

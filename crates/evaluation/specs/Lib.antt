@@ -1,3 +1,4 @@
+pub mod Promised
 pub mod Lists
 pub mod Script
 pub mod Frame

@@ -1,7 +1,7 @@
 -- Candidates whose evaluation goes on where it stopped: what is left of it to ask, as a script.
 use Rattle.std.specs.Prelude.{◌≡◌, ◌≤◌, ◌+◌, ℕ, zero, suc, length, not, ◌&&◌, Bool, List, map, Option, Some, None, Result, Ok, Err}
-use Rattle.type_terms.specs.Terms.{Entry}
-use Rattle.type_terms.specs.Kinds.{ArgsHeld}
+use Rattle.type_terms.specs.Promised.Handles.{Entry}
+use Rattle.type_terms.specs.Promised.Handles.{ArgsHeld}
 use Rattle.infer_table.specs.Content.{Ready}
 use Rattle.evaluation.specs.declared.TheConstants.{FIXPOINT_STEP_LIMIT}
 use Rattle.infer_table.specs.Certainties.{joined, is_certain}

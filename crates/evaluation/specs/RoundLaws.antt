@@ -1,6 +1,6 @@
 -- The rounds of an evaluation do what rounds over the tables of frames do.
 use Rattle.std.specs.Prelude.{◌≡◌, Bool, List}
-use Rattle.type_terms.specs.Label.{Label}
+use Rattle.type_terms.specs.Promised.Label.{Label}
 use Rattle.infer_table.specs.Unification.{TableTrees}
 use Rattle.infer_table.specs.declared.canonical.CanonicalVarKind.{CanonicalVarKind}
 use Rattle.infer_table.specs.declared.certainty.TypingMode.{TypingMode}

@@ -1,6 +1,6 @@
 -- How what handlers and frames hold in code is read over the tables of frames: as the trees that it stands for.
 use Rattle.std.specs.Prelude.{◌≡◌, ℕ, Bool, List, [], map, reverse, Option, Some, None, option_map}
-use Rattle.type_terms.specs.Terms.{Entry}
+use Rattle.type_terms.specs.Promised.Handles.{Entry}
 use Rattle.infer_table.specs.declared.terms.Equation as Code
 use Rattle.infer_table.specs.Canonical.{CanonicalForm}
 use Rattle.infer_table.specs.declared.certainty.TypingMode.{TypingMode}
@@ -23,7 +23,6 @@ use Rattle.evaluation.specs.Handler.{Handled}
 use Rattle.evaluation.specs.Readings.{is_coinductive_step}
 use Rattle.evaluation.specs.Table.{workings}
 use Rattle.evaluation.specs.FrameTables.{Nested, Equation}
-pub use Rattle.evaluation.specs.FrameTables.{kinds_known}
 use Rattle.evaluation.specs.Tables.{frame_tables}
 
 abbrev pub equation_read : List Entry → Code.Equation → Equation

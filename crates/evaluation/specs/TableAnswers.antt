@@ -1,7 +1,8 @@
 -- Answers over the tables of frames.
 use Rattle.std.specs.Prelude.{◌≡◌, ℕ, suc, ◌==◌, Bool, true, false, ◌&&◌, not, if◌then◌else◌, List, [], ◌∷◌, map, Option, Some, None}
-use Rattle.type_terms.specs.Label.{Label, Sort, of_type, of_const, of_lifetime, infer, param, placeholder, canonical, bound, static}
-use Rattle.type_terms.specs.Trees.{Trees, none, tree, leaf, ◌+++◌, sort_of, is_sort, is_a}
+use Rattle.type_terms.specs.Promised.Label.{Label, Sort, of_type, of_const, of_lifetime, infer, param, placeholder, canonical, bound, static}
+use Rattle.type_terms.specs.Promised.Trees.{Trees, none, tree, leaf, ◌+++◌, sort_of, is_sort}
+use Rattle.type_terms.specs.Trees.{is_a}
 use Rattle.infer_table.specs.Unification.{TableTrees}
 use Rattle.infer_table.specs.Canonical.{goal_leaves, kind_of_leaf, canonical_label, relabeled, leaves}
 use Rattle.infer_table.specs.Solutions.{Assignment, IsSorted, tree_of, resolved}

@@ -1,6 +1,6 @@
 -- What can be done with the table of a frame.
 use Rattle.std.specs.Prelude.{List, Option, ◌++◌, option_map}
-use Rattle.type_terms.specs.Trees.{Trees}
+use Rattle.type_terms.specs.Promised.Trees.{Trees}
 use Rattle.infer_table.specs.Unification.{TableTrees}
 use Rattle.infer_table.specs.declared.canonical.CanonicalVarKind.{CanonicalVarKind}
 use Rattle.infer_table.specs.Responses.{AnswerTrees}

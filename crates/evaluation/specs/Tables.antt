@@ -1,6 +1,7 @@
 -- The tables of frames, with all that can be done with them.
 use Rattle.std.specs.Prelude.{List, not}
-use Rattle.type_terms.specs.Trees.{Trees, is_no_tree}
+use Rattle.type_terms.specs.Promised.Trees.{Trees}
+use Rattle.type_terms.specs.Trees.{is_no_tree}
 use Rattle.infer_table.specs.declared.canonical.CanonicalVarKind.{CanonicalVarKind}
 use Rattle.infer_table.specs.Responses.{AnswerTrees}
 use Rattle.evaluation.specs.Table.{Tables}

@@ -1,7 +1,7 @@
 -- How a candidate is evaluated, over trees.
 use Rattle.std.specs.Prelude.{List, map, Option, Some, None}
-use Rattle.type_terms.specs.Trees.{Trees}
-use Rattle.type_terms.specs.Terms.{Entry}
+use Rattle.type_terms.specs.Promised.Trees.{Trees}
+use Rattle.type_terms.specs.Promised.Handles.{Entry}
 use Rattle.infer_table.specs.Certainties.{joined}
 use Rattle.infer_table.specs.Constraints.{constraints_trees}
 use Rattle.infer_table.specs.Worklists.{equation_trees}

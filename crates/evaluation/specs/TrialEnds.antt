@@ -1,6 +1,6 @@
 -- How the evaluation of a candidate ends.
 use Rattle.std.specs.Prelude.{◌≡◌, List, Option, Some, Result, Ok, Err}
-use Rattle.type_terms.specs.Terms.{Entry}
+use Rattle.type_terms.specs.Promised.Handles.{Entry}
 use Rattle.infer_table.specs.declared.canonical.CanonicalVarKind.{CanonicalVarKind}
 use Rattle.infer_table.specs.Unification.{table_trees}
 use Rattle.infer_table.specs.Values.{values_of}

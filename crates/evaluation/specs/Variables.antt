@@ -1,7 +1,7 @@
 -- The variables of a goal's terms.
 use Rattle.std.specs.Prelude.{◌≡◌, Bool, true, false, List, ◌⊎◌}
-use Rattle.type_terms.specs.Label.{Label, infer, param, placeholder, canonical}
-use Rattle.type_terms.specs.Trees.{Trees, none, tree}
+use Rattle.type_terms.specs.Promised.Label.{Label, infer, param, placeholder, canonical}
+use Rattle.type_terms.specs.Promised.Trees.{Trees, none, tree}
 use Rattle.infer_table.specs.declared.canonical.CanonicalVarKind.{CanonicalVarKind}
 use Rattle.evaluation.specs.FrameTables.{kind_at}
 use Rattle.evaluation.specs.TableAnswers.{is_kind_of}

@@ -1,11 +1,11 @@
 //! The context of an evaluation: the table, and the goals that are still to be asked.
 ghost use Rattle.type_terms.specs.Growth.{Grew, GrewOrFull};
 ghost use Rattle.std.specs.Prelude.{◌≡◌, List, [], ◌∷◌, ◌++◌, map, take, length, OnOk, OnErr, IfOk, IfErr, Err};
-ghost use Rattle.type_terms.specs.Terms.{Entry};
-ghost use Rattle.type_terms.specs.Kinds.{ArgHeld, ArgsHeld, arg_trees};
+ghost use Rattle.type_terms.specs.Promised.Handles.{Entry};
+ghost use Rattle.type_terms.specs.Promised.Handles.{ArgHeld, ArgsHeld, arg_trees};
 ghost use Rattle.infer_table.specs.Solutions.{HasNoSolution};
 ghost use Rattle.infer_table.specs.Content.{content, Ready, Grows};
-ghost use Rattle.type_terms.specs.Trees.{none};
+ghost use Rattle.type_terms.specs.Promised.Trees.{none};
 ghost use Rattle.infer_table.specs.Values.{values_of};
 ghost use Rattle.infer_table.specs.Raw.{IsFull, variables_from};
 ghost use Rattle.infer_table.specs.Responses.{ResponseHeld, answer_trees};

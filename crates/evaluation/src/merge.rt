@@ -8,7 +8,7 @@ ghost use Rattle.infer_table.specs.Certainties.{all_joined, unsettled};
 ghost use Rattle.evaluation.specs.Merge.{merge_info, merge_by};
 ghost use Rattle.evaluation.specs.Runs.{SaysAllOf};
 ghost use Rattle.evaluation.specs.Responses.{is_always_applicable, ValuesHeld};
-ghost use Rattle.type_terms.specs.Kinds.{ArgsHeld};
+ghost use Rattle.type_terms.specs.Promised.Handles.{ArgsHeld};
 ghost use Rattle.infer_table.specs.Values.{values_of};
 ghost use Rattle.infer_table.specs.Raw.{variables_from, IsFull};
 

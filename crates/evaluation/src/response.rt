@@ -1,8 +1,8 @@
 //! What responses say.
 
 ghost use Rattle.std.specs.Prelude.{◌≡◌, ◌↔◌, ◌+◌, ◌<◌, ◌^◌, length, IsTrue, IfOk};
-ghost use Rattle.type_terms.specs.Label.{Sort};
-ghost use Rattle.type_terms.specs.Kinds.{ArgHeld, ArgsHeld, bound_label};
+ghost use Rattle.type_terms.specs.Promised.Label.{Sort};
+ghost use Rattle.type_terms.specs.Promised.Handles.{ArgHeld, ArgsHeld, bound_label};
 ghost use Rattle.infer_table.specs.Leaves.{leaf_label};
 ghost use Rattle.infer_table.specs.Values.{values_of};
 ghost use Rattle.evaluation.specs.Responses.{is_variable, are_variables, is_identity_modulo_regions, says_nothing, ValuesHeld, content};

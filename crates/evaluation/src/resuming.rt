@@ -1,6 +1,6 @@
 //! Candidates whose evaluation goes on where it stopped.
 ghost use Rattle.std.specs.Prelude.{◌≡◌, ℕ, ◌+◌, ◌*◌, length, ◌∷◌, ◌++◌, [], ◌||◌, true, false, map, option_map, IfOk, IfErr, Some, Err};
-ghost use Rattle.type_terms.specs.Kinds.{ArgsHeld};
+ghost use Rattle.type_terms.specs.Promised.Handles.{ArgsHeld};
 ghost use Rattle.infer_table.specs.Certainties.{joined};
 ghost use Rattle.infer_table.specs.Responses.{answer_trees};
 ghost use Rattle.evaluation.specs.Context.{NestedHeld, GoalIsHeld, nested_goal};

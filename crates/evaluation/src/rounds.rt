@@ -1,9 +1,9 @@
 //! The rounds in which the nested goals of a context are asked, over the replies that are there.
 ghost use Rattle.type_terms.specs.Growth.{GrewOrFull};
 ghost use Rattle.std.specs.Prelude.{◌≡◌, not, List, map, OnOk, IfOk, Ok, Err, Some, None};
-ghost use Rattle.type_terms.specs.Trees.{is_sort};
-ghost use Rattle.type_terms.specs.Terms.{Entry};
-ghost use Rattle.type_terms.specs.Kinds.{ArgsHeld};
+ghost use Rattle.type_terms.specs.Promised.Trees.{is_sort};
+ghost use Rattle.type_terms.specs.Promised.Handles.{Entry};
+ghost use Rattle.type_terms.specs.Promised.Handles.{ArgsHeld};
 ghost use Rattle.infer_table.specs.Content.{Ready, Grows};
 ghost use Rattle.evaluation.specs.Lists.{Every};
 ghost use Rattle.evaluation.specs.Readings.{ResultHeld};

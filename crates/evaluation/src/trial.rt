@@ -1,8 +1,8 @@
 //! Candidates: how their evaluation begins, and evaluated anew over the replies that are there.
 ghost use Rattle.type_terms.specs.Growth.{GrewOrFull};
 ghost use Rattle.std.specs.Prelude.{◌≡◌, ◌*◌, length, map, List, [], ◌∷◌, ◌++◌, OnOk, IfOk, IfErr, Option, Some, None, option_map, Err};
-ghost use Rattle.type_terms.specs.Terms.{Entry};
-ghost use Rattle.type_terms.specs.Kinds.{ArgHeld, ArgsHeld, arg_trees};
+ghost use Rattle.type_terms.specs.Promised.Handles.{Entry};
+ghost use Rattle.type_terms.specs.Promised.Handles.{ArgHeld, ArgsHeld, arg_trees};
 ghost use Rattle.infer_table.specs.Content.{Ready, IsHeldConstraint, AllConstraintsHeld};
 ghost use Rattle.infer_table.specs.Unification.{table_trees, unified};
 ghost use Rattle.infer_table.specs.Goals.{GoalHeld};

@@ -1,7 +1,7 @@
 -- The arguments of a list are the interner's, each at its place.
 use Rattle.std.proofs.Common.{ℕ, zero, suc, ◌<◌, List, [], ◌∷◌, length, slice_index_or, arith}
-use Rattle.type_terms.specs.Terms.{Entry}
-use Rattle.type_terms.specs.Kinds.{ArgHeld, ArgsHeld}
+use Rattle.type_terms.specs.Promised.Handles.{Entry}
+use Rattle.type_terms.specs.Promised.Handles.{ArgHeld, ArgsHeld}
 use Rattle.type_terms.specs.declared.kinds.GenericArgKind.{GenericArgKind}
 
 pub arg-held : (es : List Entry) (xs : List GenericArgKind) (k : ℕ) (d : GenericArgKind) → ArgsHeld es xs → k < length xs → ArgHeld es (slice_index_or xs k d)

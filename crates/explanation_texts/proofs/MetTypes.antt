@@ -1,8 +1,8 @@
 -- The types that a walk met are the interner's, each at its place.
 use Rattle.std.proofs.Common.{ℕ, zero, suc, ◌<◌, List, [], ◌∷◌, length, slice_index_or, arith}
-use Rattle.type_terms.specs.Terms.{Entry}
+use Rattle.type_terms.specs.Promised.Handles.{Entry}
 use Rattle.type_terms.specs.declared.kinds.Ty.{Ty}
-use Rattle.orphan_check.specs.Held.{LeavesHeld, TypeHeld}
+use Rattle.orphan_check.specs.Promised.Errors.{LeavesHeld, TypeHeld}
 use Rattle.orphan_check.specs.declared.errors.IsFirstInputType.{IsFirstInputType}
 
 pub met-held : (es : List Entry) (ps : List (Ty × IsFirstInputType)) (k : ℕ) (d : Ty × IsFirstInputType) → LeavesHeld es ps → k < length ps → TypeHeld es (slice_index_or ps k d).0

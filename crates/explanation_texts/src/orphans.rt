@@ -1,8 +1,8 @@
 //! The text for a header that breaks the orphan rule.
 
 ghost use Rattle.std.specs.Prelude.{IfSome};
-ghost use Rattle.type_terms.specs.Terms.{Has, types};
-ghost use Rattle.orphan_check.specs.Held.{ErrorHeld, LeavesHeld, TypeHeld};
+ghost use Rattle.type_terms.specs.Promised.Handles.{Has, types};
+ghost use Rattle.orphan_check.specs.Promised.Errors.{ErrorHeld, LeavesHeld, TypeHeld};
 
 use crate::failures::has_params;
 use crate::items::{Texts, crate_name, impl_line, name_of, trait_home};

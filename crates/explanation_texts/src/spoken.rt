@@ -1,8 +1,9 @@
 //! Trait references, rendered as text.
 
 ghost use Rattle.std.specs.Prelude.{IfSome};
-ghost use Rattle.type_terms.specs.Kinds.{ArgHeld};
-ghost use Rattle.type_terms.specs.Terms.{Has, args_lists, types};
+ghost use Rattle.type_terms.specs.Promised.Handles.{ArgHeld};
+ghost use Rattle.type_terms.specs.Promised.Handles.{Has, types};
+ghost use Rattle.type_terms.specs.Terms.{args_lists};
 
 use crate::items::Name;
 use crate::sentences::Piece;

@@ -1,6 +1,6 @@
 //! Types as text.
 
-ghost use Rattle.type_terms.specs.Terms.{Has, types};
+ghost use Rattle.type_terms.specs.Promised.Handles.{Has, types};
 
 use answer_lines::{PrintNames, print_type_within};
 use diagnostics::{TYPE_LIMIT, cut_text};

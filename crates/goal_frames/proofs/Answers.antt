@@ -1,8 +1,9 @@
 -- Answers are equal exactly if they say the same, and over a lawful interner exactly if their trees are.
 use Rattle.std.proofs.Common.{◌≡◌, List, [], ◌∷◌, refl, ap, sym}
 use Rattle.std.specs.Bool.{Decides}
-use Rattle.type_terms.specs.Terms.{Entry, Keeps, Lawful, types, consts, trees_at}
-use Rattle.type_terms.specs.Kinds.{ArgHeld, ArgsHeld, region_label, region_trees}
+use Rattle.type_terms.specs.Promised.Handles.{Entry, Keeps, types, consts, trees_at}
+use Rattle.type_terms.specs.Terms.{Lawful}
+use Rattle.type_terms.specs.Promised.Handles.{ArgHeld, ArgsHeld, region_label, region_trees}
 use Rattle.type_terms.specs.declared.region.Region.{Region}
 use Rattle.type_terms.specs.declared.kinds.Ty as ty-module
 use Rattle.type_terms.specs.declared.kinds.GenericArgKind.{GenericArgKind}

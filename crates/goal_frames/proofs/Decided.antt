@@ -1,6 +1,6 @@
 -- The questions that a list of rules asks are decided.
 use Rattle.std.proofs.Common.{◌≡◌, ℕ, Bool, true, List, length, refl, ◌∙◌, ap, Option, Some, None}
-use Rattle.type_terms.specs.Label.{Label, canonical}
+use Rattle.type_terms.specs.Promised.Label.{Label, canonical}
 use Rattle.type_terms.specs.Made.{terms, is_made}
 use Rattle.infer_table.specs.Canonical.{CanonicalForm, canonical_form}
 use Rattle.infer_table.specs.Solutions.{resolved}

@@ -1,7 +1,7 @@
 -- Terms for the unknowns of a goal and of a rule: those that are given.
 use Rattle.std.proofs.Common.{◌≡◌, ℕ, zero, suc, ◌+◌, arith, true, List, [], ◌∷◌, ◌++◌, length, sym, ◌∙◌, ap, subst}
-use Rattle.type_terms.specs.Label.{Sort, of_type, of_const}
-use Rattle.type_terms.specs.Trees.{Trees}
+use Rattle.type_terms.specs.Promised.Label.{Sort, of_type, of_const}
+use Rattle.type_terms.specs.Promised.Trees.{Trees}
 use Rattle.type_terms.specs.Made.{terms, is_made}
 use Rattle.infer_table.specs.declared.canonical.CanonicalVarKind.{CanonicalVarKind}
 use Rattle.infer_table.specs.declared.canonical.CanonicalVarKind.TheVariants.{Ty, PlaceholderTy, Const, PlaceholderConst, Region}

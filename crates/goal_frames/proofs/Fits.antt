@@ -1,6 +1,6 @@
 -- The answers of candidates are well-formed.
 use Rattle.std.proofs.Common.{◌≡◌, List, [], ◌∷◌, refl, subst, Bool, Option, Some, None}
-use Rattle.type_terms.specs.Label.{Label}
+use Rattle.type_terms.specs.Promised.Label.{Label}
 use Rattle.infer_table.specs.declared.canonical.CanonicalVarKind.{CanonicalVarKind}
 use Rattle.infer_table.specs.declared.certainty.TypingMode.{TypingMode}
 use Rattle.infer_table.specs.Responses.{AnswerTrees}

@@ -17,7 +17,7 @@ use Rattle.evaluation.proofs.Finite.{made-of-closed}
 use Rattle.evaluation.proofs.WidthLaws.{respond_within}
 use Rattle.evaluation.specs.Tables.{frame_tables}
 use Rattle.goal_frames.specs.Programs.{SaysNothing}
-use Rattle.evaluation.specs.StepReadings.{kinds_known}
+use Rattle.evaluation.specs.FrameTables.{kinds_known}
 use Rattle.goal_frames.specs.Meanings.{Goals}
 use Rattle.goal_frames.specs.HandlerPrograms.{silent, overflow_answer, cycle_answer, programs_of, HandlersArePrograms, AreLawfulGoals}
 

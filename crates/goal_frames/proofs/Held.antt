@@ -1,6 +1,6 @@
 -- The handles of a frame stay an interner's while it grows.
 use Rattle.std.proofs.Common.{List}
-use Rattle.type_terms.specs.Terms.{Entry, Keeps}
+use Rattle.type_terms.specs.Promised.Handles.{Entry, Keeps}
 use Rattle.infer_table.specs.declared.input.CanonicalInput.{CanonicalInput}
 use Rattle.infer_table.proofs.Numbers.{goal-held-later}
 use Rattle.evaluation.proofs.Contexts.{reply-later}

@@ -4,7 +4,7 @@ use Rattle.infer_table.specs.declared.canonical.CanonicalVarKind.{CanonicalVarKi
 use Rattle.evaluation.specs.Handler.{Handled}
 use Rattle.evaluation.specs.TableOperations.{begin}
 use Rattle.evaluation.specs.Tables.{frame_tables}
-use Rattle.evaluation.specs.StepReadings.{kinds_known}
+use Rattle.evaluation.specs.FrameTables.{kinds_known}
 
 pub all-known : (ks : List CanonicalVarKind) → kinds_known (map Some ks) ≡ ks
 all-known [] = refl

@@ -3,8 +3,9 @@ use Rattle.std.proofs.Common.{◌≡◌, ◌↔◌, ℕ, suc, ◌+◌, arith, �
 use Rattle.std.specs.Prelude.{IfSome}
 use Rattle.std.specs.List.{list_all}
 use Rattle.type_terms.specs.Trees.{is_no_tree}
-use Rattle.type_terms.specs.Terms.{Entry, Lawful}
-use Rattle.type_terms.specs.Kinds.{ArgsHeld}
+use Rattle.type_terms.specs.Promised.Handles.{Entry}
+use Rattle.type_terms.specs.Terms.{Lawful}
+use Rattle.type_terms.specs.Promised.Handles.{ArgsHeld}
 use Rattle.type_terms.specs.declared.kinds.GenericArgKind.{GenericArgKind}
 use Rattle.infer_table.specs.Certainties.{all_joined, unsettled, is_certain}
 use Rattle.infer_table.specs.Constraints.{constraints_trees}

@@ -1,7 +1,8 @@
 -- What a frame does with what its open candidate came to.
 use Rattle.std.proofs.Common.{◌≡◌, ◌∙◌, ℕ, ◌+◌, ◌-◌, ◌*◌, ◌<◌, length, List, [], ◌∷◌, ◌++◌, map, refl, sym, ap, subst, arith, Option, Some, None, Result, Ok, Err}
 use Rattle.std.specs.Prelude.{IfOk, IfErr}
-use Rattle.type_terms.specs.Terms.{Terms, Entry, Keeps}
+use Rattle.type_terms.specs.Terms.{Terms}
+use Rattle.type_terms.specs.Promised.Handles.{Entry, Keeps}
 use Rattle.type_terms.specs.declared.Fault.{Fault}
 use Rattle.type_terms.specs.Growth.{FullAtLimit}
 use Rattle.infer_table.specs.declared.input.CanonicalInput.{CanonicalInput}

@@ -1,9 +1,10 @@
 -- Responses of one interner are the same in code exactly if their trees are.
 use Rattle.std.proofs.Common.{◌≡◌, true, List, [], ◌∷◌, refl, subst}
 use Rattle.std.proofs.lemmas.Bool.Decides.{same_from_decides}
-use Rattle.type_terms.specs.Trees.{is_sort}
+use Rattle.type_terms.specs.Promised.Trees.{is_sort}
 use Rattle.type_terms.specs.Codes.{same}
-use Rattle.type_terms.specs.Terms.{Entry, Lawful}
+use Rattle.type_terms.specs.Promised.Handles.{Entry}
+use Rattle.type_terms.specs.Terms.{Lawful}
 use Rattle.infer_table.specs.declared.canonical.CanonicalVarKind.{CanonicalVarKind}
 use Rattle.infer_table.specs.declared.canonical.CanonicalVarKind.TheVariants.{Ty as TyVariable, PlaceholderTy, Const as ConstVariable, PlaceholderConst, Region as RegionVariable}
 use Rattle.infer_table.specs.declared.certainty.Certainty.{Certainty}

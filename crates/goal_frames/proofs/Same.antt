@@ -1,7 +1,8 @@
 -- Answers that are found to be the same are equal; only definite yeses are always applicable.
 use Rattle.std.proofs.Common.{◌≡◌, ℕ, suc, true, ◌&&◌, not, if◌then◌else◌, List, [], ◌∷◌, refl, ◌∙◌, ap}
-use Rattle.type_terms.specs.Label.{Sort, of_lifetime}
-use Rattle.type_terms.specs.Trees.{Trees, is_sort, is_no_tree}
+use Rattle.type_terms.specs.Promised.Label.{Sort, of_lifetime}
+use Rattle.type_terms.specs.Promised.Trees.{Trees, is_sort}
+use Rattle.type_terms.specs.Trees.{is_no_tree}
 use Rattle.type_terms.specs.Codes.{same}
 use Rattle.type_terms.proofs.Matching.{same-sound}
 use Rattle.infer_table.specs.declared.canonical.CanonicalVarKind.{CanonicalVarKind}

@@ -1,7 +1,7 @@
 -- What the table with which a frame begins answers: each variable stands for itself.
 use Rattle.std.proofs.Common.{◌≡◌, ℕ, suc, ◌+◌, List, [], ◌∷◌, ◌++◌, map, length, refl, sym, ◌∙◌, ap, if◌then◌else◌, is_some, true, Some}
-use Rattle.type_terms.specs.Label.{Label, canonical}
-use Rattle.type_terms.specs.Trees.{none, leaf, sort_of}
+use Rattle.type_terms.specs.Promised.Label.{Label, canonical}
+use Rattle.type_terms.specs.Promised.Trees.{none, leaf, sort_of}
 use Rattle.infer_table.specs.Canonical.{kind_of_leaf, place_of, canonical_label}
 use Rattle.infer_table.specs.declared.canonical.CanonicalVarKind.{CanonicalVarKind}
 use Rattle.infer_table.specs.declared.canonical.CanonicalVarKind.TheVariants.{Ty, PlaceholderTy, Const, PlaceholderConst, Region}

@@ -1,7 +1,7 @@
 -- A rule as a candidate: where its equation holds it is the rule, and its own unknowns are determined by the goal's.
 use Rattle.std.proofs.Common.{◌≡◌, ℕ, Bool, true, false, ◌&&◌, List, [], ◌∷◌, map, length, refl, sym, ◌∙◌, ap, Some, if◌then◌else◌}
-use Rattle.type_terms.specs.Label.{adt, never, of_trait, predicate}
-use Rattle.type_terms.specs.Trees.{Trees, none, tree, leaf}
+use Rattle.type_terms.specs.Promised.Label.{adt, never, of_trait, predicate}
+use Rattle.type_terms.specs.Promised.Trees.{Trees, none, tree, leaf}
 use Rattle.type_terms.specs.Made.{terms, is_made}
 use Rattle.infer_table.specs.Canonical.{CanonicalForm}
 use Rattle.evaluation.specs.Lists.{Every, IsAmong}

@@ -1,7 +1,7 @@
 -- The candidates of a goal are no wider than the goal and the rules, and have no more premises than all rules together.
 use Rattle.std.proofs.Common.{ℕ, suc, ◌+◌, ◌≤◌, arith, Bool, true, false, List, [], ◌∷◌, map, length, inl, inr, sym, subst, if◌then◌else◌}
 use Rattle.std.specs.Prelude.{◌==◌}
-use Rattle.type_terms.specs.Label.{Label, canonical}
+use Rattle.type_terms.specs.Promised.Label.{Label, canonical}
 use Rattle.evaluation.specs.Lists.{Every, IsAmong}
 use Rattle.evaluation.proofs.ListLaws.{Every-mono, Every-map}
 use Rattle.evaluation.specs.Widths.{NestedWithin}

@@ -1,7 +1,7 @@
 -- What a handler's candidates and answers are made of.
 use Rattle.std.specs.Prelude.{List, Option, Some, None}
-use Rattle.type_terms.specs.Label.{Label}
-use Rattle.type_terms.specs.Terms.{Entry}
+use Rattle.type_terms.specs.Promised.Label.{Label}
+use Rattle.type_terms.specs.Promised.Handles.{Entry}
 use Rattle.infer_table.specs.declared.canonical.CanonicalVarKind.{CanonicalVarKind}
 use Rattle.infer_table.specs.declared.terms.Equation.{Equation}
 use Rattle.infer_table.specs.Constraints.{constraints_trees}

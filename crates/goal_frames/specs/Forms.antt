@@ -1,6 +1,6 @@
 -- Which goals a list of rules decides: the canonical forms of goals without where-clauses.
 use Rattle.std.specs.Prelude.{◌≡◌, Bool, true, false, Some}
-use Rattle.type_terms.specs.Label.{Label, canonical}
+use Rattle.type_terms.specs.Promised.Label.{Label, canonical}
 use Rattle.type_terms.specs.Made.{terms, is_made}
 use Rattle.infer_table.specs.Canonical.{canonical_form}
 use Rattle.goal_frames.specs.Rules.{TraitBound, goal_of}

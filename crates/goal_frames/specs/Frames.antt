@@ -1,6 +1,6 @@
 -- What frames in code have heard, and what they ask.
 use Rattle.std.specs.Prelude.{◌≡◌, ℕ, List, [], ◌∷◌, map, Option, option_map, Result, Ok, IfOk}
-use Rattle.type_terms.specs.Terms.{Entry, Keeps}
+use Rattle.type_terms.specs.Promised.Handles.{Entry, Keeps}
 use Rattle.infer_table.specs.declared.certainty.Certainty.{Certainty}
 use Rattle.infer_table.specs.declared.certainty.TypingMode.{TypingMode}
 use Rattle.infer_table.specs.declared.input.CanonicalInput.{CanonicalInput}

@@ -10,7 +10,7 @@ use Rattle.infer_table.specs.declared.certainty.TypingMode.{TypingMode}
 use Rattle.infer_table.specs.declared.certainty.TypingMode.TheVariants.{Coherence, PostAnalysis}
 use Rattle.infer_table.specs.Responses.{AnswerTrees}
 use Rattle.evaluation.specs.Handler.{IsHandler}
-use Rattle.type_terms.specs.Terms.{Entry, Keeps}
+use Rattle.type_terms.specs.Promised.Handles.{Entry, Keeps}
 use Rattle.evaluation.specs.History.{evaluate, asks, CameInOrder}
 use Rattle.evaluation.specs.Promises.{frame_of_goal, Anything, History}
 use Rattle.evaluation.specs.TableAnswers.{respond}
@@ -20,7 +20,7 @@ use Rattle.evaluation.specs.Widths.{number_of}
 use Rattle.evaluation.specs.TableOperations.{begin}
 use Rattle.evaluation.specs.Tables.{frame_tables}
 use Rattle.goal_frames.specs.Programs.{Programs, ArePrograms}
-use Rattle.evaluation.specs.StepReadings.{kinds_known}
+use Rattle.evaluation.specs.FrameTables.{kinds_known}
 use Rattle.goal_frames.specs.Meanings.{Goals, HandlerMeaning}
 
 -- ---- answers that are fixed for each goal

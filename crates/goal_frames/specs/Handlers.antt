@@ -1,7 +1,8 @@
 -- The handler of a goal for a list of rules.
 use Rattle.std.specs.Prelude.{◌≡◌, ℕ, suc, ◌+◌, ◌==◌, max, Bool, true, false, ◌&&◌, ◌||◌, not, if◌then◌else◌, List, [], ◌∷◌, map, length, Option, Some, None, is_some}
-use Rattle.type_terms.specs.Label.{Label, Sort, of_type, of_const, canonical, adt, of_trait, predicate}
-use Rattle.type_terms.specs.Trees.{Trees, none, tree, leaf, is_sort, is_no_tree, some_node}
+use Rattle.type_terms.specs.Promised.Label.{Label, Sort, of_type, of_const, canonical, adt, of_trait, predicate}
+use Rattle.type_terms.specs.Promised.Trees.{Trees, none, tree, leaf, is_sort, some_node}
+use Rattle.type_terms.specs.Trees.{is_no_tree}
 use Rattle.type_terms.specs.Codes.{same}
 use Rattle.type_terms.specs.Made.{terms, is_made}
 use Rattle.infer_table.specs.Canonical.{CanonicalForm}

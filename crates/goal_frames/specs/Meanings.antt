@@ -1,6 +1,6 @@
 -- What handlers of goals mean: the goals, and what is declared by a handler's handles.
 use Rattle.std.specs.Prelude.{Bool, List}
-use Rattle.type_terms.specs.Terms.{Entry}
+use Rattle.type_terms.specs.Promised.Handles.{Entry}
 use Rattle.infer_table.specs.Canonical.{CanonicalForm}
 use Rattle.infer_table.specs.declared.input.CanonicalInput.{CanonicalInput}
 use Rattle.infer_table.specs.declared.certainty.TypingMode.{TypingMode}

@@ -1,6 +1,6 @@
 -- The candidates of a list of rules fit the table of their frame, so that code can evaluate them.
 use Rattle.std.specs.Prelude.{List}
-use Rattle.type_terms.specs.Label.{Label}
+use Rattle.type_terms.specs.Promised.Label.{Label}
 use Rattle.infer_table.specs.Canonical.{CanonicalForm}
 use Rattle.infer_table.specs.declared.canonical.CanonicalVarKind.{CanonicalVarKind}
 use Rattle.evaluation.specs.Lists.{Every}

@@ -1,7 +1,7 @@
 -- Lists of rules over trees, and what they prove.
 use Rattle.std.specs.Prelude.{◌≡◌, ℕ, Bool, true, false, List, map, Option, Some, None}
-use Rattle.type_terms.specs.Label.{Sort, param, placeholder, canonical, of_trait, predicate}
-use Rattle.type_terms.specs.Trees.{Trees, none, tree}
+use Rattle.type_terms.specs.Promised.Label.{Sort, param, placeholder, canonical, of_trait, predicate}
+use Rattle.type_terms.specs.Promised.Trees.{Trees, none, tree}
 use Rattle.type_terms.specs.Made.{terms, is_made}
 use Rattle.infer_table.specs.Canonical.{GoalTrees}
 use Rattle.infer_table.specs.declared.canonical.CanonicalVarKind.{CanonicalVarKind}

@@ -2,7 +2,8 @@
 use Rattle.std.specs.Prelude.{◌≡◌, ◌↔◌, ◌⊎◌, ◌++◌, ◌∷◌, [], ℕ, List, Option, Some, option_map, Result, Ok}
 use Rattle.std.specs.List.{slice_get}
 use Rattle.indexmap.specs.IndexSet.{spare}
-use Rattle.type_terms.specs.Terms.{Entry, Lawful}
+use Rattle.type_terms.specs.Promised.Handles.{Entry}
+use Rattle.type_terms.specs.Terms.{Lawful}
 use Rattle.type_terms.specs.declared.Fault.{Fault}
 use Rattle.infer_table.specs.Canonical.{GoalTrees, CanonicalForm, canonical_form, AreRenamings}
 use Rattle.infer_table.specs.declared.certainty.TypingMode.{TypingMode}

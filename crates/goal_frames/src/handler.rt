@@ -2,7 +2,7 @@
 
 ghost use Rattle.type_terms.specs.Growth.{GrewOrFull};
 ghost use Rattle.std.specs.Prelude.{◌≡◌, List, IfOk};
-ghost use Rattle.type_terms.specs.Terms.{Entry};
+ghost use Rattle.type_terms.specs.Promised.Handles.{Entry};
 ghost use Rattle.infer_table.specs.declared.certainty.TypingMode.{TypingMode};
 ghost use Rattle.infer_table.specs.Canonical.{CanonicalForm};
 ghost use Rattle.infer_table.specs.Goals.{GoalHeld};

@@ -2,7 +2,8 @@
 ghost use Rattle.std.specs.Prelude.{◌≡◌, ◌≤◌, ℕ, List, [], length, Some, IfOk, OnOk, OnErr, Ok, Err, true, false};
 ghost use Rattle.std.specs.List.{slice_get};
 ghost use Rattle.indexmap.specs.IndexSet.{index_set_len, insert_key, contains, spare, IsUnique};
-ghost use Rattle.type_terms.specs.Terms.{Entry, Lawful};
+ghost use Rattle.type_terms.specs.Promised.Handles.{Entry};
+ghost use Rattle.type_terms.specs.Terms.{Lawful};
 ghost use Rattle.type_terms.specs.declared.Fault.TheVariants.{Memory, Full};
 ghost use Rattle.infer_table.specs.Goals.{GoalHeld};
 ghost use Rattle.infer_table.specs.Responses.{ResponseHeld, answer_trees};

@@ -1,6 +1,7 @@
 //! Laws of the numbers of a store.
 ghost use Rattle.std.specs.Prelude.{◌≡◌, ◌↔◌, List, Some, true};
-ghost use Rattle.type_terms.specs.Terms.{Entry, Keeps, Lawful};
+ghost use Rattle.type_terms.specs.Promised.Handles.{Entry, Keeps};
+ghost use Rattle.type_terms.specs.Terms.{Lawful};
 ghost use Rattle.infer_table.specs.Responses.{AnswerTrees};
 ghost use Rattle.goal_frames.specs.declared.store.GoalStore.{GoalStore};
 ghost use Rattle.goal_frames.specs.declared.store.InputId.{InputId};

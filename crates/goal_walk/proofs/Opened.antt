@@ -1,6 +1,6 @@
 -- What is opened over a table stays the interner's while that grows.
 use Rattle.std.proofs.Common.{List, [], ◌∷◌}
-use Rattle.type_terms.specs.Terms.{Entry, Keeps}
+use Rattle.type_terms.specs.Promised.Handles.{Entry, Keeps}
 use Rattle.infer_table.specs.declared.goal.Goal.{Goal}
 use Rattle.infer_table.specs.Goals.{GoalHeld}
 use Rattle.infer_table.proofs.Numbers.{goal-held-later}

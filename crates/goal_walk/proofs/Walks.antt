@@ -1,7 +1,8 @@
 -- What walks keep.
 use Rattle.std.proofs.Common.{◌≡◌, ◌⊎◌, inl, inr, List, [], ◌∷◌, ◌++◌, refl, sym, subst, ◌∙◌, Option, None, Some, IfSome}
 use Rattle.std.proofs.Math.Nat.{le_refl}
-use Rattle.type_terms.specs.Terms.{Entry, Has, Keeps, args_lists}
+use Rattle.type_terms.specs.Promised.Handles.{Entry, Has, Keeps}
+use Rattle.type_terms.specs.Terms.{args_lists}
 use Rattle.type_terms.specs.Kept.{has-later}
 use Rattle.term_folds.specs.declared.predicate.TraitRef.{TraitRef}
 use Rattle.infer_table.specs.Content.{Table, Ready, Grows, variables_of}

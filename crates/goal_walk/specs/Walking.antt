@@ -1,6 +1,7 @@
 -- What a trace needs, and what it preserves.
 use Rattle.std.specs.Prelude.{◌≡◌, List, Option}
-use Rattle.type_terms.specs.Terms.{Entry, Has, Keeps, args_lists}
+use Rattle.type_terms.specs.Promised.Handles.{Entry, Has, Keeps}
+use Rattle.type_terms.specs.Terms.{args_lists}
 use Rattle.term_folds.specs.declared.predicate.TraitRef.{TraitRef}
 use Rattle.infer_table.specs.Content.{Table, Ready, Grows}
 use Rattle.infer_table.specs.Goals.{GoalHeld}

@@ -1,7 +1,7 @@
 //! The answer of a search to a goal of the store.
 
 ghost use Rattle.std.specs.Prelude.{◌≡◌, IfOk, IfSome, Ok};
-ghost use Rattle.type_terms.specs.Kinds.{ArgsHeld};
+ghost use Rattle.type_terms.specs.Promised.Handles.{ArgsHeld};
 ghost use Rattle.infer_table.specs.Goals.{GoalHeld};
 ghost use Rattle.solver_context.specs.Contexts.{IsInput, ResponseIsMade};
 ghost use Rattle.goal_walk.specs.Walking.{WalkIsAskable, WalkHasAsked, IsWalkable};

@@ -1,8 +1,8 @@
 //! The candidates of a goal, one after the other.
 
 ghost use Rattle.std.specs.Prelude.{◌≡◌, List, IfOk, IfSome};
-ghost use Rattle.type_terms.specs.Kinds.{ArgsHeld};
-ghost use Rattle.type_terms.specs.Terms.{Entry};
+ghost use Rattle.type_terms.specs.Promised.Handles.{ArgsHeld};
+ghost use Rattle.type_terms.specs.Promised.Handles.{Entry};
 ghost use Rattle.infer_table.specs.Content.{Ready, Grows};
 ghost use Rattle.solver_context.specs.Contexts.{IsReady, Advances};
 ghost use Rattle.goal_walk.specs.Frames.{IsWalked};

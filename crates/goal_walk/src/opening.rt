@@ -2,7 +2,7 @@
 
 ghost use Rattle.type_terms.specs.Growth.{Grew};
 ghost use Rattle.std.specs.Prelude.{IfOk, IfSome};
-ghost use Rattle.type_terms.specs.Kinds.{ArgHeld, ArgsHeld};
+ghost use Rattle.type_terms.specs.Promised.Handles.{ArgHeld, ArgsHeld};
 ghost use Rattle.infer_table.specs.Content.{Ready, Grows};
 ghost use Rattle.infer_table.specs.Goals.{GoalHeld};
 ghost use Rattle.evaluation.specs.Lists.{Every};

@@ -1,7 +1,7 @@
 //! Traces of goals and of their nested goals.
 
 ghost use Rattle.std.specs.Prelude.{◌≡◌, IfOk, IfSome};
-ghost use Rattle.type_terms.specs.Kinds.{ArgsHeld};
+ghost use Rattle.type_terms.specs.Promised.Handles.{ArgsHeld};
 ghost use Rattle.infer_table.specs.Content.{Table, Grows, place_in};
 ghost use Rattle.infer_table.specs.Goals.{GoalHeld};
 ghost use Rattle.solver_context.specs.Contexts.{IsInput};

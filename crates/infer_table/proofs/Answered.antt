@@ -2,8 +2,8 @@
 use Rattle.std.proofs.Common.{◌≡◌, ℕ, zero, suc, Bool, true, false, refl, ap, sym, ◌∙◌, subst, List, [], ◌∷◌, map, Option, Some, None, is_some, IsSome, if◌then◌else◌, inl, inr}
 use Rattle.std.specs.Prelude.{option_map}
 use Rattle.std.specs.List.{slice_get}
-use Rattle.type_terms.specs.Label.{Label, Sort, of_type, of_const, of_lifetime, infer, param, placeholder, canonical, static}
-use Rattle.type_terms.specs.Trees.{Trees, none, tree, leaf, ◌+++◌, erase_label, sort_of, is_sort}
+use Rattle.type_terms.specs.Promised.Label.{Label, Sort, of_type, of_const, of_lifetime, infer, param, placeholder, canonical, static}
+use Rattle.type_terms.specs.Promised.Trees.{Trees, none, tree, leaf, ◌+++◌, erase_label, sort_of, is_sort}
 use Rattle.type_terms.specs.Codes.{same_label}
 use Rattle.type_terms.proofs.Matching.{same-label-sound}
 use Rattle.infer_table.specs.Solutions.{Assignment, tree_of, instance, IsSorted}

@@ -4,8 +4,8 @@ use Rattle.infer_table.specs.Canonical.{kind_in_clause, kind_of_leaf, GoalTrees}
 use Rattle.infer_table.specs.Solutions.{Binding, resolved, replace}
 use Rattle.infer_table.specs.Values.{Value}
 use Rattle.infer_table.specs.WellFormed.{is_numbered}
-use Rattle.type_terms.specs.Label.{Label, static, infer, of_lifetime, predicate, of_trait}
-use Rattle.type_terms.specs.Trees.{Trees, tree, none}
+use Rattle.type_terms.specs.Promised.Label.{Label, static, infer, of_lifetime, predicate, of_trait}
+use Rattle.type_terms.specs.Promised.Trees.{Trees, tree, none}
 
 pub clause-known : (l : Label) → IsSome (kind_in_clause l) → IsSome (kind_of_leaf l)
 clause-known static h = refl

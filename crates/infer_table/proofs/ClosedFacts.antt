@@ -4,8 +4,9 @@ use Rattle.std.proofs.lemmas.Bool.Decides.{nat_tests}
 use Rattle.std.specs.Prelude.{bit_and, bit_or}
 use Rattle.std.specs.Int.{bit_at}
 use Rattle.std.proofs.lemmas.Nat.Bits.{bit_at_and, bit_at_or, bit_at-zero, same_from_bits}
-use Rattle.type_terms.specs.Label.{Label, of_type, of_const, of_lifetime, infer, param, placeholder, static}
-use Rattle.type_terms.specs.Trees.{Trees, none, tree, flags, label_flags}
+use Rattle.type_terms.specs.Promised.Label.{Label, of_type, of_const, of_lifetime, infer, param, placeholder, static}
+use Rattle.type_terms.specs.Promised.Trees.{Trees, none, tree}
+use Rattle.type_terms.specs.Trees.{flags, label_flags}
 use Rattle.infer_table.specs.Canonical.{kind_in_clause, kind_of_leaf, leaves, relabeled, with_label}
 use Rattle.infer_table.specs.Solutions.{Binding, resolved}
 use Rattle.infer_table.proofs.ResolveFacts.{unknown-free-resolved}

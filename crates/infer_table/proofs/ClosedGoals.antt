@@ -3,10 +3,11 @@ use Rattle.std.proofs.Common.{◌≡◌, ℕ, Bool, true, false, refl, ap, sym, 
 use Rattle.std.proofs.lemmas.Bool.Decides.{nat_tests}
 use Rattle.std.proofs.lemmas.Nat.{le_or_l, le_or_r}
 use Rattle.std.specs.Prelude.{bit_and, bit_or, Result, Ok, Err, IfOk}
-use Rattle.type_terms.specs.Label.{Label, canonical}
-use Rattle.type_terms.specs.Trees.{Trees, none, tree, ◌+++◌, flags, label_flags, placed}
-use Rattle.type_terms.specs.Terms.{Entry, trees_at}
-use Rattle.type_terms.specs.Kinds.{region_trees}
+use Rattle.type_terms.specs.Promised.Label.{Label, canonical}
+use Rattle.type_terms.specs.Promised.Trees.{Trees, none, tree, ◌+++◌}
+use Rattle.type_terms.specs.Trees.{flags, label_flags, placed}
+use Rattle.type_terms.specs.Promised.Handles.{Entry, trees_at}
+use Rattle.type_terms.specs.Promised.Handles.{region_trees}
 use Rattle.type_terms.proofs.InfoFacts.{info-append}
 use Rattle.type_terms.specs.declared.Fault.{Fault}
 use Rattle.term_folds.specs.declared.predicate.Clause.{Clause}

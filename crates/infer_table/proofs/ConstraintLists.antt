@@ -1,10 +1,10 @@
 -- Lists of constraints, mapped and collected one by one.
 use Rattle.std.proofs.Common.{◌≡◌, ℕ, false, zero, suc, ◌+◌, ◌<◌, ◌≤◌, List, [], ◌∷◌, ◌++◌, length, take, drop, get_or, refl, ap, sym, ◌∙◌, subst, arith, None, Option}
 use Rattle.std.proofs.lemmas.Grind.{common_steps}
-use Rattle.type_terms.specs.Label.{Label}
-use Rattle.type_terms.specs.Trees.{Trees, none, tree, ◌+++◌}
-use Rattle.type_terms.specs.Terms.{Entry, Keeps, types}
-use Rattle.type_terms.specs.Kinds.{region_trees}
+use Rattle.type_terms.specs.Promised.Label.{Label}
+use Rattle.type_terms.specs.Promised.Trees.{Trees, none, tree, ◌+++◌}
+use Rattle.type_terms.specs.Promised.Handles.{Entry, Keeps, types}
+use Rattle.type_terms.specs.Promised.Handles.{region_trees}
 use Rattle.term_folds.specs.Folds.{Does, Folds, FoldsEach}
 use Rattle.type_terms.specs.Pieces.{Piece, one_piece, each_piece}
 use Rattle.type_terms.specs.Visits.{VisitsEach}

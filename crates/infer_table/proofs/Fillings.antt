@@ -2,11 +2,13 @@
 use Rattle.std.proofs.Common.{◌≡◌, ℕ, Bool, true, false, refl, ap, sym, ◌∙◌, List, [], ◌∷◌, Option, Some, None, zero, suc, subst, option_map, if◌then◌else◌, ◌&&◌}
 use Rattle.std.specs.Prelude.{bit_and, bit_or}
 use Rattle.std.specs.List.{slice_get}
-use Rattle.type_terms.specs.Label.{Label, Sort, of_type, of_const, of_lifetime, canonical, of_trait, predicate}
-use Rattle.type_terms.specs.Trees.{Trees, none, tree, leaf, ◌+++◌, placed, flags, label_flags, Single}
+use Rattle.type_terms.specs.Promised.Label.{Label, Sort, of_type, of_const, of_lifetime, canonical, of_trait, predicate}
+use Rattle.type_terms.specs.Promised.Trees.{Trees, none, tree, leaf, ◌+++◌}
+use Rattle.type_terms.specs.Trees.{placed, flags, label_flags, Single}
 use Rattle.type_terms.proofs.TreeLaws.{append-none, append-assoc}
-use Rattle.type_terms.specs.Terms.{Entry, trees_at}
-use Rattle.type_terms.specs.Kinds.{ArgHeld, ArgsHeld, region_trees, kind_trees}
+use Rattle.type_terms.specs.Promised.Handles.{Entry, trees_at}
+use Rattle.type_terms.specs.Promised.Handles.{ArgHeld, ArgsHeld, region_trees}
+use Rattle.type_terms.specs.Kinds.{kind_trees}
 use Rattle.type_terms.specs.declared.kinds.GenericArgKind.{GenericArgKind}
 use Rattle.type_terms.specs.declared.kinds.TyKind.{TyKind}
 use Rattle.type_terms.specs.declared.kinds.TyKind.TheVariants.{Bound as KBound}

@@ -2,10 +2,12 @@
 use Rattle.std.proofs.Common.{◌≡◌, ℕ, zero, suc, ◌+◌, Bool, true, false, refl, ap, sym, ◌∙◌, subst, arith, List, [], ◌∷◌, map, drop, Option, Some, None, if◌then◌else◌}
 use Rattle.std.specs.Prelude.{option_map}
 use Rattle.std.specs.List.{slice_get}
-use Rattle.type_terms.specs.Label.{Label, Sort, of_type, of_const, of_lifetime, canonical, static}
-use Rattle.type_terms.specs.Trees.{Trees, leaf, ◌+++◌, sort_of, is_sort}
-use Rattle.type_terms.specs.Terms.{Entry, Lawful}
-use Rattle.type_terms.specs.Kinds.{ArgHeld, ArgsHeld, arg_trees, args_trees, region_label}
+use Rattle.type_terms.specs.Promised.Label.{Label, Sort, of_type, of_const, of_lifetime, canonical, static}
+use Rattle.type_terms.specs.Promised.Trees.{Trees, leaf, ◌+++◌, sort_of, is_sort}
+use Rattle.type_terms.specs.Promised.Handles.{Entry}
+use Rattle.type_terms.specs.Terms.{Lawful}
+use Rattle.type_terms.specs.Promised.Handles.{ArgHeld, ArgsHeld, arg_trees, region_label}
+use Rattle.type_terms.specs.Kinds.{args_trees}
 use Rattle.type_terms.specs.declared.region.RegionKind.{RegionKind}
 use Rattle.type_terms.specs.declared.region.RegionKind.TheVariants.{ReStatic, ReEarlyParam, RePlaceholder, ReBound, ReVar}
 use Rattle.type_terms.specs.declared.number.BoundVarIndexKind.TheVariants.{Canonical, Bound}

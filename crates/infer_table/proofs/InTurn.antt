@@ -1,9 +1,12 @@
 -- Values made equal in turn, and what an applied answer leaves.
 use Rattle.std.proofs.Common.{◌≡◌, ℕ, suc, ◌+◌, ◌<◌, List, [], ◌∷◌, length, drop, get_or, Option, Some, None, refl, ap, sym, ◌∙◌}
 use Rattle.std.specs.Prelude.{option_map, option_and_then}
-use Rattle.type_terms.specs.Trees.{Trees, none, tree, ◌+++◌, Single}
-use Rattle.type_terms.specs.Terms.{Entry, Keeps, Lawful}
-use Rattle.type_terms.specs.Kinds.{ArgHeld, ArgsHeld, arg_trees, args_trees}
+use Rattle.type_terms.specs.Promised.Trees.{Trees, none, tree, ◌+++◌}
+use Rattle.type_terms.specs.Trees.{Single}
+use Rattle.type_terms.specs.Promised.Handles.{Entry, Keeps}
+use Rattle.type_terms.specs.Terms.{Lawful}
+use Rattle.type_terms.specs.Promised.Handles.{ArgHeld, ArgsHeld, arg_trees}
+use Rattle.type_terms.specs.Kinds.{args_trees}
 use Rattle.type_terms.specs.declared.kinds.GenericArgKind.{GenericArgKind}
 use Rattle.type_terms.proofs.Sorts.{arg-single}
 use Rattle.type_terms.specs.Kept.{arg-trees-later}

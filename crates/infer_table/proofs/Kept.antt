@@ -1,8 +1,8 @@
 -- What each step of unification keeps, all of it keeps: something of the table, and of each term that is compared.
 use Rattle.std.proofs.Common.{◌≡◌, ℕ, zero, suc, ◌+◌, ltb, Bool, true, false, [], ◌∷◌, ◌++◌, refl, subst, Option, Some, None, if◌then◌else◌}
 use Rattle.std.specs.Prelude.{option_map, option_and_then}
-use Rattle.type_terms.specs.Label.{Label, Sort, of_type, of_const, of_lifetime}
-use Rattle.type_terms.specs.Trees.{Trees, none, tree, is_sort}
+use Rattle.type_terms.specs.Promised.Label.{Label, Sort, of_type, of_const, of_lifetime}
+use Rattle.type_terms.specs.Promised.Trees.{Trees, none, tree, is_sort}
 use Rattle.type_terms.specs.Codes.{same}
 use Rattle.infer_table.specs.Solutions.{resolved, occurs}
 use Rattle.infer_table.specs.Resolving.{followed}

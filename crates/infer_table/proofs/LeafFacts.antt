@@ -5,12 +5,13 @@ use Rattle.std.specs.List.{list_any, position_or_len, position}
 use Rattle.std.proofs.lemmas.List.Sums.{prefix_len-le-length}
 use Rattle.std.proofs.lemmas.Bool.Decides.{nat_tests}
 use Rattle.indexmap.specs.IndexSet.{insert_key}
-use Rattle.type_terms.specs.Label.{Label, Sort, of_type, of_const, of_lifetime}
-use Rattle.type_terms.specs.Trees.{leaf, sort_of, IsA}
+use Rattle.type_terms.specs.Promised.Label.{Label, Sort, of_type, of_const, of_lifetime}
+use Rattle.type_terms.specs.Promised.Trees.{leaf, sort_of, IsA}
 use Rattle.type_terms.specs.Codes.{same_label}
 use Rattle.type_terms.proofs.Matching.{same-label-sound}
-use Rattle.type_terms.specs.Terms.{Entry, Has, Lawful, types, consts, trees_at}
-use Rattle.type_terms.specs.Kinds.{ArgHeld, ArgsHeld, arg_trees, region_label}
+use Rattle.type_terms.specs.Promised.Handles.{Entry, Has, types, consts, trees_at}
+use Rattle.type_terms.specs.Terms.{Lawful}
+use Rattle.type_terms.specs.Promised.Handles.{ArgHeld, ArgsHeld, arg_trees, region_label}
 use Rattle.type_terms.specs.declared.region.Region.{Region}
 use Rattle.type_terms.specs.declared.region.RegionKind.{RegionKind}
 use Rattle.type_terms.specs.declared.region.RegionKind.TheVariants.{ReBound}

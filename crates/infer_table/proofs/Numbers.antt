@@ -1,9 +1,11 @@
 -- The numbering folder numbers the open leaves.
 use Rattle.std.proofs.Common.{◌≡◌, ℕ, Bool, true, false, refl, ap, sym, ◌∙◌, List, [], ◌∷◌, is_some, if◌then◌else◌, ◌&&◌, zero, suc, ◌+◌, ◌<◌, ◌++◌, length, take, get_or, arith, subst}
-use Rattle.type_terms.specs.Label.{Label, of_trait, predicate}
-use Rattle.type_terms.specs.Trees.{Trees, none, tree, ◌+++◌, Single}
-use Rattle.type_terms.specs.Terms.{Entry, trees_at, Keeps, types, args_lists}
-use Rattle.type_terms.specs.Kinds.{region_trees}
+use Rattle.type_terms.specs.Promised.Label.{Label, of_trait, predicate}
+use Rattle.type_terms.specs.Promised.Trees.{Trees, none, tree, ◌+++◌}
+use Rattle.type_terms.specs.Trees.{Single}
+use Rattle.type_terms.specs.Promised.Handles.{Entry, trees_at, Keeps, types}
+use Rattle.type_terms.specs.Terms.{args_lists}
+use Rattle.type_terms.specs.Promised.Handles.{region_trees}
 use Rattle.term_folds.specs.declared.predicate.Clause.{Clause}
 use Rattle.term_folds.specs.declared.predicate.Clause.TheVariants.{Trait, RegionOutlives, TypeOutlives}
 use Rattle.term_folds.specs.Clauses.{ClauseHeld, clause_outline, clause_pieces, clause-held-later, clause-pieces-later}

@@ -2,9 +2,10 @@
 use Rattle.std.proofs.Common.{◌≡◌, ℕ, ◌+◌, ◌<◌, ◌≤◌, Bool, true, false, refl, ap, sym, ◌∙◌, arith, List, [], ◌∷◌, ◌++◌, subst, nat_eq, inl, inr, ◌||◌, length, get_or, take}
 use Rattle.std.specs.Prelude.{◌⊎◌}
 use Rattle.std.specs.HashSet.{contains}
-use Rattle.type_terms.specs.Label.{of_type, Sort}
-use Rattle.type_terms.specs.Trees.{Trees, none, ◌+++◌}
-use Rattle.type_terms.specs.Terms.{Entry, Has, types, trees_at, Is, Lawful}
+use Rattle.type_terms.specs.Promised.Label.{of_type, Sort}
+use Rattle.type_terms.specs.Promised.Trees.{Trees, none, ◌+++◌}
+use Rattle.type_terms.specs.Promised.Handles.{Entry, Has, types, trees_at, Is}
+use Rattle.type_terms.specs.Terms.{Lawful}
 use Rattle.type_terms.specs.declared.kinds.Ty.{Ty}
 use Rattle.type_terms.specs.declared.entered.Entered.{Entered}
 use Rattle.infer_table.specs.Solutions.{Binding, resolved, occurs, size, AllValued}
@@ -17,7 +18,8 @@ use Rattle.infer_table.proofs.EquationFacts.{arg-single}
 use Rattle.infer_table.proofs.OccurFacts.{filled, rigid-kind, region-occurs}
 use Rattle.infer_table.proofs.PartFacts.{parts-size, parts-occurs}
 use Rattle.type_terms.proofs.Items.{take-push, args-push}
-use Rattle.type_terms.specs.Kinds.{arg_trees, args_trees, kind_trees}
+use Rattle.type_terms.specs.Promised.Handles.{arg_trees}
+use Rattle.type_terms.specs.Kinds.{args_trees, kind_trees}
 use Rattle.type_terms.specs.declared.region.Region.{Region}
 use Rattle.type_terms.specs.declared.number.TyVid.{TyVid}
 use Rattle.type_terms.specs.declared.kinds.TyKind.{TyKind}

@@ -1,9 +1,9 @@
 -- The collector of leaves may enter a type once.
 use Rattle.std.proofs.Common.{◌≡◌, List, [], refl, ap, sym, ◌∙◌, subst, Bool, true, false, Option, if◌then◌else◌, ◌∷◌, ◌++◌}
 use Rattle.std.specs.Prelude.{is_some}
-use Rattle.type_terms.specs.Label.{Label}
-use Rattle.type_terms.specs.Trees.{Trees, none, tree}
-use Rattle.type_terms.specs.Terms.{Entry}
+use Rattle.type_terms.specs.Promised.Label.{Label}
+use Rattle.type_terms.specs.Promised.Trees.{Trees, none, tree}
+use Rattle.type_terms.specs.Promised.Handles.{Entry}
 use Rattle.type_terms.specs.declared.Fault.{Fault}
 use Rattle.type_terms.specs.declared.once.Once.{Once}
 use Rattle.type_terms.specs.declared.visit.Seen.{Seen}

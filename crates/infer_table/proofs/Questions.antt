@@ -2,10 +2,12 @@
 use Rattle.std.proofs.Common.{rules, ◌≡◌, ◌↔◌, ℕ, refl, ap, sym, ◌∙◌, List, [], ◌∷◌, map, Option, Some}
 use Rattle.std.specs.Bool.{Decides}
 use Rattle.std.proofs.lemmas.Slice.Eq.{slice_eq-Decides}
-use Rattle.type_terms.specs.Label.{Label, of_trait, predicate}
-use Rattle.type_terms.specs.Trees.{Trees, none, tree, ◌+++◌, leaf, Single}
-use Rattle.type_terms.specs.Terms.{Entry, Has, Lawful, types, args_lists, trees_at}
-use Rattle.type_terms.specs.Kinds.{region_label}
+use Rattle.type_terms.specs.Promised.Label.{Label, of_trait, predicate}
+use Rattle.type_terms.specs.Promised.Trees.{Trees, none, tree, ◌+++◌, leaf}
+use Rattle.type_terms.specs.Trees.{Single}
+use Rattle.type_terms.specs.Promised.Handles.{Entry, Has, types, trees_at}
+use Rattle.type_terms.specs.Terms.{Lawful, args_lists}
+use Rattle.type_terms.specs.Promised.Handles.{region_label}
 use Rattle.type_terms.specs.declared.TraitId.{TraitId}
 use Rattle.type_terms.specs.declared.region.Region.{Region}
 use Rattle.type_terms.specs.declared.kinds.Ty as ty-module

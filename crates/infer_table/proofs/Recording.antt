@@ -4,11 +4,13 @@ use Rattle.std.specs.Bool.{Decides}
 use Rattle.std.specs.Prelude.{◌||◌}
 use Rattle.std.specs.List.{list_any}
 use Rattle.indexmap.specs.IndexSet.{insert_key, insert_all}
-use Rattle.type_terms.specs.Trees.{Trees, none, tree, ◌+++◌, Single}
+use Rattle.type_terms.specs.Promised.Trees.{Trees, none, tree, ◌+++◌}
+use Rattle.type_terms.specs.Trees.{Single}
 use Rattle.type_terms.specs.Codes.{same}
 use Rattle.type_terms.proofs.Matching.{same-sound}
-use Rattle.type_terms.specs.Terms.{Entry, Lawful, types, trees_at}
-use Rattle.type_terms.specs.Kinds.{region_trees}
+use Rattle.type_terms.specs.Promised.Handles.{Entry, types, trees_at}
+use Rattle.type_terms.specs.Terms.{Lawful}
+use Rattle.type_terms.specs.Promised.Handles.{region_trees}
 use Rattle.type_terms.specs.declared.region.Region.{Region}
 use Rattle.type_terms.specs.declared.kinds.GenericArgKind.TheVariants.{Ty as AType}
 use Rattle.type_terms.proofs.Equal.{both, through}

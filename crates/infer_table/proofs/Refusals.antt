@@ -1,7 +1,7 @@
 -- How forms end without an answer.
 use Rattle.std.proofs.Common.{◌≡◌, ℕ, List, refl, subst, Option, Some}
-use Rattle.type_terms.specs.Trees.{Trees}
-use Rattle.type_terms.specs.Terms.{Entry}
+use Rattle.type_terms.specs.Promised.Trees.{Trees}
+use Rattle.type_terms.specs.Promised.Handles.{Entry}
 use Rattle.type_terms.specs.declared.Fault.{Fault}
 use Rattle.type_terms.specs.declared.Fault.TheVariants.{Memory}
 use Rattle.type_terms.specs.declared.visit.Seen.{Seen}

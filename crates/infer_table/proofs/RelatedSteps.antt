@@ -1,10 +1,11 @@
 -- Pairs that an equation has related, from step to step.
 use Rattle.std.proofs.Common.{◌≡◌, ℕ, suc, ◌+◌, ◌<◌, ◌≤◌, Bool, true, false, refl, ap, sym, ◌∙◌, arith, List, [], ◌∷◌, ◌++◌, length, length-append, subst, ◌⊎◌, inl, inr, if◌then◌else◌, eqb-true}
 use Rattle.std.proofs.lemmas.List.{append_assoc}
-use Rattle.type_terms.specs.Trees.{Trees, none, ◌+++◌}
+use Rattle.type_terms.specs.Promised.Trees.{Trees, none, ◌+++◌}
 use Rattle.type_terms.proofs.TreeLaws.{append-none}
-use Rattle.type_terms.specs.Terms.{Entry, Lawful, Keeps, types, trees_at}
-use Rattle.type_terms.specs.Kinds.{ArgHeld, arg_trees}
+use Rattle.type_terms.specs.Promised.Handles.{Entry, Keeps, types, trees_at}
+use Rattle.type_terms.specs.Terms.{Lawful}
+use Rattle.type_terms.specs.Promised.Handles.{ArgHeld, arg_trees}
 use Rattle.type_terms.specs.Kept.{has-later, trees-later}
 use Rattle.infer_table.specs.Constraints.{constraints_trees}
 use Rattle.infer_table.specs.Content.{Table, content, Ready, Grows}

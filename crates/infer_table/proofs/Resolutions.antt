@@ -1,9 +1,9 @@
 -- Goals resolved by a table.
 use Rattle.std.proofs.Common.{◌≡◌, ℕ, true, refl, ap, sym, ◌∙◌, List, [], ◌∷◌, ◌++◌, length, get_or, take, ◌+◌, ◌<◌}
-use Rattle.type_terms.specs.Label.{Label, of_trait, predicate}
-use Rattle.type_terms.specs.Trees.{Trees, none, tree, ◌+++◌}
-use Rattle.type_terms.specs.Terms.{Entry, Keeps, trees_at}
-use Rattle.type_terms.specs.Kinds.{region_trees}
+use Rattle.type_terms.specs.Promised.Label.{Label, of_trait, predicate}
+use Rattle.type_terms.specs.Promised.Trees.{Trees, none, tree, ◌+++◌}
+use Rattle.type_terms.specs.Promised.Handles.{Entry, Keeps, trees_at}
+use Rattle.type_terms.specs.Promised.Handles.{region_trees}
 use Rattle.term_folds.specs.declared.predicate.Clause.{Clause}
 use Rattle.term_folds.specs.declared.predicate.Clause.TheVariants.{Trait, RegionOutlives, TypeOutlives}
 use Rattle.term_folds.specs.Clauses.{ClauseHeld, clause_outline, clause_pieces, clause-pieces-later}

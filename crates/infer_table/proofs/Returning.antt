@@ -1,10 +1,12 @@
 -- The values of a canonical form, put in for its variables, give the trees back.
 use Rattle.std.proofs.Common.{◌≡◌, zero, suc, Bool, true, false, refl, ap, sym, ◌∙◌, subst, List, [], ◌∷◌, Some, None, is_some, if◌then◌else◌, inl, inr}
-use Rattle.type_terms.specs.Label.{Label, Sort, canonical}
-use Rattle.type_terms.specs.Trees.{Trees, none, tree, leaf, ◌+++◌, sort_of, is_sort, placed}
+use Rattle.type_terms.specs.Promised.Label.{Label, Sort, canonical}
+use Rattle.type_terms.specs.Promised.Trees.{Trees, none, tree, leaf, ◌+++◌, sort_of, is_sort}
+use Rattle.type_terms.specs.Trees.{placed}
 use Rattle.type_terms.specs.Codes.{same_label}
 use Rattle.type_terms.proofs.Matching.{same-label-sound}
-use Rattle.type_terms.specs.Terms.{Entry, Lawful}
+use Rattle.type_terms.specs.Promised.Handles.{Entry}
+use Rattle.type_terms.specs.Terms.{Lawful}
 use Rattle.type_terms.specs.declared.kinds.GenericArgKind.{GenericArgKind}
 use Rattle.infer_table.specs.Canonical.{OpenKinds, GoalTrees, kind_in_clause, kind_of_leaf, leaves, StandsIn, relabeled, renamed, is_among, place_of, canonical_label, goal_leaves, HasNoCanonical}
 use Rattle.infer_table.proofs.CanonicalLaws.{leaves-hold, leaves-keep}

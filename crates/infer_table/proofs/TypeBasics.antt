@@ -8,7 +8,7 @@ use Rattle.infer_table.specs.contracts.canonical.CanonicalVarKindPartialEq.TheIm
 use Rattle.infer_table.specs.declared.canonical.CanonicalVarKind.{CanonicalVarKind}
 use Rattle.infer_table.specs.declared.certainty.Certainty.{Certainty}
 use Rattle.infer_table.specs.declared.certainty.Certainty.TheVariants.{Yes}
-use Rattle.type_terms.specs.Trees.{Trees, none}
+use Rattle.type_terms.specs.Promised.Trees.{Trees, none}
 
 pub kind-eq : (a b : CanonicalVarKind) → Decides (kind.eq a b) (a ≡ b)
 kind-eq a b = search rules

@@ -4,10 +4,13 @@ use Rattle.std.specs.Prelude.{unwrap_or, option_map, IfSome}
 use Rattle.std.specs.Option.{option_or}
 use Rattle.std.proofs.lemmas.Grind.{common_steps}
 use Rattle.std.proofs.lemmas.Bool.{cases_lt}
-use Rattle.type_terms.specs.Label.{Label, of_type, of_const, infer, canonical}
-use Rattle.type_terms.specs.Trees.{Trees, none, tree, ◌+++◌, Single}
-use Rattle.type_terms.specs.Terms.{Entry, Keeps, Lawful}
-use Rattle.type_terms.specs.Kinds.{ArgHeld, ArgsHeld, arg_trees, args_trees}
+use Rattle.type_terms.specs.Promised.Label.{Label, of_type, of_const, infer, canonical}
+use Rattle.type_terms.specs.Promised.Trees.{Trees, none, tree, ◌+++◌}
+use Rattle.type_terms.specs.Trees.{Single}
+use Rattle.type_terms.specs.Promised.Handles.{Entry, Keeps}
+use Rattle.type_terms.specs.Terms.{Lawful}
+use Rattle.type_terms.specs.Promised.Handles.{ArgHeld, ArgsHeld, arg_trees}
+use Rattle.type_terms.specs.Kinds.{args_trees}
 use Rattle.type_terms.specs.declared.kinds.GenericArgKind.{GenericArgKind}
 use Rattle.type_terms.specs.Kept.{arg-held-later, arg-trees-later}
 use Rattle.type_terms.proofs.Sorts.{arg-single}

@@ -1,6 +1,6 @@
 -- Whether an answer is one to a goal, over trees alone.
 use Rattle.std.specs.Prelude.{Bool, true, false, ◌&&◌, List, [], ◌∷◌}
-use Rattle.type_terms.specs.Trees.{is_sort}
+use Rattle.type_terms.specs.Promised.Trees.{is_sort}
 use Rattle.infer_table.specs.Values.{Value}
 use Rattle.infer_table.specs.Responses.{AnswerTrees}
 

@@ -1,8 +1,10 @@
 -- An answer applied to a table, in terms of an interner's handles: what is put in, what is left, and which solutions go on.
 use Rattle.std.specs.Prelude.{◌≡◌, List, map, Option, option_map}
-use Rattle.type_terms.specs.Trees.{Trees}
-use Rattle.type_terms.specs.Terms.{Entry, Keeps, Lawful}
-use Rattle.type_terms.specs.Kinds.{ArgsHeld, args_trees}
+use Rattle.type_terms.specs.Promised.Trees.{Trees}
+use Rattle.type_terms.specs.Promised.Handles.{Entry, Keeps}
+use Rattle.type_terms.specs.Terms.{Lawful}
+use Rattle.type_terms.specs.Promised.Handles.{ArgsHeld}
+use Rattle.type_terms.specs.Kinds.{args_trees}
 use Rattle.type_terms.specs.declared.kinds.GenericArgKind.{GenericArgKind}
 use Rattle.infer_table.specs.Solutions.{Assignment, Binding, IsSorted, Solves, Equates, HasNoSolution, instance}
 use Rattle.infer_table.specs.Content.{Table, content, variables_of, Ready}

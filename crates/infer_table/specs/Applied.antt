@@ -1,6 +1,6 @@
 -- What an applied answer leaves of a table, over trees alone.
 use Rattle.std.specs.Prelude.{List, [], ◌∷◌, Option, Some, None, option_map, option_and_then}
-use Rattle.type_terms.specs.Trees.{Trees, none, tree, ◌+++◌}
+use Rattle.type_terms.specs.Promised.Trees.{Trees, none, tree, ◌+++◌}
 use Rattle.infer_table.specs.Unification.{TableTrees, all_recorded, unified}
 use Rattle.infer_table.specs.Values.{Value, filled}
 use Rattle.infer_table.specs.Responses.{AnswerTrees}

@@ -1,9 +1,9 @@
 -- Which instances of a goal's values an answer covers, and what a table says of its own unknowns.
 use Rattle.std.specs.Prelude.{◌≡◌, ◌<◌, ℕ, List, Some, option_map}
 use Rattle.std.specs.List.{slice_get}
-use Rattle.type_terms.specs.Label.{Sort, of_type, of_const, infer, canonical}
-use Rattle.type_terms.specs.Trees.{Trees, none, tree, erase_label}
-use Rattle.type_terms.specs.Terms.{Entry}
+use Rattle.type_terms.specs.Promised.Label.{Sort, of_type, of_const, infer, canonical}
+use Rattle.type_terms.specs.Promised.Trees.{Trees, none, tree, erase_label}
+use Rattle.type_terms.specs.Promised.Handles.{Entry}
 use Rattle.type_terms.specs.Kinds.{args_trees}
 use Rattle.type_terms.specs.declared.kinds.GenericArgKind.{GenericArgKind}
 use Rattle.infer_table.specs.Solutions.{Assignment, IsSorted, Binding, Solves}

@@ -1,9 +1,9 @@
 -- What collecting and numbering keep to, as the traits of folders and visitors ask.
 use Rattle.std.specs.Prelude.{◌≡◌, ℕ, Bool, true, false, List, [], ◌∷◌, is_some, if◌then◌else◌, ◌&&◌, refl, None}
 use Rattle.std.proofs.Common.{ap, sym, ◌∙◌}
-use Rattle.type_terms.specs.Label.{Label, principal, auto_trait}
-use Rattle.type_terms.specs.Trees.{Trees, none, tree, leaf}
-use Rattle.type_terms.specs.Terms.{Entry, Keeps}
+use Rattle.type_terms.specs.Promised.Label.{Label, principal, auto_trait}
+use Rattle.type_terms.specs.Promised.Trees.{Trees, none, tree, leaf}
+use Rattle.type_terms.specs.Promised.Handles.{Entry, Keeps}
 use Rattle.type_terms.specs.declared.Fault.{Fault}
 use Rattle.type_terms.specs.declared.kinds.GenericArgKind.{GenericArgKind}
 use Rattle.type_terms.specs.declared.visit.Seen.{Seen}

@@ -1,9 +1,10 @@
 -- Open leaves as handles, and how they are collected and numbered.
 use Rattle.std.specs.Prelude.{◌≡◌, ℕ, Bool, true, false, List, [], ◌∷◌, map, is_some, IsSome, if◌then◌else◌, ◌==◌, ◌&&◌, bit_and}
-use Rattle.type_terms.specs.Label.{Label, of_type, never, principal, auto_trait, predicate}
-use Rattle.type_terms.specs.Trees.{Trees, none, tree, leaf, flags, sort_of, is_sort}
-use Rattle.type_terms.specs.Terms.{Entry}
-use Rattle.type_terms.specs.Kinds.{ArgHeld, arg_trees}
+use Rattle.type_terms.specs.Promised.Label.{Label, of_type, never, principal, auto_trait, predicate}
+use Rattle.type_terms.specs.Promised.Trees.{Trees, none, tree, leaf, sort_of, is_sort}
+use Rattle.type_terms.specs.Trees.{flags}
+use Rattle.type_terms.specs.Promised.Handles.{Entry}
+use Rattle.type_terms.specs.Promised.Handles.{ArgHeld, arg_trees}
 use Rattle.type_terms.specs.declared.Fault.{Fault}
 use Rattle.type_terms.specs.declared.Fault.TheVariants.{Memory}
 use Rattle.type_terms.specs.declared.kinds.GenericArgKind.{GenericArgKind}

@@ -2,8 +2,9 @@
 -- `for<'a> fn(&'a u8, for<'b> fn(&'a u8, &'b u8))` opens to `fn(&'?0 u8, for<'b> fn(&'?0 u8, &'b u8))`.
 use Rattle.std.specs.Prelude.{◌≡◌, ℕ, ◌+◌, List, length, cond, ltb, ◌&&◌, ◌==◌, Bool, true, false, refl}
 use Rattle.std.proofs.Common.{ap}
-use Rattle.type_terms.specs.Label.{Label, of_type, of_lifetime, infer, bound, principal, auto_trait, inside}
-use Rattle.type_terms.specs.Trees.{Trees, none, tree, outer_binder, sort_of, is_sort}
+use Rattle.type_terms.specs.Promised.Label.{Label, of_type, of_lifetime, infer, bound, principal, auto_trait, inside}
+use Rattle.type_terms.specs.Promised.Trees.{Trees, none, tree, sort_of, is_sort}
+use Rattle.type_terms.specs.Trees.{outer_binder}
 use Rattle.term_folds.specs.Folds.{Does, enters, puts, again}
 use Rattle.type_terms.specs.Visits.{IsBound}
 

@@ -1,6 +1,6 @@
 -- What opening the binders of types leaves of a table.
 use Rattle.std.specs.Prelude.{◌≡◌, List}
-use Rattle.type_terms.specs.Terms.{Entry, Keeps}
+use Rattle.type_terms.specs.Promised.Handles.{Entry, Keeps}
 use Rattle.infer_table.specs.Content.{Table, Ready, Grows}
 
 -- lifetime variables were added at most, and to the interner terms

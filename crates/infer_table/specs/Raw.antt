@@ -1,8 +1,8 @@
 -- Variables that stand for themselves.
 use Rattle.std.specs.Prelude.{◌≡◌, ℕ, ◌+◌, List, [], ◌∷◌, ◌⊎◌}
-use Rattle.type_terms.specs.Label.{Sort, of_type, of_const, of_lifetime, canonical}
-use Rattle.type_terms.specs.Trees.{leaf}
-use Rattle.type_terms.specs.Terms.{Entry, types, consts, held}
+use Rattle.type_terms.specs.Promised.Label.{Sort, of_type, of_const, of_lifetime, canonical}
+use Rattle.type_terms.specs.Promised.Trees.{leaf}
+use Rattle.type_terms.specs.Promised.Handles.{Entry, types, consts, held}
 use Rattle.infer_table.specs.declared.canonical.CanonicalVarKind.{CanonicalVarKind}
 use Rattle.infer_table.specs.declared.canonical.CanonicalVarKind.TheVariants.{Ty, PlaceholderTy, Const, PlaceholderConst, Region}
 use Rattle.infer_table.specs.Values.{Value}

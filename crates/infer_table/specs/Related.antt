@@ -1,10 +1,10 @@
 -- Pairs of types that an equation has related, and what each of them rests on.
 use Rattle.std.specs.Prelude.{◌≡◌, ◌⊎◌, ◌+◌, ◌≤◌, ◌<◌, ◌&&◌, ℕ, zero, Bool, true, nat_eq, List, [], ◌∷◌, ◌++◌, length, Some, None}
 use Rattle.std.specs.HashSet.{contains}
-use Rattle.type_terms.specs.Label.{of_lifetime}
-use Rattle.type_terms.specs.Trees.{Trees, is_sort}
+use Rattle.type_terms.specs.Promised.Label.{of_lifetime}
+use Rattle.type_terms.specs.Promised.Trees.{Trees, is_sort}
 use Rattle.type_terms.specs.Codes.{same}
-use Rattle.type_terms.specs.Terms.{Entry, Has, types, trees_at}
+use Rattle.type_terms.specs.Promised.Handles.{Entry, Has, types, trees_at}
 use Rattle.infer_table.specs.Solutions.{Binding, HasValues}
 use Rattle.infer_table.specs.Constraints.{constraints_trees}
 use Rattle.infer_table.specs.Content.{Table, content}

@@ -1,11 +1,12 @@
 -- The fold that puts their values in the place of variables.
 use Rattle.std.specs.Prelude.{◌≡◌, ℕ, ◌+◌, suc, List, [], ◌∷◌, cond, ◌==◌, Bool, true, false, if◌then◌else◌, bit_and, refl}
 use Rattle.std.proofs.Common.{arith, sym, subst, ◌<◌, ◌≤◌}
-use Rattle.type_terms.specs.Label.{Label, Sort, of_type, of_const, of_lifetime, infer, principal, auto_trait}
-use Rattle.type_terms.specs.Trees.{Trees, none, tree, leaf, ◌+++◌, flags, sort_of, is_sort}
+use Rattle.type_terms.specs.Promised.Label.{Label, Sort, of_type, of_const, of_lifetime, infer, principal, auto_trait}
+use Rattle.type_terms.specs.Promised.Trees.{Trees, none, tree, leaf, ◌+++◌, sort_of, is_sort}
+use Rattle.type_terms.specs.Trees.{flags}
 use Rattle.term_folds.specs.Folds.{Does, enters, puts, again}
 use Rattle.type_terms.specs.Visits.{IsBound}
-use Rattle.type_terms.specs.Terms.{Entry, Keeps}
+use Rattle.type_terms.specs.Promised.Handles.{Entry, Keeps}
 use Rattle.infer_table.specs.Solutions.{Binding, is_variable, resolved, size}
 use Rattle.infer_table.specs.Content.{Table, content, Ready}
 use Rattle.infer_table.specs.Kept.{content-kept, ready-later}

@@ -1,9 +1,10 @@
 -- Answers as trees, and their canonical form.
 use Rattle.std.specs.Prelude.{◌≡◌, ℕ, List, [], ◌∷◌, ◌++◌, map, Some}
-use Rattle.type_terms.specs.Label.{Label}
-use Rattle.type_terms.specs.Trees.{Trees, none, ◌+++◌}
-use Rattle.type_terms.specs.Terms.{Entry}
-use Rattle.type_terms.specs.Kinds.{ArgsHeld, args_trees}
+use Rattle.type_terms.specs.Promised.Label.{Label}
+use Rattle.type_terms.specs.Promised.Trees.{Trees, none, ◌+++◌}
+use Rattle.type_terms.specs.Promised.Handles.{Entry}
+use Rattle.type_terms.specs.Promised.Handles.{ArgsHeld}
+use Rattle.type_terms.specs.Kinds.{args_trees}
 use Rattle.term_folds.specs.Folds.{Does, FoldsEach}
 use Rattle.infer_table.specs.Canonical.{GoalTrees, CanonicalForm, kind_of_leaf, leaves, canonical_label, relabeled}
 use Rattle.infer_table.specs.Content.{AllConstraintsHeld}

@@ -2,7 +2,7 @@
 use Rattle.std.specs.Prelude.{◌≡◌, IfErr}
 use Rattle.std.specs.declared.result.Result.{Result}
 use Rattle.type_terms.specs.Terms.{Terms}
-use Rattle.type_terms.specs.Failures.{SomeKindIsFull}
+use Rattle.type_terms.specs.Promised.Handles.{SomeKindIsFull}
 use Rattle.type_terms.specs.declared.Fault.TheVariants.{Full}
 use Rattle.type_terms.specs.Growth.{Grew}
 use Rattle.infer_table.specs.declared.certainty.EqError.{EqError}

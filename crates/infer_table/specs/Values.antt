@@ -2,10 +2,11 @@
 use Rattle.std.specs.Prelude.{◌≡◌, ℕ, Bool, true, false, List, [], ◌∷◌, map, Option, Some, None, if◌then◌else◌, ◌==◌, ◌&&◌, bit_and, refl}
 use Rattle.std.specs.List.{slice_get}
 use Rattle.std.proofs.Common.{ap}
-use Rattle.type_terms.specs.Label.{Label, Sort, of_type, of_const, of_lifetime, canonical, principal, auto_trait}
-use Rattle.type_terms.specs.Trees.{Trees, none, tree, ◌+++◌, is_sort, placed, flags}
-use Rattle.type_terms.specs.Terms.{Entry, Keeps}
-use Rattle.type_terms.specs.Kinds.{ArgsHeld, arg_trees}
+use Rattle.type_terms.specs.Promised.Label.{Label, Sort, of_type, of_const, of_lifetime, canonical, principal, auto_trait}
+use Rattle.type_terms.specs.Promised.Trees.{Trees, none, tree, ◌+++◌, is_sort}
+use Rattle.type_terms.specs.Trees.{placed, flags}
+use Rattle.type_terms.specs.Promised.Handles.{Entry, Keeps}
+use Rattle.type_terms.specs.Promised.Handles.{ArgsHeld, arg_trees}
 use Rattle.type_terms.specs.declared.kinds.GenericArgKind.{GenericArgKind}
 use Rattle.type_terms.specs.declared.kinds.GenericArgKind.TheVariants.{Lifetime, Ty, Const}
 use Rattle.term_folds.specs.Folds.{Does, enters, puts, again}

@@ -1,9 +1,11 @@
 //! Answers put into canonical form.
 ghost use Rattle.type_terms.specs.Growth.{GrewOrFull};
 ghost use Rattle.std.specs.Prelude.{◌≡◌, ℕ, List, [], IfOk, IfErr, map, Some};
-ghost use Rattle.type_terms.specs.Trees.{◌+++◌};
-ghost use Rattle.type_terms.specs.Terms.{Has, args_lists, trees_at};
-ghost use Rattle.type_terms.specs.Kinds.{ArgsHeld, args_trees};
+ghost use Rattle.type_terms.specs.Promised.Trees.{◌+++◌};
+ghost use Rattle.type_terms.specs.Promised.Handles.{Has, trees_at};
+ghost use Rattle.type_terms.specs.Terms.{args_lists};
+ghost use Rattle.type_terms.specs.Promised.Handles.{ArgsHeld};
+ghost use Rattle.type_terms.specs.Kinds.{args_trees};
 ghost use Rattle.infer_table.specs.Canonical.{canonical_form, kind_of_leaf, HasNoCanonical};
 ghost use Rattle.infer_table.specs.Content.{Ready, AllConstraintsHeld};
 ghost use Rattle.infer_table.specs.Constraints.{constraints_trees};

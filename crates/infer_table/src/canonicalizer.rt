@@ -1,10 +1,10 @@
 //! Open leaves collected and numbered.
 ghost use Rattle.std.specs.Prelude.{◌≡◌, ◌≤◌, ℕ, Bool, true, List, length, IfOk, IfErr, OnErr, is_some};
 ghost use Rattle.infer_table.specs.LeafLaws.{CollectsEach};
-ghost use Rattle.type_terms.specs.Label.{of_const};
-ghost use Rattle.type_terms.specs.Trees.{sort_of};
-ghost use Rattle.type_terms.specs.Terms.{Has, types, consts, trees_at};
-ghost use Rattle.type_terms.specs.Kinds.{region_label};
+ghost use Rattle.type_terms.specs.Promised.Label.{of_const};
+ghost use Rattle.type_terms.specs.Promised.Trees.{sort_of};
+ghost use Rattle.type_terms.specs.Promised.Handles.{Has, types, consts, trees_at};
+ghost use Rattle.type_terms.specs.Promised.Handles.{region_label};
 ghost use Rattle.infer_table.specs.Canonical.{place_of};
 ghost use Rattle.infer_table.specs.Leaves.{open_kinds, AreLeaves, labels, leaf_label, are_closed_flags, is_closed, is_type_label, IsLeaf, Adds};
 

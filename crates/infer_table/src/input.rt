@@ -1,7 +1,7 @@
 //! Canonical goals.
 ghost use Rattle.type_terms.specs.Growth.{GrewOrFull};
 ghost use Rattle.std.specs.Prelude.{◌≡◌, ◌↔◌, ℕ, List, IfOk, IfErr, IsTrue, IsSome, map, Some};
-ghost use Rattle.type_terms.specs.Kinds.{ArgsHeld};
+ghost use Rattle.type_terms.specs.Promised.Handles.{ArgsHeld};
 ghost use Rattle.infer_table.specs.Content.{Ready};
 ghost use Rattle.infer_table.specs.Canonical.{canonical_label, goal_leaves, renamed, kind_of_leaf};
 ghost use Rattle.infer_table.specs.Goals.{GoalHeld, PredicateHeld, goal_trees, predicate_trees};

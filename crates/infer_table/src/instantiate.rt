@@ -2,9 +2,9 @@
 ghost use Rattle.type_terms.specs.Growth.{GrewOrFull};
 ghost use Rattle.std.specs.Prelude.{◌≡◌, ℕ, List, IfOk, IfSome, option_map};
 ghost use Rattle.std.specs.List.{slice_get};
-ghost use Rattle.type_terms.specs.Label.{of_type, of_const, of_lifetime, canonical};
-ghost use Rattle.type_terms.specs.Terms.{Entry, Has, types, consts, trees_at};
-ghost use Rattle.type_terms.specs.Kinds.{ArgsHeld, RegionHeld, region_trees};
+ghost use Rattle.type_terms.specs.Promised.Label.{of_type, of_const, of_lifetime, canonical};
+ghost use Rattle.type_terms.specs.Promised.Handles.{Entry, Has, types, consts, trees_at};
+ghost use Rattle.type_terms.specs.Promised.Handles.{ArgsHeld, RegionHeld, region_trees};
 ghost use Rattle.infer_table.specs.Goals.{GoalHeld, goal_trees};
 ghost use Rattle.infer_table.specs.Values.{values_of, value_for, goal_filled, are_unbound_flags};
 

@@ -1,6 +1,6 @@
 //! Facts for the prover alone. Each function tells it what its contract says, and does nothing when it runs.
 ghost use Rattle.indexmap.specs.IndexMap.{IsUnique};
-ghost use Rattle.type_terms.specs.Terms.{Is, Has, types, consts};
+ghost use Rattle.type_terms.specs.Promised.Handles.{Is, Has, types, consts};
 ghost use Rattle.type_terms.specs.Kinds.{kind_trees, const_trees};
 ghost use Rattle.type_terms.specs.declared.kinds.TyKind.{TyKind};
 ghost use Rattle.type_terms.specs.declared.kinds.ConstKind.{ConstKind};

@@ -1,8 +1,9 @@
 //! The search for a variable in a type.
 ghost use Rattle.std.specs.Prelude.{◌≡◌, IfOk, OnOk, true, false};
-ghost use Rattle.type_terms.specs.Label.{of_type};
-ghost use Rattle.type_terms.specs.Terms.{Has, types, consts, trees_at};
-ghost use Rattle.type_terms.specs.Kinds.{ArgsHeld, args_trees};
+ghost use Rattle.type_terms.specs.Promised.Label.{of_type};
+ghost use Rattle.type_terms.specs.Promised.Handles.{Has, types, consts, trees_at};
+ghost use Rattle.type_terms.specs.Promised.Handles.{ArgsHeld};
+ghost use Rattle.type_terms.specs.Kinds.{args_trees};
 ghost use Rattle.infer_table.specs.Solutions.{resolved, occurs};
 ghost use Rattle.infer_table.specs.Content.{content, Ready, IsProper};
 ghost use Rattle.infer_table.specs.Occurring.{IsWithout, Pushes, LooksAt};

@@ -1,15 +1,16 @@
 //! The answer that says nothing.
 ghost use Rattle.type_terms.specs.Growth.{Grew};
 ghost use Rattle.std.specs.Prelude.{◌≡◌, ℕ, ◌<◌, List, [], IfOk, OnErr, Err};
-ghost use Rattle.type_terms.specs.Terms.{types, consts, held};
-ghost use Rattle.type_terms.specs.Kinds.{ArgHeld, ArgsHeld, args_trees};
+ghost use Rattle.type_terms.specs.Promised.Handles.{types, consts, held};
+ghost use Rattle.type_terms.specs.Promised.Handles.{ArgHeld, ArgsHeld};
+ghost use Rattle.type_terms.specs.Kinds.{args_trees};
 ghost use Rattle.type_terms.specs.declared.TheConstants.{MAX_INDEX};
 ghost use Rattle.infer_table.specs.Values.{value_of, values_of};
 ghost use Rattle.infer_table.specs.Raw.{variable_value, variables_from, IsFull};
 ghost use Rattle.infer_table.specs.Covers.{AreNumbered};
 ghost use Rattle.infer_table.specs.AnswersApplied.{AgreesWithAllOf};
-ghost use Rattle.type_terms.specs.Label.{canonical};
-ghost use Rattle.type_terms.specs.Trees.{leaf};
+ghost use Rattle.type_terms.specs.Promised.Label.{canonical};
+ghost use Rattle.type_terms.specs.Promised.Trees.{leaf};
 
 use crate::canonical::CanonicalVarKind;
 use crate::certainty::Certainty;

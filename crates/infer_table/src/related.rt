@@ -1,7 +1,7 @@
 //! The pairs of types that an equation has related.
 ghost use Rattle.std.specs.Prelude.{◌≡◌, ◌⊎◌, ◌∷◌, List, [], IsTrue, true, length};
 ghost use Rattle.std.specs.HashSet.{contains};
-ghost use Rattle.type_terms.specs.Terms.{Entry};
+ghost use Rattle.type_terms.specs.Promised.Handles.{Entry};
 ghost use Rattle.infer_table.specs.Content.{Table};
 ghost use Rattle.infer_table.specs.Unification.{Worklist};
 ghost use Rattle.infer_table.specs.Worklists.{equation_trees};

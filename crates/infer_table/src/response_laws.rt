@@ -1,7 +1,7 @@
 //! Laws of answers, over the trees that the contracts speak of: an answer that is applied loses no solution.
 ghost use Rattle.std.specs.Prelude.{◌≤◌, ℕ, List, []};
-ghost use Rattle.type_terms.specs.Label.{Sort};
-ghost use Rattle.type_terms.specs.Trees.{Trees};
+ghost use Rattle.type_terms.specs.Promised.Label.{Sort};
+ghost use Rattle.type_terms.specs.Promised.Trees.{Trees};
 ghost use Rattle.infer_table.specs.Solutions.{Assignment, Binding, Solves, Equates};
 ghost use Rattle.infer_table.specs.Covers.{AreKnown, IsOfKnown};
 ghost use Rattle.infer_table.specs.AnswersApplied.{ApplyingKeepsSolutions, RuledOutAgreesWithNone, ReturningKeepsSolutions, ReturningIsAccepted};

@@ -1,7 +1,7 @@
 //! Canonical variables replaced by new unknowns.
 ghost use Rattle.type_terms.specs.Growth.{GrewOrFull};
 ghost use Rattle.std.specs.Prelude.{◌≡◌, IfOk, OnOk, OnErr, IsErr, IfErr, Err, ◌↔◌, ◌≤◌};
-ghost use Rattle.type_terms.specs.Kinds.{ArgsHeld};
+ghost use Rattle.type_terms.specs.Promised.Handles.{ArgsHeld};
 ghost use Rattle.type_terms.specs.declared.TheConstants.{MAX_INDEX};
 ghost use Rattle.infer_table.specs.Content.{Ready, Grows};
 ghost use Rattle.infer_table.specs.Goals.{GoalHeld, goal_trees};

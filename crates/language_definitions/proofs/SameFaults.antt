@@ -3,11 +3,12 @@ use Rattle.std.proofs.Common.{◌≡◌, ℕ, Bool, true, false, cond, List, [],
 use Rattle.std.specs.Prelude.{◌||◌, ◌&&◌, ◌==◌}
 use Rattle.std.specs.List.{list_any, list_all, flat_map}
 use Rattle.std.proofs.lemmas.List.Folds.{list_any-append, list_all-append}
-use Rattle.text_definitions.specs.Syntax.{Line, crate_line, struct_line, trait_line, impl_line, prove_line, refute_line, later_line, supers_line, bound_item, lifetime_item}
-use Rattle.text_definitions.specs.Declarations.{Declarations}
-use Rattle.text_definitions.specs.Faults.{with_own, is_misplaced, takes_names, uses_unknown, uses_hidden, uses_other_sort, has_free_param, bounds_use_own, is_loaded_auto, is_foreign_auto, implements_built_in, has_stray_variable, refutes_params, has_bad_dyn, passes_limit, fault_of}
-use Rattle.language_definitions.specs.Mentions.{Mention, crate_mention, name_mention, trait_mention, lifetime_mention, binder_mention, variable_mention, misfit_mention, dyn_mention, list_mention, number_mention, type_mention, line_mentions}
-use Rattle.language_definitions.specs.LineFaults.{faults_by_kind, mention_faults, line_fault}
+use Rattle.text_definitions.specs.Promised.Syntax.{Line, crate_line, struct_line, trait_line, impl_line, prove_line, refute_line, later_line, supers_line, bound_item, lifetime_item}
+use Rattle.text_definitions.specs.Promised.Declarations.{Declarations}
+use Rattle.text_definitions.specs.Promised.Faults.{with_own}
+use Rattle.text_definitions.specs.Faults.{is_misplaced, takes_names, uses_unknown, uses_hidden, uses_other_sort, has_free_param, bounds_use_own, is_loaded_auto, is_foreign_auto, implements_built_in, has_stray_variable, refutes_params, has_bad_dyn, passes_limit, fault_of}
+use Rattle.language_definitions.specs.Promised.Mentions.{Mention, crate_mention, name_mention, trait_mention, lifetime_mention, binder_mention, variable_mention, misfit_mention, dyn_mention, list_mention, number_mention, type_mention, line_mentions}
+use Rattle.language_definitions.specs.Promised.LineFaults.{faults_by_kind, mention_faults, line_fault}
 use Rattle.language_definitions.proofs.SameFaultsOrder.{has, is-eq, holds, is_a_number, first_number, smallest-is}
 use Rattle.language_definitions.proofs.SameFaultsNames.{any-flat, any-none, misplaced-is, takes_param, takes-is, unknowns-are, unseen-are, other-sorts-are}
 use Rattle.language_definitions.proofs.SameFaultsKinds.{free-param-is, own-name-is, loaded-is, foreign-auto-is, built-in-is, asked-variables, of_two_kinds, has_other, stray-is, refutes-is}

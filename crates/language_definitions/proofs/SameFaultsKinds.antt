@@ -8,14 +8,15 @@ use Rattle.std.proofs.lemmas.Grind.{flat_map-append}
 use Rattle.std.proofs.lemmas.List.{append-nil}
 use Rattle.std.proofs.lemmas.List.Folds.{list_any-append}
 use Rattle.std.proofs.lemmas.Slice.Eq.{bytes_eq-Decides}
-use Rattle.type_terms.specs.Label.{Sort}
-use Rattle.type_terms.specs.Trees.{is_sort}
-use Rattle.text_definitions.specs.Syntax.{TypeTree, named, Params, Clause, Bound, Line, crate_line, struct_line, trait_line, impl_line, prove_line, refute_line, later_line, supers_line}
-use Rattle.text_definitions.specs.Declarations.{Declarations, Known, a_crate, a_struct, a_trait, known, kinds_of, impl_owner}
+use Rattle.type_terms.specs.Promised.Label.{Sort}
+use Rattle.type_terms.specs.Promised.Trees.{is_sort}
+use Rattle.text_definitions.specs.Promised.Syntax.{TypeTree, named, Params, Clause, Bound, Line, crate_line, struct_line, trait_line, impl_line, prove_line, refute_line, later_line, supers_line}
+use Rattle.text_definitions.specs.Promised.Declarations.{Declarations, Known, a_crate, a_struct, a_trait, known, kinds_of, impl_owner}
 use Rattle.text_definitions.specs.Uses.{Use, name_use, trait_use, uses, asked_uses, header_uses, clause_uses, bound_uses}
-use Rattle.text_definitions.specs.Faults.{is_among, with_own, takes_names, is_param, is_other_sort, uses_other_sort, is_name_use, has_free_param, is_use_of, bounds_use_own, is_loaded_auto, is_auto_name, is_struct_in, is_own_struct, is_foreign_auto, is_built_in, built_in_traits, implements_built_in, variables_in, has_stray_variable, refutes_params}
-use Rattle.language_definitions.specs.Mentions.{Mention, crate_mention, name_mention, trait_mention, lifetime_mention, binder_mention, variable_mention, misfit_mention, dyn_mention, list_mention, number_mention, type_mention, line_mentions, asked_mentions, bound_mentions, header_mentions}
-use Rattle.language_definitions.specs.LineFaults.{names_among, heads_own_struct, faults_by_kind, variables_among}
+use Rattle.text_definitions.specs.Promised.Faults.{is_among, with_own, is_auto_name, built_in_traits}
+use Rattle.text_definitions.specs.Faults.{takes_names, is_param, is_other_sort, uses_other_sort, is_name_use, has_free_param, is_use_of, bounds_use_own, is_loaded_auto, is_struct_in, is_own_struct, is_foreign_auto, is_built_in, implements_built_in, variables_in, has_stray_variable, refutes_params}
+use Rattle.language_definitions.specs.Promised.Mentions.{Mention, crate_mention, name_mention, trait_mention, lifetime_mention, binder_mention, variable_mention, misfit_mention, dyn_mention, list_mention, number_mention, type_mention, line_mentions, asked_mentions, bound_mentions, header_mentions}
+use Rattle.language_definitions.specs.Promised.LineFaults.{names_among, heads_own_struct, faults_by_kind, variables_among}
 use Rattle.language_definitions.proofs.SameMentions.{as_uses, mentions-are, asked-mentions-are, bound-mentions-are, header-mentions-are, other-variables}
 use Rattle.language_definitions.proofs.SameFaultsOrder.{or-true, holds}
 use Rattle.language_definitions.proofs.SameFaultsNames.{any-given, any-flat, lifted, param-unknown}

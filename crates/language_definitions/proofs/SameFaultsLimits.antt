@@ -6,13 +6,14 @@ use Rattle.std.specs.List.{list_any}
 use Rattle.std.proofs.lemmas.Bool.Decides.{nat_tests}
 use Rattle.std.proofs.lemmas.Cmp.{nat_list_eq_equiv}
 use Rattle.std.proofs.lemmas.Slice.Eq.{bytes_eq-Decides}
-use Rattle.type_terms.specs.Label.{of_type, of_const, of_lifetime}
-use Rattle.text_definitions.specs.Syntax.{Params, Line, crate_line, struct_line, trait_line, impl_line, prove_line, refute_line, later_line, supers_line, Item, bound_item, lifetime_item}
-use Rattle.text_definitions.specs.Declarations.{Declarations, kinds_of, names_of, last_later}
+use Rattle.type_terms.specs.Promised.Label.{of_type, of_const, of_lifetime}
+use Rattle.text_definitions.specs.Promised.Syntax.{Params, Line, crate_line, struct_line, trait_line, impl_line, prove_line, refute_line, later_line, supers_line, Item, bound_item, lifetime_item}
+use Rattle.text_definitions.specs.Promised.Declarations.{Declarations, kinds_of, names_of, last_later}
 use Rattle.text_definitions.specs.Uses.{ItemShape, bound_shape, item_shape, has_names, uses, asked_uses, params_of, declared_name, types_count, line_depth}
-use Rattle.text_definitions.specs.Faults.{is_among, with_own, uses_other_sort, is_auto_name, variables_in, is_bound, is_late, binds_auto, has_early_lifetime, is_bad_dyn, has_bad_dyn, is_long, passes_in, once, last_items, is_full, parts, passes_limit}
-use Rattle.language_definitions.specs.Mentions.{Mention, crate_mention, name_mention, trait_mention, lifetime_mention, binder_mention, variable_mention, misfit_mention, dyn_mention, list_mention, number_mention, type_mention, line_mentions, line_params}
-use Rattle.language_definitions.specs.LineFaults.{faults_by_kind, can_follow, mention_faults}
+use Rattle.text_definitions.specs.Promised.Faults.{is_among, with_own, is_auto_name, last_items}
+use Rattle.text_definitions.specs.Faults.{uses_other_sort, variables_in, is_bound, is_late, binds_auto, has_early_lifetime, is_bad_dyn, has_bad_dyn, is_long, passes_in, once, is_full, parts, passes_limit}
+use Rattle.language_definitions.specs.Promised.Mentions.{Mention, crate_mention, name_mention, trait_mention, lifetime_mention, binder_mention, variable_mention, misfit_mention, dyn_mention, list_mention, number_mention, type_mention, line_mentions, line_params}
+use Rattle.language_definitions.specs.Promised.LineFaults.{faults_by_kind, can_follow, mention_faults}
 use Rattle.language_definitions.proofs.SameMentions.{as_uses, types-counted, params-same}
 use Rattle.language_definitions.proofs.SameMentionsDepth.{is_deeper, depth-agrees}
 use Rattle.language_definitions.proofs.SameFaultsOrder.{or-true, holds}

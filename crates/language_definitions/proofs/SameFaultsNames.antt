@@ -7,14 +7,15 @@ use Rattle.std.proofs.lemmas.Cmp.{nat_list_eq_equiv}
 use Rattle.std.proofs.lemmas.List.{append-nil}
 use Rattle.std.proofs.lemmas.List.Folds.{list_any-append}
 use Rattle.std.proofs.lemmas.Slice.Eq.{bytes_eq-Decides}
-use Rattle.type_terms.specs.Label.{Sort, of_type, of_const, of_lifetime}
-use Rattle.type_terms.specs.Worlds.{World, CrateDecl, sees, sees_within}
-use Rattle.text_definitions.specs.Syntax.{Line, crate_line, struct_line, trait_line, impl_line, prove_line, refute_line, later_line, supers_line, bound_item, lifetime_item}
-use Rattle.text_definitions.specs.Declarations.{Declarations, NamedCrate, NamedStruct, NamedTrait, Known, a_crate, a_struct, a_trait, known, world_of, impl_owner}
+use Rattle.type_terms.specs.Promised.Label.{Sort, of_type, of_const, of_lifetime}
+use Rattle.type_terms.specs.Promised.Worlds.{World, CrateDecl, sees, sees_within}
+use Rattle.text_definitions.specs.Promised.Syntax.{Line, crate_line, struct_line, trait_line, impl_line, prove_line, refute_line, later_line, supers_line, bound_item, lifetime_item}
+use Rattle.text_definitions.specs.Promised.Declarations.{Declarations, NamedCrate, NamedStruct, NamedTrait, Known, a_crate, a_struct, a_trait, known, world_of, impl_owner}
 use Rattle.text_definitions.specs.Uses.{Use, uses, params_of}
-use Rattle.text_definitions.specs.Faults.{is_among, repeats, static_name, with_own, is_misplaced, declares_taken, is_taken_param, is_in_scope, is_taken_binder, takes_names, is_param, is_known_name, is_unknown_use, uses_unknown, number_of_crate, looking_crate, home_of, is_hidden_name, is_hidden_use, uses_hidden, is_crate, is_type_of, is_trait_of, is_param_of, is_other_sort, uses_other_sort}
-use Rattle.language_definitions.specs.Mentions.{Mention, crate_mention, name_mention, trait_mention, lifetime_mention, binder_mention, variable_mention, misfit_mention, dyn_mention, list_mention, number_mention, type_mention, line_mentions, line_params}
-use Rattle.language_definitions.specs.LineFaults.{faults_by_kind, mention_faults, lifetimes_in_scope, is_unknown_name, is_out_of_sight, is_unseen_name, fits_place}
+use Rattle.text_definitions.specs.Promised.Faults.{is_among, repeats, with_own}
+use Rattle.text_definitions.specs.Faults.{static_name, is_misplaced, declares_taken, is_taken_param, is_in_scope, is_taken_binder, takes_names, is_param, is_known_name, is_unknown_use, uses_unknown, number_of_crate, looking_crate, home_of, is_hidden_name, is_hidden_use, uses_hidden, is_crate, is_type_of, is_trait_of, is_param_of, is_other_sort, uses_other_sort}
+use Rattle.language_definitions.specs.Promised.Mentions.{Mention, crate_mention, name_mention, trait_mention, lifetime_mention, binder_mention, variable_mention, misfit_mention, dyn_mention, list_mention, number_mention, type_mention, line_mentions, line_params}
+use Rattle.language_definitions.specs.Promised.LineFaults.{faults_by_kind, mention_faults, lifetimes_in_scope, is_unknown_name, is_out_of_sight, is_unseen_name, fits_place}
 use Rattle.language_definitions.proofs.SameMentions.{as_uses, mentions-are, params-same}
 use Rattle.language_definitions.proofs.SameFaultsPlaces.{at_lifetime, is_misfit, Covered, line-covered}
 use Rattle.language_definitions.proofs.SameFaultsOrder.{or-true, holds}

@@ -1,11 +1,12 @@
 -- How a line is written, said by tests of its pieces and by tokens: the same. So are the lines of a text.
 use Rattle.std.proofs.Common.{◌≡◌, ℕ, Bool, true, List, [], ◌∷◌, cond, eqb, refl, sym, ap, ◌∙◌, subst}
 use Rattle.std.specs.List.{AllZip, onto_first}
-use Rattle.text_definitions.specs.Syntax.{Line, spelling}
+use Rattle.text_definitions.specs.Promised.Syntax.{Line}
+use Rattle.text_definitions.specs.Syntax.{spelling}
 use Rattle.text_definitions.specs.Tokens.{pieces, tokens_of}
 use Rattle.text_definitions.specs.Written.{IsWritten}
 use Rattle.text_definitions.specs.Text.{lines_of, onto_line}
-use Rattle.language_definitions.specs.Grammar.{PieceTests, pieces_of, BytesSay, text_lines}
+use Rattle.language_definitions.specs.Promised.Grammar.{PieceTests, pieces_of, BytesSay, text_lines}
 use Rattle.language_definitions.proofs.SameGrammarTests.{tests_of, line-same}
 use Rattle.language_definitions.proofs.SameGrammarPieces.{fine, pieces-same}
 use Rattle.language_definitions.proofs.SameGrammarTokens.{passed-read, read-passed}

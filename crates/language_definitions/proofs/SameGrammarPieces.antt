@@ -4,7 +4,7 @@ use Rattle.std.proofs.lemmas.Bool.{eqb-true, ne_eqb, cond_both, cond-true, cond-
 use Rattle.std.specs.List.{onto_first}
 use Rattle.text_definitions.specs.Words.{is_word_byte}
 use Rattle.text_definitions.specs.Tokens.{LinePiece, word, quoted, queried, pointing, byte, onto, before, pieces}
-use Rattle.language_definitions.specs.Grammar.{in_one_piece, pieces_of}
+use Rattle.language_definitions.specs.Promised.Grammar.{in_one_piece, pieces_of}
 
 -- without spaces
 abbrev pub texts : List LinePiece → List (List ℕ)

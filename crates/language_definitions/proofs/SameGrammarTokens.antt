@@ -11,13 +11,13 @@ use Rattle.std.specs.List.{AllByRecursion, AllZip, list_all, list_any}
 use Rattle.std.specs.Option.{option_map, option_map_or}
 use Rattle.std.specs.Prelude.{slice_get, ◌==◌}
 use Rattle.std.specs.Str.Parse.{digits_value, digits_value_after}
-use Rattle.type_terms.specs.Label.{Label}
+use Rattle.type_terms.specs.Promised.Label.{Label}
 use Rattle.type_terms.specs.Codes.{same_label}
 use Rattle.type_terms.proofs.Matching.{same-label-sound}
 use Rattle.type_terms.proofs.Applies.{same-label-itself}
 use Rattle.text_definitions.specs.Words.{is_word_byte, is_digit, Keyword, keyword_text, keywords, keyword_named, primitive_named, primitives, Sign, signs, crate_word, uses_word, fundamental_word, struct_word, auto_word, trait_word, impl_word, for_word, where_word, prove_word, refute_word, in_word, mut_word, const_word, fn_word, dyn_word, later_word, supers_word, open_angle, close_angle, open_round, close_round, open_square, close_square, comma, colon, semicolon, ampersand, star, plus, exclamation}
 use Rattle.text_definitions.specs.Tokens.{Token, keyword, primitive, name, lifetime, variable, number, sign, arrow, LinePiece, word, quoted, queried, pointing, byte, number_from, name_token, word_token, as_lifetime, as_variable, sign_token, in_front, tokens_from}
-use Rattle.language_definitions.specs.Grammar.{primitive_names, reserved_words}
+use Rattle.language_definitions.specs.Promised.Grammar.{primitive_names, reserved_words}
 use Rattle.language_definitions.proofs.SameGrammarTests.{sign_text, begins_name, is_free, is_primitive, test_of, tests_of}
 use Rattle.language_definitions.proofs.SameGrammarPieces.{texts, Fine}
 use Rattle.type_terms.proofs.ListBasics.{any-mapped}

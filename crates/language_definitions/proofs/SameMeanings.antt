@@ -4,18 +4,20 @@ use Rattle.std.specs.Prelude.{if◌then◌else◌}
 use Rattle.std.specs.List.{fold, list_any, flat_map}
 use Rattle.std.specs.Option.{option_map_or}
 use Rattle.std.specs.Str.{bytes_eq}
-use Rattle.type_terms.specs.Label.{Label, Sort, of_type, param, placeholder}
-use Rattle.type_terms.specs.Trees.{Trees, leaf}
-use Rattle.type_terms.specs.Worlds.{Reference}
-use Rattle.text_definitions.specs.Syntax.{Params, Clause, Line, crate_line, struct_line, trait_line, impl_line, prove_line, refute_line, later_line, supers_line}
-use Rattle.text_definitions.specs.Declarations.{Declarations, NamedImpl, Variable, of_later, of_supers, known, kinds_of, names_of, sorted_names, last_crate, last_later, impl_owner}
+use Rattle.type_terms.specs.Promised.Label.{Label, Sort, of_type, param, placeholder}
+use Rattle.type_terms.specs.Promised.Trees.{Trees, leaf}
+use Rattle.type_terms.specs.Promised.Worlds.{Reference}
+use Rattle.text_definitions.specs.Promised.Syntax.{Params, Clause, Line, crate_line, struct_line, trait_line, impl_line, prove_line, refute_line, later_line, supers_line}
+use Rattle.text_definitions.specs.Promised.Declarations.{Declarations, NamedImpl, Variable, of_later, of_supers, known, kinds_of, names_of, last_crate, last_later, impl_owner}
+use Rattle.text_definitions.specs.Declarations.{sorted_names}
 use Rattle.text_definitions.specs.Uses.{Use, crate_use, name_use, trait_use, lifetime_use, binder_use, variable_use, misfit_use, dyn_use, items_use, number_use, uses, type_uses, bound_uses, clause_uses, header_uses, params_of}
-use Rattle.text_definitions.specs.Faults.{first_of, tests, fault_of, declares_taken, is_taken_param, is_taken_binder, is_unknown_use, is_other_sort, is_bad_dyn, is_among, repeats, static_name, is_in_scope, is_crate, is_type_of, is_trait_of, is_param, is_param_of, with_own, variables_in, once}
+use Rattle.text_definitions.specs.Faults.{first_of, tests, fault_of, declares_taken, is_taken_param, is_taken_binder, is_unknown_use, is_other_sort, is_bad_dyn, static_name, is_in_scope, is_crate, is_type_of, is_trait_of, is_param, is_param_of, variables_in, once}
+use Rattle.text_definitions.specs.Promised.Faults.{is_among, repeats, with_own}
 use Rattle.text_definitions.specs.Lowering.{crate_number, clause_reference}
 use Rattle.text_definitions.specs.Adding.{added, item_meanings, question_meanings}
-use Rattle.language_definitions.specs.LineMeanings.{named_params, means, own_param, as_trees, bound_meaning, clause_meaning, with_line}
-use Rattle.language_definitions.specs.LineFaults.{variables_among}
-use Rattle.language_definitions.specs.Mentions.{clause_mentions}
+use Rattle.language_definitions.specs.Promised.LineMeanings.{named_params, means, own_param, as_trees, bound_meaning, clause_meaning, with_line}
+use Rattle.language_definitions.specs.Promised.LineFaults.{variables_among}
+use Rattle.language_definitions.specs.Promised.Mentions.{clause_mentions}
 use Rattle.language_definitions.proofs.SameFaultsKinds.{variables-of}
 use Rattle.language_definitions.proofs.SameMentions.{clause-mentions-are}
 use Rattle.language_definitions.proofs.SameMeaningsVariables.{as-variables, each-once}

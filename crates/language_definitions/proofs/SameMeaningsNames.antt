@@ -5,13 +5,14 @@ use Rattle.std.proofs.lemmas.List.Folds.{list_any-append}
 use Rattle.std.specs.Prelude.{if◌then◌else◌, nat_lt, position, option_map}
 use Rattle.std.specs.List.{list_any, position_or_len}
 use Rattle.std.specs.Str.{bytes_eq}
-use Rattle.type_terms.specs.Label.{Label, Sort, of_type, of_const, of_lifetime}
-use Rattle.type_terms.specs.Trees.{is_sort}
-use Rattle.text_definitions.specs.Syntax.{Params}
-use Rattle.text_definitions.specs.Declarations.{with_sort, kinds_of, names_of}
-use Rattle.text_definitions.specs.Faults.{is_among}
+use Rattle.type_terms.specs.Promised.Label.{Label, Sort, of_type, of_const, of_lifetime}
+use Rattle.type_terms.specs.Promised.Trees.{is_sort}
+use Rattle.text_definitions.specs.Promised.Syntax.{Params}
+use Rattle.text_definitions.specs.Declarations.{with_sort}
+use Rattle.text_definitions.specs.Promised.Declarations.{kinds_of, names_of}
+use Rattle.text_definitions.specs.Promised.Faults.{is_among}
 use Rattle.text_definitions.specs.Lowering.{place_among}
-use Rattle.language_definitions.specs.LineMeanings.{named_params, own_param}
+use Rattle.language_definitions.specs.Promised.LineMeanings.{named_params, own_param}
 use Rattle.type_terms.proofs.ListBasics.{map-append, map-length}
 use Rattle.type_terms.proofs.BooleanBasics.{or-nothing}
 

@@ -5,15 +5,16 @@ use Rattle.std.specs.Prelude.{if◌then◌else◌, unwrap_or, ◌==◌}
 use Rattle.std.specs.List.{list_any, flat_map}
 use Rattle.std.specs.Option.{option_map_or}
 use Rattle.std.specs.Str.{bytes_eq}
-use Rattle.type_terms.specs.Label.{Label, Sort, of_type, of_const, of_lifetime, never, array, slice, tuple, dynamic, static, adt, fn_ptr, auto_trait, value, ref, raw_pointer, principal, infer, bound}
-use Rattle.type_terms.specs.Trees.{Trees, none, tree, leaf, ◌+++◌}
-use Rattle.type_terms.specs.Rules.{together}
-use Rattle.text_definitions.specs.Syntax.{TypeTree, of_primitive, never_type, variable_type, named, reference_to, pointer_to, slice_of, array_of, tuple_of, fn_of, fn_to, dyn_of, Types, no_types, and_type, Args, no_args, and_arg, lifetime_arg, number_arg, type_arg, Item, bound_item, lifetime_item, Items, no_items, and_item, number_length, name_length, variable_length, Bound, Clause, Line}
-use Rattle.text_definitions.specs.Declarations.{Declarations, Variable, Known, a_crate, a_struct, a_trait, known}
+use Rattle.type_terms.specs.Promised.Label.{Label, Sort, of_type, of_const, of_lifetime, never, array, slice, tuple, dynamic, static, adt, fn_ptr, auto_trait, value, ref, raw_pointer, principal, infer, bound}
+use Rattle.type_terms.specs.Promised.Trees.{Trees, none, tree, leaf, ◌+++◌}
+use Rattle.type_terms.specs.Promised.Rules.{together}
+use Rattle.text_definitions.specs.Promised.Syntax.{TypeTree, of_primitive, never_type, variable_type, named, reference_to, pointer_to, slice_of, array_of, tuple_of, fn_of, fn_to, dyn_of, Types, no_types, and_type, Args, no_args, and_arg, lifetime_arg, number_arg, type_arg, Item, bound_item, lifetime_item, Items, no_items, and_item, number_length, name_length, variable_length, Bound, Clause, Line}
+use Rattle.text_definitions.specs.Promised.Declarations.{Declarations, Variable, Known, a_crate, a_struct, a_trait, known}
 use Rattle.text_definitions.specs.Uses.{Use, crate_use, name_use, trait_use, lifetime_use, binder_use, variable_use, misfit_use, dyn_use, items_use, number_use, item_shape, item_shapes, args_count, types_count, kinds_of_struct, kinds_of_trait, length_uses, lifetime_uses, lifetime_arg_uses, binder_uses, type_misfits, type_uses, types_uses, args_uses, arg_uses, item_uses, items_uses, bound_uses, clause_uses, params_of}
-use Rattle.text_definitions.specs.Faults.{with_own, is_among, is_in_scope, static_name, is_param, is_param_of, is_crate, is_type_of, is_trait_of, is_bound, is_late, binds_auto, has_early_lifetime, is_bad_dyn, is_auto_name}
+use Rattle.text_definitions.specs.Promised.Faults.{with_own, is_among, is_auto_name}
+use Rattle.text_definitions.specs.Faults.{is_in_scope, static_name, is_param, is_param_of, is_crate, is_type_of, is_trait_of, is_bound, is_late, binds_auto, has_early_lifetime, is_bad_dyn}
 use Rattle.text_definitions.specs.Lowering.{Meanings, place_among, crate_number, trait_number, struct_label, type_label, const_label, variable_label, lifetime_under, lifetime_label, optional_lifetime, inserted, with_auto, autos, auto_leaves, item_lifetime, last_lifetime, type_tree, types_trees, args_trees, items_trees, field_trees, with_self, clause_reference}
-use Rattle.language_definitions.specs.LineMeanings.{means, own_param, life_label, variable_meaning, dyn_end, as_tree, as_trees, as_args, bound_meaning, clause_meaning}
+use Rattle.language_definitions.specs.Promised.LineMeanings.{means, own_param, life_label, variable_meaning, dyn_end, as_tree, as_trees, as_args, bound_meaning, clause_meaning}
 use Rattle.language_definitions.proofs.SameMeaningsNames.{and-first, and-second, not-false, name-position, own-life, own-type, own-const}
 use Rattle.language_definitions.proofs.SameMeaningsVariables.{as-variables, variable-placed}
 use Rattle.language_definitions.proofs.SameMeaningsAutos.{either-order, Rises, put-rises, between, between-is}

@@ -5,9 +5,9 @@ use Rattle.std.proofs.lemmas.Slice.Eq.{bytes_eq-Decides}
 use Rattle.std.specs.Prelude.{if◌then◌else◌, filter, fold}
 use Rattle.std.specs.List.{list_any, position_or_len}
 use Rattle.std.specs.Str.{bytes_eq}
-use Rattle.type_terms.specs.Label.{Sort}
-use Rattle.type_terms.specs.Trees.{is_sort}
-use Rattle.text_definitions.specs.Declarations.{Variable}
+use Rattle.type_terms.specs.Promised.Label.{Sort}
+use Rattle.type_terms.specs.Promised.Trees.{is_sort}
+use Rattle.text_definitions.specs.Promised.Declarations.{Variable}
 use Rattle.text_definitions.specs.Faults.{once}
 use Rattle.text_definitions.specs.Lowering.{place_among}
 

@@ -3,14 +3,15 @@ use Rattle.std.proofs.Common.{◌≡◌, ℕ, suc, List, [], ◌∷◌, ◌++◌
 use Rattle.std.specs.Prelude.{nat_lt}
 use Rattle.std.specs.Option.{option_map_or}
 use Rattle.std.proofs.lemmas.Bool.Decides.{nat_tests}
-use Rattle.text_definitions.specs.Faults.{variables_in, is_any, with_own}
+use Rattle.text_definitions.specs.Faults.{variables_in, is_any}
+use Rattle.text_definitions.specs.Promised.Faults.{with_own}
 use Rattle.std.specs.List.{flat_map}
 use Rattle.std.proofs.lemmas.Grind.{flat_map-append}
-use Rattle.type_terms.specs.Label.{Sort, of_type, of_const, of_lifetime}
-use Rattle.text_definitions.specs.Syntax.{TypeTree, of_primitive, never_type, variable_type, named, reference_to, pointer_to, slice_of, array_of, tuple_of, fn_of, fn_to, dyn_of, Types, no_types, and_type, Args, no_args, and_arg, Arg, lifetime_arg, number_arg, type_arg, Item, bound_item, lifetime_item, Items, no_items, and_item, number_length, name_length, variable_length, Bound, Clause, Line, crate_line, struct_line, trait_line, impl_line, prove_line, refute_line, later_line, supers_line}
-use Rattle.text_definitions.specs.Declarations.{Declarations, Known, a_crate, a_struct, a_trait, known}
+use Rattle.type_terms.specs.Promised.Label.{Sort, of_type, of_const, of_lifetime}
+use Rattle.text_definitions.specs.Promised.Syntax.{TypeTree, of_primitive, never_type, variable_type, named, reference_to, pointer_to, slice_of, array_of, tuple_of, fn_of, fn_to, dyn_of, Types, no_types, and_type, Args, no_args, and_arg, Arg, lifetime_arg, number_arg, type_arg, Item, bound_item, lifetime_item, Items, no_items, and_item, number_length, name_length, variable_length, Bound, Clause, Line, crate_line, struct_line, trait_line, impl_line, prove_line, refute_line, later_line, supers_line}
+use Rattle.text_definitions.specs.Promised.Declarations.{Declarations, Known, a_crate, a_struct, a_trait, known}
 use Rattle.text_definitions.specs.Uses.{Use, crate_use, name_use, trait_use, lifetime_use, binder_use, misfit_use, variable_use, dyn_use, items_use, number_use, binder_uses, item_shape, item_shapes, types_count, args_count, next_kind, other_kinds, kinds_of_struct, kinds_of_trait, type_uses, types_uses, args_uses, arg_uses, item_uses, items_uses, bound_uses, clause_uses, header_uses, uses, asked_uses, other_uses, params_of}
-use Rattle.language_definitions.specs.Mentions.{Mention, crate_mention, name_mention, trait_mention, lifetime_mention, binder_mention, variable_mention, misfit_mention, dyn_mention, list_mention, number_mention, type_mention, item_list, led_by, struct_kinds, trait_kinds, type_mentions, types_mentions, args_mentions, arg_mentions, item_mentions, items_mentions, bound_mentions, clause_mentions, header_mentions, line_mentions, asked_mentions, line_params}
+use Rattle.language_definitions.specs.Promised.Mentions.{Mention, crate_mention, name_mention, trait_mention, lifetime_mention, binder_mention, variable_mention, misfit_mention, dyn_mention, list_mention, number_mention, type_mention, item_list, led_by, struct_kinds, trait_kinds, type_mentions, types_mentions, args_mentions, arg_mentions, item_mentions, items_mentions, bound_mentions, clause_mentions, header_mentions, line_mentions, asked_mentions, line_params}
 
 -- what is used by what is mentioned; that a type stands so deep is no use, and an empty binder is none either
 abbrev pub as_uses : Mention → List Use

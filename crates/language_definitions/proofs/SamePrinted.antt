@@ -4,13 +4,13 @@ use Rattle.std.proofs.lemmas.List.{map-append}
 use Rattle.std.specs.List.{list_any, range_with_len, AllByRecursion}
 use Rattle.std.specs.Option.{option_map_or}
 use Rattle.std.specs.Prelude.{Option, Some, None}
-use Rattle.type_terms.specs.Label.{Label, Sort, of_type, of_const, of_lifetime, infer}
-use Rattle.type_terms.specs.Trees.{Trees, none, tree, leaf, is_sort, sort_of}
+use Rattle.type_terms.specs.Promised.Label.{Label, Sort, of_type, of_const, of_lifetime, infer}
+use Rattle.type_terms.specs.Promised.Trees.{Trees, none, tree, leaf, is_sort, sort_of}
 use Rattle.type_terms.specs.Codes.{same, same_label}
-use Rattle.text_definitions.specs.Declarations.{Declarations, Question, Variable}
+use Rattle.text_definitions.specs.Promised.Declarations.{Declarations, Question, Variable}
 use Rattle.text_definitions.specs.Output.{values_text, is_in, unknown_text}
 use Rattle.text_definitions.specs.Names.{of_kind, own_unknowns, valued, free_unknowns, question_unknown, question_names, value_texts, answer_values}
-use Rattle.language_definitions.specs.PrintedTypes.{yes_values_text, counted_unknowns, unknowns_within, printed_trees, final_text}
+use Rattle.language_definitions.specs.Promised.PrintedTypes.{yes_values_text, counted_unknowns, unknowns_within, printed_trees, final_text}
 use Rattle.language_definitions.proofs.SamePrintedTypes.{is_infer, OfUnknowns, lookup, Agrees, type-same, all-left, all-right}
 use Rattle.language_definitions.proofs.SamePrintedNames.{labels_from, counted-from, own-name}
 use Rattle.language_definitions.proofs.SamePrintedUnknowns.{label_of, added, IsListed, all-listed, length-listed, own_labels, all_labels, listed-or, free-same, free-name}

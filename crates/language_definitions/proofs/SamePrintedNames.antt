@@ -3,10 +3,10 @@ use Rattle.std.proofs.Common.{◌≡◌, ◌≢◌, ℕ, zero, suc, ◌+◌, tru
 use Rattle.std.proofs.lemmas.List.Sums.{sum_by-cons}
 use Rattle.std.specs.List.{list_any}
 use Rattle.std.specs.Option.{option_map_or}
-use Rattle.type_terms.specs.Label.{Label, Sort, of_type, of_const, of_lifetime, infer}
-use Rattle.type_terms.specs.Trees.{is_sort}
+use Rattle.type_terms.specs.Promised.Label.{Label, Sort, of_type, of_const, of_lifetime, infer}
+use Rattle.type_terms.specs.Promised.Trees.{is_sort}
 use Rattle.type_terms.specs.Codes.{same_label}
-use Rattle.language_definitions.specs.PrintedTypes.{counted_unknowns}
+use Rattle.language_definitions.specs.Promised.PrintedTypes.{counted_unknowns}
 use Rattle.language_definitions.proofs.SamePrintedTypes.{lookup}
 use Rattle.type_terms.proofs.NumberBasics.{zero-more, one-up}
 

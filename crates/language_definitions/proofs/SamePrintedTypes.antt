@@ -2,13 +2,13 @@
 use Rattle.std.proofs.Common.{◌≡◌, ℕ, zero, suc, ◌-◌, min, Bool, true, false, ◌&&◌, ◌||◌, List, [], ◌∷◌, ◌++◌, find, fold, length, take, slice_get, unwrap_or, Option, Some, None, codes, ◌==◌, if◌then◌else◌, refl, sym, ap, ap₂, ◌∙◌, append_assoc, append-nil, arith, true≢false, ne_eqb}
 use Rattle.std.specs.List.{join_by, flat_map, AllByRecursion}
 use Rattle.std.specs.Option.{option_map_or}
-use Rattle.type_terms.specs.Label.{Label, Sort, of_type, of_const, of_lifetime, array, slice, tuple, dynamic, static, int, uint, adt, fn_ptr, ref, raw_pointer, principal, param, placeholder, infer, canonical, bound, predicate}
-use Rattle.type_terms.specs.Trees.{Trees, none, tree, leaf, sort_of, is_sort}
+use Rattle.type_terms.specs.Promised.Label.{Label, Sort, of_type, of_const, of_lifetime, array, slice, tuple, dynamic, static, int, uint, adt, fn_ptr, ref, raw_pointer, principal, param, placeholder, infer, canonical, bound, predicate}
+use Rattle.type_terms.specs.Promised.Trees.{Trees, none, tree, leaf, sort_of, is_sort}
 use Rattle.type_terms.specs.Codes.{same, same_label}
-use Rattle.text_definitions.specs.Declarations.{Declarations}
+use Rattle.text_definitions.specs.Promised.Declarations.{Declarations}
 use Rattle.text_definitions.specs.Output.{Names, between, angled, tuple_text, inputs, last_text, is_unit, ends_in_unit, int_name, node_text, texts, type_text}
 use Rattle.text_definitions.specs.Names.{struct_text, trait_text, text_at}
-use Rattle.language_definitions.specs.PrintedTypes.{label_text, angle_list, final_text, has_unit_last, printed_node, printed_trees, unknowns_within}
+use Rattle.language_definitions.specs.Promised.PrintedTypes.{label_text, angle_list, final_text, has_unit_last, printed_node, printed_trees, unknowns_within}
 use Rattle.type_terms.proofs.BooleanBasics.{no-and, no-more as or-no}
 
 -- ---- lists

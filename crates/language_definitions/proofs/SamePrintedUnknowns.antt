@@ -7,13 +7,13 @@ use Rattle.std.proofs.lemmas.Option.{slice_get_cases}
 use Rattle.std.specs.List.{list_any, range_with_len, AllByRecursion}
 use Rattle.std.specs.Option.{option_map_or}
 use Rattle.std.specs.Prelude.{Some}
-use Rattle.type_terms.specs.Label.{Label, Sort, of_type, of_const, of_lifetime, infer}
-use Rattle.type_terms.specs.Trees.{Trees, none, tree, sort_of, is_sort}
+use Rattle.type_terms.specs.Promised.Label.{Label, Sort, of_type, of_const, of_lifetime, infer}
+use Rattle.type_terms.specs.Promised.Trees.{Trees, none, tree, sort_of, is_sort}
 use Rattle.type_terms.specs.Codes.{same_label, same_numbers, numbers}
-use Rattle.text_definitions.specs.Declarations.{Question, Variable}
+use Rattle.text_definitions.specs.Promised.Declarations.{Question, Variable}
 use Rattle.text_definitions.specs.Output.{is_in, with_unknown, place_in}
 use Rattle.text_definitions.specs.Names.{of_kind, with_free, free_unknowns}
-use Rattle.language_definitions.specs.PrintedTypes.{counted_unknowns, unknowns_within}
+use Rattle.language_definitions.specs.Promised.PrintedTypes.{counted_unknowns, unknowns_within}
 use Rattle.language_definitions.proofs.SamePrintedTypes.{lookup}
 use Rattle.language_definitions.proofs.SamePrintedNames.{stands-for}
 

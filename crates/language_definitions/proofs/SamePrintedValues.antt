@@ -1,10 +1,10 @@
 -- The variables with a value of their own, and the texts of their values one after the other.
 use Rattle.std.proofs.Common.{◌≡◌, ℕ, suc, Bool, true, false, not, cond, List, [], ◌∷◌, ◌++◌, map, filter, zip, flat_map, drop, codes, if◌then◌else◌, refl, ap, ap₂, ◌∙◌}
 use Rattle.std.specs.List.{AllByRecursion}
-use Rattle.type_terms.specs.Label.{Label, Sort, of_type, of_const, of_lifetime, infer}
-use Rattle.type_terms.specs.Trees.{Trees, leaf}
+use Rattle.type_terms.specs.Promised.Label.{Label, Sort, of_type, of_const, of_lifetime, infer}
+use Rattle.type_terms.specs.Promised.Trees.{Trees, leaf}
 use Rattle.type_terms.specs.Codes.{same}
-use Rattle.text_definitions.specs.Declarations.{Variable}
+use Rattle.text_definitions.specs.Promised.Declarations.{Variable}
 use Rattle.text_definitions.specs.Output.{Names, ValueText, value_text, values_text, type_text}
 use Rattle.text_definitions.specs.Names.{own_from, valued}
 use Rattle.language_definitions.proofs.SamePrintedTypes.{joined}

@@ -1,14 +1,15 @@
 -- What a text says is what it gives.
 use Rattle.std.proofs.Common.{◌≡◌, ℕ, suc, List, Option, Some, None, Result, Ok, Err, refl, sym, ◌∙◌, subst}
 use Rattle.std.specs.Option.{option_map_or}
-use Rattle.text_definitions.specs.Declarations.{Declarations, nothing_declared}
+use Rattle.text_definitions.specs.Promised.Declarations.{Declarations}
+use Rattle.text_definitions.specs.Declarations.{nothing_declared}
 use Rattle.text_definitions.specs.Faults.{fault_of}
 use Rattle.text_definitions.specs.Text.{LineGives, other_byte, blank, unwritten, faulty, adds, LinesGive, ends, fails, goes_on, TextGives, too_long, fits, lines_of}
-use Rattle.language_definitions.specs.CoreText.{core_declared}
-use Rattle.language_definitions.specs.Grammar.{text_lines}
-use Rattle.language_definitions.specs.LineFaults.{line_fault}
-use Rattle.language_definitions.specs.LineMeanings.{with_line}
-use Rattle.language_definitions.specs.TextSays.{LineSays, has_other_byte, says_blank, says_no_line, says_line, LinesSay, text_ends, line_fails, lines_follow, TextSays, overlong, of_lines}
+use Rattle.language_definitions.specs.Promised.CoreText.{core_declared}
+use Rattle.language_definitions.specs.Promised.Grammar.{text_lines}
+use Rattle.language_definitions.specs.Promised.LineFaults.{line_fault}
+use Rattle.language_definitions.specs.Promised.LineMeanings.{with_line}
+use Rattle.language_definitions.specs.Promised.TextSays.{LineSays, has_other_byte, says_blank, says_no_line, says_line, LinesSay, text_ends, line_fails, lines_follow, TextSays, overlong, of_lines}
 use Rattle.language_definitions.proofs.SameGrammar.{says-is-written, written-is-said, text-lines-are}
 use Rattle.language_definitions.proofs.SameFaults.{line-fault-is}
 use Rattle.language_definitions.proofs.SameMeanings.{with-line-is}

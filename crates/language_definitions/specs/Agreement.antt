@@ -1,12 +1,12 @@
 -- That all this is what `text_definitions` says, against which the parts of the reader and of the printer are proved.
 use Rattle.std.specs.Prelude.{◌≡◌, ℕ, List, Result}
-use Rattle.type_terms.specs.Trees.{Trees}
-use Rattle.text_definitions.specs.Declarations.{Declarations, Question}
+use Rattle.type_terms.specs.Promised.Trees.{Trees}
+use Rattle.text_definitions.specs.Promised.Declarations.{Declarations, Question}
 use Rattle.text_definitions.specs.Names.{answer_values}
 use Rattle.text_definitions.specs.Output.{values_text}
 use Rattle.text_definitions.specs.Text.{TextGives}
-use Rattle.language_definitions.specs.PrintedTypes.{yes_values_text}
-use Rattle.language_definitions.specs.TextSays.{TextSays}
+use Rattle.language_definitions.specs.Promised.PrintedTypes.{yes_values_text}
+use Rattle.language_definitions.specs.Promised.TextSays.{TextSays}
 
 -- A text says exactly what it gives.
 abbrev pub TextsSayWhatTheyGive : Type 0

@@ -1,6 +1,6 @@
 //! What the solver answers to the first question of a text, asked twice, and the frames that it takes.
 ghost use Rattle.std.specs.Prelude.{◌≡◌, ℕ, List, Ok, IfOk};
-ghost use Rattle.type_terms.specs.Terms.{Keeps};
+ghost use Rattle.type_terms.specs.Promised.Handles.{Keeps};
 ghost use Rattle.infer_table.specs.Content.{Ready};
 ghost use Rattle.infer_table.specs.Goals.{GoalHeld};
 ghost use Rattle.search_graph.specs.Cache.{AreJustified};

@@ -1,6 +1,6 @@
 //! The candidates of goals that a text asks: the one that is assembled, and the one that the call of its own rule makes.
 ghost use Rattle.std.specs.Prelude.{ℕ, List, Ok, IfOk};
-ghost use Rattle.type_terms.specs.Terms.{Entry, Keeps};
+ghost use Rattle.type_terms.specs.Promised.Handles.{Entry, Keeps};
 ghost use Rattle.infer_table.specs.Goals.{GoalHeld};
 ghost use Rattle.evaluation.specs.Readings.{ConsideredHeld};
 ghost use Rattle.goal_frames.specs.Fitting.{ConsideredFits};

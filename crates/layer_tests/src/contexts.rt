@@ -1,5 +1,5 @@
 //! Evaluations: their goals, their equations, and the answers that they give up with.
-ghost use Rattle.type_terms.specs.Terms.{Keeps};
+ghost use Rattle.type_terms.specs.Promised.Handles.{Keeps};
 ghost use Rattle.evaluation.specs.Context.{IsReadyContext};
 ghost use Rattle.evaluation.specs.Probes.{ContextContinues};
 

@@ -1,6 +1,6 @@
 //! The first step of a goal whose self type is unknown, and what is made of candidates that were considered.
 ghost use Rattle.std.specs.Prelude.{ℕ, List, Ok, Some, IfOk};
-ghost use Rattle.type_terms.specs.Terms.{Entry};
+ghost use Rattle.type_terms.specs.Promised.Handles.{Entry};
 ghost use Rattle.infer_table.specs.Goals.{GoalHeld};
 ghost use Rattle.evaluation.specs.Readings.{ConsideredHeld, ResultHeld};
 ghost use Rattle.goal_frames.specs.Fitting.{ConsideredFits, ResultFits};

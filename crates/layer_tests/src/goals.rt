@@ -1,6 +1,6 @@
 //! Types, goals and evaluations of the tests.
 ghost use Rattle.std.specs.Prelude.{List, IfOk, Some};
-ghost use Rattle.type_terms.specs.Terms.{Entry, Has, Keeps, types};
+ghost use Rattle.type_terms.specs.Promised.Handles.{Entry, Has, Keeps, types};
 ghost use Rattle.infer_table.specs.Goals.{GoalHeld};
 ghost use Rattle.evaluation.specs.Context.{IsReadyContext};
 ghost use Rattle.evaluation.specs.Readings.{ResultHeld};

@@ -1,6 +1,6 @@
 //! A handler beside the solver, whose goals are evaluated by the same calls.
 ghost use Rattle.std.specs.Prelude.{List};
-ghost use Rattle.type_terms.specs.Terms.{Entry};
+ghost use Rattle.type_terms.specs.Promised.Handles.{Entry};
 
 use crate::answers::found_by_another;
 use crate::solver::{Evaluated, Said, YES};
@@ -19,7 +19,7 @@ pub(crate) struct HandsOn {
 }
 
 impl GoalHandler for HandsOn {
-    ghost use Rattle.type_terms.specs.Terms.{Entry};
+    ghost use Rattle.type_terms.specs.Promised.Handles.{Entry};
     ghost use Rattle.std.specs.Prelude.{List};
     ghost use Rattle.candidate_assembly.specs.Fitting.{solving_of};
     ghost use Rattle.candidate_assembly.specs.Ready.{AreReadyDeclarations};

@@ -1,7 +1,7 @@
 //! What responses say, and their merges.
 ghost use Rattle.std.specs.Prelude.{IfOk};
 ghost use Rattle.std.specs.List.{All};
-ghost use Rattle.type_terms.specs.Terms.{Keeps};
+ghost use Rattle.type_terms.specs.Promised.Handles.{Keeps};
 ghost use Rattle.evaluation.specs.Responses.{ValuesHeld};
 
 use crate::goals::{Sample, make};

@@ -1,6 +1,7 @@
 //! Types and references of tests, as terms of an interner, and the declarations that they speak of.
 ghost use Rattle.std.specs.Prelude.{IfOk};
-ghost use Rattle.type_terms.specs.Terms.{Has, Keeps, types, args_lists};
+ghost use Rattle.type_terms.specs.Promised.Handles.{Has, Keeps, types};
+ghost use Rattle.type_terms.specs.Terms.{args_lists};
 ghost use Rattle.infer_table.specs.Content.{Ready};
 
 use declarations::declarations::Declarations;

@@ -1,6 +1,6 @@
 //! A candidate for `^0: Show`: that `[T]` is `Show` if `T` is.
 ghost use Rattle.std.specs.Prelude.{IfOk};
-ghost use Rattle.type_terms.specs.Terms.{Has, Keeps, types};
+ghost use Rattle.type_terms.specs.Promised.Handles.{Has, Keeps, types};
 ghost use Rattle.infer_table.specs.Goals.{GoalHeld};
 ghost use Rattle.evaluation.specs.Lists.{Every};
 ghost use Rattle.evaluation.specs.Readings.{EquationHeld, SpecHeld, ResultHeld};

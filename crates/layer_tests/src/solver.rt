@@ -1,6 +1,6 @@
 //! Evaluations of goals, and what they show.
 ghost use Rattle.std.specs.Prelude.{◌≡◌, ◌≤◌, IfOk};
-ghost use Rattle.type_terms.specs.Terms.{Keeps};
+ghost use Rattle.type_terms.specs.Promised.Handles.{Keeps};
 ghost use Rattle.infer_table.specs.Content.{Ready};
 ghost use Rattle.infer_table.specs.Goals.{GoalHeld};
 ghost use Rattle.search_graph.specs.Cache.{AreJustified};

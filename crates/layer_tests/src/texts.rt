@@ -1,6 +1,6 @@
 //! Texts of tests: what a crate sees of one, and the questions that it asks as goals.
 ghost use Rattle.std.specs.Prelude.{◌≡◌, ◌<◌, ℕ, List, length, Ok, IfOk};
-ghost use Rattle.type_terms.specs.Terms.{Keeps};
+ghost use Rattle.type_terms.specs.Promised.Handles.{Keeps};
 ghost use Rattle.infer_table.specs.Goals.{GoalHeld};
 ghost use Rattle.text_definitions.specs.Text.{TextGives};
 ghost use Rattle.layer_tests.specs.Clauses.{where_clauses};

@@ -1,5 +1,6 @@
 //! Headers and references of a crate that sees another one.
-ghost use Rattle.type_terms.specs.Terms.{Has, args_lists};
+ghost use Rattle.type_terms.specs.Promised.Handles.{Has};
+ghost use Rattle.type_terms.specs.Terms.{args_lists};
 
 use crate::samples::{Around, Asked, Inmost, Sample, empty_table, make, make_reference, shop};
 use declarations::declarations::Declarations;

@@ -2,10 +2,10 @@
 use Rattle.std.proofs.Common.{List, ◌≡◌, [], refl, ◌∷◌, append_assoc, ◌∙◌, ap, ◌++◌}
 use Rattle.std.specs.List.{flat_map}
 use Rattle.line_reader.specs.LineParts.{part_uses, clause_parts}
-use Rattle.text_definitions.specs.Declarations.{Declarations}
-use Rattle.text_definitions.specs.Syntax.{Clause}
+use Rattle.text_definitions.specs.Promised.Declarations.{Declarations}
+use Rattle.text_definitions.specs.Promised.Syntax.{Clause}
 use Rattle.text_definitions.specs.Uses.{clause_uses, type_uses, bound_uses}
-use Rattle.type_terms.specs.Label.{of_type}
+use Rattle.type_terms.specs.Promised.Label.{of_type}
 
 pub clauses-use : (d : Declarations) (ks : List Clause) → flat_map (clause_uses d) ks ≡ flat_map (part_uses d) (flat_map clause_parts ks)
 clauses-use d [] = refl

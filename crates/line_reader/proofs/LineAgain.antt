@@ -6,7 +6,8 @@ use Rattle.std.proofs.lemmas.Option.{same_Some}
 use Rattle.std.proofs.lemmas.List.{length-append}
 use Rattle.text_definitions.specs.Words.{comma, plus, open_angle, close_angle, colon, for_word, const_word, dyn_word}
 use Rattle.text_definitions.specs.Tokens.{Token, keyword, name, lifetime, sign}
-use Rattle.text_definitions.specs.Syntax.{TypeTree, of_primitive, never_type, variable_type, named, reference_to, pointer_to, slice_of, array_of, tuple_of, fn_of, fn_to, dyn_of, Types, no_types, and_type, Item, bound_item, Items, no_items, and_item, Params, no_params, Bound, Clause, Line, crate_line, struct_line, trait_line, impl_line, prove_line, refute_line, later_line, supers_line, type_spelling, more_items, more_names, uses_spelling, param_spellings, behind, in_angles, params_spelling, bound_spelling, clause_spelling, bounds_spelling, where_spelling, fields_spelling, spelling}
+use Rattle.text_definitions.specs.Promised.Syntax.{TypeTree, of_primitive, never_type, variable_type, named, reference_to, pointer_to, slice_of, array_of, tuple_of, fn_of, fn_to, dyn_of, Types, no_types, and_type, Item, bound_item, Items, no_items, and_item, Params, Bound, Clause, Line, crate_line, struct_line, trait_line, impl_line, prove_line, refute_line, later_line, supers_line}
+use Rattle.text_definitions.specs.Syntax.{no_params, type_spelling, more_items, more_names, uses_spelling, param_spellings, behind, in_angles, params_spelling, bound_spelling, clause_spelling, bounds_spelling, where_spelling, fields_spelling, spelling}
 use Rattle.line_reader.specs.Follows.{IsCompleteType}
 use Rattle.line_reader.specs.TokenSteps.{NoAngle}
 use Rattle.line_reader.proofs.TypeAt.{◌>>=◌, type_at, bound_at, clause_at, type_again, bound_again, clause_again}

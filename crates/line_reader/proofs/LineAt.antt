@@ -4,7 +4,8 @@ use Rattle.std.specs.Prelude.{map}
 use Rattle.std.specs.Option.{option_map}
 use Rattle.text_definitions.specs.Words.{comma, open_angle, close_angle, open_round, colon, crate_word, uses_word, fundamental_word, struct_word, auto_word, trait_word, impl_word, for_word, where_word, prove_word, refute_word, later_word, supers_word, in_word, const_word, fn_word, dyn_word}
 use Rattle.text_definitions.specs.Tokens.{Token, keyword, name, lifetime, sign}
-use Rattle.text_definitions.specs.Syntax.{TypeTree, fn_of, dyn_of, Types, no_types, and_type, Item, bound_item, Items, no_items, and_item, Params, no_params, Bound, Clause, Line, crate_line, struct_line, trait_line, impl_line, prove_line, refute_line, later_line, supers_line}
+use Rattle.text_definitions.specs.Promised.Syntax.{TypeTree, fn_of, dyn_of, Types, no_types, and_type, Item, bound_item, Items, no_items, and_item, Params, Bound, Clause, Line, crate_line, struct_line, trait_line, impl_line, prove_line, refute_line, later_line, supers_line}
+use Rattle.text_definitions.specs.Syntax.{no_params}
 use Rattle.line_reader.proofs.TypeAt.{◌>>=◌, type_at, bound_at, clause_at}
 
 -- ---- names

@@ -4,7 +4,8 @@ use Rattle.std.specs.Prelude.{IfOk, IsErrOf, if◌then◌else◌}
 use Rattle.std.proofs.lemmas.Option.{same_Some}
 use Rattle.text_definitions.specs.Words.{crate_word, fundamental_word, struct_word, auto_word, trait_word, impl_word, for_word, prove_word, refute_word, later_word, supers_word, in_word}
 use Rattle.text_definitions.specs.Tokens.{Token, keyword, tokens_of}
-use Rattle.text_definitions.specs.Syntax.{Types, no_types, and_type, Params, Bound, Clause, Line, crate_line, struct_line, trait_line, impl_line, prove_line, refute_line, later_line, supers_line, type_spelling, bound_spelling, clause_spelling, uses_spelling, params_spelling, fields_spelling, spelling}
+use Rattle.text_definitions.specs.Promised.Syntax.{Types, no_types, and_type, Params, Bound, Clause, Line, crate_line, struct_line, trait_line, impl_line, prove_line, refute_line, later_line, supers_line}
+use Rattle.text_definitions.specs.Syntax.{type_spelling, bound_spelling, clause_spelling, uses_spelling, params_spelling, fields_spelling, spelling}
 use Rattle.text_definitions.specs.Written.{IsWritten}
 use Rattle.line_reader.specs.Marks.{after_open_angle, is_nil}
 use Rattle.line_reader.specs.TokenSteps.{NoAngle}

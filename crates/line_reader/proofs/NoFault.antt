@@ -4,8 +4,8 @@ use Rattle.std.specs.Prelude.{◌||◌, ◌&&◌, nat_le, is_some}
 use Rattle.std.specs.List.{list_any, list_all}
 use Rattle.std.specs.Option.{option_map_or}
 use Rattle.std.proofs.lemmas.Bool.{leb-false}
-use Rattle.text_definitions.specs.Syntax.{Line, crate_line, struct_line, trait_line, impl_line, prove_line, refute_line, later_line, supers_line}
-use Rattle.text_definitions.specs.Declarations.{Declarations, Known, known}
+use Rattle.text_definitions.specs.Promised.Syntax.{Line, crate_line, struct_line, trait_line, impl_line, prove_line, refute_line, later_line, supers_line}
+use Rattle.text_definitions.specs.Promised.Declarations.{Declarations, Known, known}
 use Rattle.text_definitions.specs.Uses.{crate_use, declared_name}
 use Rattle.text_definitions.specs.Faults.{first_of, tests, fault_of, declares_taken, is_other_sort, belongs_to_crate, is_impl}
 use Rattle.line_reader.specs.Faultless.{PassesTests, names_crate, NamesCrates}

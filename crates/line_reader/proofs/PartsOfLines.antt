@@ -2,9 +2,9 @@
 use Rattle.std.proofs.Common.{◌≡◌, ℕ, List, [], ◌∷◌, ◌++◌, refl, sym, ap, ◌∙◌, append_assoc, append-nil, arith}
 use Rattle.std.specs.Prelude.{map, max}
 use Rattle.std.specs.List.{flat_map}
-use Rattle.type_terms.specs.Label.{of_type}
-use Rattle.text_definitions.specs.Syntax.{TypeTree, Types, no_types, and_type, Bound, Clause, Line, crate_line, struct_line, trait_line, impl_line, prove_line, refute_line, later_line, supers_line}
-use Rattle.text_definitions.specs.Declarations.{Declarations}
+use Rattle.type_terms.specs.Promised.Label.{of_type}
+use Rattle.text_definitions.specs.Promised.Syntax.{TypeTree, Types, no_types, and_type, Bound, Clause, Line, crate_line, struct_line, trait_line, impl_line, prove_line, refute_line, later_line, supers_line}
+use Rattle.text_definitions.specs.Promised.Declarations.{Declarations}
 use Rattle.text_definitions.specs.Uses.{crate_use, type_uses, types_uses, bound_uses, clause_uses, type_depth, types_depth, bound_depth, clause_depth, greatest}
 use Rattle.line_reader.specs.Cells.{Cell}
 use Rattle.line_reader.specs.Statement.{Statement, crate_statement, struct_statement, trait_statement, impl_statement, prove_statement, refute_statement, later_statement, supers_statement, type_list, line_cells, line_statement}

@@ -3,9 +3,9 @@ use Rattle.std.proofs.Common.{◌≡◌, ℕ, List, [], ◌∷◌, ◌++◌, len
 use Rattle.std.specs.Prelude.{map, ◌||◌, ◌&&◌, not, ◌==◌}
 use Rattle.std.specs.List.{list_any}
 use Rattle.std.proofs.lemmas.List.{length-append, length-map}
-use Rattle.type_terms.specs.Label.{of_type, of_const, of_lifetime}
-use Rattle.text_definitions.specs.Syntax.{Types, no_types, and_type, Params, crate_line, struct_line, trait_line, impl_line, prove_line, refute_line, later_line, supers_line}
-use Rattle.text_definitions.specs.Declarations.{kinds_of, names_of}
+use Rattle.type_terms.specs.Promised.Label.{of_type, of_const, of_lifetime}
+use Rattle.text_definitions.specs.Promised.Syntax.{Types, no_types, and_type, Params, crate_line, struct_line, trait_line, impl_line, prove_line, refute_line, later_line, supers_line}
+use Rattle.text_definitions.specs.Promised.Declarations.{kinds_of, names_of}
 use Rattle.text_definitions.specs.Uses.{types_count}
 use Rattle.text_definitions.specs.Faults.{is_long}
 use Rattle.line_reader.specs.Cells.{Cell, type_onto}

@@ -3,11 +3,12 @@ use Rattle.std.specs.Prelude.{◌≡◌, ℕ, ◌<◌, ◌≤◌, ◌^◌, Bool,
 use Rattle.std.specs.List.{list_all}
 use Rattle.std.specs.Option.{option_map_or}
 use Rattle.std.specs.Str.{bytes_eq}
-use Rattle.text_definitions.specs.Syntax.{Line, crate_line, prove_line, refute_line, later_line, supers_line}
-use Rattle.text_definitions.specs.Declarations.{Declarations, known, kinds_of}
+use Rattle.text_definitions.specs.Promised.Syntax.{Line, crate_line, prove_line, refute_line, later_line, supers_line}
+use Rattle.text_definitions.specs.Promised.Declarations.{Declarations, known, kinds_of}
 use Rattle.text_definitions.specs.Uses.{Use, crate_use, name_use, trait_use, lifetime_use, binder_use, variable_use, misfit_use, dyn_use, items_use, number_use, uses, asked_uses, params_of, declared_name, line_depth}
 use Rattle.text_definitions.specs.Faults.{fault_of, is_misplaced, takes_names, uses_unknown, uses_hidden, uses_other_sort, has_free_param, bounds_use_own, is_loaded_auto, is_foreign_auto, implements_built_in, has_stray_variable, refutes_params, has_bad_dyn, passes_limit, belongs_to_crate, is_impl, is_crate}
-use Rattle.text_definitions.specs.Faults.{with_own, is_param, is_param_of, is_type_of, is_trait_of, static_name, is_in_scope, is_bad_dyn, is_bound, parts, once, variables_in, param_limit, part_limit, list_limit, variable_limit, depth_limit}
+use Rattle.text_definitions.specs.Promised.Faults.{with_own}
+use Rattle.text_definitions.specs.Faults.{is_param, is_param_of, is_type_of, is_trait_of, static_name, is_in_scope, is_bad_dyn, is_bound, parts, once, variables_in, param_limit, part_limit, list_limit, variable_limit, depth_limit}
 
 -- no test of a fault holds
 pub record PassesTests (d : Declarations) (l : Line) : Type 0 where

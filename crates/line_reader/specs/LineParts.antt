@@ -1,9 +1,9 @@
 -- The types and bounds of a line in the order in which they are written, whatever kind of line it is; and what the line uses, by these.
 use Rattle.std.specs.Prelude.{◌≡◌, ℕ, List, [], ◌∷◌, ◌++◌, map}
 use Rattle.std.specs.List.{flat_map}
-use Rattle.type_terms.specs.Label.{of_type}
-use Rattle.text_definitions.specs.Syntax.{TypeTree, Bound, Clause, Line, crate_line, struct_line, trait_line, impl_line, prove_line, refute_line, later_line, supers_line}
-use Rattle.text_definitions.specs.Declarations.{Declarations}
+use Rattle.type_terms.specs.Promised.Label.{of_type}
+use Rattle.text_definitions.specs.Promised.Syntax.{TypeTree, Bound, Clause, Line, crate_line, struct_line, trait_line, impl_line, prove_line, refute_line, later_line, supers_line}
+use Rattle.text_definitions.specs.Promised.Declarations.{Declarations}
 use Rattle.text_definitions.specs.Uses.{Use, crate_use, type_uses, bound_uses, uses, asked_uses, type_depth, bound_depth, greatest, line_depth}
 use Rattle.line_reader.specs.Cells.{Cell}
 use Rattle.line_reader.specs.Statement.{Statement, crate_statement, struct_statement, trait_statement, impl_statement, prove_statement, refute_statement, later_statement, supers_statement, type_list, line_cells, line_statement}

@@ -2,8 +2,8 @@
 use Rattle.std.specs.Prelude.{◌≡◌, ℕ, Bool, true, false, ◌||◌, ◌&&◌, not, List, [], length, Option, Some, None, ◌==◌}
 use Rattle.std.specs.List.{list_any}
 use Rattle.std.specs.Option.{option_map_or}
-use Rattle.text_definitions.specs.Syntax.{Line}
-use Rattle.text_definitions.specs.Declarations.{kinds_of}
+use Rattle.text_definitions.specs.Promised.Syntax.{Line}
+use Rattle.text_definitions.specs.Promised.Declarations.{kinds_of}
 use Rattle.text_definitions.specs.Uses.{declared_name, params_of}
 use Rattle.text_definitions.specs.Faults.{belongs_to_crate, is_impl, is_loaded_auto, refutes_params, is_long, has_long_name, parts}
 use Rattle.line_reader.specs.Statement.{Param, param_name, Statement, crate_statement, struct_statement, trait_statement, impl_statement, prove_statement, refute_statement, later_statement, supers_statement, param_list, line_statement}

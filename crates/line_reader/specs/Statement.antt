@@ -1,6 +1,6 @@
 -- What a line says, with its types as places in one list of cells.
 use Rattle.std.specs.Prelude.{ℕ, Bool, List, [], ◌∷◌, ◌++◌, map, length}
-use Rattle.text_definitions.specs.Syntax.{TypeTree, named, Types, no_types, and_type, Params, Bound, Clause, Line, crate_line, struct_line, trait_line, impl_line, prove_line, refute_line, later_line, supers_line}
+use Rattle.text_definitions.specs.Promised.Syntax.{TypeTree, named, Types, no_types, and_type, Params, Bound, Clause, Line, crate_line, struct_line, trait_line, impl_line, prove_line, refute_line, later_line, supers_line}
 use Rattle.line_reader.specs.Cells.{Cell, type_onto}
 use Rattle.line_reader.specs.declared.statement.Span.{Span}
 use Rattle.line_reader.specs.declared.statement.ClauseSpans.{ClauseSpans}

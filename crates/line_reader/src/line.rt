@@ -1,7 +1,8 @@
 //! One line.
 ghost use Rattle.std.specs.Prelude.{◌≡◌, ◌==◌, length, take_while, IfOk, IsErrOf};
-ghost use Rattle.text_definitions.specs.Syntax.{Line};
-ghost use Rattle.text_definitions.specs.Written.{IsWritten, is_ascii, is_blank};
+ghost use Rattle.text_definitions.specs.Promised.Syntax.{Line};
+ghost use Rattle.text_definitions.specs.Written.{IsWritten};
+ghost use Rattle.text_definitions.specs.Promised.Written.{is_ascii, is_blank};
 ghost use Rattle.line_reader.specs.TokenViews.{tokens_in};
 ghost use Rattle.line_reader.specs.Lines.{ReadsLine, SaysLine};
 ghost use Rattle.line_reader.specs.Parts.{auto_front, fundamental_front, statement_at, line_at, written_in};

@@ -1,9 +1,9 @@
 -- What names stand for on a line depends on nothing of it but its kind, its name and its parameters.
 use Rattle.std.proofs.Common.{◌≡◌, ℕ, List, [], ◌∷◌, ◌++◌, map, refl, sym, ap, ◌∙◌}
 use Rattle.std.specs.List.{flat_map}
-use Rattle.text_definitions.specs.Syntax.{Line, crate_line, struct_line, trait_line, impl_line, prove_line, refute_line, later_line, supers_line, Params, Clause, no_types, no_args, never_type}
-use Rattle.text_definitions.specs.Declarations.{Declarations}
-use Rattle.text_definitions.specs.Faults.{with_own}
+use Rattle.text_definitions.specs.Promised.Syntax.{Line, crate_line, struct_line, trait_line, impl_line, prove_line, refute_line, later_line, supers_line, Params, Clause, no_types, no_args, never_type}
+use Rattle.text_definitions.specs.Promised.Declarations.{Declarations}
+use Rattle.text_definitions.specs.Promised.Faults.{with_own}
 use Rattle.text_definitions.specs.Uses.{Use, params_of}
 use Rattle.line_reader.specs.Statement.{Param, lifetime_param, type_param, const_param, param_list, line_statement}
 use Rattle.name_resolution.specs.Machine.{Sight, items, findings}

@@ -3,7 +3,7 @@ use Rattle.std.proofs.Common.{◌≡◌, ℕ, suc, ◌+◌, ◌<◌, Bool, List,
 use Rattle.std.specs.Prelude.{max, nat_lt, ◌||◌}
 use Rattle.std.proofs.lemmas.List.{append-nil}
 use Rattle.std.proofs.lemmas.Grind.{flat_map-append}
-use Rattle.type_terms.specs.Label.{Sort}
+use Rattle.type_terms.specs.Promised.Label.{Sort}
 use Rattle.text_definitions.specs.Faults.{variables_in, depth_limit}
 use Rattle.line_reader.specs.Cells.{Cell}
 use Rattle.line_reader.specs.LineParts.{LinePart, type_part, bound_part, PartStands, part_uses, part_depth}

@@ -4,8 +4,9 @@ use Rattle.std.specs.Prelude.{if◌then◌else◌, not, ◌||◌, ◌&&◌, ◌<
 use Rattle.std.specs.Str.{bytes_eq}
 use Rattle.std.proofs.lemmas.List.{map-append}
 use Rattle.std.proofs.lemmas.Cmp.{nat_list_eq_equiv}
-use Rattle.type_terms.specs.Label.{Sort}
-use Rattle.text_definitions.specs.Faults.{is_among, once}
+use Rattle.type_terms.specs.Promised.Label.{Sort}
+use Rattle.text_definitions.specs.Promised.Faults.{is_among}
+use Rattle.text_definitions.specs.Faults.{once}
 use Rattle.name_resolution.specs.Views.{variable_in}
 use Rattle.name_resolution.specs.UsedNames.{Holds}
 use Rattle.name_resolution.specs.declared.name_set.NameSet.{NameSet}

@@ -7,11 +7,12 @@ use Rattle.std.proofs.lemmas.Option.{slice_get-map}
 use Rattle.std.proofs.lemmas.List.{length-take-le, take-append-drop, take-map, drop-map, drop_min, length-map}
 use Rattle.std.proofs.lemmas.List.Folds.{list_any-append}
 use Rattle.std.proofs.Math.Seq.{take-append_seam}
-use Rattle.type_terms.specs.Label.{of_type}
-use Rattle.text_definitions.specs.Syntax.{TypeTree, of_primitive, never_type, variable_type, named, reference_to, pointer_to, slice_of, array_of, tuple_of, fn_of, fn_to, dyn_of, Params, Clause, Line, crate_line, struct_line, trait_line, impl_line, prove_line, refute_line, later_line, supers_line}
-use Rattle.text_definitions.specs.Declarations.{Declarations, known, impl_owner}
+use Rattle.type_terms.specs.Promised.Label.{of_type}
+use Rattle.text_definitions.specs.Promised.Syntax.{TypeTree, of_primitive, never_type, variable_type, named, reference_to, pointer_to, slice_of, array_of, tuple_of, fn_of, fn_to, dyn_of, Params, Clause, Line, crate_line, struct_line, trait_line, impl_line, prove_line, refute_line, later_line, supers_line}
+use Rattle.text_definitions.specs.Promised.Declarations.{Declarations, known, impl_owner}
 use Rattle.text_definitions.specs.Uses.{args_uses, type_uses, kinds_of_trait, params_of, header_uses}
-use Rattle.text_definitions.specs.Faults.{has_free_param, implements_built_in, is_among, is_auto_name, is_built_in, is_foreign_auto, is_name_use, is_own_struct, is_param, is_struct_in}
+use Rattle.text_definitions.specs.Faults.{has_free_param, implements_built_in, is_built_in, is_foreign_auto, is_name_use, is_own_struct, is_param, is_struct_in}
+use Rattle.text_definitions.specs.Promised.Faults.{is_among, is_auto_name}
 use Rattle.line_reader.specs.Cells.{Cell, primitive_cell, never_cell, slice_cell, variable_cell, named_cell, reference_cell, pointer_cell, array_cell, tuple_cell, dyn_cell, fn_cell, fn_to_cell, binder_onto, type_onto, types_onto, args_onto, item_onto, items_onto}
 use Rattle.line_reader.specs.TypeViews.{cell_of, cells_in}
 use Rattle.line_reader.specs.declared.cell.Cell as code

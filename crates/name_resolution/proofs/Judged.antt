@@ -3,11 +3,12 @@ use Rattle.std.proofs.Common.{◌≡◌, ℕ, suc, ◌+◌, Bool, true, false, L
 use Rattle.std.specs.Prelude.{◌==◌, ◌^◌, nat_le, ◌||◌, ◌&&◌, not, is_some, nat_lt, if◌then◌else◌}
 use Rattle.std.specs.List.{list_any, position_from}
 use Rattle.std.specs.Option.{option_map_or}
-use Rattle.type_terms.specs.Label.{Sort}
+use Rattle.type_terms.specs.Promised.Label.{Sort}
 use Rattle.std.specs.Str.{bytes_eq}
-use Rattle.text_definitions.specs.Syntax.{Params, Line}
+use Rattle.text_definitions.specs.Promised.Syntax.{Params, Line}
 use Rattle.text_definitions.specs.Uses.{Use, crate_use, name_use, trait_use, lifetime_use, variable_use, misfit_use, items_use, number_use, binder_use, binder_uses, declared_name, params_of}
-use Rattle.text_definitions.specs.Faults.{is_among, is_taken_binder, is_unknown_use, is_hidden_use, looking_crate, is_other_sort, is_use_of, is_bad_dyn, passes_in, static_name, is_param, is_hidden_name, repeats, is_long, is_in_scope}
+use Rattle.text_definitions.specs.Promised.Faults.{is_among, repeats}
+use Rattle.text_definitions.specs.Faults.{is_taken_binder, is_unknown_use, is_hidden_use, looking_crate, is_other_sort, is_use_of, is_bad_dyn, passes_in, static_name, is_param, is_hidden_name, is_long, is_in_scope}
 use Rattle.text_definitions.specs.Lowering.{place_among}
 use Rattle.name_resolution.specs.declared.findings.Findings.{Findings}
 use Rattle.name_resolution.specs.Machine.{Sight, items, params, findings, either}

@@ -3,12 +3,13 @@ use Rattle.std.proofs.Common.{◌≡◌, ℕ, Bool, false, List, length, map, ap
 use Rattle.std.specs.Prelude.{◌||◌, ◌&&◌, not, if◌then◌else◌, is_some, nat_le}
 use Rattle.std.specs.List.{list_any}
 use Rattle.std.specs.Option.{option_map_or}
-use Rattle.type_terms.specs.Label.{Sort}
-use Rattle.text_definitions.specs.Syntax.{Line}
-use Rattle.text_definitions.specs.Declarations.{Declarations, known}
+use Rattle.type_terms.specs.Promised.Label.{Sort}
+use Rattle.text_definitions.specs.Promised.Syntax.{Line}
+use Rattle.text_definitions.specs.Promised.Declarations.{Declarations, known}
 use Rattle.text_definitions.specs.Uses.{uses, params_of, declared_name, other_uses}
 use Rattle.text_definitions.specs.Faults as faults
-use Rattle.text_definitions.specs.Faults.{belongs_to_crate, with_own, is_any, is_of_other_kind, is_taken_param, variables_in, tests}
+use Rattle.text_definitions.specs.Faults.{belongs_to_crate, is_any, is_of_other_kind, is_taken_param, variables_in, tests}
+use Rattle.text_definitions.specs.Promised.Faults.{with_own}
 use Rattle.line_reader.specs.Says.{name_said, params_said, is_said_impl}
 use Rattle.line_reader.specs.Statement.{Statement, param_list, line_statement}
 use Rattle.line_reader.proofs.WhatIsSaid.{name-is-said, params-are-said, tests-agree}

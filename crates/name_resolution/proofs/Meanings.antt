@@ -2,11 +2,11 @@
 use Rattle.std.proofs.Common.{◌≡◌, ℕ, Bool, false, List, Option, Some, None, ap, ◌∙◌}
 use Rattle.std.specs.Prelude.{is_some, if◌then◌else◌}
 use Rattle.std.specs.Option.{option_map_or}
-use Rattle.type_terms.specs.Label.{Label, of_type}
-use Rattle.text_definitions.specs.Declarations.{Declarations, Known, a_crate, a_struct, a_trait, known}
-use Rattle.text_definitions.specs.Faults.{is_auto_name}
+use Rattle.type_terms.specs.Promised.Label.{Label, of_type}
+use Rattle.text_definitions.specs.Promised.Declarations.{Declarations, Known, a_crate, a_struct, a_trait, known}
+use Rattle.text_definitions.specs.Promised.Faults.{is_auto_name}
 use Rattle.text_definitions.specs.Lowering.{place_among, struct_label}
-use Rattle.text_definitions.specs.Syntax.{Params}
+use Rattle.text_definitions.specs.Promised.Syntax.{Params}
 use Rattle.name_resolution.specs.LookUps.{place_in}
 use Rattle.name_resolution.specs.Resolved.{named_cell, param_cell, node_cell}
 use Rattle.name_resolution.proofs.Judged.{among-place, place-is}

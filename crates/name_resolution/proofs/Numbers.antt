@@ -5,7 +5,7 @@ use Rattle.std.specs.Borrow.{Bor}
 use Rattle.std.proofs.lemmas.Bool.Decides.{nat_tests}
 use Rattle.line_reader.specs.TokenViews.{text_of}
 use Rattle.text_definitions.specs.Tokens.{number_from}
-use Rattle.text_definitions.specs.Faults.{is_among, repeats}
+use Rattle.text_definitions.specs.Promised.Faults.{is_among, repeats}
 
 pub number-grows : (n : ℕ) (ds : List ℕ) → n ≤ number_from n ds
 number-grows n [] = omega arith

@@ -4,9 +4,10 @@ use Rattle.std.specs.Prelude.{if◌then◌else◌, not, ◌||◌, ◌&&◌}
 use Rattle.std.specs.List.{list_any}
 use Rattle.std.specs.Str.{bytes_eq}
 use Rattle.std.proofs.lemmas.Cmp.{nat_list_eq_equiv}
-use Rattle.type_terms.specs.Label.{Sort}
-use Rattle.type_terms.specs.Trees.{is_sort}
-use Rattle.text_definitions.specs.Faults.{is_among, is_of_other_kind}
+use Rattle.type_terms.specs.Promised.Label.{Sort}
+use Rattle.type_terms.specs.Promised.Trees.{is_sort}
+use Rattle.text_definitions.specs.Promised.Faults.{is_among}
+use Rattle.text_definitions.specs.Faults.{is_of_other_kind}
 use Rattle.name_resolution.specs.Views.{variable_in}
 use Rattle.name_resolution.specs.declared.resolved.Variable.{Variable}
 use Rattle.name_resolution.specs.Variables.{other_kind_names}

@@ -4,11 +4,12 @@ use Rattle.std.specs.Prelude.{◌||◌, ◌&&◌}
 use Rattle.std.specs.List.{list_any, flat_map}
 use Rattle.std.specs.Str.{bytes_eq}
 use Rattle.std.proofs.lemmas.List.Folds.{list_any-append}
-use Rattle.type_terms.specs.Label.{Sort, of_type, of_const, of_lifetime}
-use Rattle.text_definitions.specs.Syntax.{TypeTree, of_primitive, never_type, variable_type, named, reference_to, pointer_to, slice_of, array_of, tuple_of, fn_of, fn_to, dyn_of, Types, no_types, and_type, Args, no_args, and_arg, Arg, lifetime_arg, number_arg, type_arg, Item, bound_item, lifetime_item, Items, no_items, and_item, Bound, Line, crate_line, struct_line, trait_line, impl_line, prove_line, refute_line, later_line, supers_line}
-use Rattle.text_definitions.specs.Declarations.{Declarations, known}
+use Rattle.type_terms.specs.Promised.Label.{Sort, of_type, of_const, of_lifetime}
+use Rattle.text_definitions.specs.Promised.Syntax.{TypeTree, of_primitive, never_type, variable_type, named, reference_to, pointer_to, slice_of, array_of, tuple_of, fn_of, fn_to, dyn_of, Types, no_types, and_type, Args, no_args, and_arg, Arg, lifetime_arg, number_arg, type_arg, Item, bound_item, lifetime_item, Items, no_items, and_item, Bound, Line, crate_line, struct_line, trait_line, impl_line, prove_line, refute_line, later_line, supers_line}
+use Rattle.text_definitions.specs.Promised.Declarations.{Declarations, known}
 use Rattle.text_definitions.specs.Uses.{Use, trait_use, items_use, binder_uses, lifetime_uses, lifetime_arg_uses, number_arg_uses, length_uses, type_misfits, types_count, args_count, next_kind, other_kinds, kinds_of_struct, kinds_of_trait, type_uses, types_uses, args_uses, arg_uses, item_uses, items_uses, bound_uses, uses}
-use Rattle.text_definitions.specs.Faults.{is_use_of, with_own, bounds_use_own}
+use Rattle.text_definitions.specs.Faults.{is_use_of, bounds_use_own}
+use Rattle.text_definitions.specs.Promised.Faults.{with_own}
 use Rattle.name_resolution.specs.Machine.{findings}
 use Rattle.line_reader.specs.Statement.{line_statement}
 use Rattle.name_resolution.specs.Speaks.{is_trait_said}

@@ -3,10 +3,11 @@ use Rattle.std.proofs.Common.{◌≡◌, Bool, true, false, List, length, refl, 
 use Rattle.std.specs.Prelude.{nat_lt, ◌||◌}
 use Rattle.std.specs.List.{list_any}
 use Rattle.std.proofs.lemmas.List.{length-map}
-use Rattle.text_definitions.specs.Syntax.{Line, crate_line, struct_line, trait_line, impl_line, prove_line, refute_line, later_line, supers_line}
-use Rattle.text_definitions.specs.Declarations.{Declarations, kinds_of}
+use Rattle.text_definitions.specs.Promised.Syntax.{Line, crate_line, struct_line, trait_line, impl_line, prove_line, refute_line, later_line, supers_line}
+use Rattle.text_definitions.specs.Promised.Declarations.{Declarations, kinds_of}
 use Rattle.text_definitions.specs.Uses.{params_of, uses, line_depth, asked_uses}
-use Rattle.text_definitions.specs.Faults.{is_full, has_long_name, param_limit, part_limit, depth_limit, variable_limit, with_own, once, variables_in, passes_in, passes_limit}
+use Rattle.text_definitions.specs.Faults.{is_full, has_long_name, param_limit, part_limit, depth_limit, variable_limit, once, variables_in, passes_in, passes_limit}
+use Rattle.text_definitions.specs.Promised.Faults.{with_own}
 use Rattle.line_reader.specs.Says.{params_said, count_said, has_long}
 use Rattle.line_reader.specs.Statement as said
 use Rattle.line_reader.specs.Statement.{Statement, line_statement}

@@ -1,9 +1,9 @@
 -- What the machine ends with is what was looked for.
 use Rattle.std.proofs.Common.{◌≡◌, ℕ, true, List, [], ◌∷◌, length, reverse, Some, sym, ap, ◌∙◌, subst}
 use Rattle.std.proofs.lemmas.List.{append-nil}
-use Rattle.type_terms.specs.Label.{of_type}
-use Rattle.text_definitions.specs.Syntax.{TypeTree, named, Bound, type_arg}
-use Rattle.text_definitions.specs.Declarations.{known}
+use Rattle.type_terms.specs.Promised.Label.{of_type}
+use Rattle.text_definitions.specs.Promised.Syntax.{TypeTree, named, Bound, type_arg}
+use Rattle.text_definitions.specs.Promised.Declarations.{known}
 use Rattle.text_definitions.specs.Faults.{variables_in}
 use Rattle.text_definitions.specs.Uses.{type_uses, trait_use, args_uses, args_count, kinds_of_trait}
 use Rattle.line_reader.specs.Cells.{Cell, type_onto, named_cell}

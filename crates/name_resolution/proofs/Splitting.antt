@@ -3,7 +3,7 @@ use Rattle.std.proofs.Common.{◌≡◌, ◌≤◌, ℕ, suc, ◌-◌, List, [],
 use Rattle.std.specs.Prelude.{min}
 use Rattle.std.specs.List.{flat_map}
 use Rattle.std.proofs.lemmas.List.{length-drop, take_all}
-use Rattle.text_definitions.specs.Syntax.{Line, crate_line, struct_line, trait_line, impl_line, prove_line, refute_line, later_line, supers_line}
+use Rattle.text_definitions.specs.Promised.Syntax.{Line, crate_line, struct_line, trait_line, impl_line, prove_line, refute_line, later_line, supers_line}
 use Rattle.line_reader.specs.Cells.{Cell}
 use Rattle.line_reader.specs.TypeViews.{cells_in}
 use Rattle.line_reader.specs.LineParts.{LinePart, type_part, bound_part, clause_parts, line_parts, type_place, bound_place, clause_places, PartStands, places_in, asked_parts}

@@ -2,7 +2,7 @@
 use Rattle.std.proofs.Common.{◌≡◌, ℕ, zero, suc, ◌+◌, ◌-◌, ◌<◌, ◌≤◌, Bool, true, List, [], ◌∷◌, ◌++◌, map, length, get_or, take, drop, reverse, refl, sym, ap, ◌∙◌, arith, length-append, append_assoc}
 use Rattle.std.proofs.lemmas.List.{append-nil, map-append, reverse-append, length-reverse, take-append-drop}
 use Rattle.std.proofs.Math.Seq.{drop-append_seam, take-suc}
-use Rattle.type_terms.specs.Label.{Sort}
+use Rattle.type_terms.specs.Promised.Label.{Sort}
 use Rattle.line_reader.specs.TypeViews.{cell_of, cells_in}
 use Rattle.line_reader.specs.declared.cell.Cell.{Cell}
 use Rattle.name_resolution.specs.Back.{down_to}

@@ -1,12 +1,13 @@
 -- The cells of a type stand for its tree.
 use Rattle.std.proofs.Common.{◌≡◌, ℕ, suc, ◌+◌, Bool, true, false, List, [], ◌∷◌, ◌++◌, length, Option, Some, None, refl, sym, ap, ◌∙◌, arith, length-append}
 use Rattle.std.specs.Prelude.{if◌then◌else◌}
-use Rattle.type_terms.specs.Label.{Label, Sort, of_type, of_const, of_lifetime, array, slice, tuple, dynamic, fn_ptr, auto_trait, ref, raw_pointer, principal}
-use Rattle.type_terms.specs.Trees.{Trees, none, tree, leaf, ◌+++◌}
-use Rattle.text_definitions.specs.Syntax.{TypeTree, of_primitive, never_type, variable_type, named, reference_to, pointer_to, slice_of, array_of, tuple_of, fn_of, fn_to, dyn_of, Types, no_types, and_type, Args, no_args, and_arg, Arg, lifetime_arg, number_arg, type_arg, Item, bound_item, lifetime_item, Items, no_items, and_item, Length, number_length, name_length, variable_length}
-use Rattle.text_definitions.specs.Declarations.{known}
+use Rattle.type_terms.specs.Promised.Label.{Label, Sort, of_type, of_const, of_lifetime, array, slice, tuple, dynamic, fn_ptr, auto_trait, ref, raw_pointer, principal}
+use Rattle.type_terms.specs.Promised.Trees.{Trees, none, tree, leaf, ◌+++◌}
+use Rattle.text_definitions.specs.Promised.Syntax.{TypeTree, of_primitive, never_type, variable_type, named, reference_to, pointer_to, slice_of, array_of, tuple_of, fn_of, fn_to, dyn_of, Types, no_types, and_type, Args, no_args, and_arg, Arg, lifetime_arg, number_arg, type_arg, Item, bound_item, lifetime_item, Items, no_items, and_item, Length, number_length, name_length, variable_length}
+use Rattle.text_definitions.specs.Promised.Declarations.{known}
 use Rattle.text_definitions.specs.Uses.{next_kind, other_kinds, kinds_of_struct, kinds_of_trait, types_count, args_count}
-use Rattle.text_definitions.specs.Faults.{is_among, is_auto_name, static_name}
+use Rattle.text_definitions.specs.Promised.Faults.{is_among, is_auto_name}
+use Rattle.text_definitions.specs.Faults.{static_name}
 use Rattle.std.specs.Str.{bytes_eq}
 use Rattle.text_definitions.specs.Lowering.{Meanings, place_among, trait_number, struct_label, with_auto, autos, type_label, lifetime_under, lifetime_label, optional_lifetime, length_label, auto_leaves, last_lifetime, item_lifetime, type_tree, types_trees, args_trees, arg_tree, item_tree, items_trees}
 use Rattle.name_resolution.specs.Resolved.{Region, ResolvedCell, node_cell, param_cell, lifetime_cell, reference_cell, region_under, region_of, optional_region, named_cell, length_cell, autos_before, principals_count, principals, item_region, last_region, dyn_before, type_before, types_before, args_before, arg_before, item_before, items_before}

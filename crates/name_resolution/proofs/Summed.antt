@@ -6,8 +6,9 @@ use Rattle.std.proofs.lemmas.List.{length-map}
 use Rattle.line_reader.specs.Cells.{Cell}
 use Rattle.line_reader.specs.TypeViews.{cell_of}
 use Rattle.line_reader.specs.declared.cell.Cell as code
-use Rattle.text_definitions.specs.Declarations.{Declarations, known}
-use Rattle.text_definitions.specs.Faults.{is_auto_name, is_bound, is_late, binds_auto, others, has_early_lifetime, is_bad_dyn, passes_in}
+use Rattle.text_definitions.specs.Promised.Declarations.{Declarations, known}
+use Rattle.text_definitions.specs.Promised.Faults.{is_auto_name}
+use Rattle.text_definitions.specs.Faults.{is_bound, is_late, binds_auto, others, has_early_lifetime, is_bad_dyn, passes_in}
 use Rattle.text_definitions.specs.Lowering.{inserted, trait_number}
 use Rattle.text_definitions.specs.Uses.{ItemShape, bound_shape, lifetime_shape, dyn_use}
 use Rattle.name_resolution.specs.Machine.{Sight, items, findings, shape_autos, shape_principals}

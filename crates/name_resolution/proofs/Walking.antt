@@ -4,7 +4,7 @@ use Rattle.std.specs.Prelude.{◌==◌, nat_le, MatchOption, if◌then◌else◌
 use Rattle.std.specs.Option.{option_to_list}
 use Rattle.text_definitions.specs.Uses.{Use, binder_uses, items_use, trait_use, name_use, variable_use, lifetime_use, lifetime_arg_uses}
 use Rattle.text_definitions.specs.Faults.{variables_in}
-use Rattle.type_terms.specs.Label.{Sort, of_type, of_const, of_lifetime}
+use Rattle.type_terms.specs.Promised.Label.{Sort, of_type, of_const, of_lifetime}
 use Rattle.line_reader.specs.Cells.{Cell}
 use Rattle.name_resolution.specs.declared.findings.Findings.{Findings}
 use Rattle.name_resolution.specs.Machine as machine

@@ -2,7 +2,7 @@
 use Rattle.std.specs.Prelude.{◌≡◌, ℕ, List, [], ◌∷◌, ◌++◌, map, nat_lt}
 use Rattle.std.specs.List.{flat_map}
 use Rattle.text_definitions.specs.Faults.{variables_in, depth_limit}
-use Rattle.text_definitions.specs.Declarations.{known}
+use Rattle.text_definitions.specs.Promised.Declarations.{known}
 use Rattle.text_definitions.specs.Lowering.{trait_number}
 use Rattle.text_definitions.specs.Uses.{Use, greatest}
 use Rattle.line_reader.specs.Cells.{Cell}

@@ -1,8 +1,9 @@
 -- The header of an impl, as it is among the cells of its line.
 use Rattle.std.specs.Prelude.{ℕ, ◌-◌, Bool, false, not, ◌&&◌, List, [], length, take, drop, Option, Some, None, slice_get}
 use Rattle.std.specs.Option.{option_map_or}
-use Rattle.text_definitions.specs.Declarations.{known, impl_owner}
-use Rattle.text_definitions.specs.Faults.{is_auto_name, is_param, is_struct_in}
+use Rattle.text_definitions.specs.Promised.Declarations.{known, impl_owner}
+use Rattle.text_definitions.specs.Promised.Faults.{is_auto_name}
+use Rattle.text_definitions.specs.Faults.{is_param, is_struct_in}
 use Rattle.line_reader.specs.Cells.{Cell, named_cell}
 use Rattle.line_reader.specs.Statement.{Statement, impl_statement}
 use Rattle.line_reader.specs.declared.statement.ClauseSpans.{ClauseSpans}

@@ -1,7 +1,7 @@
 -- What the visit of a type's cells finds.
 use Rattle.std.specs.Prelude.{◌≡◌, ℕ, Bool, false, List, [], ◌∷◌, length, reverse, Option}
-use Rattle.type_terms.specs.Label.{Sort}
-use Rattle.text_definitions.specs.Syntax.{TypeTree, Args, Arg}
+use Rattle.type_terms.specs.Promised.Label.{Sort}
+use Rattle.text_definitions.specs.Promised.Syntax.{TypeTree, Args, Arg}
 use Rattle.text_definitions.specs.Uses.{args_count, arg_uses, args_uses, arg_depth, args_depth}
 use Rattle.line_reader.specs.Cells.{Cell, type_onto, args_onto}
 use Rattle.name_resolution.specs.Resolved.{arg_before, args_before}

@@ -1,7 +1,8 @@
 -- Which limits a statement without its types exceeds.
 use Rattle.std.specs.Prelude.{Bool, false, not, ◌||◌, ◌&&◌, if◌then◌else◌, length, nat_le, nat_lt}
-use Rattle.text_definitions.specs.Declarations.{Declarations, last_later}
-use Rattle.text_definitions.specs.Faults.{crate_limit, question_limit, item_limit, last_items, param_limit, part_limit}
+use Rattle.text_definitions.specs.Promised.Declarations.{Declarations, last_later}
+use Rattle.text_definitions.specs.Faults.{crate_limit, question_limit, item_limit, param_limit, part_limit}
+use Rattle.text_definitions.specs.Promised.Faults.{last_items}
 use Rattle.line_reader.specs.Says.{params_said, count_said, has_long, is_item, is_said_impl}
 use Rattle.line_reader.specs.Statement.{Statement, crate_statement, impl_statement, prove_statement, refute_statement, later_statement, supers_statement}
 

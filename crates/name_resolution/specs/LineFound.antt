@@ -1,7 +1,7 @@
 -- What is found of a line.
 use Rattle.std.specs.Prelude.{◌≡◌, ℕ, List, [], map}
 use Rattle.std.specs.List.{flat_map}
-use Rattle.text_definitions.specs.Syntax.{Line, prove_line, refute_line}
+use Rattle.text_definitions.specs.Promised.Syntax.{Line, prove_line, refute_line}
 use Rattle.text_definitions.specs.Uses.{crate_use}
 use Rattle.line_reader.specs.LineParts.{LinePart, clause_parts, line_parts, named_crates, asked_parts}
 use Rattle.line_reader.specs.Lines.{ReadsLine}

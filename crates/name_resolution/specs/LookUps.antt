@@ -3,10 +3,10 @@ use Rattle.std.specs.Prelude.{ℕ, suc, Bool, false, not, List, [], ◌∷◌, O
 use Rattle.std.specs.List.{position_from}
 use Rattle.std.specs.Option.{option_map_or}
 use Rattle.std.specs.Str.{bytes_eq}
-use Rattle.type_terms.specs.Label.{Sort, of_type, of_const, of_lifetime}
-use Rattle.type_terms.specs.Worlds.{sees}
-use Rattle.text_definitions.specs.Syntax.{Params}
-use Rattle.text_definitions.specs.Declarations.{world_of}
+use Rattle.type_terms.specs.Promised.Label.{Sort, of_type, of_const, of_lifetime}
+use Rattle.type_terms.specs.Promised.Worlds.{sees}
+use Rattle.text_definitions.specs.Promised.Syntax.{Params}
+use Rattle.text_definitions.specs.Promised.Declarations.{world_of}
 use Rattle.text_definitions.specs.Uses.{declared_name}
 use Rattle.text_definitions.specs.Faults.{looking_crate}
 use Rattle.name_resolution.specs.Machine.{Sight}

@@ -2,11 +2,12 @@
 use Rattle.std.specs.Prelude.{◌≡◌, ℕ, zero, suc, ◌-◌, ◌==◌, Bool, true, false, not, ◌||◌, ◌&&◌, List, [], ◌∷◌, ◌++◌, length, map, drop, Option, None, if◌then◌else◌, nat_lt}
 use Rattle.std.specs.List.{list_any}
 use Rattle.std.specs.Option.{option_map, option_map_or}
-use Rattle.type_terms.specs.Label.{Label, Sort, of_type, of_const, of_lifetime, never, array, slice, tuple, fn_ptr, value, raw_pointer, principal}
-use Rattle.text_definitions.specs.Syntax.{Params, Line, Length}
-use Rattle.text_definitions.specs.Declarations.{Declarations, known}
+use Rattle.type_terms.specs.Promised.Label.{Label, Sort, of_type, of_const, of_lifetime, never, array, slice, tuple, fn_ptr, value, raw_pointer, principal}
+use Rattle.text_definitions.specs.Promised.Syntax.{Params, Line, Length}
+use Rattle.text_definitions.specs.Promised.Declarations.{Declarations, known}
 use Rattle.text_definitions.specs.Uses.{ItemShape, bound_shape, lifetime_shape, Use, name_use, trait_use, lifetime_use, variable_use, misfit_use, dyn_use, items_use, next_kind, kinds_of_struct, kinds_of_trait, length_uses, lifetime_uses, lifetime_arg_uses, number_arg_uses, binder_uses, params_of}
-use Rattle.text_definitions.specs.Faults.{with_own, is_taken_binder, is_unknown_use, is_hidden_use, looking_crate, is_other_sort, is_use_of, is_bad_dyn, passes_in, is_auto_name, variables_in}
+use Rattle.text_definitions.specs.Promised.Faults.{with_own, is_auto_name}
+use Rattle.text_definitions.specs.Faults.{is_taken_binder, is_unknown_use, is_hidden_use, looking_crate, is_other_sort, is_use_of, is_bad_dyn, passes_in, variables_in}
 use Rattle.text_definitions.specs.Uses.{declared_name}
 use Rattle.text_definitions.specs.Lowering.{trait_number, inserted}
 use Rattle.line_reader.specs.Cells.{Cell, primitive_cell, never_cell, slice_cell, variable_cell, lifetime_cell, number_cell, named_cell, reference_cell, pointer_cell, array_cell, tuple_cell, dyn_cell, fn_cell, fn_to_cell, bound_cell}

@@ -2,8 +2,9 @@
 use Rattle.std.specs.Prelude.{ℕ, Bool, false, ◌||◌, List, [], ◌∷◌, is_some}
 use Rattle.std.specs.List.{list_any, flat_map}
 use Rattle.std.specs.Option.{option_map_or}
-use Rattle.text_definitions.specs.Declarations.{Declarations, known}
-use Rattle.text_definitions.specs.Faults.{is_among, repeats, static_name}
+use Rattle.text_definitions.specs.Promised.Declarations.{Declarations, known}
+use Rattle.text_definitions.specs.Promised.Faults.{is_among, repeats}
+use Rattle.text_definitions.specs.Faults.{static_name}
 use Rattle.line_reader.specs.Says.{name_said, params_said}
 use Rattle.line_reader.specs.Statement.{Statement, Param, lifetime_param, type_param, const_param}
 

@@ -1,11 +1,12 @@
 -- A type whose names are looked up, as a list of cells. The parts of a cell come before it, and the cell says how many they are.
 use Rattle.std.specs.Prelude.{ℕ, suc, ◌+◌, Bool, List, [], ◌∷◌, length, Option, Some, None, if◌then◌else◌}
 use Rattle.std.specs.Str.{bytes_eq}
-use Rattle.type_terms.specs.Label.{Label, Sort, of_type, of_const, never, array, slice, tuple, dynamic, fn_ptr, auto_trait, value, raw_pointer, principal}
-use Rattle.text_definitions.specs.Syntax.{TypeTree, of_primitive, never_type, variable_type, named, reference_to, pointer_to, slice_of, array_of, tuple_of, fn_of, fn_to, dyn_of, Types, no_types, and_type, Args, no_args, and_arg, Arg, lifetime_arg, number_arg, type_arg, Item, bound_item, lifetime_item, Items, no_items, and_item, Length, number_length, name_length, variable_length, Params}
-use Rattle.text_definitions.specs.Declarations.{Declarations, known}
+use Rattle.type_terms.specs.Promised.Label.{Label, Sort, of_type, of_const, never, array, slice, tuple, dynamic, fn_ptr, auto_trait, value, raw_pointer, principal}
+use Rattle.text_definitions.specs.Promised.Syntax.{TypeTree, of_primitive, never_type, variable_type, named, reference_to, pointer_to, slice_of, array_of, tuple_of, fn_of, fn_to, dyn_of, Types, no_types, and_type, Args, no_args, and_arg, Arg, lifetime_arg, number_arg, type_arg, Item, bound_item, lifetime_item, Items, no_items, and_item, Length, number_length, name_length, variable_length, Params}
+use Rattle.text_definitions.specs.Promised.Declarations.{Declarations, known}
 use Rattle.text_definitions.specs.Uses.{next_kind, other_kinds, kinds_of_struct, kinds_of_trait, types_count, args_count}
-use Rattle.text_definitions.specs.Faults.{is_among, is_auto_name, static_name}
+use Rattle.text_definitions.specs.Promised.Faults.{is_among, is_auto_name}
+use Rattle.text_definitions.specs.Faults.{static_name}
 use Rattle.text_definitions.specs.Lowering.{place_among, trait_number, struct_label, with_auto, autos}
 
 -- A lifetime: a parameter by its index among the line's lifetimes, or one of a binder by how many binders further out it is and its index

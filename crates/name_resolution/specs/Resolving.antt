@@ -1,8 +1,8 @@
 -- What is found of the types and bounds of a line.
 use Rattle.std.specs.Prelude.{◌≡◌, false, List, [], map, nat_lt}
-use Rattle.type_terms.specs.Label.{of_type}
-use Rattle.text_definitions.specs.Syntax.{TypeTree, named, Bound}
-use Rattle.text_definitions.specs.Declarations.{known}
+use Rattle.type_terms.specs.Promised.Label.{of_type}
+use Rattle.text_definitions.specs.Promised.Syntax.{TypeTree, named, Bound}
+use Rattle.text_definitions.specs.Promised.Declarations.{known}
 use Rattle.text_definitions.specs.Faults.{variables_in, depth_limit}
 use Rattle.text_definitions.specs.Lowering.{trait_number}
 use Rattle.text_definitions.specs.Uses.{type_uses, type_depth, bound_uses, bound_depth, kinds_of_trait}

@@ -1,11 +1,11 @@
 -- A summary of the items of a `dyn`, made from the last one on.
 use Rattle.std.specs.Prelude.{ℕ, suc, Bool, true, false, ◌==◌, not, ◌||◌, List, [], ◌∷◌, if◌then◌else◌}
-use Rattle.text_definitions.specs.Declarations.{Declarations, known}
-use Rattle.text_definitions.specs.Faults.{is_auto_name}
+use Rattle.text_definitions.specs.Promised.Declarations.{Declarations, known}
+use Rattle.text_definitions.specs.Promised.Faults.{is_auto_name}
 use Rattle.text_definitions.specs.Lowering.{trait_number, inserted}
 use Rattle.text_definitions.specs.Uses.{ItemShape, bound_shape, lifetime_shape}
 use Rattle.name_resolution.specs.Resolved.{ResolvedCell, Region, node_cell, lifetime_cell, autos_before}
-use Rattle.type_terms.specs.Label.{dynamic}
+use Rattle.type_terms.specs.Promised.Label.{dynamic}
 
 pub record Summary : Type 0 where
   pub is_empty : Bool

@@ -1,8 +1,8 @@
 -- The terms that resolved cells stand for, read from left to right with a stack of terms.
 use Rattle.std.specs.Prelude.{◌≡◌, ℕ, zero, suc, ◌+◌, List, [], ◌∷◌, length}
-use Rattle.type_terms.specs.Label.{Label, Sort, of_type, of_const, of_lifetime, static, ref, bound}
-use Rattle.type_terms.specs.Trees.{Trees, none, tree, leaf, ◌+++◌}
-use Rattle.text_definitions.specs.Syntax.{TypeTree}
+use Rattle.type_terms.specs.Promised.Label.{Label, Sort, of_type, of_const, of_lifetime, static, ref, bound}
+use Rattle.type_terms.specs.Promised.Trees.{Trees, none, tree, leaf, ◌+++◌}
+use Rattle.text_definitions.specs.Promised.Syntax.{TypeTree}
 use Rattle.text_definitions.specs.Lowering.{Meanings, variable_label, type_tree}
 use Rattle.name_resolution.specs.Resolved.{Region, static_region, param_region, bound_region, ResolvedCell, node_cell, param_cell, variable_cell, lifetime_cell, reference_cell, type_before}
 

@@ -4,10 +4,11 @@ use Rattle.std.specs.Borrow.{Bor}
 use Rattle.std.specs.List.{list_any}
 use Rattle.std.specs.HashSet.{contains}
 use Rattle.std.specs.Str.{bytes_eq}
-use Rattle.type_terms.specs.Label.{Sort}
-use Rattle.text_definitions.specs.Syntax.{TypeTree, Args, name_length}
-use Rattle.text_definitions.specs.Declarations.{Declarations}
-use Rattle.text_definitions.specs.Faults.{is_among, is_name_use}
+use Rattle.type_terms.specs.Promised.Label.{Sort}
+use Rattle.text_definitions.specs.Promised.Syntax.{TypeTree, Args, name_length}
+use Rattle.text_definitions.specs.Promised.Declarations.{Declarations}
+use Rattle.text_definitions.specs.Promised.Faults.{is_among}
+use Rattle.text_definitions.specs.Faults.{is_name_use}
 use Rattle.text_definitions.specs.Uses.{type_uses, args_uses}
 use Rattle.line_reader.specs.Cells.{Cell, named_cell, array_cell, type_onto, args_onto}
 use Rattle.name_resolution.specs.declared.name_set.NameSet.{NameSet}

@@ -1,7 +1,7 @@
 -- Variables that are used both where constants and where types are expected.
 use Rattle.std.specs.Prelude.{ℕ, Bool, List, [], ◌∷◌, if◌then◌else◌}
-use Rattle.type_terms.specs.Label.{Sort, of_type, of_const, of_lifetime}
-use Rattle.type_terms.specs.Trees.{is_sort}
+use Rattle.type_terms.specs.Promised.Label.{Sort, of_type, of_const, of_lifetime}
+use Rattle.type_terms.specs.Promised.Trees.{is_sort}
 use Rattle.std.specs.List.{list_any}
 use Rattle.text_definitions.specs.Faults.{is_of_other_kind}
 use Rattle.name_resolution.specs.UsedNames.{Holds}

@@ -2,7 +2,7 @@
 use Rattle.std.specs.Prelude.{ℕ, List, [], ◌∷◌, map, reverse, take}
 use Rattle.std.specs.Borrow.{Bor}
 use Rattle.std.specs.declared.vec.Vec.{Vec}
-use Rattle.type_terms.specs.Label as label
+use Rattle.type_terms.specs.Promised.Label as label
 use Rattle.text_definitions.specs.Tokens.{number_from}
 use Rattle.line_reader.specs.TokenViews.{primitive_label, text_of}
 use Rattle.line_reader.specs.TypeViews.{cells_in}

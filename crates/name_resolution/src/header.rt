@@ -2,9 +2,10 @@
 ghost use Rattle.std.specs.Prelude.{◌≡◌, ◌-◌, ◌&&◌, ℕ, List, [], false, not, map, take, drop, IfOk};
 ghost use Rattle.std.specs.List.{list_any};
 ghost use Rattle.std.specs.Option.{option_copied, option_map, option_map_or};
-ghost use Rattle.text_definitions.specs.Syntax.{Line};
-ghost use Rattle.text_definitions.specs.Declarations.{Declarations, known, impl_owner};
-ghost use Rattle.text_definitions.specs.Faults.{has_free_param, implements_built_in, is_among, is_auto_name, is_built_in, is_foreign_auto, is_struct_in};
+ghost use Rattle.text_definitions.specs.Promised.Syntax.{Line};
+ghost use Rattle.text_definitions.specs.Promised.Declarations.{Declarations, known, impl_owner};
+ghost use Rattle.text_definitions.specs.Faults.{has_free_param, implements_built_in, is_built_in, is_foreign_auto, is_struct_in};
+ghost use Rattle.text_definitions.specs.Promised.Faults.{is_among, is_auto_name};
 ghost use Rattle.line_reader.specs.TokenViews.{text_of};
 ghost use Rattle.line_reader.specs.TypeViews.{cell_of, cells_in};
 ghost use Rattle.line_reader.specs.Lines.{ReadsLine};

@@ -1,9 +1,9 @@
 //! What the names of types stand for among the resolved cells.
 ghost use Rattle.std.specs.Prelude.{◌≡◌, List, ◌∷◌};
 ghost use Rattle.std.specs.Option.{option_map};
-ghost use Rattle.text_definitions.specs.Declarations.{known};
+ghost use Rattle.text_definitions.specs.Promised.Declarations.{known};
 ghost use Rattle.text_definitions.specs.Uses.{kinds_of_struct, kinds_of_trait};
-ghost use Rattle.text_definitions.specs.Faults.{is_auto_name};
+ghost use Rattle.text_definitions.specs.Promised.Faults.{is_auto_name};
 ghost use Rattle.text_definitions.specs.Lowering.{place_among, struct_label, trait_number};
 ghost use Rattle.line_reader.specs.TypeViews.{length_of};
 ghost use Rattle.name_resolution.specs.LookUps.{params_of_sort};

@@ -2,8 +2,8 @@
 //! looked for. So no test has to know what was tested before.
 ghost use Rattle.std.specs.Prelude.{◌≡◌, ◌||◌, ◌&&◌, false, map, is_some, length, nat_le, IfOk};
 ghost use Rattle.std.specs.Option.{option_map, option_map_or};
-ghost use Rattle.text_definitions.specs.Syntax.{Line};
-ghost use Rattle.text_definitions.specs.Declarations.{known};
+ghost use Rattle.text_definitions.specs.Promised.Syntax.{Line};
+ghost use Rattle.text_definitions.specs.Promised.Declarations.{known};
 ghost use Rattle.text_definitions.specs.Faults.{is_any, tests, first_of, fault_of};
 ghost use Rattle.line_reader.specs.Lines.{ReadsLine};
 ghost use Rattle.line_reader.specs.Says.{name_said};

@@ -2,13 +2,14 @@
 ghost use Rattle.std.specs.Prelude.{◌≡◌, ℕ, ◌+◌, ◌-◌, ◌*◌, ◌^◌, ◌≤◌, [], ◌∷◌, false, map, not, nat_le, IfOk, MatchOption};
 ghost use Rattle.std.specs.List.{list_any};
 ghost use Rattle.std.specs.Option.{option_map, option_map_or, option_and_then};
-ghost use Rattle.type_terms.specs.Label as label;
+ghost use Rattle.type_terms.specs.Promised.Label as label;
 ghost use Rattle.line_reader.specs.TokenViews.{text_of};
 ghost use Rattle.line_reader.specs.TypeViews.{length_of};
 ghost use Rattle.text_definitions.specs.Tokens.{number_from};
 ghost use Rattle.text_definitions.specs.Uses.{crate_use, name_use, trait_use, lifetime_use, lifetime_uses, variable_use, misfit_use, items_use, number_use, number_arg_uses, length_uses, binder_uses};
-ghost use Rattle.text_definitions.specs.Faults.{is_crate, is_unknown_use, is_other_sort, is_param, home_of, is_known_name, is_hidden_name, looking_crate, is_param_of, is_type_of, is_trait_of, is_in_scope, is_among, repeats, is_long, static_name};
-ghost use Rattle.text_definitions.specs.Declarations.{Known, known};
+ghost use Rattle.text_definitions.specs.Faults.{is_crate, is_unknown_use, is_other_sort, is_param, home_of, is_known_name, is_hidden_name, looking_crate, is_param_of, is_type_of, is_trait_of, is_in_scope, is_long, static_name};
+ghost use Rattle.text_definitions.specs.Promised.Faults.{is_among, repeats};
+ghost use Rattle.text_definitions.specs.Promised.Declarations.{Known, known};
 ghost use Rattle.name_resolution.specs.LookUps.{is_hidden_home};
 ghost use Rattle.workspace.specs.Views.{known_of, sort_of_kind};
 ghost use Rattle.name_resolution.specs.Views.{region_in};

@@ -1,6 +1,6 @@
 //! Limits that a line exceeds.
 ghost use Rattle.std.specs.Prelude.{◌≡◌, length, nat_lt, IfOk};
-ghost use Rattle.text_definitions.specs.Syntax.{Line};
+ghost use Rattle.text_definitions.specs.Promised.Syntax.{Line};
 ghost use Rattle.text_definitions.specs.Faults.{param_limit, passes_limit};
 ghost use Rattle.line_reader.specs.Lines.{ReadsLine};
 ghost use Rattle.line_reader.specs.Says.{params_said};

@@ -1,7 +1,7 @@
 //! What the names of a line stand for.
 ghost use Rattle.std.specs.Prelude.{◌≡◌, length};
 ghost use Rattle.std.specs.Option.{option_map};
-ghost use Rattle.text_definitions.specs.Declarations.{known};
+ghost use Rattle.text_definitions.specs.Promised.Declarations.{known};
 ghost use Rattle.name_resolution.specs.Machine.{Sight, items, params};
 ghost use Rattle.name_resolution.specs.LookUps.{is_hidden_home, is_own_name, place_in, params_of_sort};
 ghost use Rattle.workspace.specs.Views.{known_of, sort_of_kind};

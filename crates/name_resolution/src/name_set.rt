@@ -1,6 +1,6 @@
 //! Sets of names.
 ghost use Rattle.std.specs.Prelude.{◌≡◌, ℕ, List, [], ◌∷◌, ◌++◌, OnOk};
-ghost use Rattle.text_definitions.specs.Faults.{is_among};
+ghost use Rattle.text_definitions.specs.Promised.Faults.{is_among};
 ghost use Rattle.line_reader.specs.TypeViews.{cell_of, cells_in};
 ghost use Rattle.name_resolution.specs.UsedNames.{Holds, name_of, names_with};
 

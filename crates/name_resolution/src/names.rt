@@ -1,7 +1,7 @@
 //! What is declared before a line, and what its names are looked up in.
 ghost use Rattle.std.specs.Prelude.{◌≡◌, length, is_some};
-ghost use Rattle.text_definitions.specs.Declarations.{known, impl_owner, last_later};
-ghost use Rattle.text_definitions.specs.Faults.{last_items};
+ghost use Rattle.text_definitions.specs.Promised.Declarations.{known, impl_owner, last_later};
+ghost use Rattle.text_definitions.specs.Promised.Faults.{last_items};
 
 use crate::looked_up::Names;
 use type_terms::CrateId;

@@ -1,7 +1,7 @@
 //! The names of a line's parameters.
 ghost use Rattle.std.specs.Prelude.{◌≡◌, ◌++◌, [], map, is_some, IfOk, OnOk};
 ghost use Rattle.std.specs.List.{list_any};
-ghost use Rattle.text_definitions.specs.Declarations.{known};
+ghost use Rattle.text_definitions.specs.Promised.Declarations.{known};
 ghost use Rattle.line_reader.specs.TokenViews.{text_of};
 ghost use Rattle.line_reader.specs.Views.{param_of, params_in};
 ghost use Rattle.name_resolution.specs.Machine.{items};

@@ -1,7 +1,7 @@
 //! Types and bounds of a line are looked up.
 ghost use Rattle.std.specs.Prelude.{◌≡◌, List, [], length, IfOk, OnOk};
-ghost use Rattle.text_definitions.specs.Syntax.{Bound};
-ghost use Rattle.text_definitions.specs.Declarations.{known};
+ghost use Rattle.text_definitions.specs.Promised.Syntax.{Bound};
+ghost use Rattle.text_definitions.specs.Promised.Declarations.{known};
 ghost use Rattle.text_definitions.specs.Lowering.{trait_number};
 ghost use Rattle.line_reader.specs.Cells as cell;
 ghost use Rattle.line_reader.specs.TypeViews.{cells_in};

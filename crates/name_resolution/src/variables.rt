@@ -1,8 +1,8 @@
 //! Variables of two kinds.
 ghost use Rattle.std.specs.Prelude.{◌≡◌, ℕ, List, map, IfOk};
 ghost use Rattle.std.specs.List.{list_any};
-ghost use Rattle.type_terms.specs.Label as label;
-ghost use Rattle.type_terms.specs.Trees.{is_sort};
+ghost use Rattle.type_terms.specs.Promised.Label as label;
+ghost use Rattle.type_terms.specs.Promised.Trees.{is_sort};
 ghost use Rattle.text_definitions.specs.Faults.{is_of_other_kind};
 ghost use Rattle.workspace.specs.Views.{sort_of_kind};
 ghost use Rattle.name_resolution.specs.UsedNames.{Holds};

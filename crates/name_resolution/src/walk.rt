@@ -8,7 +8,7 @@ ghost use Rattle.name_resolution.specs.WalkViews.{place_of, frame_of, frames_in,
 ghost use Rattle.name_resolution.specs.Machine.{Sight, reference_step, lifetime_step, leaf_step, variable_step, number_step, named_step, wrapped_step, array_step, tuple_step, fn_step, fn_to_step, bound_step, fn_frame, params, is_const_place, deeper, type_place, outer_scope, going, using};
 ghost use Rattle.name_resolution.specs.Back.{down_to};
 ghost use Rattle.name_resolution.specs.Resolved.{node_cell, length_cell};
-ghost use Rattle.type_terms.specs.Label as label;
+ghost use Rattle.type_terms.specs.Promised.Label as label;
 ghost use Rattle.text_definitions.specs.Tokens.{number_from};
 ghost use Rattle.text_definitions.specs.Uses.{length_uses, lifetime_use};
 ghost use Rattle.line_reader.specs.TypeViews.{cells_in, length_of};

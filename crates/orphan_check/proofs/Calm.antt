@@ -1,7 +1,8 @@
 -- Where a normalizer answers its input, no step is refused, and none lies too deep but where the limit is below the depth.
 use Rattle.std.proofs.Common.{if◌then◌else◌, ◌≡◌, ℕ, ◌<◌, max, zero, suc, refl, sym, ap, subst, ◌∙◌, arith, Bool, true, false, List, [], ◌∷◌, ◌++◌, Some, Ok}
-use Rattle.type_terms.specs.Label.{of_type, infer}
-use Rattle.type_terms.specs.Trees.{Trees, none, tree, ◌+++◌, is_sort, sort_of, Single, depth}
+use Rattle.type_terms.specs.Promised.Label.{of_type, infer}
+use Rattle.type_terms.specs.Promised.Trees.{Trees, none, tree, ◌+++◌, is_sort, sort_of}
+use Rattle.type_terms.specs.Trees.{Single, depth}
 use Rattle.infer_table.specs.Solutions.{resolved, Acyclic, AllValued}
 use Rattle.infer_table.specs.Resolving.{followed}
 use Rattle.infer_table.specs.WellFormed.{is_numbered}
@@ -9,8 +10,8 @@ use Rattle.infer_table.proofs.ContentFacts.{AllSorted}
 use Rattle.infer_table.proofs.SolutionLaws.{resolved-append, resolved-rigid}
 use Rattle.infer_table.proofs.ResolveFacts.{resolved-followed}
 use Rattle.infer_table.proofs.Places.{in_terms, AreTrees, IsOneTree, AllTrees}
-use Rattle.declarations.specs.Merges.{Each}
-use Rattle.orphan_check.specs.Looks.{Look, local_type, open_type, leaf_type, passage, look}
+use Rattle.declarations.specs.Promised.Elaboration.{Each}
+use Rattle.type_terms.specs.Promised.OrphanErrors.{Look, local_type, open_type, leaf_type, passage, look}
 use Rattle.orphan_check.specs.Steps.{Reading, Step, refused, too_deep, entered, met_local, met_open, met_foreign, steps_in, step_of, steps_at, steps_to, steps, first_end, second_end}
 use Rattle.orphan_check.proofs.Reading.{read-is, read-one, resolved-one, inner-terms, head-and-rest}
 use Rattle.declarations.proofs.Basics.{each-append}

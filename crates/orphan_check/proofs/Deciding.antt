@@ -5,11 +5,11 @@ use Rattle.std.proofs.lemmas.List.{append_cancel_right, append-nil}
 use Rattle.std.specs.Prelude.{OnOk, OnErr, nat_eq}
 use Rattle.std.specs.List.{list_any}
 use Rattle.std.specs.HashSet.{HashSet, contains, Updates, IsUnchanged}
-use Rattle.type_terms.specs.Label.{of_type}
-use Rattle.type_terms.specs.Trees.{Trees, none, tree, is_sort, sort_of}
-use Rattle.type_terms.specs.Terms.{Entry, Has, types, trees_at}
+use Rattle.type_terms.specs.Promised.Label.{of_type}
+use Rattle.type_terms.specs.Promised.Trees.{Trees, none, tree, is_sort, sort_of}
+use Rattle.type_terms.specs.Promised.Handles.{Entry, Has, types, trees_at}
 use Rattle.type_terms.specs.declared.kinds.Ty.{Ty}
-use Rattle.declarations.specs.Merges.{Each}
+use Rattle.declarations.specs.Promised.Elaboration.{Each}
 use Rattle.orphan_check.specs.declared.errors.IsFirstInputType.{IsFirstInputType}
 use Rattle.orphan_check.specs.declared.errors.WalkError.{WalkError}
 use Rattle.orphan_check.specs.declared.errors.WalkError.TheVariants.{Normalize, Deep, Memory}
@@ -17,8 +17,8 @@ use Rattle.orphan_check.specs.declared.visited.Visit.{Visit}
 use Rattle.orphan_check.specs.declared.walk.Met.{Met}
 use Rattle.orphan_check.specs.declared.walk.Met.TheVariants.{Entered, Local, NonLocal, Uncovered}
 use Rattle.orphan_check.specs.declared.walk.Pending.{Pending}
-use Rattle.orphan_check.specs.Flags.{is_first}
-use Rattle.orphan_check.specs.Looks.{Look, local_type, open_type, leaf_type, passage, look}
+use Rattle.orphan_check.specs.Promised.Errors.{is_first}
+use Rattle.type_terms.specs.Promised.OrphanErrors.{Look, local_type, open_type, leaf_type, passage, look}
 use Rattle.orphan_check.specs.Steps.{Reading, Step, refused, too_deep, entered, met_local, met_open, met_foreign, read, steps_in, step_of, steps_at, steps_to, first_end}
 use Rattle.orphan_check.specs.Visited.{visit_eq, visit_at}
 use Rattle.orphan_check.specs.Walks.{ArePending, AreOnTop, IsVisit, IsDecisive, steps_before, pending_steps, step_met}

@@ -1,7 +1,7 @@
 -- Ends of walks.
 use Rattle.std.proofs.Common.{refl, true, false, Bool, ◌≡◌, sym, ap, subst, ◌∙◌, inl, inr, List, Option, Some, None, Ok, Err}
-use Rattle.type_terms.specs.Trees.{Trees}
-use Rattle.type_terms.specs.Terms.{Entry, trees_at}
+use Rattle.type_terms.specs.Promised.Trees.{Trees}
+use Rattle.type_terms.specs.Promised.Handles.{Entry, trees_at}
 use Rattle.type_terms.specs.declared.kinds.Ty.{Ty}
 use Rattle.orphan_check.specs.declared.errors.OrphanCheckMode.{OrphanCheckMode}
 use Rattle.orphan_check.specs.declared.errors.InCrate.{InCrate}

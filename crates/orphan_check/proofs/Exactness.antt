@@ -2,14 +2,16 @@
 use Rattle.std.proofs.Common.{arith, ◌≡◌, ◌⊎◌, ℕ, ◌<◌, refl, sym, ap, ◌∙◌, inl, inr, Bool, true, false, not, ◌&&◌, ◌||◌, ◌==◌, List, [], ◌∷◌, map, Option, Some, None, Result, Ok, Err}
 use Rattle.std.specs.Option.{option_map}
 use Rattle.std.specs.List.{list_all}
-use Rattle.type_terms.specs.Trees.{Trees, depth}
-use Rattle.type_terms.specs.Worlds.{World, Reference}
-use Rattle.type_terms.specs.Walks.{trait_is, item_in, walk, open_walk, ends_local}
-use Rattle.type_terms.specs.Terms.{Entry, trees_at, Lawful, Has, args_lists}
+use Rattle.type_terms.specs.Promised.Trees.{Trees}
+use Rattle.type_terms.specs.Trees.{depth}
+use Rattle.type_terms.specs.Promised.Worlds.{World, Reference}
+use Rattle.type_terms.specs.Promised.Walks.{trait_is, item_in, walk, open_walk, ends_local}
+use Rattle.type_terms.specs.Promised.Handles.{Entry, trees_at, Has}
+use Rattle.type_terms.specs.Terms.{Lawful, args_lists}
 use Rattle.type_terms.specs.declared.kinds.Ty.{Ty}
 use Rattle.infer_table.specs.Solutions.{resolved}
 use Rattle.infer_table.specs.Content.{Table, content, Ready}
-use Rattle.declarations.specs.Merges.{Each}
+use Rattle.declarations.specs.Promised.Elaboration.{Each}
 use Rattle.orphan_check.specs.declared.errors.Conflict.{Conflict}
 use Rattle.orphan_check.specs.declared.errors.Conflict.TheVariants.{Upstream, Downstream}
 use Rattle.orphan_check.specs.declared.errors.OrphanCheckMode.{OrphanCheckMode}
@@ -19,8 +21,9 @@ use Rattle.orphan_check.specs.declared.errors.OrphanCheckErr.{OrphanCheckErr}
 use Rattle.orphan_check.specs.declared.errors.OrphanCheckErr.TheVariants.{NonLocalInputType, UncoveredTyParams}
 use Rattle.orphan_check.specs.declared.errors.WalkError.{WalkError}
 use Rattle.orphan_check.specs.declared.errors.WalkError.TheVariants.{Normalize, Deep, Memory}
-use Rattle.orphan_check.specs.Flags.{is_first, leaves_in}
-use Rattle.orphan_check.specs.Items.{WalkItem, local_item, open_item, items, decisive, first_local, foreign_leaves, OrphanError, nonlocal, uncovered, error_at, orphan_error}
+use Rattle.orphan_check.specs.Promised.Errors.{is_first}
+use Rattle.orphan_check.specs.Flags.{leaves_in}
+use Rattle.type_terms.specs.Promised.OrphanErrors.{WalkItem, local_item, open_item, items, decisive, first_local, foreign_leaves, OrphanError, nonlocal, uncovered, error_at, orphan_error}
 use Rattle.orphan_check.specs.Steps.{Reading, Step, refused, too_deep, entered, met_local, met_open, met_foreign, first_end, second_end, leaves, reading, steps}
 use Rattle.orphan_check.specs.Answers.{Passes, IsLocalType, IsDeep, IsTooDeep, IsOrphanAnswer, IsBarred, IsKnowableAnswer}
 use Rattle.orphan_check.specs.Knowing.{meets_open, IsKnowableBy}

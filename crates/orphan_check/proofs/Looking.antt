@@ -1,16 +1,17 @@
 -- The bounds of a `dyn` without a principal are no local type.
 use Rattle.std.proofs.Common.{◌≡◌, ℕ, refl, ap, ◌∙◌, List, [], ◌∷◌, Option, None}
-use Rattle.type_terms.specs.Trees.{◌+++◌, leaf}
-use Rattle.type_terms.specs.Worlds.{World}
-use Rattle.type_terms.specs.Terms.{Entry}
-use Rattle.type_terms.specs.Kinds.{region_label, region_trees, autos_trees, bounds_trees, principal_trees}
+use Rattle.type_terms.specs.Promised.Trees.{◌+++◌, leaf}
+use Rattle.type_terms.specs.Promised.Worlds.{World}
+use Rattle.type_terms.specs.Promised.Handles.{Entry}
+use Rattle.type_terms.specs.Promised.Handles.{region_label, region_trees}
+use Rattle.type_terms.specs.Kinds.{autos_trees, bounds_trees, principal_trees}
 use Rattle.type_terms.specs.declared.TraitId.{TraitId}
 use Rattle.type_terms.specs.declared.kinds.BoundsData.{BoundsData}
 use Rattle.type_terms.specs.declared.region.Region.{Region}
 use Rattle.type_terms.specs.declared.region.RegionKind.{RegionKind}
 use Rattle.type_terms.specs.declared.region.RegionKind.TheVariants.{ReStatic, ReEarlyParam, RePlaceholder, ReBound, ReVar}
 use Rattle.type_terms.specs.declared.number.BoundVarIndexKind.TheVariants.{Bound as KBinder, Canonical as KCanonical}
-use Rattle.orphan_check.specs.Looks.{leaf_type, dyn_look}
+use Rattle.type_terms.specs.Promised.OrphanErrors.{leaf_type, dyn_look}
 
 region-leaf : (V : World) (d : Option ℕ) (k : RegionKind) → dyn_look V d (leaf (region_label k)) ≡ leaf_type
 region-leaf V d ReStatic = refl

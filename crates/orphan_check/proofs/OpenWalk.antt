@@ -1,16 +1,19 @@
 -- What decides the walk of a type as it is written, by how the type is taken and by its flags.
 use Rattle.std.proofs.Common.{if◌then◌else◌, arith, length, take, get_or, ◌≡◌, ◌+◌, ◌<◌, ◌≤◌, ◌⊎◌, inl, inr, ℕ, refl, sym, ap, subst, ◌∙◌, Bool, true, false, IsTrue, not, ◌||◌, List, [], ◌∷◌, ◌++◌, Option, Some, None}
 use Rattle.std.specs.List.{list_any}
-use Rattle.type_terms.specs.Label.{Label, of_type, of_const, of_lifetime, adt, ref, dynamic, principal, param, placeholder, infer, canonical, bound}
-use Rattle.type_terms.specs.Trees.{Trees, none, tree, ◌+++◌, is_sort, sort_of, IsA, depth, some_node}
-use Rattle.type_terms.specs.Worlds.{World, StructDecl, TraitDecl, structs_named, traits_named}
-use Rattle.type_terms.specs.Walks.{Met, local, struct_leaf, dyn_leaf, entered, other_leaf, open_place, struct_is, trait_is, is_home, visited, until_decisive, ends_local}
-use Rattle.type_terms.specs.Versions.{is_open_place}
+use Rattle.type_terms.specs.Promised.Label.{Label, of_type, of_const, of_lifetime, adt, ref, dynamic, principal, param, placeholder, infer, canonical, bound}
+use Rattle.type_terms.specs.Promised.Trees.{Trees, none, tree, ◌+++◌, is_sort, sort_of, IsA, some_node}
+use Rattle.type_terms.specs.Trees.{depth}
+use Rattle.type_terms.specs.Promised.Worlds.{World, StructDecl, TraitDecl, structs_named, traits_named}
+use Rattle.type_terms.specs.Promised.Walks.{Met, local, struct_leaf, dyn_leaf, entered, other_leaf, open_place, struct_is, trait_is, is_home, visited, until_decisive, ends_local}
+use Rattle.type_terms.specs.Promised.Versions.{is_open_place}
 use Rattle.type_terms.proofs.Walking.{visited-append}
 use Rattle.type_terms.specs.Pieces.{one_piece}
 use Rattle.type_terms.specs.Scans.{some_node_of, has_flag}
-use Rattle.type_terms.specs.Terms.{Entry, Lawful, trees_at}
-use Rattle.type_terms.specs.Kinds.{region_label, region_trees, arg_trees, args_trees, ArgHeld}
+use Rattle.type_terms.specs.Promised.Handles.{Entry, trees_at}
+use Rattle.type_terms.specs.Terms.{Lawful}
+use Rattle.type_terms.specs.Promised.Handles.{region_label, region_trees, arg_trees, ArgHeld}
+use Rattle.type_terms.specs.Kinds.{args_trees}
 use Rattle.type_terms.specs.declared.kinds.GenericArgKind.{GenericArgKind}
 use Rattle.type_terms.specs.declared.kinds.GenericArgKind.TheVariants.{Lifetime, Ty, Const}
 use Rattle.type_terms.specs.declared.kinds.Const as of-const
@@ -22,8 +25,8 @@ use Rattle.orphan_check.specs.declared.decisive.Decisive.TheVariants.{Local, Unc
 use Rattle.orphan_check.specs.declared.look.Taken.{Taken}
 use Rattle.orphan_check.specs.declared.look.Taken.TheVariants as taken
 use Rattle.orphan_check.specs.Decisive.{first_decisive, is_uncovered}
-use Rattle.orphan_check.specs.Items.{WalkItem, item_of, items}
-use Rattle.orphan_check.specs.Looks.{Look, local_type, open_type, leaf_type, passage, look, dyn_look}
+use Rattle.type_terms.specs.Promised.OrphanErrors.{WalkItem, item_of, items}
+use Rattle.type_terms.specs.Promised.OrphanErrors.{Look, local_type, open_type, leaf_type, passage, look, dyn_look}
 use Rattle.orphan_check.specs.Walks.{IsTaken, is_local}
 use Rattle.orphan_check.proofs.Calm.{depth-append}
 use Rattle.orphan_check.proofs.Stepping.{region-sort, const-is}

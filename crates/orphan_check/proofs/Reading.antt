@@ -1,11 +1,12 @@
 -- Where a normalizer answers its input, the steps of a walk are the items of the reference with the values of its variables.
 use Rattle.std.proofs.Common.{if◌then◌else◌, ◌≡◌, ℕ, zero, suc, refl, sym, ap, subst, ◌∙◌, Bool, true, false, List, [], ◌∷◌, ◌++◌, append_assoc, Option, Some, None, Ok}
-use Rattle.type_terms.specs.Label.{Label, Sort, of_type, of_const, of_lifetime, dynamic, principal, auto_trait, infer, predicate, ref, adt}
-use Rattle.type_terms.specs.Trees.{Trees, none, tree, ◌+++◌, is_sort, sort_of, Single}
-use Rattle.type_terms.specs.Worlds.{World}
+use Rattle.type_terms.specs.Promised.Label.{Label, Sort, of_type, of_const, of_lifetime, dynamic, principal, auto_trait, infer, predicate, ref, adt}
+use Rattle.type_terms.specs.Promised.Trees.{Trees, none, tree, ◌+++◌, is_sort, sort_of}
+use Rattle.type_terms.specs.Trees.{Single}
+use Rattle.type_terms.specs.Promised.Worlds.{World}
 use Rattle.infer_table.specs.Solutions.{Binding, resolved, is_variable, value_in, Acyclic, HasValues, AllValued}
 use Rattle.infer_table.proofs.ContentFacts.{AllSorted}
-use Rattle.type_terms.specs.Walks.{trait_is, is_home}
+use Rattle.type_terms.specs.Promised.Walks.{trait_is, is_home}
 use Rattle.infer_table.specs.Content.{IsUnbound}
 use Rattle.infer_table.specs.Resolving.{followed, is_open}
 use Rattle.infer_table.specs.Unification.{term_sort}
@@ -14,8 +15,8 @@ use Rattle.infer_table.proofs.SolutionLaws.{resolved-append, resolved-none, reso
 use Rattle.infer_table.proofs.ResolveFacts.{resolved-followed}
 use Rattle.infer_table.proofs.Places.{in_terms, in_object, AreTrees, IsOneTree, AllTrees}
 use Rattle.infer_table.proofs.WellFacts.{followed-one, followed-terms, followed-open}
-use Rattle.orphan_check.specs.Looks.{Look, local_type, open_type, leaf_type, passage, look, dyn_look}
-use Rattle.orphan_check.specs.Items.{WalkItem, local_item, open_item, foreign_item, item_of, items}
+use Rattle.type_terms.specs.Promised.OrphanErrors.{Look, local_type, open_type, leaf_type, passage, look, dyn_look}
+use Rattle.type_terms.specs.Promised.OrphanErrors.{WalkItem, local_item, open_item, foreign_item, item_of, items}
 use Rattle.orphan_check.specs.Steps.{Reading, Step, refused, too_deep, entered, met_local, met_open, met_foreign, settled, read, steps_in, step_of, steps_at, steps_to, steps}
 use Rattle.type_terms.proofs.ListBasics.{append-empty}
 use Rattle.type_terms.proofs.BooleanBasics.{if-false, if-true}

@@ -1,9 +1,11 @@
 -- Steps of a walk, and the types that wait on its stack.
 use Rattle.std.proofs.Common.{if◌then◌else◌, arith, length, ◌-◌, ◌≡◌, ℕ, suc, refl, sym, ap, subst, ◌∙◌, Bool, true, false, List, [], ◌∷◌, ◌++◌, append_assoc, Result, Ok, Err}
-use Rattle.type_terms.specs.Label.{Label, of_type, of_const, of_lifetime}
-use Rattle.type_terms.specs.Trees.{Trees, none, tree, ◌+++◌, is_sort, sort_of, IsA}
-use Rattle.type_terms.specs.Terms.{Entry, Has, Lawful, types, consts, trees_at}
-use Rattle.type_terms.specs.Kinds.{region_label, region_trees, arg_trees, args_trees, ArgHeld, ArgsHeld}
+use Rattle.type_terms.specs.Promised.Label.{Label, of_type, of_const, of_lifetime}
+use Rattle.type_terms.specs.Promised.Trees.{Trees, none, tree, ◌+++◌, is_sort, sort_of, IsA}
+use Rattle.type_terms.specs.Promised.Handles.{Entry, Has, types, consts, trees_at}
+use Rattle.type_terms.specs.Terms.{Lawful}
+use Rattle.type_terms.specs.Promised.Handles.{region_label, region_trees, arg_trees, ArgHeld, ArgsHeld}
+use Rattle.type_terms.specs.Kinds.{args_trees}
 use Rattle.type_terms.specs.declared.kinds.GenericArgKind.{GenericArgKind}
 use Rattle.type_terms.specs.declared.kinds.GenericArgKind.TheVariants.{Lifetime, Ty, Const}
 use Rattle.type_terms.specs.declared.region.Region.{Region}
@@ -13,10 +15,10 @@ use Rattle.type_terms.specs.declared.number.BoundVarIndexKind.TheVariants.{Bound
 use Rattle.type_terms.specs.declared.kinds.Ty as of-ty
 use Rattle.type_terms.specs.declared.kinds.GenericArgs as of-args
 use Rattle.type_terms.specs.Kept.{is-at}
-use Rattle.declarations.specs.Merges.{Each}
+use Rattle.declarations.specs.Promised.Elaboration.{Each}
 use Rattle.orphan_check.specs.declared.walk.Pending.{Pending}
 use Rattle.orphan_check.specs.declared.look.Taken.TheVariants as taken
-use Rattle.orphan_check.specs.Flags.{is_first}
+use Rattle.orphan_check.specs.Promised.Errors.{is_first}
 use Rattle.orphan_check.specs.Steps.{Reading, Step, entered, met_local, met_open, met_foreign, read, steps_in, step_of, steps_at, steps_to}
 use Rattle.orphan_check.specs.declared.errors.WalkError.{WalkError}
 use Rattle.orphan_check.specs.declared.errors.WalkError.TheVariants.{Normalize, Deep, Memory}

@@ -1,13 +1,13 @@
 -- The items of a walk, and what the model's walk visits.
 use Rattle.std.proofs.Common.{◌≡◌, ℕ, refl, sym, ap, ◌∙◌, Bool, true, false, ◌||◌, ◌↔◌, if◌then◌else◌, List, [], ◌∷◌, ◌++◌, Option, Some, None}
 use Rattle.std.specs.List.{list_any}
-use Rattle.type_terms.specs.Label.{of_type, of_const, of_lifetime, adt, ref, dynamic, principal, param, placeholder, infer, canonical, bound, value, static}
-use Rattle.type_terms.specs.Trees.{Trees, none, tree, erase}
-use Rattle.type_terms.specs.Worlds.{World, StructDecl, TraitDecl, structs_named, traits_named}
-use Rattle.type_terms.specs.Walks.{Met, local, struct_leaf, dyn_leaf, entered, other_leaf, open_place, struct_is, trait_is, is_home, dyn_met, visited, until_decisive, ends_local}
-use Rattle.type_terms.specs.LinkedSet.{is_open_place}
-use Rattle.orphan_check.specs.Looks.{local_type, leaf_type, passage, dyn_look, struct_look}
-use Rattle.orphan_check.specs.Items.{WalkItem, local_item, open_item, foreign_item, item_of, items, decisive, error_at, orphan_error}
+use Rattle.type_terms.specs.Promised.Label.{of_type, of_const, of_lifetime, adt, ref, dynamic, principal, param, placeholder, infer, canonical, bound, value, static}
+use Rattle.type_terms.specs.Promised.Trees.{Trees, none, tree, erase}
+use Rattle.type_terms.specs.Promised.Worlds.{World, StructDecl, TraitDecl, structs_named, traits_named}
+use Rattle.type_terms.specs.Promised.Walks.{Met, local, struct_leaf, dyn_leaf, entered, other_leaf, open_place, struct_is, trait_is, is_home, dyn_met, visited, until_decisive, ends_local}
+use Rattle.type_terms.specs.Promised.Versions.{is_open_place}
+use Rattle.type_terms.specs.Promised.OrphanErrors.{local_type, leaf_type, passage, dyn_look, struct_look}
+use Rattle.type_terms.specs.Promised.OrphanErrors.{WalkItem, local_item, open_item, foreign_item, item_of, items, decisive, error_at, orphan_error}
 
 -- ---- what decides: true for a local type, false for an open place
 abbrev pub marks : List WalkItem → List Bool

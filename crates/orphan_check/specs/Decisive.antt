@@ -1,8 +1,8 @@
 -- What decides a walk of a reference as it is written, with no value of a variable in its place.
 use Rattle.std.specs.Prelude.{Bool, true, false, List, [], ◌∷◌, Option, Some, None}
-use Rattle.type_terms.specs.Trees.{Trees}
-use Rattle.type_terms.specs.Walks.{Met, local, open_place, visited}
-use Rattle.type_terms.specs.Terms.{Entry}
+use Rattle.type_terms.specs.Promised.Trees.{Trees}
+use Rattle.type_terms.specs.Promised.Walks.{Met, local, open_place, visited}
+use Rattle.type_terms.specs.Promised.Handles.{Entry}
 use Rattle.declarations.specs.Items.{Items, declared}
 use Rattle.orphan_check.specs.declared.decisive.Decisive.{Decisive}
 use Rattle.orphan_check.specs.declared.decisive.Decisive.TheVariants.{Local, Uncovered}

@@ -2,10 +2,11 @@
 -- variables.
 use Rattle.std.specs.Prelude.{◌≡◌, ℕ, ◌<◌, Bool, true, false, List, map, Some, None, Result, Ok, Err}
 use Rattle.std.specs.Option.{option_map}
-use Rattle.type_terms.specs.Trees.{Trees, depth}
-use Rattle.type_terms.specs.Worlds.{World, Reference}
-use Rattle.type_terms.specs.Walks.{walk, ends_local, is_known_in}
-use Rattle.type_terms.specs.Terms.{Entry, trees_at}
+use Rattle.type_terms.specs.Promised.Trees.{Trees}
+use Rattle.type_terms.specs.Trees.{depth}
+use Rattle.type_terms.specs.Promised.Worlds.{World, Reference}
+use Rattle.type_terms.specs.Promised.Walks.{walk, ends_local, is_known_in}
+use Rattle.type_terms.specs.Promised.Handles.{Entry, trees_at}
 use Rattle.type_terms.specs.declared.kinds.Ty.{Ty}
 use Rattle.term_folds.specs.declared.predicate.TraitRef.{TraitRef}
 use Rattle.infer_table.specs.Solutions.{resolved}
@@ -20,8 +21,8 @@ use Rattle.orphan_check.specs.declared.errors.OrphanCheckErr.{OrphanCheckErr}
 use Rattle.orphan_check.specs.declared.errors.OrphanCheckErr.TheVariants.{NonLocalInputType, UncoveredTyParams}
 use Rattle.orphan_check.specs.declared.errors.WalkError.{WalkError}
 use Rattle.orphan_check.specs.declared.errors.WalkError.TheVariants.{Normalize, Deep, Memory}
-use Rattle.orphan_check.specs.Flags.{is_first}
-use Rattle.orphan_check.specs.Items.{OrphanError, nonlocal, uncovered, items, foreign_leaves, orphan_error}
+use Rattle.orphan_check.specs.Promised.Errors.{is_first}
+use Rattle.type_terms.specs.Promised.OrphanErrors.{OrphanError, nonlocal, uncovered, items, foreign_leaves, orphan_error}
 use Rattle.orphan_check.specs.Knowing.{meets_open, is_knowable, is_written_in}
 
 -- A normalizer that answers its input.

@@ -1,15 +1,11 @@
 -- Flags of leaves, as a contract sees them.
-use Rattle.std.specs.Prelude.{ℕ, Bool, true, false, List, [], ◌∷◌, map}
-use Rattle.type_terms.specs.Trees.{Trees}
-use Rattle.type_terms.specs.Terms.{Entry, trees_at}
+use Rattle.std.specs.Prelude.{ℕ, Bool, List, [], ◌∷◌, map}
+use Rattle.type_terms.specs.Promised.Trees.{Trees}
+use Rattle.type_terms.specs.Promised.Handles.{Entry, trees_at}
 use Rattle.type_terms.specs.declared.kinds.Ty.{Ty}
 use Rattle.orphan_check.specs.declared.errors.IsFirstInputType.{IsFirstInputType}
 use Rattle.orphan_check.specs.declared.errors.IsFirstInputType.TheVariants.{No, Yes}
-
--- Whether the type is the first input type (`IsFirstInputType`).
-abbrev pub is_first : IsFirstInputType → Bool
-is_first No = false
-is_first Yes = true
+use Rattle.orphan_check.specs.Promised.Errors.{is_first}
 
 -- It has no term, so a fold leaves it.
 abbrev pub first_outline : IsFirstInputType → List ℕ

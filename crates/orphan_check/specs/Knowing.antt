@@ -1,11 +1,11 @@
 -- Which references that may hold unknowns are known to a crate: those of which no other crate can have an impl for an instance.
 use Rattle.std.specs.Prelude.{ℕ, Bool, true, not, ◌&&◌, ◌||◌, ◌==◌, List, None, Result}
 use Rattle.std.specs.List.{list_any, list_all}
-use Rattle.type_terms.specs.Worlds.{World, Reference}
-use Rattle.type_terms.specs.Walks.{visited, trait_is, item_in, open_walk, is_known_in}
-use Rattle.type_terms.specs.LinkedSet.{is_open_place}
-use Rattle.type_terms.specs.Trees.{Trees}
-use Rattle.type_terms.specs.Terms.{Entry, trees_at}
+use Rattle.type_terms.specs.Promised.Worlds.{World, Reference}
+use Rattle.type_terms.specs.Promised.Walks.{visited, trait_is, item_in, open_walk, is_known_in}
+use Rattle.type_terms.specs.Promised.Versions.{is_open_place}
+use Rattle.type_terms.specs.Promised.Trees.{Trees}
+use Rattle.type_terms.specs.Promised.Handles.{Entry, trees_at}
 use Rattle.term_folds.specs.declared.predicate.TraitRef.{TraitRef}
 use Rattle.declarations.specs.Items.{Items, declared}
 use Rattle.infer_table.specs.Content.{Table}

@@ -1,5 +1,4 @@
-pub mod Looks
-pub mod Items
+pub mod Promised
 pub mod Normal
 pub mod Steps
 pub mod Flags

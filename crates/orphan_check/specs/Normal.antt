@@ -1,7 +1,7 @@
 -- What a normalizer answers.
 use Rattle.std.specs.Prelude.{List, Result, Ok, Err}
-use Rattle.type_terms.specs.Trees.{Trees}
-use Rattle.type_terms.specs.Terms.{Entry, trees_at}
+use Rattle.type_terms.specs.Promised.Trees.{Trees}
+use Rattle.type_terms.specs.Promised.Handles.{Entry, trees_at}
 use Rattle.type_terms.specs.declared.kinds.Ty.{Ty}
 
 -- The type, over the terms of an interner, or the refusal.

@@ -1,16 +1,16 @@
 -- The steps of a walk that reads types by the values of variables and by a normalizer, down to a limit.
 use Rattle.std.specs.Prelude.{ℕ, zero, suc, Bool, true, false, if◌then◌else◌, List, [], ◌∷◌, ◌++◌, Option, Some, None, Result, Ok, Err}
-use Rattle.type_terms.specs.Label.{of_type}
-use Rattle.type_terms.specs.Trees.{Trees, none, tree, is_sort, sort_of}
-use Rattle.type_terms.specs.Worlds.{World}
-use Rattle.type_terms.specs.Terms.{Entry}
+use Rattle.type_terms.specs.Promised.Label.{of_type}
+use Rattle.type_terms.specs.Promised.Trees.{Trees, none, tree, is_sort, sort_of}
+use Rattle.type_terms.specs.Promised.Worlds.{World}
+use Rattle.type_terms.specs.Promised.Handles.{Entry}
 use Rattle.declarations.specs.Items.{Items, declared}
 use Rattle.infer_table.specs.Solutions.{Binding}
 use Rattle.infer_table.specs.Content.{Table, content}
 use Rattle.infer_table.specs.Resolving.{followed, is_open}
 use Rattle.orphan_check.specs.declared.errors.InCrate.{InCrate}
 use Rattle.orphan_check.specs.declared.errors.InCrate.TheVariants.{Local, Remote}
-use Rattle.orphan_check.specs.Looks.{Look, local_type, open_type, leaf_type, passage, look}
+use Rattle.type_terms.specs.Promised.OrphanErrors.{Look, local_type, open_type, leaf_type, passage, look}
 
 -- Where a walk reads: the declarations, the crate whose items are local, the values of variables, and what the normalizer
 -- answers at a type.

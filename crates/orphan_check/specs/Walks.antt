@@ -1,12 +1,13 @@
 -- What the parts of a walk answer.
 use Rattle.std.specs.Prelude.{◌≡◌, ◌⊎◌, ℕ, Bool, true, false, List, [], ◌∷◌, ◌++◌, Option, Some, None, Result, Ok, Err}
-use Rattle.type_terms.specs.Trees.{Trees, none, tree, ◌+++◌}
-use Rattle.type_terms.specs.Worlds.{World}
-use Rattle.type_terms.specs.Terms.{Entry, Has, types, args_lists, trees_at}
-use Rattle.type_terms.specs.Kinds.{region_trees}
+use Rattle.type_terms.specs.Promised.Trees.{Trees, none, tree, ◌+++◌}
+use Rattle.type_terms.specs.Promised.Worlds.{World}
+use Rattle.type_terms.specs.Promised.Handles.{Entry, Has, types, trees_at}
+use Rattle.type_terms.specs.Terms.{args_lists}
+use Rattle.type_terms.specs.Promised.Handles.{region_trees}
 use Rattle.type_terms.specs.declared.region.Region.{Region}
 use Rattle.type_terms.specs.declared.kinds.Ty.{Ty}
-use Rattle.declarations.specs.Merges.{Each}
+use Rattle.declarations.specs.Promised.Elaboration.{Each}
 use Rattle.declarations.specs.Items.{Items, declared}
 use Rattle.orphan_check.specs.declared.errors.InCrate.{InCrate}
 use Rattle.orphan_check.specs.declared.look.Taken.{Taken}
@@ -21,8 +22,9 @@ use Rattle.orphan_check.specs.declared.decisive.Decisive.{Decisive}
 use Rattle.orphan_check.specs.declared.decisive.Decisive.TheVariants.{Local as DecidesLocal, Uncovered as DecidesOpen}
 use Rattle.orphan_check.specs.declared.errors.WalkError.{WalkError}
 use Rattle.orphan_check.specs.declared.errors.WalkError.TheVariants.{Normalize, Deep, Memory}
-use Rattle.orphan_check.specs.Looks.{local_type, open_type, leaf_type, passage, look}
-use Rattle.orphan_check.specs.Flags.{is_first, leaves_in}
+use Rattle.type_terms.specs.Promised.OrphanErrors.{local_type, open_type, leaf_type, passage, look}
+use Rattle.orphan_check.specs.Promised.Errors.{is_first}
+use Rattle.orphan_check.specs.Flags.{leaves_in}
 use Rattle.orphan_check.specs.Steps.{Reading, Step, refused, too_deep, entered, met_local, met_open, met_foreign, home_in, reading, steps_in, steps_to, first_end, second_end, leaves}
 
 -- The type is taken as it looks; what is entered is there with its arguments.

@@ -1,10 +1,10 @@
 -- Worked cases of the orphan check and of known references, computed from the definitions.
 use Rattle.std.specs.Prelude.{◌≡◌, ℕ, Bool, true, false, [], ◌∷◌, Some, None}
-use Rattle.type_terms.specs.Label.{of_type, bool, tuple, dynamic, static, uint, adt, ref, principal, infer}
-use Rattle.type_terms.specs.Trees.{Trees, none, tree, leaf, ◌+++◌}
-use Rattle.type_terms.specs.Worlds.{World, Reference, StructDecl, TraitDecl}
-use Rattle.type_terms.specs.Walks.{is_known_in}
-use Rattle.orphan_check.specs.Items.{nonlocal, uncovered, orphan_error}
+use Rattle.type_terms.specs.Promised.Label.{of_type, bool, tuple, dynamic, static, uint, adt, ref, principal, infer}
+use Rattle.type_terms.specs.Promised.Trees.{Trees, none, tree, leaf, ◌+++◌}
+use Rattle.type_terms.specs.Promised.Worlds.{World, Reference, StructDecl, TraitDecl}
+use Rattle.type_terms.specs.Promised.Walks.{is_known_in}
+use Rattle.type_terms.specs.Promised.OrphanErrors.{nonlocal, uncovered, orphan_error}
 use Rattle.orphan_check.specs.Knowing.{meets_open, is_knowable}
 
 abbrev pub struct : ℕ → ℕ → Bool → StructDecl

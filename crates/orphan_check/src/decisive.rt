@@ -1,5 +1,6 @@
 //! What decides a walk, which visits a type once at each depth.
-ghost use Rattle.type_terms.specs.Terms.{Has, args_lists, trees_at};
+ghost use Rattle.type_terms.specs.Promised.Handles.{Has, trees_at};
+ghost use Rattle.type_terms.specs.Terms.{args_lists};
 ghost use Rattle.infer_table.specs.Content.{Ready};
 ghost use Rattle.orphan_check.specs.Steps.{steps};
 

@@ -1,6 +1,7 @@
 //! Which references are known to a crate.
 ghost use Rattle.std.specs.Prelude.{◌≡◌};
-ghost use Rattle.type_terms.specs.Terms.{Has, args_lists, trees_at};
+ghost use Rattle.type_terms.specs.Promised.Handles.{Has, trees_at};
+ghost use Rattle.type_terms.specs.Terms.{args_lists};
 ghost use Rattle.infer_table.specs.Content.{Ready};
 ghost use Rattle.orphan_check.specs.Knowing.{IsKnowableBy};
 ghost use Rattle.orphan_check.specs.Exact.{AnswersItsInput, IsKnownOf};

@@ -1,9 +1,9 @@
 //! Laws of walks, over what the contracts speak of.
 ghost use Rattle.std.specs.Prelude.{◌≡◌, ◌↔◌, ℕ, Bool, true, None, Option};
-ghost use Rattle.type_terms.specs.Trees.{Trees, erase};
-ghost use Rattle.type_terms.specs.Worlds.{World};
-ghost use Rattle.type_terms.specs.Walks.{visited, until_decisive, ends_local};
-ghost use Rattle.orphan_check.specs.Items.{orphan_error};
+ghost use Rattle.type_terms.specs.Promised.Trees.{Trees, erase};
+ghost use Rattle.type_terms.specs.Promised.Worlds.{World};
+ghost use Rattle.type_terms.specs.Promised.Walks.{visited, until_decisive, ends_local};
+ghost use Rattle.type_terms.specs.Promised.OrphanErrors.{orphan_error};
 ghost use Rattle.orphan_check.specs.Worked.{Headers, KnownRow};
 ghost use Rattle.std.specs.Prelude.{Some};
 

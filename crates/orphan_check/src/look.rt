@@ -1,10 +1,11 @@
 //! How a walk takes a type.
 ghost use Rattle.std.specs.Prelude.{◌≡◌, List};
-ghost use Rattle.type_terms.specs.Label.{adt, dynamic};
-ghost use Rattle.type_terms.specs.Trees.{none, tree, ◌+++◌};
-ghost use Rattle.type_terms.specs.Walks.{trait_is, is_home};
-ghost use Rattle.type_terms.specs.Terms.{Entry, Has, types, args_lists, bounds_lists, trees_at};
-ghost use Rattle.type_terms.specs.Kinds.{region_trees};
+ghost use Rattle.type_terms.specs.Promised.Label.{adt, dynamic};
+ghost use Rattle.type_terms.specs.Promised.Trees.{none, tree, ◌+++◌};
+ghost use Rattle.type_terms.specs.Promised.Walks.{trait_is, is_home};
+ghost use Rattle.type_terms.specs.Promised.Handles.{Entry, Has, types, bounds_lists, trees_at};
+ghost use Rattle.type_terms.specs.Terms.{args_lists};
+ghost use Rattle.type_terms.specs.Promised.Handles.{region_trees};
 ghost use Rattle.type_terms.specs.declared.region.Region.{Region};
 ghost use Rattle.declarations.specs.Items.{declared};
 ghost use Rattle.orphan_check.specs.Steps.{home_in};

@@ -1,6 +1,6 @@
 //! What puts types into the form in which a walk reads them.
 ghost use Rattle.std.specs.Prelude.{◌≡◌, IfOk};
-ghost use Rattle.type_terms.specs.Terms.{Has, types, trees_at};
+ghost use Rattle.type_terms.specs.Promised.Handles.{Has, types, trees_at};
 ghost use Rattle.orphan_check.specs.Normal.{answered};
 
 use std::convert::Infallible;
@@ -13,7 +13,7 @@ pub trait Normalize {
 
     // What it answers at a type.
     ghost use Rattle.std.specs.Prelude.{Result};
-    ghost use Rattle.type_terms.specs.Trees.{Trees};
+    ghost use Rattle.type_terms.specs.Promised.Trees.{Trees};
 
     ghost answers: { Self → Trees → Result Trees Self.Error };
 

@@ -1,8 +1,9 @@
 //! The walk of a reference as it is written, parameters and all, which takes no memory.
 ghost use Rattle.std.specs.Prelude.{◌≡◌, IsTrue, None};
-ghost use Rattle.type_terms.specs.Versions.{open_walk_meets_param};
-ghost use Rattle.type_terms.specs.Terms.{Has, types, args_lists, trees_at};
-ghost use Rattle.type_terms.specs.Kinds.{ArgHeld, arg_trees};
+ghost use Rattle.type_terms.specs.Promised.Versions.{open_walk_meets_param};
+ghost use Rattle.type_terms.specs.Promised.Handles.{Has, types, trees_at};
+ghost use Rattle.type_terms.specs.Terms.{args_lists};
+ghost use Rattle.type_terms.specs.Promised.Handles.{ArgHeld, arg_trees};
 ghost use Rattle.declarations.specs.Held.{ReferenceHeld};
 ghost use Rattle.declarations.specs.Items.{Items, declared, reference_in};
 ghost use Rattle.orphan_check.specs.Decisive.{decisive_in, is_uncovered};

@@ -1,13 +1,14 @@
 //! The orphan check of a reference.
 ghost use Rattle.std.specs.Prelude.{◌≡◌, ◌==◌, List, IfErr, IfOk};
-ghost use Rattle.type_terms.specs.Walks.{keeps_orphan_rule, trait_is};
-ghost use Rattle.type_terms.specs.Terms.{Entry, Has, args_lists};
+ghost use Rattle.type_terms.specs.Promised.Walks.{keeps_orphan_rule, trait_is};
+ghost use Rattle.type_terms.specs.Promised.Handles.{Entry, Has};
+ghost use Rattle.type_terms.specs.Terms.{args_lists};
 ghost use Rattle.infer_table.specs.Content.{Ready};
 ghost use Rattle.declarations.specs.Held.{ReferenceHeld};
 ghost use Rattle.declarations.specs.Items.{declared, reference_in};
 ghost use Rattle.orphan_check.specs.Answers.{IsOrphanBy};
 ghost use Rattle.orphan_check.specs.Exact.{AnswersItsInput, IsOrphanCheckOf};
-ghost use Rattle.orphan_check.specs.Held.{ErrorHeld};
+ghost use Rattle.orphan_check.specs.Promised.Errors.{ErrorHeld};
 
 use crate::errors::{InCrate, OrphanCheckErr, OrphanCheckMode, WalkError};
 use crate::knowable::is_local;

@@ -1,10 +1,13 @@
 //! The walk of a reference's types, which keeps the types that are still to be visited on a stack of its own.
 ghost use Rattle.std.specs.Prelude.{◌-◌, false, IfErr, IfOk, IfSome, OnOk};
-ghost use Rattle.type_terms.specs.Terms.{Has, types, args_lists, trees_at};
-ghost use Rattle.type_terms.specs.Kinds.{ArgsHeld, args_trees};
+ghost use Rattle.type_terms.specs.Promised.Handles.{Has, types, trees_at};
+ghost use Rattle.type_terms.specs.Terms.{args_lists};
+ghost use Rattle.type_terms.specs.Promised.Handles.{ArgsHeld};
+ghost use Rattle.type_terms.specs.Kinds.{args_trees};
 ghost use Rattle.infer_table.specs.Content.{Ready};
-ghost use Rattle.orphan_check.specs.Flags.{is_first};
-ghost use Rattle.orphan_check.specs.Held.{EndHeld, ErrorHeld, MetHeld, TypeHeld};
+ghost use Rattle.orphan_check.specs.Promised.Errors.{is_first};
+ghost use Rattle.orphan_check.specs.Held.{EndHeld, MetHeld};
+ghost use Rattle.orphan_check.specs.Promised.Errors.{ErrorHeld, TypeHeld};
 ghost use Rattle.orphan_check.specs.Steps.{read, steps};
 
 use crate::errors::{InCrate, IsFirstInputType, OrphanCheckErr, UncoveredTyParams, WalkError};

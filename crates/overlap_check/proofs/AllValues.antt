@@ -1,21 +1,23 @@
 -- `refute V<?x>: Num` is `no`, whatever ?x is and whoever is linked.
 use Rattle.std.proofs.Common.{◌≡◌, ℕ, true, false, List, [], ◌∷◌, ◌++◌, refl, ap, sym, ◌∙◌, subst, ◌⊎◌, inl, inr, not, ◌==◌, IsTrue}
-use Rattle.type_terms.specs.Label.{of_type, adt, infer}
-use Rattle.type_terms.specs.Trees.{Trees, none, tree, leaf, ◌+++◌}
-use Rattle.type_terms.specs.Worlds.{World, ImplDecl, Reference}
-use Rattle.type_terms.specs.Rules.{asked, rules, Rule, impl_rules, built_in_rules, clause_rules}
-use Rattle.type_terms.specs.Proofs.{In, HasProof, Every}
-use Rattle.type_terms.specs.Answers.{is_closed, is_open}
-use Rattle.type_terms.specs.Renumbering.{Renumbering, View, HoldsView, renumbered, renumbered_reference, renumbered_rule, asker_in_set}
-use Rattle.type_terms.specs.LinkedSet.{LinkedSet, Unknown}
+use Rattle.type_terms.specs.Promised.Label.{of_type, adt, infer}
+use Rattle.type_terms.specs.Promised.Trees.{Trees, none, tree, leaf, ◌+++◌}
+use Rattle.type_terms.specs.Promised.Worlds.{World, ImplDecl, Reference}
+use Rattle.type_terms.specs.Promised.Rules.{asked, rules, Rule, impl_rules, built_in_rules, clause_rules}
+use Rattle.type_terms.specs.Promised.Proofs.{In, HasProof, Every}
+use Rattle.type_terms.specs.Promised.Answers.{is_closed, is_open}
+use Rattle.type_terms.specs.Promised.Renumbering.{Renumbering, View, HoldsView, renumbered, renumbered_reference, asker_in_set}
+use Rattle.type_terms.specs.Renumbering.{renumbered_rule}
+use Rattle.type_terms.specs.Promised.LinkedSet.{LinkedSet}
+use Rattle.type_terms.specs.LinkedSet.{Unknown}
 use Rattle.type_terms.specs.Worked.{base, applied}
 use Rattle.type_terms.proofs.Members.{in-append, in-flat, in-nothing, self-number, not-both}
 use Rattle.type_terms.proofs.Fitting.{impl-rule, append-shut, or-no, not-true}
 use Rattle.type_terms.proofs.NoHolds.{member-each}
 use Rattle.type_terms.proofs.ViewLaws.{view-gives-or-unknown, known-in-set}
 use Rattle.type_terms.proofs.RenumberedTrees.{inverse, back, over-closed}
-use Rattle.overlap_check.specs.Verdicts.{placed}
-use Rattle.overlap_check.specs.Questions.{FitKinds, filled_reference}
+use Rattle.type_terms.specs.Promised.Verdicts.{placed}
+use Rattle.type_terms.specs.Promised.Questions.{FitKinds, filled_reference}
 use Rattle.overlap_check.specs.Worked.{num_view, RefutedForAllValues}
 use Rattle.overlap_check.proofs.Filling.{over-filled-reference}
 use Rattle.type_terms.proofs.ElaboratedProofs.{bare-proof}

@@ -1,13 +1,16 @@
 -- A `no` beside a proof by the view alone.
 use Rattle.std.proofs.Common.{◌≡◌, ℕ, true, List, [], ◌∷◌, ◌++◌, filter, refl, ap, sym, ◌∙◌, subst, ◌⊎◌, inl, inr, ◌==◌}
-use Rattle.type_terms.specs.Label.{of_type, bool, adt, tuple, infer}
-use Rattle.type_terms.specs.Trees.{Trees, none, tree, leaf, ◌+++◌, arguments, instantiate}
-use Rattle.type_terms.specs.Worlds.{World, ImplDecl, Reference}
-use Rattle.type_terms.specs.Rules.{Rule, rules, impl_rules, built_in_rules, clause_rules, strict_supertraits, by_impl, fn_once, asked}
-use Rattle.type_terms.specs.Proofs.{In, Every, HasProof}
-use Rattle.type_terms.specs.Elaborated.{HasElaboratedProof}
-use Rattle.type_terms.specs.Renumbering.{Renumbering, View, HoldsView, renumbered_reference, renumbered_rule, asker_in_set}
-use Rattle.type_terms.specs.LinkedSet.{LinkedSet, Unknown}
+use Rattle.type_terms.specs.Promised.Label.{of_type, bool, adt, tuple, infer}
+use Rattle.type_terms.specs.Promised.Trees.{Trees, none, tree, leaf, ◌+++◌, instantiate}
+use Rattle.type_terms.specs.Trees.{arguments}
+use Rattle.type_terms.specs.Promised.Worlds.{World, ImplDecl, Reference}
+use Rattle.type_terms.specs.Promised.Rules.{Rule, rules, impl_rules, built_in_rules, clause_rules, strict_supertraits, by_impl, fn_once, asked}
+use Rattle.type_terms.specs.Promised.Proofs.{In, Every, HasProof}
+use Rattle.type_terms.specs.Promised.Proofs.{HasElaboratedProof}
+use Rattle.type_terms.specs.Promised.Renumbering.{Renumbering, View, HoldsView, renumbered_reference, asker_in_set}
+use Rattle.type_terms.specs.Renumbering.{renumbered_rule}
+use Rattle.type_terms.specs.Promised.LinkedSet.{LinkedSet}
+use Rattle.type_terms.specs.LinkedSet.{Unknown}
 use Rattle.type_terms.specs.Worked.{base, first, T, applied, impl_of}
 use Rattle.type_terms.proofs.Members.{in-append, in-cases, in-flat, in-nothing, filter-in, self-number, not-both}
 use Rattle.type_terms.proofs.Fitting.{impl-rule}
@@ -16,8 +19,8 @@ use Rattle.type_terms.proofs.NoHolds.{every-member}
 use Rattle.type_terms.proofs.SupersProved.{supers-proved-for-all}
 use Rattle.type_terms.proofs.ViewLaws.{view-gives-or-unknown, known-in-set, proved-in-set, super-in-set}
 use Rattle.type_terms.proofs.RenumberedTrees.{over-closed}
-use Rattle.overlap_check.specs.Verdicts.{placed}
-use Rattle.overlap_check.specs.Questions.{FitKinds, filled_reference}
+use Rattle.type_terms.specs.Promised.Verdicts.{placed}
+use Rattle.type_terms.specs.Promised.Questions.{FitKinds, filled_reference}
 use Rattle.overlap_check.specs.Worked.{alone_view, fn_of_char, fn_is_sub, ProvedAloneAndRefuted}
 use Rattle.type_terms.proofs.WorkedProofs.{needs-rule}
 

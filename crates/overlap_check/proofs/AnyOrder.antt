@@ -1,17 +1,17 @@
 -- The headline over texts that each list auto traits in an order of its own.
 use Rattle.std.proofs.Common.{[]}
-use Rattle.type_terms.specs.Worlds.{ImplDecl}
-use Rattle.type_terms.specs.Proofs.{In}
-use Rattle.type_terms.specs.LinkedSet.{Cleared, IsPair}
-use Rattle.type_terms.specs.Renumbering.{renumbered_reference, renumbered_impl}
-use Rattle.type_terms.specs.Arranging.{arranged_world}
+use Rattle.type_terms.specs.Promised.Worlds.{ImplDecl}
+use Rattle.type_terms.specs.Promised.Proofs.{In}
+use Rattle.type_terms.specs.Promised.LinkedSet.{Cleared, IsPair}
+use Rattle.type_terms.specs.Promised.Renumbering.{renumbered_reference, renumbered_impl}
+use Rattle.type_terms.specs.Promised.Arranging.{arranged_world}
 use Rattle.type_terms.specs.ArrangingLaws.{Listed, HoldsInOrder, placed_impl}
 use Rattle.type_terms.proofs.Members.{in-left, in-right}
 use Rattle.type_terms.proofs.NoTwo.{no-common-instance}
 use Rattle.type_terms.proofs.ArrangedSets.{arranged-linked}
 use Rattle.type_terms.proofs.ArrangedViews.{proof-of, cleared-back, stands-there, in-any-order}
 use Rattle.type_terms.proofs.ArrangedNoTwo.{no-two-in-any-order}
-use Rattle.overlap_check.specs.Questions.{filled_reference}
+use Rattle.type_terms.specs.Promised.Questions.{filled_reference}
 use Rattle.overlap_check.specs.SessionLaws.{HeadlineInAnyOrder}
 
 pub headline-in-any-order : HeadlineInAnyOrder

@@ -2,16 +2,16 @@
 use Rattle.std.proofs.Common.{◌≡◌, ℕ, ◌<◌, ◌≤◌, Bool, true, false, [], ◌∷◌, refl, ap, sym, subst, ◌⊎◌, inl, inr, not, ◌||◌, ◌&&◌, ◌==◌, filter, arith, ltb, Some}
 use Rattle.std.specs.List.{list_all}
 use Rattle.std.proofs.lemmas.Bool.Decides.{nat_tests}
-use Rattle.type_terms.specs.Worlds.{World, ImplDecl, Reference}
-use Rattle.type_terms.specs.Proofs.{In}
-use Rattle.type_terms.specs.Walks.{keeps_orphan_rule}
-use Rattle.type_terms.specs.Answers.{CommonInstance}
+use Rattle.type_terms.specs.Promised.Worlds.{World, ImplDecl, Reference}
+use Rattle.type_terms.specs.Promised.Proofs.{In}
+use Rattle.type_terms.specs.Promised.Walks.{keeps_orphan_rule}
+use Rattle.type_terms.specs.Promised.Answers.{CommonInstance}
 use Rattle.type_terms.proofs.Members.{filter-in, in-cases, in-nothing, same-number, self-number, not-both}
 use Rattle.type_terms.proofs.NoHolds.{member-each}
-use Rattle.type_terms.specs.LinkedSet.{IsPair}
-use Rattle.orphan_check.specs.Items.{OrphanError, orphan_error}
-use Rattle.overlap_check.specs.OpenedHeaders.{opened}
-use Rattle.overlap_check.specs.Verdicts.{KeepsOrphanRule, IsFirstOrphan}
+use Rattle.type_terms.specs.Promised.LinkedSet.{IsPair}
+use Rattle.type_terms.specs.Promised.OrphanErrors.{OrphanError, orphan_error}
+use Rattle.type_terms.specs.Promised.OpenedHeaders.{opened}
+use Rattle.type_terms.specs.Promised.Verdicts.{KeepsOrphanRule, IsFirstOrphan}
 
 -- what holds of c's impls, by a test of all
 of-own : (V : World) (c : ℕ) (p : ImplDecl → Bool) → list_all (λ (x : ImplDecl). not (x.home == c) || p x) V.impls ≡ true → (i : ImplDecl) → In i V.impls → i.home ≡ c → p i ≡ true

@@ -1,14 +1,14 @@
 -- The laws over the promises.
 use Rattle.std.proofs.Common.{◌≡◌, ℕ, Bool, true, false, List, [], ◌∷◌, ◌++◌, refl, ap, sym, ◌∙◌, subst, inl, inr, map, ◌&&◌, IsTrue}
-use Rattle.type_terms.specs.Label.{Sort}
-use Rattle.type_terms.specs.Trees.{Trees, some_node}
-use Rattle.type_terms.specs.Worlds.{World, Reference, ImplDecl, with_args}
-use Rattle.type_terms.specs.Proofs.{In, Every, HasProof}
-use Rattle.type_terms.specs.Elaborated.{HasElaboratedProof}
+use Rattle.type_terms.specs.Promised.Label.{Sort}
+use Rattle.type_terms.specs.Promised.Trees.{Trees, some_node}
+use Rattle.type_terms.specs.Promised.Worlds.{World, Reference, ImplDecl, with_args}
+use Rattle.type_terms.specs.Promised.Proofs.{In, Every, HasProof}
+use Rattle.type_terms.specs.Promised.Proofs.{HasElaboratedProof}
 use Rattle.type_terms.proofs.ElaboratedProofs.{bare-proof}
-use Rattle.type_terms.specs.Answers.{CommonInstance, is_closed, is_bounded, is_possible, is_variable, IsFixedClause}
-use Rattle.type_terms.specs.Renumbering.{Renumbering, View, HoldsView, renumbered, renumbered_reference, renumbered_impl}
-use Rattle.type_terms.specs.LinkedSet.{JoinedSet, LinkedSet, Cleared, IsPair}
+use Rattle.type_terms.specs.Promised.Answers.{CommonInstance, is_closed, is_bounded, is_possible, is_variable, IsFixedClause}
+use Rattle.type_terms.specs.Promised.Renumbering.{Renumbering, View, HoldsView, renumbered, renumbered_reference, renumbered_impl}
+use Rattle.type_terms.specs.Promised.LinkedSet.{JoinedSet, LinkedSet, Cleared, IsPair}
 use Rattle.type_terms.proofs.HeldSets.{held-linked}
 use Rattle.type_terms.proofs.Members.{in-map}
 use Rattle.type_terms.proofs.NoHolds.{every-member}
@@ -16,11 +16,12 @@ use Rattle.type_terms.proofs.NoTwo.{no-common-instance}
 use Rattle.type_terms.proofs.Fitting.{not-true}
 use Rattle.type_terms.proofs.ViewLaws.{no-two-of-accepted, proved-in-set, no-in-set}
 use Rattle.type_terms.proofs.RenumberedTrees.{inverse, impl-back, back, over-with-args, over-common, over-closed}
-use Rattle.overlap_check.specs.Verdicts.{placed, ClausesNeverMeet, IsCleared}
-use Rattle.overlap_check.specs.Questions.{FitKinds, filled_reference, SolutionBy, Solution, yes, unproved, maybe, IsRefuteAnswer, unrefuted}
-use Rattle.overlap_check.specs.SessionLaws.{HeadlineHolds, AnswersHoldEverywhere, HeadlineOfHeldSets, ApartIsCleared, CoversLeft, CoversRight, CoversClause, RefusedClauseClears, IsPassed, PassedIsAccepted, RefusedIsReal, DecidedIsAnswered, BoundedIsRefuted}
+use Rattle.type_terms.specs.Promised.Verdicts.{placed, ClausesNeverMeet, IsCleared}
+use Rattle.type_terms.specs.Promised.Questions.{FitKinds, filled_reference, SolutionBy, Solution, yes, unproved, maybe, IsRefuteAnswer, unrefuted}
+use Rattle.type_terms.specs.Promised.SetLaws.{HeadlineHolds, AnswersHoldEverywhere}
+use Rattle.overlap_check.specs.SessionLaws.{HeadlineOfHeldSets, ApartIsCleared, CoversLeft, CoversRight, CoversClause, RefusedClauseClears, IsPassed, PassedIsAccepted, RefusedIsReal, DecidedIsAnswered, BoundedIsRefuted}
 use Rattle.type_terms.proofs.Members.{not-both}
-use Rattle.overlap_check.specs.Verdicts.{InEverySetWith}
+use Rattle.type_terms.specs.Promised.Verdicts.{InEverySetWith}
 use Rattle.overlap_check.proofs.Possible.{bounded-possible}
 use Rattle.overlap_check.proofs.Filling.{filled-shut, filled-closed, over-filled-reference, over-fit, over-each-closed}
 

@@ -2,11 +2,12 @@
 use Rattle.std.proofs.Common.{◌≡◌, ℕ, zero, suc, ◌+◌, ◌≤◌, ◌<◌, arith, ltb, Bool, true, false, not, if◌then◌else◌, List, [], ◌∷◌, ◌++◌, refl, sym, ap, ◌∙◌, subst, Option, Some, ◌==◌, ◌||◌, IsTrue, ◌⊎◌, inl, inr, unwrap_or}
 use Rattle.std.specs.List.{slice_get}
 use Rattle.std.proofs.lemmas.Bool.Decides.{nat_tests}
-use Rattle.type_terms.specs.Label.{Sort, of_type, of_const, of_lifetime, infer, param, placeholder, canonical, bound}
-use Rattle.type_terms.specs.Trees.{Trees, none, tree, leaf, IsA, Fits, erase, some_node, nth, is_a}
+use Rattle.type_terms.specs.Promised.Label.{Sort, of_type, of_const, of_lifetime, infer, param, placeholder, canonical, bound}
+use Rattle.type_terms.specs.Promised.Trees.{Trees, none, tree, leaf, IsA, Fits, erase, some_node, nth}
+use Rattle.type_terms.specs.Trees.{is_a}
 use Rattle.type_terms.specs.Erased.{mentions}
-use Rattle.type_terms.specs.Proofs.{Every}
-use Rattle.type_terms.specs.Answers.{is_open, is_closed}
+use Rattle.type_terms.specs.Promised.Proofs.{Every}
+use Rattle.type_terms.specs.Promised.Answers.{is_open, is_closed}
 use Rattle.type_terms.proofs.Fitting.{next-shut, head-shut}
 use Rattle.type_terms.proofs.Walking.{or-left, or-right, or-cases}
 use Rattle.type_terms.proofs.Members.{same-number, self-number}
@@ -14,7 +15,7 @@ use Rattle.infer_table.specs.Solutions.{Assignment, instance, tree_of, IsSorted,
 use Rattle.infer_table.specs.Content.{Table, variables_of, IsProper}
 use Rattle.infer_table.proofs.SolutionLaws.{is_variable-self}
 use Rattle.term_folds.specs.Arguments.{sort_at}
-use Rattle.overlap_check.specs.Questions.{FitKinds, of_kind, filled}
+use Rattle.type_terms.specs.Promised.Questions.{FitKinds, of_kind, filled}
 use Rattle.overlap_check.specs.Fresh.{with_unknown, HasArguments as Speaks}
 use Rattle.overlap_check.specs.Goals.{repeated, unknown_kinds}
 use Rattle.overlap_check.proofs.Standing.{default_node, root, own, rest_of, assigned}

@@ -3,21 +3,21 @@ use Rattle.std.proofs.Common.{◌≡◌, ℕ, Bool, true, false, List, [], ◌�
 use Rattle.std.proofs.lemmas.List.{map-append}
 use Rattle.std.specs.Prelude.{if◌then◌else◌}
 use Rattle.std.specs.Option.{option_map}
-use Rattle.type_terms.specs.Label.{Label, of_type, of_const, of_lifetime, dynamic, param, placeholder, infer, canonical, bound}
-use Rattle.type_terms.specs.Trees.{Trees, none, tree, erase, erase_label, is_sort, sort_of}
-use Rattle.type_terms.specs.Worlds.{World}
-use Rattle.type_terms.specs.Terms.{Entry, trees_at}
+use Rattle.type_terms.specs.Promised.Label.{Label, of_type, of_const, of_lifetime, dynamic, param, placeholder, infer, canonical, bound}
+use Rattle.type_terms.specs.Promised.Trees.{Trees, none, tree, erase, erase_label, is_sort, sort_of}
+use Rattle.type_terms.specs.Promised.Worlds.{World}
+use Rattle.type_terms.specs.Promised.Handles.{Entry, trees_at}
 use Rattle.type_terms.specs.declared.kinds.Ty.{Ty}
 use Rattle.infer_table.specs.Content.{Table, content}
 use Rattle.infer_table.specs.Solutions.{resolved}
 use Rattle.orphan_check.specs.Exact.{leaves_read, error_read}
-use Rattle.orphan_check.specs.Flags.{is_first}
-use Rattle.orphan_check.specs.Items.{WalkItem, local_item, open_item, foreign_item, item_of, items, decisive, first_local, foreign_leaves, error_at, OrphanError, nonlocal, uncovered, orphan_error}
-use Rattle.orphan_check.specs.Looks.{Look, local_type, open_type, leaf_type, passage, dyn_look, look}
+use Rattle.orphan_check.specs.Promised.Errors.{is_first}
+use Rattle.type_terms.specs.Promised.OrphanErrors.{WalkItem, local_item, open_item, foreign_item, item_of, items, decisive, first_local, foreign_leaves, error_at, OrphanError, nonlocal, uncovered, orphan_error}
+use Rattle.type_terms.specs.Promised.OrphanErrors.{Look, local_type, open_type, leaf_type, passage, dyn_look, look}
 use Rattle.orphan_check.specs.declared.errors.IsFirstInputType.{IsFirstInputType}
 use Rattle.orphan_check.specs.declared.errors.OrphanCheckErr.{OrphanCheckErr}
 use Rattle.orphan_check.specs.declared.errors.OrphanCheckErr.TheVariants.{NonLocalInputType, UncoveredTyParams}
-use Rattle.overlap_check.specs.Orphans.{type_in, error_in}
+use Rattle.overlap_check.specs.Promised.Errors.{type_in, error_in}
 
 -- ---- what a walk meets without lifetimes
 abbrev erased_item : WalkItem → WalkItem

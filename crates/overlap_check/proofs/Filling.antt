@@ -1,15 +1,15 @@
 -- Values in place of unknowns: where there are none, and with other numbers.
 use Rattle.std.proofs.Common.{◌≡◌, ℕ, zero, suc, Bool, true, false, List, [], ◌∷◌, refl, ap, sym, ◌∙◌, map, ◌||◌, IsTrue, if◌then◌else◌, unwrap_or}
 use Rattle.std.specs.List.{slice_get}
-use Rattle.type_terms.specs.Label.{Label, Sort, of_type, of_const, of_lifetime, infer, adt}
-use Rattle.type_terms.specs.Trees.{Trees, none, tree, leaf, ◌+++◌, IsA, some_node, is_sort}
-use Rattle.type_terms.specs.Worlds.{Reference}
-use Rattle.type_terms.specs.Answers.{is_variable, is_open, is_closed}
-use Rattle.type_terms.specs.Proofs.{Every}
-use Rattle.type_terms.specs.Renumbering.{Renumbering, renumbered, renumbered_reference}
+use Rattle.type_terms.specs.Promised.Label.{Label, Sort, of_type, of_const, of_lifetime, infer, adt}
+use Rattle.type_terms.specs.Promised.Trees.{Trees, none, tree, leaf, ◌+++◌, IsA, some_node, is_sort}
+use Rattle.type_terms.specs.Promised.Worlds.{Reference}
+use Rattle.type_terms.specs.Promised.Answers.{is_variable, is_open, is_closed}
+use Rattle.type_terms.specs.Promised.Proofs.{Every}
+use Rattle.type_terms.specs.Promised.Renumbering.{Renumbering, renumbered, renumbered_reference}
 use Rattle.type_terms.proofs.Fitting.{child-shut, next-shut, not-true, or-no}
 use Rattle.type_terms.proofs.RenumberedTrees.{over-append, over-closed, label-sort}
-use Rattle.overlap_check.specs.Questions.{FitKinds, of_kind, filled, filled_reference}
+use Rattle.type_terms.specs.Promised.Questions.{FitKinds, of_kind, filled, filled_reference}
 use Rattle.type_terms.proofs.Matching.{or-false-left as no-left}
 
 node : {l m : Label} {c d o p : Trees} → l ≡ m → c ≡ d → o ≡ p → tree l c o ≡ tree m d p
@@ -24,7 +24,7 @@ filled-shut ks ts (tree l c o) h = node refl (filled-shut ks ts c (child-shut is
 variable-open : (l : Label) → is_open l ≡ false → is_variable l ≡ false
 variable-open (infer s i) h = cc
 variable-open (adt s) h = refl
-variable-open (Rattle.type_terms.specs.Label.canonical s i) h = cc
+variable-open (Rattle.type_terms.specs.Promised.Label.canonical s i) h = cc
 variable-open l h = refl
 
 shut-variables : (t : Trees) → some_node is_open t ≡ false → some_node is_variable t ≡ false

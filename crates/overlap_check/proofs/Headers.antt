@@ -1,11 +1,13 @@
 -- Pairs of impls over the terms of an interner that grows.
 use Rattle.std.proofs.Common.{◌≡◌, ℕ, zero, false, List, [], ◌∷◌, length, map, refl, sym, ap, ◌∙◌, subst, None, Some, ◌⊎◌, inl, inr}
 use Rattle.std.specs.Prelude.{◌≢◌}
-use Rattle.type_terms.specs.Trees.{Trees, none, erase, instantiate, some_node}
-use Rattle.type_terms.specs.Erased.{erased_impl, IsCovered}
-use Rattle.type_terms.specs.LinkedSet.{is_stray}
-use Rattle.type_terms.specs.Worlds.{Reference, ImplDecl, all_with_args}
-use Rattle.type_terms.specs.Terms.{Entry, Keeps, Lawful, args_lists, trees_at}
+use Rattle.type_terms.specs.Promised.Trees.{Trees, none, erase, instantiate, some_node}
+use Rattle.type_terms.specs.Promised.Erased.{erased_impl}
+use Rattle.type_terms.specs.Erased.{IsCovered}
+use Rattle.type_terms.specs.Promised.LinkedSet.{is_stray}
+use Rattle.type_terms.specs.Promised.Worlds.{Reference, ImplDecl, all_with_args}
+use Rattle.type_terms.specs.Promised.Handles.{Entry, Keeps, trees_at}
+use Rattle.type_terms.specs.Terms.{Lawful, args_lists}
 use Rattle.type_terms.specs.declared.ImplId.{ImplId}
 use Rattle.term_folds.specs.Arguments.{first_misfit}
 use Rattle.type_terms.specs.Kept.{has-later, trees-later}
@@ -21,7 +23,7 @@ use Rattle.declarations.specs.Applied.{SpeaksOf, references_in, TraitRefsHeld}
 use Rattle.declarations.specs.Heads.{begins_declared}
 use Rattle.declarations.specs.Held.{ImplHeld}
 use Rattle.declarations.specs.Items.{reference_in, impl_in}
-use Rattle.declarations.specs.Merges.{Each}
+use Rattle.declarations.specs.Promised.Elaboration.{Each}
 use Rattle.declarations.specs.declared.items.ImplDef.{ImplDef}
 use Rattle.declarations.proofs.Growth.{args-same, reference-same, reference-kept, references-kept}
 use Rattle.declarations.proofs.Bounded.{all-same}

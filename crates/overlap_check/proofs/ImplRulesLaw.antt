@@ -1,20 +1,21 @@
 -- An impl's rules are those of the arguments that fit and make its header the reference.
 use Rattle.std.proofs.Common.{zero-add, ◌≡◌, ◌⊎◌, inl, inr, ℕ, suc, ◌+◌, ◌<◌, Bool, true, false, List, [], ◌∷◌, refl, ap, sym, ◌∙◌, ◌&&◌, ◌||◌, ◌==◌, if◌then◌else◌, subst, arith}
 use Rattle.std.proofs.lemmas.Bool.Decides.{nat_tests}
-use Rattle.type_terms.specs.Label.{Label, Sort, never, param, bound, fn_ptr, principal, inside, raise, shift_label}
-use Rattle.type_terms.specs.Trees.{Trees, none, tree, ◌+++◌, leaf, nth, shift, instantiate, arguments, standing_at, first_of, IsA, Fits, fits, is_sort, Single}
-use Rattle.type_terms.specs.Worlds.{Reference, ImplDecl, with_args, all_with_args}
+use Rattle.type_terms.specs.Promised.Label.{Label, Sort, never, param, bound, fn_ptr, principal, inside, raise, shift_label}
+use Rattle.type_terms.specs.Promised.Trees.{Trees, none, tree, ◌+++◌, leaf, nth, shift, instantiate, IsA, Fits, is_sort}
+use Rattle.type_terms.specs.Trees.{arguments, standing_at, first_of, fits, Single}
+use Rattle.type_terms.specs.Promised.Worlds.{Reference, ImplDecl, with_args, all_with_args}
 use Rattle.type_terms.specs.Erased.{mentions}
-use Rattle.type_terms.specs.Rules.{Rule, by_impl, impl_rules, same_reference}
-use Rattle.type_terms.specs.Proofs.{Every}
-use Rattle.type_terms.specs.Supers.{mentions_as}
+use Rattle.type_terms.specs.Promised.Rules.{Rule, by_impl, impl_rules, same_reference}
+use Rattle.type_terms.specs.Promised.Proofs.{Every}
+use Rattle.type_terms.specs.Promised.Supers.{mentions_as}
 use Rattle.type_terms.proofs.Members.{self-number, same-number}
 use Rattle.type_terms.proofs.Walking.{both, left, right, or-left, or-right, or-cases as stands-either}
 use Rattle.type_terms.proofs.TreeLaws.{single-nth, single-shift, shift-merge}
 use Rattle.type_terms.proofs.Matching.{absent-nothing, same-where-asked, nth-arguments, first-left, nth-there}
 use Rattle.type_terms.proofs.Applies.{fits-complete, same-reference-complete}
 use Rattle.type_terms.proofs.Fitting.{fits-sound, same-reference-sound}
-use Rattle.overlap_check.specs.ImplRules.{ImplRulesAreInstances}
+use Rattle.type_terms.specs.Promised.ReadByLaws.{ImplRulesAreInstances}
 use Rattle.type_terms.proofs.TermBasics.{sort-self as is-sort-itself}
 
 abbrev StandsAsSome : ℕ → Trees → Type 0

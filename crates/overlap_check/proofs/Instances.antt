@@ -1,8 +1,8 @@
 -- Instances of what an impl declares: by solutions of a table, and by closed terms.
 use Rattle.std.proofs.Common.{◌≡◌, ℕ, zero, suc, Bool, true, false, if◌then◌else◌, List, [], ◌∷◌, refl, sym, ap, ◌∙◌, subst, Some, ◌||◌}
-use Rattle.type_terms.specs.Label.{Label, Sort, of_type, of_const, of_lifetime, infer, param, placeholder, canonical, bound, static, fn_ptr, principal, inside}
-use Rattle.type_terms.specs.Trees.{Trees, none, tree, ◌+++◌, nth, shift, instantiate, sort_of, IsA, Fits, erase, erase_label, some_node}
-use Rattle.type_terms.specs.Answers.{is_open}
+use Rattle.type_terms.specs.Promised.Label.{Label, Sort, of_type, of_const, of_lifetime, infer, param, placeholder, canonical, bound, static, fn_ptr, principal, inside}
+use Rattle.type_terms.specs.Promised.Trees.{Trees, none, tree, ◌+++◌, nth, shift, instantiate, sort_of, IsA, Fits, erase, erase_label, some_node}
+use Rattle.type_terms.specs.Promised.Answers.{is_open}
 use Rattle.type_terms.proofs.Fitting.{head-shut, child-shut, next-shut, or-no}
 use Rattle.infer_table.specs.Solutions.{Assignment, instance, tree_of, IsSorted, HasValues}
 use Rattle.infer_table.specs.Content.{Table}

@@ -2,29 +2,31 @@
 use Rattle.std.proofs.Common.{◌≡◌, ℕ, zero, ◌<◌, ◌≤◌, ◌+◌, Bool, true, false, ◌||◌, ◌==◌, List, [], ◌∷◌, map, Option, Some, None, Result, Ok, Err, refl, sym, ap, ◌∙◌, subst, arith, ◌⊎◌, inl, inr}
 use Rattle.std.proofs.lemmas.Bool.Decides.{nat_tests}
 use Rattle.std.specs.Prelude.{if◌then◌else◌, IfOk}
-use Rattle.type_terms.specs.Trees.{Trees, erase, instantiate}
-use Rattle.type_terms.specs.Erased.{erased_reference, erased_impl}
-use Rattle.type_terms.specs.Proofs.{In}
-use Rattle.type_terms.specs.Walks.{trait_is, visited, until_decisive, ends_local, walk, keeps_orphan_rule}
-use Rattle.type_terms.specs.Worlds.{World, Reference, ImplDecl}
+use Rattle.type_terms.specs.Promised.Trees.{Trees, erase, instantiate}
+use Rattle.type_terms.specs.Promised.Erased.{erased_reference, erased_impl}
+use Rattle.type_terms.specs.Promised.Proofs.{In}
+use Rattle.type_terms.specs.Promised.Walks.{trait_is, visited, until_decisive, ends_local, walk, keeps_orphan_rule}
+use Rattle.type_terms.specs.Promised.Worlds.{World, Reference, ImplDecl}
 use Rattle.type_terms.proofs.Members.{here, in-filter, filter-in, in-cases, in-nothing}
-use Rattle.type_terms.specs.Terms.{Entry, Keeps, Lawful, trees_at}
+use Rattle.type_terms.specs.Promised.Handles.{Entry, Keeps, trees_at}
+use Rattle.type_terms.specs.Terms.{Lawful}
 use Rattle.type_terms.specs.declared.Fault.{Fault}
 use Rattle.type_terms.specs.declared.kinds.Ty.{Ty}
 use Rattle.declarations.specs.Held.{AreHeld, ImplHeld}
 use Rattle.declarations.specs.Items.{Items, HeldImpl, IsAbove, declared, impl_at, impl_in, reference_in}
-use Rattle.declarations.specs.Merges.{Each}
+use Rattle.declarations.specs.Promised.Elaboration.{Each}
 use Rattle.declarations.specs.Relevant.{impls_named}
 use Rattle.declarations.specs.declared.items.ImplDef.{ImplDef}
 use Rattle.declarations.proofs.Growth.{all-declared, args-same}
-use Rattle.orphan_check.specs.Items.{orphan_error}
+use Rattle.type_terms.specs.Promised.OrphanErrors.{orphan_error}
 use Rattle.orphan_check.specs.declared.errors.OrphanCheckErr.{OrphanCheckErr}
 use Rattle.orphan_check.proofs.Visiting.{erased-visits}
-use Rattle.overlap_check.specs.OpenedHeaders.{opened}
-use Rattle.overlap_check.specs.Verdicts.{BreaksOrphanRule, KeepsOrphanRule, IsFirstOrphan}
+use Rattle.type_terms.specs.Promised.OpenedHeaders.{opened}
+use Rattle.type_terms.specs.Promised.Verdicts.{BreaksOrphanRule, KeepsOrphanRule, IsFirstOrphan}
 use Rattle.overlap_check.specs.Fresh.{HasArguments}
 use Rattle.overlap_check.specs.Headers.{sorts_of_impl, unknowns_for, empty_table, IsHeaderOver}
-use Rattle.overlap_check.specs.Orphans.{HoldsParams, HeaderHoldsParams, AreWrittenWell, IsWalkError, IsHeaderError, IsErrorOf, error_in}
+use Rattle.overlap_check.specs.Orphans.{HoldsParams, HeaderHoldsParams, AreWrittenWell, IsWalkError, IsHeaderError, IsErrorOf}
+use Rattle.overlap_check.specs.Promised.Errors.{error_in}
 use Rattle.overlap_check.specs.Written.{IsWrittenWell}
 use Rattle.overlap_check.specs.declared.header.ImplHeader.{ImplHeader}
 use Rattle.overlap_check.proofs.Headers.{same-entries, header-later, well-later}

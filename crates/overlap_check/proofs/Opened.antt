@@ -3,16 +3,16 @@ use Rattle.std.proofs.Common.{◌≡◌, ℕ, zero, suc, ◌+◌, Bool, true, fa
 use Rattle.std.proofs.lemmas.Bool.{eqb-true}
 use Rattle.std.proofs.lemmas.Option.{same_Some}
 use Rattle.std.specs.Prelude.{if◌then◌else◌, ◌==◌, slice_get}
-use Rattle.type_terms.specs.Label.{Label, Sort, of_type, of_const, of_lifetime, adt, ref, dynamic, param, placeholder, infer, canonical, bound, value, static, inside}
-use Rattle.type_terms.specs.Trees.{Trees, none, tree, leaf, ◌+++◌, nth, shift, instantiate, erase, erase_label, is_sort, some_node}
-use Rattle.type_terms.specs.Walks.{Met, local, struct_leaf, entered, other_leaf, open_place, struct_is, is_home, dyn_met, visited}
-use Rattle.type_terms.specs.Worlds.{World}
+use Rattle.type_terms.specs.Promised.Label.{Label, Sort, of_type, of_const, of_lifetime, adt, ref, dynamic, param, placeholder, infer, canonical, bound, value, static, inside}
+use Rattle.type_terms.specs.Promised.Trees.{Trees, none, tree, leaf, ◌+++◌, nth, shift, instantiate, erase, erase_label, is_sort, some_node}
+use Rattle.type_terms.specs.Promised.Walks.{Met, local, struct_leaf, entered, other_leaf, open_place, struct_is, is_home, dyn_met, visited}
+use Rattle.type_terms.specs.Promised.Worlds.{World}
 use Rattle.type_terms.proofs.Members.{so-false}
 use Rattle.infer_table.specs.Content.{Table, variables_of}
 use Rattle.infer_table.specs.Solutions.{HasValues}
 use Rattle.infer_table.proofs.SolutionLaws.{is_sort-equal}
 use Rattle.term_folds.specs.Arguments.{sort_at}
-use Rattle.overlap_check.specs.OpenedHeaders.{is_param, params_below, with_variables}
+use Rattle.type_terms.specs.Promised.OpenedHeaders.{is_param, params_below, with_variables}
 use Rattle.overlap_check.specs.Fresh.{with_unknown, fresh_unknowns, HasArguments}
 use Rattle.overlap_check.specs.Headers.{empty_table}
 use Rattle.overlap_check.specs.Orphans.{HoldsParams}

@@ -2,8 +2,8 @@
 use Rattle.std.proofs.Common.{◌≡◌, ℕ, zero, suc, ◌+◌, ◌<◌, ◌≤◌, ltb, Bool, true, false, refl, subst, arith, List, [], ◌∷◌, ◌++◌, Option, Some, None, if◌then◌else◌, cond}
 use Rattle.std.specs.Prelude.{◌==◌, option_map, option_and_then}
 use Rattle.std.proofs.lemmas.Bool.Decides.{nat_tests}
-use Rattle.type_terms.specs.Label.{Label, Sort, of_type, of_const, of_lifetime, infer, canonical, bound, fn_ptr, dynamic, principal, auto_trait, predicate, inside}
-use Rattle.type_terms.specs.Trees.{Trees, none, tree, ◌+++◌, is_sort}
+use Rattle.type_terms.specs.Promised.Label.{Label, Sort, of_type, of_const, of_lifetime, infer, canonical, bound, fn_ptr, dynamic, principal, auto_trait, predicate, inside}
+use Rattle.type_terms.specs.Promised.Trees.{Trees, none, tree, ◌+++◌, is_sort}
 use Rattle.type_terms.specs.Codes.{same}
 use Rattle.infer_table.specs.Solutions.{Binding, is_variable, replace, resolved, occurs}
 use Rattle.infer_table.specs.Resolving.{followed, is_root}

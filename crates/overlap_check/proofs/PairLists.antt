@@ -2,11 +2,11 @@
 use Rattle.std.proofs.Common.{◌≡◌, ℕ, ◌<◌, Bool, true, false, ◌&&◌, ◌||◌, ◌==◌, List, [], ◌∷◌, Some, refl, sym, ap, ◌∙◌, subst, arith}
 use Rattle.std.proofs.lemmas.Bool.Decides.{nat_tests}
 use Rattle.std.specs.Prelude.{not, nat_lt}
-use Rattle.type_terms.specs.Erased.{erased_impl}
-use Rattle.type_terms.specs.Worlds.{World, ImplDecl}
-use Rattle.type_terms.specs.Terms.{Entry}
+use Rattle.type_terms.specs.Promised.Erased.{erased_impl}
+use Rattle.type_terms.specs.Promised.Worlds.{World, ImplDecl}
+use Rattle.type_terms.specs.Promised.Handles.{Entry}
 use Rattle.type_terms.specs.declared.ImplId.{ImplId}
-use Rattle.type_terms.specs.LinkedSet.{IsPair}
+use Rattle.type_terms.specs.Promised.LinkedSet.{IsPair}
 use Rattle.declarations.specs.Items.{Items, IsAbove, declared, impl_at, impl_in}
 use Rattle.declarations.specs.Relevant.{impls_named}
 use Rattle.declarations.specs.declared.items.ImplDef.{ImplDef}

@@ -1,17 +1,17 @@
 -- A pair of impls with unknowns for their parameters: common instances from solutions, goals that cover where-clauses, and back.
 use Rattle.std.proofs.Common.{◌≡◌, ℕ, zero, ◌≤◌, arith, false, not, List, [], map, refl, sym, ap, ◌∙◌, subst, ◌||◌}
-use Rattle.type_terms.specs.Label.{Label, Sort, of_type, of_const, of_lifetime, infer, canonical}
-use Rattle.type_terms.specs.Trees.{Trees, none, tree, Fits, erase, some_node, instantiate}
-use Rattle.type_terms.specs.Erased.{erased_impl, erased_reference}
-use Rattle.type_terms.specs.Worlds.{Reference, ImplDecl}
-use Rattle.type_terms.specs.Proofs.{In}
-use Rattle.type_terms.specs.Answers.{is_open, is_variable, CommonInstance, FixedLeft, FixedRight}
+use Rattle.type_terms.specs.Promised.Label.{Label, Sort, of_type, of_const, of_lifetime, infer, canonical}
+use Rattle.type_terms.specs.Promised.Trees.{Trees, none, tree, Fits, erase, some_node, instantiate}
+use Rattle.type_terms.specs.Promised.Erased.{erased_impl, erased_reference}
+use Rattle.type_terms.specs.Promised.Worlds.{Reference, ImplDecl}
+use Rattle.type_terms.specs.Promised.Proofs.{In}
+use Rattle.type_terms.specs.Promised.Answers.{is_open, is_variable, CommonInstance, FixedLeft, FixedRight}
 use Rattle.type_terms.proofs.Fitting.{child-shut, next-shut, or-no, not-true}
 use Rattle.type_terms.proofs.Members.{in-map}
 use Rattle.type_terms.proofs.ProofEntries.{map-in}
 use Rattle.infer_table.specs.Solutions.{Assignment, Binding, instance, IsSorted, HasValues, occurs, resolved, Equates, HasNoSolution}
 use Rattle.infer_table.specs.Content.{Table, variables_of, IsProper}
-use Rattle.overlap_check.specs.Questions.{filled}
+use Rattle.type_terms.specs.Promised.Questions.{filled}
 use Rattle.overlap_check.specs.Fresh.{with_unknowns, fresh_unknowns, HasArguments}
 use Rattle.overlap_check.specs.Goals.{unknown_kinds, goal_of, IsInstantiable, IsGoalLeft, IsGoalRight, HasGoals}
 use Rattle.overlap_check.proofs.Standing.{default_node, assigned, assigned-sorted, assigned-younger, Gives, fresh-gives, all-no-fewer, default-sorted}

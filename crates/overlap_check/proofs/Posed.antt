@@ -1,11 +1,12 @@
 -- What is asked over the table of a pair speaks of the table's own unknowns.
 use Rattle.std.proofs.Common.{◌≡◌, ℕ, zero, suc, ◌<◌, ◌≤◌, arith, Bool, true, false, List, [], ◌∷◌, refl, sym, ap, subst, ◌||◌}
-use Rattle.type_terms.specs.Label.{Label, Sort, infer, canonical, param, inside}
-use Rattle.type_terms.specs.Trees.{Trees, none, tree, nth, shift, instantiate, some_node}
-use Rattle.type_terms.specs.Worlds.{Reference, with_args, all_with_args}
-use Rattle.type_terms.specs.Answers.{is_variable}
+use Rattle.type_terms.specs.Promised.Label.{Label, Sort, infer, canonical, param, inside}
+use Rattle.type_terms.specs.Promised.Trees.{Trees, none, tree, nth, shift, instantiate, some_node}
+use Rattle.type_terms.specs.Promised.Worlds.{Reference, with_args, all_with_args}
+use Rattle.type_terms.specs.Promised.Answers.{is_variable}
 use Rattle.type_terms.proofs.Fitting.{child-shut, next-shut, or-no}
-use Rattle.type_terms.specs.Terms.{Entry, Keeps, Has, Lawful, args_lists, trees_at}
+use Rattle.type_terms.specs.Promised.Handles.{Entry, Keeps, Has, trees_at}
+use Rattle.type_terms.specs.Terms.{Lawful, args_lists}
 use Rattle.type_terms.specs.Made.{terms, is_made, is_in_range}
 use Rattle.type_terms.proofs.Made.{made-weaker}
 use Rattle.term_folds.specs.declared.predicate.TraitRef.{TraitRef}
@@ -23,7 +24,7 @@ use Rattle.infer_table.proofs.Places.{in_terms, AreTrees, AllTrees, trees-of, tr
 use Rattle.infer_table.proofs.SolutionLaws.{is_variable-equal}
 use Rattle.declarations.specs.Applied.{references_in}
 use Rattle.declarations.specs.Items.{reference_in}
-use Rattle.declarations.specs.Merges.{Each}
+use Rattle.declarations.specs.Promised.Elaboration.{Each}
 use Rattle.declarations.specs.declared.items.ImplDef.{ImplDef}
 use Rattle.overlap_check.specs.Fresh.{with_unknown, with_unknowns, fresh_unknowns}
 use Rattle.overlap_check.specs.Headers.{sorts_of_impl, unknowns_for, with_unknowns_for, empty_table, pair_table, left_args, right_args, AreEqualHeaders, IsWithoutVariables, IsOfTable}

@@ -1,12 +1,12 @@
 -- What the solutions of equated headers say of where-clauses.
 use Rattle.std.proofs.Common.{◌≡◌, ℕ, zero, suc, ◌≤◌, arith, Bool, true, false, if◌then◌else◌, List, [], ◌∷◌, refl, sym, ap, ◌∙◌, subst, Option, Some, None, ◌||◌, ◌⊎◌, inl, inr}
-use Rattle.type_terms.specs.Label.{Label, Sort, of_type, of_const, of_lifetime, infer, bool, value, static, param, inside}
-use Rattle.type_terms.specs.Trees.{Trees, none, tree, sort_of, erase, nth, shift, instantiate}
+use Rattle.type_terms.specs.Promised.Label.{Label, Sort, of_type, of_const, of_lifetime, infer, bool, value, static, param, inside}
+use Rattle.type_terms.specs.Promised.Trees.{Trees, none, tree, sort_of, erase, nth, shift, instantiate}
 use Rattle.type_terms.proofs.Walking.{or-cases}
 use Rattle.type_terms.proofs.Members.{so-false}
 use Rattle.type_terms.proofs.Fitting.{or-no as or-both}
 use Rattle.infer_table.specs.Solutions.{Assignment, Binding, instance, tree_of, IsSorted, HasValues, is_variable, occurs, resolved, value_in, Solves, Equates, IsCompletion}
-use Rattle.type_terms.specs.Terms.{Entry}
+use Rattle.type_terms.specs.Promised.Handles.{Entry}
 use Rattle.infer_table.specs.Content.{Table, variables_of, content, Ready, IsProper}
 use Rattle.infer_table.proofs.ContentFacts.{valued}
 use Rattle.infer_table.proofs.SolvableLaws.{completed, completion, sound, resolved-proper}

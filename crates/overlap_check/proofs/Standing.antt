@@ -1,7 +1,8 @@
 -- What assignments give to the unknowns that stand for parameters.
 use Rattle.std.proofs.Common.{◌≡◌, ℕ, zero, suc, ◌≤◌, ◌<◌, arith, Bool, true, false, if◌then◌else◌, List, [], ◌∷◌, refl, sym, ap, ◌∙◌, subst, Some, ◌&&◌}
-use Rattle.type_terms.specs.Label.{Label, Sort, of_type, of_const, of_lifetime, infer, never, uint, value, static}
-use Rattle.type_terms.specs.Trees.{Trees, none, tree, leaf, nth, shift, sort_of, IsA, is_a, is_sort, is_no_tree}
+use Rattle.type_terms.specs.Promised.Label.{Label, Sort, of_type, of_const, of_lifetime, infer, never, uint, value, static}
+use Rattle.type_terms.specs.Promised.Trees.{Trees, none, tree, leaf, nth, shift, sort_of, IsA, is_sort}
+use Rattle.type_terms.specs.Trees.{is_a, is_no_tree}
 use Rattle.type_terms.proofs.Walking.{left}
 use Rattle.infer_table.specs.Solutions.{Assignment, instance, tree_of, is_variable, IsSorted, HasValues}
 use Rattle.infer_table.specs.Content.{Table, variables_of}

@@ -1,9 +1,9 @@
 -- Trees that never meet, whatever stands for their parameters: their heads or their first levels tell them apart, or nothing is open in them.
 use Rattle.std.proofs.Common.{◌≡◌, ℕ, zero, Bool, true, false, Option, Some, None, refl, sym, ap, ◌∙◌}
 use Rattle.std.specs.Prelude.{if◌then◌else◌}
-use Rattle.type_terms.specs.Label.{Label, bool, char, str, never, array, slice, tuple, dynamic, int, uint, adt, fn_ptr, ref, raw_pointer}
-use Rattle.type_terms.specs.Trees.{Trees, none, tree, erase, erase_label, instantiate}
-use Rattle.type_terms.specs.Answers.{is_open}
+use Rattle.type_terms.specs.Promised.Label.{Label, bool, char, str, never, array, slice, tuple, dynamic, int, uint, adt, fn_ptr, ref, raw_pointer}
+use Rattle.type_terms.specs.Promised.Trees.{Trees, none, tree, erase, erase_label, instantiate}
+use Rattle.type_terms.specs.Promised.Answers.{is_open}
 use Rattle.type_terms.proofs.Applies.{same-complete}
 use Rattle.type_terms.proofs.Made.{false-true}
 use Rattle.declarations.specs.Apart.{is_fixed, levels, are_apart}

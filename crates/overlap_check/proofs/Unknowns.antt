@@ -1,10 +1,12 @@
 -- Unknowns for parameters, one by one.
 use Rattle.std.proofs.Common.{◌≡◌, zero, max, List, [], ◌∷◌, ◌++◌, refl, sym, ap, ◌∙◌}
-use Rattle.type_terms.specs.Label.{Sort, of_type, of_const, of_lifetime, infer}
-use Rattle.type_terms.specs.Trees.{Trees, leaf, ◌+++◌, outer_binder}
+use Rattle.type_terms.specs.Promised.Label.{Sort, of_type, of_const, of_lifetime, infer}
+use Rattle.type_terms.specs.Promised.Trees.{Trees, leaf, ◌+++◌}
+use Rattle.type_terms.specs.Trees.{outer_binder}
 use Rattle.type_terms.proofs.TreeLaws.{append-assoc, append-none}
-use Rattle.type_terms.specs.Terms.{Entry, Keeps}
-use Rattle.type_terms.specs.Kinds.{ArgsHeld, arg_trees, args_trees}
+use Rattle.type_terms.specs.Promised.Handles.{Entry, Keeps}
+use Rattle.type_terms.specs.Promised.Handles.{ArgsHeld, arg_trees}
+use Rattle.type_terms.specs.Kinds.{args_trees}
 use Rattle.type_terms.specs.declared.kinds.GenericArgKind.{GenericArgKind}
 use Rattle.type_terms.specs.Kept.{args-trees-later}
 use Rattle.infer_table.specs.Content.{Table, variables_of}

@@ -1,12 +1,12 @@
 -- Values for a table's unknowns are those of a solution, as far as terms are resolved.
 use Rattle.std.proofs.Common.{◌≡◌, ℕ, zero, suc, ◌+◌, arith, Bool, true, false, List, [], ◌∷◌, ◌++◌, refl, sym, ap, ◌∙◌, Option, Some, None, ◌||◌, unwrap_or}
 use Rattle.std.specs.List.{slice_get}
-use Rattle.type_terms.specs.Label.{Label, Sort, of_type, of_const, of_lifetime, infer}
-use Rattle.type_terms.specs.Trees.{Trees, none, tree, erase}
+use Rattle.type_terms.specs.Promised.Label.{Label, Sort, of_type, of_const, of_lifetime, infer}
+use Rattle.type_terms.specs.Promised.Trees.{Trees, none, tree, erase}
 use Rattle.infer_table.specs.Solutions.{Assignment, Binding, Solves, instance, tree_of, IsSorted, HasValues, is_variable, occurs, resolved, value_in}
 use Rattle.infer_table.specs.Content.{Table, IsProper}
 use Rattle.infer_table.proofs.SolutionLaws.{is_variable-self}
-use Rattle.overlap_check.specs.Questions.{FitKinds, of_kind, filled}
+use Rattle.type_terms.specs.Promised.Questions.{FitKinds, of_kind, filled}
 use Rattle.overlap_check.specs.Goals.{repeated, unknown_kinds}
 use Rattle.overlap_check.proofs.Standing.{own, own-sorted, own-is}
 use Rattle.overlap_check.proofs.Instances.{node}

@@ -1,10 +1,10 @@
 -- From answers to the goals of a pair to what is said of it.
 use Rattle.std.proofs.Common.{ℕ, List, ◌⊎◌, inl, inr}
-use Rattle.type_terms.specs.Label.{Sort}
-use Rattle.type_terms.specs.Worlds.{World, Reference, ImplDecl}
-use Rattle.type_terms.specs.Proofs.{In}
+use Rattle.type_terms.specs.Promised.Label.{Sort}
+use Rattle.type_terms.specs.Promised.Worlds.{World, Reference, ImplDecl}
+use Rattle.type_terms.specs.Promised.Proofs.{In}
 use Rattle.overlap_check.specs.SessionLaws.{IsPassed, IsRefused}
-use Rattle.overlap_check.specs.Questions.{IsRefuted, IsRefuteAnswer, unrefuted}
+use Rattle.type_terms.specs.Promised.Questions.{IsRefuted, IsRefuteAnswer, unrefuted}
 use Rattle.overlap_check.specs.Goals.{HasGoals}
 
 module _ (i j : ImplDecl) (ks : List Sort) (left right : List Reference) (goals : HasGoals i j ks left right) where

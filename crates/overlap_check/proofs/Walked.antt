@@ -1,22 +1,23 @@
 -- What an orphan check says whose variables have no values.
 use Rattle.std.proofs.Common.{◌≡◌, ℕ, ◌<◌, true, false, [], Some, Result, Ok, Err, List, ap, ◌∙◌, subst, arith}
-use Rattle.type_terms.specs.Trees.{Trees, erase, depth}
-use Rattle.type_terms.specs.Walks.{visited, until_decisive, ends_local}
-use Rattle.type_terms.specs.Worlds.{World, Reference}
-use Rattle.type_terms.specs.Terms.{Entry, trees_at}
+use Rattle.type_terms.specs.Promised.Trees.{Trees, erase}
+use Rattle.type_terms.specs.Trees.{depth}
+use Rattle.type_terms.specs.Promised.Walks.{visited, until_decisive, ends_local}
+use Rattle.type_terms.specs.Promised.Worlds.{World, Reference}
+use Rattle.type_terms.specs.Promised.Handles.{Entry, trees_at}
 use Rattle.type_terms.specs.declared.kinds.Ty.{Ty}
 use Rattle.term_folds.specs.declared.predicate.TraitRef.{TraitRef}
 use Rattle.infer_table.specs.Content.{Table, content}
 use Rattle.infer_table.specs.Solutions.{resolved}
 use Rattle.declarations.specs.Items.{Items, declared, reference_in}
 use Rattle.orphan_check.specs.Exact.{reference_read, IsOrphanCheck, IsOrphanCheckOf}
-use Rattle.orphan_check.specs.Items.{orphan_error}
+use Rattle.type_terms.specs.Promised.OrphanErrors.{orphan_error}
 use Rattle.orphan_check.specs.declared.errors.InCrate.TheVariants.{Local}
 use Rattle.orphan_check.specs.declared.errors.OrphanCheckMode.{OrphanCheckMode}
 use Rattle.orphan_check.specs.declared.errors.OrphanCheckErr.{OrphanCheckErr}
 use Rattle.orphan_check.specs.declared.errors.WalkError.{WalkError}
 use Rattle.orphan_check.specs.declared.errors.WalkError.TheVariants.{Deep}
-use Rattle.overlap_check.specs.Orphans.{error_in}
+use Rattle.overlap_check.specs.Promised.Errors.{error_in}
 use Rattle.overlap_check.proofs.Erasing.{walk-erased}
 
 module _ (es : List Entry) (d : Items) (r : TraitRef) (mode : OrphanCheckMode) (t : Table) (unvalued : t.values ≡ []) where

@@ -1,19 +1,19 @@
 -- Two texts in one set, and answers to questions.
 use Rattle.std.proofs.Common.{◌≡◌, ℕ, zero, suc, true, List, [], ◌∷◌, refl, ap, sym, ◌∙◌, subst, ◌⊎◌, inl, inr, IsTrue, filter, ◌==◌}
-use Rattle.type_terms.specs.Label.{of_type, adt, bool, value, placeholder}
-use Rattle.type_terms.specs.Trees.{Trees, none, tree, leaf}
-use Rattle.type_terms.specs.Worlds.{World, ImplDecl, StructDecl, Reference, sees, view_of}
-use Rattle.type_terms.specs.Rules.{asked, by_impl, by_clause, Rule}
-use Rattle.type_terms.specs.Proofs.{In, HasProof, HasProofByImpl}
-use Rattle.type_terms.specs.Answers.{is_closed, AtMostOne, IsUnambiguous}
+use Rattle.type_terms.specs.Promised.Label.{of_type, adt, bool, value, placeholder}
+use Rattle.type_terms.specs.Promised.Trees.{Trees, none, tree, leaf}
+use Rattle.type_terms.specs.Promised.Worlds.{World, ImplDecl, StructDecl, Reference, sees, view_of}
+use Rattle.type_terms.specs.Promised.Rules.{asked, by_impl, by_clause, Rule}
+use Rattle.type_terms.specs.Promised.Proofs.{In, HasProof, HasProofByImpl}
+use Rattle.type_terms.specs.Promised.Answers.{is_closed, AtMostOne, IsUnambiguous}
 use Rattle.type_terms.proofs.WorkedProofs.{no-rule, one-rule}
-use Rattle.type_terms.specs.Core.{core_world}
-use Rattle.type_terms.specs.Renumbering.{Renumbering, View, HoldsView, renumbered_struct}
-use Rattle.type_terms.specs.LinkedSet.{IsOfAnAnsweredCrate, LinkedSet}
+use Rattle.type_terms.specs.Promised.Core.{core_world}
+use Rattle.type_terms.specs.Promised.Renumbering.{Renumbering, View, HoldsView, renumbered_struct}
+use Rattle.type_terms.specs.Promised.LinkedSet.{IsOfAnAnsweredCrate, LinkedSet}
 use Rattle.type_terms.specs.Worked.{beside_core, trait_of, base, first, second, u8, to, struct, impl_of, show_world, applied, text_of_a_user, set_of_two_users}
 use Rattle.type_terms.proofs.Members.{in-nothing, in-append, in-cases, in-filter, filter-in, self-number}
 use Rattle.type_terms.proofs.TwoTexts.{two-texts}
-use Rattle.overlap_check.specs.Verdicts.{IsAccepted}
+use Rattle.type_terms.specs.Promised.Verdicts.{IsAccepted}
 use Rattle.overlap_check.specs.Worked.{TwoTextsAccepted, ValuesOfBothKinds, ParametersStandForThemselves}
 use Rattle.overlap_check.proofs.Contracts.{apart-cleared, headline}
 use Rattle.overlap_check.proofs.Computing.{keeps-by, no-pair}

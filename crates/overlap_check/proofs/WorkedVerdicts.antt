@@ -1,21 +1,21 @@
 -- The worked crates.
 use Rattle.std.proofs.Common.{◌≡◌, ◌<◌, ℕ, true, false, [], ◌∷◌, refl, ap, sym, ◌∙◌, subst, inl, inr, arith}
-use Rattle.type_terms.specs.Label.{adt}
-use Rattle.type_terms.specs.Trees.{none, leaf, erase}
-use Rattle.type_terms.specs.Worlds.{World, ImplDecl, Reference, with_args}
-use Rattle.type_terms.specs.Rules.{asked}
-use Rattle.type_terms.specs.Proofs.{In}
-use Rattle.type_terms.specs.Erased.{erased_impl}
-use Rattle.type_terms.specs.Answers.{CommonInstance, IsFixedClause, is_possible, is_bounded, IsRealOverlap}
+use Rattle.type_terms.specs.Promised.Label.{adt}
+use Rattle.type_terms.specs.Promised.Trees.{none, leaf, erase}
+use Rattle.type_terms.specs.Promised.Worlds.{World, ImplDecl, Reference, with_args}
+use Rattle.type_terms.specs.Promised.Rules.{asked}
+use Rattle.type_terms.specs.Promised.Proofs.{In}
+use Rattle.type_terms.specs.Promised.Erased.{erased_impl}
+use Rattle.type_terms.specs.Promised.Answers.{CommonInstance, IsFixedClause, is_possible, is_bounded, IsRealOverlap}
 use Rattle.type_terms.specs.Worked.{base, first, T, u8, impl_of, fn_of_any, fn_of_static}
 use Rattle.type_terms.proofs.Members.{in-nothing}
 use Rattle.type_terms.proofs.Fitting.{fits-sound}
 use Rattle.type_terms.proofs.ViewLaws.{cleared-in-set}
-use Rattle.overlap_check.specs.Verdicts.{placed, IsCleared}
+use Rattle.type_terms.specs.Promised.Verdicts.{placed, IsCleared}
 use Rattle.overlap_check.specs.Worked.{ForeignLeaf, VariableUncoveredBeforeLocal, FlagsOfLeaves, show_blanket, show_for_a, cleared_view, ClearedByAClause, day_view, RefusedForSomeDay, lifetimes_view, LifetimesAlone, mine_blanket, mine_for_u8, later_view, ALaterPairIsRefused, NotAcceptedUnlinked}
 use Rattle.type_terms.proofs.Members.{not-both}
-use Rattle.type_terms.specs.Proofs.{HasProof, Every}
-use Rattle.type_terms.specs.Elaborated.{HasElaboratedProof}
+use Rattle.type_terms.specs.Promised.Proofs.{HasProof, Every}
+use Rattle.type_terms.specs.Promised.Proofs.{HasElaboratedProof}
 use Rattle.type_terms.proofs.ElaboratedProofs.{bare-proof}
 use Rattle.overlap_check.proofs.Possible.{bounded-possible}
 use Rattle.overlap_check.proofs.Contracts.{apart-cleared}

@@ -1,15 +1,17 @@
 -- Terms as an interner makes them have their arguments.
 use Rattle.std.proofs.Common.{◌≡◌, ℕ, Bool, true, false, not, List, [], ◌∷◌, map, refl, sym, ap, subst, Option, Some, None, ◌&&◌, ◌||◌, cond, ◌⊎◌, inl, inr}
-use Rattle.type_terms.specs.Label.{Label, Sort, of_type, of_const, of_lifetime, param, infer, dynamic, principal, auto_trait, predicate}
-use Rattle.type_terms.specs.Trees.{Trees, none, tree, erase, erase_label, sort_of, is_sort, is_no_tree, some_node}
-use Rattle.type_terms.specs.LinkedSet.{is_stray}
-use Rattle.type_terms.specs.Worlds.{Reference}
-use Rattle.type_terms.specs.Proofs.{In}
+use Rattle.type_terms.specs.Promised.Label.{Label, Sort, of_type, of_const, of_lifetime, param, infer, dynamic, principal, auto_trait, predicate}
+use Rattle.type_terms.specs.Promised.Trees.{Trees, none, tree, erase, erase_label, sort_of, is_sort, some_node}
+use Rattle.type_terms.specs.Trees.{is_no_tree}
+use Rattle.type_terms.specs.Promised.LinkedSet.{is_stray}
+use Rattle.type_terms.specs.Promised.Worlds.{Reference}
+use Rattle.type_terms.specs.Promised.Proofs.{In}
 use Rattle.type_terms.proofs.Fitting.{child-shut, next-shut}
 use Rattle.type_terms.proofs.Walking.{left, right}
 use Rattle.type_terms.proofs.Members.{in-cases, in-nothing}
 use Rattle.type_terms.proofs.ProofEntries.{map-in}
-use Rattle.type_terms.specs.Terms.{Entry, Has, Lawful, args_lists, trees_at}
+use Rattle.type_terms.specs.Promised.Handles.{Entry, Has, trees_at}
+use Rattle.type_terms.specs.Terms.{Lawful, args_lists}
 use Rattle.type_terms.specs.Made.{terms, bounds, traits, is_made, is_leaf_label, is_in_range}
 use Rattle.type_terms.specs.declared.ImplId.{ImplId}
 use Rattle.term_folds.specs.Arguments.{sort_at, misfit, first_misfit}
@@ -21,7 +23,7 @@ use Rattle.infer_table.proofs.ContentFacts.{is-trees}
 use Rattle.declarations.specs.Applied.{sorts_of, SpeaksOf, sort_of_param}
 use Rattle.declarations.specs.Held.{ReferenceHeld, ImplHeld}
 use Rattle.declarations.specs.Items.{reference_in, impl_in}
-use Rattle.declarations.specs.Merges.{Each}
+use Rattle.declarations.specs.Promised.Elaboration.{Each}
 use Rattle.declarations.specs.declared.items.ImplDef.{ImplDef}
 use Rattle.overlap_check.specs.Fresh.{with_unknown, fresh_unknowns, HasArguments}
 use Rattle.overlap_check.specs.Goals.{IsInstantiable}

@@ -1,8 +1,8 @@
 -- Fresh unknowns for the parameters of impls.
 use Rattle.std.specs.Prelude.{◌≡◌, ◌+◌, false, List, [], ◌∷◌, Some}
-use Rattle.type_terms.specs.Label.{Sort, of_type, of_const, of_lifetime, infer, param}
-use Rattle.type_terms.specs.Trees.{Trees, none, tree, erase_label}
-use Rattle.type_terms.specs.LinkedSet.{is_stray}
+use Rattle.type_terms.specs.Promised.Label.{Sort, of_type, of_const, of_lifetime, infer, param}
+use Rattle.type_terms.specs.Promised.Trees.{Trees, none, tree, erase_label}
+use Rattle.type_terms.specs.Promised.LinkedSet.{is_stray}
 use Rattle.term_folds.specs.Arguments.{sort_at}
 use Rattle.infer_table.specs.Content.{Table, variables_of}
 

@@ -1,11 +1,12 @@
 -- What the check of a pair of impls finds: the goals that its where-clauses are, once the headers are equal.
 use Rattle.std.specs.Prelude.{◌≡◌, ℕ, suc, zero, false, List, [], ◌∷◌, ◌++◌}
-use Rattle.type_terms.specs.Label.{Sort, of_type, of_const}
-use Rattle.type_terms.specs.Trees.{Trees, some_node, instantiate, erase}
-use Rattle.type_terms.specs.Erased.{erased_impl, IsCovered}
-use Rattle.type_terms.specs.Worlds.{Reference, ImplDecl}
-use Rattle.type_terms.specs.Proofs.{In}
-use Rattle.type_terms.specs.Answers.{CommonInstance, FixedLeft, FixedRight, is_variable}
+use Rattle.type_terms.specs.Promised.Label.{Sort, of_type, of_const}
+use Rattle.type_terms.specs.Promised.Trees.{Trees, some_node, instantiate, erase}
+use Rattle.type_terms.specs.Promised.Erased.{erased_impl}
+use Rattle.type_terms.specs.Erased.{IsCovered}
+use Rattle.type_terms.specs.Promised.Worlds.{Reference, ImplDecl}
+use Rattle.type_terms.specs.Promised.Proofs.{In}
+use Rattle.type_terms.specs.Promised.Answers.{CommonInstance, FixedLeft, FixedRight, is_variable}
 use Rattle.infer_table.specs.Solutions.{Binding, resolved}
 use Rattle.infer_table.specs.Content.{Table}
 use Rattle.overlap_check.specs.SessionLaws.{CoversLeft, CoversRight}

@@ -1,11 +1,12 @@
 -- Pairs of impls over the terms of an interner: with unknowns for their parameters, and with equal headers.
 use Rattle.std.specs.Prelude.{◌≡◌, zero, false, List, [], map, Some}
-use Rattle.type_terms.specs.Label.{Sort}
-use Rattle.type_terms.specs.Trees.{Trees, erase, instantiate, some_node}
-use Rattle.type_terms.specs.Erased.{erased_impl}
-use Rattle.type_terms.specs.Worlds.{Reference, with_args, all_with_args}
-use Rattle.type_terms.specs.Answers.{CommonInstance, is_variable}
-use Rattle.type_terms.specs.Terms.{Entry, Has, args_lists, trees_at}
+use Rattle.type_terms.specs.Promised.Label.{Sort}
+use Rattle.type_terms.specs.Promised.Trees.{Trees, erase, instantiate, some_node}
+use Rattle.type_terms.specs.Promised.Erased.{erased_impl}
+use Rattle.type_terms.specs.Promised.Worlds.{Reference, with_args, all_with_args}
+use Rattle.type_terms.specs.Promised.Answers.{CommonInstance, is_variable}
+use Rattle.type_terms.specs.Promised.Handles.{Entry, Has, trees_at}
+use Rattle.type_terms.specs.Terms.{args_lists}
 use Rattle.type_terms.specs.declared.ImplId.{ImplId}
 use Rattle.term_folds.specs.declared.predicate.TraitRef.{TraitRef}
 use Rattle.infer_table.specs.Solutions.{Assignment, Binding, Equates, instance, resolved}
@@ -17,7 +18,7 @@ use Rattle.infer_table.specs.Unification.{table_trees}
 use Rattle.declarations.specs.Applied.{sort_of_param, references_in, TraitRefsHeld}
 use Rattle.declarations.specs.Held.{ReferenceHeld}
 use Rattle.declarations.specs.Items.{reference_in, impl_in}
-use Rattle.declarations.specs.Merges.{Each}
+use Rattle.declarations.specs.Promised.Elaboration.{Each}
 use Rattle.declarations.specs.declared.items.ImplDef.{ImplDef}
 use Rattle.overlap_check.specs.Fresh.{with_unknowns, fresh_unknowns}
 use Rattle.overlap_check.specs.Goals.{unknown_kinds, HasGoals}

@@ -1,20 +1,21 @@
 -- What equating the headers of two impls says of their common instances, and what the answers to its goals say of the pair. The impls
 -- w and x are as they are written, with lifetimes.
 use Rattle.std.specs.Prelude.{◌≡◌, ℕ, ◌≤◌, List, [], map, ◌⊎◌}
-use Rattle.type_terms.specs.Label.{Sort}
-use Rattle.type_terms.specs.Trees.{Trees}
-use Rattle.type_terms.specs.Erased.{erased_impl}
-use Rattle.type_terms.specs.Worlds.{World, Reference, ImplDecl}
-use Rattle.type_terms.specs.Proofs.{In}
-use Rattle.type_terms.specs.Answers.{CommonInstance}
-use Rattle.type_terms.specs.Terms.{Entry, Lawful}
+use Rattle.type_terms.specs.Promised.Label.{Sort}
+use Rattle.type_terms.specs.Promised.Trees.{Trees}
+use Rattle.type_terms.specs.Promised.Erased.{erased_impl}
+use Rattle.type_terms.specs.Promised.Worlds.{World, Reference, ImplDecl}
+use Rattle.type_terms.specs.Promised.Proofs.{In}
+use Rattle.type_terms.specs.Promised.Answers.{CommonInstance}
+use Rattle.type_terms.specs.Promised.Handles.{Entry}
+use Rattle.type_terms.specs.Terms.{Lawful}
 use Rattle.term_folds.specs.declared.predicate.TraitRef.{TraitRef}
 use Rattle.infer_table.specs.Solutions.{Assignment, Solves, Equates, HasNoSolution}
 use Rattle.infer_table.specs.Content.{Table, content, variables_of, Ready}
 use Rattle.declarations.specs.Held.{ReferenceHeld}
 use Rattle.declarations.specs.Items.{reference_in}
 use Rattle.overlap_check.specs.SessionLaws.{IsPassed, IsRefused}
-use Rattle.overlap_check.specs.Questions.{FitKinds, filled_reference, IsRefuted, IsRefuteAnswer, unrefuted}
+use Rattle.type_terms.specs.Promised.Questions.{FitKinds, filled_reference, IsRefuted, IsRefuteAnswer, unrefuted}
 use Rattle.overlap_check.specs.Fresh.{fresh_unknowns, with_unknowns}
 use Rattle.overlap_check.specs.Goals.{IsPairWith, header_with, unknown_kinds, goal_of, HasGoals}
 use Rattle.overlap_check.specs.Headers.{IsOfTable, resolved_reference, with_instance}

@@ -1,8 +1,5 @@
-pub mod OpenedHeaders
-pub mod Verdicts
-pub mod Questions
+pub mod Promised
 pub mod SessionLaws
-pub mod ImplRules
 pub mod Worked
 pub mod Fresh
 pub mod Goals

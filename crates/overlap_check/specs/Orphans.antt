@@ -1,25 +1,23 @@
 -- The orphan check of the impls that a crate writes, over the terms of an interner.
-use Rattle.std.specs.Prelude.{◌≡◌, ℕ, true, false, List, map, Option, Some, None, slice_get}
-use Rattle.std.specs.Option.{option_map}
-use Rattle.type_terms.specs.Label.{Sort, of_lifetime}
-use Rattle.type_terms.specs.Trees.{Trees, erase, is_sort, some_node}
-use Rattle.type_terms.specs.Proofs.{In}
-use Rattle.type_terms.specs.Walks.{visited, until_decisive, ends_local, keeps_orphan_rule}
-use Rattle.type_terms.specs.Worlds.{World, Reference, ImplDecl}
-use Rattle.type_terms.specs.Terms.{Entry, trees_at}
+use Rattle.std.specs.Prelude.{◌≡◌, ℕ, true, false, List, Option, Some, None, slice_get}
+use Rattle.type_terms.specs.Promised.Label.{Sort, of_lifetime}
+use Rattle.type_terms.specs.Promised.Trees.{Trees, erase, is_sort, some_node}
+use Rattle.type_terms.specs.Promised.Proofs.{In}
+use Rattle.type_terms.specs.Promised.Walks.{visited, until_decisive, ends_local, keeps_orphan_rule}
+use Rattle.type_terms.specs.Promised.Worlds.{World, Reference, ImplDecl}
+use Rattle.type_terms.specs.Promised.Handles.{Entry, trees_at}
 use Rattle.type_terms.specs.declared.ImplId.{ImplId}
 use Rattle.type_terms.specs.declared.kinds.Ty.{Ty}
 use Rattle.declarations.specs.Items.{Items, HeldImpl}
-use Rattle.declarations.specs.Merges.{Each}
+use Rattle.declarations.specs.Promised.Elaboration.{Each}
 use Rattle.declarations.specs.declared.items.ImplDef.{ImplDef}
-use Rattle.orphan_check.specs.Flags.{is_first}
-use Rattle.orphan_check.specs.Items.{OrphanError, nonlocal, uncovered, orphan_error}
+use Rattle.type_terms.specs.Promised.OrphanErrors.{orphan_error}
 use Rattle.orphan_check.specs.declared.errors.OrphanCheckErr.{OrphanCheckErr}
-use Rattle.orphan_check.specs.declared.errors.OrphanCheckErr.TheVariants.{NonLocalInputType, UncoveredTyParams}
-use Rattle.overlap_check.specs.OpenedHeaders.{is_param, opened}
-use Rattle.overlap_check.specs.Verdicts.{KeepsOrphanRule, BreaksOrphanRule, IsFirstOrphan}
+use Rattle.type_terms.specs.Promised.OpenedHeaders.{is_param, opened}
+use Rattle.type_terms.specs.Promised.Verdicts.{KeepsOrphanRule, BreaksOrphanRule, IsFirstOrphan}
 use Rattle.overlap_check.specs.Headers.{sorts_of_impl}
 use Rattle.overlap_check.specs.Written.{IsWrittenWell}
+use Rattle.overlap_check.specs.Promised.Errors.{error_in}
 
 -- Each parameter that is a type or a constant stands in the trees as such: T and N do in `[T; N]`.
 abbrev pub HoldsParams : List Sort → Trees → Type 0
@@ -32,15 +30,6 @@ HeaderHoldsParams es def = HoldsParams (sorts_of_impl def) (trees_at es def.head
 -- Each impl is as a text writes it.
 abbrev pub AreWrittenWell : List Entry → Items → Type 0
 AreWrittenWell es d = Each (λ (i : HeldImpl). IsWrittenWell es i.def × HeaderHoldsParams es i.def) d.impls
-
--- A type without lifetimes, over the terms of an interner.
-abbrev pub type_in : List Entry → Ty → Trees
-type_in es t = erase (trees_at es t.0)
-
--- The error without lifetimes, over the terms of an interner.
-abbrev pub error_in : List Entry → OrphanCheckErr Ty → OrphanError
-error_in es (NonLocalInputType v) = nonlocal (map (λ p. (type_in es p.0, is_first p.1)) v.items)
-error_in es (UncoveredTyParams u) = uncovered (type_in es u.uncovered) (option_map (type_in es) u.local_ty)
 
 -- The walk of these arguments ends at a local type; or it does not, and that is the error, without lifetimes.
 abbrev pub IsWalkError : World → ℕ → Trees → List Entry → Option (OrphanCheckErr Ty) → Type 0

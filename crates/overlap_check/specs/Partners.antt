@@ -1,10 +1,10 @@
 -- The pairs of impls of one trait that a crate brings together, by the numbers of the impls.
 use Rattle.std.specs.Prelude.{◌≡◌, ◌≢◌, ℕ, ◌<◌, Bool, ◌==◌, ◌&&◌, ◌||◌, not, nat_lt, List, Some}
-use Rattle.type_terms.specs.Erased.{erased_impl}
-use Rattle.type_terms.specs.Worlds.{World, ImplDecl}
-use Rattle.type_terms.specs.Terms.{Entry}
+use Rattle.type_terms.specs.Promised.Erased.{erased_impl}
+use Rattle.type_terms.specs.Promised.Worlds.{World, ImplDecl}
+use Rattle.type_terms.specs.Promised.Handles.{Entry}
 use Rattle.type_terms.specs.declared.ImplId.{ImplId}
-use Rattle.type_terms.specs.LinkedSet.{IsPair}
+use Rattle.type_terms.specs.Promised.LinkedSet.{IsPair}
 use Rattle.declarations.specs.Items.{Items, IsAbove, declared, impl_at, impl_in}
 use Rattle.declarations.specs.declared.items.ImplDef.{ImplDef}
 

@@ -1,19 +1,19 @@
 -- Worked crates: their verdicts, and answers to their questions. Crate first uses base; structs count from 10, traits from 20 and
 -- impls from 100.
 use Rattle.std.specs.Prelude.{◌≡◌, ℕ, true, false, IsTrue, [], ◌∷◌, Some}
-use Rattle.type_terms.specs.Label.{of_type, of_const, bool, char, str, tuple, uint, adt, fn_ptr, value, infer, param, placeholder}
-use Rattle.type_terms.specs.Trees.{Trees, none, tree, leaf}
-use Rattle.type_terms.specs.Worlds.{World, Reference, ImplDecl, view_of}
-use Rattle.type_terms.specs.Rules.{asked, fn_once}
-use Rattle.type_terms.specs.Proofs.{HasProofByImpl}
-use Rattle.type_terms.specs.Erased.{erased_world}
-use Rattle.type_terms.specs.Answers.{is_closed, CommonInstance}
-use Rattle.type_terms.specs.Core.{box}
+use Rattle.type_terms.specs.Promised.Label.{of_type, of_const, bool, char, str, tuple, uint, adt, fn_ptr, value, infer, param, placeholder}
+use Rattle.type_terms.specs.Promised.Trees.{Trees, none, tree, leaf}
+use Rattle.type_terms.specs.Promised.Worlds.{World, Reference, ImplDecl, view_of}
+use Rattle.type_terms.specs.Promised.Rules.{asked, fn_once}
+use Rattle.type_terms.specs.Promised.Proofs.{HasProofByImpl}
+use Rattle.type_terms.specs.Promised.Erased.{erased_world}
+use Rattle.type_terms.specs.Promised.Answers.{is_closed, CommonInstance}
+use Rattle.type_terms.specs.Promised.Core.{box}
 use Rattle.type_terms.specs.Worked.{base, first, beside_core, struct, fundamental_struct, trait_of, impl_of, to, u8, T, applied, fn_of_any, fn_of_static, show_world, text_of_a_user, set_of_two_users}
-use Rattle.type_terms.specs.LinkedSet.{IsPair}
-use Rattle.orphan_check.specs.Items.{nonlocal, uncovered, items, foreign_leaves}
-use Rattle.overlap_check.specs.Verdicts.{IsCleared, IsVerdict, accepted, orphan, overlap}
-use Rattle.overlap_check.specs.Questions.{Solution, IsProveAnswer, yes, unproved, maybe, IsRefuteAnswer, no}
+use Rattle.type_terms.specs.Promised.LinkedSet.{IsPair}
+use Rattle.type_terms.specs.Promised.OrphanErrors.{nonlocal, uncovered, items, foreign_leaves}
+use Rattle.type_terms.specs.Promised.Verdicts.{IsCleared, IsVerdict, accepted, orphan, overlap}
+use Rattle.type_terms.specs.Promised.Questions.{Solution, IsProveAnswer, yes, unproved, maybe, IsRefuteAnswer, no}
 
 -- The orphan rule
 -- `crate base; trait Show; crate first uses base; impl Show for u8`: u8, the first type, is foreign.

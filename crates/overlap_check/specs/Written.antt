@@ -1,16 +1,18 @@
 -- Impls as a text writes them, over the terms of an interner.
 use Rattle.std.specs.Prelude.{◌≡◌, false, List, map}
-use Rattle.type_terms.specs.Trees.{some_node, erase}
-use Rattle.type_terms.specs.Erased.{erased_impl, IsCovered}
-use Rattle.type_terms.specs.LinkedSet.{is_stray}
-use Rattle.type_terms.specs.Terms.{Entry, Lawful, trees_at}
+use Rattle.type_terms.specs.Promised.Trees.{some_node, erase}
+use Rattle.type_terms.specs.Promised.Erased.{erased_impl}
+use Rattle.type_terms.specs.Erased.{IsCovered}
+use Rattle.type_terms.specs.Promised.LinkedSet.{is_stray}
+use Rattle.type_terms.specs.Promised.Handles.{Entry, trees_at}
+use Rattle.type_terms.specs.Terms.{Lawful}
 use Rattle.type_terms.specs.declared.ImplId.{ImplId}
 use Rattle.term_folds.specs.declared.predicate.TraitRef.{TraitRef}
 use Rattle.infer_table.specs.Content.{Table}
 use Rattle.declarations.specs.Applied.{sort_of_param, SpeaksOf}
 use Rattle.declarations.specs.Held.{ImplHeld}
 use Rattle.declarations.specs.Items.{impl_in}
-use Rattle.declarations.specs.Merges.{Each}
+use Rattle.declarations.specs.Promised.Elaboration.{Each}
 use Rattle.declarations.specs.declared.items.ImplDef.{ImplDef}
 use Rattle.overlap_check.specs.Fresh.{fresh_unknowns}
 use Rattle.overlap_check.specs.Goals.{IsInstantiable}

@@ -1,6 +1,7 @@
 //! Headers made equal.
 ghost use Rattle.std.specs.Prelude.{◌≡◌, ◌≢◌, ◌⊎◌, OnOk, OnErr, Err, Some};
-ghost use Rattle.type_terms.specs.Kinds.{ArgsHeld, args_trees};
+ghost use Rattle.type_terms.specs.Promised.Handles.{ArgsHeld};
+ghost use Rattle.type_terms.specs.Kinds.{args_trees};
 ghost use Rattle.infer_table.specs.Applied.{solved_in_turn};
 ghost use Rattle.infer_table.specs.Content.{Ready, Grows, content};
 ghost use Rattle.infer_table.specs.Equated.{MakesEqual};

@@ -1,9 +1,10 @@
 //! Fresh unknowns for the parameters of impls.
 ghost use Rattle.std.specs.Prelude.{◌≡◌, map, IfOk, OnOk};
-ghost use Rattle.type_terms.specs.Label.{infer};
-ghost use Rattle.type_terms.specs.Trees.{leaf};
-ghost use Rattle.type_terms.specs.Terms.{Has, args_lists, trees_at};
-ghost use Rattle.type_terms.specs.Kinds.{ArgHeld, arg_trees};
+ghost use Rattle.type_terms.specs.Promised.Label.{infer};
+ghost use Rattle.type_terms.specs.Promised.Trees.{leaf};
+ghost use Rattle.type_terms.specs.Promised.Handles.{Has, trees_at};
+ghost use Rattle.type_terms.specs.Terms.{args_lists};
+ghost use Rattle.type_terms.specs.Promised.Handles.{ArgHeld, arg_trees};
 ghost use Rattle.type_terms.specs.Growth.{GrewOrFull};
 ghost use Rattle.infer_table.specs.Content.{Ready, variables_of};
 ghost use Rattle.declarations.specs.Applied.{sort_of_param};

@@ -1,15 +1,16 @@
 //! Headers and where-clauses of impls over fresh unknowns.
 ghost use Rattle.std.specs.Prelude.{◌≡◌, IfOk, OnOk, None};
 ghost use Rattle.type_terms.specs.Trees.{outer_binder};
-ghost use Rattle.type_terms.specs.Worlds.{with_args, all_with_args};
-ghost use Rattle.type_terms.specs.Terms.{Has, args_lists, trees_at};
+ghost use Rattle.type_terms.specs.Promised.Worlds.{with_args, all_with_args};
+ghost use Rattle.type_terms.specs.Promised.Handles.{Has, trees_at};
+ghost use Rattle.type_terms.specs.Terms.{args_lists};
 ghost use Rattle.term_folds.specs.Arguments.{first_misfit};
 ghost use Rattle.type_terms.specs.Growth.{GrewOrFull};
 ghost use Rattle.infer_table.specs.Content.{Ready};
 ghost use Rattle.declarations.specs.Applied.{references_in, TraitRefsHeld};
 ghost use Rattle.declarations.specs.Held.{ReferenceHeld, ImplHeld};
 ghost use Rattle.declarations.specs.Items.{reference_in};
-ghost use Rattle.declarations.specs.Merges.{Each};
+ghost use Rattle.declarations.specs.Promised.Elaboration.{Each};
 ghost use Rattle.overlap_check.specs.Headers.{with_unknowns_for, IsHeaderOver};
 ghost use Rattle.overlap_check.specs.Written.{IsWrittenWell};
 

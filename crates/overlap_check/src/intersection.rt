@@ -1,7 +1,7 @@
 //! What two impls have in common: their headers made equal, and what is left to ask.
 ghost use Rattle.std.specs.Prelude.{◌≡◌, IfOk, IfSome, Ok, None};
-ghost use Rattle.type_terms.specs.Worlds.{all_with_args};
-ghost use Rattle.type_terms.specs.Terms.{trees_at};
+ghost use Rattle.type_terms.specs.Promised.Worlds.{all_with_args};
+ghost use Rattle.type_terms.specs.Promised.Handles.{trees_at};
 ghost use Rattle.type_terms.specs.Growth.{GrewOrFull};
 ghost use Rattle.infer_table.specs.Content.{Table};
 ghost use Rattle.declarations.specs.Applied.{references_in, TraitRefsHeld};

@@ -1,15 +1,15 @@
 //! The orphan check of the impls that a crate writes.
 ghost use Rattle.std.specs.Prelude.{◌≡◌, ◌==◌, ◌≤◌, ◌+◌, false, [], IfOk, IfErr, IfSome, List};
-ghost use Rattle.type_terms.specs.Erased.{erased_reference};
-ghost use Rattle.type_terms.specs.Walks.{trait_is};
-ghost use Rattle.type_terms.specs.Terms.{Entry, trees_at};
+ghost use Rattle.type_terms.specs.Promised.Erased.{erased_reference};
+ghost use Rattle.type_terms.specs.Promised.Walks.{trait_is};
+ghost use Rattle.type_terms.specs.Promised.Handles.{Entry, trees_at};
 ghost use Rattle.type_terms.specs.declared.Fault.TheVariants.{Memory};
 ghost use Rattle.type_terms.specs.declared.TheConstants.{MAX_INDEX};
 ghost use Rattle.type_terms.specs.Growth.{GrewOrFull};
 ghost use Rattle.infer_table.specs.Content.{Ready};
 ghost use Rattle.declarations.specs.Held.{AreHeld, ImplHeld, ReferenceHeld};
 ghost use Rattle.declarations.specs.Items.{IsAbove, declared, reference_in};
-ghost use Rattle.orphan_check.specs.Held.{ErrorHeld};
+ghost use Rattle.orphan_check.specs.Promised.Errors.{ErrorHeld};
 ghost use Rattle.overlap_check.specs.Headers.{empty_table};
 ghost use Rattle.overlap_check.specs.Orphans.{AreWrittenWell, HeaderHoldsParams, IsErrorOf, IsFirstError, IsHeaderError, IsWalkError};
 ghost use Rattle.overlap_check.specs.Written.{IsWrittenWell};

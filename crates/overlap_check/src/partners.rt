@@ -1,6 +1,6 @@
 //! The pairs of impls that a crate brings together.
 ghost use Rattle.std.specs.Prelude.{◌≡◌, List, IfSome, IfNone};
-ghost use Rattle.type_terms.specs.Terms.{Entry};
+ghost use Rattle.type_terms.specs.Promised.Handles.{Entry};
 ghost use Rattle.declarations.specs.Held.{AreHeld, ImplHeld};
 ghost use Rattle.declarations.specs.Items.{declared};
 ghost use Rattle.overlap_check.specs.Orphans.{AreWrittenWell};

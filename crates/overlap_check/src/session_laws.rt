@@ -1,7 +1,8 @@
 //! What a session promises of its answers, and what follows from it.
 
-ghost use Rattle.overlap_check.specs.ImplRules.{ImplRulesAreInstances};
-ghost use Rattle.overlap_check.specs.SessionLaws.{RefusedIsReal, AnswersHoldEverywhere, ApartIsCleared, BoundedIsRefuted, DecidedIsAnswered, HeadlineHolds, HeadlineInAnyOrder, HeadlineOfHeldSets, PassedIsAccepted, RefusedClauseClears};
+ghost use Rattle.type_terms.specs.Promised.ReadByLaws.{ImplRulesAreInstances};
+ghost use Rattle.overlap_check.specs.SessionLaws.{RefusedIsReal, ApartIsCleared, BoundedIsRefuted, DecidedIsAnswered, HeadlineInAnyOrder, HeadlineOfHeldSets, PassedIsAccepted, RefusedClauseClears};
+ghost use Rattle.type_terms.specs.Promised.SetLaws.{AnswersHoldEverywhere, HeadlineHolds};
 ghost use Rattle.overlap_check.specs.Worked.{ALaterPairIsRefused, ClearedByAClause, FlagsOfLeaves, ForeignLeaf, LifetimesAlone, NotAcceptedUnlinked, ParametersStandForThemselves, ProvedAloneAndRefuted, RefusedForSomeDay, RefutedForAllValues, TwoTextsAccepted, VariableUncoveredBeforeLocal, ValuesOfBothKinds};
 
 /// In a linked set of accepted crates, of one text or of several, no closed reference has proofs by two impls.

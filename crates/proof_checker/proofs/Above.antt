@@ -1,21 +1,22 @@
 -- Supertraits of a reference, without lifetimes.
 use Rattle.std.proofs.Common.{◌≡◌, ◌==◌, ℕ, zero, ◌<◌, List, [], ◌∷◌, ap, sym, subst, map, None, true}
-use Rattle.type_terms.specs.Trees.{Trees, Fits, erase}
-use Rattle.type_terms.specs.Worlds.{World, Reference, TraitDecl, traits_named, with_args, all_with_args}
-use Rattle.type_terms.specs.Erased.{erased_reference, erased_trait, erased_world}
-use Rattle.type_terms.specs.Rules.{written_supertraits, strict_supertraits}
-use Rattle.type_terms.specs.Proofs.{In, Every}
+use Rattle.type_terms.specs.Promised.Trees.{Trees, Fits, erase}
+use Rattle.type_terms.specs.Promised.Worlds.{World, Reference, TraitDecl, traits_named, with_args, all_with_args}
+use Rattle.type_terms.specs.Promised.Erased.{erased_reference, erased_trait, erased_world}
+use Rattle.type_terms.specs.Promised.Rules.{written_supertraits, strict_supertraits}
+use Rattle.type_terms.specs.Promised.Proofs.{In, Every}
 use Rattle.type_terms.proofs.Members.{here, there, filter-in, flat-in, in-filter, in-map}
 use Rattle.type_terms.proofs.ProofEntries.{map-in}
 use Rattle.type_terms.proofs.TreeLaws.{erase-instantiate}
-use Rattle.type_terms.specs.Terms.{Entry, Keeps, Lawful, trees_at}
+use Rattle.type_terms.specs.Promised.Handles.{Entry, Keeps, trees_at}
+use Rattle.type_terms.specs.Terms.{Lawful}
 use Rattle.term_folds.specs.Arguments.{first_misfit}
 use Rattle.term_folds.specs.declared.predicate.TraitRef.{TraitRef}
 use Rattle.declarations.specs.declared.items.TraitDef.{TraitDef}
 use Rattle.declarations.specs.Items.{Items, reference_in, trait_in, written, declared}
 use Rattle.declarations.specs.Held.{ReferenceHeld}
 use Rattle.declarations.specs.Applied.{HaveBounds, references_in, TraitRefsHeld}
-use Rattle.declarations.specs.Merges.{Each}
+use Rattle.declarations.specs.Promised.Elaboration.{Each}
 use Rattle.declarations.proofs.Elaborating.{lead-down}
 use Rattle.declarations.proofs.Growth.{reference-kept}
 use Rattle.declarations.proofs.Levels.{LeadDown, strict-closed}

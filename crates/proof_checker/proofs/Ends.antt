@@ -1,9 +1,9 @@
 -- Steps that follow each are a proof.
 use Rattle.std.proofs.Common.{◌≡◌, ◌<◌, ℕ, zero, suc, ◌+◌, List, [], ◌∷◌, ◌++◌, length, map, refl, ap, sym, subst, Some, arith, ◌⊎◌, inl, inr}
 use Rattle.std.specs.List.{slice_get}
-use Rattle.type_terms.specs.Worlds.{World, Reference}
-use Rattle.type_terms.specs.Proofs as proofs
-use Rattle.type_terms.specs.Terms.{Entry}
+use Rattle.type_terms.specs.Promised.Worlds.{World, Reference}
+use Rattle.type_terms.specs.Promised.Proofs as proofs
+use Rattle.type_terms.specs.Promised.Handles.{Entry}
 use Rattle.proof_checker.specs.declared.steps.Step.{Step}
 use Rattle.proof_checker.specs.Checked.{StepHasRule, IsRuleByWay, PremisesStand}
 use Rattle.proof_checker.specs.Steps.{term_of, steps_say, at_places, assumed_in, AreEntriesOf, AreProof}

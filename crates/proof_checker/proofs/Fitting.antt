@@ -1,8 +1,9 @@
 -- Arguments that are no misfits fit, where terms are made as an interner makes them.
 use Rattle.std.proofs.Common.{◌≡◌, ◌≤◌, ℕ, zero, suc, max, pred, Bool, true, false, not, refl, sym, ap, subst, Option, Some, None, ◌&&◌, ◌||◌, cond, arith}
 use Rattle.std.specs.Option.{option_or}
-use Rattle.type_terms.specs.Label.{Label, Sort, of_type, of_const, of_lifetime, param, placeholder, infer, canonical, bound, static, dynamic, principal, auto_trait, predicate, fn_ptr}
-use Rattle.type_terms.specs.Trees.{Trees, none, tree, nth, sort_of, is_sort, is_no_tree, IsA, Fits, erase, erase_label, outer_binder, own_binder, outside}
+use Rattle.type_terms.specs.Promised.Label.{Label, Sort, of_type, of_const, of_lifetime, param, placeholder, infer, canonical, bound, static, dynamic, principal, auto_trait, predicate, fn_ptr}
+use Rattle.type_terms.specs.Promised.Trees.{Trees, none, tree, nth, sort_of, is_sort, IsA, Fits, erase, erase_label}
+use Rattle.type_terms.specs.Trees.{is_no_tree, outer_binder, own_binder, outside}
 use Rattle.type_terms.proofs.Walking.{left, right}
 use Rattle.type_terms.specs.Made.{terms, bounds, traits, is_made, is_leaf_label, is_in_range}
 use Rattle.term_folds.specs.Arguments.{sort_at, misfit, first_misfit}

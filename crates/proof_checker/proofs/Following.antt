@@ -1,8 +1,8 @@
 -- Entries whose premises stand among the references of entries before them follow each other.
 use Rattle.std.proofs.Common.{◌≡◌, ℕ, zero, suc, List, [], ◌∷◌, ◌++◌, length, take, map, refl, ap, sym, ◌∙◌, subst, Bool, true, false, if◌then◌else◌, arith}
-use Rattle.type_terms.specs.Worlds.{World, Reference}
-use Rattle.type_terms.specs.Rules.{rules, is_coinductive}
-use Rattle.type_terms.specs.Proofs.{ProofEntry, In, Every, Stands, Follows, IsProof}
+use Rattle.type_terms.specs.Promised.Worlds.{World, Reference}
+use Rattle.type_terms.specs.Promised.Rules.{rules, is_coinductive}
+use Rattle.type_terms.specs.Promised.Proofs.{ProofEntry, In, Every, Stands, Follows, IsProof}
 use Rattle.type_terms.proofs.ProofEntries.{every-map}
 
 abbrev refs : List ProofEntry → List Reference

@@ -1,19 +1,22 @@
 -- Rules by impls.
 use Rattle.std.proofs.Common.{◌≡◌, ℕ, List, [], ◌∷◌, refl, ap, sym, subst, map, None, true}
-use Rattle.type_terms.specs.Trees.{Trees, outer_binder, Fits}
-use Rattle.type_terms.specs.Worlds.{World, Reference, ImplDecl, with_args, all_with_args}
-use Rattle.type_terms.specs.Erased.{IsCovered, erased_impl, erased_reference, erased_world}
-use Rattle.type_terms.specs.Rules.{Rule, by_impl}
-use Rattle.type_terms.specs.Proofs.{In, Every}
+use Rattle.type_terms.specs.Promised.Trees.{Trees, Fits}
+use Rattle.type_terms.specs.Trees.{outer_binder}
+use Rattle.type_terms.specs.Promised.Worlds.{World, Reference, ImplDecl, with_args, all_with_args}
+use Rattle.type_terms.specs.Erased.{IsCovered}
+use Rattle.type_terms.specs.Promised.Erased.{erased_impl, erased_reference, erased_world}
+use Rattle.type_terms.specs.Promised.Rules.{Rule, by_impl}
+use Rattle.type_terms.specs.Promised.Proofs.{In, Every}
 use Rattle.type_terms.proofs.Applies.{applies-up-to-lifetimes}
-use Rattle.type_terms.specs.Terms.{Entry, Has, Keeps, Lawful, args_lists, trees_at}
+use Rattle.type_terms.specs.Promised.Handles.{Entry, Has, Keeps, trees_at}
+use Rattle.type_terms.specs.Terms.{Lawful, args_lists}
 use Rattle.type_terms.specs.Kept.{trees-is, trees-later}
 use Rattle.type_terms.specs.Made.{terms, is_made, is_in_range}
 use Rattle.term_folds.specs.Arguments.{first_misfit}
 use Rattle.term_folds.specs.declared.predicate.TraitRef.{TraitRef}
 use Rattle.declarations.specs.Items.{reference_in}
 use Rattle.declarations.specs.Applied.{references_in, TraitRefsHeld}
-use Rattle.declarations.specs.Merges.{Each}
+use Rattle.declarations.specs.Promised.Elaboration.{Each}
 use Rattle.proof_checker.specs.Checked.{IsRuleByWay}
 use Rattle.proof_checker.specs.Steps.{terms_of}
 use Rattle.proof_checker.proofs.Fitting.{fits-of, erased-closed}

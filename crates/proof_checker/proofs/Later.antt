@@ -1,16 +1,17 @@
 -- Steps while the interner grows.
 use Rattle.std.proofs.Common.{◌≡◌, ℕ, zero, suc, List, [], ◌∷◌, ◌++◌, length, take, refl, ap, sym, subst, Bool, true, false, if◌then◌else◌, arith, Some}
 use Rattle.std.specs.List.{slice_get}
-use Rattle.type_terms.specs.Worlds.{Reference}
-use Rattle.type_terms.specs.Erased.{erased_reference}
-use Rattle.type_terms.specs.Proofs.{In, Every}
-use Rattle.type_terms.specs.Terms.{Entry, Keeps, args_lists}
+use Rattle.type_terms.specs.Promised.Worlds.{Reference}
+use Rattle.type_terms.specs.Promised.Erased.{erased_reference}
+use Rattle.type_terms.specs.Promised.Proofs.{In, Every}
+use Rattle.type_terms.specs.Promised.Handles.{Entry, Keeps}
+use Rattle.type_terms.specs.Terms.{args_lists}
 use Rattle.type_terms.proofs.Members.{here, in-right}
 use Rattle.type_terms.specs.Kept.{has-later}
 use Rattle.term_folds.specs.declared.predicate.TraitRef.{TraitRef}
 use Rattle.declarations.specs.Applied.{TraitRefsHeld}
 use Rattle.declarations.specs.Held.{ReferenceHeld}
-use Rattle.declarations.specs.Merges.{Each}
+use Rattle.declarations.specs.Promised.Elaboration.{Each}
 use Rattle.declarations.proofs.Growth.{reference-same, reference-kept, each-kept}
 use Rattle.proof_checker.specs.declared.steps.Way.{Way}
 use Rattle.proof_checker.specs.declared.steps.Way.TheVariants.{Impl, Clause, Supertrait, BuiltIn, Assumed}

@@ -1,11 +1,11 @@
 -- What steps say over one interner they say over it as it was before, and what their entries conclude is what they say.
 use Rattle.std.proofs.Common.{◌≡◌, ◌∙◌, ◌++◌, List, [], ◌∷◌, map, refl, ap, sym, subst}
-use Rattle.type_terms.specs.Worlds.{World, Reference}
-use Rattle.type_terms.specs.Proofs as proofs
-use Rattle.type_terms.specs.Proofs.{In, IsProof}
-use Rattle.type_terms.specs.Terms.{Entry, Keeps}
+use Rattle.type_terms.specs.Promised.Worlds.{World, Reference}
+use Rattle.type_terms.specs.Promised.Proofs as proofs
+use Rattle.type_terms.specs.Promised.Proofs.{In, IsProof}
+use Rattle.type_terms.specs.Promised.Handles.{Entry, Keeps}
 use Rattle.type_terms.proofs.Members.{here, there}
-use Rattle.declarations.specs.Merges.{Each}
+use Rattle.declarations.specs.Promised.Elaboration.{Each}
 use Rattle.proof_checker.specs.declared.steps.Step.{Step}
 use Rattle.proof_checker.specs.Steps.{term_of, steps_say, at_places, StepHeld, AreEntriesOf, AreProof, AreProofOf}
 use Rattle.proof_checker.proofs.Later.{term-same, say-same, assumed-same}

@@ -2,18 +2,19 @@
 use Rattle.std.proofs.Common.{◌≡◌, ℕ, Bool, true, false, cond, ◌||◌, ◌&&◌, List, [], ◌∷◌, ◌++◌, None, refl, sym, ap, ◌∙◌, subst, map}
 use Rattle.std.specs.Prelude.{◌==◌, filter, if◌then◌else◌}
 use Rattle.std.specs.List.{list_any, flat_map}
-use Rattle.type_terms.specs.Label.{Label, of_type, array, slice, ref, raw_pointer}
-use Rattle.type_terms.specs.Trees.{Trees, none, tree, leaf, ◌+++◌, IsA, erase, instantiate}
-use Rattle.type_terms.specs.Worlds.{World, ImplDecl, structs_named}
-use Rattle.type_terms.specs.Rules.{asked, each_asked, last_asked, together, same_head, auto_rules, auto_rules_plain, auto_struct, sized, sized_struct, row, fields_of}
+use Rattle.type_terms.specs.Promised.Label.{Label, of_type, array, slice, ref, raw_pointer}
+use Rattle.type_terms.specs.Promised.Trees.{Trees, none, tree, leaf, ◌+++◌, IsA, erase, instantiate}
+use Rattle.type_terms.specs.Promised.Worlds.{World, ImplDecl, structs_named}
+use Rattle.type_terms.specs.Promised.Rules.{asked, each_asked, last_asked, together, same_head, auto_rules, auto_rules_plain, auto_struct, sized, sized_struct, row, fields_of}
 use Rattle.type_terms.specs.Made.{terms, is_made, is_in_range}
 use Rattle.type_terms.specs.Kinds.{TysHeld, tys_trees}
 use Rattle.type_terms.specs.Kept.{has-later, trees-is, trees-later}
-use Rattle.type_terms.specs.Terms.{Entry, Keeps, Has, Lawful, types, trees_at}
+use Rattle.type_terms.specs.Promised.Handles.{Entry, Keeps, Has, types, trees_at}
+use Rattle.type_terms.specs.Terms.{Lawful}
 use Rattle.type_terms.specs.declared.kinds.Ty.{Ty}
 use Rattle.type_terms.proofs.TreeLaws.{erase-instantiate}
 use Rattle.term_folds.specs.Arguments.{first_misfit}
-use Rattle.declarations.specs.Merges.{Each}
+use Rattle.declarations.specs.Promised.Elaboration.{Each}
 use Rattle.declarations.specs.Relevant.{next_above, relevant_impls}
 use Rattle.declarations.specs.Unsizing.{field_trees}
 use Rattle.proof_checker.specs.Rows.{AreFieldsOf, IsOneRow, each_asked_of, last_type}

@@ -1,8 +1,8 @@
 -- References at places.
 use Rattle.std.proofs.Common.{◌≡◌, ◌<◌, ℕ, zero, suc, List, [], ◌∷◌, ◌++◌, length, take, ap, sym, ◌∙◌, subst, Some, arith}
 use Rattle.std.specs.List.{slice_get}
-use Rattle.type_terms.specs.Worlds.{Reference}
-use Rattle.declarations.specs.Merges.{Each}
+use Rattle.type_terms.specs.Promised.Worlds.{Reference}
+use Rattle.declarations.specs.Promised.Elaboration.{Each}
 use Rattle.proof_checker.specs.Steps.{as_list, at_places}
 
 pub each-at : {A : Type 0} (P : A → Type 0) (xs : List A) (k : ℕ) (x : A) → Each P xs → slice_get xs k ≡ Some x → P x

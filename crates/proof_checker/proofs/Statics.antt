@@ -2,12 +2,12 @@
 use Rattle.std.proofs.Common.{◌≡◌, ℕ, Bool, true, false, cond, refl, ap, ◌∙◌, List, [], ◌∷◌}
 use Rattle.std.specs.Prelude.{Result, Ok, Err, IfOk}
 use Rattle.type_terms.specs.declared.Fault.{Fault}
-use Rattle.type_terms.specs.Label.{Label, static, param, placeholder, infer, canonical, bound, of_type, of_const, of_lifetime, inside}
-use Rattle.type_terms.specs.Trees.{Trees, none, tree, erase, erase_label}
+use Rattle.type_terms.specs.Promised.Label.{Label, static, param, placeholder, infer, canonical, bound, of_type, of_const, of_lifetime, inside}
+use Rattle.type_terms.specs.Promised.Trees.{Trees, none, tree, erase, erase_label}
 use Rattle.term_folds.specs.Regions.{is_free_lifetime, region_replaced, regions_replaced}
-use Rattle.type_terms.specs.Worlds.{Reference}
-use Rattle.type_terms.specs.Erased.{erased_reference}
-use Rattle.type_terms.specs.Terms.{Entry, trees_at}
+use Rattle.type_terms.specs.Promised.Worlds.{Reference}
+use Rattle.type_terms.specs.Promised.Erased.{erased_reference}
+use Rattle.type_terms.specs.Promised.Handles.{Entry, trees_at}
 use Rattle.type_terms.specs.Pieces.{Piece, one_piece, each_piece}
 use Rattle.term_folds.specs.declared.predicate.TraitRef.{TraitRef}
 use Rattle.declarations.specs.Items.{reference_in}

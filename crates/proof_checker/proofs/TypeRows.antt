@@ -2,14 +2,15 @@
 use Rattle.std.proofs.Common.{◌≡◌, ℕ, List, [], ◌∷◌, ◌++◌, refl, sym, ap, subst, ◌∙◌, true, ◌||◌, ◌==◌, if◌then◌else◌, length, arith}
 use Rattle.std.proofs.lemmas.Bool.Decides.{nat_tests}
 use Rattle.std.specs.List.{flat_map}
-use Rattle.type_terms.specs.Label.{of_type}
-use Rattle.type_terms.specs.Trees.{Trees, none, tree, ◌+++◌, IsA, erase, erase_label}
-use Rattle.type_terms.specs.Worlds.{World, Reference}
-use Rattle.type_terms.specs.Proofs.{In}
-use Rattle.type_terms.specs.Rules.{Rule, Way, BuiltIn, built_in, by_impl, by_clause, by_super, asked, each_asked, last_asked, sized, copy, clone, tuple_trait, fn_ptr_trait, is_fn_trait, unsize, is_auto, sized_rules, copy_rules, tuple_rules, fn_ptr_rules, call_rules, plain_rules, auto_rules, auto_rules_plain, unsize_rules, object_rules, built_in_rules, clause_rules, impl_rules}
+use Rattle.type_terms.specs.Promised.Label.{of_type}
+use Rattle.type_terms.specs.Promised.Trees.{Trees, none, tree, ◌+++◌, IsA, erase, erase_label}
+use Rattle.type_terms.specs.Promised.Worlds.{World, Reference}
+use Rattle.type_terms.specs.Promised.Proofs.{In}
+use Rattle.type_terms.specs.Promised.Rules.{Rule, Way, BuiltIn, built_in, by_impl, by_clause, by_super, asked, each_asked, last_asked, sized, copy, clone, tuple_trait, fn_ptr_trait, is_fn_trait, unsize, is_auto, sized_rules, copy_rules, tuple_rules, fn_ptr_rules, call_rules, plain_rules, auto_rules, auto_rules_plain, unsize_rules, object_rules, built_in_rules, clause_rules, impl_rules}
 use Rattle.type_terms.specs.Kept.{trees-is}
 use Rattle.type_terms.specs.Kinds.{TysHeld, tys_trees}
-use Rattle.type_terms.specs.Terms.{Entry, Has, Keeps, Lawful, types, trees_at}
+use Rattle.type_terms.specs.Promised.Handles.{Entry, Has, Keeps, types, trees_at}
+use Rattle.type_terms.specs.Terms.{Lawful}
 use Rattle.type_terms.specs.declared.kinds.Ty.{Ty}
 use Rattle.type_terms.proofs.Members.{here, in-left, in-right}
 use Rattle.type_terms.proofs.TreeLaws.{append-none}

@@ -1,9 +1,9 @@
 -- Rules by where-clauses, and by more of them.
 use Rattle.std.proofs.Common.{◌≡◌, ◌⊎◌, inl, inr, ℕ, zero, suc, ◌+◌, List, [], ◌∷◌, ◌++◌, refl, sym, ◌∙◌, subst, Bool, true, false, if◌then◌else◌, map, Some, arith, ◌<◌, length, get_or}
 use Rattle.std.specs.List.{slice_get, flat_map}
-use Rattle.type_terms.specs.Worlds.{World, Reference}
-use Rattle.type_terms.specs.Rules.{Rule, Way, by_clause, by_super, rules, impl_rules, built_in_rules, clause_rules, super_rules, strict_supertraits, same_reference}
-use Rattle.type_terms.specs.Proofs.{In}
+use Rattle.type_terms.specs.Promised.Worlds.{World, Reference}
+use Rattle.type_terms.specs.Promised.Rules.{Rule, Way, by_clause, by_super, rules, impl_rules, built_in_rules, clause_rules, super_rules, strict_supertraits, same_reference}
+use Rattle.type_terms.specs.Promised.Proofs.{In}
 use Rattle.type_terms.proofs.Members.{here, in-append, in-cases, in-left, in-nothing, in-right}
 use Rattle.type_terms.proofs.Applies.{same-reference-complete}
 use Rattle.proof_checker.specs.Checked.{IsRuleByWay, IsSuperRule}

@@ -1,10 +1,10 @@
 -- What is checked of one step.
 use Rattle.std.specs.Prelude.{◌≡◌, ℕ, take, List, [], ◌++◌, if◌then◌else◌}
-use Rattle.type_terms.specs.Worlds.{World, Reference}
-use Rattle.type_terms.specs.Rules.{Rule, BuiltIn, by_super, built_in, rules, is_coinductive}
-use Rattle.type_terms.specs.Rules as rule
-use Rattle.type_terms.specs.Proofs.{In, Every}
-use Rattle.type_terms.specs.Terms as terms
+use Rattle.type_terms.specs.Promised.Worlds.{World, Reference}
+use Rattle.type_terms.specs.Promised.Rules.{Rule, BuiltIn, by_super, built_in, rules, is_coinductive}
+use Rattle.type_terms.specs.Promised.Rules as rule
+use Rattle.type_terms.specs.Promised.Proofs.{In, Every}
+use Rattle.type_terms.specs.Promised.Handles as terms
 use Rattle.proof_checker.specs.declared.steps.Step.{Step}
 use Rattle.proof_checker.specs.Steps.{term_of, at_places, IsWayOf}
 

@@ -1,10 +1,10 @@
 -- What built-in rows ask of types, without lifetimes.
 use Rattle.std.specs.Prelude.{◌≡◌, ℕ, true, List, [], ◌∷◌, map}
-use Rattle.type_terms.specs.Proofs.{In}
-use Rattle.type_terms.specs.Rules.{Rule, Way, BuiltIn, built_in, asked, built_in_rules, is_auto, auto_rules, auto_rules_plain, fields_of}
-use Rattle.type_terms.specs.Terms.{Entry, trees_at}
-use Rattle.type_terms.specs.Trees.{Trees, erase}
-use Rattle.type_terms.specs.Worlds.{World, Reference, StructDecl, structs_named}
+use Rattle.type_terms.specs.Promised.Proofs.{In}
+use Rattle.type_terms.specs.Promised.Rules.{Rule, Way, BuiltIn, built_in, asked, built_in_rules, is_auto, auto_rules, auto_rules_plain, fields_of}
+use Rattle.type_terms.specs.Promised.Handles.{Entry, trees_at}
+use Rattle.type_terms.specs.Promised.Trees.{Trees, erase}
+use Rattle.type_terms.specs.Promised.Worlds.{World, Reference, StructDecl, structs_named}
 use Rattle.type_terms.specs.declared.kinds.Ty.{Ty}
 
 -- Each of the types asked for the trait.

@@ -1,13 +1,15 @@
 -- What steps say, over the terms of an interner: entries of a proof, without lifetimes.
 use Rattle.std.specs.Prelude.{◌≡◌, ℕ, List, [], ◌∷◌, ◌++◌, map, Option, None, Some}
 use Rattle.std.specs.List.{slice_get, flat_map}
-use Rattle.type_terms.specs.Erased.{erased_reference, erased_impl, IsCovered}
-use Rattle.type_terms.specs.Worlds.{World, Reference, ImplDecl}
-use Rattle.type_terms.specs.Rules.{BuiltIn, by_impl, by_clause, by_super, built_in}
-use Rattle.type_terms.specs.Rules as rule
-use Rattle.type_terms.specs.Proofs.{ProofEntry, In, Stands, IsProof}
-use Rattle.type_terms.specs.Terms as terms
-use Rattle.type_terms.specs.Terms.{Has, args_lists}
+use Rattle.type_terms.specs.Promised.Erased.{erased_reference, erased_impl}
+use Rattle.type_terms.specs.Erased.{IsCovered}
+use Rattle.type_terms.specs.Promised.Worlds.{World, Reference, ImplDecl}
+use Rattle.type_terms.specs.Promised.Rules.{BuiltIn, by_impl, by_clause, by_super, built_in}
+use Rattle.type_terms.specs.Promised.Rules as rule
+use Rattle.type_terms.specs.Promised.Proofs.{ProofEntry, In, Stands, IsProof}
+use Rattle.type_terms.specs.Promised.Handles as terms
+use Rattle.type_terms.specs.Promised.Handles.{Has}
+use Rattle.type_terms.specs.Terms.{args_lists}
 use Rattle.term_folds.specs.declared.predicate.TraitRef.{TraitRef}
 use Rattle.declarations.specs.Held.{ReferenceHeld}
 use Rattle.declarations.specs.Items.{Items, reference_in, written}

@@ -1,14 +1,14 @@
 //! Whether steps are a proof.
 ghost use Rattle.std.specs.Prelude.{◌≡◌, true, take, ◌++◌, [], List, IfOk, Some};
 ghost use Rattle.std.specs.List.{slice_get};
-ghost use Rattle.type_terms.specs.Proofs.{In, Every};
-ghost use Rattle.type_terms.specs.Rules.{is_coinductive};
-ghost use Rattle.type_terms.specs.Terms.{Entry};
+ghost use Rattle.type_terms.specs.Promised.Proofs.{In, Every};
+ghost use Rattle.type_terms.specs.Promised.Rules.{is_coinductive};
+ghost use Rattle.type_terms.specs.Promised.Handles.{Entry};
 ghost use Rattle.type_terms.specs.Growth.{GrewOrFull};
 ghost use Rattle.declarations.specs.Applied.{TraitRefsHeld, HaveBounds};
 ghost use Rattle.declarations.specs.Held.{AreHeld, ReferenceHeld};
 ghost use Rattle.declarations.specs.Items.{declared};
-ghost use Rattle.declarations.specs.Merges.{Each};
+ghost use Rattle.declarations.specs.Promised.Elaboration.{Each};
 ghost use Rattle.proof_checker.specs.Checked.{StepHasRule, PremisesStand};
 ghost use Rattle.proof_checker.specs.Steps.{term_of, terms_of, steps_say, at_places, assumed_in, AreProof, AreProofOf, StepHeld, ParametersAreCovered};
 

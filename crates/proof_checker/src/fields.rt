@@ -1,13 +1,15 @@
 //! The fields of structs, with arguments in the place of parameters.
 ghost use Rattle.std.specs.Prelude.{◌≡◌, map, IfOk, IfSome, None};
 ghost use Rattle.type_terms.specs.Kinds.{TysHeld, tys_trees};
-ghost use Rattle.type_terms.specs.Terms.{Has, types, args_lists, trees_at};
-ghost use Rattle.type_terms.specs.Trees.{erase, instantiate, outer_binder};
+ghost use Rattle.type_terms.specs.Promised.Handles.{Has, types, trees_at};
+ghost use Rattle.type_terms.specs.Terms.{args_lists};
+ghost use Rattle.type_terms.specs.Promised.Trees.{erase, instantiate};
+ghost use Rattle.type_terms.specs.Trees.{outer_binder};
 ghost use Rattle.term_folds.specs.Arguments.{first_misfit};
 ghost use Rattle.type_terms.specs.Growth.{GrewOrFull};
 ghost use Rattle.declarations.specs.Held.{AreHeld};
 ghost use Rattle.declarations.specs.Items.{declared};
-ghost use Rattle.declarations.specs.Merges.{Each};
+ghost use Rattle.declarations.specs.Promised.Elaboration.{Each};
 ghost use Rattle.declarations.specs.Unsizing.{field_trees};
 ghost use Rattle.proof_checker.specs.Rows.{AreFieldsOf};
 

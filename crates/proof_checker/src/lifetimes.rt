@@ -15,7 +15,7 @@ use type_terms::region::{Region, RegionKind};
 struct AllStatic;
 
 impl RegionMap for AllStatic {
-    ghost use Rattle.type_terms.specs.Label.{static};
+    ghost use Rattle.type_terms.specs.Promised.Label.{static};
 
     ghost image = { λ _ _. static };
 

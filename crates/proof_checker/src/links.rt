@@ -1,8 +1,9 @@
 //! Whether an impl, or a built-in rule, is asked for a reference, and asks for others.
 ghost use Rattle.std.specs.Prelude.{◌≡◌, true, List, IfOk};
-ghost use Rattle.type_terms.specs.Rules.{by_impl};
-ghost use Rattle.type_terms.specs.Terms.{Has, args_lists};
-ghost use Rattle.type_terms.specs.Worlds.{Reference};
+ghost use Rattle.type_terms.specs.Promised.Rules.{by_impl};
+ghost use Rattle.type_terms.specs.Promised.Handles.{Has};
+ghost use Rattle.type_terms.specs.Terms.{args_lists};
+ghost use Rattle.type_terms.specs.Promised.Worlds.{Reference};
 ghost use Rattle.type_terms.specs.Growth.{GrewOrFull};
 ghost use Rattle.declarations.specs.Applied.{TraitRefsHeld};
 ghost use Rattle.declarations.specs.Held.{ReferenceHeld, AreHeld};

@@ -1,10 +1,10 @@
 //! The types that a type is made of, as the rules that read declarations ask for them: those of auto traits, and `Sized` for structs.
 ghost use Rattle.std.specs.Prelude.{◌≡◌, ℕ, true, IfOk, IfSome};
 ghost use Rattle.type_terms.specs.Kinds.{TysHeld};
-ghost use Rattle.type_terms.specs.Label.{slice, uint};
-ghost use Rattle.type_terms.specs.Rules.{auto_rules_plain, sized, sized_rules};
-ghost use Rattle.type_terms.specs.Terms.{Has, types, trees_at};
-ghost use Rattle.type_terms.specs.Trees.{erase, leaf, none, tree};
+ghost use Rattle.type_terms.specs.Promised.Label.{slice, uint};
+ghost use Rattle.type_terms.specs.Promised.Rules.{auto_rules_plain, sized, sized_rules};
+ghost use Rattle.type_terms.specs.Promised.Handles.{Has, types, trees_at};
+ghost use Rattle.type_terms.specs.Promised.Trees.{erase, leaf, none, tree};
 ghost use Rattle.type_terms.specs.Growth.{GrewOrFull};
 ghost use Rattle.declarations.specs.Held.{AreHeld};
 ghost use Rattle.declarations.specs.Items.{declared};

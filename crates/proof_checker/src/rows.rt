@@ -1,10 +1,11 @@
 //! The premises by which a built-in rule concludes a reference.
 ghost use Rattle.std.specs.Prelude.{◌≡◌, true, [], List, IfOk, IfErr, IfSome};
 ghost use Rattle.type_terms.specs.Kinds.{TysHeld};
-ghost use Rattle.type_terms.specs.Rules.{asked, sized, sized_rules, copy_rules, tuple_rules, fn_ptr_rules};
-ghost use Rattle.type_terms.specs.Terms.{Has, types, args_lists, trees_at};
-ghost use Rattle.type_terms.specs.Trees.{erase};
-ghost use Rattle.type_terms.specs.Worlds.{World, Reference};
+ghost use Rattle.type_terms.specs.Promised.Rules.{asked, sized, sized_rules, copy_rules, tuple_rules, fn_ptr_rules};
+ghost use Rattle.type_terms.specs.Promised.Handles.{Has, types, trees_at};
+ghost use Rattle.type_terms.specs.Terms.{args_lists};
+ghost use Rattle.type_terms.specs.Promised.Trees.{erase};
+ghost use Rattle.type_terms.specs.Promised.Worlds.{World, Reference};
 ghost use Rattle.type_terms.specs.declared.Fault.TheVariants.{Memory};
 ghost use Rattle.type_terms.specs.Growth.{GrewOrFull};
 ghost use Rattle.declarations.specs.Applied.{TraitRefsHeld};

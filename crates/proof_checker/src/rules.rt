@@ -1,15 +1,16 @@
 //! The premises by which one way concludes a reference.
 ghost use Rattle.std.specs.Prelude.{◌≡◌, true, [], List, IfOk, IfSome, None};
-ghost use Rattle.type_terms.specs.Rules.{by_impl, by_clause};
-ghost use Rattle.type_terms.specs.Terms.{Has, args_lists, trees_at};
+ghost use Rattle.type_terms.specs.Promised.Rules.{by_impl, by_clause};
+ghost use Rattle.type_terms.specs.Promised.Handles.{Has, trees_at};
+ghost use Rattle.type_terms.specs.Terms.{args_lists};
 ghost use Rattle.type_terms.specs.Trees.{outer_binder};
-ghost use Rattle.type_terms.specs.Worlds.{World, Reference, with_args, all_with_args};
+ghost use Rattle.type_terms.specs.Promised.Worlds.{World, Reference, with_args, all_with_args};
 ghost use Rattle.term_folds.specs.Arguments.{first_misfit};
 ghost use Rattle.type_terms.specs.Growth.{GrewOrFull};
 ghost use Rattle.declarations.specs.Applied.{references_in, TraitRefsHeld};
 ghost use Rattle.declarations.specs.Held.{ReferenceHeld, AreHeld};
 ghost use Rattle.declarations.specs.Items.{reference_in, declared};
-ghost use Rattle.declarations.specs.Merges.{Each};
+ghost use Rattle.declarations.specs.Promised.Elaboration.{Each};
 ghost use Rattle.proof_checker.specs.Checked.{IsRuleByWay};
 ghost use Rattle.proof_checker.specs.Steps.{term_of, terms_of, ParametersAreCovered};
 

@@ -1,13 +1,13 @@
 //! Supertraits of where-clauses.
 ghost use Rattle.std.specs.Prelude.{◌≡◌, ◌++◌, true, IfOk, IfErr, OnOk};
-ghost use Rattle.type_terms.specs.Proofs.{In};
-ghost use Rattle.type_terms.specs.Rules.{written_supertraits, strict_supertraits};
+ghost use Rattle.type_terms.specs.Promised.Proofs.{In};
+ghost use Rattle.type_terms.specs.Promised.Rules.{written_supertraits, strict_supertraits};
 ghost use Rattle.type_terms.specs.declared.Fault.TheVariants.{Memory};
 ghost use Rattle.type_terms.specs.Growth.{GrewOrFull};
 ghost use Rattle.declarations.specs.Applied.{TraitRefsHeld, HaveBounds};
 ghost use Rattle.declarations.specs.Held.{ReferenceHeld, AreHeld};
 ghost use Rattle.declarations.specs.Items.{declared};
-ghost use Rattle.declarations.specs.Merges.{Each};
+ghost use Rattle.declarations.specs.Promised.Elaboration.{Each};
 ghost use Rattle.proof_checker.specs.Checked.{IsSuperRule};
 ghost use Rattle.proof_checker.specs.Steps.{term_of, terms_of};
 

@@ -1,7 +1,8 @@
 -- Bounds on started frames.
 use Rattle.std.proofs.Common.{◌≡◌, ◌≤◌, ◌<◌, ◌+◌, ◌*◌, ℕ, suc, zero, refl, arith, inl, inr}
 use Rattle.std.proofs.Math.Nat.{mul-le-mul_left, eq-or-lt_of_le}
-use Rattle.search_graph.specs.Bound.{frame_bound, question_bound}
+use Rattle.search_graph.specs.Promised.FrameBound.{frame_bound}
+use Rattle.search_graph.specs.Bound.{question_bound}
 
 pub frame_bound_runs : (limit width depth : ℕ) → frame_bound limit width depth ≡ limit * (1 + width * question_bound limit width depth)
 unfolding frame_bound question_bound

@@ -1,3 +1,4 @@
+pub mod Promised
 pub mod Laws
 pub mod Path
 pub mod Usages

@@ -5,7 +5,8 @@ ghost use Rattle.search_graph.specs.Meaning.{Keeps};
 ghost use Rattle.search_graph.specs.Computed.{IsComputedOrGiven, MakesMisstep};
 ghost use Rattle.search_graph.specs.Answer.{IsSound};
 ghost use Rattle.search_graph.specs.Plain.{IsPlain, IsNotPlain};
-ghost use Rattle.search_graph.specs.Bound.{frame_bound, IsCounted};
+ghost use Rattle.search_graph.specs.Promised.FrameBound.{frame_bound};
+ghost use Rattle.search_graph.specs.Bound.{IsCounted};
 ghost use Rattle.search_graph.specs.Cache.{AreJustified, AreConsistent, KeepsResults, HasConflict, IsKnown, IfKnown};
 ghost use Rattle.search_graph.specs.Question.{AreFramesWithin, IsWithinKnown};
 

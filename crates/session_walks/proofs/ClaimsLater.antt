@@ -1,20 +1,20 @@
 -- What is claimed of a walk, while a session goes on.
 use Rattle.std.proofs.Common.{◌≡◌, ℕ, Bool, true, false, List, [], ◌∷◌, ◌++◌, Option, Some, sym, ◌∙◌, subst}
 use Rattle.std.specs.List.{slice_get}
-use Rattle.type_terms.specs.Proofs.{HasProof}
-use Rattle.type_terms.specs.Terms.{Entry, Keeps}
-use Rattle.type_terms.specs.Worlds.{World, Reference}
+use Rattle.type_terms.specs.Promised.Proofs.{HasProof}
+use Rattle.type_terms.specs.Promised.Handles.{Entry, Keeps}
+use Rattle.type_terms.specs.Promised.Worlds.{World, Reference}
 use Rattle.term_folds.specs.declared.predicate.TraitRef.{TraitRef}
-use Rattle.text_definitions.specs.Declarations.{Declarations}
-use Rattle.declarations.specs.Merges.{Each}
+use Rattle.text_definitions.specs.Promised.Declarations.{Declarations}
+use Rattle.declarations.specs.Promised.Elaboration.{Each}
 use Rattle.orphan_check.specs.declared.errors.Conflict.{Conflict}
 use Rattle.goal_walk.specs.Walking.{ReferencesHeld}
 use Rattle.goal_walk.specs.declared.nodes.GoalWalk.{GoalWalk}
 use Rattle.proof_checker.specs.Checked.{IsConcludedFrom}
 use Rattle.proof_checker.specs.Steps.{term_of, terms_of}
 use Rattle.proof_checker.proofs.Later.{term-same, terms-same}
-use Rattle.sessions.specs.Promises.{view_in}
-use Rattle.sessions.specs.Subjects.{Subject, StaysOn}
+use Rattle.sessions.specs.Promised.Promises.{view_in}
+use Rattle.sessions.specs.Promised.Subjects.{Subject, StaysOn}
 use Rattle.session_walks.specs.Claims.{AddersHold, ClaimsHold, IsUnseenAt, MayAddAt, UnseenHold}
 use Rattle.session_walks.specs.Refusals.{HoldsAt, IsRefusedAt, IsRefusedGoal}
 use Rattle.session_walks.specs.Rules.{AreChecked, IsRuleAt, MayApplyAt, HasNoImplAt, HasNoImpl, MayHaveRule}

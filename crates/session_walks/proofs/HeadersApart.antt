@@ -1,13 +1,13 @@
 -- An impl whose header no values make equal to a reference has no rule for any instance of it.
 use Rattle.std.proofs.Common.{◌≡◌, ◌≢◌, ℕ, zero, suc, ◌<◌, arith, Bool, true, false, ◌||◌, if◌then◌else◌, List, [], ◌∷◌, take, length, refl, sym, ap, ◌∙◌, subst, ◌⊎◌, inl, inr}
-use Rattle.type_terms.specs.Label.{Label, Sort, of_type, of_const, of_lifetime, param, infer, canonical, bound, inside, shift_label}
-use Rattle.type_terms.specs.Trees.{Trees, none, tree, ◌+++◌, IsA, Fits, erase, erase_label, nth, shift, instantiate, sort_of, some_node}
-use Rattle.type_terms.specs.Answers.{is_open}
-use Rattle.type_terms.specs.Erased.{erased_reference, erased_impl}
-use Rattle.type_terms.specs.LinkedSet.{is_stray}
-use Rattle.type_terms.specs.Rules.{by_impl, impl_rules}
-use Rattle.type_terms.specs.Worlds.{Reference, ImplDecl, with_args, all_with_args}
-use Rattle.type_terms.specs.Terms.{Entry, Keeps, trees_at}
+use Rattle.type_terms.specs.Promised.Label.{Label, Sort, of_type, of_const, of_lifetime, param, infer, canonical, bound, inside, shift_label}
+use Rattle.type_terms.specs.Promised.Trees.{Trees, none, tree, ◌+++◌, IsA, Fits, erase, erase_label, nth, shift, instantiate, sort_of, some_node}
+use Rattle.type_terms.specs.Promised.Answers.{is_open}
+use Rattle.type_terms.specs.Promised.Erased.{erased_reference, erased_impl}
+use Rattle.type_terms.specs.Promised.LinkedSet.{is_stray}
+use Rattle.type_terms.specs.Promised.Rules.{by_impl, impl_rules}
+use Rattle.type_terms.specs.Promised.Worlds.{Reference, ImplDecl, with_args, all_with_args}
+use Rattle.type_terms.specs.Promised.Handles.{Entry, Keeps, trees_at}
 use Rattle.type_terms.proofs.Fitting.{child-shut, next-shut}
 use Rattle.term_folds.specs.declared.predicate.TraitRef.{TraitRef}
 use Rattle.declarations.specs.Held.{ReferenceHeld}
@@ -19,7 +19,7 @@ use Rattle.infer_table.specs.Solutions.{Assignment, IsSorted, HasNoSolution, ins
 use Rattle.infer_table.proofs.SolutionLaws.{instance-erase}
 use Rattle.overlap_check.specs.Fresh.{with_unknowns, fresh_unknowns, HasArguments}
 use Rattle.overlap_check.specs.Headers.{sorts_of_impl, unknowns_for, with_unknowns_for, args_at, IsHeaderOver}
-use Rattle.overlap_check.specs.ImplRules.{ImplRulesAreInstances}
+use Rattle.type_terms.specs.Promised.ReadByLaws.{ImplRulesAreInstances}
 use Rattle.overlap_check.specs.declared.header.ImplHeader.{ImplHeader}
 use Rattle.overlap_check.proofs.Instances.{node, shut-stays, nth-shut, instance-put, closing, closed_off, shut_by, shut-by-sorted, closing-stays, closed-shut}
 use Rattle.overlap_check.proofs.Standing.{default_node, default-sorted, assigned as taking, assigned-sorted, assigned-older, fresh-gives, all-no-fewer}

@@ -1,16 +1,16 @@
 -- Goals that have a proof with nothing taken for granted.
 use Rattle.std.proofs.Common.{◌≡◌, List, [], ◌∷◌, ◌++◌, sym, subst, ap, ◌∙◌, ℕ}
 use Rattle.std.specs.List.{flat_map}
-use Rattle.type_terms.specs.Proofs.{ProofEntry, In, Follows, IsProof, HasProof}
-use Rattle.type_terms.specs.Terms.{Entry, Keeps}
-use Rattle.type_terms.specs.Worlds.{World, CrateDecl, Reference}
+use Rattle.type_terms.specs.Promised.Proofs.{ProofEntry, In, Follows, IsProof, HasProof}
+use Rattle.type_terms.specs.Promised.Handles.{Entry, Keeps}
+use Rattle.type_terms.specs.Promised.Worlds.{World, CrateDecl, Reference}
 use Rattle.term_folds.specs.declared.predicate.TraitRef.{TraitRef}
 use Rattle.goal_walk.specs.Walking.{ReferencesHeld}
 use Rattle.proof_checker.specs.declared.steps.Step.{Step}
 use Rattle.proof_checker.specs.Steps.{AreProofOf, assumed_by, assumed_in, term_of}
 use Rattle.proof_checker.proofs.Later.{term-same}
-use Rattle.sessions.specs.Promises.{view_in}
-use Rattle.sessions.specs.Subjects.{Subject, StaysOn}
+use Rattle.sessions.specs.Promised.Promises.{view_in}
+use Rattle.sessions.specs.Promised.Subjects.{Subject, StaysOn}
 use Rattle.sessions.proofs.ProofsAside.{rules-aside}
 use Rattle.session_walks.specs.Refusals.{HoldsAt}
 use Rattle.session_walks.proofs.RuleCandidates.{there-held}

@@ -1,9 +1,10 @@
 -- What a table resolves a reference to is an instance of it.
 use Rattle.std.proofs.Common.{◌≡◌, ℕ, Bool, true, false, List, refl, sym, ap, ◌∙◌, Option, Some, None}
-use Rattle.type_terms.specs.Label.{Label, Sort}
-use Rattle.type_terms.specs.Trees.{Trees, erase}
-use Rattle.type_terms.specs.Terms.{Entry, Lawful, Has, trees_at, args_lists}
-use Rattle.type_terms.specs.Worlds.{Reference}
+use Rattle.type_terms.specs.Promised.Label.{Label, Sort}
+use Rattle.type_terms.specs.Promised.Trees.{Trees, erase}
+use Rattle.type_terms.specs.Promised.Handles.{Entry, Has, trees_at}
+use Rattle.type_terms.specs.Terms.{Lawful, args_lists}
+use Rattle.type_terms.specs.Promised.Worlds.{Reference}
 use Rattle.infer_table.specs.WellFormed.{is_numbered}
 use Rattle.term_folds.specs.declared.predicate.TraitRef.{TraitRef}
 use Rattle.infer_table.specs.Solutions.{Assignment, IsSorted, Binding, instance, resolved, value_in, occurs}

@@ -1,7 +1,7 @@
 -- Why impls of a section may not be added.
 use Rattle.std.proofs.Common.{◌≡◌, ◌-◌, ℕ, List, Option, Some, None, subst}
 use Rattle.std.specs.List.{slice_get}
-use Rattle.type_terms.specs.Worlds.{World, Reference}
+use Rattle.type_terms.specs.Promised.Worlds.{World, Reference}
 use Rattle.declarations.specs.Items.{declared}
 use Rattle.declarations.proofs.Growth.{all-declared}
 use Rattle.solver_context.specs.Contexts.{entries_of}

@@ -1,10 +1,10 @@
 -- Proofs over the terms of an interner that has grown.
 use Rattle.std.proofs.Common.{◌∙◌, List, [], ◌∷◌, ◌++◌, sym, subst}
-use Rattle.type_terms.specs.Worlds.{World, Reference}
-use Rattle.type_terms.specs.Proofs.{ProofEntry, IsProof}
-use Rattle.type_terms.specs.Terms.{Entry, Keeps}
+use Rattle.type_terms.specs.Promised.Worlds.{World, Reference}
+use Rattle.type_terms.specs.Promised.Proofs.{ProofEntry, IsProof}
+use Rattle.type_terms.specs.Promised.Handles.{Entry, Keeps}
 use Rattle.declarations.specs.Held.{ReferenceHeld}
-use Rattle.declarations.specs.Merges.{Each}
+use Rattle.declarations.specs.Promised.Elaboration.{Each}
 use Rattle.proof_checker.specs.Steps.{AreEntriesOf, AreProofOf, IsEntryOf, StepHeld, steps_say}
 use Rattle.proof_checker.specs.declared.steps.Step.{Step}
 use Rattle.proof_checker.proofs.Later.{assumed-same, say-same, term-same}

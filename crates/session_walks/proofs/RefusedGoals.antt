@@ -3,14 +3,14 @@ use Rattle.std.proofs.Common.{◌≡◌, ◌≤◌, ◌+◌, arith, ℕ, zero, s
 use Rattle.std.proofs.lemmas.Bool.Decides.{nat_tests}
 use Rattle.std.specs.Prelude.{IfOk, nat_lt, ltb}
 use Rattle.std.specs.List.{slice_get}
-use Rattle.type_terms.specs.Label.{Label, Sort, of_type, of_const, of_lifetime, param, placeholder, infer, canonical, bound}
-use Rattle.type_terms.specs.Trees.{Trees, none, tree, erase, erase_label, some_node}
-use Rattle.type_terms.specs.Terms.{Entry, Keeps, trees_at}
-use Rattle.type_terms.specs.Worlds.{World, Reference}
+use Rattle.type_terms.specs.Promised.Label.{Label, Sort, of_type, of_const, of_lifetime, param, placeholder, infer, canonical, bound}
+use Rattle.type_terms.specs.Promised.Trees.{Trees, none, tree, erase, erase_label, some_node}
+use Rattle.type_terms.specs.Promised.Handles.{Entry, Keeps, trees_at}
+use Rattle.type_terms.specs.Promised.Worlds.{World, Reference}
 use Rattle.term_folds.specs.declared.predicate.TraitRef.{TraitRef}
 use Rattle.declarations.specs.Held.{ReferenceHeld}
 use Rattle.declarations.specs.Items.{reference_in}
-use Rattle.declarations.specs.Merges.{Each}
+use Rattle.declarations.specs.Promised.Elaboration.{Each}
 use Rattle.infer_table.specs.Canonical.{HasNoCanonical, canonical_form}
 use Rattle.infer_table.specs.Content.{Table, Ready, content, variables_of}
 use Rattle.infer_table.specs.Covers.{AreKnown, IsOfKnown}
@@ -21,21 +21,21 @@ use Rattle.solver_context.specs.Contexts.{entries_of}
 use Rattle.candidate_assembly.specs.declared.solver.Solver.{Solver}
 use Rattle.candidate_assembly.specs.Solving.{meaning_for}
 use Rattle.candidate_assembly.specs.SolverMeaning.{solver_by_view}
-use Rattle.type_terms.specs.Erased.{erased_world}
+use Rattle.type_terms.specs.Promised.Erased.{erased_world}
 use Rattle.goal_frames.specs.Handlers.{same_answer, applies_always}
 use Rattle.overlap_check.specs.Goals.{repeated, unknown_kinds}
 use Rattle.overlap_check.specs.Headers.{IsOfTable, resolved_reference}
-use Rattle.overlap_check.specs.Questions.{IsRefuted}
+use Rattle.type_terms.specs.Promised.Questions.{IsRefuted}
 use Rattle.proof_checker.specs.Steps.{term_of}
 use Rattle.proof_checker.proofs.Later.{term-same}
-use Rattle.text_definitions.specs.Declarations.{Declarations}
+use Rattle.text_definitions.specs.Promised.Declarations.{Declarations}
 use Rattle.view_lowering.specs.QuestionVariables.{number_of, is_stray}
 use Rattle.sessions.specs.Checking.{solving_in}
 use Rattle.sessions.specs.Impossible.{IsImpossible, resolved_alone}
-use Rattle.sessions.specs.Promises.{view_in}
+use Rattle.sessions.specs.Promised.Promises.{view_in}
 use Rattle.sessions.specs.Proving.{SolverIsReady, SolvesTheSame}
 use Rattle.sessions.specs.Sessions.{SolvesView}
-use Rattle.sessions.specs.Subjects.{Subject, StaysOn}
+use Rattle.sessions.specs.Promised.Subjects.{Subject, StaysOn}
 use Rattle.goal_walk.specs.Walking.{ReferencesHeld}
 use Rattle.sessions.proofs.PairRefusals.{is_place, HasNoPlace, unproved}
 use Rattle.sessions.proofs.RefutedGoals.{is-refuted}

@@ -1,10 +1,10 @@
 -- References that no built-in row concludes, whatever their unknowns stand for.
 use Rattle.std.proofs.Common.{◌≡◌, ◌==◌, ◌++◌, ℕ, Bool, true, false, ◌||◌, List, [], Some, None, refl, sym, ap, ◌∙◌, subst, if◌then◌else◌}
-use Rattle.type_terms.specs.Label.{Label, tuple, fn_ptr, dynamic, infer}
-use Rattle.type_terms.specs.Trees.{Trees, none, tree, erase, erase_label}
-use Rattle.type_terms.specs.Rules.{Rule, sized, copy, clone, tuple_trait, fn_ptr_trait, is_fn_trait, unsize, is_auto, copy_rules, tuple_rules, fn_ptr_rules, call_rules, sized_rules, auto_rules, unsize_rules, object_rules, built_in_rules}
-use Rattle.type_terms.specs.Terms.{Entry, trees_at}
-use Rattle.type_terms.specs.Worlds.{World, Reference, CrateDecl}
+use Rattle.type_terms.specs.Promised.Label.{Label, tuple, fn_ptr, dynamic, infer}
+use Rattle.type_terms.specs.Promised.Trees.{Trees, none, tree, erase, erase_label}
+use Rattle.type_terms.specs.Promised.Rules.{Rule, sized, copy, clone, tuple_trait, fn_ptr_trait, is_fn_trait, unsize, is_auto, copy_rules, tuple_rules, fn_ptr_rules, call_rules, sized_rules, auto_rules, unsize_rules, object_rules, built_in_rules}
+use Rattle.type_terms.specs.Promised.Handles.{Entry, trees_at}
+use Rattle.type_terms.specs.Promised.Worlds.{World, Reference, CrateDecl}
 use Rattle.type_terms.proofs.Members.{same-number}
 use Rattle.term_folds.specs.declared.predicate.TraitRef.{TraitRef}
 use Rattle.type_terms.proofs.Made.{false-true}

@@ -1,15 +1,15 @@
 -- Candidates that are rules, while the interner grows.
 use Rattle.std.proofs.Common.{◌≡◌, ◌+◌, ℕ, zero, suc, Bool, true, false, if◌then◌else◌, List, [], ◌∷◌, ◌++◌, take, refl, sym, subst, Some, arith}
 use Rattle.std.specs.List.{AllZip, slice_get}
-use Rattle.type_terms.specs.Rules.{by_impl}
-use Rattle.type_terms.specs.Rules as rule
-use Rattle.type_terms.specs.Proofs.{In}
-use Rattle.type_terms.specs.Terms.{Entry, Keeps}
-use Rattle.type_terms.specs.Worlds.{World, Reference, CrateDecl}
+use Rattle.type_terms.specs.Promised.Rules.{by_impl}
+use Rattle.type_terms.specs.Promised.Rules as rule
+use Rattle.type_terms.specs.Promised.Proofs.{In}
+use Rattle.type_terms.specs.Promised.Handles.{Entry, Keeps}
+use Rattle.type_terms.specs.Promised.Worlds.{World, Reference, CrateDecl}
 use Rattle.term_folds.specs.declared.predicate.TraitRef.{TraitRef}
 use Rattle.declarations.specs.Applied.{TraitRefsHeld}
 use Rattle.declarations.specs.Held.{ReferenceHeld}
-use Rattle.declarations.specs.Merges.{Each}
+use Rattle.declarations.specs.Promised.Elaboration.{Each}
 use Rattle.evaluation.specs.declared.candidate.CandidateSource.{CandidateSource}
 use Rattle.goal_walk.specs.Walking.{ReferencesHeld}
 use Rattle.goal_walk.specs.declared.nodes.CandidateNode.{CandidateNode}

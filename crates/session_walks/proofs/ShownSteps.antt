@@ -1,8 +1,8 @@
 -- Steps of a proof, and how they are shown.
 use Rattle.std.proofs.Common.{◌≡◌, ◌+◌, ℕ, zero, suc, List, [], ◌∷◌, ◌++◌, take, sym, subst, Some, arith}
 use Rattle.std.specs.List.{slice_get}
-use Rattle.type_terms.specs.Terms.{Entry}
-use Rattle.declarations.specs.Merges.{Each}
+use Rattle.type_terms.specs.Promised.Handles.{Entry}
+use Rattle.declarations.specs.Promised.Elaboration.{Each}
 use Rattle.evaluation.specs.Lists.{Every}
 use Rattle.term_folds.specs.declared.predicate.TraitRef.{TraitRef}
 use Rattle.proof_checker.specs.Steps.{StepHeld}

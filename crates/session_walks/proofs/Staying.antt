@@ -1,14 +1,14 @@
 -- Sessions that walks leave as they were.
 use Rattle.std.proofs.Common.{◌≡◌, ◌∙◌, ℕ, refl, subst, length}
-use Rattle.type_terms.specs.Terms.{Keeps}
+use Rattle.type_terms.specs.Promised.Handles.{Keeps}
 use Rattle.goal_frames.specs.Stores.{kept_inputs, kept_responses}
 use Rattle.search_graph.specs.SearchState.{SearchState}
 use Rattle.solver_context.specs.declared.context.SolverCx.{SolverCx}
 use Rattle.candidate_assembly.specs.declared.solver.Solver.{Solver}
-use Rattle.text_definitions.specs.Declarations.{Declarations}
+use Rattle.text_definitions.specs.Promised.Declarations.{Declarations}
 use Rattle.sessions.specs.Resting.{Cached}
 use Rattle.sessions.specs.Sessions.{IsSessionWithin}
-use Rattle.sessions.specs.Subjects.{Subject, StaysOn}
+use Rattle.sessions.specs.Promised.Subjects.{Subject, StaysOn}
 use Rattle.sessions.proofs.Keeping.{limits-stay, session-kept}
 use Rattle.session_walks.specs.Walked.{RestsAfter}
 

@@ -1,19 +1,22 @@
 -- An impl that cannot match a reference has no rule for any instance of it.
 use Rattle.std.proofs.Common.{◌≡◌, ◌==◌, ℕ, zero, true, false, not, List, [], ◌∷◌, Some, refl, sym, ap, ◌∙◌, subst, ◌⊎◌, inl, inr}
-use Rattle.type_terms.specs.Label.{Label, Sort, of_type, of_const, of_lifetime, param, placeholder, infer, canonical, bound}
-use Rattle.type_terms.specs.Trees.{Trees, none, tree, ◌+++◌, IsA, Fits, erase, erase_label, instantiate, flags, label_flags}
+use Rattle.type_terms.specs.Promised.Label.{Label, Sort, of_type, of_const, of_lifetime, param, placeholder, infer, canonical, bound}
+use Rattle.type_terms.specs.Promised.Trees.{Trees, none, tree, ◌+++◌, IsA, Fits, erase, erase_label, instantiate}
+use Rattle.type_terms.specs.Trees.{flags, label_flags}
 use Rattle.type_terms.specs.Codes.{same_label}
-use Rattle.type_terms.specs.Rules.{by_impl, impl_rules}
-use Rattle.type_terms.specs.Terms.{Entry, Lawful, Has, Is, trees_at, types, args_lists}
-use Rattle.type_terms.specs.Kinds.{ArgHeld, ArgsHeld, arg_trees, args_trees}
+use Rattle.type_terms.specs.Promised.Rules.{by_impl, impl_rules}
+use Rattle.type_terms.specs.Promised.Handles.{Entry, Has, Is, trees_at, types}
+use Rattle.type_terms.specs.Terms.{Lawful, args_lists}
+use Rattle.type_terms.specs.Promised.Handles.{ArgHeld, ArgsHeld, arg_trees}
+use Rattle.type_terms.specs.Kinds.{args_trees}
 use Rattle.type_terms.specs.declared.kinds.Ty.{Ty}
 use Rattle.type_terms.specs.declared.kinds.GenericArgKind.{GenericArgKind}
 use Rattle.type_terms.specs.declared.kinds.GenericArgKind.TheVariants.{Ty as AType}
 use Rattle.term_folds.specs.Signatures.{StartsWithType}
 use Rattle.std.specs.List.{slice_get}
-use Rattle.overlap_check.specs.ImplRules.{ImplRulesAreInstances}
-use Rattle.type_terms.specs.Worlds.{Reference, ImplDecl, with_args, all_with_args}
-use Rattle.type_terms.specs.Erased.{erased_reference, erased_impl}
+use Rattle.type_terms.specs.Promised.ReadByLaws.{ImplRulesAreInstances}
+use Rattle.type_terms.specs.Promised.Worlds.{Reference, ImplDecl, with_args, all_with_args}
+use Rattle.type_terms.specs.Promised.Erased.{erased_reference, erased_impl}
 use Rattle.type_terms.proofs.Applies.{same-complete, same-label-itself}
 use Rattle.type_terms.proofs.Made.{false-true}
 use Rattle.type_terms.proofs.Members.{self-number}

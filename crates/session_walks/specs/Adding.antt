@@ -1,10 +1,10 @@
 -- Who may write an impl that is not seen, so that its line has no fault of its trait, and keeps the orphan rule of its crate.
 use Rattle.std.specs.Prelude.{◌≡◌, ℕ, Bool, true, false, not, ◌&&◌, ◌==◌}
 use Rattle.std.specs.List.{list_any}
-use Rattle.type_terms.specs.Rules.{is_auto}
-use Rattle.type_terms.specs.Walks.{keeps_orphan_rule}
-use Rattle.type_terms.specs.Worlds.{World, Reference}
-use Rattle.text_definitions.specs.Faults.{built_in_traits}
+use Rattle.type_terms.specs.Promised.Rules.{is_auto}
+use Rattle.type_terms.specs.Promised.Walks.{keeps_orphan_rule}
+use Rattle.type_terms.specs.Promised.Worlds.{World, Reference}
+use Rattle.text_definitions.specs.Promised.Faults.{built_in_traits}
 use Rattle.orphan_check.specs.Knowing.{meets_open}
 use Rattle.session_walks.specs.declared.adding.Adder.{Adder}
 use Rattle.session_walks.specs.declared.adding.Adder.TheVariants.{User, Owner}

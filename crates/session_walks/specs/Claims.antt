@@ -1,15 +1,15 @@
 -- What is claimed of a trace: all that is stated of its goals and candidates as checked.
 use Rattle.std.specs.Prelude.{◌≡◌, ℕ, true, List, Option, Some}
 use Rattle.std.specs.List.{slice_get}
-use Rattle.type_terms.specs.Terms.{Entry}
-use Rattle.type_terms.specs.Worlds.{World}
+use Rattle.type_terms.specs.Promised.Handles.{Entry}
+use Rattle.type_terms.specs.Promised.Worlds.{World}
 use Rattle.term_folds.specs.declared.predicate.TraitRef.{TraitRef}
 use Rattle.declarations.specs.Items.{reference_in}
-use Rattle.declarations.specs.Merges.{Each}
+use Rattle.declarations.specs.Promised.Elaboration.{Each}
 use Rattle.orphan_check.specs.declared.errors.Conflict.{Conflict}
 use Rattle.goal_walk.specs.declared.nodes.GoalWalk.{GoalWalk}
-use Rattle.sessions.specs.Promises.{view_in}
-use Rattle.sessions.specs.Subjects.{Subject}
+use Rattle.sessions.specs.Promised.Promises.{view_in}
+use Rattle.sessions.specs.Promised.Subjects.{Subject}
 use Rattle.session_walks.specs.Adding.{MayAdd}
 use Rattle.session_walks.specs.Refusals.{HoldsAt, IsRefusedAt}
 use Rattle.session_walks.specs.Rules.{AreChecked, HasNoImplAt, HasNoRowAt}

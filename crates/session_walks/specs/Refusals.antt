@@ -1,14 +1,14 @@
 -- Which goals have a proof by what a crate sees, and which have none in any linked set with it.
 use Rattle.std.specs.Prelude.{◌≡◌, ℕ, false, List, [], Some}
 use Rattle.std.specs.List.{slice_get}
-use Rattle.type_terms.specs.Label.{Sort}
-use Rattle.type_terms.specs.Trees.{some_node}
-use Rattle.type_terms.specs.Proofs.{HasProof}
-use Rattle.type_terms.specs.Terms.{Entry}
-use Rattle.type_terms.specs.Worlds.{World, Reference}
+use Rattle.type_terms.specs.Promised.Label.{Sort}
+use Rattle.type_terms.specs.Promised.Trees.{some_node}
+use Rattle.type_terms.specs.Promised.Proofs.{HasProof}
+use Rattle.type_terms.specs.Promised.Handles.{Entry}
+use Rattle.type_terms.specs.Promised.Worlds.{World, Reference}
 use Rattle.term_folds.specs.declared.predicate.TraitRef.{TraitRef}
 use Rattle.view_lowering.specs.QuestionVariables.{is_stray}
-use Rattle.overlap_check.specs.Questions.{IsRefuted}
+use Rattle.type_terms.specs.Promised.Questions.{IsRefuted}
 use Rattle.proof_checker.specs.Steps.{term_of}
 
 -- It is refused like a query with the answer `no`. It holds no parameter that is a type or a constant, and no inference variable but those

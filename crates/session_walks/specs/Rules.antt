@@ -2,12 +2,12 @@
 -- common.
 use Rattle.std.specs.Prelude.{◌≡◌, ℕ, Bool, true, false, List, [], Some}
 use Rattle.std.specs.List.{AllZip, slice_get}
-use Rattle.type_terms.specs.Label.{Label, tuple, fn_ptr, dynamic, infer}
-use Rattle.type_terms.specs.Trees.{Trees, none, tree}
-use Rattle.type_terms.specs.Proofs.{In}
-use Rattle.type_terms.specs.Rules.{Way, BuiltIn, by_impl, built_in, built_in_rules, impl_rules}
-use Rattle.type_terms.specs.Terms.{Entry}
-use Rattle.type_terms.specs.Worlds.{World, Reference, ImplDecl}
+use Rattle.type_terms.specs.Promised.Label.{Label, tuple, fn_ptr, dynamic, infer}
+use Rattle.type_terms.specs.Promised.Trees.{Trees, none, tree}
+use Rattle.type_terms.specs.Promised.Proofs.{In}
+use Rattle.type_terms.specs.Promised.Rules.{Way, BuiltIn, by_impl, built_in, built_in_rules, impl_rules}
+use Rattle.type_terms.specs.Promised.Handles.{Entry}
+use Rattle.type_terms.specs.Promised.Worlds.{World, Reference, ImplDecl}
 use Rattle.type_terms.specs.declared.ImplId.{ImplId}
 use Rattle.term_folds.specs.declared.predicate.TraitRef.{TraitRef}
 use Rattle.infer_table.specs.Solutions.{Assignment, IsSorted, instance}
@@ -16,7 +16,7 @@ use Rattle.evaluation.specs.declared.candidate.CandidateSource.TheVariants.{Impl
 use Rattle.goal_walk.specs.declared.nodes.CandidateNode.{CandidateNode}
 use Rattle.goal_walk.specs.declared.nodes.Node.{Node}
 use Rattle.goal_walk.specs.declared.nodes.GoalWalk.{GoalWalk}
-use Rattle.declarations.specs.Merges.{Each}
+use Rattle.declarations.specs.Promised.Elaboration.{Each}
 use Rattle.proof_checker.specs.Checked.{IsConcludedFrom}
 use Rattle.proof_checker.specs.Steps.{term_of, terms_of}
 use Rattle.session_walks.specs.declared.walks.CheckedCandidates.{CheckedCandidates}

@@ -1,8 +1,8 @@
 -- Terms that hold a table's own variables alone.
 use Rattle.std.specs.Prelude.{ℕ, Bool, true, not, nat_lt}
-use Rattle.type_terms.specs.Label.{Label, Sort, of_type, of_const, of_lifetime, infer, canonical, principal, auto_trait}
-use Rattle.type_terms.specs.Trees.{Trees, none, tree, erase_label, some_node}
-use Rattle.type_terms.specs.Answers.{is_open}
+use Rattle.type_terms.specs.Promised.Label.{Label, Sort, of_type, of_const, of_lifetime, infer, canonical, principal, auto_trait}
+use Rattle.type_terms.specs.Promised.Trees.{Trees, none, tree, erase_label, some_node}
+use Rattle.type_terms.specs.Promised.Answers.{is_open}
 use Rattle.type_terms.specs.Visits.{IsBound}
 use Rattle.type_terms.specs.declared.visit.Seen.TheVariants.{Enter}
 use Rattle.candidate_assembly.specs.Finding.{BreaksAt, at_root}

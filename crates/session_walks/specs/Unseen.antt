@@ -1,7 +1,7 @@
 -- Which crates outside the view may have an impl for a trait reference.
 use Rattle.std.specs.Prelude.{◌≡◌, ℕ, true, false, Option, Some, None}
-use Rattle.type_terms.specs.Walks.{is_known_in}
-use Rattle.type_terms.specs.Worlds.{World, Reference}
+use Rattle.type_terms.specs.Promised.Walks.{is_known_in}
+use Rattle.type_terms.specs.Promised.Worlds.{World, Reference}
 use Rattle.orphan_check.specs.Knowing.{meets_open, is_knowable, is_written_in}
 use Rattle.orphan_check.specs.declared.errors.Conflict.{Conflict}
 use Rattle.orphan_check.specs.declared.errors.Conflict.TheVariants.{Upstream, Downstream}

@@ -1,8 +1,9 @@
 -- What traces of a session preserve, and what they hold.
 use Rattle.std.specs.Prelude.{ℕ, List}
-use Rattle.type_terms.specs.Terms.{Entry, Has, Keeps, args_lists}
+use Rattle.type_terms.specs.Promised.Handles.{Entry, Has, Keeps}
+use Rattle.type_terms.specs.Terms.{args_lists}
 use Rattle.declarations.specs.Held.{ReferenceHeld}
-use Rattle.declarations.specs.Merges.{Each}
+use Rattle.declarations.specs.Promised.Elaboration.{Each}
 use Rattle.search_graph.specs.SearchState.{SearchState}
 use Rattle.solver_context.specs.Contexts.{entries_of, KeepsLimits}
 use Rattle.solver_context.specs.declared.context.SolverCx.{SolverCx}

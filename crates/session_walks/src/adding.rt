@@ -2,13 +2,13 @@
 
 ghost use Rattle.std.specs.Prelude.{◌≡◌, ◌==◌, true, false, not, List, Some, IfSome};
 ghost use Rattle.std.specs.List.{list_any};
-ghost use Rattle.text_definitions.specs.Faults.{built_in_traits};
-ghost use Rattle.type_terms.specs.Terms.{Entry};
-ghost use Rattle.type_terms.specs.Walks.{keeps_orphan_rule, trait_is};
-ghost use Rattle.type_terms.specs.Worlds.{Reference};
+ghost use Rattle.text_definitions.specs.Promised.Faults.{built_in_traits};
+ghost use Rattle.type_terms.specs.Promised.Handles.{Entry};
+ghost use Rattle.type_terms.specs.Promised.Walks.{keeps_orphan_rule, trait_is};
+ghost use Rattle.type_terms.specs.Promised.Worlds.{Reference};
 ghost use Rattle.declarations.specs.Held.{ReferenceHeld};
 ghost use Rattle.declarations.specs.Items.{declared, reference_in};
-ghost use Rattle.sessions.specs.Promises.{view_in};
+ghost use Rattle.sessions.specs.Promised.Promises.{view_in};
 ghost use Rattle.session_walks.specs.Adding.{MayAdd, may_have_impls};
 ghost use Rattle.session_walks.specs.Unseen.{IsUnseen};
 

@@ -1,13 +1,13 @@
 //! Which goals of a walk hold, asked alone outside coherence.
 
 ghost use Rattle.std.specs.Prelude.{◌≡◌, [], true, IfOk, IfSome};
-ghost use Rattle.type_terms.specs.Proofs.{HasProof};
+ghost use Rattle.type_terms.specs.Promised.Proofs.{HasProof};
 ghost use Rattle.declarations.specs.Held.{ReferenceHeld};
 ghost use Rattle.proof_checker.specs.Steps.{term_of};
 ghost use Rattle.sessions.specs.Checking.{rules_in};
-ghost use Rattle.sessions.specs.Promises.{view_in};
+ghost use Rattle.sessions.specs.Promised.Promises.{view_in};
 ghost use Rattle.sessions.specs.Sessions.{SolverRests};
-ghost use Rattle.sessions.specs.Subjects.{StaysOn};
+ghost use Rattle.sessions.specs.Promised.Subjects.{StaysOn};
 ghost use Rattle.session_walks.specs.Refusals.{HoldsAt};
 ghost use Rattle.session_walks.specs.Walked.{ProofWalkHeld, RestsAfter, WalkHeld};
 

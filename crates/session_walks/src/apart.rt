@@ -2,9 +2,9 @@
 //! `impl<T> Show for (T, T)` is ruled out, though both begin with a tuple of two types.
 
 ghost use Rattle.std.specs.Prelude.{◌≡◌, true, [], IfOk, OnOk};
-ghost use Rattle.type_terms.specs.Erased.{erased_impl};
+ghost use Rattle.type_terms.specs.Promised.Erased.{erased_impl};
 ghost use Rattle.type_terms.specs.Growth.{Grew};
-ghost use Rattle.type_terms.specs.Terms.{trees_at};
+ghost use Rattle.type_terms.specs.Promised.Handles.{trees_at};
 ghost use Rattle.term_folds.specs.Signatures.{StartsWithType};
 ghost use Rattle.declarations.specs.Held.{ImplHeld, ReferenceHeld};
 ghost use Rattle.declarations.specs.Items.{declared, impl_in};

@@ -1,13 +1,13 @@
 //! Why a later version of a crate may not add an impl.
 
 ghost use Rattle.std.specs.Prelude.{IfOk, map};
-ghost use Rattle.type_terms.specs.Erased.{erased_reference};
+ghost use Rattle.type_terms.specs.Promised.Erased.{erased_reference};
 ghost use Rattle.declarations.specs.Held.{ImplHeld, ReferenceHeld};
 ghost use Rattle.declarations.specs.Items.{declared, reference_in};
-ghost use Rattle.declarations.specs.Merges.{Each};
+ghost use Rattle.declarations.specs.Promised.Elaboration.{Each};
 ghost use Rattle.sessions.specs.Checking.{IsReadySolver, SolverStaysReady, rules_in};
 ghost use Rattle.sessions.specs.Later.{header_in, section_headers};
-ghost use Rattle.sessions.specs.Subjects.{IsOfText};
+ghost use Rattle.sessions.specs.Promised.Subjects.{IsOfText};
 ghost use Rattle.session_walks.specs.Causes.{IsCauseAt, IsCauseOf};
 
 use candidate_assembly::solver::Solver;

@@ -2,14 +2,14 @@
 //! too.
 
 ghost use Rattle.std.specs.Prelude.{◌≡◌, true, IfOk, IfSome};
-ghost use Rattle.type_terms.specs.Kinds.{ArgsHeld};
-ghost use Rattle.text_definitions.specs.Declarations.{Question};
+ghost use Rattle.type_terms.specs.Promised.Handles.{ArgsHeld};
+ghost use Rattle.text_definitions.specs.Promised.Declarations.{Question};
 ghost use Rattle.proof_checker.specs.Steps.{term_of};
 ghost use Rattle.sessions.specs.Later.{section_headers};
-ghost use Rattle.sessions.specs.Promises.{view_in};
-ghost use Rattle.sessions.specs.Releases.{IsSectionOf};
+ghost use Rattle.sessions.specs.Promised.Promises.{view_in};
+ghost use Rattle.sessions.specs.Promised.Releases.{IsSectionOf};
 ghost use Rattle.sessions.specs.Shown.{AreProofOfQuestion};
-ghost use Rattle.sessions.specs.Subjects.{AsksProof, AsksRefutation, StaysOn};
+ghost use Rattle.sessions.specs.Promised.Subjects.{AsksProof, AsksRefutation, StaysOn};
 ghost use Rattle.session_walks.specs.Causes.{IsCauseAt};
 ghost use Rattle.session_walks.specs.Rules.{HasRulesByBoth};
 ghost use Rattle.session_walks.specs.Shown.{ShowsItsSteps};

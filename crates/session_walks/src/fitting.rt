@@ -2,9 +2,9 @@
 //! impl fits `bool: Show` and none fits `&?x: Show`.
 
 ghost use Rattle.std.specs.Prelude.{◌≡◌, true, List, IfOk, IfSome};
-ghost use Rattle.type_terms.specs.Terms.{Has, types, trees_at};
+ghost use Rattle.type_terms.specs.Promised.Handles.{Has, types, trees_at};
 ghost use Rattle.type_terms.specs.Growth.{Grew};
-ghost use Rattle.type_terms.specs.Worlds.{CrateDecl};
+ghost use Rattle.type_terms.specs.Promised.Worlds.{CrateDecl};
 ghost use Rattle.term_folds.specs.Signatures.{StartsWithType};
 ghost use Rattle.declarations.specs.Heads.{head_of, label_of};
 ghost use Rattle.declarations.specs.Held.{ReferenceHeld};
@@ -13,9 +13,9 @@ ghost use Rattle.candidate_assembly.specs.Ready.{AreReadyDeclarations};
 ghost use Rattle.goal_walk.specs.Walking.{ReferencesHeld};
 ghost use Rattle.proof_checker.specs.Steps.{term_of};
 ghost use Rattle.sessions.specs.Checking.{rules_in};
-ghost use Rattle.sessions.specs.Promises.{view_in};
+ghost use Rattle.sessions.specs.Promised.Promises.{view_in};
 ghost use Rattle.sessions.specs.Proving.{SolverAdvances, SolverIsReady};
-ghost use Rattle.sessions.specs.Subjects.{StaysOn};
+ghost use Rattle.sessions.specs.Promised.Subjects.{StaysOn};
 ghost use Rattle.session_walks.specs.Rules.{HasNoImpl, HasNoImplAt, HasNoRow, HasNoRowAt, begins_known, is_bare};
 ghost use Rattle.session_walks.specs.Walked.{WalkHeld};
 

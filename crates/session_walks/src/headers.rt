@@ -1,7 +1,8 @@
 //! Headers of impls, equated.
 
 ghost use Rattle.std.specs.Prelude.{IfOk, IfSome};
-ghost use Rattle.type_terms.specs.Terms.{Has, args_lists};
+ghost use Rattle.type_terms.specs.Promised.Handles.{Has};
+ghost use Rattle.type_terms.specs.Terms.{args_lists};
 ghost use Rattle.type_terms.specs.Growth.{Grew};
 ghost use Rattle.declarations.specs.Held.{ReferenceHeld};
 ghost use Rattle.infer_table.specs.Content.{Ready};

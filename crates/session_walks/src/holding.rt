@@ -2,17 +2,17 @@
 //! `impl Show for u8`, `V<u8>: Show` is one, and `V<T>: Show` is none.
 
 ghost use Rattle.std.specs.Prelude.{◌≡◌, [], true, false, List, IfOk};
-ghost use Rattle.type_terms.specs.Terms.{Entry};
-ghost use Rattle.type_terms.specs.Proofs.{HasProof};
+ghost use Rattle.type_terms.specs.Promised.Handles.{Entry};
+ghost use Rattle.type_terms.specs.Promised.Proofs.{HasProof};
 ghost use Rattle.term_folds.specs.declared.predicate.TraitRef.{TraitRef};
 ghost use Rattle.declarations.specs.Held.{ReferenceHeld};
-ghost use Rattle.declarations.specs.Merges.{Each};
+ghost use Rattle.declarations.specs.Promised.Elaboration.{Each};
 ghost use Rattle.proof_checker.specs.Steps.{StepHeld, assumed_by, assumed_in, term_of};
 ghost use Rattle.goal_walk.specs.Walking.{ReferencesHeld};
 ghost use Rattle.sessions.specs.Checking.{rules_in};
-ghost use Rattle.sessions.specs.Promises.{view_in};
+ghost use Rattle.sessions.specs.Promised.Promises.{view_in};
 ghost use Rattle.sessions.specs.Proving.{SolverAdvances, SolverIsReady};
-ghost use Rattle.sessions.specs.Subjects.{StaysOn};
+ghost use Rattle.sessions.specs.Promised.Subjects.{StaysOn};
 ghost use Rattle.session_walks.specs.Refusals.{HoldsAt};
 ghost use Rattle.session_walks.specs.Walked.{WalkHeld};
 

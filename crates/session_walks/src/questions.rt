@@ -1,11 +1,12 @@
 //! The goals of queries, traced as a session evaluates them.
 
 ghost use Rattle.std.specs.Prelude.{◌≡◌, IfOk};
-ghost use Rattle.text_definitions.specs.Declarations.{Question};
+ghost use Rattle.text_definitions.specs.Promised.Declarations.{Question};
 ghost use Rattle.declarations.specs.Applied.{AreApplied};
 ghost use Rattle.infer_table.specs.Content.{Ready};
 ghost use Rattle.infer_table.specs.Goals.{GoalHeld};
-ghost use Rattle.view_lowering.specs.Questions.{IsLowered, IsQuestion};
+ghost use Rattle.view_lowering.specs.Questions.{IsLowered};
+ghost use Rattle.view_lowering.specs.Promised.Questions.{IsQuestion};
 ghost use Rattle.goal_walk.specs.Walking.{ReferencesHeld};
 ghost use Rattle.sessions.specs.Proving.{ClausesApply, SolverAdvances, SolverIsReady};
 ghost use Rattle.sessions.specs.Sessions.{SolverRests};

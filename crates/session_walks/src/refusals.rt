@@ -2,16 +2,16 @@
 
 ghost use Rattle.std.specs.Prelude.{◌≡◌, ℕ, true, [], IfOk};
 ghost use Rattle.declarations.specs.Held.{ReferenceHeld};
-ghost use Rattle.declarations.specs.Merges.{Each};
+ghost use Rattle.declarations.specs.Promised.Elaboration.{Each};
 ghost use Rattle.infer_table.specs.Content.{Ready};
 ghost use Rattle.proof_checker.specs.Steps.{term_of};
-ghost use Rattle.sessions.specs.Promises.{view_in};
+ghost use Rattle.sessions.specs.Promised.Promises.{view_in};
 ghost use Rattle.sessions.specs.Proving.{SolverAdvances, SolverIsReady};
 ghost use Rattle.sessions.specs.Sessions.{SolverRests, SolvesView};
-ghost use Rattle.sessions.specs.Subjects.{StaysOn};
+ghost use Rattle.sessions.specs.Promised.Subjects.{StaysOn};
 ghost use Rattle.session_walks.specs.Refusals.{IsRefusedAt, IsRefusedGoal};
 ghost use Rattle.session_walks.specs.Walked.{RestsAfter, WalkHeld};
-ghost use Rattle.text_definitions.specs.Declarations.{Declarations};
+ghost use Rattle.text_definitions.specs.Promised.Declarations.{Declarations};
 
 use crate::instances::table_for_goals;
 use crate::places::{is_answered, push_if, reference_at};

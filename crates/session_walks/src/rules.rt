@@ -6,8 +6,8 @@
 
 ghost use Rattle.std.specs.Prelude.{◌≡◌, true, List, [], ◌∷◌, ◌++◌, if◌then◌else◌, Some, IfOk, IfSome, OnOk};
 ghost use Rattle.std.specs.List.{AllZip, slice_get};
-ghost use Rattle.type_terms.specs.Rules.{by_impl};
-ghost use Rattle.type_terms.specs.Worlds.{Reference};
+ghost use Rattle.type_terms.specs.Promised.Rules.{by_impl};
+ghost use Rattle.type_terms.specs.Promised.Worlds.{Reference};
 ghost use Rattle.type_terms.specs.Growth.{Grew};
 ghost use Rattle.declarations.specs.Applied.{TraitRefsHeld};
 ghost use Rattle.declarations.specs.Held.{ReferenceHeld};
@@ -18,9 +18,9 @@ ghost use Rattle.goal_walk.specs.Walking.{ReferencesHeld};
 ghost use Rattle.proof_checker.specs.Checked.{IsConcludedFrom};
 ghost use Rattle.proof_checker.specs.Steps.{term_of, terms_of};
 ghost use Rattle.sessions.specs.Checking.{rules_in};
-ghost use Rattle.sessions.specs.Promises.{view_in};
+ghost use Rattle.sessions.specs.Promised.Promises.{view_in};
 ghost use Rattle.sessions.specs.Proving.{SolverAdvances, SolverIsReady};
-ghost use Rattle.sessions.specs.Subjects.{StaysOn};
+ghost use Rattle.sessions.specs.Promised.Subjects.{StaysOn};
 ghost use Rattle.session_walks.specs.Rules.{AreChecked, Concludes, IsRuleAt, IsRuleCandidate, MayApplyAt};
 ghost use Rattle.session_walks.specs.Walked.{WalkHeld};
 

@@ -1,11 +1,12 @@
 //! The steps of a proof that a trace found. How they are found needs no proof, because the checker accepts or refuses them.
 
 ghost use Rattle.std.specs.Prelude.{IfOk, IfSome};
-ghost use Rattle.type_terms.specs.Terms.{Has, args_lists};
+ghost use Rattle.type_terms.specs.Promised.Handles.{Has};
+ghost use Rattle.type_terms.specs.Terms.{args_lists};
 ghost use Rattle.type_terms.specs.Growth.{Grew};
 ghost use Rattle.declarations.specs.Applied.{TraitRefsHeld, HaveBounds};
 ghost use Rattle.declarations.specs.Held.{AreHeld, ImplHeld, ReferenceHeld};
-ghost use Rattle.declarations.specs.Merges.{Each};
+ghost use Rattle.declarations.specs.Promised.Elaboration.{Each};
 ghost use Rattle.infer_table.specs.Content.{Ready};
 ghost use Rattle.candidate_assembly.specs.Ready.{AreReadyDeclarations};
 ghost use Rattle.overlap_check.specs.Written.{IsWrittenWell};

@@ -1,7 +1,8 @@
 //! Whether terms hold a table's own variables alone.
 
 ghost use Rattle.std.specs.Prelude.{◌≡◌};
-ghost use Rattle.type_terms.specs.Terms.{Has, args_lists, trees_at};
+ghost use Rattle.type_terms.specs.Promised.Handles.{Has, trees_at};
+ghost use Rattle.type_terms.specs.Terms.{args_lists};
 ghost use Rattle.infer_table.specs.Content.{variables_of};
 ghost use Rattle.candidate_assembly.specs.Finding.{BreaksAt};
 ghost use Rattle.session_walks.specs.Unknowns.{speaks_of_known};

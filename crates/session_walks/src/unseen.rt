@@ -6,7 +6,7 @@
 ghost use Rattle.std.specs.Prelude.{◌≡◌, IfOk, IfSome};
 ghost use Rattle.declarations.specs.Held.{ReferenceHeld};
 ghost use Rattle.declarations.specs.Items.{declared, reference_in};
-ghost use Rattle.sessions.specs.Promises.{view_in};
+ghost use Rattle.sessions.specs.Promised.Promises.{view_in};
 ghost use Rattle.session_walks.specs.Unseen.{IsUnseen};
 ghost use Rattle.session_walks.specs.Walked.{WalkHeld};
 

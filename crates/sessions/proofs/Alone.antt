@@ -1,10 +1,11 @@
 -- References asked over a table without values.
 use Rattle.std.proofs.Common.{◌≡◌, ℕ, ◌≤◌, arith, List, [], map, Result, Ok, Err, sym, ap, ◌∙◌, subst}
 use Rattle.std.specs.Prelude.{OnOk}
-use Rattle.type_terms.specs.Label.{of_type, of_const, of_trait, predicate}
-use Rattle.type_terms.specs.Trees.{Trees, none, tree}
-use Rattle.type_terms.specs.Worlds.{Reference}
-use Rattle.type_terms.specs.Terms.{Entry, Keeps, Lawful, Has, args_lists, trees_at}
+use Rattle.type_terms.specs.Promised.Label.{of_type, of_const, of_trait, predicate}
+use Rattle.type_terms.specs.Promised.Trees.{Trees, none, tree}
+use Rattle.type_terms.specs.Promised.Worlds.{Reference}
+use Rattle.type_terms.specs.Promised.Handles.{Entry, Keeps, Has, trees_at}
+use Rattle.type_terms.specs.Terms.{Lawful, args_lists}
 use Rattle.term_folds.specs.Arguments.{arg_sort}
 use Rattle.type_terms.specs.Kept.{has-later, trees-later}
 use Rattle.term_folds.specs.declared.predicate.TraitRef.{TraitRef}
@@ -22,11 +23,12 @@ use Rattle.evaluation.specs.Handler.{Handled}
 use Rattle.evaluation.specs.Tables.{frame_tables}
 use Rattle.solver_context.specs.Contexts.{Asked}
 use Rattle.solver_context.specs.Roots.{goal_in, fact_under, IsPosedGoal, AtProvedSolutions}
-use Rattle.text_definitions.specs.Declarations.{Question}
-use Rattle.view_lowering.specs.Plain.{unbound_reference}
+use Rattle.text_definitions.specs.Promised.Declarations.{Question}
+use Rattle.view_lowering.specs.Promised.SeenWorlds.{unbound_reference}
 use Rattle.view_lowering.specs.Questions.{IsLowered}
 use Rattle.view_lowering.specs.declared.question.LoweredQuestion.{LoweredQuestion}
-use Rattle.view_lowering.specs.QuestionVariables.{variable_kinds, number_of, HasVariablesAlone}
+use Rattle.view_lowering.specs.Promised.Questions.{variable_kinds}
+use Rattle.view_lowering.specs.QuestionVariables.{number_of, HasVariablesAlone}
 use Rattle.sessions.specs.Asking.{HasNoProof, goal_alone}
 use Rattle.sessions.specs.Tables.{table_of}
 use Rattle.sessions.proofs.Posed.{no-canonical, known}

@@ -1,9 +1,10 @@
 -- What is known of an answer to a goal that was asked over a table without values.
 use Rattle.std.proofs.Common.{◌≡◌, ℕ, Bool, true, false, List, [], ◌∷◌, map, refl, sym, ap, ◌∙◌, subst, inl, inr}
-use Rattle.type_terms.specs.Label.{Sort, predicate, PredicateKind}
-use Rattle.type_terms.specs.Trees.{Trees, none, tree, some_node}
-use Rattle.type_terms.specs.Kinds.{ArgsHeld, arg_trees}
-use Rattle.type_terms.specs.Terms.{Entry, Keeps, Lawful, args_lists, trees_at}
+use Rattle.type_terms.specs.Promised.Label.{Sort, predicate, PredicateKind}
+use Rattle.type_terms.specs.Promised.Trees.{Trees, none, tree, some_node}
+use Rattle.type_terms.specs.Promised.Handles.{ArgsHeld, arg_trees}
+use Rattle.type_terms.specs.Promised.Handles.{Entry, Keeps, trees_at}
+use Rattle.type_terms.specs.Terms.{Lawful, args_lists}
 use Rattle.type_terms.specs.declared.kinds.GenericArgKind.{GenericArgKind}
 use Rattle.type_terms.specs.Kept.{arg-trees-later, trees-later}
 use Rattle.infer_table.specs.Canonical.{GoalTrees}

@@ -1,17 +1,18 @@
 -- A set that is made of answered crates of several texts obeys the rules of texts and keeps the orphan rule.
 use Rattle.std.proofs.Common.{◌≡◌, ◌<◌, ◌≤◌, ◌+◌, ◌⊎◌, inl, inr, ℕ, zero, suc, Bool, true, false, ◌==◌, if◌then◌else◌, List, [], ◌∷◌, map, length, refl, sym, ap, ◌∙◌, subst, Option, Some, None, arith}
-use Rattle.type_terms.specs.Label.{Label, dynamic, adt}
-use Rattle.type_terms.specs.Trees.{Trees, none, tree}
-use Rattle.type_terms.specs.Worlds.{World, StructDecl, TraitDecl, ImplDecl, Reference, core, traits_named, sees, view_of}
-use Rattle.type_terms.specs.Core.{core_world}
-use Rattle.type_terms.specs.Proofs.{In}
-use Rattle.type_terms.specs.Walks.{struct_is, keeps_orphan_rule}
-use Rattle.type_terms.specs.Rules.{is_auto}
-use Rattle.type_terms.specs.Versions.{with_impls, in_scope}
-use Rattle.type_terms.specs.Renumbering.{View, IsRenumbering, view_before, asker_in_set, as_they_are, renumbered_reference, renumbered_impl}
-use Rattle.type_terms.specs.Supers.{dyns_of_bounds}
-use Rattle.type_terms.specs.LinkedSet.{AutoAtHome}
-use Rattle.type_terms.specs.Arranging.{Arrangement, autos_in, with_autos, arranged, arranged_reference, arranged_struct, arranged_trait, arranged_impl, arranged_world}
+use Rattle.type_terms.specs.Promised.Label.{Label, dynamic, adt}
+use Rattle.type_terms.specs.Promised.Trees.{Trees, none, tree}
+use Rattle.type_terms.specs.Promised.Worlds.{World, StructDecl, TraitDecl, ImplDecl, Reference, core, traits_named, sees, view_of}
+use Rattle.type_terms.specs.Promised.Core.{core_world}
+use Rattle.type_terms.specs.Promised.Proofs.{In}
+use Rattle.type_terms.specs.Promised.Walks.{struct_is, keeps_orphan_rule}
+use Rattle.type_terms.specs.Promised.Rules.{is_auto}
+use Rattle.type_terms.specs.Promised.Versions.{with_impls, in_scope}
+use Rattle.type_terms.specs.Promised.Renumbering.{View, IsRenumbering, view_before, asker_in_set, renumbered_reference, renumbered_impl}
+use Rattle.type_terms.specs.Renumbering.{as_they_are}
+use Rattle.type_terms.specs.Promised.Supers.{dyns_of_bounds}
+use Rattle.type_terms.specs.Promised.LinkedSet.{AutoAtHome}
+use Rattle.type_terms.specs.Promised.Arranging.{Arrangement, autos_in, with_autos, arranged, arranged_reference, arranged_struct, arranged_trait, arranged_impl, arranged_world}
 use Rattle.type_terms.specs.ArrangingLaws.{Listed, HoldsInOrder}
 use Rattle.type_terms.proofs.Members.{here, there, in-cases, in-nothing, in-filter, filter-in, in-map, same-number, self-number, not-both, true-or-false}
 use Rattle.type_terms.proofs.ProofEntries.{map-in}
@@ -26,8 +27,10 @@ use Rattle.type_terms.proofs.Unseen.{OneEach}
 use Rattle.type_terms.proofs.ArrangedTrees.{fill-own, dyns-stay}
 use Rattle.type_terms.proofs.ArrangedRules.{BoundWorld}
 use Rattle.type_terms.proofs.ArrangedSets.{sees-same}
-use Rattle.sessions.specs.JoinedSets.{StructObeys, TraitObeys, ImplObeys, ObeysTextRules, OrderedCrates, KeepsOrphanRules}
-use Rattle.sessions.specs.AnsweredSets.{WasAskedInOrder, IsOfAskedCrates}
+use Rattle.sessions.specs.JoinedSets.{StructObeys, TraitObeys, ImplObeys, ObeysTextRules, KeepsOrphanRules}
+use Rattle.sessions.specs.Promised.AnsweredSets.{OrderedCrates}
+use Rattle.sessions.specs.AnsweredSets.{WasAskedInOrder}
+use Rattle.sessions.specs.Promised.AnsweredSets.{IsOfAskedCrates}
 use Rattle.sessions.proofs.FourRecords.{map-fixed, fixed-member, rules-of}
 use Rattle.sessions.proofs.RenumberedItems.{struct-obeys, trait-obeys, impl-obeys, auto-at-home, keeps-over, super-at}
 use Rattle.sessions.proofs.ArrangedItems.{plain-here, plain-trees-here, plain-references-here, trait-here, impl-here, keeps-here, auto-there, at-home-here}

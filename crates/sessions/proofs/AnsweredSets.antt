@@ -1,16 +1,18 @@
 -- A set of answered crates whose texts list auto traits as it does.
 use Rattle.std.proofs.Common.{◌≡◌, ◌⊎◌, inl, inr, ℕ, true, List, map, sym, subst}
-use Rattle.type_terms.specs.Worlds.{World, ImplDecl, core}
-use Rattle.type_terms.specs.Core.{core_world}
-use Rattle.type_terms.specs.Proofs.{In}
-use Rattle.type_terms.specs.Walks.{keeps_orphan_rule}
-use Rattle.type_terms.specs.Renumbering.{View, HoldsView}
+use Rattle.type_terms.specs.Promised.Worlds.{World, ImplDecl, core}
+use Rattle.type_terms.specs.Promised.Core.{core_world}
+use Rattle.type_terms.specs.Promised.Proofs.{In}
+use Rattle.type_terms.specs.Promised.Walks.{keeps_orphan_rule}
+use Rattle.type_terms.specs.Promised.Renumbering.{View, HoldsView}
 use Rattle.type_terms.specs.ArrangingLaws.{Listed, HoldsInOrder}
 use Rattle.type_terms.proofs.Members.{in-map}
 use Rattle.type_terms.proofs.ProofEntries.{map-in}
 use Rattle.type_terms.proofs.NoHolds.{every-member}
-use Rattle.sessions.specs.JoinedSets.{OrderedCrates, HoldsAnswers, IsJoined}
-use Rattle.sessions.specs.AnsweredSets.{WasAsked, WasAskedInOrder, IsOfAskedCrates}
+use Rattle.sessions.specs.Promised.AnsweredSets.{OrderedCrates, HoldsAnswers}
+use Rattle.sessions.specs.JoinedSets.{IsJoined}
+use Rattle.sessions.specs.Promised.AnsweredSets.{WasAsked, IsOfAskedCrates}
+use Rattle.sessions.specs.AnsweredSets.{WasAskedInOrder}
 use Rattle.sessions.proofs.AnsweredInOrder.{SeesText, as-listed, world-listed, answered-obey}
 
 module _ (W : World) (vs : List View) (rank : ℕ → ℕ) (o : OrderedCrates W rank) (holds : HoldsAnswers W vs) (of : IsOfAskedCrates W (WasAsked vs)) (texts : (v : View) → In v vs → SeesText v) where

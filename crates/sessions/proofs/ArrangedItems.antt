@@ -1,14 +1,15 @@
 -- What a set obeys with the auto traits of each `dyn` in another order, it obeys.
 use Rattle.std.proofs.Common.{◌≡◌, ℕ, true, ◌==◌, List, [], ◌∷◌, map, refl, sym, ap, ◌∙◌, subst}
-use Rattle.type_terms.specs.Label.{adt}
-use Rattle.type_terms.specs.Trees.{Trees, tree}
-use Rattle.type_terms.specs.Worlds.{World, TraitDecl, ImplDecl, Reference}
-use Rattle.type_terms.specs.Rules.{is_auto}
-use Rattle.type_terms.specs.Proofs.{In}
-use Rattle.type_terms.specs.Walks.{struct_is, keeps_orphan_rule}
-use Rattle.type_terms.specs.Versions.{in_scope}
-use Rattle.type_terms.specs.LinkedSet.{is_stray}
-use Rattle.type_terms.specs.Arranging.{Arrangement, turned_back, arranged, arranged_reference, arranged_trait, arranged_impl, arranged_world}
+use Rattle.type_terms.specs.Promised.Label.{adt}
+use Rattle.type_terms.specs.Promised.Trees.{Trees, tree}
+use Rattle.type_terms.specs.Promised.Worlds.{World, TraitDecl, ImplDecl, Reference}
+use Rattle.type_terms.specs.Promised.Rules.{is_auto}
+use Rattle.type_terms.specs.Promised.Proofs.{In}
+use Rattle.type_terms.specs.Promised.Walks.{struct_is, keeps_orphan_rule}
+use Rattle.type_terms.specs.Promised.Versions.{in_scope}
+use Rattle.type_terms.specs.Promised.LinkedSet.{is_stray}
+use Rattle.type_terms.specs.Promised.Arranging.{Arrangement, arranged, arranged_reference, arranged_trait, arranged_impl, arranged_world}
+use Rattle.type_terms.specs.Arranging.{turned_back}
 use Rattle.type_terms.proofs.Members.{in-map}
 use Rattle.type_terms.proofs.ArrangedTrees.{back-to, reference-back, dyns-stay}
 use Rattle.type_terms.proofs.ArrangedRules.{BoundWorld, auto-same}

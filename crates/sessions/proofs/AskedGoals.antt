@@ -2,13 +2,14 @@
 use Rattle.std.proofs.Common.{◌≡◌, ◌==◌, ℕ, zero, suc, Bool, true, false, ◌&&◌, ◌||◌, not, List, [], ◌∷◌, map, Some, refl, sym, ◌∙◌, ap, subst, inl, inr}
 use Rattle.std.specs.Prelude.{IsSome}
 use Rattle.std.specs.List.{list_all}
-use Rattle.type_terms.specs.Label.{Label, Sort, of_type, of_const, of_lifetime, adt, tuple, fn_ptr, raw_pointer, ref, array, slice, dynamic, static, value, principal, auto_trait, of_trait, predicate, param, placeholder, infer, canonical, bound}
-use Rattle.type_terms.specs.Erased.{erased_reference}
-use Rattle.type_terms.specs.Trees.{Trees, none, tree, leaf, sort_of, is_sort, is_no_tree, erase_label, erase, some_node}
-use Rattle.type_terms.specs.Worlds.{World, Reference}
-use Rattle.type_terms.specs.Rules.{unsize, autos_with}
-use Rattle.type_terms.specs.Answers.{is_undeclared, written_in}
-use Rattle.type_terms.specs.Walks.{trait_is}
+use Rattle.type_terms.specs.Promised.Label.{Label, Sort, of_type, of_const, of_lifetime, adt, tuple, fn_ptr, raw_pointer, ref, array, slice, dynamic, static, value, principal, auto_trait, of_trait, predicate, param, placeholder, infer, canonical, bound}
+use Rattle.type_terms.specs.Promised.Erased.{erased_reference}
+use Rattle.type_terms.specs.Promised.Trees.{Trees, none, tree, leaf, sort_of, is_sort, erase_label, erase, some_node}
+use Rattle.type_terms.specs.Trees.{is_no_tree}
+use Rattle.type_terms.specs.Promised.Worlds.{World, Reference}
+use Rattle.type_terms.specs.Promised.Rules.{unsize, autos_with}
+use Rattle.type_terms.specs.Promised.Answers.{is_undeclared, written_in}
+use Rattle.type_terms.specs.Promised.Walks.{trait_is}
 use Rattle.type_terms.proofs.Fitting.{child-shut, next-shut}
 use Rattle.type_terms.proofs.Members.{same-number}
 use Rattle.type_terms.proofs.Walking.{left, right, both}

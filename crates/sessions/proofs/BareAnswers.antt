@@ -4,8 +4,9 @@ use Rattle.std.proofs.lemmas.Bool.{eqb-true}
 use Rattle.std.proofs.lemmas.Bool.Decides.{nat_tests}
 use Rattle.std.specs.Prelude.{option_map, option_and_then, unwrap_or}
 use Rattle.std.specs.List.{slice_get}
-use Rattle.type_terms.specs.Label.{Label, Sort, of_lifetime, infer, canonical}
-use Rattle.type_terms.specs.Trees.{Trees, none, tree, leaf, ◌+++◌, sort_of, is_sort, is_a, is_no_tree, placed}
+use Rattle.type_terms.specs.Promised.Label.{Label, Sort, of_lifetime, infer, canonical}
+use Rattle.type_terms.specs.Promised.Trees.{Trees, none, tree, leaf, ◌+++◌, sort_of, is_sort}
+use Rattle.type_terms.specs.Trees.{is_a, is_no_tree, placed}
 use Rattle.type_terms.specs.Codes.{same}
 use Rattle.type_terms.specs.Made.{terms, is_made}
 use Rattle.type_terms.proofs.Made.{left, right, no-tree, false-true}

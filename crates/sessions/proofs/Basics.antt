@@ -1,7 +1,7 @@
 -- Small facts that the proofs of several files cite.
 use Rattle.std.proofs.Common.{ℕ, ◌≡◌, zero, refl, suc, ap, List, ◌++◌}
 use Rattle.overlap_check.specs.Goals.{repeated}
-use Rattle.type_terms.specs.Label.{of_const, Sort, of_type}
+use Rattle.type_terms.specs.Promised.Label.{of_const, Sort, of_type}
 use Rattle.view_lowering.specs.QuestionVariables.{number_of}
 
 pub all-consts : (n : ℕ) → number_of of_const (repeated of_const n) ≡ n

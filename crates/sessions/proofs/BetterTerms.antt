@@ -1,7 +1,8 @@
 -- Terms that are made of good labels, none of them bad, are made of better labels.
 use Rattle.std.proofs.Common.{◌≡◌, Bool, true, false, ◌&&◌, ◌||◌, refl}
-use Rattle.type_terms.specs.Label.{Label, of_lifetime, dynamic, principal, auto_trait, predicate}
-use Rattle.type_terms.specs.Trees.{Trees, none, tree, sort_of, is_sort, is_no_tree, some_node}
+use Rattle.type_terms.specs.Promised.Label.{Label, of_lifetime, dynamic, principal, auto_trait, predicate}
+use Rattle.type_terms.specs.Promised.Trees.{Trees, none, tree, sort_of, is_sort, some_node}
+use Rattle.type_terms.specs.Trees.{is_no_tree}
 use Rattle.type_terms.proofs.Fitting.{child-shut, next-shut}
 use Rattle.type_terms.specs.Made.{Standing, terms, bounds, traits, is_made}
 use Rattle.type_terms.proofs.Made.{left, right, both, false-true, made-ordinary, makes-ordinary, never-dynamic, never-dynamic-bound, never-principal}

@@ -1,12 +1,12 @@
 -- The impls that a crate sees, by their traits: what the lists say after one of them has grown, and the pairs of an impl.
 use Rattle.std.proofs.Common.{◌≡◌, ◌==◌, ◌<◌, ◌≤◌, ◌+◌, ℕ, Bool, true, false, List, [], ◌∷◌, ◌++◌, map, Some, None, sym, ap, ◌∙◌, subst, arith, ◌⊎◌, inl, inr, if◌then◌else◌}
-use Rattle.type_terms.specs.Proofs.{In}
-use Rattle.type_terms.specs.Erased.{erased_impl}
-use Rattle.type_terms.specs.Trees.{erase}
-use Rattle.type_terms.specs.Worlds.{World, Reference, ImplDecl}
+use Rattle.type_terms.specs.Promised.Proofs.{In}
+use Rattle.type_terms.specs.Promised.Erased.{erased_impl}
+use Rattle.type_terms.specs.Promised.Trees.{erase}
+use Rattle.type_terms.specs.Promised.Worlds.{World, Reference, ImplDecl}
 use Rattle.type_terms.proofs.ProofEntries.{map-in}
 use Rattle.type_terms.proofs.Members.{here, in-left, in-right, in-map, self-number}
-use Rattle.type_terms.specs.Terms.{Entry, trees_at}
+use Rattle.type_terms.specs.Promised.Handles.{Entry, trees_at}
 use Rattle.type_terms.specs.declared.ImplId.{ImplId}
 use Rattle.type_terms.specs.declared.TraitId.{TraitId}
 use Rattle.declarations.specs.Heads.{head_of, label_of}

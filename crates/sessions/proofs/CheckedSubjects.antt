@@ -1,13 +1,13 @@
 -- What is said of a session after some calls holds as it was before them, and the pairs of all numbers are passed one by one.
 use Rattle.std.proofs.Common.{◌≡◌, ℕ, ◌<◌, ◌≤◌, ◌+◌, arith, Bool, true, false, Option, Some, None, refl, sym, ◌∙◌, subst, ◌⊎◌, inl, inr, length}
 use Rattle.type_terms.specs.declared.ImplId.{ImplId}
-use Rattle.text_definitions.specs.Declarations.{Declarations}
-use Rattle.overlap_check.specs.Verdicts.{IsOverlap, IsAccepted, KeepsOrphanRule}
+use Rattle.text_definitions.specs.Promised.Declarations.{Declarations}
+use Rattle.type_terms.specs.Promised.Verdicts.{IsOverlap, IsAccepted, KeepsOrphanRule}
 use Rattle.overlap_check.proofs.Contracts.{passed-accepted}
 use Rattle.workspace.specs.Numbered.{IsNumbered}
 use Rattle.sessions.specs.Checking.{ArePassedAt, IsJudgedAt, HasJudged, HasPartner, HasOverlap}
-use Rattle.sessions.specs.Promises.{view_in}
-use Rattle.sessions.specs.Subjects.{Subject, StaysOn}
+use Rattle.sessions.specs.Promised.Promises.{view_in}
+use Rattle.sessions.specs.Promised.Subjects.{Subject, StaysOn}
 use Rattle.sessions.proofs.ImplNumbers.{names-below}
 
 pub stays-on : (a b c : Subject) → StaysOn a b → StaysOn b c → StaysOn a c

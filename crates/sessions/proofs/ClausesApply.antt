@@ -2,17 +2,18 @@
 use Rattle.std.proofs.Common.{◌≡◌, ℕ, ◌-◌, false, ◌||◌, List, [], ◌∷◌, Option, Some, None, max, refl, subst}
 use Rattle.std.specs.Option.{option_map_or}
 use Rattle.std.specs.Prelude.{IfSome}
-use Rattle.type_terms.specs.Label.{Label, Sort, bound}
-use Rattle.type_terms.specs.Trees.{Trees, none, tree, some_node, outer_binder, own_binder, outside}
-use Rattle.type_terms.specs.Proofs.{In}
+use Rattle.type_terms.specs.Promised.Label.{Label, Sort, bound}
+use Rattle.type_terms.specs.Promised.Trees.{Trees, none, tree, some_node}
+use Rattle.type_terms.specs.Trees.{outer_binder, own_binder, outside}
+use Rattle.type_terms.specs.Promised.Proofs.{In}
 use Rattle.type_terms.proofs.Fitting.{child-shut, next-shut}
 use Rattle.type_terms.proofs.Members.{here, there, in-map}
 use Rattle.type_terms.specs.Made.{terms}
-use Rattle.type_terms.specs.Terms.{trees_at}
+use Rattle.type_terms.specs.Promised.Handles.{trees_at}
 use Rattle.term_folds.specs.declared.predicate.TraitRef.{TraitRef}
 use Rattle.declarations.specs.Applied.{IsApplied, sorts_of, sorts_of_params}
 use Rattle.declarations.specs.Items.{reference_in, trait_at}
-use Rattle.declarations.specs.Merges.{Each}
+use Rattle.declarations.specs.Promised.Elaboration.{Each}
 use Rattle.declarations.specs.declared.items.TraitDef.{TraitDef}
 use Rattle.assembly_laws.proofs.Instances.{is_bound}
 use Rattle.sessions.specs.Applying.{TextsClausesApply}

@@ -1,10 +1,10 @@
 -- The solution that gives a closed term to each unknown without value.
 use Rattle.std.proofs.Common.{◌≡◌, ◌||◌, ℕ, false, not, List, [], ◌∷◌, map, refl, sym, ap, IsTrue}
-use Rattle.type_terms.specs.Label.{Label, Sort, of_type, of_const, of_lifetime, bool, value, static, fn_ptr, principal, param, placeholder, infer, canonical, bound}
-use Rattle.type_terms.specs.Trees.{Trees, none, tree, leaf, erase, erase_label, some_node}
-use Rattle.type_terms.specs.Terms.{Entry}
-use Rattle.type_terms.specs.Proofs.{Every}
-use Rattle.type_terms.specs.Answers.{is_open, is_closed}
+use Rattle.type_terms.specs.Promised.Label.{Label, Sort, of_type, of_const, of_lifetime, bool, value, static, fn_ptr, principal, param, placeholder, infer, canonical, bound}
+use Rattle.type_terms.specs.Promised.Trees.{Trees, none, tree, leaf, erase, erase_label, some_node}
+use Rattle.type_terms.specs.Promised.Handles.{Entry}
+use Rattle.type_terms.specs.Promised.Proofs.{Every}
+use Rattle.type_terms.specs.Promised.Answers.{is_open, is_closed}
 use Rattle.type_terms.proofs.Fitting.{or-no, child-shut, next-shut}
 use Rattle.type_terms.proofs.Made.{false-true}
 use Rattle.infer_table.specs.Content.{Table, content, Ready, IsProper}
@@ -16,7 +16,7 @@ use Rattle.infer_table.proofs.OccurFacts.{lifetime-unbound}
 use Rattle.infer_table.proofs.SolutionLaws.{resolved-unbound}
 use Rattle.infer_table.proofs.SolvableLaws.{completed, instance-completed, tidy-completion}
 use Rattle.assembly_laws.specs.Facts.{is_unerased}
-use Rattle.overlap_check.specs.Questions.{FitKinds, filled, is_bound_place}
+use Rattle.type_terms.specs.Promised.Questions.{FitKinds, filled, is_bound_place}
 use Rattle.sessions.specs.Proving.{is_bound_term}
 use Rattle.sessions.specs.Tables.{count_of}
 use Rattle.sessions.specs.Values.{unknowns_of}

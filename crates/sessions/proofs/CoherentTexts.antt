@@ -1,23 +1,25 @@
 -- A text whose crates are all accepted is coherent, where the supertraits of headers are proved.
 use Rattle.std.proofs.Common.{◌≡◌, ◌<◌, ◌⊎◌, inl, inr, ℕ, zero, suc, List, [], ◌∷◌, map, length, pred, None, Some, refl, sym, ap, subst, arith, Ok}
 use Rattle.std.proofs.lemmas.Option.{same_Some}
-use Rattle.type_terms.specs.Label.{Sort}
-use Rattle.type_terms.specs.Trees.{Trees}
-use Rattle.type_terms.specs.Worlds.{World, ImplDecl, Reference, core}
-use Rattle.type_terms.specs.Proofs.{In, HasProof}
-use Rattle.type_terms.specs.Supers.{IsHeld}
-use Rattle.type_terms.specs.Renumbering.{View, view_at}
-use Rattle.type_terms.specs.LinkedSet.{JoinedSet, LinkedSet, HeadersHaveSupertraits, IsOfAnAnsweredCrate}
+use Rattle.type_terms.specs.Promised.Label.{Sort}
+use Rattle.type_terms.specs.Promised.Trees.{Trees}
+use Rattle.type_terms.specs.Promised.Worlds.{World, ImplDecl, Reference, core}
+use Rattle.type_terms.specs.Promised.Proofs.{In, HasProof}
+use Rattle.type_terms.specs.Promised.Supers.{IsHeld}
+use Rattle.type_terms.specs.Promised.Renumbering.{View}
+use Rattle.type_terms.specs.Renumbering.{view_at}
+use Rattle.type_terms.specs.Promised.LinkedSet.{JoinedSet, LinkedSet, HeadersHaveSupertraits, IsOfAnAnsweredCrate}
 use Rattle.type_terms.proofs.Members.{in-map, here}
 use Rattle.type_terms.proofs.SameNumbers.{reference-same}
 use Rattle.type_terms.proofs.HeldSets.{held-linked}
-use Rattle.overlap_check.specs.Verdicts.{IsAccepted}
-use Rattle.overlap_check.specs.SessionLaws.{HeadlineHolds, AnswersHold, AnswersHoldEverywhere}
-use Rattle.overlap_check.specs.Questions.{filled_reference, SolutionBy, Solution, yes, IsProveAnswer, no, IsRefuteAnswer}
-use Rattle.text_definitions.specs.Declarations.{Declarations}
-use Rattle.sessions.specs.JoinedTexts.{text_world}
-use Rattle.sessions.specs.Promises.{view_in}
-use Rattle.sessions.specs.CoherentTexts.{CratesAreAccepted, CratesAreHeld, TextIsCoherent, AcceptedTextsAreCoherent, HeldTextsAreCoherent}
+use Rattle.type_terms.specs.Promised.Verdicts.{IsAccepted}
+use Rattle.type_terms.specs.Promised.SetLaws.{HeadlineHolds, AnswersHold, AnswersHoldEverywhere}
+use Rattle.type_terms.specs.Promised.Questions.{filled_reference, SolutionBy, Solution, yes, IsProveAnswer, no, IsRefuteAnswer}
+use Rattle.text_definitions.specs.Promised.Declarations.{Declarations}
+use Rattle.sessions.specs.Promised.CoherentTexts.{text_world}
+use Rattle.sessions.specs.Promised.Promises.{view_in}
+use Rattle.sessions.specs.Promised.CoherentTexts.{CratesAreAccepted, CratesAreHeld, TextIsCoherent, HeldTextsAreCoherent}
+use Rattle.sessions.specs.CoherentTexts.{AcceptedTextsAreCoherent}
 use Rattle.sessions.proofs.OwnValues.{solved}
 use Rattle.sessions.proofs.KeptTexts.{AllKept, texts-are-kept}
 use Rattle.sessions.proofs.JoinedTexts.{joined, home-below, of-core, core-or-later, map-at}

@@ -1,7 +1,7 @@
 -- How many unknowns of each kind there are.
 use Rattle.std.proofs.Common.{◌≡◌, ℕ, zero, suc, ◌+◌, ◌<◌, Bool, true, false, if◌then◌else◌, List, [], ◌∷◌, ◌++◌, length, map, take, get_or, refl, sym, ap, ◌∙◌, arith}
-use Rattle.type_terms.specs.Label.{Sort, of_type, of_const, of_lifetime}
-use Rattle.type_terms.specs.Trees.{is_sort}
+use Rattle.type_terms.specs.Promised.Label.{Sort, of_type, of_const, of_lifetime}
+use Rattle.type_terms.specs.Promised.Trees.{is_sort}
 use Rattle.type_terms.specs.declared.kinds.GenericArgKind.{GenericArgKind}
 use Rattle.term_folds.specs.Arguments.{arg_sort}
 use Rattle.type_terms.proofs.Items.{take-push}

@@ -1,20 +1,21 @@
 -- Parameters of where-clauses stand in the header, as the same sort.
 use Rattle.std.proofs.Common.{◌≡◌, ◌⊎◌, inl, inr, ℕ, ◌+◌, Bool, true, false, ◌&&◌, ◌||◌, ◌==◌, refl, sym, ap, ◌∙◌, subst, List, Some, arith}
 use Rattle.std.specs.Prelude.{slice_get}
-use Rattle.type_terms.specs.Label.{Label, Sort, of_type, of_const, of_lifetime, dynamic, principal, auto_trait, predicate, fn_ptr, param, placeholder, infer, canonical, bound}
-use Rattle.type_terms.specs.Trees.{Trees, none, tree, erase, erase_label, is_sort, is_no_tree, some_node}
+use Rattle.type_terms.specs.Promised.Label.{Label, Sort, of_type, of_const, of_lifetime, dynamic, principal, auto_trait, predicate, fn_ptr, param, placeholder, infer, canonical, bound}
+use Rattle.type_terms.specs.Promised.Trees.{Trees, none, tree, erase, erase_label, is_sort, some_node}
+use Rattle.type_terms.specs.Trees.{is_no_tree}
 use Rattle.type_terms.proofs.Members.{same-number}
 use Rattle.type_terms.proofs.Walking.{or-left as or-here, or-right as or-there}
 use Rattle.type_terms.specs.Made.{Standing, terms, bounds, traits, is_made}
 use Rattle.type_terms.proofs.Made.{left, right, false-true, no-tree, made-ordinary, last-bound, last-trait, never-dynamic, never-dynamic-bound, never-principal}
 use Rattle.assembly_laws.specs.Candidates.{is_param}
 use Rattle.assembly_laws.specs.Declared.{is_declared}
-use Rattle.view_lowering.specs.Plain.{plain, plain_label, all_kept}
+use Rattle.view_lowering.specs.Promised.SeenWorlds.{plain, plain_label, all_kept}
 use Rattle.view_lowering.proofs.Sorts.{is_bad}
 use Rattle.view_lowering.proofs.Tests.{is_good, all_stand}
 use Rattle.view_lowering.proofs.Trees.{and-left, or-left, or-right}
 use Rattle.view_lowering.proofs.SeenViews.{good-fits, sort-there, stands-by}
-use Rattle.type_terms.specs.Supers.{mentions_as}
+use Rattle.type_terms.specs.Promised.Supers.{mentions_as}
 use Rattle.sessions.proofs.SeenPlainly.{plain-erased}
 use Rattle.sessions.proofs.Mentioned.{Place, at_label, at_child, at_next, place-of, either, in-label, in-child, in-next}
 use Rattle.type_terms.proofs.TermBasics.{sort-equal as sort-same}

@@ -2,24 +2,25 @@
 use Rattle.std.proofs.Common.{◌≡◌, ℕ, Bool, true, false, ◌||◌, ◌&&◌, ◌==◌, List, [], ◌∷◌, ◌++◌, Option, Some, None, Result, Ok, Err, refl, sym, ap, ◌∙◌, subst}
 use Rattle.std.specs.Prelude.{if◌then◌else◌, not, IfOk}
 use Rattle.std.specs.List.{list_any}
-use Rattle.type_terms.specs.Label.{Label, of_type, of_const, of_lifetime, ref, adt, dynamic, principal, param, placeholder, infer, canonical, bound, value, static}
-use Rattle.type_terms.specs.Trees.{Trees, none, tree, is_sort, sort_of}
-use Rattle.type_terms.specs.Versions.{is_open_place, is_addable}
-use Rattle.type_terms.specs.Worlds.{World, CrateDecl, Reference}
-use Rattle.type_terms.specs.Walks.{Met, local, entered, struct_leaf, open_place, other_leaf, visited, dyn_met, is_home, struct_is, until_decisive, ends_local, trait_is, keeps_orphan_rule}
-use Rattle.type_terms.specs.Terms.{Entry}
+use Rattle.type_terms.specs.Promised.Label.{Label, of_type, of_const, of_lifetime, ref, adt, dynamic, principal, param, placeholder, infer, canonical, bound, value, static}
+use Rattle.type_terms.specs.Promised.Trees.{Trees, none, tree, is_sort, sort_of}
+use Rattle.type_terms.specs.Promised.Versions.{is_open_place, is_addable}
+use Rattle.type_terms.specs.Promised.Worlds.{World, CrateDecl, Reference}
+use Rattle.type_terms.specs.Promised.Walks.{Met, local, entered, struct_leaf, open_place, other_leaf, visited, dyn_met, is_home, struct_is, until_decisive, ends_local, trait_is, keeps_orphan_rule}
+use Rattle.type_terms.specs.Promised.Handles.{Entry}
 use Rattle.type_terms.specs.declared.Fault.{Fault}
 use Rattle.type_terms.specs.declared.ImplId.{ImplId}
 use Rattle.type_terms.specs.declared.kinds.Ty.{Ty}
-use Rattle.orphan_check.specs.Items.{WalkItem, items, item_of, decisive, error_at, orphan_error, OrphanError}
-use Rattle.orphan_check.specs.Looks.{Look, look, dyn_look}
+use Rattle.type_terms.specs.Promised.OrphanErrors.{WalkItem, items, item_of, decisive, error_at, orphan_error, OrphanError}
+use Rattle.type_terms.specs.Promised.OrphanErrors.{Look, look, dyn_look}
 use Rattle.orphan_check.specs.declared.errors.OrphanCheckErr.{OrphanCheckErr}
-use Rattle.overlap_check.specs.OpenedHeaders.{opened}
-use Rattle.overlap_check.specs.Orphans.{IsFirstError, error_in}
-use Rattle.overlap_check.specs.Verdicts.{KeepsOrphanRule, IsFirstOrphan}
-use Rattle.text_definitions.specs.Declarations.{Declarations}
+use Rattle.type_terms.specs.Promised.OpenedHeaders.{opened}
+use Rattle.overlap_check.specs.Orphans.{IsFirstError}
+use Rattle.overlap_check.specs.Promised.Errors.{error_in}
+use Rattle.type_terms.specs.Promised.Verdicts.{KeepsOrphanRule, IsFirstOrphan}
+use Rattle.text_definitions.specs.Promised.Declarations.{Declarations}
 use Rattle.view_lowering.specs.Seen.{rules_seen_from}
-use Rattle.sessions.specs.Promises.{view_in}
+use Rattle.sessions.specs.Promised.Promises.{view_in}
 
 module _ (V : World) (cs : List CrateDecl) where
   abbrev W : World

@@ -1,13 +1,13 @@
 -- Decided references are answered rightly by the search of a session.
 use Rattle.std.proofs.Common.{◌≡◌, ◌+◌, ◌-◌, ℕ, Bool, true, false, not, List, map, Option, Some, None, inl, inr, refl, sym, ◌∙◌, ap, subst}
-use Rattle.type_terms.specs.Answers.{SingleWay, IsUnambiguous, is_variable}
-use Rattle.type_terms.specs.Erased.{erased_reference}
-use Rattle.type_terms.specs.Trees.{erase, some_node}
-use Rattle.type_terms.specs.Worlds.{World, CrateDecl, Reference}
-use Rattle.type_terms.specs.Terms.{Entry}
+use Rattle.type_terms.specs.Promised.Answers.{SingleWay, IsUnambiguous, is_variable}
+use Rattle.type_terms.specs.Promised.Erased.{erased_reference}
+use Rattle.type_terms.specs.Promised.Trees.{erase, some_node}
+use Rattle.type_terms.specs.Promised.Worlds.{World, CrateDecl, Reference}
+use Rattle.type_terms.specs.Promised.Handles.{Entry}
 use Rattle.infer_table.specs.Responses.{AnswerTrees}
 use Rattle.infer_table.specs.declared.certainty.TypingMode.TheVariants.{PostAnalysis}
-use Rattle.declarations.specs.Elaboration.{elaborate}
+use Rattle.declarations.specs.Promised.Elaboration.{elaborate}
 use Rattle.declarations.specs.Items.{Items, written}
 use Rattle.goal_frames.specs.declared.store.InputId.{InputId}
 use Rattle.goal_frames.specs.declared.store.ResponseId.{ResponseId}
@@ -16,9 +16,10 @@ use Rattle.goal_frames.specs.Searches.{Handles, GoalInMode}
 use Rattle.evaluation.specs.Tables.{frame_tables}
 use Rattle.solver_context.specs.declared.context.SolverCx.{SolverCx}
 use Rattle.solver_context.specs.Searching.{handles}
-use Rattle.text_definitions.specs.Declarations.{Declarations, Question}
-use Rattle.view_lowering.specs.Plain.{all_kept, plain_reference, unbound_reference, unbound_references}
-use Rattle.view_lowering.specs.Questions.{IsQuestion}
+use Rattle.text_definitions.specs.Promised.Declarations.{Declarations, Question}
+use Rattle.view_lowering.specs.Promised.SeenWorlds.{all_kept, plain_reference, unbound_reference}
+use Rattle.view_lowering.specs.Plain.{unbound_references}
+use Rattle.view_lowering.specs.Promised.Questions.{IsQuestion}
 use Rattle.assembly_laws.specs.Meaning.{SelfTypesBegin}
 use Rattle.assembly_laws.proofs.ErasedCandidates.{without_lifetimes}
 use Rattle.candidate_assembly.specs.declared.solver.Solver.{Solver}
@@ -28,10 +29,10 @@ use Rattle.sessions.specs.Answers.{solver_goals, IsOnlyAnswer, IsRightOf}
 use Rattle.sessions.specs.Decided.{IsAnsweredRightly, DecidedAreAnswered, IsQuestionAnswered, DecidedQuestionsAreAnswered}
 use Rattle.sessions.specs.Fitting.{sorts_in}
 use Rattle.sessions.specs.Goals.{goal_of}
-use Rattle.sessions.specs.Promises.{view_in}
+use Rattle.sessions.specs.Promised.Promises.{view_in}
 use Rattle.sessions.specs.Questions.{IsFormedAsWritten}
 use Rattle.sessions.specs.Sessions.{IsSolvingOf}
-use Rattle.sessions.specs.Subjects.{IsOfText}
+use Rattle.sessions.specs.Promised.Subjects.{IsOfText}
 use Rattle.sessions.proofs.SeenPlainly.{plain-erased, map-again, reference-erased, rules-are, seen-begin}
 use Rattle.sessions.proofs.TextAnswers.{well, answered-by-view}
 use Rattle.sessions.proofs.TextQuestions.{written-if-closed}

@@ -1,14 +1,16 @@
 -- What trees that are made as declarations are keep, once their lifetimes are erased.
 use Rattle.std.proofs.Common.{◌≡◌, ℕ, Bool, true, false, ◌&&◌, ◌||◌, refl, sym, ap, ◌∙◌, subst, List}
-use Rattle.type_terms.specs.Label.{Label, Sort, of_type, of_const, of_lifetime, dynamic, principal, auto_trait, predicate, static, fn_ptr, param, placeholder, infer, canonical, bound, adt}
-use Rattle.type_terms.specs.Trees.{Trees, none, tree, erase, erase_label, is_sort, is_no_tree, some_node, sort_of}
-use Rattle.type_terms.specs.LinkedSet.{is_stray, well_written, label_allowed, label_shaped, begins_with_bound}
+use Rattle.type_terms.specs.Promised.Label.{Label, Sort, of_type, of_const, of_lifetime, dynamic, principal, auto_trait, predicate, static, fn_ptr, param, placeholder, infer, canonical, bound, adt}
+use Rattle.type_terms.specs.Promised.Trees.{Trees, none, tree, erase, erase_label, is_sort, some_node, sort_of}
+use Rattle.type_terms.specs.Trees.{is_no_tree}
+use Rattle.type_terms.specs.Promised.LinkedSet.{is_stray}
+use Rattle.type_terms.specs.Promised.Versions.{well_written, label_allowed, label_shaped, begins_with_bound}
 use Rattle.type_terms.specs.Made.{Standing, terms, bounds, traits, is_made}
 use Rattle.type_terms.proofs.Made.{left, right, both, false-true, no-tree, made-ordinary, last-bound, last-trait, never-dynamic, never-dynamic-bound, never-principal}
 use Rattle.assembly_laws.specs.Declared.{is_declared}
 use Rattle.view_lowering.proofs.Trees.{or}
 use Rattle.sessions.proofs.TextTerms.{Scope, IsStructAt, IsTraitAt, TextNode, TextNodes}
-use Rattle.type_terms.specs.Supers.{no_param, dyns_of_bounds}
+use Rattle.type_terms.specs.Promised.Supers.{no_param, dyns_of_bounds}
 
 -- ---- each label of a made tree is good
 module _ (p : Label → Bool) (each : (l : Label) → is_declared l ≡ true → p l ≡ false) where

@@ -2,9 +2,9 @@
 -- clauses with all their supertraits they are no more ways than the rules are under the clauses as they are written.
 use Rattle.std.proofs.Common.{◌≡◌, ◌⊎◌, inl, inr, ℕ, zero, suc, ◌+◌, ◌≤◌, arith, Bool, true, false, if◌then◌else◌, List, [], ◌∷◌, ◌++◌, map, refl, sym, ◌∙◌, ap, subst}
 use Rattle.std.specs.List.{list_any, flat_map}
-use Rattle.type_terms.specs.Worlds.{World, Reference}
-use Rattle.type_terms.specs.Rules.{Rule, by_clause, by_super, impl_rules, built_in_rules, same_reference, strict_supertraits, super_rules, clause_rules, elaborated}
-use Rattle.type_terms.specs.Proofs.{In, HasProof}
+use Rattle.type_terms.specs.Promised.Worlds.{World, Reference}
+use Rattle.type_terms.specs.Promised.Rules.{Rule, by_clause, by_super, impl_rules, built_in_rules, same_reference, strict_supertraits, super_rules, clause_rules, elaborated}
+use Rattle.type_terms.specs.Promised.Proofs.{In, HasProof}
 use Rattle.type_terms.proofs.Members.{here, there, in-cases, in-nothing, in-flat, flat-in, some-member, member-some, not-both}
 use Rattle.evaluation.specs.Lists.{Every, SomeOf}
 use Rattle.evaluation.specs.Content.{Fact}

@@ -1,12 +1,13 @@
 -- Where-clauses with all their supertraits are formed if the clauses are, and supertraits of them are among them.
 use Rattle.std.proofs.Common.{◌≡◌, ◌==◌, ℕ, zero, suc, Bool, true, false, not, ◌||◌, List, [], ◌∷◌, map, length, inl, inr, refl, sym, ◌∙◌, ap, subst}
 use Rattle.std.specs.List.{list_all, flat_map}
-use Rattle.type_terms.specs.Label.{Label, Sort, of_type, of_const, of_lifetime, adt, tuple, fn_ptr, raw_pointer, ref, array, slice, dynamic, static, principal, auto_trait, of_trait, predicate, param, placeholder, infer, canonical, bound}
-use Rattle.type_terms.specs.Erased.{erased_reference, erased_world}
-use Rattle.type_terms.specs.Trees.{Trees, none, tree, Fits, nth, sort_of, is_sort, is_a, is_no_tree, erase_label, erase, some_node}
-use Rattle.type_terms.specs.Worlds.{World, Reference, TraitDecl, traits_named, with_args, all_with_args}
-use Rattle.type_terms.specs.Rules.{written_supertraits, strict_supertraits, strict_supertraits_within, elaborated}
-use Rattle.type_terms.specs.Proofs.{In}
+use Rattle.type_terms.specs.Promised.Label.{Label, Sort, of_type, of_const, of_lifetime, adt, tuple, fn_ptr, raw_pointer, ref, array, slice, dynamic, static, principal, auto_trait, of_trait, predicate, param, placeholder, infer, canonical, bound}
+use Rattle.type_terms.specs.Promised.Erased.{erased_reference, erased_world}
+use Rattle.type_terms.specs.Promised.Trees.{Trees, none, tree, Fits, nth, sort_of, is_sort, erase_label, erase, some_node}
+use Rattle.type_terms.specs.Trees.{is_a, is_no_tree}
+use Rattle.type_terms.specs.Promised.Worlds.{World, Reference, TraitDecl, traits_named, with_args, all_with_args}
+use Rattle.type_terms.specs.Promised.Rules.{written_supertraits, strict_supertraits, strict_supertraits_within, elaborated}
+use Rattle.type_terms.specs.Promised.Proofs.{In}
 use Rattle.type_terms.proofs.ProofEntries.{map-in}
 use Rattle.type_terms.proofs.Fitting.{child-shut, next-shut, fits-sound}
 use Rattle.type_terms.proofs.Members.{here, there, in-cases, in-nothing, in-filter, in-flat, flat-in, in-map, same-number}
@@ -15,7 +16,7 @@ use Rattle.type_terms.specs.Made.{terms, is_leaf_label, is_made}
 use Rattle.type_terms.proofs.Made.{left, both, false-true, is_ordinary, made-ordinary, made-rest, made-alone, made-weaker}
 use Rattle.evaluation.specs.Lists.{Every}
 use Rattle.declarations.specs.Applied.{sorts_of}
-use Rattle.declarations.specs.Elaboration.{elaborate, all_levels}
+use Rattle.declarations.specs.Promised.Elaboration.{elaborate, all_levels}
 use Rattle.assembly_laws.specs.Asking.{next_of}
 use Rattle.assembly_laws.specs.Declared.{is_declared, is_lifetime_parameter}
 use Rattle.assembly_laws.specs.DeclaredWell.{IsDeclaredWell, are_distinct}

@@ -1,10 +1,10 @@
 -- Supertraits without lifetimes.
 use Rattle.std.proofs.Common.{◌≡◌, ℕ, zero, suc, List, ◌∷◌, map, length, ◌⊎◌, inl, inr, sym, ap, subst, ◌==◌}
-use Rattle.type_terms.specs.Erased.{erased_reference, erased_trait, erased_world}
-use Rattle.type_terms.specs.Trees.{Trees, Fits, erase}
-use Rattle.type_terms.specs.Worlds.{World, Reference, TraitDecl, traits_named, with_args, all_with_args}
-use Rattle.type_terms.specs.Rules.{written_supertraits, strict_supertraits, strict_supertraits_within, elaborated}
-use Rattle.type_terms.specs.Proofs.{In}
+use Rattle.type_terms.specs.Promised.Erased.{erased_reference, erased_trait, erased_world}
+use Rattle.type_terms.specs.Promised.Trees.{Trees, Fits, erase}
+use Rattle.type_terms.specs.Promised.Worlds.{World, Reference, TraitDecl, traits_named, with_args, all_with_args}
+use Rattle.type_terms.specs.Promised.Rules.{written_supertraits, strict_supertraits, strict_supertraits_within, elaborated}
+use Rattle.type_terms.specs.Promised.Proofs.{In}
 use Rattle.type_terms.proofs.ProofEntries.{map-in}
 use Rattle.type_terms.proofs.Members.{here, there, in-cases, in-nothing, in-filter, filter-in, in-flat, flat-in, in-map}
 use Rattle.type_terms.proofs.TreeLaws.{erase-instantiate}

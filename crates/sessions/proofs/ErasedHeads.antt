@@ -1,7 +1,7 @@
 -- The head of a type is the same without lifetimes.
 use Rattle.std.proofs.Common.{◌≡◌, refl}
-use Rattle.type_terms.specs.Label.{of_type, of_const, of_lifetime, fn_ptr, principal, param, placeholder, infer, canonical, bound}
-use Rattle.type_terms.specs.Trees.{Trees, none, tree, erase}
+use Rattle.type_terms.specs.Promised.Label.{of_type, of_const, of_lifetime, fn_ptr, principal, param, placeholder, infer, canonical, bound}
+use Rattle.type_terms.specs.Promised.Trees.{Trees, none, tree, erase}
 use Rattle.declarations.specs.Heads.{head_of}
 
 pub erased-head : (t : Trees) → head_of (erase t) ≡ head_of t

@@ -2,17 +2,17 @@
 use Rattle.std.proofs.Common.{◌≡◌, ◌+◌, Bool, ℕ, zero, suc, max, List, [], ◌∷◌, ◌++◌, map, length, length-append, arith, refl, sym, ◌∙◌, ap}
 use Rattle.std.specs.Prelude.{◌==◌, filter, fold}
 use Rattle.std.specs.List.{flat_map}
-use Rattle.type_terms.specs.Label.{Label, of_lifetime, fn_ptr, principal, param, placeholder, infer, canonical, bound}
-use Rattle.type_terms.specs.Trees.{Trees, none, tree, erase, erase_label}
-use Rattle.type_terms.specs.Erased.{erased_reference, erased_struct, erased_trait, erased_impl}
-use Rattle.type_terms.specs.Rules.{written_supertraits, strict_supertraits_within, together}
-use Rattle.type_terms.specs.Worlds.{World, Reference, StructDecl, TraitDecl, ImplDecl, traits_named, all_with_args}
+use Rattle.type_terms.specs.Promised.Label.{Label, of_lifetime, fn_ptr, principal, param, placeholder, infer, canonical, bound}
+use Rattle.type_terms.specs.Promised.Trees.{Trees, none, tree, erase, erase_label}
+use Rattle.type_terms.specs.Promised.Erased.{erased_reference, erased_struct, erased_trait, erased_impl}
+use Rattle.type_terms.specs.Promised.Rules.{written_supertraits, strict_supertraits_within, together}
+use Rattle.type_terms.specs.Promised.Worlds.{World, Reference, StructDecl, TraitDecl, ImplDecl, traits_named, all_with_args}
 use Rattle.type_terms.proofs.RenumberedRules.{map-append}
 use Rattle.type_terms.proofs.TermRules.{filter-map}
-use Rattle.evaluation.specs.Widths.{count, width, with_self}
+use Rattle.evaluation.specs.Promised.Widths.{count, width, with_self}
 use Rattle.evaluation.proofs.Widths.{count-append}
-use Rattle.assembly_laws.specs.Solver.{clauses_in, declared_width, greatest, supers_of, width_of}
-use Rattle.view_lowering.specs.Plain.{plain_reference}
+use Rattle.assembly_laws.specs.Promised.Widths.{clauses_in, declared_width, greatest, supers_of, width_of}
+use Rattle.view_lowering.specs.Promised.SeenWorlds.{plain_reference}
 use Rattle.sessions.proofs.SeenPlainly.{reference-erased}
 use Rattle.type_terms.proofs.ListBasics.{map-length as length-map}
 

@@ -1,15 +1,15 @@
 -- What a search in coherence leaves open is possible, and what it refuses is not.
 use Rattle.std.proofs.Common.{◌≡◌, ◌+◌, ◌-◌, ℕ, Bool, true, false, not, ◌&&◌, ◌||◌, List, [], Option, Some, None, inl, inr, refl, sym, ◌∙◌, ap, subst}
-use Rattle.type_terms.specs.Label.{Label, Sort, of_type, of_const, of_lifetime, param, infer, canonical, bound}
-use Rattle.type_terms.specs.Erased.{erased_reference, erased_world}
-use Rattle.type_terms.specs.Trees.{Trees, none, tree, erase, erase_label, some_node}
-use Rattle.type_terms.specs.Worlds.{World, CrateDecl, Reference}
-use Rattle.type_terms.specs.Answers.{is_open, is_closed, is_bounded, is_possible, written_in, short_chains}
+use Rattle.type_terms.specs.Promised.Label.{Label, Sort, of_type, of_const, of_lifetime, param, infer, canonical, bound}
+use Rattle.type_terms.specs.Promised.Erased.{erased_reference, erased_world}
+use Rattle.type_terms.specs.Promised.Trees.{Trees, none, tree, erase, erase_label, some_node}
+use Rattle.type_terms.specs.Promised.Worlds.{World, CrateDecl, Reference}
+use Rattle.type_terms.specs.Promised.Answers.{is_open, is_closed, is_bounded, is_possible, written_in, short_chains}
 use Rattle.type_terms.proofs.Fitting.{or-no, child-shut, next-shut}
 use Rattle.type_terms.proofs.Members.{in-nothing}
 use Rattle.type_terms.specs.Made.{terms, is_made, is_in_range}
 use Rattle.type_terms.proofs.Made.{left, false-true}
-use Rattle.type_terms.specs.Terms.{Entry}
+use Rattle.type_terms.specs.Promised.Handles.{Entry}
 use Rattle.infer_table.specs.Responses.{AnswerTrees}
 use Rattle.infer_table.specs.declared.certainty.TypingMode.TheVariants.{Coherence}
 use Rattle.declarations.specs.Items.{Items, written}
@@ -20,10 +20,11 @@ use Rattle.goal_frames.specs.Searches.{Handles, GoalInMode}
 use Rattle.evaluation.specs.Tables.{frame_tables}
 use Rattle.solver_context.specs.declared.context.SolverCx.{SolverCx}
 use Rattle.solver_context.specs.Searching.{handles}
-use Rattle.text_definitions.specs.Declarations.{Declarations, Question}
-use Rattle.view_lowering.specs.Plain.{plain_label, plain, all_kept, unbound_reference}
-use Rattle.view_lowering.specs.Questions.{IsQuestion}
-use Rattle.view_lowering.specs.QuestionVariables.{variable_kinds, is_stray, HasVariablesAlone}
+use Rattle.text_definitions.specs.Promised.Declarations.{Declarations, Question}
+use Rattle.view_lowering.specs.Promised.SeenWorlds.{plain_label, plain, all_kept, unbound_reference}
+use Rattle.view_lowering.specs.Promised.Questions.{IsQuestion}
+use Rattle.view_lowering.specs.Promised.Questions.{variable_kinds}
+use Rattle.view_lowering.specs.QuestionVariables.{is_stray, HasVariablesAlone}
 use Rattle.view_lowering.specs.Ready.{AreSeen}
 use Rattle.assembly_laws.specs.Meaning.{SelfTypesBegin}
 use Rattle.candidate_assembly.specs.declared.solver.Solver.{Solver}
@@ -36,10 +37,10 @@ use Rattle.sessions.specs.Answers.{solver_goals, IsOnlyAnswer}
 use Rattle.sessions.specs.Asking.{IsLeftOpen}
 use Rattle.sessions.specs.Fitting.{sorts_in}
 use Rattle.sessions.specs.Goals.{goal_of, is_fixed, stands_free, HasFormedTerms, IsFormedQuestion}
-use Rattle.sessions.specs.Promises.{view_in}
+use Rattle.sessions.specs.Promised.Promises.{view_in}
 use Rattle.sessions.specs.Refusals.{IsToldPossible, RefusalsAreExact}
 use Rattle.sessions.specs.Sessions.{IsSolvingOf}
-use Rattle.sessions.specs.Subjects.{IsOfText}
+use Rattle.sessions.specs.Promised.Subjects.{IsOfText}
 use Rattle.sessions.proofs.BetterTerms.{all-better}
 use Rattle.sessions.proofs.AskedGoals.{formed-reference}
 use Rattle.sessions.proofs.SeenPlainly.{rules-are, seen-begin, seen-erased}

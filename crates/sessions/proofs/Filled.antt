@@ -1,8 +1,8 @@
 -- What the unknowns of a question resolve to, in their place.
 use Rattle.std.proofs.Common.{◌≡◌, ℕ, List, refl, sym, ap, ◌∙◌}
-use Rattle.type_terms.specs.Label.{Sort, of_type, of_const, of_lifetime, infer, static}
-use Rattle.type_terms.specs.Trees.{Trees, leaf, erase}
-use Rattle.type_terms.specs.Terms.{Entry}
+use Rattle.type_terms.specs.Promised.Label.{Sort, of_type, of_const, of_lifetime, infer, static}
+use Rattle.type_terms.specs.Promised.Trees.{Trees, leaf, erase}
+use Rattle.type_terms.specs.Promised.Handles.{Entry}
 use Rattle.infer_table.specs.Content.{Table, content, Ready}
 use Rattle.infer_table.specs.Solutions.{HasValues, IsSorted, tree_of, resolved}
 use Rattle.infer_table.proofs.ContentFacts.{valued}

@@ -1,14 +1,14 @@
 -- Values in the place of a question's unknowns.
 use Rattle.std.proofs.Common.{◌≡◌, ℕ, zero, suc, ◌+◌, ◌<◌, List, [], ◌∷◌, map, Some, unwrap_or, refl, sym, ap, ◌∙◌, subst, arith}
 use Rattle.std.specs.List.{slice_get}
-use Rattle.type_terms.specs.Label.{Label, Sort, of_type, of_const, of_lifetime, infer, static, param, placeholder, canonical, bound}
-use Rattle.type_terms.specs.Trees.{Trees, none, tree, leaf, ◌+++◌, erase, IsA}
+use Rattle.type_terms.specs.Promised.Label.{Label, Sort, of_type, of_const, of_lifetime, infer, static, param, placeholder, canonical, bound}
+use Rattle.type_terms.specs.Promised.Trees.{Trees, none, tree, leaf, ◌+++◌, erase, IsA}
 use Rattle.infer_table.specs.Content.{IsProper}
 use Rattle.infer_table.specs.Covers.{AreKnown}
 use Rattle.infer_table.specs.Solutions.{Assignment, IsSorted, HasValues, tree_of, instance}
 use Rattle.sessions.specs.Tables.{count_of}
 use Rattle.sessions.specs.Values.{unknowns_from, unknowns_of}
-use Rattle.overlap_check.specs.Questions.{FitKinds, of_kind, filled}
+use Rattle.type_terms.specs.Promised.Questions.{FitKinds, of_kind, filled}
 
 -- the first unknown of the kind, behind so many of types and of constants
 abbrev first_of : ℕ → ℕ → Sort → ℕ

@@ -2,17 +2,18 @@
 use Rattle.std.proofs.Common.{◌≡◌, ◌==◌, ℕ, zero, suc, max, Bool, true, false, ◌&&◌, ◌||◌, not, List, [], ◌∷◌, map, Option, Some, None, refl, sym, ◌∙◌, ap, subst}
 use Rattle.std.specs.List.{list_all}
 use Rattle.std.specs.Option.{option_map_or}
-use Rattle.type_terms.specs.Label.{Label, Sort, of_type, of_const, of_lifetime, adt, dynamic, principal, auto_trait, of_trait, predicate, param, placeholder, infer, canonical, bound, value, static}
-use Rattle.type_terms.specs.Trees.{Trees, none, tree, nth, sort_of, is_sort, is_a, is_no_tree, some_node, own_binder, outside, outer_binder}
-use Rattle.type_terms.specs.Worlds.{World, Reference, StructDecl, structs_named}
-use Rattle.type_terms.specs.Rules.{unsize}
-use Rattle.type_terms.specs.Proofs.{In}
+use Rattle.type_terms.specs.Promised.Label.{Label, Sort, of_type, of_const, of_lifetime, adt, dynamic, principal, auto_trait, of_trait, predicate, param, placeholder, infer, canonical, bound, value, static}
+use Rattle.type_terms.specs.Promised.Trees.{Trees, none, tree, nth, sort_of, is_sort, some_node}
+use Rattle.type_terms.specs.Trees.{is_a, is_no_tree, own_binder, outside, outer_binder}
+use Rattle.type_terms.specs.Promised.Worlds.{World, Reference, StructDecl, structs_named}
+use Rattle.type_terms.specs.Promised.Rules.{unsize}
+use Rattle.type_terms.specs.Promised.Proofs.{In}
 use Rattle.type_terms.proofs.Fitting.{child-shut, next-shut}
 use Rattle.type_terms.proofs.Members.{here, there, in-filter, same-number}
 use Rattle.type_terms.proofs.Walking.{both, or-right}
 use Rattle.type_terms.specs.Made.{terms, is_leaf_label, is_made}
 use Rattle.type_terms.proofs.Made.{is_ordinary, made-ordinary, made-rest}
-use Rattle.type_terms.specs.Terms.{Entry}
+use Rattle.type_terms.specs.Promised.Handles.{Entry}
 use Rattle.infer_table.specs.Canonical.{CanonicalForm}
 use Rattle.evaluation.specs.Variables.{is_variable_over}
 use Rattle.declarations.specs.declared.items.AdtDef.{AdtDef}

@@ -1,18 +1,18 @@
 -- What visits find of the parameters of a question and of what is foreign to it.
 use Rattle.std.proofs.Common.{◌≡◌, ℕ, zero, suc, Bool, true, false, not, ◌||◌, ◌&&◌, List, [], ◌∷◌, map, refl, sym, ap, ◌∙◌, subst}
-use Rattle.type_terms.specs.Answers.{is_undeclared}
-use Rattle.type_terms.specs.Kinds.{ArgsHeld, arg_trees}
-use Rattle.type_terms.specs.Label.{Label, of_type, of_const, of_lifetime, param, placeholder, infer, canonical, bound, fn_ptr, principal, static}
+use Rattle.type_terms.specs.Promised.Answers.{is_undeclared}
+use Rattle.type_terms.specs.Promised.Handles.{ArgsHeld, arg_trees}
+use Rattle.type_terms.specs.Promised.Label.{Label, of_type, of_const, of_lifetime, param, placeholder, infer, canonical, bound, fn_ptr, principal, static}
 use Rattle.type_terms.specs.Scans.{has_flag, some_node_of}
 use Rattle.type_terms.specs.Pieces.{one_piece}
-use Rattle.type_terms.specs.Terms.{Entry, trees_at}
-use Rattle.type_terms.specs.Trees.{Trees, none, tree, some_node}
-use Rattle.type_terms.specs.Worlds.{World, Reference}
+use Rattle.type_terms.specs.Promised.Handles.{Entry, trees_at}
+use Rattle.type_terms.specs.Promised.Trees.{Trees, none, tree, some_node}
+use Rattle.type_terms.specs.Promised.Worlds.{World, Reference}
 use Rattle.type_terms.specs.declared.kinds.GenericArgKind.{GenericArgKind}
 use Rattle.term_folds.specs.declared.predicate.TraitRef.{TraitRef}
 use Rattle.declarations.specs.Applied.{TraitRefsHeld, references_in}
 use Rattle.sessions.specs.Foreign.{is_foreign_term, are_own_terms, is_unknown_term, strays}
-use Rattle.sessions.specs.OwnValues.{is_same_param, stands_in}
+use Rattle.sessions.specs.Promised.OwnValues.{is_same_param, stands_in}
 use Rattle.sessions.proofs.OwnValues.{some-either}
 use Rattle.type_terms.proofs.BooleanBasics.{or-false as no-more, de-morgan}
 

@@ -6,17 +6,19 @@ use Rattle.std.specs.Prelude.{slice_get, find, if◌then◌else◌, option_and_t
 use Rattle.std.specs.List.{list_all, list_any, flat_map}
 use Rattle.std.specs.Option.{option_map, option_map_or, option_or}
 use Rattle.std.specs.Str.{bytes_eq}
-use Rattle.type_terms.specs.Label.{Label, Sort, of_type, param, adt, tuple, fn_ptr, raw_pointer, ref, array, slice, dynamic, principal, auto_trait, predicate, placeholder}
-use Rattle.type_terms.specs.Trees.{Trees, none, tree, leaf, ◌+++◌, sort_of}
-use Rattle.type_terms.specs.Worlds.{Reference, sees}
-use Rattle.type_terms.specs.Proofs.{In}
+use Rattle.type_terms.specs.Promised.Label.{Label, Sort, of_type, param, adt, tuple, fn_ptr, raw_pointer, ref, array, slice, dynamic, principal, auto_trait, predicate, placeholder}
+use Rattle.type_terms.specs.Promised.Trees.{Trees, none, tree, leaf, ◌+++◌, sort_of}
+use Rattle.type_terms.specs.Promised.Worlds.{Reference, sees}
+use Rattle.type_terms.specs.Promised.Proofs.{In}
 use Rattle.type_terms.proofs.Members.{in-cases, in-nothing, in-left}
 use Rattle.declarations.specs.Applied.{sorts_of}
-use Rattle.declarations.specs.Merges.{Each}
-use Rattle.text_definitions.specs.Syntax.{Types, no_types, and_type, Bound, Clause, Line, crate_line, struct_line, trait_line, impl_line, prove_line, refute_line, later_line, supers_line}
-use Rattle.text_definitions.specs.Declarations.{Declarations, NamedCrate, NamedStruct, NamedTrait, NamedImpl, LaterImpl, Known, a_crate, a_struct, a_trait, world_of, known, last_crate, last_changed, impl_owner, nothing_declared, Question}
+use Rattle.declarations.specs.Promised.Elaboration.{Each}
+use Rattle.text_definitions.specs.Promised.Syntax.{Types, no_types, and_type, Bound, Clause, Line, crate_line, struct_line, trait_line, impl_line, prove_line, refute_line, later_line, supers_line}
+use Rattle.text_definitions.specs.Promised.Declarations.{Declarations, NamedCrate, NamedStruct, NamedTrait, NamedImpl, LaterImpl, Known, a_crate, a_struct, a_trait, world_of, known, last_crate, last_changed, impl_owner, Question}
+use Rattle.text_definitions.specs.Declarations.{nothing_declared}
 use Rattle.text_definitions.specs.Uses.{Use, crate_use, trait_use, args_count, kinds_of_trait, type_uses, types_uses, args_uses, bound_uses, clause_uses, header_uses, uses, params_of}
-use Rattle.text_definitions.specs.Faults.{fault_of, belongs_to_crate, is_impl, with_own, own_struct, own_trait, is_hidden_use, is_crate, number_of_crate, once, variables_in}
+use Rattle.text_definitions.specs.Faults.{fault_of, belongs_to_crate, is_impl, is_hidden_use, is_crate, number_of_crate, once, variables_in}
+use Rattle.text_definitions.specs.Promised.Faults.{with_own, own_struct, own_trait}
 use Rattle.text_definitions.specs.Lowering.{crate_number, trait_number, field_trees, type_tree, args_trees, with_self, clause_reference, Meanings}
 use Rattle.text_definitions.specs.Adding.{added, item_meanings, crate_of, struct_of, trait_of, impl_of, question_of, question_meanings}
 use Rattle.text_definitions.specs.Written.{IsWritten}

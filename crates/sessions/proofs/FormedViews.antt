@@ -5,26 +5,27 @@ use Rattle.std.proofs.lemmas.Option.{same_Some, slice_get_within}
 use Rattle.std.specs.Prelude.{slice_get, filter, if◌then◌else◌, nat_lt}
 use Rattle.std.specs.List.{list_any}
 use Rattle.std.specs.Option.{option_map_or}
-use Rattle.type_terms.specs.Label.{Label, Sort, of_type, of_const, of_lifetime, adt, tuple, fn_ptr, raw_pointer, ref, array, slice, dynamic, static, principal, auto_trait, param, bound, predicate}
-use Rattle.type_terms.specs.Trees.{Trees, none, tree, sort_of, is_sort, some_node}
-use Rattle.type_terms.specs.Worlds.{World, Reference, CrateDecl, StructDecl, TraitDecl, ImplDecl, core, crates_named, structs_named, traits_named, sees_within, sees}
-use Rattle.type_terms.specs.Rules.{autos_with, sized, clone, copy, unsize}
-use Rattle.type_terms.specs.Proofs.{In}
-use Rattle.type_terms.specs.Walks.{struct_is}
+use Rattle.type_terms.specs.Promised.Label.{Label, Sort, of_type, of_const, of_lifetime, adt, tuple, fn_ptr, raw_pointer, ref, array, slice, dynamic, static, principal, auto_trait, param, bound, predicate}
+use Rattle.type_terms.specs.Promised.Trees.{Trees, none, tree, sort_of, is_sort, some_node}
+use Rattle.type_terms.specs.Promised.Worlds.{World, Reference, CrateDecl, StructDecl, TraitDecl, ImplDecl, core, crates_named, structs_named, traits_named, sees_within, sees}
+use Rattle.type_terms.specs.Promised.Rules.{autos_with, sized, clone, copy, unsize}
+use Rattle.type_terms.specs.Promised.Proofs.{In}
+use Rattle.type_terms.specs.Promised.Walks.{struct_is}
 use Rattle.type_terms.proofs.Fitting.{child-shut, next-shut}
 use Rattle.type_terms.proofs.Members.{here, there, in-cases, in-nothing, in-filter, filter-in, in-map, some-member, member-some, same-number, self-number, not-both}
 use Rattle.type_terms.proofs.NoHolds.{member-each}
-use Rattle.type_terms.specs.Terms.{Entry}
+use Rattle.type_terms.specs.Promised.Handles.{Entry}
 use Rattle.type_terms.specs.declared.AdtId.{AdtId}
 use Rattle.type_terms.specs.declared.TraitId.{TraitId}
 use Rattle.declarations.specs.declared.items.AdtDef.{AdtDef}
 use Rattle.declarations.specs.declared.items.TraitDef.{TraitDef}
 use Rattle.declarations.specs.Applied.{sort_of_param, sorts_of, sorts_of_params}
 use Rattle.declarations.specs.Items.{Items, struct_in, trait_in, struct_at, trait_at, written}
-use Rattle.declarations.specs.Merges.{Each}
-use Rattle.text_definitions.specs.Declarations as text
-use Rattle.text_definitions.specs.Declarations.{NamedCrate, NamedStruct, NamedTrait, NamedImpl, world_of, nothing_declared}
-use Rattle.view_lowering.specs.Plain.{plain_label, plain, plain_reference, plain_struct, plain_trait, plain_impl, all_kept, none_kept, stands_in, unbound_reference}
+use Rattle.declarations.specs.Promised.Elaboration.{Each}
+use Rattle.text_definitions.specs.Promised.Declarations as text
+use Rattle.text_definitions.specs.Promised.Declarations.{NamedCrate, NamedStruct, NamedTrait, NamedImpl, world_of}
+use Rattle.text_definitions.specs.Declarations.{nothing_declared}
+use Rattle.view_lowering.specs.Promised.SeenWorlds.{plain_label, plain, plain_reference, plain_struct, plain_trait, plain_impl, all_kept, none_kept, stands_in, unbound_reference}
 use Rattle.view_lowering.specs.Seen.{struct_sorts, trait_sorts}
 use Rattle.assembly_laws.specs.Asking.{next_of}
 use Rattle.assembly_laws.specs.DeclaredWell.{are_distinct, is_single}

@@ -1,18 +1,19 @@
 -- The four records of a joined set are the joined set.
 use Rattle.std.proofs.Common.{◌≡◌, ◌⊎◌, inl, inr, ℕ, true, ◌&&◌, List, [], ◌∷◌, map, refl, ap, subst}
 use Rattle.std.specs.List.{list_all}
-use Rattle.type_terms.specs.Trees.{Trees, erase}
-use Rattle.type_terms.specs.Worlds.{World, StructDecl, TraitDecl, ImplDecl, Reference}
-use Rattle.type_terms.specs.Erased.{IsTerms, erased_reference, erased_struct, erased_trait, erased_impl}
-use Rattle.type_terms.specs.Supers.{dyns_of_bounds}
-use Rattle.type_terms.specs.Proofs.{In}
-use Rattle.type_terms.specs.Renumbering.{View}
-use Rattle.type_terms.specs.LinkedSet.{JoinedSet, all_args, all_written}
+use Rattle.type_terms.specs.Promised.Trees.{Trees, erase}
+use Rattle.type_terms.specs.Promised.Worlds.{World, StructDecl, TraitDecl, ImplDecl, Reference}
+use Rattle.type_terms.specs.Promised.Erased.{IsTerms, erased_reference, erased_struct, erased_trait, erased_impl}
+use Rattle.type_terms.specs.Promised.Supers.{dyns_of_bounds}
+use Rattle.type_terms.specs.Promised.Proofs.{In}
+use Rattle.type_terms.specs.Promised.Renumbering.{View}
+use Rattle.type_terms.specs.Promised.LinkedSet.{JoinedSet, all_args, all_written}
 use Rattle.type_terms.proofs.Members.{here, there, in-cases, in-nothing}
 use Rattle.type_terms.proofs.Walking.{left, right, both}
 use Rattle.type_terms.proofs.NoHolds.{member-each, each-member}
 use Rattle.type_terms.proofs.HeldSets.{held-linked}
-use Rattle.sessions.specs.JoinedSets.{ObeysTextRules, OrderedCrates, IsJoined, JoinedSetsAreFourRecords, HeldCratesAreLinked}
+use Rattle.sessions.specs.JoinedSets.{ObeysTextRules, IsJoined, JoinedSetsAreFourRecords, HeldCratesAreLinked}
+use Rattle.sessions.specs.Promised.AnsweredSets.{OrderedCrates}
 
 -- what a function leaves as it is, one by one and all together
 pub map-fixed : {A : Type 0} (f : A → A) (xs : List A) → ((x : A) → In x xs → f x ≡ x) → map f xs ≡ xs

@@ -1,11 +1,11 @@
 -- The frames of a session's questions are within numbers of what the crate sees, of the question and of the depth.
 use Rattle.std.proofs.Common.{◌≡◌, ◌≤◌, ◌+◌, ◌*◌, ℕ, zero, suc, max, List, [], ◌∷◌, inl, inr, Some, length, false, arith, refl, sym, ap, subst}
 use Rattle.std.proofs.Math.Nat.{le_refl, mul-le-mul_left}
-use Rattle.type_terms.specs.Label.{Sort, of_type, of_const, of_lifetime}
-use Rattle.type_terms.specs.Trees.{Trees, none, tree, IsA}
-use Rattle.type_terms.specs.Worlds.{World, Reference, TraitDecl}
-use Rattle.type_terms.specs.Proofs.{In}
-use Rattle.type_terms.specs.Terms.{Entry}
+use Rattle.type_terms.specs.Promised.Label.{Sort, of_type, of_const, of_lifetime}
+use Rattle.type_terms.specs.Promised.Trees.{Trees, none, tree, IsA}
+use Rattle.type_terms.specs.Promised.Worlds.{World, Reference, TraitDecl}
+use Rattle.type_terms.specs.Promised.Proofs.{In}
+use Rattle.type_terms.specs.Promised.Handles.{Entry}
 use Rattle.infer_table.specs.Canonical.{GoalTrees, canonical_form, canonical_label, goal_leaves, kind_in_clause, kind_of_leaf, relabeled}
 use Rattle.infer_table.specs.Content.{AreOlder}
 use Rattle.infer_table.specs.Responses.{AnswerTrees}
@@ -18,19 +18,21 @@ use Rattle.search_graph.specs.declared.delegate.Request.{Request}
 use Rattle.search_graph.specs.declared.delegate.Request.TheVariants.{Evaluate, EnterCandidate, FinishCandidate, IgnoreCandidate, Done}
 use Rattle.search_graph.specs.declared.delegate.Reply.{Reply}
 use Rattle.search_graph.specs.declared.delegate.Reply.TheVariants.{Begin, Result, Entered, Finished, Ignored}
-use Rattle.search_graph.specs.Bound.{frame_bound}
+use Rattle.search_graph.specs.Promised.FrameBound.{frame_bound}
 use Rattle.search_graph.specs.Computed.{Hears, nothing, also, given, computed, IsGiven, IsComputed, HoldsNoResult}
 use Rattle.search_graph.specs.Meaning.{Meaning, IsLawful, IsFair, IsReplyBy, AreReplies}
-use Rattle.declarations.specs.Elaboration.{elaborate}
+use Rattle.declarations.specs.Promised.Elaboration.{elaborate}
 use Rattle.declarations.specs.Items.{Items, written}
 use Rattle.evaluation.specs.declared.TheConstants.{FIXPOINT_STEP_LIMIT}
 use Rattle.evaluation.specs.Lists.{Every}
-use Rattle.evaluation.specs.Widths.{count, width, number_of, number_of_values, BindingsWithin}
+use Rattle.evaluation.specs.Promised.Widths.{count, width}
+use Rattle.evaluation.specs.Widths.{number_of, number_of_values, BindingsWithin}
 use Rattle.evaluation.proofs.Widths.{AllOne, ArePredicatesWithin, IsWithin, leaf-values-one, predicates-relabeled, predicates-resolved, width-of-predicates, within}
 use Rattle.evaluation.proofs.WidthLaws.{put-into-within, makes-canonical as makes-no-bounds}
 use Rattle.goal_frames.proofs.HandlerPrograms.{handlers-are-programs}
 use Rattle.assembly_laws.specs.Facts.{trees_of_clauses}
-use Rattle.assembly_laws.specs.Solver.{declared_width, greatest, number_at, supers_of, widest_of, width_of}
+use Rattle.assembly_laws.specs.Promised.Widths.{declared_width, greatest, number_at, supers_of, width_of}
+use Rattle.assembly_laws.specs.Solver.{widest_of}
 use Rattle.assembly_laws.proofs.CandidateWidths.{instance-within}
 use Rattle.assembly_laws.proofs.DeclaredWidths.{greatest-at}
 use Rattle.assembly_laws.proofs.Elaborating.{elaborated-so, every-in}
@@ -41,14 +43,15 @@ use Rattle.solver_context.specs.Evaluations.{IsFoundBySearch}
 use Rattle.solver_context.specs.Lawful.{solver-lawful}
 use Rattle.solver_context.specs.Roots.{values_in}
 use Rattle.solver_context.specs.Searching.{solver_meaning}
-use Rattle.text_definitions.specs.Declarations.{Declarations, Question}
-use Rattle.view_lowering.specs.Plain.{all_kept, plainly_seen_from, unbound_reference, unbound_references}
-use Rattle.view_lowering.specs.QuestionVariables.{variable_kinds}
+use Rattle.text_definitions.specs.Promised.Declarations.{Declarations, Question}
+use Rattle.view_lowering.specs.Promised.SeenWorlds.{all_kept, plainly_seen_from, unbound_reference}
+use Rattle.view_lowering.specs.Plain.{unbound_references}
+use Rattle.view_lowering.specs.Promised.Questions.{variable_kinds}
 use Rattle.sessions.specs.Asking.{asked_alone, goal_alone}
-use Rattle.sessions.specs.FrameBounds.{most_frames}
+use Rattle.sessions.specs.Promised.FrameBounds.{most_frames}
 use Rattle.sessions.specs.Frames.{AreTermsOfSorts, AskingsStartFrames, frames_for, resolved_over}
 use Rattle.sessions.specs.Goals.{goal_of}
-use Rattle.sessions.specs.Promises.{view_in}
+use Rattle.sessions.specs.Promised.Promises.{view_in}
 use Rattle.sessions.specs.Proving.{asked_outside, goal_asking}
 use Rattle.sessions.specs.Tables.{table_of}
 use Rattle.sessions.specs.declared.settling.TheConstants.{MAX_ASKINGS}

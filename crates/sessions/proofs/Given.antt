@@ -2,14 +2,14 @@
 use Rattle.std.proofs.Common.{◌≡◌, ℕ, zero, suc, ◌<◌, arith, ltb, Bool, true, false, not, if◌then◌else◌, List, [], ◌∷◌, refl, sym, ap, ◌∙◌, subst, Option, Some, None, ◌||◌, IsTrue, unwrap_or}
 use Rattle.std.specs.List.{slice_get}
 use Rattle.std.proofs.lemmas.Bool.Decides.{nat_tests}
-use Rattle.type_terms.specs.Label.{Label, Sort, of_type, of_const, of_lifetime, param, placeholder, infer, canonical, bound, fn_ptr, principal, uint, value, static}
-use Rattle.type_terms.specs.Trees.{Trees, none, tree, leaf, ◌+++◌, IsA, erase, erase_label, some_node, sort_of, is_sort}
-use Rattle.type_terms.specs.Proofs.{Every}
-use Rattle.type_terms.specs.Answers.{is_open, is_closed}
+use Rattle.type_terms.specs.Promised.Label.{Label, Sort, of_type, of_const, of_lifetime, param, placeholder, infer, canonical, bound, fn_ptr, principal, uint, value, static}
+use Rattle.type_terms.specs.Promised.Trees.{Trees, none, tree, leaf, ◌+++◌, IsA, erase, erase_label, some_node, sort_of, is_sort}
+use Rattle.type_terms.specs.Promised.Proofs.{Every}
+use Rattle.type_terms.specs.Promised.Answers.{is_open, is_closed}
 use Rattle.type_terms.proofs.Fitting.{child-shut, next-shut, not-true, or-no}
 use Rattle.infer_table.specs.Solutions.{Assignment, instance, IsSorted}
 use Rattle.infer_table.proofs.SolutionLaws.{is_sort-equal}
-use Rattle.overlap_check.specs.Questions.{FitKinds, of_kind, filled}
+use Rattle.type_terms.specs.Promised.Questions.{FitKinds, of_kind, filled}
 use Rattle.view_lowering.specs.QuestionVariables.{number_of, is_stray}
 use Rattle.type_terms.proofs.Matching.{or-false-left as no-left}
 use Rattle.type_terms.proofs.TermBasics.{is_sort-self}

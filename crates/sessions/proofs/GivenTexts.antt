@@ -1,9 +1,9 @@
 -- What a text says by the definitions that a reader follows is what it gives by those in which the reader of texts is proved.
 use Rattle.std.proofs.Common.{ℕ, List, Ok}
-use Rattle.text_definitions.specs.Declarations.{Declarations}
+use Rattle.text_definitions.specs.Promised.Declarations.{Declarations}
 use Rattle.text_definitions.specs.Text.{TextGives}
 use Rattle.language_definitions.proofs.SameTexts.{text-gives, text-says}
-use Rattle.sessions.specs.Subjects.{IsOfText}
+use Rattle.sessions.specs.Promised.Subjects.{IsOfText}
 
 pub text-given : (d : Declarations) (text : IsOfText d) → TextGives text.0 (Ok d)
 text-given d text = text-gives text.0 (Ok d) text.1

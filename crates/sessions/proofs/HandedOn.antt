@@ -1,20 +1,22 @@
 -- The answer to a question as it is handed on: what the search says, but maybe in place of a yes with a foreign value.
 use Rattle.std.proofs.Common.{◌≡◌, ℕ, true, List, [], ◌∷◌, inl, inr, sym, ap, subst}
 use Rattle.std.specs.Global.{Vec}
-use Rattle.type_terms.specs.Terms.{Entry, Keeps, args_lists}
+use Rattle.type_terms.specs.Promised.Handles.{Entry, Keeps}
+use Rattle.type_terms.specs.Terms.{args_lists}
 use Rattle.type_terms.specs.Kept.{has-later, trees-later}
-use Rattle.type_terms.specs.Kinds.{ArgsHeld}
-use Rattle.type_terms.specs.Worlds.{World, Reference}
+use Rattle.type_terms.specs.Promised.Handles.{ArgsHeld}
+use Rattle.type_terms.specs.Promised.Worlds.{World, Reference}
 use Rattle.type_terms.specs.declared.kinds.GenericArgKind.{GenericArgKind}
 use Rattle.term_folds.specs.declared.predicate.TraitRef.{TraitRef}
 use Rattle.declarations.specs.Applied.{TraitRefsHeld}
 use Rattle.declarations.specs.Held.{ReferenceHeld}
 use Rattle.declarations.specs.Items.{reference_in}
 use Rattle.candidate_assembly.specs.Solving.{Solving}
-use Rattle.text_definitions.specs.Declarations.{Question}
-use Rattle.view_lowering.specs.Plain.{unbound_reference, unbound_references}
+use Rattle.text_definitions.specs.Promised.Declarations.{Question}
+use Rattle.view_lowering.specs.Promised.SeenWorlds.{unbound_reference}
+use Rattle.view_lowering.specs.Plain.{unbound_references}
 use Rattle.sessions.specs.Foreign.{IsOwnAnswer}
-use Rattle.sessions.specs.Given.{AnswerValuesHeld}
+use Rattle.sessions.specs.Promised.Given.{AnswerValuesHeld}
 use Rattle.sessions.specs.Proving.{IsAnsweredInSearch, IsAnsweredBySolver, speak_of_own}
 use Rattle.sessions.specs.declared.answers.ProveAnswer.{ProveAnswer}
 use Rattle.sessions.specs.declared.answers.ProveAnswer.TheVariants.{Yes, Maybe, Unproved}

@@ -2,26 +2,26 @@
 use Rattle.std.proofs.Common.{◌≡◌, ◌<◌, ◌≤◌, ◌+◌, ◌-◌, ◌++◌, ℕ, zero, suc, List, [], ◌∷◌, map, take, get_or, length, Some, None, refl, sym, ap, ◌∙◌, subst, arith}
 use Rattle.std.proofs.lemmas.List.{take_more}
 use Rattle.std.specs.Prelude.{slice_get}
-use Rattle.type_terms.specs.Proofs.{Every}
-use Rattle.type_terms.specs.Supers.{IsHeld}
-use Rattle.type_terms.specs.Worlds.{World, Reference}
-use Rattle.type_terms.specs.Terms.{Entry}
+use Rattle.type_terms.specs.Promised.Proofs.{Every}
+use Rattle.type_terms.specs.Promised.Supers.{IsHeld}
+use Rattle.type_terms.specs.Promised.Worlds.{World, Reference}
+use Rattle.type_terms.specs.Promised.Handles.{Entry}
 use Rattle.term_folds.specs.declared.predicate.TraitRef.{TraitRef}
 use Rattle.declarations.specs.Applied.{references_in}
 use Rattle.declarations.specs.Items.{reference_in, written}
 use Rattle.search_graph.specs.SearchState.{SearchState}
 use Rattle.solver_context.specs.Contexts.{entries_of}
 use Rattle.solver_context.specs.declared.context.SolverCx.{SolverCx}
-use Rattle.text_definitions.specs.Declarations.{Declarations}
+use Rattle.text_definitions.specs.Promised.Declarations.{Declarations}
 use Rattle.candidate_assembly.specs.Fitting.{solving_of}
 use Rattle.candidate_assembly.specs.Solving.{Solving}
 use Rattle.candidate_assembly.specs.declared.solver.Solver.{Solver}
 use Rattle.workspace.specs.Numbered.{IsNumbered}
-use Rattle.sessions.specs.Promises.{view_in}
-use Rattle.sessions.specs.Releases.{StopsAt, StopsIn}
+use Rattle.sessions.specs.Promised.Promises.{view_in}
+use Rattle.sessions.specs.Promised.Releases.{StopsAt, StopsIn}
 use Rattle.sessions.specs.Resting.{Cached}
 use Rattle.sessions.specs.Sessions.{IsSession}
-use Rattle.sessions.specs.Subjects.{Subject, StaysOn}
+use Rattle.sessions.specs.Promised.Subjects.{Subject, StaysOn}
 use Rattle.sessions.specs.Supertraits.{AreOfOwn, IsCheckedAt, IsFirstTold, IsHeaderTold, IsHeldAt, SolverTells, SupertraitsAreTold}
 use Rattle.sessions.specs.declared.settling.Outcome.{Outcome}
 use Rattle.sessions.specs.declared.settling.Outcome.TheVariants.{Proved}

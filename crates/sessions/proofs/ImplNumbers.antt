@@ -2,15 +2,15 @@
 use Rattle.std.proofs.Common.{◌≡◌, ℕ, zero, suc, ◌<◌, arith, List, [], ◌∷◌, map, length, Some, sym, ap, ◌∙◌, subst}
 use Rattle.std.proofs.lemmas.Option.{same_Some}
 use Rattle.std.specs.List.{slice_get}
-use Rattle.type_terms.specs.Erased.{erased_impl, erased_world}
-use Rattle.type_terms.specs.Worlds.{World, ImplDecl, sees}
-use Rattle.type_terms.specs.Proofs.{In}
+use Rattle.type_terms.specs.Promised.Erased.{erased_impl, erased_world}
+use Rattle.type_terms.specs.Promised.Worlds.{World, ImplDecl, sees}
+use Rattle.type_terms.specs.Promised.Proofs.{In}
 use Rattle.type_terms.proofs.ProofEntries.{map-in}
 use Rattle.type_terms.proofs.Members.{here, there, in-filter, in-map}
-use Rattle.type_terms.specs.Terms.{Entry}
+use Rattle.type_terms.specs.Promised.Handles.{Entry}
 use Rattle.declarations.specs.Items.{Items, HeldImpl, IsAbove, declared, impl_in}
-use Rattle.declarations.specs.Merges.{Each}
-use Rattle.text_definitions.specs.Declarations.{Declarations, NamedImpl, world_of}
+use Rattle.declarations.specs.Promised.Elaboration.{Each}
+use Rattle.text_definitions.specs.Promised.Declarations.{Declarations, NamedImpl, world_of}
 use Rattle.view_lowering.specs.Seen.{rules_seen_from}
 use Rattle.workspace.specs.Numbered.{IsNumbered}
 use Rattle.sessions.specs.Checking.{HaveOwnNumbers}

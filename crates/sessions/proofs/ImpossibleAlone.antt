@@ -1,10 +1,10 @@
 -- A reference that is asked alone, as a goal in code, and while a context grows.
 use Rattle.std.proofs.Common.{◌≡◌, ◌⊎◌, inl, inr, ◌+◌, ℕ, Bool, true, false, List, [], refl, sym, ◌∙◌, ap, subst, Option, Some, Result, Ok, Err}
 use Rattle.std.specs.Prelude.{IfOk, IsTrue}
-use Rattle.type_terms.specs.Label.{Sort, of_trait, predicate}
-use Rattle.type_terms.specs.Trees.{none, tree}
-use Rattle.type_terms.specs.Worlds.{Reference}
-use Rattle.type_terms.specs.Terms.{Entry, Keeps}
+use Rattle.type_terms.specs.Promised.Label.{Sort, of_trait, predicate}
+use Rattle.type_terms.specs.Promised.Trees.{none, tree}
+use Rattle.type_terms.specs.Promised.Worlds.{Reference}
+use Rattle.type_terms.specs.Promised.Handles.{Entry, Keeps}
 use Rattle.term_folds.specs.declared.predicate.TraitRef.{TraitRef}
 use Rattle.infer_table.specs.Canonical.{GoalTrees, CanonicalForm, canonical_form, HasNoCanonical}
 use Rattle.infer_table.specs.Content.{Table, Ready, content, variables_of}

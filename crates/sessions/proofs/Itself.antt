@@ -1,7 +1,7 @@
 -- Each unknown without value stands for itself.
 use Rattle.std.proofs.Common.{◌≡◌, List, refl, ◌∙◌}
-use Rattle.type_terms.specs.Trees.{Trees, erase}
-use Rattle.type_terms.specs.Terms.{Entry}
+use Rattle.type_terms.specs.Promised.Trees.{Trees, erase}
+use Rattle.type_terms.specs.Promised.Handles.{Entry}
 use Rattle.infer_table.specs.Content.{Table, content, variables_of, Ready, IsProper}
 use Rattle.infer_table.specs.Solutions.{Assignment, Solves, IsSorted, instance, resolved}
 use Rattle.infer_table.proofs.ContentFacts.{older-sorted}

@@ -4,15 +4,16 @@ use Rattle.std.proofs.lemmas.Bool.Decides.{Decides-ltb}
 use Rattle.std.proofs.lemmas.Option.{same_Some, slice_get_within}
 use Rattle.std.specs.Prelude.{slice_get, nat_lt}
 use Rattle.std.specs.List.{list_all, list_any}
-use Rattle.type_terms.specs.Label.{Sort, of_type, adt}
-use Rattle.type_terms.specs.Trees.{Trees, none, tree, erase, some_node}
-use Rattle.type_terms.specs.Worlds.{World, CrateDecl, StructDecl, TraitDecl, ImplDecl, Reference, core, structs_named, traits_named, sees, view_of}
-use Rattle.type_terms.specs.Erased.{erased_reference, erased_struct, erased_trait, erased_impl}
-use Rattle.type_terms.specs.Core.{core_world}
-use Rattle.type_terms.specs.Proofs.{In}
-use Rattle.type_terms.specs.Walks.{struct_is, keeps_orphan_rule}
+use Rattle.type_terms.specs.Promised.Label.{Sort, of_type, adt}
+use Rattle.type_terms.specs.Promised.Trees.{Trees, none, tree, erase, some_node}
+use Rattle.type_terms.specs.Promised.Worlds.{World, CrateDecl, StructDecl, TraitDecl, ImplDecl, Reference, core, structs_named, traits_named, sees, view_of}
+use Rattle.type_terms.specs.Promised.Erased.{erased_reference, erased_struct, erased_trait, erased_impl}
+use Rattle.type_terms.specs.Promised.Core.{core_world}
+use Rattle.type_terms.specs.Promised.Proofs.{In}
+use Rattle.type_terms.specs.Promised.Walks.{struct_is, keeps_orphan_rule}
 use Rattle.type_terms.specs.Renumbering.{view_at}
-use Rattle.type_terms.specs.LinkedSet.{JoinedSet, sees_struct, sees_trait, well_written, in_scope, AutoAtHome, is_stray, dyns_rise, all_args, all_written}
+use Rattle.type_terms.specs.Promised.LinkedSet.{JoinedSet, AutoAtHome, is_stray, dyns_rise, all_args, all_written}
+use Rattle.type_terms.specs.Promised.Versions.{sees_struct, sees_trait, well_written, in_scope}
 use Rattle.type_terms.proofs.Members.{in-filter, filter-in, in-map, some-member, member-some, same-number, self-number, so-false}
 use Rattle.type_terms.proofs.NoHolds.{member-each, each-member}
 use Rattle.type_terms.proofs.TermRules.{erased-is-terms, sees-same}
@@ -22,18 +23,21 @@ use Rattle.type_terms.proofs.ArrangedTwice.{rising-in-order}
 use Rattle.type_terms.proofs.AddedByView.{keeps-in-set}
 use Rattle.type_terms.proofs.ViewLaws.{sees-itself}
 use Rattle.type_terms.proofs.SameNumbers.{hold-views}
-use Rattle.declarations.specs.Merges.{Each}
+use Rattle.declarations.specs.Promised.Elaboration.{Each}
 use Rattle.assembly_laws.specs.Declared.{is_declared}
 use Rattle.assembly_laws.specs.DeclaredWell.{is_single}
 use Rattle.type_terms.specs.Made.{terms, is_made}
-use Rattle.text_definitions.specs.Declarations.{Declarations, NamedCrate, NamedStruct, NamedTrait, NamedImpl, world_of, nothing_declared}
-use Rattle.view_lowering.specs.Plain.{plain, all_kept, none_kept, stands_in}
+use Rattle.text_definitions.specs.Promised.Declarations.{Declarations, NamedCrate, NamedStruct, NamedTrait, NamedImpl, world_of}
+use Rattle.text_definitions.specs.Declarations.{nothing_declared}
+use Rattle.view_lowering.specs.Promised.SeenWorlds.{plain, all_kept, none_kept, stands_in}
 use Rattle.view_lowering.specs.Seen.{param_sorts}
 use Rattle.view_lowering.proofs.Tests.{is_good, is_good_struct, is_good_trait, is_good_impl, all_stand}
 use Rattle.view_lowering.proofs.Trees.{and, and-left, and-right}
-use Rattle.type_terms.specs.Supers.{dyns_of_bounds, mentions_as}
-use Rattle.sessions.specs.JoinedSets.{IsPlainTerm, TraitObeys, ImplObeys, ObeysTextRules, OrderedCrates}
-use Rattle.sessions.specs.JoinedTexts.{text_world, CratesKeepOrphanRule, TextsAreJoined, TextsListInOrder}
+use Rattle.type_terms.specs.Promised.Supers.{dyns_of_bounds, mentions_as}
+use Rattle.sessions.specs.JoinedSets.{IsPlainTerm, TraitObeys, ImplObeys, ObeysTextRules}
+use Rattle.sessions.specs.Promised.AnsweredSets.{OrderedCrates}
+use Rattle.sessions.specs.Promised.CoherentTexts.{text_world}
+use Rattle.sessions.specs.JoinedTexts.{CratesKeepOrphanRule, TextsAreJoined, TextsListInOrder}
 use Rattle.sessions.proofs.FourRecords.{joined-of-four}
 use Rattle.sessions.proofs.Seeing.{AreOrdered, core-seen, from-core}
 use Rattle.sessions.proofs.TextTerms.{IsStructAt, IsTraitAt, TextNodes, IsPlaced}

@@ -1,13 +1,13 @@
 -- What is true of a session when it begins, and stays true.
 use Rattle.std.proofs.Common.{◌≡◌, ◌-◌, ℕ, Bool, true, false, List, [], Option, None, Result, Ok, Err, refl, sym, ap, ◌∙◌, subst}
 use Rattle.std.specs.Prelude.{IfOk, OnOk}
-use Rattle.type_terms.specs.Answers.{is_bounded, is_possible}
-use Rattle.type_terms.specs.Erased.{erased_world, erased_reference}
-use Rattle.type_terms.specs.Worlds.{Reference}
+use Rattle.type_terms.specs.Promised.Answers.{is_bounded, is_possible}
+use Rattle.type_terms.specs.Promised.Erased.{erased_world, erased_reference}
+use Rattle.type_terms.specs.Promised.Worlds.{Reference}
 use Rattle.type_terms.specs.Made.{terms as as_terms, is_made, is_in_range}
 use Rattle.type_terms.specs.declared.Fault.{Fault}
 use Rattle.infer_table.specs.Responses.{AnswerTrees}
-use Rattle.type_terms.specs.Terms.{Entry}
+use Rattle.type_terms.specs.Promised.Handles.{Entry}
 use Rattle.search_graph.specs.Cache.{AreJustified}
 use Rattle.search_graph.specs.Meaning as Search
 use Rattle.search_graph.specs.SearchState.{SearchState}
@@ -19,8 +19,8 @@ use Rattle.solver_context.specs.declared.context.SolverCx.{SolverCx}
 use Rattle.solver_context.specs.Contexts.{entries_of, IsReady as IsReadyContext, KeepsLimits}
 use Rattle.solver_context.specs.Evaluations.{IsFoundBySearch}
 use Rattle.solver_context.specs.Searching.{solver_meaning, of_limits}
-use Rattle.text_definitions.specs.Declarations.{Declarations, Question}
-use Rattle.view_lowering.specs.Plain.{plainly_seen_from, unbound_reference}
+use Rattle.text_definitions.specs.Promised.Declarations.{Declarations, Question}
+use Rattle.view_lowering.specs.Promised.SeenWorlds.{plainly_seen_from, unbound_reference}
 use Rattle.view_lowering.specs.Seen.{rules_seen_from}
 use Rattle.candidate_assembly.specs.declared.solver.Solver.{Solver}
 use Rattle.candidate_assembly.specs.Fitting.{solving_of}
@@ -33,12 +33,13 @@ use Rattle.candidate_assembly.specs.SolverMeaning.{solver_by_view}
 use Rattle.sessions.specs.declared.answers.RefuteAnswer.{RefuteAnswer}
 use Rattle.sessions.specs.declared.answers.RefuteAnswer.TheVariants.{No, Open}
 use Rattle.sessions.specs.Asking.{HasNoProof, IsLeftOpen, IsRefusedAlone, goal_alone, asked_alone}
-use Rattle.sessions.specs.Given.{refutation_of}
-use Rattle.sessions.specs.Promises.{view_in, IsRefutation, IsRefutedQuestion}
+use Rattle.sessions.specs.Promised.Given.{refutation_of}
+use Rattle.sessions.specs.Promised.Promises.{view_in, IsRefutation}
+use Rattle.sessions.specs.Promises.{IsRefutedQuestion}
 use Rattle.sessions.specs.Refusals.{session_meaning, IsToldPossible}
 use Rattle.sessions.specs.Resting.{Cached, AreAtRest}
 use Rattle.sessions.specs.Sessions.{SolverRests, SolvesView, IsSolvingOf, IsSession, HasLimits}
-use Rattle.sessions.specs.Subjects.{AsksRefutation}
+use Rattle.sessions.specs.Promised.Subjects.{AsksRefutation}
 use Rattle.sessions.proofs.ExactRefusals.{refusals-are-exact, question-formed, closed-by}
 use Rattle.sessions.proofs.LifetimesAlone.{refusal-is}
 use Rattle.sessions.proofs.Refusals.{refuted, plain-erased}

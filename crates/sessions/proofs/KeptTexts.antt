@@ -6,17 +6,19 @@ use Rattle.std.specs.Prelude.{slice_get, find, if◌then◌else◌, not, unwrap_
 use Rattle.std.specs.List.{flat_map}
 use Rattle.std.specs.Option.{option_map, option_map_or, option_or}
 use Rattle.std.specs.Str.{bytes_eq}
-use Rattle.type_terms.specs.Label.{of_type, param, adt}
-use Rattle.type_terms.specs.Trees.{Trees, tree, leaf, ◌+++◌}
-use Rattle.type_terms.specs.Worlds.{Reference, core, sees}
-use Rattle.type_terms.specs.Rules.{sized}
-use Rattle.type_terms.specs.Proofs.{In}
+use Rattle.type_terms.specs.Promised.Label.{of_type, param, adt}
+use Rattle.type_terms.specs.Promised.Trees.{Trees, tree, leaf, ◌+++◌}
+use Rattle.type_terms.specs.Promised.Worlds.{Reference, core, sees}
+use Rattle.type_terms.specs.Promised.Rules.{sized}
+use Rattle.type_terms.specs.Promised.Proofs.{In}
 use Rattle.type_terms.proofs.Members.{in-left, self-number, not-both}
-use Rattle.declarations.specs.Merges.{Each}
-use Rattle.text_definitions.specs.Syntax.{TypeTree, of_primitive, never_type, variable_type, named, reference_to, pointer_to, slice_of, array_of, tuple_of, fn_of, fn_to, dyn_of, Params, Bound, Clause, Line, crate_line, struct_line, trait_line, impl_line, prove_line, refute_line, later_line, supers_line}
-use Rattle.text_definitions.specs.Declarations.{Declarations, NamedCrate, NamedStruct, NamedTrait, NamedImpl, LaterImpl, Known, a_crate, a_struct, a_trait, world_of, known, last_crate, last_changed, last_later, impl_owner, nothing_declared, kinds_of}
+use Rattle.declarations.specs.Promised.Elaboration.{Each}
+use Rattle.text_definitions.specs.Promised.Syntax.{TypeTree, of_primitive, never_type, variable_type, named, reference_to, pointer_to, slice_of, array_of, tuple_of, fn_of, fn_to, dyn_of, Params, Bound, Clause, Line, crate_line, struct_line, trait_line, impl_line, prove_line, refute_line, later_line, supers_line}
+use Rattle.text_definitions.specs.Promised.Declarations.{Declarations, NamedCrate, NamedStruct, NamedTrait, NamedImpl, LaterImpl, Known, a_crate, a_struct, a_trait, world_of, known, last_crate, last_changed, last_later, impl_owner, kinds_of}
+use Rattle.text_definitions.specs.Declarations.{nothing_declared}
 use Rattle.text_definitions.specs.Uses.{args_count, kinds_of_struct, kinds_of_trait, type_uses, args_uses, clause_uses}
-use Rattle.text_definitions.specs.Faults.{fault_of, with_own, belongs_to_crate, is_impl, is_among, is_param, is_loaded_auto, is_own_struct, is_struct_in, is_auto_name, is_built_in, is_trait_of}
+use Rattle.text_definitions.specs.Faults.{fault_of, belongs_to_crate, is_impl, is_param, is_loaded_auto, is_own_struct, is_struct_in, is_built_in, is_trait_of}
+use Rattle.text_definitions.specs.Promised.Faults.{with_own, is_among, is_auto_name}
 use Rattle.text_definitions.specs.Lowering.{crate_number, place_among, trait_number, struct_label, type_label, type_tree, args_trees, with_self}
 use Rattle.text_definitions.specs.Adding.{added, item_meanings, crate_of, struct_of, trait_of, impl_of}
 use Rattle.text_definitions.specs.Written.{IsWritten}

@@ -5,30 +5,30 @@ use Rattle.std.proofs.lemmas.Option.{same_Some, slice_get-map}
 use Rattle.std.specs.Prelude.{slice_get, filter, if◌then◌else◌, IfOk}
 use Rattle.std.specs.Option.{option_map}
 use Rattle.std.specs.declared.vec.Vec.{Vec}
-use Rattle.type_terms.specs.Worlds.{World, Reference, ImplDecl}
-use Rattle.type_terms.specs.Proofs.{In, Every}
-use Rattle.type_terms.specs.Erased.{erased_reference, erased_impl}
-use Rattle.type_terms.specs.LinkedSet.{in_scope}
-use Rattle.type_terms.specs.Versions.{is_addable}
+use Rattle.type_terms.specs.Promised.Worlds.{World, Reference, ImplDecl}
+use Rattle.type_terms.specs.Promised.Proofs.{In, Every}
+use Rattle.type_terms.specs.Promised.Erased.{erased_reference, erased_impl}
+use Rattle.type_terms.specs.Promised.Versions.{in_scope}
+use Rattle.type_terms.specs.Promised.Versions.{is_addable}
 use Rattle.type_terms.proofs.Members.{in-filter, same-number}
-use Rattle.type_terms.specs.Terms.{Entry}
+use Rattle.type_terms.specs.Promised.Handles.{Entry}
 use Rattle.type_terms.specs.declared.Fault.{Fault}
 use Rattle.declarations.specs.Items.{declared}
 use Rattle.declarations.proofs.Growth.{all-declared}
 use Rattle.declarations.specs.declared.items.ImplDef.{ImplDef}
-use Rattle.text_definitions.specs.Declarations.{Declarations, NamedImpl, LaterImpl, section_impls}
+use Rattle.text_definitions.specs.Promised.Declarations.{Declarations, NamedImpl, LaterImpl, section_impls}
 use Rattle.view_lowering.specs.Later.{added_impls, added_in, unnumbered}
 use Rattle.solver_context.specs.declared.context.SolverCx.{SolverCx}
 use Rattle.solver_context.specs.Contexts.{entries_of}
 use Rattle.candidate_assembly.specs.declared.solver.Solver.{Solver}
-use Rattle.view_lowering.specs.Plain.{plain_impl, all_kept}
+use Rattle.view_lowering.specs.Promised.SeenWorlds.{plain_impl, all_kept}
 use Rattle.view_lowering.specs.Seen.{rules_seen_from}
 use Rattle.sessions.specs.Checking.{IsReadySolver, SolverStaysReady, rules_in}
-use Rattle.sessions.specs.Given.{later_of}
+use Rattle.sessions.specs.Promised.Given.{later_of}
 use Rattle.sessions.specs.Later.{header_in, section_headers, MayAdd, IsFirstRefused, IsAnswerOn}
-use Rattle.sessions.specs.Promises.{view_in}
-use Rattle.sessions.specs.Releases.{LaterAnswer as Answer, compatible, breaking, MayBeAdded, IsSectionOf, IsLaterAnswer}
-use Rattle.sessions.specs.Subjects.{IsOfText}
+use Rattle.sessions.specs.Promised.Promises.{view_in}
+use Rattle.sessions.specs.Promised.Releases.{LaterAnswer as Answer, compatible, breaking, MayBeAdded, IsSectionOf, IsLaterAnswer}
+use Rattle.sessions.specs.Promised.Subjects.{IsOfText}
 use Rattle.sessions.specs.declared.answers.LaterAnswer.{LaterAnswer}
 use Rattle.sessions.proofs.CratesAside.{addable-aside}
 use Rattle.sessions.proofs.FormedViews.{each-in, map-in}

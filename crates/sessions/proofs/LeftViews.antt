@@ -1,8 +1,8 @@
 -- What a session leaves of the text that it was made on.
 use Rattle.std.proofs.Common.{◌≡◌, ℕ, sym, subst}
-use Rattle.text_definitions.specs.Declarations.{Declarations}
+use Rattle.text_definitions.specs.Promised.Declarations.{Declarations}
 use Rattle.sessions.specs.SeenViews.{IsViewOf, IsLeftView}
-use Rattle.sessions.specs.Subjects.{Subject}
+use Rattle.sessions.specs.Promised.Subjects.{Subject}
 use Rattle.sessions.specs.declared.seen_view.SeenView.{SeenView}
 
 pub left-view : (s : Subject) (d : Declarations) (handles : ℕ) (v : SeenView) → s.declarations ≡ d → s.handles ≡ handles → IsViewOf s.declarations s.of_crate s.handles v → IsLeftView d handles v

@@ -1,10 +1,10 @@
 -- A table without values refuses no answer to a goal whose variables are lifetimes alone.
 use Rattle.std.proofs.Common.{◌≡◌, ℕ, Bool, true, false, ◌&&◌, ◌||◌, if◌then◌else◌, List, [], ◌∷◌, map, Option, Some, None, inl, inr, refl, sym, ◌∙◌, ap, subst}
 use Rattle.std.specs.Prelude.{IsSome, option_map}
-use Rattle.type_terms.specs.Label.{Label, of_type, of_const, of_lifetime, static, param, placeholder, infer}
-use Rattle.type_terms.specs.Trees.{Trees, none, tree, leaf, erase, erase_label, sort_of, is_sort, some_node}
-use Rattle.type_terms.specs.Worlds.{Reference}
-use Rattle.type_terms.specs.Answers.{is_open}
+use Rattle.type_terms.specs.Promised.Label.{Label, of_type, of_const, of_lifetime, static, param, placeholder, infer}
+use Rattle.type_terms.specs.Promised.Trees.{Trees, none, tree, leaf, erase, erase_label, sort_of, is_sort, some_node}
+use Rattle.type_terms.specs.Promised.Worlds.{Reference}
+use Rattle.type_terms.specs.Promised.Answers.{is_open}
 use Rattle.type_terms.proofs.Fitting.{child-shut, next-shut}
 use Rattle.type_terms.specs.Made.{terms, is_made}
 use Rattle.type_terms.proofs.Made.{left, false-true}

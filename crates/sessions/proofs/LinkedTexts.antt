@@ -1,15 +1,17 @@
 -- Crates of any texts that were accepted and held are a linked set.
 use Rattle.std.proofs.Common.{inl, inr, [], ◌++◌, Ok}
-use Rattle.type_terms.specs.Proofs.{In}
-use Rattle.type_terms.specs.Renumbering.{View}
-use Rattle.type_terms.specs.LinkedSet.{LinkedSet}
+use Rattle.type_terms.specs.Promised.Proofs.{In}
+use Rattle.type_terms.specs.Promised.Renumbering.{View}
+use Rattle.type_terms.specs.Promised.LinkedSet.{LinkedSet}
 use Rattle.type_terms.specs.ArrangingLaws.{Listed, HoldsInOrder}
 use Rattle.type_terms.proofs.Members.{in-append}
 use Rattle.type_terms.proofs.HeldSets.{held-linked}
 use Rattle.type_terms.proofs.ArrangedHeld.{held-in-any-order}
-use Rattle.overlap_check.specs.SessionLaws.{HeadlineHolds, AnswersHoldEverywhere, HeadlineInAnyOrder}
-use Rattle.sessions.specs.JoinedTexts.{text_world}
-use Rattle.sessions.specs.AnsweredSets.{IsAcceptedAndHeld, TextsObeyTheirRules, AnsweredSetsAreLinked, AnsweredSetsAreCoherent, AnsweredSetsInAnyOrder}
+use Rattle.type_terms.specs.Promised.SetLaws.{HeadlineHolds, AnswersHoldEverywhere}
+use Rattle.overlap_check.specs.SessionLaws.{HeadlineInAnyOrder}
+use Rattle.sessions.specs.Promised.CoherentTexts.{text_world}
+use Rattle.sessions.specs.Promised.AnsweredSets.{IsAcceptedAndHeld, AnsweredSetsAreLinked, AnsweredSetsAreCoherent}
+use Rattle.sessions.specs.AnsweredSets.{TextsObeyTheirRules, AnsweredSetsInAnyOrder}
 use Rattle.sessions.proofs.KeptTexts.{texts-are-kept}
 use Rattle.sessions.proofs.JoinedTexts.{text-obeys}
 use Rattle.sessions.proofs.FourRecords.{joined-of-four}

@@ -1,8 +1,8 @@
 -- Lists that a loop goes through.
 use Rattle.std.proofs.Common.{◌≡◌, ◌<◌, ◌+◌, ℕ, zero, suc, arith, List, [], ◌∷◌, ◌++◌, length, take, get_or, slice_get, Some, ◌⊎◌, inl, inr, refl, ap, sym, ◌∙◌, subst}
 use Rattle.std.proofs.lemmas.List.{take_more}
-use Rattle.type_terms.specs.Proofs.{In}
-use Rattle.declarations.specs.Merges.{Each}
+use Rattle.type_terms.specs.Promised.Proofs.{In}
+use Rattle.declarations.specs.Promised.Elaboration.{Each}
 
 each-at : {A : Type 0} (P : A → Type 0) (xs : List A) (i : ℕ) (d : A) → Each P xs → i < length xs → P (get_or xs i d)
 each-at P [] i d h l = absurd (omega arith)

@@ -1,7 +1,8 @@
 -- Instances of what is declared are made of such labels as their arguments are.
 use Rattle.std.proofs.Common.{◌≡◌, ℕ, zero, suc, Bool, true, false, not, ◌&&◌, ◌||◌, refl, sym, ◌∙◌, ap, subst}
-use Rattle.type_terms.specs.Label.{Label, Sort, of_type, of_const, of_lifetime, never, static, dynamic, principal, auto_trait, predicate, infer, param, placeholder, canonical, bound, inside}
-use Rattle.type_terms.specs.Trees.{Trees, none, tree, is_no_tree, is_sort, sort_of, some_node, nth, shift, instantiate}
+use Rattle.type_terms.specs.Promised.Label.{Label, Sort, of_type, of_const, of_lifetime, never, static, dynamic, principal, auto_trait, predicate, infer, param, placeholder, canonical, bound, inside}
+use Rattle.type_terms.specs.Promised.Trees.{Trees, none, tree, is_sort, sort_of, some_node, nth, shift, instantiate}
+use Rattle.type_terms.specs.Trees.{is_no_tree}
 use Rattle.type_terms.specs.Made.{Standing, terms, bounds, traits, is_leaf_label, is_made}
 use Rattle.type_terms.proofs.Made.{left, right, both, false-true, no-tree, IsLast, made-ordinary, makes-ordinary, made-rest, made-alone, made-append, last-bound, last-trait, never-dynamic, never-dynamic-bound, never-principal}
 use Rattle.assembly_laws.specs.Declared.{is_declared, is_lifetime_parameter}

@@ -3,25 +3,26 @@ use Rattle.std.proofs.Common.{◌≡◌, ◌==◌, ◌<◌, ◌≤◌, ◌+◌, 
 use Rattle.std.proofs.lemmas.Bool.Decides.{nat_tests}
 use Rattle.std.specs.Prelude.{filter, nat_lt}
 use Rattle.type_terms.specs.Codes.{same_label}
-use Rattle.type_terms.specs.Label.{Label, of_type, of_const, of_lifetime, param, placeholder, infer, canonical, bound, principal}
-use Rattle.type_terms.specs.Trees.{Trees, none, tree, erase, erase_label}
-use Rattle.type_terms.specs.Answers.{CommonInstance}
-use Rattle.type_terms.specs.Proofs.{In}
-use Rattle.type_terms.specs.Rules.{same_head}
-use Rattle.type_terms.specs.Erased.{erased_impl}
-use Rattle.type_terms.specs.Worlds.{Reference, ImplDecl}
+use Rattle.type_terms.specs.Promised.Label.{Label, of_type, of_const, of_lifetime, param, placeholder, infer, canonical, bound, principal}
+use Rattle.type_terms.specs.Promised.Trees.{Trees, none, tree, erase, erase_label}
+use Rattle.type_terms.specs.Promised.Answers.{CommonInstance}
+use Rattle.type_terms.specs.Promised.Proofs.{In}
+use Rattle.type_terms.specs.Promised.Rules.{same_head}
+use Rattle.type_terms.specs.Promised.Erased.{erased_impl}
+use Rattle.type_terms.specs.Promised.Worlds.{Reference, ImplDecl}
 use Rattle.type_terms.proofs.Applies.{same-label-itself}
 use Rattle.type_terms.proofs.ProofEntries.{map-in}
 use Rattle.type_terms.proofs.Members.{in-cases, in-nothing, in-map, filter-in, self-number}
 use Rattle.type_terms.proofs.Walking.{both}
-use Rattle.type_terms.specs.Terms.{Entry, trees_at}
+use Rattle.type_terms.specs.Promised.Handles.{Entry, trees_at}
 use Rattle.type_terms.specs.declared.ImplId.{ImplId}
 use Rattle.type_terms.specs.declared.TheConstants.{MAX_INDEX}
 use Rattle.declarations.specs.Apart.{are_apart}
 use Rattle.declarations.specs.Heads.{is_rigid, head_of, begins_declared}
 use Rattle.declarations.specs.Held.{AreHeld, ImplHeld}
 use Rattle.declarations.specs.Items.{Items, HeldImpl, declared, written, impl_in, reference_in}
-use Rattle.declarations.specs.Merges.{Each, Rises}
+use Rattle.declarations.specs.Promised.Elaboration.{Each}
+use Rattle.declarations.specs.Merges.{Rises}
 use Rattle.declarations.specs.Relevant.{impls_named, is_relevant_to, is_match, matches_in, is_above, next_above}
 use Rattle.declarations.specs.declared.items.ImplDef.{ImplDef}
 use Rattle.overlap_check.specs.Heads.{NeverMeet}

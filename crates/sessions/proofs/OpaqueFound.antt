@@ -1,18 +1,19 @@
 -- An impl over the terms of an interner, with placeholders in the place of its parameters, and what is asked of the impl of a number.
 use Rattle.std.proofs.Common.{◌≡◌, ◌==◌, ℕ, true, false, List, [], ◌∷◌, map, None, refl, sym, ap, ◌∙◌, subst}
-use Rattle.type_terms.specs.Label.{Sort}
-use Rattle.type_terms.specs.Proofs.{In}
-use Rattle.type_terms.specs.Supers.{opaque_reference}
-use Rattle.type_terms.specs.Trees.{Trees}
-use Rattle.type_terms.specs.Worlds.{World, Reference, ImplDecl, with_args, all_with_args}
+use Rattle.type_terms.specs.Promised.Label.{Sort}
+use Rattle.type_terms.specs.Promised.Proofs.{In}
+use Rattle.type_terms.specs.Promised.Supers.{opaque_reference}
+use Rattle.type_terms.specs.Promised.Trees.{Trees}
+use Rattle.type_terms.specs.Promised.Worlds.{World, Reference, ImplDecl, with_args, all_with_args}
 use Rattle.type_terms.proofs.Members.{here, there}
-use Rattle.type_terms.specs.Terms.{Entry, Keeps, Lawful, trees_at}
+use Rattle.type_terms.specs.Promised.Handles.{Entry, Keeps, trees_at}
+use Rattle.type_terms.specs.Terms.{Lawful}
 use Rattle.term_folds.specs.Arguments.{first_misfit}
 use Rattle.term_folds.specs.declared.predicate.TraitRef.{TraitRef}
 use Rattle.declarations.specs.Applied.{TraitRefsHeld, AreApplied, IsApplied, SpeaksOf, references_in, sort_of_param}
 use Rattle.declarations.specs.Held.{ImplHeld}
 use Rattle.declarations.specs.Items.{Items, impl_in, reference_in}
-use Rattle.declarations.specs.Merges.{Each}
+use Rattle.declarations.specs.Promised.Elaboration.{Each}
 use Rattle.declarations.specs.Relevant.{impls_named}
 use Rattle.declarations.specs.declared.items.ImplDef.{ImplDef}
 use Rattle.declarations.proofs.Growth.{args-same}

@@ -1,20 +1,20 @@
 -- The header and the where-clauses of an impl that a crate sees of a text without a fault, with placeholders for its parameters, and the
 -- supertraits of the header: they are formed, so that these may be asked for under the clauses.
 use Rattle.std.proofs.Common.{◌≡◌, ◌⊎◌, true, not, List, [], ◌∷◌, inl, inr, ◌∙◌, ap, subst}
-use Rattle.type_terms.specs.Proofs.{In}
-use Rattle.type_terms.specs.Supers.{opaque_reference}
-use Rattle.type_terms.specs.Trees.{some_node}
-use Rattle.type_terms.specs.Worlds.{World, Reference, ImplDecl}
+use Rattle.type_terms.specs.Promised.Proofs.{In}
+use Rattle.type_terms.specs.Promised.Supers.{opaque_reference}
+use Rattle.type_terms.specs.Promised.Trees.{some_node}
+use Rattle.type_terms.specs.Promised.Worlds.{World, Reference, ImplDecl}
 use Rattle.type_terms.proofs.ProofEntries.{map-in}
 use Rattle.type_terms.proofs.Members.{there, in-cases, in-nothing}
 use Rattle.type_terms.specs.Made.{terms, is_made}
-use Rattle.type_terms.specs.Terms.{Entry, trees_at}
+use Rattle.type_terms.specs.Promised.Handles.{Entry, trees_at}
 use Rattle.type_terms.proofs.Made.{left}
 use Rattle.term_folds.specs.declared.predicate.TraitRef.{TraitRef}
 use Rattle.declarations.specs.Applied.{IsApplied, sorts_of}
-use Rattle.declarations.specs.Elaboration.{supertraits}
+use Rattle.declarations.specs.Promised.Elaboration.{supertraits}
 use Rattle.declarations.specs.Items.{Items, reference_in, trait_at, written}
-use Rattle.text_definitions.specs.Declarations.{Declarations}
+use Rattle.text_definitions.specs.Promised.Declarations.{Declarations}
 use Rattle.assembly_laws.specs.Declared.{is_counted, is_declared, are_terms}
 use Rattle.assembly_laws.specs.DeclaredWell.{IsDeclaredWell, is_declared_well}
 use Rattle.assembly_laws.proofs.DeclaredParts.{header-declared, clause-declared}
@@ -26,7 +26,7 @@ use Rattle.view_lowering.proofs.WellSeen.{texts-seen-well}
 use Rattle.solver_exactness.specs.FormedFacts.{Sorts, FitsSorts, IsFormedView}
 use Rattle.sessions.specs.Fitting.{sorts_in}
 use Rattle.sessions.specs.Questions.{AreFixedReferences, IsFormedAsWritten}
-use Rattle.sessions.specs.Subjects.{IsOfText}
+use Rattle.sessions.specs.Promised.Subjects.{IsOfText}
 use Rattle.sessions.specs.Supertraits.{SolversImplsApply, opaque_clauses}
 use Rattle.sessions.proofs.AskedGoals.{all-fixed, none-pass, fixed-unbound}
 use Rattle.sessions.proofs.ClausesApply.{declared-sorts, unbound-outer}

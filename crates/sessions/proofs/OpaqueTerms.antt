@@ -1,16 +1,18 @@
 -- Terms with placeholders in the place of parameters: what is put in makes each parameter opaque, and they stay formed.
 use Rattle.std.proofs.Common.{◌≡◌, ℕ, zero, suc, ◌+◌, max, Bool, true, false, not, ◌||◌, List, [], ◌∷◌, ◌++◌, Some, refl, sym, ap, ◌∙◌, subst, arith}
 use Rattle.std.proofs.lemmas.Option.{same_Some}
-use Rattle.type_terms.specs.Label.{Label, Sort, of_type, of_const, of_lifetime, static, fn_ptr, dynamic, principal, auto_trait, predicate, param, placeholder, infer, canonical, bound, inside}
-use Rattle.type_terms.specs.Rules.{autos_with, asked}
-use Rattle.type_terms.specs.Supers.{opaque, opaque_reference}
-use Rattle.type_terms.specs.Erased.{erased_reference}
-use Rattle.type_terms.specs.Trees.{Trees, none, tree, leaf, ◌+++◌, is_no_tree, is_sort, sort_of, nth, shift, instantiate, outer_binder, erase}
-use Rattle.type_terms.specs.Worlds.{World, Reference}
+use Rattle.type_terms.specs.Promised.Label.{Label, Sort, of_type, of_const, of_lifetime, static, fn_ptr, dynamic, principal, auto_trait, predicate, param, placeholder, infer, canonical, bound, inside}
+use Rattle.type_terms.specs.Promised.Rules.{autos_with, asked}
+use Rattle.type_terms.specs.Promised.Supers.{opaque, opaque_reference}
+use Rattle.type_terms.specs.Promised.Erased.{erased_reference}
+use Rattle.type_terms.specs.Promised.Trees.{Trees, none, tree, leaf, ◌+++◌, is_sort, sort_of, nth, shift, instantiate, erase}
+use Rattle.type_terms.specs.Trees.{is_no_tree, outer_binder}
+use Rattle.type_terms.specs.Promised.Worlds.{World, Reference}
 use Rattle.type_terms.proofs.TreeLaws.{append-assoc, append-none}
-use Rattle.type_terms.specs.Kinds.{ArgsHeld, arg_trees, args_trees}
+use Rattle.type_terms.specs.Promised.Handles.{ArgsHeld, arg_trees}
+use Rattle.type_terms.specs.Kinds.{args_trees}
 use Rattle.type_terms.specs.Kept.{args-trees-later}
-use Rattle.type_terms.specs.Terms.{Entry, Keeps}
+use Rattle.type_terms.specs.Promised.Handles.{Entry, Keeps}
 use Rattle.type_terms.specs.declared.kinds.GenericArgKind.{GenericArgKind}
 use Rattle.type_terms.specs.Made.{Standing, terms, bounds, traits, is_leaf_label, is_made}
 use Rattle.type_terms.proofs.Made.{left, right, both, false-true, no-tree, IsLast, made-ordinary, makes-ordinary, last-bound, last-trait, never-dynamic, never-dynamic-bound, never-principal}
@@ -20,7 +22,7 @@ use Rattle.assembly_laws.specs.Declared.{is_declared}
 use Rattle.overlap_check.specs.Fresh.{HasArguments}
 use Rattle.solver_exactness.specs.FormedFacts.{Sorts, NodesFit}
 use Rattle.solver_exactness.proofs.FormedInstances.{node-same}
-use Rattle.view_lowering.specs.Plain.{plain, plain_reference}
+use Rattle.view_lowering.specs.Promised.SeenWorlds.{plain, plain_reference}
 use Rattle.sessions.specs.Goals.{is_fixed}
 use Rattle.sessions.specs.Placeholders.{placeholders_from}
 use Rattle.sessions.proofs.SeenPlainly.{plain-erased}

@@ -1,11 +1,11 @@
 -- Of a decided question the solver says neither `Unproved` nor `Maybe` wrongly.
 use Rattle.std.proofs.Common.{◌≡◌, ℕ, Bool, true, false, not, ◌||◌, List, [], ◌∷◌, map, Option, Some, None, inl, inr, refl, sym, ◌∙◌, ap, subst}
-use Rattle.type_terms.specs.Answers.{SingleWay, IsUnambiguous}
-use Rattle.type_terms.specs.Label.{Label, Sort, of_type, of_const, of_lifetime, infer, canonical, bound}
-use Rattle.type_terms.specs.Proofs.{HasProof}
-use Rattle.type_terms.specs.Erased.{erased_reference}
-use Rattle.type_terms.specs.Trees.{Trees, none, tree, some_node}
-use Rattle.type_terms.specs.Worlds.{World, Reference}
+use Rattle.type_terms.specs.Promised.Answers.{SingleWay, IsUnambiguous}
+use Rattle.type_terms.specs.Promised.Label.{Label, Sort, of_type, of_const, of_lifetime, infer, canonical, bound}
+use Rattle.type_terms.specs.Promised.Proofs.{HasProof}
+use Rattle.type_terms.specs.Promised.Erased.{erased_reference}
+use Rattle.type_terms.specs.Promised.Trees.{Trees, none, tree, some_node}
+use Rattle.type_terms.specs.Promised.Worlds.{World, Reference}
 use Rattle.type_terms.proofs.Members.{in-nothing}
 use Rattle.type_terms.specs.Made.{terms}
 use Rattle.type_terms.proofs.Made.{right, false-true}
@@ -22,12 +22,13 @@ use Rattle.evaluation.specs.Tables.{frame_tables}
 use Rattle.evaluation.proofs.Labels.{IsGoodLabel, made-labels}
 use Rattle.evaluation.proofs.Reading.{EachLabel}
 use Rattle.solver_context.specs.Roots.{left_by}
-use Rattle.declarations.specs.Elaboration.{elaborate}
+use Rattle.declarations.specs.Promised.Elaboration.{elaborate}
 use Rattle.declarations.specs.Items.{written}
-use Rattle.text_definitions.specs.Declarations.{Declarations, Question}
-use Rattle.view_lowering.specs.Plain.{unbound_reference, unbound_references}
-use Rattle.view_lowering.specs.QuestionVariables.{variable_kinds}
-use Rattle.view_lowering.specs.Questions.{IsQuestion}
+use Rattle.text_definitions.specs.Promised.Declarations.{Declarations, Question}
+use Rattle.view_lowering.specs.Promised.SeenWorlds.{unbound_reference}
+use Rattle.view_lowering.specs.Plain.{unbound_references}
+use Rattle.view_lowering.specs.Promised.Questions.{variable_kinds}
+use Rattle.view_lowering.specs.Promised.Questions.{IsQuestion}
 use Rattle.candidate_assembly.specs.Solving.{Solving}
 use Rattle.candidate_assembly.specs.SolverMeaning.{solver_by_view}
 use Rattle.sessions.specs.Answers.{IsRightOf}
@@ -35,14 +36,14 @@ use Rattle.sessions.specs.Decided.{IsAnsweredRightly}
 use Rattle.sessions.specs.DecidedAnswers.{OtherAnswersAreRight}
 use Rattle.sessions.specs.Fitting.{sorts_in}
 use Rattle.sessions.specs.Goals.{goal_of, is_fixed, are_fixed}
-use Rattle.sessions.specs.Promises.{view_in}
+use Rattle.sessions.specs.Promised.Promises.{view_in}
 use Rattle.sessions.specs.Foreign.{is_unknown_term}
 use Rattle.sessions.specs.Proving.{is_bound_term, goal_asking, IsAnsweredBySolver, IsRefusedGoal, IsUnsettledGoal}
 use Rattle.sessions.specs.declared.answers.ProveAnswer.TheVariants.{Maybe}
-use Rattle.type_terms.specs.Terms.{Entry}
+use Rattle.type_terms.specs.Promised.Handles.{Entry}
 use Rattle.sessions.specs.Questions.{IsFormedAsWritten}
 use Rattle.sessions.specs.Sessions.{IsSolvingOf}
-use Rattle.sessions.specs.Subjects.{IsOfText}
+use Rattle.sessions.specs.Promised.Subjects.{IsOfText}
 use Rattle.sessions.specs.Tables.{table_of}
 use Rattle.sessions.proofs.BareAnswers.{bare-is-left}
 use Rattle.sessions.proofs.DecidedAnswers.{decided-are-answered, asked-is, clauses-are, formed-so, single}

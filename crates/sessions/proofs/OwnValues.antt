@@ -1,19 +1,19 @@
 -- Values that speak of what their question speaks of: with lifetimes and without; and what follows of a question without parameters.
 use Rattle.std.proofs.Common.{◌≡◌, ℕ, Bool, true, false, not, ◌||◌, ◌&&◌, ◌==◌, if◌then◌else◌, filter, List, [], ◌∷◌, map, refl, sym, ap, ◌∙◌, subst, IsTrue}
 use Rattle.std.specs.List.{list_any}
-use Rattle.type_terms.specs.Answers.{is_closed, is_undeclared, is_variable}
-use Rattle.type_terms.specs.Erased.{erased_reference, erased_struct}
-use Rattle.type_terms.specs.Label.{Label, Sort, of_type, of_const, of_lifetime, bool, value, static, adt, fn_ptr, principal, auto_trait, predicate, of_trait, param, placeholder, infer, canonical, bound}
-use Rattle.type_terms.specs.Proofs.{Every, HasProof}
-use Rattle.type_terms.specs.Trees.{Trees, none, tree, leaf, erase, erase_label, some_node}
-use Rattle.type_terms.specs.Worlds.{World, CrateDecl, StructDecl, Reference}
+use Rattle.type_terms.specs.Promised.Answers.{is_closed, is_undeclared, is_variable}
+use Rattle.type_terms.specs.Promised.Erased.{erased_reference, erased_struct}
+use Rattle.type_terms.specs.Promised.Label.{Label, Sort, of_type, of_const, of_lifetime, bool, value, static, adt, fn_ptr, principal, auto_trait, predicate, of_trait, param, placeholder, infer, canonical, bound}
+use Rattle.type_terms.specs.Promised.Proofs.{Every, HasProof}
+use Rattle.type_terms.specs.Promised.Trees.{Trees, none, tree, leaf, erase, erase_label, some_node}
+use Rattle.type_terms.specs.Promised.Worlds.{World, CrateDecl, StructDecl, Reference}
 use Rattle.type_terms.proofs.Fitting.{or-no, child-shut, next-shut}
 use Rattle.type_terms.proofs.Made.{false-true}
 use Rattle.assembly_laws.proofs.ErasedCandidates.{without_lifetimes}
-use Rattle.overlap_check.specs.Questions.{FitKinds, filled_reference, HoldUnknownsAlone, SolutionBy, IsProveAnswer, yes, is_bound_place}
+use Rattle.type_terms.specs.Promised.Questions.{FitKinds, filled_reference, HoldUnknownsAlone, SolutionBy, IsProveAnswer, yes, is_bound_place}
 use Rattle.overlap_check.proofs.Filling.{filled-shut}
 use Rattle.sessions.specs.Foreign.{is_unknown_term, is_foreign_term, are_own_terms}
-use Rattle.sessions.specs.OwnValues.{is_unknown, is_same_param, stands_in, is_stray, is_foreign, are_own, HasNoParameter, SpeakOfOwn}
+use Rattle.sessions.specs.Promised.OwnValues.{is_unknown, is_same_param, stands_in, is_stray, is_foreign, are_own, HasNoParameter, SpeakOfOwn}
 use Rattle.type_terms.proofs.Matching.{or-false-left as no-left}
 use Rattle.type_terms.proofs.BooleanBasics.{or-swap as swapped}
 

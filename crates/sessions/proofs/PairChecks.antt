@@ -1,24 +1,25 @@
 -- What was found of two impls by their numbers, and what the answers to their goals say of the pair.
 use Rattle.std.proofs.Common.{◌≡◌, ℕ, zero, ◌+◌, Bool, true, false, IsTrue, List, map, refl, sym, ap, ◌∙◌, subst, Option, Some, None, Result, Ok, Err, ◌⊎◌, inl, inr, ◌||◌, not}
 use Rattle.std.specs.Prelude.{IfOk, IfSome}
-use Rattle.type_terms.specs.Label.{Label, Sort, param, placeholder, infer, canonical, bound, inside}
-use Rattle.type_terms.specs.Trees.{Trees, none, tree, erase, some_node, shift, nth, instantiate}
-use Rattle.type_terms.specs.Erased.{erased_impl, erased_reference}
-use Rattle.type_terms.specs.Worlds.{World, Reference, ImplDecl}
-use Rattle.type_terms.specs.Proofs.{In}
-use Rattle.type_terms.specs.Answers.{is_open, CommonInstance}
-use Rattle.type_terms.specs.LinkedSet.{is_stray, IsPair}
+use Rattle.type_terms.specs.Promised.Label.{Label, Sort, param, placeholder, infer, canonical, bound, inside}
+use Rattle.type_terms.specs.Promised.Trees.{Trees, none, tree, erase, some_node, shift, nth, instantiate}
+use Rattle.type_terms.specs.Promised.Erased.{erased_impl, erased_reference}
+use Rattle.type_terms.specs.Promised.Worlds.{World, Reference, ImplDecl}
+use Rattle.type_terms.specs.Promised.Proofs.{In}
+use Rattle.type_terms.specs.Promised.Answers.{is_open, CommonInstance}
+use Rattle.type_terms.specs.Promised.LinkedSet.{is_stray, IsPair}
 use Rattle.type_terms.proofs.ProofEntries.{map-in}
 use Rattle.type_terms.proofs.Fitting.{child-shut, next-shut, or-no, append-shut, not-true}
 use Rattle.type_terms.proofs.Members.{in-map}
-use Rattle.type_terms.specs.Terms.{Entry, Lawful, trees_at}
+use Rattle.type_terms.specs.Promised.Handles.{Entry, trees_at}
+use Rattle.type_terms.specs.Terms.{Lawful}
 use Rattle.type_terms.specs.declared.Fault.{Fault}
 use Rattle.type_terms.specs.declared.ImplId.{ImplId}
 use Rattle.term_folds.specs.declared.predicate.TraitRef.{TraitRef}
 use Rattle.declarations.specs.Applied.{references_in}
 use Rattle.declarations.specs.Held.{ReferenceHeld}
 use Rattle.declarations.specs.Items.{Items, HeldImpl, reference_in, impl_in, impl_at, declared}
-use Rattle.declarations.specs.Merges.{Each}
+use Rattle.declarations.specs.Promised.Elaboration.{Each}
 use Rattle.declarations.specs.declared.items.ImplDef.{ImplDef}
 use Rattle.infer_table.specs.Canonical.{GoalTrees, canonical_form}
 use Rattle.infer_table.specs.Content.{Table, content}
@@ -42,9 +43,9 @@ use Rattle.candidate_assembly.specs.Solving.{Solving, solver_for, meaning_for}
 use Rattle.overlap_check.specs.Goals.{HasGoals, unknown_kinds}
 use Rattle.overlap_check.specs.Headers.{AreDisjointImpls, IsIntersection, IsSolved, IsPosed, IsOfTable, IsWithoutVariables, resolved_reference, goals_over}
 use Rattle.overlap_check.specs.Partners.{IsPairAt, NoPairAt}
-use Rattle.overlap_check.specs.Questions.{filled, IsRefuted, IsRefuteAnswer, unrefuted}
+use Rattle.type_terms.specs.Promised.Questions.{filled, IsRefuted, IsRefuteAnswer, unrefuted}
 use Rattle.overlap_check.specs.SessionLaws.{IsPassed}
-use Rattle.overlap_check.specs.Verdicts.{IsOverlap}
+use Rattle.type_terms.specs.Promised.Verdicts.{IsOverlap}
 use Rattle.overlap_check.specs.Written.{IsWrittenWell}
 use Rattle.overlap_check.specs.declared.intersection.ImplIntersection.{ImplIntersection}
 use Rattle.overlap_check.proofs.Contracts.{refused-real}
@@ -52,14 +53,14 @@ use Rattle.overlap_check.proofs.Instances.{nth-shut, shut-stays}
 use Rattle.overlap_check.proofs.Judged.{found-each, found-well}
 use Rattle.overlap_check.proofs.Verdicts.{passes, refuses}
 use Rattle.overlap_check.proofs.Written.{each-in}
-use Rattle.text_definitions.specs.Declarations.{Declarations}
+use Rattle.text_definitions.specs.Promised.Declarations.{Declarations}
 use Rattle.candidate_assembly.specs.SolverMeaning.{solver_by_view}
 use Rattle.sessions.specs.Asking.{IsLeftOpen}
 use Rattle.sessions.specs.Checking.{IsPairOf, HaveOwnNumbers, AreApartAt, IsFoundAt, ArePassedAt, IsJudgedAt, ReadyAreWritten, rules_in, solving_in}
 use Rattle.sessions.specs.Impossible as Impossible
 use Rattle.sessions.specs.OpenPairs.{OpenPairGoalsArePossible}
 use Rattle.sessions.specs.PairGoals.{as_resolved}
-use Rattle.sessions.specs.Promises.{view_in}
+use Rattle.sessions.specs.Promised.Promises.{view_in}
 use Rattle.sessions.specs.Resting.{Cached}
 use Rattle.sessions.specs.Sessions.{IsSession}
 use Rattle.sessions.proofs.PairRefusals.{HasNoPlace, no-places, goal-proper, is-alone, unproved}

@@ -1,14 +1,15 @@
 -- The goals of a pair of impls are formed, as the table of the pair resolves them.
 use Rattle.std.proofs.Common.{◌≡◌, zero, true, ◌&&◌, List, [], ◌∷◌, sym, ap, ◌∙◌, subst}
 use Rattle.std.specs.List.{list_all}
-use Rattle.type_terms.specs.Trees.{Trees, instantiate}
-use Rattle.type_terms.specs.Worlds.{World, Reference, StructDecl, TraitDecl, ImplDecl, with_args, all_with_args}
-use Rattle.type_terms.specs.Proofs.{In}
+use Rattle.type_terms.specs.Promised.Trees.{Trees, instantiate}
+use Rattle.type_terms.specs.Promised.Worlds.{World, Reference, StructDecl, TraitDecl, ImplDecl, with_args, all_with_args}
+use Rattle.type_terms.specs.Promised.Proofs.{In}
 use Rattle.type_terms.proofs.Members.{here, there}
 use Rattle.type_terms.proofs.NoHolds.{member-each}
 use Rattle.type_terms.proofs.Walking.{left, right}
 use Rattle.type_terms.specs.Made.{terms, is_made}
-use Rattle.type_terms.specs.Terms.{Entry, Lawful, trees_at}
+use Rattle.type_terms.specs.Promised.Handles.{Entry, trees_at}
+use Rattle.type_terms.specs.Terms.{Lawful}
 use Rattle.type_terms.specs.declared.ImplId.{ImplId}
 use Rattle.term_folds.specs.declared.predicate.TraitRef.{TraitRef}
 use Rattle.infer_table.specs.Content.{Table, content, variables_of}
@@ -22,7 +23,7 @@ use Rattle.evaluation.specs.Lists.{Every}
 use Rattle.evaluation.proofs.Resolved.{made-resolved}
 use Rattle.declarations.specs.Applied.{references_in}
 use Rattle.declarations.specs.Items.{reference_in, impl_in, written}
-use Rattle.declarations.specs.Merges.{Each}
+use Rattle.declarations.specs.Promised.Elaboration.{Each}
 use Rattle.declarations.specs.declared.items.ImplDef.{ImplDef}
 use Rattle.assembly_laws.specs.Declared.{is_declared, are_terms, are_references, is_declared_view}
 use Rattle.assembly_laws.specs.DeclaredWell.{is_declared_well}
@@ -33,7 +34,7 @@ use Rattle.overlap_check.specs.Headers.{sorts_of_impl, unknowns_for, with_unknow
 use Rattle.overlap_check.specs.declared.intersection.ImplIntersection.{ImplIntersection}
 use Rattle.overlap_check.proofs.Headers.{pair-values}
 use Rattle.overlap_check.proofs.Written.{held-instantiable}
-use Rattle.view_lowering.specs.Plain.{plainly_seen_from}
+use Rattle.view_lowering.specs.Promised.SeenWorlds.{plainly_seen_from}
 use Rattle.view_lowering.proofs.WellSeen.{texts-seen-well}
 use Rattle.solver_exactness.specs.FormedFacts.{Sorts, NodesFit, IsTraitOf, IsFormedView}
 use Rattle.sessions.specs.Fitting.{sorts_in}

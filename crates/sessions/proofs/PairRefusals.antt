@@ -2,14 +2,15 @@
 -- is refused has no solution.
 use Rattle.std.proofs.Common.{◌≡◌, ℕ, zero, suc, ◌+◌, ◌<◌, arith, Bool, true, false, not, if◌then◌else◌, IsTrue, List, [], ◌∷◌, ◌++◌, map, refl, sym, ap, ◌∙◌, subst, is_some, ◌||◌, unwrap_or}
 use Rattle.std.specs.List.{slice_get}
-use Rattle.type_terms.specs.Label.{Label, Sort, of_type, of_const, of_lifetime, of_trait, predicate, param, placeholder, infer, canonical, bound, static}
-use Rattle.type_terms.specs.Trees.{Trees, none, tree, leaf, ◌+++◌, erase, erase_label, some_node}
-use Rattle.type_terms.specs.Worlds.{Reference}
-use Rattle.type_terms.specs.Proofs.{Every}
-use Rattle.type_terms.specs.Answers.{is_open, is_closed}
+use Rattle.type_terms.specs.Promised.Label.{Label, Sort, of_type, of_const, of_lifetime, of_trait, predicate, param, placeholder, infer, canonical, bound, static}
+use Rattle.type_terms.specs.Promised.Trees.{Trees, none, tree, leaf, ◌+++◌, erase, erase_label, some_node}
+use Rattle.type_terms.specs.Promised.Worlds.{Reference}
+use Rattle.type_terms.specs.Promised.Proofs.{Every}
+use Rattle.type_terms.specs.Promised.Answers.{is_open, is_closed}
 use Rattle.type_terms.proofs.Fitting.{child-shut, next-shut, or-no}
 use Rattle.type_terms.specs.Made.{terms, is_made, is_in_range}
-use Rattle.type_terms.specs.Terms.{Entry, Has, Lawful, args_lists, trees_at}
+use Rattle.type_terms.specs.Promised.Handles.{Entry, Has, trees_at}
+use Rattle.type_terms.specs.Terms.{Lawful, args_lists}
 use Rattle.type_terms.proofs.Made.{made-weaker}
 use Rattle.term_folds.specs.declared.predicate.TraitRef.{TraitRef}
 use Rattle.declarations.specs.Held.{ReferenceHeld}
@@ -28,7 +29,7 @@ use Rattle.assembly_laws.specs.Meaning.{ViewMeaning, SolutionPlace, proved_at}
 use Rattle.assembly_laws.specs.Solver.{has_placeholder, solver_handled}
 use Rattle.overlap_check.specs.Goals.{repeated, unknown_kinds}
 use Rattle.overlap_check.specs.Headers.{IsOfTable, resolved_reference}
-use Rattle.overlap_check.specs.Questions.{FitKinds, of_kind, filled, filled_reference}
+use Rattle.type_terms.specs.Promised.Questions.{FitKinds, of_kind, filled, filled_reference}
 use Rattle.overlap_check.proofs.Posed.{values-are-of-solutions}
 use Rattle.overlap_check.proofs.Solved.{ready-facts}
 use Rattle.view_lowering.specs.QuestionVariables.{number_of}

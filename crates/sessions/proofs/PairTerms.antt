@@ -1,10 +1,11 @@
 -- Terms with unknowns in the place of parameters, and with what equations give to these in their place: they stay formed.
 use Rattle.std.proofs.Common.{◌≡◌, ℕ, zero, suc, ◌+◌, Bool, true, false, List, [], ◌∷◌, ◌++◌, Some, refl, sym, ap, ◌∙◌, subst, cond, if◌then◌else◌}
 use Rattle.std.proofs.lemmas.Option.{same_Some}
-use Rattle.type_terms.specs.Label.{Label, Sort, of_type, of_const, of_lifetime, param, infer, canonical, bound, fn_ptr, dynamic, principal, auto_trait, predicate, inside}
-use Rattle.type_terms.specs.Trees.{Trees, none, tree, leaf, ◌+++◌, nth, shift, instantiate, sort_of, IsA, Single}
-use Rattle.type_terms.specs.Rules.{autos_with, asked}
-use Rattle.type_terms.specs.Worlds.{World}
+use Rattle.type_terms.specs.Promised.Label.{Label, Sort, of_type, of_const, of_lifetime, param, infer, canonical, bound, fn_ptr, dynamic, principal, auto_trait, predicate, inside}
+use Rattle.type_terms.specs.Promised.Trees.{Trees, none, tree, leaf, ◌+++◌, nth, shift, instantiate, sort_of, IsA}
+use Rattle.type_terms.specs.Trees.{Single}
+use Rattle.type_terms.specs.Promised.Rules.{autos_with, asked}
+use Rattle.type_terms.specs.Promised.Worlds.{World}
 use Rattle.type_terms.specs.Made.{terms}
 use Rattle.type_terms.proofs.Made.{false-true}
 use Rattle.term_folds.specs.Arguments.{sort_at}

@@ -1,15 +1,15 @@
 -- The pairs of an impl: where those with a common instance are passed, all are.
 use Rattle.std.proofs.Common.{◌≡◌, ◌==◌, ℕ, Bool, true, false, List, [], ◌∷◌, None, map, subst, sym, ◌∙◌, ◌⊎◌, inl, inr, refl}
-use Rattle.type_terms.specs.Proofs.{In}
+use Rattle.type_terms.specs.Promised.Proofs.{In}
 use Rattle.type_terms.proofs.ProofEntries.{map-in}
 use Rattle.type_terms.proofs.Members.{here, there, in-cases, in-nothing, same-number, self-number}
 use Rattle.type_terms.specs.declared.ImplId.{ImplId}
-use Rattle.declarations.specs.Merges.{Each}
+use Rattle.declarations.specs.Promised.Elaboration.{Each}
 use Rattle.overlap_check.specs.SessionLaws.{IsPassed}
 use Rattle.sessions.specs.ByTrait.{HasNumber, ListsImpls, ListsSeen, HavePartnersSeen}
 use Rattle.sessions.specs.Checking.{HasPartner}
-use Rattle.sessions.specs.Promises.{view_in}
-use Rattle.sessions.specs.Subjects.{Subject, StaysOn}
+use Rattle.sessions.specs.Promised.Promises.{view_in}
+use Rattle.sessions.specs.Promised.Subjects.{Subject, StaysOn}
 use Rattle.sessions.specs.declared.by_trait.ImplsByTrait.{ImplsByTrait}
 use Rattle.sessions.proofs.CheckedSubjects.{Passed}
 use Rattle.sessions.proofs.Lists.{in-list}

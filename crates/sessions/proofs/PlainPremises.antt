@@ -2,11 +2,12 @@
 use Rattle.std.proofs.Common.{◌≡◌, ◌==◌, ℕ, zero, suc, Bool, true, false, not, ◌&&◌, ◌||◌, if◌then◌else◌, List, [], ◌∷◌, ◌++◌, length, subst}
 use Rattle.std.specs.List.{flat_map, list_all, list_any}
 use Rattle.type_terms.specs.Codes.{same}
-use Rattle.type_terms.specs.Label.{array, slice, tuple, dynamic, adt, fn_ptr}
-use Rattle.type_terms.specs.Proofs.{In}
-use Rattle.type_terms.specs.Rules.{Rule, BuiltIn, row, rules, sized, clone, copy, tuple_trait, fn_ptr_trait, is_fn_trait, unsize, is_auto, is_dyn, is_declared, same_reference, impl_rules, plain_rules, sized_rules, copy_rules, auto_rules, tuple_rules, fn_ptr_rules, call_rules, but_last, unsize_rules, unsize_array_rules, unsize_to_dyn_rules, unsize_upcast, unsize_upcast_rules, unsize_dyn, unsize_struct, unsize_struct_rules, some_unsizing, with_unsizing, last_unsizes, upcasts_principal, upcasts_autos, object_auto, object_principal, object_bound_rules, object_rules, built_in_rules, equal_rows, elaborated, are_declared, are_dyn_compatible, principal_with, autos_with, asked, clause_rules, super_rules, strict_supertraits, strict_supertraits_within, written_supertraits}
-use Rattle.type_terms.specs.Trees.{Trees, none, tree, arguments, fits, instantiate}
-use Rattle.type_terms.specs.Worlds.{World, Reference, StructDecl, TraitDecl, ImplDecl, structs_named, traits_named, with_args, all_with_args}
+use Rattle.type_terms.specs.Promised.Label.{array, slice, tuple, dynamic, adt, fn_ptr}
+use Rattle.type_terms.specs.Promised.Proofs.{In}
+use Rattle.type_terms.specs.Promised.Rules.{Rule, BuiltIn, row, rules, sized, clone, copy, tuple_trait, fn_ptr_trait, is_fn_trait, unsize, is_auto, is_dyn, is_declared, same_reference, impl_rules, plain_rules, sized_rules, copy_rules, auto_rules, tuple_rules, fn_ptr_rules, call_rules, but_last, unsize_rules, unsize_array_rules, unsize_to_dyn_rules, unsize_upcast, unsize_upcast_rules, unsize_dyn, unsize_struct, unsize_struct_rules, some_unsizing, with_unsizing, last_unsizes, upcasts_principal, upcasts_autos, object_auto, object_principal, object_bound_rules, object_rules, built_in_rules, equal_rows, elaborated, are_declared, are_dyn_compatible, principal_with, autos_with, asked, clause_rules, super_rules, strict_supertraits, strict_supertraits_within, written_supertraits}
+use Rattle.type_terms.specs.Promised.Trees.{Trees, none, tree, instantiate}
+use Rattle.type_terms.specs.Trees.{arguments, fits}
+use Rattle.type_terms.specs.Promised.Worlds.{World, Reference, StructDecl, TraitDecl, ImplDecl, structs_named, traits_named, with_args, all_with_args}
 use Rattle.type_terms.proofs.ProofEntries.{map-in}
 use Rattle.type_terms.proofs.Fitting.{append-shut, head-shut, child-shut, next-shut}
 use Rattle.type_terms.proofs.Members.{here, there, in-filter, in-flat}

@@ -1,9 +1,9 @@
 -- What is proved of a reference without lifetimes by declarations as they are written is proved by the same without their lifetimes.
 use Rattle.std.proofs.Common.{◌≡◌, ◌⊎◌, Bool, true, false, if◌then◌else◌, List, [], ◌∷◌, ◌++◌, map, inl, inr, refl, sym, ◌∙◌, ap, subst}
-use Rattle.type_terms.specs.Proofs.{ProofEntry, In, Every, Stands, Follows, HasProof}
-use Rattle.type_terms.specs.Rules.{Rule, rules, is_coinductive}
-use Rattle.type_terms.specs.Trees.{some_node}
-use Rattle.type_terms.specs.Worlds.{World, CrateDecl, Reference}
+use Rattle.type_terms.specs.Promised.Proofs.{ProofEntry, In, Every, Stands, Follows, HasProof}
+use Rattle.type_terms.specs.Promised.Rules.{Rule, rules, is_coinductive}
+use Rattle.type_terms.specs.Promised.Trees.{some_node}
+use Rattle.type_terms.specs.Promised.Worlds.{World, CrateDecl, Reference}
 use Rattle.type_terms.proofs.Members.{here, there, in-cases, in-nothing}
 use Rattle.type_terms.proofs.Made.{false-true}
 use Rattle.evaluation.specs.Lists as Lists

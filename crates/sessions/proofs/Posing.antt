@@ -1,11 +1,12 @@
 -- The goal that asks a question, and what its answer says of the question.
 use Rattle.std.proofs.Common.{◌≡◌, ℕ, List, [], ◌∷◌, map, Result, Ok, Err, refl, sym, ap, ◌∙◌, subst}
 use Rattle.std.specs.Prelude.{IfOk}
-use Rattle.type_terms.specs.Label.{Sort}
-use Rattle.type_terms.specs.Trees.{Trees}
-use Rattle.type_terms.specs.Worlds.{Reference}
-use Rattle.type_terms.specs.Kinds.{ArgsHeld, arg_trees}
-use Rattle.type_terms.specs.Terms.{Entry, Keeps, Has, args_lists}
+use Rattle.type_terms.specs.Promised.Label.{Sort}
+use Rattle.type_terms.specs.Promised.Trees.{Trees}
+use Rattle.type_terms.specs.Promised.Worlds.{Reference}
+use Rattle.type_terms.specs.Promised.Handles.{ArgsHeld, arg_trees}
+use Rattle.type_terms.specs.Promised.Handles.{Entry, Keeps, Has}
+use Rattle.type_terms.specs.Terms.{args_lists}
 use Rattle.type_terms.specs.declared.kinds.GenericArgKind.{GenericArgKind}
 use Rattle.type_terms.specs.Kept.{arg-trees-later}
 use Rattle.term_folds.specs.declared.predicate.TraitRef.{TraitRef}
@@ -14,9 +15,9 @@ use Rattle.infer_table.specs.Canonical.{GoalTrees}
 use Rattle.infer_table.specs.Goals.{ClausesHeld, GoalHeld}
 use Rattle.infer_table.specs.declared.goal.Goal.{Goal}
 use Rattle.candidate_assembly.specs.Solving.{Solving}
-use Rattle.text_definitions.specs.Declarations.{Question}
+use Rattle.text_definitions.specs.Promised.Declarations.{Question}
 use Rattle.text_definitions.specs.Names.{own_unknowns}
-use Rattle.view_lowering.specs.QuestionVariables.{variable_kinds}
+use Rattle.view_lowering.specs.Promised.Questions.{variable_kinds}
 use Rattle.sessions.specs.Goals.{goal_of}
 use Rattle.sessions.specs.Proving.{IsAnsweredInSearch, IsGoalAnswered, goal_asking}
 use Rattle.sessions.specs.Questions.{where_clauses}

@@ -1,11 +1,11 @@
 -- Which crates a world lists makes no difference to its rules, nor to what is a proof by them.
 use Rattle.std.proofs.Common.{◌≡◌, ◌==◌, ℕ, suc, List, [], ◌∷◌, ◌++◌, if◌then◌else◌, refl, sym, ap, ◌∙◌, subst}
 use Rattle.std.specs.List.{flat_map}
-use Rattle.type_terms.specs.Trees.{Trees, none, tree}
-use Rattle.type_terms.specs.Worlds.{World, CrateDecl, Reference}
-use Rattle.type_terms.specs.Rules.{Rule, by_clause, rules, impl_rules, built_in_rules, plain_rules, clause_rules, super_rules, same_reference, strict_supertraits, sized, unsize, auto_rules, is_auto, is_written}
-use Rattle.type_terms.specs.Proofs.{ProofEntry, In, Follows}
-use Rattle.type_terms.specs.Terms as terms
+use Rattle.type_terms.specs.Promised.Trees.{Trees, none, tree}
+use Rattle.type_terms.specs.Promised.Worlds.{World, CrateDecl, Reference}
+use Rattle.type_terms.specs.Promised.Rules.{Rule, by_clause, rules, impl_rules, built_in_rules, plain_rules, clause_rules, super_rules, same_reference, strict_supertraits, sized, unsize, auto_rules, is_auto, is_written}
+use Rattle.type_terms.specs.Promised.Proofs.{ProofEntry, In, Follows}
+use Rattle.type_terms.specs.Promised.Handles as terms
 use Rattle.type_terms.proofs.OtherImpls.{supers-same, sized-same, plain-same, unsize-same, object-same}
 use Rattle.proof_checker.specs.Steps.{AreProofOf}
 use Rattle.proof_checker.specs.declared.steps.Step.{Step}

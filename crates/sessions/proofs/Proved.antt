@@ -1,8 +1,9 @@
 -- A goal with the values of its table is its instance by the solution that leaves each other unknown as it is.
 use Rattle.std.proofs.Common.{◌≡◌, ◌∙◌, ℕ, Bool, true, List, [], Option, refl, ap, subst}
-use Rattle.type_terms.specs.Label.{infer}
-use Rattle.type_terms.specs.Trees.{Trees, none, tree, erase}
-use Rattle.type_terms.specs.Terms.{Entry, Lawful}
+use Rattle.type_terms.specs.Promised.Label.{infer}
+use Rattle.type_terms.specs.Promised.Trees.{Trees, none, tree, erase}
+use Rattle.type_terms.specs.Promised.Handles.{Entry}
+use Rattle.type_terms.specs.Terms.{Lawful}
 use Rattle.infer_table.specs.Content.{Table, content, Ready, IsProper}
 use Rattle.infer_table.specs.Goals.{GoalHeld, goal_trees}
 use Rattle.infer_table.specs.Solutions.{instance, resolved}

@@ -2,19 +2,20 @@
 -- without their lifetimes.
 use Rattle.std.proofs.Common.{◌≡◌, ◌-◌, ◌<◌, ℕ, suc, Bool, true, false, not, ◌||◌, if◌then◌else◌, List, [], ◌∷◌, map, refl, sym, ◌∙◌, ap, subst}
 use Rattle.std.specs.Global.{Vec}
-use Rattle.type_terms.specs.Label.{Label, Sort, of_type, of_const, of_lifetime, dynamic, principal, auto_trait, of_trait, predicate, param, placeholder, infer, canonical, bound}
-use Rattle.type_terms.specs.Proofs.{In, HasProof}
-use Rattle.type_terms.specs.Rules.{elaborated}
-use Rattle.type_terms.specs.Erased.{erased_reference}
-use Rattle.type_terms.specs.Trees.{Trees, none, tree, leaf, is_sort, is_no_tree, erase, erase_label, some_node}
-use Rattle.type_terms.specs.Worlds.{World, CrateDecl, Reference}
+use Rattle.type_terms.specs.Promised.Label.{Label, Sort, of_type, of_const, of_lifetime, dynamic, principal, auto_trait, of_trait, predicate, param, placeholder, infer, canonical, bound}
+use Rattle.type_terms.specs.Promised.Proofs.{In, HasProof}
+use Rattle.type_terms.specs.Promised.Rules.{elaborated}
+use Rattle.type_terms.specs.Promised.Erased.{erased_reference}
+use Rattle.type_terms.specs.Promised.Trees.{Trees, none, tree, leaf, is_sort, erase, erase_label, some_node}
+use Rattle.type_terms.specs.Trees.{is_no_tree}
+use Rattle.type_terms.specs.Promised.Worlds.{World, CrateDecl, Reference}
 use Rattle.type_terms.proofs.ProofEntries.{map-in}
 use Rattle.type_terms.proofs.Fitting.{or-no, child-shut, next-shut}
 use Rattle.type_terms.proofs.Members.{in-map}
-use Rattle.type_terms.specs.Kinds.{arg_trees}
+use Rattle.type_terms.specs.Promised.Handles.{arg_trees}
 use Rattle.type_terms.specs.declared.kinds.GenericArgKind.{GenericArgKind}
 use Rattle.type_terms.specs.Made.{Standing, terms, bounds, traits, is_made}
-use Rattle.type_terms.specs.Terms.{Entry}
+use Rattle.type_terms.specs.Promised.Handles.{Entry}
 use Rattle.type_terms.proofs.Made.{left, right, false-true, no-tree, IsLast, made-ordinary, last-bound, last-trait, never-dynamic, never-dynamic-bound, never-principal}
 use Rattle.infer_table.specs.Canonical.{GoalTrees, HasNoCanonical}
 use Rattle.infer_table.specs.Content.{Table, Ready, content, IsProper}
@@ -24,7 +25,7 @@ use Rattle.infer_table.specs.Solutions.{Assignment, Binding, instance, resolved}
 use Rattle.evaluation.specs.Content.{Fact}
 use Rattle.evaluation.specs.Proof as Lists
 use Rattle.evaluation.proofs.Readings.{HasLeaves, made-leaves}
-use Rattle.declarations.specs.Elaboration.{elaborate}
+use Rattle.declarations.specs.Promised.Elaboration.{elaborate}
 use Rattle.declarations.specs.Items.{Items, written}
 use Rattle.assembly_laws.specs.Facts.{is_unerased, trees_of_clauses, clauses_of, children_of, reference_in, FollowsByView, is_coinductive_fact}
 use Rattle.assembly_laws.proofs.Facts.{references-come-back, proofs-of-facts}
@@ -39,26 +40,28 @@ use Rattle.view_lowering.proofs.WellSeen.{texts-seen-well}
 use Rattle.assembly_laws.specs.Meaning.{SelfTypesBegin}
 use Rattle.assembly_laws.proofs.ErasedCandidates.{without_lifetimes}
 use Rattle.assembly_laws.proofs.PlainRules.{Plain}
-use Rattle.text_definitions.specs.Declarations.{Declarations, Question, Variable}
-use Rattle.view_lowering.specs.Questions.{IsQuestion}
+use Rattle.text_definitions.specs.Promised.Declarations.{Declarations, Question, Variable}
+use Rattle.view_lowering.specs.Promised.Questions.{IsQuestion}
 use Rattle.text_definitions.specs.Names.{own_from}
-use Rattle.view_lowering.specs.Plain.{unbound_reference, unbound_references}
-use Rattle.view_lowering.specs.QuestionVariables.{number_of, variable_kinds}
+use Rattle.view_lowering.specs.Promised.SeenWorlds.{unbound_reference}
+use Rattle.view_lowering.specs.Plain.{unbound_references}
+use Rattle.view_lowering.specs.QuestionVariables.{number_of}
+use Rattle.view_lowering.specs.Promised.Questions.{variable_kinds}
 use Rattle.view_lowering.specs.Ready.{AreSeen}
-use Rattle.overlap_check.specs.Questions.{FitKinds, HoldUnknownsAlone, SolutionBy, IsProveAnswer, filled, filled_reference}
+use Rattle.type_terms.specs.Promised.Questions.{FitKinds, HoldUnknownsAlone, SolutionBy, IsProveAnswer, filled, filled_reference}
 use Rattle.sessions.specs.Clauses.{AddSupertraits}
 use Rattle.sessions.specs.Fitting.{sorts_in}
 use Rattle.sessions.specs.Goals.{goal_of, is_fixed, are_fixed}
 use Rattle.sessions.specs.Proved.{fact_with_values}
 use Rattle.sessions.specs.ProvedQuestions.{YesIsRight}
-use Rattle.sessions.specs.Given.{answer_in}
-use Rattle.sessions.specs.Promises.{IsProved, view_in}
+use Rattle.sessions.specs.Promised.Given.{answer_in}
+use Rattle.sessions.specs.Promised.Promises.{IsProved, view_in}
 use Rattle.sessions.specs.Sessions.{IsSolvingOf}
-use Rattle.sessions.specs.OwnValues.{is_unknown, are_own, SpeaksOfOwn}
+use Rattle.sessions.specs.Promised.OwnValues.{is_unknown, are_own, SpeaksOfOwn}
 use Rattle.sessions.specs.Foreign.{is_unknown_term}
 use Rattle.sessions.specs.Proving.{is_bound_term, HasUnknowns, speak_of_own, IsAnsweredBySolver, IsGoalAnswered}
 use Rattle.sessions.specs.Questions.{AreFixedReferences}
-use Rattle.sessions.specs.Subjects.{IsOfText}
+use Rattle.sessions.specs.Promised.Subjects.{IsOfText}
 use Rattle.sessions.specs.Tables.{count_of}
 use Rattle.sessions.specs.Values.{unknowns_from, unknowns_of, values_in}
 use Rattle.sessions.specs.declared.answers.ProveAnswer.TheVariants.{Yes}

@@ -1,14 +1,14 @@
 -- What is refused in coherence has no solution by the asking crate's view alone, nor in a linked set with the crate.
 use Rattle.std.proofs.Common.{◌≡◌, ℕ, Bool, IsTrue, not, List, [], map, refl, sym, ap, ◌∙◌, subst}
-use Rattle.type_terms.specs.Label.{Label, Sort, of_lifetime, fn_ptr, principal, param, bound}
-use Rattle.type_terms.specs.Trees.{Trees, none, tree, erase, erase_label}
-use Rattle.type_terms.specs.Erased.{erased_world, erased_reference}
-use Rattle.type_terms.specs.Worlds.{World, CrateDecl, Reference}
-use Rattle.type_terms.specs.Proofs.{Every, HasProof}
-use Rattle.type_terms.specs.Elaborated.{HasElaboratedProof}
-use Rattle.type_terms.specs.Answers.{is_closed}
-use Rattle.type_terms.specs.Renumbering.{View, Renumbering, HoldsView, renumbered, renumbered_reference}
-use Rattle.type_terms.specs.LinkedSet.{LinkedSet}
+use Rattle.type_terms.specs.Promised.Label.{Label, Sort, of_lifetime, fn_ptr, principal, param, bound}
+use Rattle.type_terms.specs.Promised.Trees.{Trees, none, tree, erase, erase_label}
+use Rattle.type_terms.specs.Promised.Erased.{erased_world, erased_reference}
+use Rattle.type_terms.specs.Promised.Worlds.{World, CrateDecl, Reference}
+use Rattle.type_terms.specs.Promised.Proofs.{Every, HasProof}
+use Rattle.type_terms.specs.Promised.Proofs.{HasElaboratedProof}
+use Rattle.type_terms.specs.Promised.Answers.{is_closed}
+use Rattle.type_terms.specs.Promised.Renumbering.{View, Renumbering, HoldsView, renumbered, renumbered_reference}
+use Rattle.type_terms.specs.Promised.LinkedSet.{LinkedSet}
 use Rattle.type_terms.proofs.RenumberedTrees.{inverse, back, map-back}
 use Rattle.infer_table.specs.Canonical.{GoalTrees, CanonicalForm, canonical_form}
 use Rattle.infer_table.specs.Responses.{AnswerTrees}
@@ -17,15 +17,17 @@ use Rattle.infer_table.specs.declared.certainty.TypingMode.TheVariants.{Coherenc
 use Rattle.solver_context.specs.Roots.{fact_under}
 use Rattle.assembly_laws.specs.Meaning.{ViewMeaning, LinkedWith, SelfTypesBegin, SolutionPlace, by_view, in_set, proved_at}
 use Rattle.assembly_laws.specs.Solver.{solver_handled}
-use Rattle.overlap_check.specs.Verdicts.{placed}
-use Rattle.overlap_check.specs.Questions.{FitKinds, filled, filled_reference, SolutionBy, Solution}
+use Rattle.type_terms.specs.Promised.Verdicts.{placed}
+use Rattle.type_terms.specs.Promised.Questions.{FitKinds, filled, filled_reference, SolutionBy, Solution}
 use Rattle.overlap_check.proofs.Filling.{over-filled-reference, over-fit, over-each-closed}
-use Rattle.text_definitions.specs.Declarations.{Declarations, Question}
-use Rattle.view_lowering.specs.Plain.{all_kept, plain, plain_label, unbound_reference}
+use Rattle.text_definitions.specs.Promised.Declarations.{Declarations, Question}
+use Rattle.view_lowering.specs.Promised.SeenWorlds.{all_kept, plain, plain_label, unbound_reference}
 use Rattle.view_lowering.specs.Seen.{rules_seen_from}
-use Rattle.view_lowering.specs.QuestionVariables.{variable_kinds, HasVariablesAlone}
+use Rattle.view_lowering.specs.Promised.Questions.{variable_kinds}
+use Rattle.view_lowering.specs.QuestionVariables.{HasVariablesAlone}
 use Rattle.sessions.specs.Asking.{goal_alone}
-use Rattle.sessions.specs.Promises.{view_in, IsRefutedQuestion}
+use Rattle.sessions.specs.Promised.Promises.{view_in}
+use Rattle.sessions.specs.Promises.{IsRefutedQuestion}
 use Rattle.sessions.proofs.Given.{given, given-sorted, instance-is, instance-shut}
 use Rattle.sessions.proofs.Posed.{no-placeholders}
 

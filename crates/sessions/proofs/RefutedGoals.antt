@@ -1,23 +1,23 @@
 -- A goal that has no proof where the solver looks for its solutions has none by the asking crate's view alone, nor in a linked set with
 -- the crate.
 use Rattle.std.proofs.Common.{◌≡◌, ℕ, IsTrue, List, [], map, sym, ap, ◌∙◌, subst}
-use Rattle.type_terms.specs.Label.{Sort}
-use Rattle.type_terms.specs.Trees.{Trees}
-use Rattle.type_terms.specs.Erased.{erased_world}
-use Rattle.type_terms.specs.Worlds.{World, CrateDecl, Reference}
-use Rattle.type_terms.specs.Proofs.{Every, HasProof}
-use Rattle.type_terms.specs.Elaborated.{HasElaboratedProof}
-use Rattle.type_terms.specs.Answers.{is_closed}
-use Rattle.type_terms.specs.Renumbering.{View, Renumbering, HoldsView, renumbered, renumbered_reference}
-use Rattle.type_terms.specs.LinkedSet.{LinkedSet}
+use Rattle.type_terms.specs.Promised.Label.{Sort}
+use Rattle.type_terms.specs.Promised.Trees.{Trees}
+use Rattle.type_terms.specs.Promised.Erased.{erased_world}
+use Rattle.type_terms.specs.Promised.Worlds.{World, CrateDecl, Reference}
+use Rattle.type_terms.specs.Promised.Proofs.{Every, HasProof}
+use Rattle.type_terms.specs.Promised.Proofs.{HasElaboratedProof}
+use Rattle.type_terms.specs.Promised.Answers.{is_closed}
+use Rattle.type_terms.specs.Promised.Renumbering.{View, Renumbering, HoldsView, renumbered, renumbered_reference}
+use Rattle.type_terms.specs.Promised.LinkedSet.{LinkedSet}
 use Rattle.type_terms.proofs.RenumberedTrees.{inverse, back, map-back}
 use Rattle.assembly_laws.specs.Meaning.{ViewMeaning, LinkedWith, SelfTypesBegin, SolutionPlace, by_view, in_set, proved_at}
-use Rattle.overlap_check.specs.Verdicts.{placed}
-use Rattle.overlap_check.specs.Questions.{FitKinds, filled_reference, SolutionBy, Solution, IsRefuted}
+use Rattle.type_terms.specs.Promised.Verdicts.{placed}
+use Rattle.type_terms.specs.Promised.Questions.{FitKinds, filled_reference, SolutionBy, Solution, IsRefuted}
 use Rattle.overlap_check.proofs.Filling.{over-filled-reference, over-fit, over-each-closed}
-use Rattle.text_definitions.specs.Declarations.{Declarations}
+use Rattle.text_definitions.specs.Promised.Declarations.{Declarations}
 use Rattle.view_lowering.specs.Seen.{rules_seen_from}
-use Rattle.sessions.specs.Promises.{view_in}
+use Rattle.sessions.specs.Promised.Promises.{view_in}
 
 abbrev with_crates : World → List CrateDecl → World
 with_crates V cs = record V { crates = cs }

@@ -1,15 +1,15 @@
 -- What the text of a view keeps, a set that holds the view keeps of the view's crate.
 use Rattle.std.proofs.Common.{◌≡◌, ◌<◌, ℕ, true, false, ◌==◌, List, map, length, refl, sym, ap, ◌∙◌, subst}
-use Rattle.type_terms.specs.Label.{Label, Sort, of_lifetime, param, placeholder, infer, canonical, bound, fn_ptr, dynamic, adt, principal, auto_trait, predicate}
-use Rattle.type_terms.specs.Trees.{Trees, none, tree, erase, erase_label}
-use Rattle.type_terms.specs.Worlds.{World, StructDecl, TraitDecl, ImplDecl, Reference, structs_named, traits_named, sees, view_of}
-use Rattle.type_terms.specs.Rules.{is_auto, sized}
-use Rattle.type_terms.specs.Supers.{no_param, mentions_as, dyns_of_bounds}
-use Rattle.type_terms.specs.Proofs.{In}
-use Rattle.type_terms.specs.Walks.{struct_is, keeps_orphan_rule}
-use Rattle.type_terms.specs.Versions.{sees_struct, sees_trait, in_scope}
-use Rattle.type_terms.specs.LinkedSet.{AutoAtHome, is_stray}
-use Rattle.type_terms.specs.Renumbering.{Renumbering, View, IsRenumbering, view_before, asker_in_set, renumbered_label, renumbered, renumbered_reference, renumbered_struct, renumbered_trait, renumbered_impl}
+use Rattle.type_terms.specs.Promised.Label.{Label, Sort, of_lifetime, param, placeholder, infer, canonical, bound, fn_ptr, dynamic, adt, principal, auto_trait, predicate}
+use Rattle.type_terms.specs.Promised.Trees.{Trees, none, tree, erase, erase_label}
+use Rattle.type_terms.specs.Promised.Worlds.{World, StructDecl, TraitDecl, ImplDecl, Reference, structs_named, traits_named, sees, view_of}
+use Rattle.type_terms.specs.Promised.Rules.{is_auto, sized}
+use Rattle.type_terms.specs.Promised.Supers.{no_param, mentions_as, dyns_of_bounds}
+use Rattle.type_terms.specs.Promised.Proofs.{In}
+use Rattle.type_terms.specs.Promised.Walks.{struct_is, keeps_orphan_rule}
+use Rattle.type_terms.specs.Promised.Versions.{sees_struct, sees_trait, in_scope}
+use Rattle.type_terms.specs.Promised.LinkedSet.{AutoAtHome, is_stray}
+use Rattle.type_terms.specs.Promised.Renumbering.{Renumbering, View, IsRenumbering, view_before, asker_in_set, renumbered_label, renumbered, renumbered_reference, renumbered_struct, renumbered_trait, renumbered_impl}
 use Rattle.type_terms.proofs.Members.{in-filter, filter-in, in-map, some-member, member-some, same-number, self-number}
 use Rattle.type_terms.proofs.Walking.{left, right, both}
 use Rattle.type_terms.proofs.ProofEntries.{map-in}

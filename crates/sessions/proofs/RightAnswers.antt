@@ -1,25 +1,25 @@
 -- What a session answers to a `prove` question is right, by the laws on yes and on the other answers.
 use Rattle.std.proofs.Common.{◌≡◌, ◌-◌, ℕ, List, Option, Some, Result, sym, subst}
 use Rattle.std.specs.Prelude.{IfOk, slice_get}
-use Rattle.type_terms.specs.Terms.{Entry}
+use Rattle.type_terms.specs.Promised.Handles.{Entry}
 use Rattle.type_terms.specs.declared.Fault.{Fault}
 use Rattle.search_graph.specs.SearchState.{SearchState}
 use Rattle.solver_context.specs.Contexts.{entries_of}
 use Rattle.solver_context.specs.declared.context.SolverCx.{SolverCx}
-use Rattle.text_definitions.specs.Declarations.{Declarations, Question}
-use Rattle.view_lowering.specs.Questions.{IsQuestion}
+use Rattle.text_definitions.specs.Promised.Declarations.{Declarations, Question}
+use Rattle.view_lowering.specs.Promised.Questions.{IsQuestion}
 use Rattle.candidate_assembly.specs.Fitting.{solving_of}
 use Rattle.candidate_assembly.specs.Solving.{Solving}
 use Rattle.candidate_assembly.specs.declared.solver.Solver.{Solver}
 use Rattle.sessions.specs.Applying.{SolversClausesApply}
 use Rattle.sessions.specs.DecidedAnswers.{OtherAnswersAreRight}
-use Rattle.sessions.specs.Given.{answer_in}
-use Rattle.sessions.specs.Promises.{IsProved}
+use Rattle.sessions.specs.Promised.Given.{answer_in}
+use Rattle.sessions.specs.Promised.Promises.{IsProved}
 use Rattle.sessions.specs.ProvedQuestions.{YesIsRight}
 use Rattle.sessions.specs.Proving.{ClausesApply, IsAnsweredBySolver}
 use Rattle.sessions.specs.Resting.{Cached}
 use Rattle.sessions.specs.Sessions.{IsSolvingOf, IsSession}
-use Rattle.sessions.specs.Subjects.{AsksProof}
+use Rattle.sessions.specs.Promised.Subjects.{AsksProof}
 use Rattle.sessions.specs.declared.answers.ProveAnswer.{ProveAnswer}
 use Rattle.sessions.specs.declared.answers.ProveAnswer.TheVariants.{Yes, Maybe, Unproved}
 use Rattle.sessions.proofs.Posing.{over-ok}

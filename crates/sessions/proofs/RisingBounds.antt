@@ -3,15 +3,16 @@ use Rattle.std.proofs.Common.{◌≡◌, ◌≤◌, ℕ, zero, suc, ◌+◌, Boo
 use Rattle.std.proofs.lemmas.Bool.Decides.{nat_tests}
 use Rattle.std.specs.Prelude.{if◌then◌else◌, nat_lt, nat_le}
 use Rattle.std.specs.Str.{bytes_eq}
-use Rattle.type_terms.specs.Label.{Label, Sort, of_type, of_const, of_lifetime, dynamic, principal, static, param, bound, tuple, fn_ptr, array, slice, ref, raw_pointer}
-use Rattle.type_terms.specs.Trees.{Trees, none, tree, leaf, ◌+++◌, erase, erase_label}
-use Rattle.type_terms.specs.Worlds.{Reference}
-use Rattle.type_terms.specs.LinkedSet.{autos_rise, dyns_rise}
-use Rattle.declarations.specs.Merges.{Each}
-use Rattle.text_definitions.specs.Syntax.{TypeTree, of_primitive, never_type, variable_type, named, reference_to, pointer_to, slice_of, array_of, tuple_of, fn_of, fn_to, dyn_of, Types, no_types, and_type, Args, no_args, and_arg, Arg, lifetime_arg, number_arg, type_arg, Item, bound_item, lifetime_item, Items, no_items, and_item, Params, Bound, Clause}
-use Rattle.text_definitions.specs.Declarations.{Declarations, Known, a_crate, a_struct, a_trait, known}
+use Rattle.type_terms.specs.Promised.Label.{Label, Sort, of_type, of_const, of_lifetime, dynamic, principal, static, param, bound, tuple, fn_ptr, array, slice, ref, raw_pointer}
+use Rattle.type_terms.specs.Promised.Trees.{Trees, none, tree, leaf, ◌+++◌, erase, erase_label}
+use Rattle.type_terms.specs.Promised.Worlds.{Reference}
+use Rattle.type_terms.specs.Promised.LinkedSet.{autos_rise, dyns_rise}
+use Rattle.declarations.specs.Promised.Elaboration.{Each}
+use Rattle.text_definitions.specs.Promised.Syntax.{TypeTree, of_primitive, never_type, variable_type, named, reference_to, pointer_to, slice_of, array_of, tuple_of, fn_of, fn_to, dyn_of, Types, no_types, and_type, Args, no_args, and_arg, Arg, lifetime_arg, number_arg, type_arg, Item, bound_item, lifetime_item, Items, no_items, and_item, Params, Bound, Clause}
+use Rattle.text_definitions.specs.Promised.Declarations.{Declarations, Known, a_crate, a_struct, a_trait, known}
 use Rattle.text_definitions.specs.Uses.{kinds_of_struct, kinds_of_trait, next_kind, other_kinds}
-use Rattle.text_definitions.specs.Faults.{is_among, is_auto_name, static_name}
+use Rattle.text_definitions.specs.Promised.Faults.{is_among, is_auto_name}
+use Rattle.text_definitions.specs.Faults.{static_name}
 use Rattle.text_definitions.specs.Lowering.{Meanings, place_among, trait_number, struct_label, type_label, const_label, lifetime_under, lifetime_label, optional_lifetime, length_label, inserted, with_auto, autos, auto_leaves, item_lifetime, last_lifetime, type_tree, types_trees, args_trees, arg_tree, item_tree, items_trees, field_trees, with_self, clause_reference}
 use Rattle.type_terms.proofs.TreeLaws.{append-assoc}
 use Rattle.type_terms.proofs.Made.{left, right, both}

@@ -1,18 +1,18 @@
 -- The header and the where-clauses of each impl of a text without a fault, of those that later versions add too, name only what its
 -- crate sees, by the crate's own view.
 use Rattle.std.proofs.Common.{◌≡◌, ◌⊎◌, inl, inr, ℕ, Bool, true, ◌==◌, map, refl, sym, subst, Ok}
-use Rattle.type_terms.specs.Label.{Label, adt, principal, auto_trait, of_trait, predicate}
-use Rattle.type_terms.specs.Trees.{Trees, none, tree}
-use Rattle.type_terms.specs.Worlds.{World, StructDecl, TraitDecl, Reference, sees, structs_named, traits_named, view_of}
-use Rattle.type_terms.specs.Erased.{erased_reference}
-use Rattle.type_terms.specs.Proofs.{In}
-use Rattle.type_terms.specs.LinkedSet.{sees_struct, sees_trait, label_allowed, label_shaped, well_written, in_scope}
+use Rattle.type_terms.specs.Promised.Label.{Label, adt, principal, auto_trait, of_trait, predicate}
+use Rattle.type_terms.specs.Promised.Trees.{Trees, none, tree}
+use Rattle.type_terms.specs.Promised.Worlds.{World, StructDecl, TraitDecl, Reference, sees, structs_named, traits_named, view_of}
+use Rattle.type_terms.specs.Promised.Erased.{erased_reference}
+use Rattle.type_terms.specs.Promised.Proofs.{In}
+use Rattle.type_terms.specs.Promised.Versions.{sees_struct, sees_trait, label_allowed, label_shaped, well_written, in_scope}
 use Rattle.type_terms.proofs.Members.{in-append, in-filter, filter-in, in-map, some-member, member-some}
 use Rattle.view_lowering.proofs.Trees.{and, and-left, and-right}
-use Rattle.text_definitions.specs.Declarations.{Declarations, NamedImpl, LaterImpl}
+use Rattle.text_definitions.specs.Promised.Declarations.{Declarations, NamedImpl, LaterImpl}
 use Rattle.view_lowering.proofs.Tests.{is_good_impl}
 use Rattle.type_terms.proofs.NoHolds.{member-each}
-use Rattle.sessions.specs.JoinedTexts.{text_world}
+use Rattle.sessions.specs.Promised.CoherentTexts.{text_world}
 use Rattle.sessions.specs.ScopedTexts.{written_impls, IsInScope, ImplsAreInScope}
 use Rattle.sessions.proofs.FormedTexts.{ImplFormed}
 use Rattle.sessions.proofs.FormedViews.{each-in, map-in}

@@ -2,22 +2,23 @@
 -- each impl begins with a parameter or a rigid type.
 use Rattle.std.proofs.Common.{◌≡◌, ◌⊎◌, ℕ, zero, suc, Bool, true, false, List, [], ◌∷◌, map, Some, Ok, inl, inr, refl, sym, ap, ◌∙◌, subst}
 use Rattle.std.specs.Prelude.{filter, slice_get}
-use Rattle.type_terms.specs.Trees.{Trees, none, tree, erase, some_node}
-use Rattle.type_terms.specs.Erased.{erased_reference, erased_struct, erased_trait, erased_impl, erased_world}
-use Rattle.type_terms.specs.Worlds.{World, Reference, StructDecl, TraitDecl, ImplDecl, sees}
-use Rattle.type_terms.specs.Proofs.{In}
+use Rattle.type_terms.specs.Promised.Trees.{Trees, none, tree, erase, some_node}
+use Rattle.type_terms.specs.Promised.Erased.{erased_reference, erased_struct, erased_trait, erased_impl, erased_world}
+use Rattle.type_terms.specs.Promised.Worlds.{World, Reference, StructDecl, TraitDecl, ImplDecl, sees}
+use Rattle.type_terms.specs.Promised.Proofs.{In}
 use Rattle.type_terms.proofs.Members.{in-cases, in-nothing, in-filter}
 use Rattle.type_terms.proofs.TermRules.{erased-views}
-use Rattle.type_terms.specs.Terms.{Entry}
+use Rattle.type_terms.specs.Promised.Handles.{Entry}
 use Rattle.declarations.specs.Heads.{begins_declared}
 use Rattle.declarations.specs.Items.{Items, written}
-use Rattle.text_definitions.specs.Declarations as text
-use Rattle.text_definitions.specs.Declarations.{NamedImpl, world_of}
+use Rattle.text_definitions.specs.Promised.Declarations as text
+use Rattle.text_definitions.specs.Promised.Declarations.{NamedImpl, world_of}
 use Rattle.text_definitions.specs.Text.{TextGives}
 use Rattle.assembly_laws.specs.Declared.{is_lifetime_parameter}
 use Rattle.assembly_laws.specs.Meaning.{SelfTypesBegin}
-use Rattle.view_lowering.specs.Plain.{plain, plain_reference, plain_struct, plain_trait, plain_impl, plain_world, plainly_seen_from, all_kept, none_kept, stands_in}
-use Rattle.view_lowering.specs.Seen.{seen_from, rules_seen_from}
+use Rattle.view_lowering.specs.Promised.SeenWorlds.{plain, plain_reference, plain_struct, plain_trait, plain_impl, plain_world, plainly_seen_from, all_kept, none_kept, stands_in}
+use Rattle.view_lowering.specs.Promised.SeenWorlds.{seen_from}
+use Rattle.view_lowering.specs.Seen.{rules_seen_from}
 use Rattle.view_lowering.proofs.Begins.{texts-begin}
 use Rattle.view_lowering.proofs.SeenViews.{none-left}
 use Rattle.sessions.proofs.FormedViews.{map-in}

@@ -2,12 +2,13 @@
 use Rattle.std.proofs.Common.{◌≡◌, ◌≤◌, ℕ, Bool, true, false, List, [], refl, sym, ap, ◌∙◌, subst, arith}
 use Rattle.std.specs.Prelude.{◌&&◌, not, if◌then◌else◌, Some}
 use Rattle.std.proofs.lemmas.List.Sums.{sum_by-le-sum_by}
-use Rattle.type_terms.specs.Terms.{Entry, Terms}
-use Rattle.type_terms.specs.Worlds.{sees}
+use Rattle.type_terms.specs.Promised.Handles.{Entry}
+use Rattle.type_terms.specs.Terms.{Terms}
+use Rattle.type_terms.specs.Promised.Worlds.{sees}
 use Rattle.type_terms.specs.declared.CrateId.{CrateId}
 use Rattle.search_graph.specs.SearchState.{SearchState}
 use Rattle.declarations.specs.Items.{Items}
-use Rattle.text_definitions.specs.Declarations.{Declarations, world_of}
+use Rattle.text_definitions.specs.Promised.Declarations.{Declarations, world_of}
 use Rattle.view_lowering.specs.Behind.{most_new_terms, new_struct_terms, new_trait_terms, new_impl_terms}
 use Rattle.view_lowering.specs.MostTerms.{most_terms, struct_terms, trait_terms, impl_terms, struct_terms_seen, trait_terms_seen, impl_terms_seen}
 use Rattle.goal_frames.specs.Stores.{limit_of}
@@ -20,7 +21,7 @@ use Rattle.sessions.specs.declared.seen_view.SeenView.{SeenView}
 use Rattle.sessions.specs.Resting.{Cached}
 use Rattle.sessions.specs.SeenViews.{IsViewOf}
 use Rattle.sessions.specs.Sessions.{IsSessionWithin}
-use Rattle.sessions.specs.Subjects.{IsOfText}
+use Rattle.sessions.specs.Promised.Subjects.{IsOfText}
 use Rattle.sessions.proofs.Keeping.{solves-view, solves-seen, solver-rests-first}
 
 -- ---- what is new is made no more terms than all that is seen

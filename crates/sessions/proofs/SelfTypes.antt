@@ -1,14 +1,14 @@
 -- The self types of held impls.
 use Rattle.std.proofs.Common.{◌≡◌, true, List, [], ◌∷◌, ◌⊎◌, inl, inr, subst}
-use Rattle.type_terms.specs.Worlds.{ImplDecl}
-use Rattle.type_terms.specs.Proofs.{In}
+use Rattle.type_terms.specs.Promised.Worlds.{ImplDecl}
+use Rattle.type_terms.specs.Promised.Proofs.{In}
 use Rattle.type_terms.proofs.ProofEntries.{map-in}
 use Rattle.type_terms.proofs.Members.{in-cases, in-nothing}
-use Rattle.type_terms.specs.Terms.{Entry}
+use Rattle.type_terms.specs.Promised.Handles.{Entry}
 use Rattle.declarations.specs.Heads.{begins_declared}
 use Rattle.declarations.specs.Held.{ImplHeld, AreHeld}
 use Rattle.declarations.specs.Items.{Items, HeldImpl, impl_in, written}
-use Rattle.declarations.specs.Merges.{Each}
+use Rattle.declarations.specs.Promised.Elaboration.{Each}
 use Rattle.assembly_laws.specs.Meaning.{SelfTypesBegin}
 
 each-of : {A : Type 0} (P : A → Type 0) (xs : List A) (x : A) → Each P xs → In x xs → P x

@@ -1,6 +1,6 @@
 -- Askings, one after the other.
 use Rattle.std.proofs.Common.{◌≡◌, ◌∙◌, Bool, true, false, ◌&&◌, not, refl, sym, ap, subst, List, Option, Some, Result, Ok}
-use Rattle.type_terms.specs.Terms.{Entry, Keeps}
+use Rattle.type_terms.specs.Promised.Handles.{Entry, Keeps}
 use Rattle.search_graph.specs.Cache.{KnownResult}
 use Rattle.search_graph.specs.SearchState.{SearchState}
 use Rattle.search_graph.proofs.Graphs.{Keeps-trans}

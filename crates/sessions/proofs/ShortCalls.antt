@@ -3,8 +3,8 @@ use Rattle.std.proofs.Common.{◌≡◌, ◌≤◌, inl, inr, ℕ, List, length,
 use Rattle.std.specs.Prelude.{◌==◌, IfErr, IsErrAnd}
 use Rattle.std.proofs.lemmas.List.Sums.{count_by-le-length}
 use Rattle.std.proofs.lemmas.Result.{IfErr-weaker}
-use Rattle.type_terms.specs.Terms.{Entry}
-use Rattle.type_terms.specs.Failures.{SomeKindIsFull, full}
+use Rattle.type_terms.specs.Promised.Handles.{Entry}
+use Rattle.type_terms.specs.Promised.Handles.{SomeKindIsFull, full}
 use Rattle.type_terms.specs.declared.Fault.{Fault}
 use Rattle.type_terms.specs.Growth.{FullAtLimit}
 use Rattle.goal_frames.specs.Stores.{kept_inputs, kept_responses}
@@ -17,8 +17,8 @@ use Rattle.solver_context.specs.declared.outcome.RootError.{RootError}
 use Rattle.solver_context.specs.declared.outcome.RootError.TheVariants as Root
 use Rattle.candidate_assembly.specs.declared.solver.Solver.{Solver}
 use Rattle.sessions.specs.Sessions.{HasLimits}
-use Rattle.sessions.specs.Shortages.{IsAtLimit, SessionFullAtLimit, terms, goals, answers}
-use Rattle.sessions.specs.Subjects.{Subject}
+use Rattle.sessions.specs.Promised.Shortages.{IsAtLimit, SessionFullAtLimit, terms, goals, answers}
+use Rattle.sessions.specs.Promised.Subjects.{Subject}
 
 -- an error as it is
 pub at-err : {T E : Type 0} (P : E → Type 0) (r : Result T E) {x : E} → IfErr r P → r ≡ Err x → P x

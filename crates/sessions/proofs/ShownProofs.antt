@@ -1,17 +1,18 @@
 -- Steps that were checked are a proof of the question's reference.
 use Rattle.std.proofs.Common.{◌≡◌, ◌∙◌, ℕ, List, [], Some, map, ap, sym, subst}
 use Rattle.std.specs.List.{slice_get}
-use Rattle.type_terms.specs.Erased.{erased_reference, erased_impl, IsCovered}
-use Rattle.type_terms.specs.Label.{Sort}
-use Rattle.type_terms.specs.Trees.{Trees, erase}
-use Rattle.type_terms.specs.Worlds.{World, Reference, ImplDecl}
-use Rattle.type_terms.specs.Terms.{Entry, Keeps}
+use Rattle.type_terms.specs.Promised.Erased.{erased_reference, erased_impl}
+use Rattle.type_terms.specs.Erased.{IsCovered}
+use Rattle.type_terms.specs.Promised.Label.{Sort}
+use Rattle.type_terms.specs.Promised.Trees.{Trees, erase}
+use Rattle.type_terms.specs.Promised.Worlds.{World, Reference, ImplDecl}
+use Rattle.type_terms.specs.Promised.Handles.{Entry, Keeps}
 use Rattle.type_terms.proofs.ProofEntries.{map-in}
 use Rattle.term_folds.specs.declared.predicate.TraitRef.{TraitRef}
 use Rattle.declarations.specs.Applied.{TraitRefsHeld}
 use Rattle.declarations.specs.Held.{ReferenceHeld}
 use Rattle.declarations.specs.Items.{Items, HeldImpl, reference_in, impl_in, declared}
-use Rattle.declarations.specs.Merges.{Each}
+use Rattle.declarations.specs.Promised.Elaboration.{Each}
 use Rattle.declarations.proofs.Elaborating.{each-in}
 use Rattle.declarations.proofs.Growth.{all-declared, reference-same}
 use Rattle.overlap_check.specs.Orphans.{AreWrittenWell, HeaderHoldsParams}
@@ -20,22 +21,23 @@ use Rattle.solver_context.specs.Contexts.{entries_of}
 use Rattle.solver_context.specs.declared.context.SolverCx.{SolverCx}
 use Rattle.candidate_assembly.specs.declared.solver.Solver.{Solver}
 use Rattle.infer_table.specs.Content.{content}
-use Rattle.overlap_check.specs.Questions.{filled, filled_reference}
+use Rattle.type_terms.specs.Promised.Questions.{filled, filled_reference}
 use Rattle.proof_checker.specs.Steps.{term_of, terms_of, ParametersAreCovered, AreProofOf, StepHeld}
 use Rattle.proof_checker.proofs.Later.{terms-same}
 use Rattle.proof_checker.proofs.Moved.{proof-before}
 use Rattle.proof_checker.specs.declared.steps.Step.{Step}
-use Rattle.text_definitions.specs.Declarations.{Declarations, Question}
-use Rattle.view_lowering.specs.Plain.{unbound_reference, unbound_references}
-use Rattle.view_lowering.specs.QuestionVariables.{variable_kinds}
-use Rattle.view_lowering.specs.Questions.{IsQuestion}
+use Rattle.text_definitions.specs.Promised.Declarations.{Declarations, Question}
+use Rattle.view_lowering.specs.Promised.SeenWorlds.{unbound_reference}
+use Rattle.view_lowering.specs.Plain.{unbound_references}
+use Rattle.view_lowering.specs.Promised.Questions.{variable_kinds}
+use Rattle.view_lowering.specs.Promised.Questions.{IsQuestion}
 use Rattle.view_lowering.specs.Seen.{rules_seen_from}
 use Rattle.candidate_assembly.specs.Solving.{Solving}
 use Rattle.sessions.specs.Checking.{IsReadySolver, SolverStaysReady, rules_in}
-use Rattle.sessions.specs.Promises.{view_in}
+use Rattle.sessions.specs.Promised.Promises.{view_in}
 use Rattle.sessions.specs.Sessions.{IsSolvingOf}
 use Rattle.sessions.specs.Shown.{AreProofOfQuestion, IsResolved, IsShown}
-use Rattle.sessions.specs.Subjects.{IsOfText}
+use Rattle.sessions.specs.Promised.Subjects.{IsOfText}
 use Rattle.sessions.specs.Values.{values_in}
 use Rattle.sessions.proofs.ProofsAside.{proof-aside}
 use Rattle.sessions.proofs.Filled.{values-fill}

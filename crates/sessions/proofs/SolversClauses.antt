@@ -3,11 +3,12 @@
 use Rattle.std.proofs.Common.{◌≡◌, ◌==◌, ℕ, max, true, not, List, [], ◌∷◌, Option, Some, None, refl, sym, ap, subst}
 use Rattle.std.specs.Option.{option_map_or}
 use Rattle.std.specs.Prelude.{IfSome}
-use Rattle.type_terms.specs.Label.{Sort, of_type, of_const, of_lifetime, param, of_trait, predicate}
-use Rattle.type_terms.specs.Trees.{Trees, none, tree, is_sort, outer_binder}
-use Rattle.type_terms.specs.Rules.{unsize}
+use Rattle.type_terms.specs.Promised.Label.{Sort, of_type, of_const, of_lifetime, param, of_trait, predicate}
+use Rattle.type_terms.specs.Promised.Trees.{Trees, none, tree, is_sort}
+use Rattle.type_terms.specs.Trees.{outer_binder}
+use Rattle.type_terms.specs.Promised.Rules.{unsize}
 use Rattle.type_terms.proofs.Walking.{left, right, both, or-right}
-use Rattle.type_terms.specs.Terms.{Entry, trees_at}
+use Rattle.type_terms.specs.Promised.Handles.{Entry, trees_at}
 use Rattle.term_folds.specs.declared.predicate.TraitRef.{TraitRef}
 use Rattle.infer_table.specs.Canonical.{CanonicalForm}
 use Rattle.declarations.specs.Applied.{IsApplied, AreApplied, sorts_of, sorts_of_params}

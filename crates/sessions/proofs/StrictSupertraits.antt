@@ -1,11 +1,11 @@
 -- The strict supertraits of a reference are those that `supertraits` lists, since no reference is its own supertrait.
 use Rattle.std.proofs.Common.{◌≡◌, ◌<◌, ◌==◌, ℕ, zero, suc, [], ◌∷◌, length, ◌⊎◌, inl, inr, ap, subst, arith}
-use Rattle.type_terms.specs.Worlds.{World, Reference, TraitDecl, traits_named, with_args, all_with_args}
-use Rattle.type_terms.specs.Rules.{written_supertraits, strict_supertraits, strict_supertraits_within}
-use Rattle.type_terms.specs.Proofs.{In}
+use Rattle.type_terms.specs.Promised.Worlds.{World, Reference, TraitDecl, traits_named, with_args, all_with_args}
+use Rattle.type_terms.specs.Promised.Rules.{written_supertraits, strict_supertraits, strict_supertraits_within}
+use Rattle.type_terms.specs.Promised.Proofs.{In}
 use Rattle.type_terms.proofs.ProofEntries.{map-in}
 use Rattle.type_terms.proofs.Members.{here, there, in-nothing, in-cases, in-filter, in-flat, flat-in, same-number}
-use Rattle.declarations.specs.Elaboration.{supertraits}
+use Rattle.declarations.specs.Promised.Elaboration.{supertraits}
 use Rattle.assembly_laws.specs.Declared.{LeadDown}
 use Rattle.assembly_laws.proofs.Stack.{elaborated-all}
 

@@ -2,44 +2,44 @@
 -- where-clauses.
 use Rattle.std.proofs.Common.{◌≡◌, ◌⊎◌, ◌-◌, ℕ, zero, suc, true, List, [], ◌∷◌, map, take, length, Some, inl, inr, refl, sym, ◌∙◌, ap, subst}
 use Rattle.std.specs.Prelude.{slice_get}
-use Rattle.type_terms.specs.Answers.{IsDeterminate}
-use Rattle.type_terms.specs.Proofs.{In, Every, HasProof}
-use Rattle.type_terms.specs.Rules.{strict_supertraits}
-use Rattle.type_terms.specs.Supers.{opaque_reference, SupersHold}
-use Rattle.type_terms.specs.Erased.{erased_reference, erased_impl}
-use Rattle.type_terms.specs.Trees.{Trees, erase}
-use Rattle.type_terms.specs.Worlds.{World, CrateDecl, Reference, ImplDecl, view_of}
+use Rattle.type_terms.specs.Promised.Answers.{IsDeterminate}
+use Rattle.type_terms.specs.Promised.Proofs.{In, Every, HasProof}
+use Rattle.type_terms.specs.Promised.Rules.{strict_supertraits}
+use Rattle.type_terms.specs.Promised.Supers.{opaque_reference, SupersHold}
+use Rattle.type_terms.specs.Promised.Erased.{erased_reference, erased_impl}
+use Rattle.type_terms.specs.Promised.Trees.{Trees, erase}
+use Rattle.type_terms.specs.Promised.Worlds.{World, CrateDecl, Reference, ImplDecl, view_of}
 use Rattle.type_terms.proofs.ProofEntries.{map-in}
 use Rattle.type_terms.proofs.Members.{here, there, in-cases, in-nothing, in-map}
-use Rattle.type_terms.specs.Kinds.{arg_trees}
+use Rattle.type_terms.specs.Promised.Handles.{arg_trees}
 use Rattle.type_terms.specs.Made.{terms}
-use Rattle.type_terms.specs.Terms.{Entry}
+use Rattle.type_terms.specs.Promised.Handles.{Entry}
 use Rattle.type_terms.proofs.Made.{false-true}
 use Rattle.infer_table.specs.Canonical.{HasNoCanonical}
 use Rattle.infer_table.specs.Content.{Table, Ready, content}
 use Rattle.infer_table.proofs.ContentFacts.{valued}
 use Rattle.evaluation.proofs.Labels.{made-labels}
 use Rattle.declarations.specs.Applied.{references_in}
-use Rattle.declarations.specs.Elaboration.{elaborate, supertraits}
+use Rattle.declarations.specs.Promised.Elaboration.{elaborate, supertraits}
 use Rattle.declarations.specs.Items.{Items, written}
-use Rattle.text_definitions.specs.Declarations.{Declarations, world_of}
+use Rattle.text_definitions.specs.Promised.Declarations.{Declarations, world_of}
 use Rattle.assembly_laws.specs.DeclaredWell.{IsDeclaredWell}
 use Rattle.assembly_laws.specs.Facts.{children_of, reference_in}
 use Rattle.assembly_laws.proofs.ErasedCandidates.{without_lifetimes}
 use Rattle.solver_context.specs.Roots.{fact_under}
 use Rattle.candidate_assembly.specs.Fitting.{solving_of}
 use Rattle.candidate_assembly.specs.Solving.{Solving}
-use Rattle.view_lowering.specs.Plain.{plain_reference, plain_impl, unbound_reference, stands_in}
+use Rattle.view_lowering.specs.Promised.SeenWorlds.{plain_reference, plain_impl, unbound_reference, stands_in}
 use Rattle.view_lowering.specs.Ready.{AreSeen}
-use Rattle.overlap_check.specs.Questions.{filled_reference}
+use Rattle.type_terms.specs.Promised.Questions.{filled_reference}
 use Rattle.sessions.specs.Fitting.{sorts_in}
 use Rattle.sessions.specs.Goals.{goal_of, is_fixed, are_fixed}
-use Rattle.sessions.specs.Promises.{view_in}
+use Rattle.sessions.specs.Promised.Promises.{view_in}
 use Rattle.sessions.specs.Proved.{fact_with_values}
 use Rattle.sessions.specs.Proving.{IsGoalAnswered}
-use Rattle.sessions.specs.Releases.{StopsIn, asked_supers, given_clauses}
+use Rattle.sessions.specs.Promised.Releases.{StopsIn, asked_supers, given_clauses}
 use Rattle.sessions.specs.Sessions.{IsSolvingOf}
-use Rattle.sessions.specs.Subjects.{IsOfText}
+use Rattle.sessions.specs.Promised.Subjects.{IsOfText}
 use Rattle.sessions.specs.Supertraits.{AreOfImpl, HasNoOwn, IsCheckedAt, IsFirstTold, IsHeaderTold, IsHeldAt, SolverTells, SupertraitsAreTold, opaque_clauses, outcome_of}
 use Rattle.sessions.specs.Values.{values_in}
 use Rattle.sessions.specs.declared.answers.ProveAnswer.{ProveAnswer}

@@ -1,18 +1,18 @@
 -- The solver answers questions without unknowns exactly, by what a crate sees of a text.
 use Rattle.std.proofs.Common.{◌≡◌, ◌≤◌, ℕ, zero, suc, true, if◌then◌else◌, List, [], ◌∷◌, ◌++◌, map, length, Option, Ok, inl, inr, refl, sym, ◌∙◌, ap, subst}
 use Rattle.std.specs.List.{list_any, flat_map}
-use Rattle.type_terms.specs.Answers.{SingleWay, is_bounded}
-use Rattle.type_terms.specs.Label.{of_type, of_const, of_lifetime}
-use Rattle.type_terms.specs.Erased.{erased_reference}
-use Rattle.type_terms.specs.Trees.{none}
-use Rattle.type_terms.specs.Worlds.{World, CrateDecl, Reference}
-use Rattle.type_terms.specs.Proofs.{In, HasProof}
-use Rattle.type_terms.specs.Rules.{Rule, by_clause, rules, impl_rules, built_in_rules, clause_rules, super_rules, same_reference, written_supertraits, strict_supertraits, strict_supertraits_within, elaborated}
+use Rattle.type_terms.specs.Promised.Answers.{SingleWay, is_bounded}
+use Rattle.type_terms.specs.Promised.Label.{of_type, of_const, of_lifetime}
+use Rattle.type_terms.specs.Promised.Erased.{erased_reference}
+use Rattle.type_terms.specs.Promised.Trees.{none}
+use Rattle.type_terms.specs.Promised.Worlds.{World, CrateDecl, Reference}
+use Rattle.type_terms.specs.Promised.Proofs.{In, HasProof}
+use Rattle.type_terms.specs.Promised.Rules.{Rule, by_clause, rules, impl_rules, built_in_rules, clause_rules, super_rules, same_reference, written_supertraits, strict_supertraits, strict_supertraits_within, elaborated}
 use Rattle.type_terms.proofs.Supertraits.{flat-same}
 use Rattle.type_terms.proofs.ProofEntries.{map-in}
 use Rattle.type_terms.proofs.Members.{here, in-map, flat-in}
 use Rattle.type_terms.proofs.NoHolds.{member-each}
-use Rattle.type_terms.specs.Terms.{Entry}
+use Rattle.type_terms.specs.Promised.Handles.{Entry}
 use Rattle.infer_table.specs.Responses.{AnswerTrees}
 use Rattle.infer_table.specs.Solutions.{Assignment, IsSorted}
 use Rattle.infer_table.specs.declared.certainty.TypingMode.{TypingMode}
@@ -24,9 +24,9 @@ use Rattle.goal_frames.specs.Handlers.{same_answer, applies_always}
 use Rattle.goal_frames.specs.Programs.{ArePrograms}
 use Rattle.goal_frames.specs.Searches.{Handles, GoalInMode}
 use Rattle.goal_frames.proofs.HandlerPrograms.{handlers-are-programs}
-use Rattle.declarations.specs.Elaboration.{elaborate}
+use Rattle.declarations.specs.Promised.Elaboration.{elaborate}
 use Rattle.declarations.specs.Items.{Items, written}
-use Rattle.text_definitions.specs.Declarations as text
+use Rattle.text_definitions.specs.Promised.Declarations as text
 use Rattle.text_definitions.specs.Text.{TextGives}
 use Rattle.assembly_laws.specs.DeclaredWell.{IsDeclaredWell, is_declared_well}
 use Rattle.assembly_laws.specs.Facts.{clauses_of, reference_in}

@@ -2,22 +2,23 @@
 use Rattle.std.proofs.Common.{◌≡◌, ◌-◌, ℕ, zero, suc, true, false, ◌||◌, refl, List, [], ◌∷◌, Some, Ok, sym, ◌∙◌, ap, subst}
 use Rattle.std.proofs.lemmas.Option.{same_Some}
 use Rattle.std.specs.Prelude.{slice_get}
-use Rattle.type_terms.specs.Answers.{is_variable}
-use Rattle.type_terms.specs.Label.{Label, Sort, of_type, of_const, of_lifetime, infer}
-use Rattle.type_terms.specs.Proofs.{In}
-use Rattle.type_terms.specs.Trees.{Trees, none, tree, erase, erase_label, some_node}
-use Rattle.type_terms.specs.Worlds.{World, Reference}
+use Rattle.type_terms.specs.Promised.Answers.{is_variable}
+use Rattle.type_terms.specs.Promised.Label.{Label, Sort, of_type, of_const, of_lifetime, infer}
+use Rattle.type_terms.specs.Promised.Proofs.{In}
+use Rattle.type_terms.specs.Promised.Trees.{Trees, none, tree, erase, erase_label, some_node}
+use Rattle.type_terms.specs.Promised.Worlds.{World, Reference}
 use Rattle.type_terms.proofs.NoHolds.{member-each}
 use Rattle.type_terms.specs.Made.{terms}
-use Rattle.type_terms.specs.Terms.{Entry}
+use Rattle.type_terms.specs.Promised.Handles.{Entry}
 use Rattle.type_terms.proofs.Made.{false-true}
-use Rattle.declarations.specs.Elaboration.{elaborate}
+use Rattle.declarations.specs.Promised.Elaboration.{elaborate}
 use Rattle.declarations.specs.Items.{Items, written, reference_in}
-use Rattle.declarations.specs.Merges.{Each}
-use Rattle.text_definitions.specs.Declarations as text
+use Rattle.declarations.specs.Promised.Elaboration.{Each}
+use Rattle.text_definitions.specs.Promised.Declarations as text
 use Rattle.text_definitions.specs.Text.{TextGives}
-use Rattle.view_lowering.specs.Plain.{unbound_reference, unbound_references}
-use Rattle.view_lowering.specs.QuestionVariables.{variable_kinds}
+use Rattle.view_lowering.specs.Promised.SeenWorlds.{unbound_reference}
+use Rattle.view_lowering.specs.Plain.{unbound_references}
+use Rattle.view_lowering.specs.Promised.Questions.{variable_kinds}
 use Rattle.view_lowering.specs.Ready.{AreSeen}
 use Rattle.view_lowering.proofs.WellSeen.{texts-seen-well}
 use Rattle.assembly_laws.specs.DeclaredWell.{IsDeclaredWell, is_declared_well}

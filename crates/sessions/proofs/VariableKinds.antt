@@ -1,9 +1,10 @@
 -- The unknowns that stand for the variables of a question have their kinds.
 use Rattle.std.proofs.Common.{◌≡◌, ℕ, suc, List, [], ◌∷◌, map, refl, sym, ap, ◌∙◌, subst}
-use Rattle.type_terms.specs.Label.{Sort, of_type, of_const, of_lifetime, infer}
-use Rattle.type_terms.specs.Trees.{Trees, none, tree, leaf, IsA, sort_of}
-use Rattle.type_terms.specs.Terms.{Entry, Lawful, Has, types, consts, trees_at}
-use Rattle.type_terms.specs.Kinds.{arg_trees, ArgsHeld, region_label, region_trees}
+use Rattle.type_terms.specs.Promised.Label.{Sort, of_type, of_const, of_lifetime, infer}
+use Rattle.type_terms.specs.Promised.Trees.{Trees, none, tree, leaf, IsA, sort_of}
+use Rattle.type_terms.specs.Promised.Handles.{Entry, Has, types, consts, trees_at}
+use Rattle.type_terms.specs.Terms.{Lawful}
+use Rattle.type_terms.specs.Promised.Handles.{arg_trees, ArgsHeld, region_label, region_trees}
 use Rattle.type_terms.specs.declared.number.BoundVarIndexKind.TheVariants.{Bound as KBinder, Canonical as KCanonical}
 use Rattle.type_terms.specs.declared.region.Region.{Region}
 use Rattle.type_terms.specs.declared.region.RegionKind.{RegionKind}
@@ -12,7 +13,7 @@ use Rattle.type_terms.specs.declared.kinds.GenericArgKind.{GenericArgKind}
 use Rattle.type_terms.specs.declared.kinds.GenericArgKind.TheVariants.{Ty, Const, Lifetime}
 use Rattle.term_folds.specs.Arguments.{arg_sort}
 use Rattle.infer_table.proofs.BindFacts.{type-is, const-is}
-use Rattle.text_definitions.specs.Declarations.{Variable}
+use Rattle.text_definitions.specs.Promised.Declarations.{Variable}
 use Rattle.text_definitions.specs.Names.{own_from}
 use Rattle.type_terms.proofs.ListBasics.{first-same, rest-same, two}
 

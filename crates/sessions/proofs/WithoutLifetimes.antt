@@ -3,15 +3,17 @@
 use Rattle.std.proofs.Common.{◌≡◌, ◌+◌, ◌<◌, ◌==◌, ℕ, zero, suc, Bool, true, false, not, ◌&&◌, ◌||◌, if◌then◌else◌, List, [], ◌∷◌, ◌++◌, map, length, inl, inr, refl, sym, ◌∙◌, ap, subst, arith, zero-add, Option, Some, None}
 use Rattle.std.specs.Prelude.{filter}
 use Rattle.std.specs.List.{flat_map, list_all, list_any}
-use Rattle.type_terms.specs.Label.{Label, Sort, of_type, of_const, of_lifetime, array, slice, dynamic, static, adt, fn_ptr, ref, raw_pointer, principal, of_trait, predicate, param, placeholder, infer, canonical, bound, value}
-use Rattle.type_terms.specs.Trees.{Trees, none, tree, leaf, ◌+++◌, erase, erase_label, instantiate, nth, arguments, is_a, is_sort, some_node, fits, Fits, Single}
-use Rattle.type_terms.specs.Erased.{erased_reference, erased_struct, erased_trait, erased_impl, erased_world, mentions, IsCovered}
-use Rattle.type_terms.specs.Worlds.{World, CrateDecl, Reference, StructDecl, TraitDecl, ImplDecl, structs_named, with_args, all_with_args}
-use Rattle.type_terms.specs.Rules.{Rule, same_head, by_impl, row, rules, sized, sized_struct, auto_struct, object_auto, object_principal, unsize, unsize_to_dyn, unsize_dyn, unsize_upcast, unsize_struct, is_auto, is_dyn, is_written, same_reference, impl_rules, plain_rules, sized_rules, auto_rules, auto_rules_plain, unsize_rules, unsize_array_rules, unsize_to_dyn_rules, unsize_upcast_rules, unsize_struct_rules, upcasts_principal, upcasts_autos, object_rules, built_in_rules, equal_rows, elaborated, are_declared, are_dyn_compatible, is_declared, principal_with, autos_with, asked, last_asked, each_asked, fields_of, some_unsizing, with_unsizing, last_unsizes, strict_supertraits, strict_supertraits_within, written_supertraits, clause_rules, super_rules, by_clause}
-use Rattle.type_terms.specs.Answers.{is_closed, is_undeclared, written_in, children, short_chains, is_bounded, is_possible}
-use Rattle.type_terms.specs.Walks.{Met, local, entered, struct_leaf, open_place, other_leaf, struct_is, trait_is, is_home, dyn_met, visited, until_decisive, item_in, ends_local, is_known_in}
+use Rattle.type_terms.specs.Promised.Label.{Label, Sort, of_type, of_const, of_lifetime, array, slice, dynamic, static, adt, fn_ptr, ref, raw_pointer, principal, of_trait, predicate, param, placeholder, infer, canonical, bound, value}
+use Rattle.type_terms.specs.Promised.Trees.{Trees, none, tree, leaf, ◌+++◌, erase, erase_label, instantiate, nth, is_sort, some_node, Fits}
+use Rattle.type_terms.specs.Trees.{arguments, is_a, fits, Single}
+use Rattle.type_terms.specs.Promised.Erased.{erased_reference, erased_struct, erased_trait, erased_impl, erased_world}
+use Rattle.type_terms.specs.Erased.{mentions, IsCovered}
+use Rattle.type_terms.specs.Promised.Worlds.{World, CrateDecl, Reference, StructDecl, TraitDecl, ImplDecl, structs_named, with_args, all_with_args}
+use Rattle.type_terms.specs.Promised.Rules.{Rule, same_head, by_impl, row, rules, sized, sized_struct, auto_struct, object_auto, object_principal, unsize, unsize_to_dyn, unsize_dyn, unsize_upcast, unsize_struct, is_auto, is_dyn, is_written, same_reference, impl_rules, plain_rules, sized_rules, auto_rules, auto_rules_plain, unsize_rules, unsize_array_rules, unsize_to_dyn_rules, unsize_upcast_rules, unsize_struct_rules, upcasts_principal, upcasts_autos, object_rules, built_in_rules, equal_rows, elaborated, are_declared, are_dyn_compatible, is_declared, principal_with, autos_with, asked, last_asked, each_asked, fields_of, some_unsizing, with_unsizing, last_unsizes, strict_supertraits, strict_supertraits_within, written_supertraits, clause_rules, super_rules, by_clause}
+use Rattle.type_terms.specs.Promised.Answers.{is_closed, is_undeclared, written_in, children, short_chains, is_bounded, is_possible}
+use Rattle.type_terms.specs.Promised.Walks.{Met, local, entered, struct_leaf, open_place, other_leaf, struct_is, trait_is, is_home, dyn_met, visited, until_decisive, item_in, ends_local, is_known_in}
 use Rattle.type_terms.specs.Codes.{same}
-use Rattle.type_terms.specs.Proofs.{In}
+use Rattle.type_terms.specs.Promised.Proofs.{In}
 use Rattle.type_terms.proofs.Applies.{applies-in, fits-erased}
 use Rattle.type_terms.proofs.Fitting.{not-true, append-shut, child-shut, next-shut, head-shut, fits-sound, same-reference-sound}
 use Rattle.type_terms.proofs.Matching.{same-where-asked, or-false-left as no-left}

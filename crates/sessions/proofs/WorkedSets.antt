@@ -2,17 +2,18 @@
 use Rattle.std.proofs.Common.{◌≡◌, ◌⊎◌, inl, inr, ℕ, zero, suc, Bool, true, false, not, ◌&&◌, ◌||◌, ◌==◌, List, [], ◌∷◌, map, length, refl, sym, ap, ◌∙◌, subst, None, arith}
 use Rattle.std.specs.Prelude.{Ok, codes}
 use Rattle.std.specs.List.{list_all}
-use Rattle.type_terms.specs.Label.{adt}
-use Rattle.type_terms.specs.Trees.{Trees, none, tree, instantiate}
-use Rattle.type_terms.specs.Worlds.{World, StructDecl, TraitDecl, ImplDecl, Reference, core, view_of}
-use Rattle.type_terms.specs.Rules.{strict_supertraits}
-use Rattle.type_terms.specs.Supers.{opaque_reference, IsHeld}
-use Rattle.type_terms.specs.Proofs.{In, Every, HasProof}
-use Rattle.type_terms.specs.Core.{core_world}
-use Rattle.type_terms.specs.Walks.{keeps_orphan_rule}
-use Rattle.type_terms.specs.Answers.{CommonInstance}
-use Rattle.type_terms.specs.LinkedSet.{IsPair}
-use Rattle.type_terms.specs.Renumbering.{Renumbering, View, HoldsView, same_numbers, view_at}
+use Rattle.type_terms.specs.Promised.Label.{adt}
+use Rattle.type_terms.specs.Promised.Trees.{Trees, none, tree, instantiate}
+use Rattle.type_terms.specs.Promised.Worlds.{World, StructDecl, TraitDecl, ImplDecl, Reference, core, view_of}
+use Rattle.type_terms.specs.Promised.Rules.{strict_supertraits}
+use Rattle.type_terms.specs.Promised.Supers.{opaque_reference, IsHeld}
+use Rattle.type_terms.specs.Promised.Proofs.{In, Every, HasProof}
+use Rattle.type_terms.specs.Promised.Core.{core_world}
+use Rattle.type_terms.specs.Promised.Walks.{keeps_orphan_rule}
+use Rattle.type_terms.specs.Promised.Answers.{CommonInstance}
+use Rattle.type_terms.specs.Promised.LinkedSet.{IsPair}
+use Rattle.type_terms.specs.Promised.Renumbering.{Renumbering, View, HoldsView}
+use Rattle.type_terms.specs.Renumbering.{same_numbers, view_at}
 use Rattle.type_terms.proofs.Members.{here, there, in-cases, in-nothing, same-number, self-number, not-both}
 use Rattle.type_terms.proofs.Walking.{left, right, or-cases}
 use Rattle.type_terms.proofs.Fitting.{not-true}
@@ -21,17 +22,20 @@ use Rattle.type_terms.proofs.ViewLaws.{as-it-was}
 use Rattle.type_terms.proofs.SameNumbers.{holds-view}
 use Rattle.type_terms.proofs.TwoTexts.{exchanged, by-lists}
 use Rattle.text_definitions.specs.Tokens.{tokens_of}
-use Rattle.text_definitions.specs.Syntax.{named, no_args, no_types, no_params, Line, crate_line, struct_line, trait_line, impl_line}
-use Rattle.text_definitions.specs.Declarations.{Declarations, nothing_declared}
+use Rattle.text_definitions.specs.Promised.Syntax.{named, no_args, no_types, Line, crate_line, struct_line, trait_line, impl_line}
+use Rattle.text_definitions.specs.Syntax.{no_params}
+use Rattle.text_definitions.specs.Promised.Declarations.{Declarations}
+use Rattle.text_definitions.specs.Declarations.{nothing_declared}
 use Rattle.text_definitions.specs.Adding.{added}
-use Rattle.text_definitions.specs.Written.{IsWritten, is_ascii, is_blank}
+use Rattle.text_definitions.specs.Written.{IsWritten}
+use Rattle.text_definitions.specs.Promised.Written.{is_ascii, is_blank}
 use Rattle.text_definitions.specs.Faults.{fault_of}
 use Rattle.text_definitions.specs.Text.{TextGives, fits, LinesGive, ends, goes_on, adds}
-use Rattle.overlap_check.specs.Verdicts.{IsAccepted}
+use Rattle.type_terms.specs.Promised.Verdicts.{IsAccepted}
 use Rattle.overlap_check.proofs.Contracts.{apart-cleared}
-use Rattle.sessions.specs.JoinedTexts.{text_world}
-use Rattle.sessions.specs.Promises.{view_in}
-use Rattle.sessions.specs.AnsweredSets.{IsAcceptedAndHeld, WasAsked, IsOfAskedCrates, IsAnsweredSet}
+use Rattle.sessions.specs.Promised.CoherentTexts.{text_world}
+use Rattle.sessions.specs.Promised.Promises.{view_in}
+use Rattle.sessions.specs.Promised.AnsweredSets.{IsAcceptedAndHeld, WasAsked, IsOfAskedCrates, IsAnsweredSet}
 use Rattle.sessions.specs.WorkedSets.{text_with_aside, text_with_second, CratesOfTwoTextsAreASet}
 use Rattle.sessions.proofs.KeptTexts.{texts-are-kept}
 use Rattle.sessions.proofs.JoinedTexts.{text-is-ordered, of-core}

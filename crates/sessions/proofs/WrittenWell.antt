@@ -3,19 +3,20 @@ use Rattle.std.proofs.Common.{◌≡◌, ◌<◌, ℕ, zero, suc, ◌+◌, Bool,
 use Rattle.std.proofs.lemmas.Bool.{eqb-true}
 use Rattle.std.proofs.lemmas.Option.{same_Some}
 use Rattle.std.specs.Prelude.{if◌then◌else◌, nat_lt, slice_get, ◌==◌}
-use Rattle.type_terms.specs.Answers.{is_variable}
-use Rattle.type_terms.specs.Label.{Label, Sort, of_type, of_const, of_lifetime, param, infer, canonical}
-use Rattle.type_terms.specs.LinkedSet.{is_stray}
-use Rattle.type_terms.specs.Proofs.{In}
-use Rattle.type_terms.specs.Erased.{mentions, erased_reference}
-use Rattle.type_terms.specs.Trees.{Trees, none, tree, erase, is_sort, some_node}
-use Rattle.type_terms.specs.Worlds.{World, Reference, ImplDecl}
+use Rattle.type_terms.specs.Promised.Answers.{is_variable}
+use Rattle.type_terms.specs.Promised.Label.{Label, Sort, of_type, of_const, of_lifetime, param, infer, canonical}
+use Rattle.type_terms.specs.Promised.LinkedSet.{is_stray}
+use Rattle.type_terms.specs.Promised.Proofs.{In}
+use Rattle.type_terms.specs.Erased.{mentions}
+use Rattle.type_terms.specs.Promised.Erased.{erased_reference}
+use Rattle.type_terms.specs.Promised.Trees.{Trees, none, tree, erase, is_sort, some_node}
+use Rattle.type_terms.specs.Promised.Worlds.{World, Reference, ImplDecl}
 use Rattle.type_terms.proofs.ProofEntries.{map-in}
 use Rattle.type_terms.proofs.Members.{here, there, in-map}
 use Rattle.type_terms.proofs.NoHolds.{member-each}
 use Rattle.type_terms.proofs.Walking.{left, right}
 use Rattle.type_terms.specs.Made.{terms, is_made}
-use Rattle.type_terms.specs.Terms.{Entry, trees_at}
+use Rattle.type_terms.specs.Promised.Handles.{Entry, trees_at}
 use Rattle.type_terms.proofs.Made.{false-true}
 use Rattle.term_folds.specs.declared.predicate.TraitRef.{TraitRef}
 use Rattle.infer_table.specs.declared.canonical.CanonicalVarKind.{CanonicalVarKind}
@@ -24,7 +25,7 @@ use Rattle.declarations.specs.declared.items.GenericParamKind.{GenericParamKind}
 use Rattle.declarations.specs.declared.items.GenericParamKind.TheVariants as params
 use Rattle.declarations.specs.Applied.{sort_of_param}
 use Rattle.declarations.specs.Items.{Items, HeldImpl, reference_in, impl_in, written}
-use Rattle.declarations.specs.Merges.{Each}
+use Rattle.declarations.specs.Promised.Elaboration.{Each}
 use Rattle.declarations.proofs.Elaborating.{each-in}
 use Rattle.assembly_laws.specs.Candidates.{is_param, kind_of_param, kinds_of_params}
 use Rattle.assembly_laws.specs.Declared.{is_declared, is_counted, are_terms, is_otherwise, is_unsorted}
@@ -37,7 +38,7 @@ use Rattle.candidate_assembly.specs.Headers.{CanBeCandidate, var_kind}
 use Rattle.candidate_assembly.specs.Ready.{AreReadyDeclarations}
 use Rattle.candidate_assembly.proofs.WellDeclared.{is-less}
 use Rattle.overlap_check.specs.Headers.{IsWithoutVariables}
-use Rattle.overlap_check.specs.OpenedHeaders.{is_param as is_label}
+use Rattle.type_terms.specs.Promised.OpenedHeaders.{is_param as is_label}
 use Rattle.overlap_check.specs.Orphans.{HoldsParams, HeaderHoldsParams}
 use Rattle.overlap_check.specs.Written.{IsWrittenWell}
 use Rattle.sessions.specs.Checking.{ReadyAreWritten}

@@ -1,17 +1,18 @@
 -- The where-clauses of queries, as goals are evaluated under them.
 use Rattle.std.specs.Prelude.{ℕ, List, Ok}
-use Rattle.type_terms.specs.Terms.{Entry}
+use Rattle.type_terms.specs.Promised.Handles.{Entry}
 use Rattle.declarations.specs.Applied.{AreApplied}
 use Rattle.declarations.specs.Items.{Items}
-use Rattle.text_definitions.specs.Declarations as text
+use Rattle.text_definitions.specs.Promised.Declarations as text
 use Rattle.text_definitions.specs.Text.{TextGives}
-use Rattle.view_lowering.specs.Questions.{IsQuestion, IsLowered}
+use Rattle.view_lowering.specs.Promised.Questions.{IsQuestion}
+use Rattle.view_lowering.specs.Questions.{IsLowered}
 use Rattle.view_lowering.specs.Ready.{AreSeen}
 use Rattle.view_lowering.specs.declared.question.LoweredQuestion.{LoweredQuestion}
 use Rattle.candidate_assembly.specs.Fitting.{solving_of}
 use Rattle.sessions.specs.Proving.{ClausesApply}
 use Rattle.sessions.specs.Sessions.{IsSolvingOf}
-use Rattle.sessions.specs.Subjects.{IsOfText}
+use Rattle.sessions.specs.Promised.Subjects.{IsOfText}
 
 -- The where-clauses of a query of a text without a fault have an argument for each parameter of their traits, by what the query's crate
 -- sees, over any terms that they are lowered to.

@@ -2,17 +2,17 @@
 use Rattle.std.specs.Prelude.{◌≡◌, ℕ, ◌==◌, Bool, List, [], map, None}
 use Rattle.std.specs.HashMap.{get_by}
 use Rattle.std.specs.Option.{option_map_or}
-use Rattle.type_terms.specs.Answers.{CommonInstance}
-use Rattle.type_terms.specs.Proofs.{In}
-use Rattle.type_terms.specs.Worlds.{World, ImplDecl}
-use Rattle.type_terms.specs.Terms.{Entry, trees_at}
+use Rattle.type_terms.specs.Promised.Answers.{CommonInstance}
+use Rattle.type_terms.specs.Promised.Proofs.{In}
+use Rattle.type_terms.specs.Promised.Worlds.{World, ImplDecl}
+use Rattle.type_terms.specs.Promised.Handles.{Entry, trees_at}
 use Rattle.type_terms.specs.declared.ImplId.{ImplId}
 use Rattle.type_terms.specs.declared.TraitId.{TraitId}
-use Rattle.type_terms.specs.LinkedSet.{IsPair}
+use Rattle.type_terms.specs.Promised.LinkedSet.{IsPair}
 use Rattle.declarations.specs.Heads.{head_of}
 use Rattle.declarations.specs.declared.items.ImplDef.{ImplDef}
-use Rattle.sessions.specs.Promises.{view_in}
-use Rattle.sessions.specs.Subjects.{Subject}
+use Rattle.sessions.specs.Promised.Promises.{view_in}
+use Rattle.sessions.specs.Promised.Subjects.{Subject}
 use Rattle.sessions.specs.declared.by_trait.ImplsByTrait.{ImplsByTrait}
 
 -- Two traits are one.

@@ -1,21 +1,21 @@
 -- The check of a crate, step by step: its headers first, then its pairs by the numbers of their impls. V is what the crate c sees.
 use Rattle.std.specs.Prelude.{◌≡◌, ℕ, ◌<◌, Bool, true, false, List, Option, Some, None}
-use Rattle.type_terms.specs.Worlds.{World, ImplDecl}
-use Rattle.type_terms.specs.Proofs.{In}
-use Rattle.type_terms.specs.Answers.{CommonInstance}
-use Rattle.type_terms.specs.Terms.{Entry}
+use Rattle.type_terms.specs.Promised.Worlds.{World, ImplDecl}
+use Rattle.type_terms.specs.Promised.Proofs.{In}
+use Rattle.type_terms.specs.Promised.Answers.{CommonInstance}
+use Rattle.type_terms.specs.Promised.Handles.{Entry}
 use Rattle.type_terms.specs.declared.ImplId.{ImplId}
 use Rattle.type_terms.specs.declared.kinds.Ty.{Ty}
-use Rattle.type_terms.specs.LinkedSet.{IsPair}
+use Rattle.type_terms.specs.Promised.LinkedSet.{IsPair}
 use Rattle.declarations.specs.Items.{Items, HeldImpl, declared}
 use Rattle.declarations.specs.declared.items.ImplDef.{ImplDef}
-use Rattle.declarations.specs.Merges.{Each}
+use Rattle.declarations.specs.Promised.Elaboration.{Each}
 use Rattle.overlap_check.specs.Headers.{IsIntersection, IsSolved, IsPosed, IsWithoutVariables}
 use Rattle.orphan_check.specs.declared.errors.OrphanCheckErr.{OrphanCheckErr}
 use Rattle.overlap_check.specs.Orphans.{AreWrittenWell, IsFirstError}
 use Rattle.overlap_check.specs.Partners.{IsPairAt}
 use Rattle.overlap_check.specs.SessionLaws.{IsPassed}
-use Rattle.overlap_check.specs.Verdicts.{IsOverlap}
+use Rattle.type_terms.specs.Promised.Verdicts.{IsOverlap}
 use Rattle.overlap_check.specs.declared.intersection.ImplIntersection.{ImplIntersection}
 use Rattle.solver_context.specs.declared.context.SolverCx.{SolverCx}
 use Rattle.solver_context.specs.Contexts.{entries_of, IsReady as IsReadyContext, Advances}
@@ -23,8 +23,8 @@ use Rattle.candidate_assembly.specs.declared.solver.Solver.{Solver}
 use Rattle.candidate_assembly.specs.Fitting.{solving_of}
 use Rattle.candidate_assembly.specs.Ready.{AreReadyDeclarations}
 use Rattle.candidate_assembly.specs.Solving.{Solving}
-use Rattle.sessions.specs.Promises.{view_in}
-use Rattle.sessions.specs.Subjects.{Subject}
+use Rattle.sessions.specs.Promised.Promises.{view_in}
+use Rattle.sessions.specs.Promised.Subjects.{Subject}
 
 -- ---- the solver's context
 -- The declarations that it solves by are ready, and all handles are its interner's.

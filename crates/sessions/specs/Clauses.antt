@@ -1,10 +1,10 @@
 -- Where-clauses with their supertraits.
 use Rattle.std.specs.Prelude.{◌<◌, ℕ, List, map}
-use Rattle.type_terms.specs.Erased.{erased_reference, erased_world}
-use Rattle.type_terms.specs.Trees.{Fits}
-use Rattle.type_terms.specs.Worlds.{World, Reference, TraitDecl, traits_named}
-use Rattle.type_terms.specs.Rules.{elaborated}
-use Rattle.type_terms.specs.Proofs.{In, HasProof}
+use Rattle.type_terms.specs.Promised.Erased.{erased_reference, erased_world}
+use Rattle.type_terms.specs.Promised.Trees.{Fits}
+use Rattle.type_terms.specs.Promised.Worlds.{World, Reference, TraitDecl, traits_named}
+use Rattle.type_terms.specs.Promised.Rules.{elaborated}
+use Rattle.type_terms.specs.Promised.Proofs.{In, HasProof}
 
 -- The bounds of a trait are of traits with lower rank, so no trait is among its own supertraits.
 abbrev pub BoundsLeadDown : World → (ℕ → ℕ) → Type 0

@@ -1,28 +1,29 @@
 -- Unambiguous trait references, as the search of a session answers them outside coherence.
 use Rattle.std.specs.Prelude.{ℕ, ◌+◌, List, map, Option}
-use Rattle.type_terms.specs.Answers.{SingleWay, IsUnambiguous}
-use Rattle.type_terms.specs.Erased.{erased_reference}
-use Rattle.type_terms.specs.Worlds.{World, Reference}
+use Rattle.type_terms.specs.Promised.Answers.{SingleWay, IsUnambiguous}
+use Rattle.type_terms.specs.Promised.Erased.{erased_reference}
+use Rattle.type_terms.specs.Promised.Worlds.{World, Reference}
 use Rattle.infer_table.specs.Canonical.{canonical_form}
 use Rattle.infer_table.specs.Responses.{AnswerTrees}
 use Rattle.infer_table.specs.declared.certainty.TypingMode.TheVariants.{PostAnalysis}
 use Rattle.search_graph.specs.Plain.{IsNotPlain}
 use Rattle.solver_context.specs.Contexts.{Asked}
 use Rattle.solver_context.specs.Evaluations.{IsFoundBySearch}
-use Rattle.declarations.specs.Elaboration.{elaborate}
+use Rattle.declarations.specs.Promised.Elaboration.{elaborate}
 use Rattle.declarations.specs.Items.{written}
-use Rattle.text_definitions.specs.Declarations.{Declarations, Question}
-use Rattle.view_lowering.specs.Plain.{unbound_reference, unbound_references}
-use Rattle.view_lowering.specs.Questions.{IsQuestion}
+use Rattle.text_definitions.specs.Promised.Declarations.{Declarations, Question}
+use Rattle.view_lowering.specs.Promised.SeenWorlds.{unbound_reference}
+use Rattle.view_lowering.specs.Plain.{unbound_references}
+use Rattle.view_lowering.specs.Promised.Questions.{IsQuestion}
 use Rattle.candidate_assembly.specs.Solving.{Solving}
 use Rattle.sessions.specs.Answers.{IsRightOf}
 use Rattle.sessions.specs.Fitting.{sorts_in}
 use Rattle.sessions.specs.Goals.{goal_of}
-use Rattle.sessions.specs.Promises.{view_in}
+use Rattle.sessions.specs.Promised.Promises.{view_in}
 use Rattle.sessions.specs.Questions.{IsFormedAsWritten}
 use Rattle.sessions.specs.Refusals.{session_meaning}
 use Rattle.sessions.specs.Sessions.{IsSolvingOf}
-use Rattle.sessions.specs.Subjects.{IsOfText}
+use Rattle.sessions.specs.Promised.Subjects.{IsOfText}
 
 -- The trait reference, evaluated outside coherence under the where-clauses with all their supertraits.
 abbrev pub asked_under : World → List Reference → Reference → Asked

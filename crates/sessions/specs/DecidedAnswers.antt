@@ -1,14 +1,14 @@
 -- What the solver answers to unambiguous queries, apart from yes.
 use Rattle.std.specs.Prelude.{ℕ, List}
-use Rattle.type_terms.specs.Terms.{Entry}
-use Rattle.text_definitions.specs.Declarations.{Declarations, Question}
-use Rattle.view_lowering.specs.Questions.{IsQuestion}
+use Rattle.type_terms.specs.Promised.Handles.{Entry}
+use Rattle.text_definitions.specs.Promised.Declarations.{Declarations, Question}
+use Rattle.view_lowering.specs.Promised.Questions.{IsQuestion}
 use Rattle.candidate_assembly.specs.Solving.{Solving}
-use Rattle.overlap_check.specs.Questions as answers
-use Rattle.sessions.specs.Promises.{IsProved}
+use Rattle.type_terms.specs.Promised.Questions as answers
+use Rattle.sessions.specs.Promised.Promises.{IsProved}
 use Rattle.sessions.specs.Proving.{IsAnsweredBySolver}
 use Rattle.sessions.specs.Sessions.{IsSolvingOf}
-use Rattle.sessions.specs.Subjects.{IsOfText}
+use Rattle.sessions.specs.Promised.Subjects.{IsOfText}
 use Rattle.sessions.specs.declared.answers.ProveAnswer.TheVariants.{Unproved, Maybe}
 
 -- An answer that is no yes is right: to an unambiguous query the solver answers `Unproved` only if it has no proof, and never `Maybe`.

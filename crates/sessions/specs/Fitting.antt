@@ -1,7 +1,7 @@
 -- Which goals fit declarations, as far as names and kinds determine it.
 use Rattle.std.specs.Prelude.{Bool, ◌&&◌, List, [], map}
 use Rattle.std.specs.Option.{option_map_or}
-use Rattle.type_terms.specs.Terms.{Entry}
+use Rattle.type_terms.specs.Promised.Handles.{Entry}
 use Rattle.infer_table.specs.Canonical.{CanonicalForm}
 use Rattle.declarations.specs.Applied.{sort_of_param, sorts_of_params}
 use Rattle.declarations.specs.Items.{Items, struct_at, trait_at, written}

@@ -1,19 +1,19 @@
 -- What values hold that is foreign to their question, as it is read off terms with lifetimes; and the visitors that look for it.
 use Rattle.std.specs.Prelude.{◌≡◌, Bool, true, false, not, ◌||◌, List, ◌∷◌, map}
 use Rattle.std.specs.List.{list_all}
-use Rattle.type_terms.specs.Answers.{is_undeclared}
-use Rattle.type_terms.specs.Kinds.{arg_trees}
-use Rattle.type_terms.specs.Label.{Label, of_type, of_const, principal, auto_trait, placeholder, infer}
-use Rattle.type_terms.specs.Terms.{Entry}
-use Rattle.type_terms.specs.Trees.{Trees, none, tree, erase_label, some_node}
+use Rattle.type_terms.specs.Promised.Answers.{is_undeclared}
+use Rattle.type_terms.specs.Promised.Handles.{arg_trees}
+use Rattle.type_terms.specs.Promised.Label.{Label, of_type, of_const, principal, auto_trait, placeholder, infer}
+use Rattle.type_terms.specs.Promised.Handles.{Entry}
+use Rattle.type_terms.specs.Promised.Trees.{Trees, none, tree, erase_label, some_node}
 use Rattle.type_terms.specs.Visits.{IsBound}
-use Rattle.type_terms.specs.Worlds.{World, Reference}
+use Rattle.type_terms.specs.Promised.Worlds.{World, Reference}
 use Rattle.type_terms.specs.declared.visit.Seen.TheVariants.{Enter}
 use Rattle.term_folds.specs.declared.predicate.TraitRef.{TraitRef}
 use Rattle.declarations.specs.Applied.{references_in}
 use Rattle.declarations.specs.Items.{reference_in}
 use Rattle.candidate_assembly.specs.Finding.{BreaksAt, at_root}
-use Rattle.sessions.specs.OwnValues.{is_same_param, is_stray}
+use Rattle.sessions.specs.Promised.OwnValues.{is_same_param, is_stray}
 use Rattle.sessions.specs.declared.answers.ProveAnswer.{ProveAnswer}
 use Rattle.sessions.specs.declared.answers.ProveAnswer.TheVariants.{Yes, Maybe, Unproved}
 use Rattle.sessions.specs.declared.own_values.Param.{Param}

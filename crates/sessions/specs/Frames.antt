@@ -1,8 +1,8 @@
 -- How many frames evaluations start, each with the answers of the search to those before it. `FrameBounds` has an upper bound.
 use Rattle.std.specs.Prelude.{◌≡◌, ◌≤◌, ◌+◌, ◌⊎◌, ℕ, zero, suc, List, [], Some}
-use Rattle.type_terms.specs.Label.{Sort}
-use Rattle.type_terms.specs.Trees.{IsA}
-use Rattle.type_terms.specs.Worlds.{Reference}
+use Rattle.type_terms.specs.Promised.Label.{Sort}
+use Rattle.type_terms.specs.Promised.Trees.{IsA}
+use Rattle.type_terms.specs.Promised.Worlds.{Reference}
 use Rattle.evaluation.specs.declared.TheConstants.{FIXPOINT_STEP_LIMIT}
 use Rattle.infer_table.specs.Canonical.{GoalTrees}
 use Rattle.infer_table.specs.Content.{Table, content}
@@ -12,7 +12,7 @@ use Rattle.infer_table.specs.Solutions.{Binding}
 use Rattle.evaluation.specs.Lists.{Every}
 use Rattle.infer_table.specs.Unification.{TableTrees, table_trees}
 use Rattle.infer_table.specs.declared.goal.Goal.{Goal}
-use Rattle.search_graph.specs.Bound.{frame_bound}
+use Rattle.search_graph.specs.Promised.FrameBound.{frame_bound}
 use Rattle.search_graph.specs.SearchState.{SearchState}
 use Rattle.solver_context.specs.Contexts.{Asked, entries_of}
 use Rattle.solver_context.specs.Evaluations.{IsFoundBySearch}
@@ -22,8 +22,8 @@ use Rattle.solver_context.specs.Searching.{solver_meaning}
 use Rattle.goal_frames.specs.Meanings.{HandlerMeaning}
 use Rattle.candidate_assembly.specs.Solving.{Solving}
 use Rattle.candidate_assembly.specs.SolverMeaning.{solver_by_view}
-use Rattle.text_definitions.specs.Declarations.{Question}
-use Rattle.view_lowering.specs.QuestionVariables.{variable_kinds}
+use Rattle.text_definitions.specs.Promised.Declarations.{Question}
+use Rattle.view_lowering.specs.Promised.Questions.{variable_kinds}
 use Rattle.sessions.specs.Asking.{asked_alone}
 use Rattle.sessions.specs.Proving.{asked_outside, goal_asking}
 use Rattle.sessions.specs.Tables.{table_of}

@@ -1,10 +1,10 @@
 -- Goals without variables, as a search evaluates them: a trait reference under where-clauses, with placeholders for parameters.
 use Rattle.std.specs.Prelude.{◌≡◌, Bool, true, false, List, map}
 use Rattle.std.specs.List.{list_all}
-use Rattle.type_terms.specs.Label.{Label, of_type, of_const, param, infer, canonical, bound}
-use Rattle.type_terms.specs.Erased.{erased_reference}
-use Rattle.type_terms.specs.Trees.{Trees, none}
-use Rattle.type_terms.specs.Worlds.{World, Reference}
+use Rattle.type_terms.specs.Promised.Label.{Label, of_type, of_const, param, infer, canonical, bound}
+use Rattle.type_terms.specs.Promised.Erased.{erased_reference}
+use Rattle.type_terms.specs.Promised.Trees.{Trees, none}
+use Rattle.type_terms.specs.Promised.Worlds.{World, Reference}
 use Rattle.type_terms.specs.Made.{terms, is_made}
 use Rattle.declarations.specs.Applied.{sorts_of}
 use Rattle.infer_table.specs.Canonical.{GoalTrees}

@@ -1,9 +1,9 @@
 -- Trait references that are evaluated alone, in coherence and without where-clauses.
 use Rattle.std.specs.Prelude.{◌≡◌, ◌⊎◌, List, Some, Result, Err, IsOk}
-use Rattle.type_terms.specs.Label.{of_trait, predicate}
-use Rattle.type_terms.specs.Trees.{none, tree}
-use Rattle.type_terms.specs.Worlds.{Reference}
-use Rattle.type_terms.specs.Terms.{Entry}
+use Rattle.type_terms.specs.Promised.Label.{of_trait, predicate}
+use Rattle.type_terms.specs.Promised.Trees.{none, tree}
+use Rattle.type_terms.specs.Promised.Worlds.{Reference}
+use Rattle.type_terms.specs.Promised.Handles.{Entry}
 use Rattle.term_folds.specs.declared.predicate.TraitRef.{TraitRef}
 use Rattle.infer_table.specs.Canonical.{GoalTrees, CanonicalForm, canonical_form}
 use Rattle.infer_table.specs.Content.{Table, content, variables_of}

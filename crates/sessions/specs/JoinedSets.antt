@@ -1,18 +1,17 @@
 -- A joined set in four records: the rules of texts, how the crates fit together, the orphan rule, and the answers.
 use Rattle.std.specs.Prelude.{◌≡◌, ℕ, ◌<◌, true, false, IsTrue, ◌==◌, List, []}
-use Rattle.std.specs.List.{list_any}
-use Rattle.type_terms.specs.Label.{Sort}
-use Rattle.type_terms.specs.Trees.{Trees, some_node}
-use Rattle.type_terms.specs.Worlds.{World, CrateDecl, StructDecl, TraitDecl, ImplDecl, Reference, core, view_of}
-use Rattle.type_terms.specs.Rules.{sized}
+use Rattle.type_terms.specs.Promised.Label.{Sort}
+use Rattle.type_terms.specs.Promised.Trees.{Trees, some_node}
+use Rattle.type_terms.specs.Promised.Worlds.{World, StructDecl, TraitDecl, ImplDecl, Reference}
+use Rattle.type_terms.specs.Promised.Rules.{sized}
 use Rattle.type_terms.specs.Erased.{IsErasedTerm}
-use Rattle.type_terms.specs.Supers.{IsHeld, mentions_as, dyns_of_bounds}
-use Rattle.type_terms.specs.Core.{core_world}
-use Rattle.type_terms.specs.Proofs.{In, Every}
-use Rattle.type_terms.specs.Walks.{keeps_orphan_rule}
-use Rattle.type_terms.specs.Versions.{in_scope, with_impls, HasLaterImpls}
-use Rattle.type_terms.specs.Renumbering.{View, HoldsView}
-use Rattle.type_terms.specs.LinkedSet.{JoinedSet, LinkedSet, IsOfAnAnsweredCrate, AutoAtHome, DynsInOneOrder, is_stray}
+use Rattle.type_terms.specs.Promised.Supers.{IsHeld, mentions_as, dyns_of_bounds}
+use Rattle.type_terms.specs.Promised.Proofs.{In}
+use Rattle.type_terms.specs.Promised.Walks.{keeps_orphan_rule}
+use Rattle.type_terms.specs.Promised.Versions.{in_scope}
+use Rattle.type_terms.specs.Promised.Renumbering.{View}
+use Rattle.type_terms.specs.Promised.LinkedSet.{JoinedSet, LinkedSet, IsOfAnAnsweredCrate, AutoAtHome, is_stray}
+use Rattle.sessions.specs.Promised.AnsweredSets.{OrderedCrates, HoldsAnswers}
 
 -- A tree as a declaration holds it, without lifetimes: parameters are its only open places, and bounds and lifetimes alone stand in
 -- a `dyn`. Out: `for<'a> fn(&'a u8)`, `?x`, `dyn T`.
@@ -50,32 +49,9 @@ pub record ObeysTextRules (W : World) : Type 0 where
   pub trait_rank : ℕ → ℕ
   pub supers_before : (x : TraitDecl) (b : Reference) → In x W.traits → In b x.bounds → trait_rank b.trait < trait_rank x.name
 
--- The crates of W fit together.
-pub record OrderedCrates (W : World) (rank : ℕ → ℕ) : Type 0 where
-  -- Core stands in it, with its structs and traits in their order. Out: a set whose `trait Copy` has no supertrait.
-  pub core_there : with_impls (view_of W core) core_world.impls ≡ core_world
-  -- It has its impls, or is a later version of them. Out: a set without `impl Clone for u8`.
-  pub core_later : HasLaterImpls W core core_world.impls
-  -- Core is the first crate. Out: a core that uses another crate.
-  pub core_first : rank core ≡ 0
-  -- Crates use earlier crates. Out: two crates that use each other.
-  pub uses_before : (x : CrateDecl) (u : ℕ) → In x W.crates → In u x.uses → rank u < rank x.name
-  -- They use crates that are there. Out: `crate first uses base` in a set without base.
-  pub uses_stand : (x : CrateDecl) (u : ℕ) → In x W.crates → In u x.uses → IsTrue (list_any (λ (y : CrateDecl). y.name == u) W.crates)
-  -- A name stands for one struct, one trait, one impl. Out: a struct 10 of first and one of second.
-  pub one_struct : (x y : StructDecl) → In x W.structs → In y W.structs → x.name ≡ y.name → x ≡ y
-  pub one_trait : (x y : TraitDecl) → In x W.traits → In y W.traits → x.name ≡ y.name → x ≡ y
-  pub one_impl : (x y : ImplDecl) → In x W.impls → In y W.impls → x.name ≡ y.name → x ≡ y
-  -- All list the auto traits of a `dyn` in one order, so that a type is one tree. Out: `dyn A + B` beside `dyn B + A`.
-  pub dyns_in_order : DynsInOneOrder W
-
 -- Each header keeps the orphan rule of its crate.
 abbrev pub KeepsOrphanRules : World → Type 0
 KeepsOrphanRules W = (i : ImplDecl) → In i W.impls → IsTrue (keeps_orphan_rule W i.home i.header)
-
--- W holds the crate of each answer with the view of the answer, or with later versions of the crates that it uses.
-abbrev pub HoldsAnswers : World → List View → Type 0
-HoldsAnswers W views = Every (HoldsView W) views
 
 -- The four together.
 pub record IsJoined (W : World) (views : List View) (rank : ℕ → ℕ) : Type 0 where

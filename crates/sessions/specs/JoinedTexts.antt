@@ -1,17 +1,13 @@
 -- The crates of a text without a fault, as a set.
 use Rattle.std.specs.Prelude.{ℕ, ◌<◌, IsTrue, List, map, length}
-use Rattle.type_terms.specs.Worlds.{World, core}
-use Rattle.type_terms.specs.Erased.{erased_world}
+use Rattle.type_terms.specs.Promised.Worlds.{core}
 use Rattle.type_terms.specs.Renumbering.{view_at}
-use Rattle.type_terms.specs.LinkedSet.{JoinedSet, all_written, dyns_rise}
-use Rattle.text_definitions.specs.Declarations.{Declarations, world_of}
-use Rattle.overlap_check.specs.Verdicts.{KeepsOrphanRule}
-use Rattle.sessions.specs.Promises.{view_in}
-use Rattle.sessions.specs.Subjects.{IsOfText}
-
--- The text as a whole: all its crates, up to lifetimes.
-abbrev pub text_world : Declarations → World
-text_world d = erased_world (world_of d)
+use Rattle.type_terms.specs.Promised.LinkedSet.{JoinedSet, all_written, dyns_rise}
+use Rattle.text_definitions.specs.Promised.Declarations.{Declarations}
+use Rattle.type_terms.specs.Promised.Verdicts.{KeepsOrphanRule}
+use Rattle.sessions.specs.Promised.Promises.{view_in}
+use Rattle.sessions.specs.Promised.Subjects.{IsOfText}
+use Rattle.sessions.specs.Promised.CoherentTexts.{text_world}
 
 -- The text's crates but `core` keep the orphan rule, as accepted ones do.
 abbrev pub CratesKeepOrphanRule : Declarations → Type 0

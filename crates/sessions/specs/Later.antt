@@ -1,14 +1,14 @@
 -- The check of a later version, impl by impl. V is what the crate c sees.
 use Rattle.std.specs.Prelude.{◌≡◌, ◌≤◌, ◌-◌, ℕ, true, false, List, map, take, Some, slice_get}
-use Rattle.type_terms.specs.Proofs.{Every}
-use Rattle.type_terms.specs.Erased.{erased_reference, erased_impl}
-use Rattle.type_terms.specs.Versions.{is_addable}
-use Rattle.type_terms.specs.Worlds.{World, Reference}
-use Rattle.type_terms.specs.Terms.{Entry}
+use Rattle.type_terms.specs.Promised.Proofs.{Every}
+use Rattle.type_terms.specs.Promised.Erased.{erased_reference, erased_impl}
+use Rattle.type_terms.specs.Promised.Versions.{is_addable}
+use Rattle.type_terms.specs.Promised.Worlds.{World, Reference}
+use Rattle.type_terms.specs.Promised.Handles.{Entry}
 use Rattle.declarations.specs.Items.{reference_in}
 use Rattle.declarations.specs.declared.items.ImplDef.{ImplDef}
-use Rattle.text_definitions.specs.Declarations.{Declarations, section_impls}
-use Rattle.sessions.specs.Releases.{LaterAnswer, compatible, breaking}
+use Rattle.text_definitions.specs.Promised.Declarations.{Declarations, section_impls}
+use Rattle.sessions.specs.Promised.Releases.{LaterAnswer, compatible, breaking}
 
 -- The header of an impl over the terms of an interner, without lifetimes.
 abbrev pub header_in : List Entry → ImplDef → Reference

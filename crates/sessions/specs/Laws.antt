@@ -1,14 +1,14 @@
 -- Laws of the values of queries.
 use Rattle.std.specs.Prelude.{◌≡◌, List}
-use Rattle.type_terms.specs.Label.{Sort}
-use Rattle.type_terms.specs.Trees.{Trees, erase}
-use Rattle.type_terms.specs.Terms.{Entry}
+use Rattle.type_terms.specs.Promised.Label.{Sort}
+use Rattle.type_terms.specs.Promised.Trees.{Trees, erase}
+use Rattle.type_terms.specs.Promised.Handles.{Entry}
 use Rattle.infer_table.specs.Content.{Table, content, Ready, IsProper}
 use Rattle.infer_table.specs.Covers.{AreKnown}
 use Rattle.infer_table.specs.Solutions.{Assignment, Solves, instance, resolved}
 use Rattle.sessions.specs.Tables.{count_of}
 use Rattle.sessions.specs.Values.{values_in}
-use Rattle.overlap_check.specs.Questions.{FitKinds, filled}
+use Rattle.type_terms.specs.Promised.Questions.{FitKinds, filled}
 
 abbrev pub UnboundStandForThemselves : Type 0
 UnboundStandForThemselves =

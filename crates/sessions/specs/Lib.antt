@@ -1,3 +1,4 @@
+pub mod Promised
 pub mod Settling
 pub mod Clauses
 pub mod Laws
@@ -11,17 +12,14 @@ pub mod Goals
 pub mod Questions
 pub mod Answers
 pub mod Subjects
-pub mod Shortages
 pub mod Resting
 pub mod Sessions
 pub mod SeenViews
 pub mod Frames
-pub mod FrameBounds
 pub mod Readying
 pub mod Numbers
 pub mod Decided
 pub mod Asking
-pub mod OwnValues
 pub mod Foreign
 pub mod Promises
 pub mod ScopedTexts
@@ -30,11 +28,9 @@ pub mod JoinedTexts
 pub mod CoherentTexts
 pub mod AnsweredSets
 pub mod WorkedSets
-pub mod Releases
 pub mod Placeholders
 pub mod Supertraits
 pub mod Refusals
-pub mod Given
 pub mod Later
 pub mod PairGoals
 pub mod OpenPairs
@@ -43,12 +39,11 @@ pub mod Proving
 pub mod Applying
 pub mod ProvedQuestions
 pub mod DecidedAnswers
-pub use Rattle.orphan_check.specs.Held as HeldErrors
-pub use Rattle.orphan_check.specs.Items as OrphanErrors
-pub use Rattle.overlap_check.specs.Orphans as ErrorTerms
-pub use Rattle.overlap_check.specs.Questions as QuestionAnswers
-pub use Rattle.overlap_check.specs.Verdicts
-pub use Rattle.view_lowering.specs.Questions as TextQuestions
-pub use Rattle.view_lowering.specs.QuestionVariables
+pub use Rattle.orphan_check.specs.Promised.Errors as HeldErrors
+pub use Rattle.type_terms.specs.Promised.OrphanErrors
+pub use Rattle.overlap_check.specs.Promised.Errors as ErrorTerms
+pub use Rattle.type_terms.specs.Promised.Questions as QuestionAnswers
+pub use Rattle.type_terms.specs.Promised.Verdicts
+pub use Rattle.view_lowering.specs.Promised.Questions as TextQuestions
 pub mod Shown
 pub mod ByTrait

@@ -1,12 +1,12 @@
 -- The numbers of the impls that a crate sees of a text.
 use Rattle.std.specs.Prelude.{◌≡◌, ℕ, List, length}
-use Rattle.type_terms.specs.Proofs.{In}
-use Rattle.type_terms.specs.Worlds.{ImplDecl}
-use Rattle.type_terms.specs.Terms.{Entry}
+use Rattle.type_terms.specs.Promised.Proofs.{In}
+use Rattle.type_terms.specs.Promised.Worlds.{ImplDecl}
+use Rattle.type_terms.specs.Promised.Handles.{Entry}
 use Rattle.declarations.specs.Items.{Items, IsAbove, written, declared}
-use Rattle.text_definitions.specs.Declarations.{Declarations}
+use Rattle.text_definitions.specs.Promised.Declarations.{Declarations}
 use Rattle.workspace.specs.Numbered.{IsNumbered}
-use Rattle.view_lowering.specs.Plain.{plainly_seen_from}
+use Rattle.view_lowering.specs.Promised.SeenWorlds.{plainly_seen_from}
 
 -- All are below n, and each number is that of one impl alone.
 pub record HaveNumbersBelow (n : ℕ) (es : List Entry) (decls : Items) : Type 0 where

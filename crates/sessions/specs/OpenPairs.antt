@@ -1,7 +1,8 @@
 -- Pairs of impls whose goals are left open.
 use Rattle.std.specs.Prelude.{◌≡◌, ◌⊎◌, ℕ, List}
-use Rattle.type_terms.specs.Proofs.{In}
-use Rattle.type_terms.specs.Terms.{Entry, Lawful}
+use Rattle.type_terms.specs.Promised.Proofs.{In}
+use Rattle.type_terms.specs.Promised.Handles.{Entry}
+use Rattle.type_terms.specs.Terms.{Lawful}
 use Rattle.type_terms.specs.declared.ImplId.{ImplId}
 use Rattle.term_folds.specs.declared.predicate.TraitRef.{TraitRef}
 use Rattle.infer_table.specs.Content.{content}
@@ -11,18 +12,18 @@ use Rattle.overlap_check.specs.Goals.{unknown_kinds}
 use Rattle.overlap_check.specs.Headers.{resolved_reference, IsIntersection, IsSolved}
 use Rattle.overlap_check.specs.Orphans.{AreWrittenWell}
 use Rattle.overlap_check.specs.Partners.{IsPairAt}
-use Rattle.overlap_check.specs.Questions.{IsRefuteAnswer, unrefuted}
+use Rattle.type_terms.specs.Promised.Questions.{IsRefuteAnswer, unrefuted}
 use Rattle.overlap_check.specs.declared.intersection.ImplIntersection.{ImplIntersection}
-use Rattle.text_definitions.specs.Declarations.{Declarations}
-use Rattle.view_lowering.specs.Plain.{plainly_seen_from}
+use Rattle.text_definitions.specs.Promised.Declarations.{Declarations}
+use Rattle.view_lowering.specs.Promised.SeenWorlds.{plainly_seen_from}
 use Rattle.candidate_assembly.specs.Fitting.{solving_of}
 use Rattle.candidate_assembly.specs.Ready.{AreReadyDeclarations}
 use Rattle.candidate_assembly.specs.SolverMeaning.{solver_by_view}
 use Rattle.sessions.specs.Asking.{IsLeftOpen}
 use Rattle.sessions.specs.PairGoals.{as_resolved}
-use Rattle.sessions.specs.Promises.{view_in}
+use Rattle.sessions.specs.Promised.Promises.{view_in}
 use Rattle.sessions.specs.Sessions.{IsSolvingOf}
-use Rattle.sessions.specs.Subjects.{IsOfText}
+use Rattle.sessions.specs.Promised.Subjects.{IsOfText}
 
 -- For a pair of impls that a crate sees in a text, each goal that is left open within this depth is possible, if it is bounded.
 abbrev pub OpenPairGoalsArePossible : Type 0

@@ -1,26 +1,27 @@
 -- The goals of a pair of impls, as the search evaluates them: their terms are well-formed, by what a crate sees of a text.
 use Rattle.std.specs.Prelude.{ℕ, List}
-use Rattle.type_terms.specs.Worlds.{World, Reference}
-use Rattle.type_terms.specs.Proofs.{In}
-use Rattle.type_terms.specs.Terms.{Entry, Lawful, trees_at}
+use Rattle.type_terms.specs.Promised.Worlds.{World, Reference}
+use Rattle.type_terms.specs.Promised.Proofs.{In}
+use Rattle.type_terms.specs.Promised.Handles.{Entry, trees_at}
+use Rattle.type_terms.specs.Terms.{Lawful}
 use Rattle.type_terms.specs.declared.ImplId.{ImplId}
 use Rattle.term_folds.specs.declared.predicate.TraitRef.{TraitRef}
 use Rattle.infer_table.specs.Content.{Table, content}
 use Rattle.infer_table.specs.Solutions.{resolved}
 use Rattle.declarations.specs.Held.{ImplHeld}
 use Rattle.declarations.specs.Items.{Items, written, impl_in}
-use Rattle.declarations.specs.Merges.{Each}
+use Rattle.declarations.specs.Promised.Elaboration.{Each}
 use Rattle.declarations.specs.declared.items.ImplDef.{ImplDef}
 use Rattle.overlap_check.specs.Headers.{IsIntersection, IsSolved}
 use Rattle.overlap_check.specs.Written.{IsWrittenWell}
 use Rattle.overlap_check.specs.declared.intersection.ImplIntersection.{ImplIntersection}
-use Rattle.text_definitions.specs.Declarations.{Declarations}
-use Rattle.view_lowering.specs.Plain.{plainly_seen_from}
+use Rattle.text_definitions.specs.Promised.Declarations.{Declarations}
+use Rattle.view_lowering.specs.Promised.SeenWorlds.{plainly_seen_from}
 use Rattle.view_lowering.specs.Ready.{AreSeen}
 use Rattle.solver_exactness.specs.FormedFacts.{Sorts}
 use Rattle.sessions.specs.Fitting.{sorts_in}
 use Rattle.sessions.specs.Goals.{HasFormedTerms}
-use Rattle.sessions.specs.Subjects.{IsOfText}
+use Rattle.sessions.specs.Promised.Subjects.{IsOfText}
 
 -- The trait reference as the table resolves it.
 abbrev pub as_resolved : List Entry → Table → TraitRef → Reference

@@ -1,9 +1,9 @@
 -- Impls with placeholders in place of their parameters, over the terms of an interner.
 use Rattle.std.specs.Prelude.{◌≡◌, ℕ, suc, List, [], ◌∷◌, map}
-use Rattle.type_terms.specs.Label.{Sort, placeholder}
-use Rattle.type_terms.specs.Supers.{opaque_reference}
-use Rattle.type_terms.specs.Trees.{Trees, none, tree}
-use Rattle.type_terms.specs.Terms.{Entry}
+use Rattle.type_terms.specs.Promised.Label.{Sort, placeholder}
+use Rattle.type_terms.specs.Promised.Supers.{opaque_reference}
+use Rattle.type_terms.specs.Promised.Trees.{Trees, none, tree}
+use Rattle.type_terms.specs.Promised.Handles.{Entry}
 use Rattle.declarations.specs.Applied.{TraitRefsHeld, references_in}
 use Rattle.declarations.specs.Held.{ReferenceHeld}
 use Rattle.declarations.specs.Items.{reference_in}

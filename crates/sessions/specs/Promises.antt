@@ -1,31 +1,9 @@
 -- What the answers of a session promise.
-use Rattle.std.specs.Prelude.{ℕ, map}
-use Rattle.type_terms.specs.Erased.{erased_world, erased_reference}
-use Rattle.type_terms.specs.Worlds.{World, view_of}
-use Rattle.text_definitions.specs.Declarations.{Declarations, Question, world_of}
-use Rattle.overlap_check.specs.Questions.{IsRefuted, ProveAnswer, IsProveAnswer, RefuteAnswer, IsRefuteAnswer}
-use Rattle.overlap_check.specs.Verdicts.{Verdict, IsVerdict}
-use Rattle.view_lowering.specs.QuestionVariables.{variable_kinds}
-use Rattle.sessions.specs.OwnValues.{SpeaksOfOwn}
-
--- The view that answers of crate c are about: all that it sees, up to lifetimes.
-abbrev pub view_in : Declarations → ℕ → World
-view_in d c = view_of (erased_world (world_of d)) c
-
--- The verdict of crate c, by what it sees of the text.
-abbrev pub IsVerdictOf : ℕ → Declarations → ℕ → Verdict → Type 0
-IsVerdictOf limit d c v = IsVerdict limit (view_in d c) c v
-
--- The answer to a `prove` question, by what the asking crate sees of the text and the question's where-clauses; the values of a yes name only
--- what it sees, and their open places are unknowns and the question's parameters.
-abbrev pub IsProved : ℕ → Declarations → Question → ProveAnswer → Type 0
-IsProved limit d q a =
-    let E = map erased_reference q.clauses in
-    IsProveAnswer limit (view_in d q.asker) (variable_kinds q) E (erased_reference q.asked) a × SpeaksOfOwn (view_in d q.asker) E (erased_reference q.asked) a
-
--- The answer to a `refute` query, by what its crate sees of the text.
-abbrev pub IsRefutation : ℕ → Declarations → Question → RefuteAnswer → Type 0
-IsRefutation limit d q a = IsRefuteAnswer limit (view_in d q.asker) q.asker (variable_kinds q) (erased_reference q.asked) a
+use Rattle.type_terms.specs.Promised.Erased.{erased_reference}
+use Rattle.text_definitions.specs.Promised.Declarations.{Declarations, Question}
+use Rattle.type_terms.specs.Promised.Questions.{IsRefuted}
+use Rattle.view_lowering.specs.Promised.Questions.{variable_kinds}
+use Rattle.sessions.specs.Promised.Promises.{view_in}
 
 -- The query's trait reference has no solution in a linked set with the query's crate, under any renumbering. Nor has it one by what the
 -- crate sees alone, by proofs that hold the supertraits of all that they conclude.

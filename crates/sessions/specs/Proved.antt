@@ -1,7 +1,8 @@
 -- What is proved of a query's goal with the values of its table.
 use Rattle.std.specs.Prelude.{true, Bool, List}
-use Rattle.type_terms.specs.Trees.{erase}
-use Rattle.type_terms.specs.Terms.{Entry, Lawful}
+use Rattle.type_terms.specs.Promised.Trees.{erase}
+use Rattle.type_terms.specs.Promised.Handles.{Entry}
+use Rattle.type_terms.specs.Terms.{Lawful}
 use Rattle.infer_table.specs.Canonical.{GoalTrees}
 use Rattle.infer_table.specs.Content.{Table, content, Ready}
 use Rattle.infer_table.specs.Goals.{GoalHeld, goal_trees}

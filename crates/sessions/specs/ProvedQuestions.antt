@@ -1,16 +1,16 @@
 -- What the answer yes proves.
 use Rattle.std.specs.Global.{Vec}
 use Rattle.std.specs.Prelude.{ℕ, List}
-use Rattle.type_terms.specs.Terms.{Entry}
+use Rattle.type_terms.specs.Promised.Handles.{Entry}
 use Rattle.type_terms.specs.declared.kinds.GenericArgKind.{GenericArgKind}
-use Rattle.text_definitions.specs.Declarations.{Declarations, Question}
+use Rattle.text_definitions.specs.Promised.Declarations.{Declarations, Question}
 use Rattle.candidate_assembly.specs.Solving.{Solving}
-use Rattle.view_lowering.specs.Questions.{IsQuestion}
-use Rattle.sessions.specs.Given.{answer_in}
-use Rattle.sessions.specs.Promises.{IsProved}
+use Rattle.view_lowering.specs.Promised.Questions.{IsQuestion}
+use Rattle.sessions.specs.Promised.Given.{answer_in}
+use Rattle.sessions.specs.Promised.Promises.{IsProved}
 use Rattle.sessions.specs.Proving.{IsAnsweredBySolver}
 use Rattle.sessions.specs.Sessions.{IsSolvingOf}
-use Rattle.sessions.specs.Subjects.{IsOfText}
+use Rattle.sessions.specs.Promised.Subjects.{IsOfText}
 use Rattle.sessions.specs.declared.answers.ProveAnswer.TheVariants.{Yes}
 
 -- The answer yes is right: with its values the query's trait reference has a proof.

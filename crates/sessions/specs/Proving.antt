@@ -1,14 +1,14 @@
 -- `prove` queries: how they are evaluated, outside coherence, and what is known of the answers.
 use Rattle.std.specs.Global.{Vec}
 use Rattle.std.specs.Prelude.{◌≡◌, ◌+◌, ◌⊎◌, ℕ, Bool, true, false, List, [], map, Option, Some, None, ◌∷◌}
-use Rattle.type_terms.specs.Label.{Label, Sort, of_type, of_const, canonical, bound}
-use Rattle.type_terms.specs.Trees.{Trees, some_node}
-use Rattle.type_terms.specs.Worlds.{World}
-use Rattle.type_terms.specs.Kinds.{arg_trees}
-use Rattle.type_terms.specs.Terms.{Entry}
+use Rattle.type_terms.specs.Promised.Label.{Label, Sort, of_type, of_const, canonical, bound}
+use Rattle.type_terms.specs.Promised.Trees.{Trees, some_node}
+use Rattle.type_terms.specs.Promised.Worlds.{World}
+use Rattle.type_terms.specs.Promised.Handles.{arg_trees}
+use Rattle.type_terms.specs.Promised.Handles.{Entry}
 use Rattle.type_terms.specs.declared.kinds.GenericArgKind.{GenericArgKind}
 use Rattle.declarations.specs.Applied.{AreApplied}
-use Rattle.declarations.specs.Elaboration.{elaborate}
+use Rattle.declarations.specs.Promised.Elaboration.{elaborate}
 use Rattle.declarations.specs.Items.{Items}
 use Rattle.infer_table.specs.Canonical.{GoalTrees, canonical_form}
 use Rattle.infer_table.specs.Content.{Table, Ready, content}
@@ -31,10 +31,11 @@ use Rattle.candidate_assembly.specs.declared.solver.Solver.{Solver}
 use Rattle.candidate_assembly.specs.Fitting.{solving_of}
 use Rattle.candidate_assembly.specs.Ready.{AreReadyDeclarations}
 use Rattle.candidate_assembly.specs.Solving.{Solving}
-use Rattle.text_definitions.specs.Declarations.{Question}
+use Rattle.text_definitions.specs.Promised.Declarations.{Question}
 use Rattle.text_definitions.specs.Names.{own_unknowns}
-use Rattle.view_lowering.specs.Plain.{unbound_reference, unbound_references}
-use Rattle.view_lowering.specs.QuestionVariables.{variable_kinds}
+use Rattle.view_lowering.specs.Promised.SeenWorlds.{unbound_reference}
+use Rattle.view_lowering.specs.Plain.{unbound_references}
+use Rattle.view_lowering.specs.Promised.Questions.{variable_kinds}
 use Rattle.view_lowering.specs.Questions.{IsLowered}
 use Rattle.view_lowering.specs.declared.question.LoweredQuestion.{LoweredQuestion}
 use Rattle.goal_frames.specs.Meanings.{HandlerMeaning}

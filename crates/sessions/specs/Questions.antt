@@ -1,21 +1,22 @@
 -- Queries of a text without variables, as they are evaluated.
 use Rattle.std.specs.Prelude.{◌≡◌, ℕ, true, List, [], map, Ok}
 use Rattle.std.specs.List.{list_all}
-use Rattle.type_terms.specs.Proofs.{In}
-use Rattle.type_terms.specs.Erased.{erased_reference, erased_world}
-use Rattle.type_terms.specs.Worlds.{World, Reference}
-use Rattle.type_terms.specs.Terms.{Entry}
+use Rattle.type_terms.specs.Promised.Proofs.{In}
+use Rattle.type_terms.specs.Promised.Erased.{erased_reference, erased_world}
+use Rattle.type_terms.specs.Promised.Worlds.{World, Reference}
+use Rattle.type_terms.specs.Promised.Handles.{Entry}
 use Rattle.term_folds.specs.declared.predicate.TraitRef.{TraitRef}
 use Rattle.term_folds.specs.declared.predicate.Clause.{Clause}
 use Rattle.term_folds.specs.declared.predicate.Clause.TheVariants.{Trait}
 use Rattle.infer_table.specs.Goals.{goal_trees}
 use Rattle.infer_table.specs.declared.goal.Goal.{Goal}
 use Rattle.declarations.specs.Applied.{references_in}
-use Rattle.declarations.specs.Elaboration.{elaborate}
+use Rattle.declarations.specs.Promised.Elaboration.{elaborate}
 use Rattle.declarations.specs.Items.{Items, written, reference_in}
-use Rattle.text_definitions.specs.Declarations as text
+use Rattle.text_definitions.specs.Promised.Declarations as text
 use Rattle.text_definitions.specs.Text.{TextGives}
-use Rattle.view_lowering.specs.Questions.{IsQuestion, IsLowered}
+use Rattle.view_lowering.specs.Promised.Questions.{IsQuestion}
+use Rattle.view_lowering.specs.Questions.{IsLowered}
 use Rattle.view_lowering.specs.declared.question.LoweredQuestion.{LoweredQuestion}
 use Rattle.view_lowering.specs.Ready.{AreSeen}
 use Rattle.solver_exactness.specs.FormedFacts.{Sorts, FitsSorts}

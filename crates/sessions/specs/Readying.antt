@@ -1,6 +1,6 @@
 -- Declarations that a crate sees of a text are ready for the solver.
 use Rattle.std.specs.Prelude.{List}
-use Rattle.type_terms.specs.Terms.{Entry}
+use Rattle.type_terms.specs.Promised.Handles.{Entry}
 use Rattle.declarations.specs.Held.{AreHeld}
 use Rattle.declarations.specs.Items.{Items}
 use Rattle.candidate_assembly.specs.Ready.{AreReadyDeclarations}

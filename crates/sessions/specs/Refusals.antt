@@ -1,8 +1,8 @@
 -- What a search in coherence leaves open is possible, and what it refuses is not.
 use Rattle.std.specs.Prelude.{◌≡◌, ℕ, true, false, Option, None}
-use Rattle.type_terms.specs.Answers.{is_bounded, is_possible}
-use Rattle.type_terms.specs.Erased.{erased_reference}
-use Rattle.type_terms.specs.Worlds.{World, Reference}
+use Rattle.type_terms.specs.Promised.Answers.{is_bounded, is_possible}
+use Rattle.type_terms.specs.Promised.Erased.{erased_reference}
+use Rattle.type_terms.specs.Promised.Worlds.{World, Reference}
 use Rattle.declarations.specs.Items.{written}
 use Rattle.search_graph.specs.Meaning.{Meaning}
 use Rattle.goal_frames.specs.declared.store.InputId.{InputId}
@@ -11,16 +11,16 @@ use Rattle.goal_frames.specs.declared.frame.GoalFrame.{GoalFrame}
 use Rattle.solver_context.specs.declared.context.SolverCx.{SolverCx}
 use Rattle.solver_context.specs.Evaluations.{IsFoundBySearch}
 use Rattle.solver_context.specs.Searching.{solver_meaning}
-use Rattle.text_definitions.specs.Declarations.{Declarations}
+use Rattle.text_definitions.specs.Promised.Declarations.{Declarations}
 use Rattle.candidate_assembly.specs.declared.solver.Solver.{Solver}
 use Rattle.candidate_assembly.specs.Solving.{Solving}
 use Rattle.candidate_assembly.specs.SolverMeaning.{solver_by_view}
 use Rattle.sessions.specs.Asking.{IsLeftOpen, asked_alone}
 use Rattle.sessions.specs.Fitting.{sorts_in}
 use Rattle.sessions.specs.Goals.{HasFormedTerms}
-use Rattle.sessions.specs.Promises.{view_in}
+use Rattle.sessions.specs.Promised.Promises.{view_in}
 use Rattle.sessions.specs.Sessions.{IsSolvingOf}
-use Rattle.sessions.specs.Subjects.{IsOfText}
+use Rattle.sessions.specs.Promised.Subjects.{IsOfText}
 
 -- What the solver's goals mean to the search of a session.
 abbrev pub session_meaning : Meaning (SolverCx Solver) InputId (Option ResponseId) GoalFrame

@@ -1,12 +1,12 @@
 -- What the impls of a text write is in scope of their crates.
 use Rattle.std.specs.Prelude.{IsTrue, List, ◌++◌, map}
-use Rattle.type_terms.specs.Proofs.{In}
-use Rattle.type_terms.specs.Erased.{erased_reference}
-use Rattle.type_terms.specs.Versions.{in_scope}
-use Rattle.type_terms.specs.Worlds.{Reference}
-use Rattle.text_definitions.specs.Declarations.{Declarations, NamedImpl}
-use Rattle.sessions.specs.Promises.{view_in}
-use Rattle.sessions.specs.Subjects.{IsOfText}
+use Rattle.type_terms.specs.Promised.Proofs.{In}
+use Rattle.type_terms.specs.Promised.Erased.{erased_reference}
+use Rattle.type_terms.specs.Promised.Versions.{in_scope}
+use Rattle.type_terms.specs.Promised.Worlds.{Reference}
+use Rattle.text_definitions.specs.Promised.Declarations.{Declarations, NamedImpl}
+use Rattle.sessions.specs.Promised.Promises.{view_in}
+use Rattle.sessions.specs.Promised.Subjects.{IsOfText}
 
 -- All impls of a text: those that its crates have, and those that later versions add.
 abbrev pub written_impls : Declarations → List NamedImpl

@@ -1,10 +1,10 @@
 -- What is true of a session between two calls.
 use Rattle.std.specs.Prelude.{◌≡◌, ◌<◌, ℕ, List, length}
-use Rattle.type_terms.specs.Terms.{Entry}
+use Rattle.type_terms.specs.Promised.Handles.{Entry}
 use Rattle.search_graph.specs.SearchState.{SearchState}
 use Rattle.declarations.specs.Items.{Items, written, declared}
-use Rattle.text_definitions.specs.Declarations.{Declarations}
-use Rattle.view_lowering.specs.Plain.{plainly_seen_from}
+use Rattle.text_definitions.specs.Promised.Declarations.{Declarations}
+use Rattle.view_lowering.specs.Promised.SeenWorlds.{plainly_seen_from}
 use Rattle.view_lowering.specs.Seen.{rules_seen_from}
 use Rattle.view_lowering.specs.Ready.{AreSeen}
 use Rattle.goal_frames.specs.Stores.{limit_of}
@@ -15,7 +15,7 @@ use Rattle.candidate_assembly.specs.Fitting.{solving_of}
 use Rattle.candidate_assembly.specs.Solving.{Solving}
 use Rattle.candidate_assembly.specs.SolverMeaning.{solver_by_view}
 use Rattle.sessions.specs.Resting.{Cached, AreAtRest}
-use Rattle.sessions.specs.Subjects.{IsOfText}
+use Rattle.sessions.specs.Promised.Subjects.{IsOfText}
 
 -- The solver's context, graph and cache are at rest.
 abbrev pub SolverRests : ℕ → SolverCx Solver → SearchState → Cached → Type 0

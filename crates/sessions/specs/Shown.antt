@@ -1,17 +1,17 @@
 -- Steps that are a proof of a query's trait reference.
 use Rattle.std.specs.Prelude.{◌≡◌, List, map}
-use Rattle.type_terms.specs.Erased.{erased_reference}
-use Rattle.type_terms.specs.Trees.{Trees}
-use Rattle.type_terms.specs.Worlds.{World, Reference}
-use Rattle.type_terms.specs.Terms.{Entry}
+use Rattle.type_terms.specs.Promised.Erased.{erased_reference}
+use Rattle.type_terms.specs.Promised.Trees.{Trees}
+use Rattle.type_terms.specs.Promised.Worlds.{World, Reference}
+use Rattle.type_terms.specs.Promised.Handles.{Entry}
 use Rattle.infer_table.specs.Content.{Table, Ready, content}
 use Rattle.infer_table.specs.Solutions.{resolved}
-use Rattle.overlap_check.specs.Questions.{FitKinds, filled_reference}
+use Rattle.type_terms.specs.Promised.Questions.{FitKinds, filled_reference}
 use Rattle.proof_checker.specs.Steps.{AreProofOf}
 use Rattle.proof_checker.specs.declared.steps.Step.{Step}
-use Rattle.text_definitions.specs.Declarations.{Declarations, Question}
-use Rattle.view_lowering.specs.QuestionVariables.{variable_kinds}
-use Rattle.sessions.specs.Promises.{view_in}
+use Rattle.text_definitions.specs.Promised.Declarations.{Declarations, Question}
+use Rattle.view_lowering.specs.Promised.Questions.{variable_kinds}
+use Rattle.sessions.specs.Promised.Promises.{view_in}
 
 -- With values of their kinds for the query's variables, the steps are a proof of its trait reference by the rules of V, the query's
 -- where-clauses and what the steps assume.

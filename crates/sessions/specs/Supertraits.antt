@@ -1,22 +1,22 @@
 -- The supertraits of an impl's header, evaluated one after the other. V is what the crate c sees, as it is written.
 use Rattle.std.specs.Prelude.{◌≡◌, ◌≤◌, ◌-◌, ℕ, List, [], ◌∷◌, map, take, Option, Some, None, slice_get}
-use Rattle.type_terms.specs.Proofs.{In, Every}
-use Rattle.type_terms.specs.Supers.{opaque_reference, SupersHold}
-use Rattle.type_terms.specs.Worlds.{World, Reference, ImplDecl}
-use Rattle.type_terms.specs.Terms.{Entry}
+use Rattle.type_terms.specs.Promised.Proofs.{In, Every}
+use Rattle.type_terms.specs.Promised.Supers.{opaque_reference, SupersHold}
+use Rattle.type_terms.specs.Promised.Worlds.{World, Reference, ImplDecl}
+use Rattle.type_terms.specs.Promised.Handles.{Entry}
 use Rattle.term_folds.specs.declared.predicate.TraitRef.{TraitRef}
 use Rattle.declarations.specs.Applied.{TraitRefsHeld, IsApplied, references_in}
-use Rattle.declarations.specs.Elaboration.{elaborate, supertraits}
+use Rattle.declarations.specs.Promised.Elaboration.{elaborate, supertraits}
 use Rattle.declarations.specs.Items.{Items, reference_in, written}
 use Rattle.candidate_assembly.specs.Fitting.{solving_of}
 use Rattle.candidate_assembly.specs.Solving.{Solving}
-use Rattle.text_definitions.specs.Declarations as text
+use Rattle.text_definitions.specs.Promised.Declarations as text
 use Rattle.sessions.specs.Goals.{goal_of}
-use Rattle.sessions.specs.Promises.{view_in}
+use Rattle.sessions.specs.Promised.Promises.{view_in}
 use Rattle.sessions.specs.Proving.{IsGoalAnswered}
-use Rattle.sessions.specs.Releases.{StopsIn}
+use Rattle.sessions.specs.Promised.Releases.{StopsIn}
 use Rattle.sessions.specs.Sessions.{IsSolvingOf}
-use Rattle.sessions.specs.Subjects.{IsOfText}
+use Rattle.sessions.specs.Promised.Subjects.{IsOfText}
 use Rattle.sessions.specs.declared.answers.ProveAnswer.{ProveAnswer}
 use Rattle.sessions.specs.declared.answers.ProveAnswer.TheVariants.{Yes, Unproved as IsUnproved, Maybe as IsMaybe}
 use Rattle.sessions.specs.declared.settling.Outcome.{Outcome}

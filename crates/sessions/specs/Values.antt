@@ -1,7 +1,7 @@
 -- The variables of a query, and their values.
 use Rattle.std.specs.Prelude.{ℕ, suc, List, [], ◌∷◌, map}
-use Rattle.type_terms.specs.Label.{Sort, of_type, of_const, of_lifetime, infer}
-use Rattle.type_terms.specs.Trees.{Trees, leaf, erase}
+use Rattle.type_terms.specs.Promised.Label.{Sort, of_type, of_const, of_lifetime, infer}
+use Rattle.type_terms.specs.Promised.Trees.{Trees, leaf, erase}
 use Rattle.infer_table.specs.Solutions.{Binding, resolved}
 
 -- The variables of these kinds, in the order of first occurrence, after this many of types and of constants.

@@ -1,6 +1,6 @@
 -- What a crate sees of a text is well-formed.
 use Rattle.std.specs.Prelude.{List}
-use Rattle.type_terms.specs.Terms.{Entry}
+use Rattle.type_terms.specs.Promised.Handles.{Entry}
 use Rattle.declarations.specs.Items.{Items, written}
 use Rattle.view_lowering.specs.Ready.{OfTexts}
 use Rattle.solver_exactness.specs.FormedFacts.{IsFormedView}

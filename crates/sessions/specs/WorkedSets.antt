@@ -1,11 +1,12 @@
 -- A worked set: crates of two texts, each asked in a text of its own.
 use Rattle.std.specs.Prelude.{◌≡◌, ℕ, List, [], ◌∷◌, ◌++◌, Ok, codes}
-use Rattle.type_terms.specs.Renumbering.{Renumbering, view_at}
-use Rattle.text_definitions.specs.Declarations.{Declarations}
+use Rattle.type_terms.specs.Promised.Renumbering.{Renumbering}
+use Rattle.type_terms.specs.Renumbering.{view_at}
+use Rattle.text_definitions.specs.Promised.Declarations.{Declarations}
 use Rattle.text_definitions.specs.Text.{TextGives}
-use Rattle.sessions.specs.JoinedTexts.{text_world}
-use Rattle.sessions.specs.Promises.{view_in}
-use Rattle.sessions.specs.AnsweredSets.{IsAnsweredSet}
+use Rattle.sessions.specs.Promised.CoherentTexts.{text_world}
+use Rattle.sessions.specs.Promised.Promises.{view_in}
+use Rattle.sessions.specs.Promised.AnsweredSets.{IsAnsweredSet}
 
 -- Lines of a text, one below the other.
 abbrev pub lines : List (List ℕ) → List ℕ

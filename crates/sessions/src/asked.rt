@@ -2,8 +2,9 @@
 
 ghost use Rattle.std.specs.Prelude.{◌≡◌, IfOk, IfErr};
 ghost use Rattle.type_terms.specs.Growth.{FullAtLimit};
-ghost use Rattle.text_definitions.specs.Declarations.{Question};
-ghost use Rattle.view_lowering.specs.Questions.{IsQuestion, IsLowered};
+ghost use Rattle.text_definitions.specs.Promised.Declarations.{Question};
+ghost use Rattle.view_lowering.specs.Promised.Questions.{IsQuestion};
+ghost use Rattle.view_lowering.specs.Questions.{IsLowered};
 ghost use Rattle.solver_context.specs.Contexts.{IsReady, InternerGrows, Advances};
 ghost use Rattle.sessions.specs.Resting.{AreAtRest};
 

@@ -2,7 +2,7 @@
 //! `impl<T> Show for Vec<T>` is one and `impl Show for u8` is none.
 
 ghost use Rattle.std.specs.Prelude.{◌≡◌, ◌≤◌, ◌+◌, ◌++◌, ◌∷◌, [], false, List, IfOk, OnOk, if◌then◌else◌};
-ghost use Rattle.type_terms.specs.Terms.{Entry, trees_at};
+ghost use Rattle.type_terms.specs.Promised.Handles.{Entry, trees_at};
 ghost use Rattle.type_terms.specs.declared.TheConstants.{MAX_INDEX};
 ghost use Rattle.term_folds.specs.Signatures.{StartsWithType};
 ghost use Rattle.declarations.specs.Held.{AreHeld, ImplHeld, ReferenceHeld};

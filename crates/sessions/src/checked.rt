@@ -1,15 +1,15 @@
 //! The checks of a crate: the headers of its impls, and the pairs of impls that it brings together.
 
 ghost use Rattle.std.specs.Prelude.{◌≡◌, ◌≤◌, ◌+◌, ℕ, not, IfOk, IfErr, IfSome, Ok, None};
-ghost use Rattle.type_terms.specs.Terms.{Keeps};
+ghost use Rattle.type_terms.specs.Promised.Handles.{Keeps};
 ghost use Rattle.type_terms.specs.declared.TheConstants.{MAX_INDEX};
 ghost use Rattle.type_terms.specs.Growth.{FullAtLimit};
 ghost use Rattle.declarations.specs.Items.{IsAbove};
-ghost use Rattle.orphan_check.specs.Held.{ErrorHeld};
+ghost use Rattle.orphan_check.specs.Promised.Errors.{ErrorHeld};
 ghost use Rattle.overlap_check.specs.Orphans.{IsFirstError};
-ghost use Rattle.text_definitions.specs.Declarations.{Declarations};
+ghost use Rattle.text_definitions.specs.Promised.Declarations.{Declarations};
 ghost use Rattle.sessions.specs.Checking.{IsReadySolver, SolverStaysReady, HaveOwnNumbers, AreApartAt, IsFoundAt, IsJudgedAt, rules_in, solving_in};
-ghost use Rattle.sessions.specs.Promises.{view_in};
+ghost use Rattle.sessions.specs.Promised.Promises.{view_in};
 ghost use Rattle.sessions.specs.Sessions.{SolverRests, IsSession};
 ghost use Rattle.solver_context.specs.Contexts.{KeepsLimits};
 ghost use Rattle.solver_context.specs.Shortages.{ContextFullAtLimit};

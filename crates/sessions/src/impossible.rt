@@ -1,6 +1,6 @@
 //! Whether one trait reference is impossible, evaluated alone in coherence.
 ghost use Rattle.std.specs.Prelude.{◌≡◌, IsTrue, true, false, IfOk, IfErr, Ok, Err};
-ghost use Rattle.type_terms.specs.Terms.{Keeps};
+ghost use Rattle.type_terms.specs.Promised.Handles.{Keeps};
 ghost use Rattle.infer_table.specs.Content.{Table, Ready, Grows, place_in};
 ghost use Rattle.declarations.specs.Held.{ReferenceHeld};
 ghost use Rattle.search_graph.specs.Cache.{AreJustified, AreConsistent, KeepsResults};

@@ -5,21 +5,21 @@
 //!   `impl Show for &Theirs` or `impl Convert<Theirs> for Local`.
 
 ghost use Rattle.std.specs.Prelude.{◌≡◌, ◌≤◌, ◌||◌, List, length, map, IfOk, IfErr};
-ghost use Rattle.type_terms.specs.Laws.{InEveryLinkedSet};
-ghost use Rattle.type_terms.specs.Erased.{erased_reference};
-ghost use Rattle.type_terms.specs.Versions.{is_addable};
-ghost use Rattle.type_terms.specs.Walks.{trait_is};
-ghost use Rattle.type_terms.specs.Terms.{Entry};
+ghost use Rattle.type_terms.specs.Promised.LinkedSet.{InEveryLinkedSet};
+ghost use Rattle.type_terms.specs.Promised.Erased.{erased_reference};
+ghost use Rattle.type_terms.specs.Promised.Versions.{is_addable};
+ghost use Rattle.type_terms.specs.Promised.Walks.{trait_is};
+ghost use Rattle.type_terms.specs.Promised.Handles.{Entry};
 ghost use Rattle.type_terms.specs.Growth.{FullAtLimit};
 ghost use Rattle.declarations.specs.Held.{ImplHeld, ReferenceHeld};
 ghost use Rattle.declarations.specs.Items.{declared, reference_in};
-ghost use Rattle.declarations.specs.Merges.{Each};
+ghost use Rattle.declarations.specs.Promised.Elaboration.{Each};
 ghost use Rattle.workspace.specs.declared.tables.TheConstants.{ENTRY_LIMIT};
 ghost use Rattle.sessions.specs.Checking.{IsReadySolver, SolverStaysReady, rules_in};
-ghost use Rattle.sessions.specs.Given.{later_of};
+ghost use Rattle.sessions.specs.Promised.Given.{later_of};
 ghost use Rattle.sessions.specs.Later.{IsAnswerOn, header_in, section_headers};
-ghost use Rattle.sessions.specs.Releases.{AddedImplsBreakNoUser};
-ghost use Rattle.sessions.specs.Subjects.{IsOfText};
+ghost use Rattle.sessions.specs.Promised.Releases.{AddedImplsBreakNoUser};
+ghost use Rattle.sessions.specs.Promised.Subjects.{IsOfText};
 
 use crate::answers::LaterAnswer;
 use crate::asked::rest_laws;

@@ -1,11 +1,11 @@
 //! The where-clauses of a pair of impls, evaluated one after the other.
 ghost use Rattle.std.specs.Prelude.{◌≡◌, ◌⊎◌, IsTrue, false, IfOk, IfErr};
-ghost use Rattle.type_terms.specs.Proofs.{In};
-ghost use Rattle.type_terms.specs.Terms.{Keeps};
+ghost use Rattle.type_terms.specs.Promised.Proofs.{In};
+ghost use Rattle.type_terms.specs.Promised.Handles.{Keeps};
 ghost use Rattle.term_folds.specs.declared.predicate.TraitRef.{TraitRef};
 ghost use Rattle.infer_table.specs.Content.{Ready};
 ghost use Rattle.declarations.specs.Applied.{TraitRefsHeld};
-ghost use Rattle.declarations.specs.Merges.{Each};
+ghost use Rattle.declarations.specs.Promised.Elaboration.{Each};
 ghost use Rattle.search_graph.specs.Cache.{AreJustified, AreConsistent, KeepsResults};
 ghost use Rattle.search_graph.specs.Meaning as Search;
 ghost use Rattle.solver_context.specs.Contexts.{IsReady};

@@ -2,20 +2,22 @@
 
 ghost use Rattle.std.specs.Prelude.{◌≡◌, ◌||◌, true, not, map, List};
 ghost use Rattle.std.specs.List.{list_any};
-ghost use Rattle.type_terms.specs.Answers.{is_undeclared};
-ghost use Rattle.type_terms.specs.Kinds.{ArgHeld, ArgsHeld, arg_trees, autos_trees};
-ghost use Rattle.type_terms.specs.Label.{of_type, of_const, placeholder};
-ghost use Rattle.type_terms.specs.Terms.{Entry, Has, types, consts, args_lists, bounds_lists, trees_at};
-ghost use Rattle.type_terms.specs.Trees.{some_node};
-ghost use Rattle.type_terms.specs.Walks.{struct_is, trait_is};
-ghost use Rattle.type_terms.specs.Worlds.{World};
+ghost use Rattle.type_terms.specs.Promised.Answers.{is_undeclared};
+ghost use Rattle.type_terms.specs.Promised.Handles.{ArgHeld, ArgsHeld, arg_trees};
+ghost use Rattle.type_terms.specs.Kinds.{autos_trees};
+ghost use Rattle.type_terms.specs.Promised.Label.{of_type, of_const, placeholder};
+ghost use Rattle.type_terms.specs.Promised.Handles.{Entry, Has, types, consts, bounds_lists, trees_at};
+ghost use Rattle.type_terms.specs.Terms.{args_lists};
+ghost use Rattle.type_terms.specs.Promised.Trees.{some_node};
+ghost use Rattle.type_terms.specs.Promised.Walks.{struct_is, trait_is};
+ghost use Rattle.type_terms.specs.Promised.Worlds.{World};
 ghost use Rattle.declarations.specs.Applied.{TraitRefsHeld, references_in};
 ghost use Rattle.declarations.specs.Held.{ReferenceHeld};
 ghost use Rattle.declarations.specs.Items.{reference_in, written};
 ghost use Rattle.candidate_assembly.specs.Finding.{BreaksAt, some_root};
-ghost use Rattle.sessions.specs.OwnValues.{is_same_param, stands_in};
+ghost use Rattle.sessions.specs.Promised.OwnValues.{is_same_param, stands_in};
 ghost use Rattle.sessions.specs.Foreign.{IsOwnAnswer, are_own_terms, is_foreign_term, is_unknown_term, label_of, question_in, strays};
-ghost use Rattle.sessions.specs.Given.{AnswerValuesHeld};
+ghost use Rattle.sessions.specs.Promised.Given.{AnswerValuesHeld};
 
 use crate::answers::ProveAnswer;
 use declarations::declarations::Declarations;
@@ -78,7 +80,7 @@ impl TypeVisitor for FindsParam {
 
     ghost use Rattle.std.proofs.Common.{refl};
     ghost use Rattle.candidate_assembly.specs.Finding.{BreaksAt, at_root};
-    ghost use Rattle.sessions.specs.OwnValues.{is_same_param};
+    ghost use Rattle.sessions.specs.Promised.OwnValues.{is_same_param};
     ghost use Rattle.sessions.specs.Foreign.{label_of, bounds-are-no-params};
 
     ghost ready = { λ _ _. Unit {0} };

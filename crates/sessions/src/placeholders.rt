@@ -1,10 +1,11 @@
 //! Impls with placeholders for their parameters.
 
 ghost use Rattle.std.specs.Prelude.{◌≡◌, ◌≤◌, ◌+◌, map, IfOk, IfErr};
-ghost use Rattle.type_terms.specs.Label.{placeholder};
-ghost use Rattle.type_terms.specs.Trees.{leaf};
-ghost use Rattle.type_terms.specs.Kinds.{ArgHeld, arg_trees};
-ghost use Rattle.type_terms.specs.Terms.{Has, args_lists, trees_at};
+ghost use Rattle.type_terms.specs.Promised.Label.{placeholder};
+ghost use Rattle.type_terms.specs.Promised.Trees.{leaf};
+ghost use Rattle.type_terms.specs.Promised.Handles.{ArgHeld, arg_trees};
+ghost use Rattle.type_terms.specs.Promised.Handles.{Has, trees_at};
+ghost use Rattle.type_terms.specs.Terms.{args_lists};
 ghost use Rattle.type_terms.specs.declared.TheConstants.{MAX_INDEX};
 ghost use Rattle.type_terms.specs.Growth.{GrewOrFull};
 ghost use Rattle.declarations.specs.Applied.{sort_of_param};

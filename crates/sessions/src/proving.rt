@@ -2,26 +2,28 @@
 //! `prove in a <T> V<T>: Show where T: Show` the goal is `V<!0>: Show` under `!0: Show`, with the supertraits of the clause.
 
 ghost use Rattle.std.specs.Prelude.{◌≡◌, map, IfOk, IfErr};
-ghost use Rattle.type_terms.specs.Trees.{some_node};
-ghost use Rattle.type_terms.specs.Kinds.{ArgsHeld, arg_trees};
-ghost use Rattle.type_terms.specs.Terms.{Has, Keeps, args_lists, trees_at};
+ghost use Rattle.type_terms.specs.Promised.Trees.{some_node};
+ghost use Rattle.type_terms.specs.Promised.Handles.{ArgsHeld, arg_trees};
+ghost use Rattle.type_terms.specs.Promised.Handles.{Has, Keeps, trees_at};
+ghost use Rattle.type_terms.specs.Terms.{args_lists};
 ghost use Rattle.term_folds.specs.Arguments.{arg_sort};
 ghost use Rattle.type_terms.specs.Growth.{FullAtLimit, GrewOrFull};
 ghost use Rattle.declarations.specs.Applied.{TraitRefsHeld, AreApplied, references_in};
-ghost use Rattle.declarations.specs.Elaboration.{elaborate};
+ghost use Rattle.declarations.specs.Promised.Elaboration.{elaborate};
 ghost use Rattle.declarations.specs.Held.{ReferenceHeld};
 ghost use Rattle.declarations.specs.Items.{reference_in, written};
 ghost use Rattle.infer_table.specs.Content.{Ready};
 ghost use Rattle.infer_table.specs.Goals.{GoalHeld, goal_trees};
 ghost use Rattle.sessions.specs.Goals.{goal_of};
-ghost use Rattle.text_definitions.specs.Declarations.{Question};
-ghost use Rattle.view_lowering.specs.Questions.{IsQuestion, IsLowered};
+ghost use Rattle.text_definitions.specs.Promised.Declarations.{Question};
+ghost use Rattle.view_lowering.specs.Promised.Questions.{IsQuestion};
+ghost use Rattle.view_lowering.specs.Questions.{IsLowered};
 ghost use Rattle.solver_context.specs.Contexts.{Advances, IsReady, KeepsLimits};
 ghost use Rattle.solver_context.specs.Shortages.{ContextFullAtLimit};
 ghost use Rattle.candidate_assembly.specs.Fitting.{solving_of};
 ghost use Rattle.candidate_assembly.specs.SolverMeaning.{solver_by_view};
 ghost use Rattle.sessions.specs.Frames.{SettlesInFrames, QuestionInFrames};
-ghost use Rattle.sessions.specs.Given.{AnswerValuesHeld};
+ghost use Rattle.sessions.specs.Promised.Given.{AnswerValuesHeld};
 ghost use Rattle.sessions.specs.Proving.{AreReadOff, ClausesApply, IsAnswered, IsAnsweredBySolver, IsAnsweredInSearch, IsGoalAnswered, SolverAdvances, SolverIsReady, SolvesTheSame, is_bound_term};
 ghost use Rattle.sessions.specs.Questions.{where_clauses};
 ghost use Rattle.sessions.specs.Resting.{AreAtRest};

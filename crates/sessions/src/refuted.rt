@@ -3,14 +3,16 @@
 
 ghost use Rattle.std.specs.Prelude.{◌≡◌, [], true, Ok, Err, OnOk, IfErr};
 ghost use Rattle.type_terms.specs.Made.{terms, is_made, is_in_range};
-ghost use Rattle.type_terms.specs.Terms.{Has, Keeps, args_lists};
+ghost use Rattle.type_terms.specs.Promised.Handles.{Has, Keeps};
+ghost use Rattle.type_terms.specs.Terms.{args_lists};
 ghost use Rattle.declarations.specs.Items.{reference_in};
 ghost use Rattle.infer_table.specs.Content.{Ready, variables_of};
 ghost use Rattle.infer_table.specs.Covers.{AreKnown};
 ghost use Rattle.infer_table.specs.Canonical.{HasNoCanonical};
-ghost use Rattle.text_definitions.specs.Declarations.{Question};
-ghost use Rattle.view_lowering.specs.Plain.{unbound_reference};
-ghost use Rattle.view_lowering.specs.Questions.{IsQuestion, IsLowered};
+ghost use Rattle.text_definitions.specs.Promised.Declarations.{Question};
+ghost use Rattle.view_lowering.specs.Promised.SeenWorlds.{unbound_reference};
+ghost use Rattle.view_lowering.specs.Promised.Questions.{IsQuestion};
+ghost use Rattle.view_lowering.specs.Questions.{IsLowered};
 ghost use Rattle.view_lowering.specs.QuestionVariables.{HasVariablesAlone};
 ghost use Rattle.sessions.specs.Asking.{HasNoProof, IsLeftOpen, IsRefusedAlone, goal_alone};
 ghost use Rattle.sessions.specs.Frames.{StartsFramesOfOne};

@@ -5,7 +5,7 @@ ghost use Rattle.type_terms.specs.declared.interner.TheConstants.{MAX_HANDLES};
 ghost use Rattle.view_lowering.specs.Behind.{BeginsWith};
 ghost use Rattle.view_lowering.specs.MostTerms.{most_terms};
 ghost use Rattle.sessions.specs.SeenViews.{IsViewOf};
-ghost use Rattle.sessions.specs.Subjects.{IsOfText};
+ghost use Rattle.sessions.specs.Promised.Subjects.{IsOfText};
 
 use crate::view::{declarations_are_ready, lower_view};
 use declarations::declarations::Declarations;

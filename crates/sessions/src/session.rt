@@ -1,30 +1,30 @@
 //! Sessions: checks and queries of one crate.
 
 ghost use Rattle.std.specs.Prelude.{◌≡◌, ◌<◌, ◌≤◌, ◌+◌, ℕ, true, length, IfOk, IfErr, IfSome, IsOk, Ok, Err};
-ghost use Rattle.type_terms.specs.Failures.{SomeKindIsFull};
-ghost use Rattle.type_terms.specs.Kinds.{ArgsHeld};
+ghost use Rattle.type_terms.specs.Promised.Handles.{SomeKindIsFull};
+ghost use Rattle.type_terms.specs.Promised.Handles.{ArgsHeld};
 ghost use Rattle.type_terms.specs.declared.TheConstants.{MAX_INDEX};
-ghost use Rattle.type_terms.specs.Laws.{InEveryLinkedSet};
-ghost use Rattle.declarations.specs.Merges.{Each};
-ghost use Rattle.orphan_check.specs.Held.{ErrorHeld};
-ghost use Rattle.overlap_check.specs.SessionLaws.{AnswersHoldEverywhere, HeadlineHolds};
+ghost use Rattle.type_terms.specs.Promised.LinkedSet.{InEveryLinkedSet};
+ghost use Rattle.declarations.specs.Promised.Elaboration.{Each};
+ghost use Rattle.orphan_check.specs.Promised.Errors.{ErrorHeld};
+ghost use Rattle.type_terms.specs.Promised.SetLaws.{AnswersHoldEverywhere, HeadlineHolds};
 ghost use Rattle.proof_checker.specs.Steps.{StepHeld};
 ghost use Rattle.view_lowering.specs.MostTerms.{most_terms};
 ghost use Rattle.workspace.specs.Numbered.{IsNumbered};
-ghost use Rattle.text_definitions.specs.Declarations.{Question};
-ghost use Rattle.sessions.specs.AnsweredSets.{AnsweredSetsAreCoherent, AnsweredSetsAreLinked};
+ghost use Rattle.text_definitions.specs.Promised.Declarations.{Question};
+ghost use Rattle.sessions.specs.Promised.AnsweredSets.{AnsweredSetsAreCoherent, AnsweredSetsAreLinked};
 ghost use Rattle.sessions.specs.ByTrait.{ListsSeen, HavePartnersSeen};
-ghost use Rattle.sessions.specs.CoherentTexts.{HeldTextsAreCoherent};
+ghost use Rattle.sessions.specs.Promised.CoherentTexts.{HeldTextsAreCoherent};
 ghost use Rattle.sessions.specs.Checking.{HasOrphan, HasJudged, HasPartner, HasOverlap};
-ghost use Rattle.sessions.specs.FrameBounds.{ProvesInFrames, RefutesInFrames};
-ghost use Rattle.sessions.specs.Given.{AnswerValuesHeld, VerdictHeld, answer_in, later_of, refutation_of, supers_of, verdict_in};
-ghost use Rattle.sessions.specs.Promises.{IsProved, IsRefutation, IsVerdictOf};
-ghost use Rattle.sessions.specs.Releases.{AddedImplsBreakNoUser, IsSectionOf, IsLaterAnswer, IsSupersAnswer};
+ghost use Rattle.sessions.specs.Promised.FrameBounds.{ProvesInFrames, RefutesInFrames};
+ghost use Rattle.sessions.specs.Promised.Given.{AnswerValuesHeld, VerdictHeld, answer_in, later_of, refutation_of, supers_of, verdict_in};
+ghost use Rattle.sessions.specs.Promised.Promises.{IsProved, IsRefutation, IsVerdictOf};
+ghost use Rattle.sessions.specs.Promised.Releases.{AddedImplsBreakNoUser, IsSectionOf, IsLaterAnswer, IsSupersAnswer};
 ghost use Rattle.sessions.specs.SeenViews.{IsLeftView, IsViewOf};
 ghost use Rattle.sessions.specs.Shown.{AreProofOfQuestion};
-ghost use Rattle.sessions.specs.Shortages.{SessionFullAtLimit};
+ghost use Rattle.sessions.specs.Promised.Shortages.{SessionFullAtLimit};
 ghost use Rattle.sessions.specs.Supertraits.{IsCheckedAt};
-ghost use Rattle.sessions.specs.Subjects.{IsOfText, AsksProof, AsksRefutation, StaysOn};
+ghost use Rattle.sessions.specs.Promised.Subjects.{IsOfText, AsksProof, AsksRefutation, StaysOn};
 
 use crate::answers::{LaterAnswer, ProveAnswer, RefuteAnswer, SupersAnswer, Verdict};
 use crate::applying::clauses_apply;
@@ -95,7 +95,8 @@ impl Drop for Session<'_> {
 }
 
 impl<'w> Model for Session<'w> {
-    ghost use Rattle.sessions.specs.Subjects.{Subject, subject_code};
+    ghost use Rattle.sessions.specs.Promised.Subjects.{Subject};
+    ghost use Rattle.sessions.specs.Subjects.{subject_code};
 
     ghost Value = { Subject };
 

@@ -1,18 +1,19 @@
 //! Steps that are given as a proof of a query's trait reference, checked.
 
 ghost use Rattle.std.specs.Prelude.{◌≡◌, true, map, IfOk};
-ghost use Rattle.type_terms.specs.Erased.{erased_reference};
-ghost use Rattle.type_terms.specs.Kinds.{ArgHeld, ArgsHeld};
+ghost use Rattle.type_terms.specs.Promised.Erased.{erased_reference};
+ghost use Rattle.type_terms.specs.Promised.Handles.{ArgHeld, ArgsHeld};
 ghost use Rattle.type_terms.specs.Growth.{Grew};
 ghost use Rattle.declarations.specs.Applied.{TraitRefsHeld};
 ghost use Rattle.declarations.specs.Held.{ReferenceHeld};
 ghost use Rattle.declarations.specs.Items.{reference_in};
-ghost use Rattle.declarations.specs.Merges.{Each};
+ghost use Rattle.declarations.specs.Promised.Elaboration.{Each};
 ghost use Rattle.infer_table.specs.Content.{Ready};
 ghost use Rattle.proof_checker.specs.Steps.{term_of, terms_of, AreProofOf, StepHeld};
-ghost use Rattle.text_definitions.specs.Declarations.{Question};
-ghost use Rattle.view_lowering.specs.Plain.{unbound_reference, unbound_references};
-ghost use Rattle.view_lowering.specs.Questions.{IsQuestion};
+ghost use Rattle.text_definitions.specs.Promised.Declarations.{Question};
+ghost use Rattle.view_lowering.specs.Promised.SeenWorlds.{unbound_reference};
+ghost use Rattle.view_lowering.specs.Plain.{unbound_references};
+ghost use Rattle.view_lowering.specs.Promised.Questions.{IsQuestion};
 ghost use Rattle.sessions.specs.Checking.{IsReadySolver, SolverStaysReady, rules_in};
 ghost use Rattle.sessions.specs.Shown.{IsResolved, IsShown};
 

@@ -2,7 +2,7 @@
 //! `impl<T> Sub for V<T> where T: Sub`, the goal is `V<!0>: Sup` under `!0: Sub` and `!0: Sup`.
 
 ghost use Rattle.std.specs.Prelude.{ℕ, IfOk, IfErr};
-ghost use Rattle.type_terms.specs.Terms.{Keeps};
+ghost use Rattle.type_terms.specs.Promised.Handles.{Keeps};
 ghost use Rattle.type_terms.specs.Growth.{FullAtLimit, GrewOrFull};
 ghost use Rattle.declarations.specs.Applied.{TraitRefsHeld, references_in};
 ghost use Rattle.declarations.specs.Held.{ImplHeld, ReferenceHeld};
@@ -10,7 +10,7 @@ ghost use Rattle.declarations.specs.Items.{reference_in, written};
 ghost use Rattle.overlap_check.specs.Written.{IsWrittenWell};
 ghost use Rattle.candidate_assembly.specs.Fitting.{solving_of};
 ghost use Rattle.candidate_assembly.specs.Ready.{AreReadyDeclarations};
-ghost use Rattle.text_definitions.specs.Declarations as text;
+ghost use Rattle.text_definitions.specs.Promised.Declarations as text;
 ghost use Rattle.sessions.specs.Proving.{SolverAdvances, SolverIsReady, SolvesTheSame};
 ghost use Rattle.sessions.specs.Sessions.{SolverRests, IsSession};
 ghost use Rattle.sessions.specs.Supertraits.{AreGoalsFor, AreOfOwn, HasApplied, ImplsApply, IsCheckedAt, IsHeaderTold, SolverTells};

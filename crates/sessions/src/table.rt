@@ -1,7 +1,7 @@
 //! The table of a query.
 
 ghost use Rattle.std.specs.Prelude.{◌≡◌, ◌∷◌, ◌++◌, [], List, map, IfOk, OnOk};
-ghost use Rattle.type_terms.specs.Label.{Sort};
+ghost use Rattle.type_terms.specs.Promised.Label.{Sort};
 ghost use Rattle.term_folds.specs.Arguments.{arg_sort};
 ghost use Rattle.type_terms.specs.Growth.{GrewOrFull};
 ghost use Rattle.infer_table.specs.Content.{Ready};

@@ -1,7 +1,9 @@
 //! The crates of a text without a fault, as a linked set. These are laws, with no code to run.
 
-ghost use Rattle.sessions.specs.AnsweredSets.{AnsweredSetsAreCoherent, AnsweredSetsAreLinked, AnsweredSetsInAnyOrder, TextsObeyTheirRules};
-ghost use Rattle.sessions.specs.CoherentTexts.{AcceptedTextsAreCoherent, HeldTextsAreCoherent};
+ghost use Rattle.sessions.specs.Promised.AnsweredSets.{AnsweredSetsAreCoherent, AnsweredSetsAreLinked};
+ghost use Rattle.sessions.specs.AnsweredSets.{AnsweredSetsInAnyOrder, TextsObeyTheirRules};
+ghost use Rattle.sessions.specs.CoherentTexts.{AcceptedTextsAreCoherent};
+ghost use Rattle.sessions.specs.Promised.CoherentTexts.{HeldTextsAreCoherent};
 ghost use Rattle.sessions.specs.JoinedSets.{HeldCratesAreLinked, JoinedSetsAreFourRecords};
 ghost use Rattle.sessions.specs.JoinedTexts.{TextsAreJoined, TextsListInOrder};
 ghost use Rattle.sessions.specs.ScopedTexts.{ImplsAreInScope};

@@ -1,7 +1,7 @@
 //! The values of a query's variables.
 
 ghost use Rattle.std.specs.Prelude.{◌≡◌, map, IfOk};
-ghost use Rattle.type_terms.specs.Kinds.{ArgsHeld, arg_trees};
+ghost use Rattle.type_terms.specs.Promised.Handles.{ArgsHeld, arg_trees};
 ghost use Rattle.type_terms.specs.Growth.{GrewOrFull};
 ghost use Rattle.infer_table.specs.Content.{Ready, content};
 ghost use Rattle.infer_table.specs.Solutions.{resolved};

@@ -4,13 +4,13 @@ ghost use Rattle.std.specs.Prelude.{◌≡◌, ◌+◌, ◌<◌, ◌≤◌, leng
 ghost use Rattle.type_terms.specs.Growth.{FullAtLimit};
 ghost use Rattle.declarations.specs.Items.{written, declared};
 ghost use Rattle.view_lowering.specs.MostTerms.{most_terms};
-ghost use Rattle.view_lowering.specs.Plain.{plainly_seen_from};
+ghost use Rattle.view_lowering.specs.Promised.SeenWorlds.{plainly_seen_from};
 ghost use Rattle.view_lowering.specs.Seen.{rules_seen_from, struct_sorts, trait_sorts, impl_sorts, struct_sorts_seen, trait_sorts_seen, impl_sorts_seen};
 ghost use Rattle.view_lowering.specs.Ready.{OfTexts};
 ghost use Rattle.candidate_assembly.specs.Ready.{AreReadyDeclarations};
 ghost use Rattle.sessions.specs.Numbers.{ImplsAreNumbered};
 ghost use Rattle.sessions.specs.Readying.{AreReady};
-ghost use Rattle.sessions.specs.Subjects.{IsOfText};
+ghost use Rattle.sessions.specs.Promised.Subjects.{IsOfText};
 
 use declarations::declarations::Declarations;
 use std::alloc::Global;

@@ -7,9 +7,10 @@ use Rattle.infer_table.specs.declared.certainty.Certainty.TheVariants.{Maybe}
 use Rattle.infer_table.specs.declared.certainty.MaybeCause.{MaybeCause}
 use Rattle.infer_table.specs.contracts.canonical.CanonicalVarKindPartialEq.TheImpl.{ghosts as kind}
 use Rattle.infer_table.specs.contracts.certainty.CertaintyPartialEq.TheImpl.{ghosts as certainty}
-use Rattle.type_terms.specs.Label.{Sort, canonical}
-use Rattle.type_terms.specs.Trees.{Trees, none, tree, leaf, is_sort, is_a, is_no_tree}
-use Rattle.type_terms.specs.Terms.{Entry}
+use Rattle.type_terms.specs.Promised.Label.{Sort, canonical}
+use Rattle.type_terms.specs.Promised.Trees.{Trees, none, tree, leaf, is_sort}
+use Rattle.type_terms.specs.Trees.{is_a, is_no_tree}
+use Rattle.type_terms.specs.Promised.Handles.{Entry}
 use Rattle.type_terms.specs.Made.{terms, is_made}
 use Rattle.type_terms.specs.declared.kinds.GenericArgKind.{GenericArgKind}
 use Rattle.infer_table.specs.declared.canonical.CanonicalVarKind.{CanonicalVarKind}

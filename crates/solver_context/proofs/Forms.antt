@@ -1,8 +1,9 @@
 -- An instance of a goal's canonical form, by what is assigned to the goal's leaves, is an instance of the goal.
 use Rattle.std.proofs.Common.{◌≡◌, ℕ, Bool, true, ◌&&◌, List, [], ◌∷◌, ◌++◌, map, refl, sym, ◌∙◌, ap, Option, Some, None, if◌then◌else◌, is_some, inl, inr}
 use Rattle.std.specs.Prelude.{IsSome}
-use Rattle.type_terms.specs.Label.{Label, Sort, of_type, of_const, of_lifetime, infer, param, placeholder, canonical, bound, static}
-use Rattle.type_terms.specs.Trees.{Trees, none, tree, leaf, ◌+++◌, erase_label, is_sort, is_a, placed}
+use Rattle.type_terms.specs.Promised.Label.{Label, Sort, of_type, of_const, of_lifetime, infer, param, placeholder, canonical, bound, static}
+use Rattle.type_terms.specs.Promised.Trees.{Trees, none, tree, leaf, ◌+++◌, erase_label, is_sort}
+use Rattle.type_terms.specs.Trees.{is_a, placed}
 use Rattle.type_terms.specs.Made.{is_leaf_label}
 use Rattle.infer_table.specs.Canonical.{OpenKinds, GoalTrees, kind_of_leaf, kind_in_clause, StandsIn, HasNoCanonical, is_among, place_of, canonical_label, goal_leaves, leaves, relabeled}
 use Rattle.infer_table.specs.Solutions.{Assignment, Binding, IsSorted, Solves, AllValued, instance, resolved}

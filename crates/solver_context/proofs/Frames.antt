@@ -1,6 +1,6 @@
 -- A frame stands where it stood, whatever else its interner holds.
 use Rattle.std.proofs.Common.{List, map, subst, sym, Option}
-use Rattle.type_terms.specs.Terms.{Entry, Keeps}
+use Rattle.type_terms.specs.Promised.Handles.{Entry, Keeps}
 use Rattle.infer_table.specs.declared.input.CanonicalInput.{CanonicalInput}
 use Rattle.infer_table.specs.Responses.{AnswerTrees}
 use Rattle.evaluation.specs.declared.candidate.Considered.{Considered}

@@ -1,6 +1,6 @@
 -- A goal has one number in a context.
 use Rattle.std.proofs.Common.{◌≡◌, ◌∙◌, List, ap, sym}
-use Rattle.type_terms.specs.Terms.{Entry}
+use Rattle.type_terms.specs.Promised.Handles.{Entry}
 use Rattle.infer_table.proofs.Questions.{forms-equal}
 use Rattle.goal_frames.proofs.Numbers.{one-input}
 use Rattle.goal_frames.specs.declared.store.InputId.{InputId}

@@ -1,9 +1,10 @@
 -- Nothing stands below the variables, lifetimes and numbers of a goal that a table resolves.
 use Rattle.std.proofs.Common.{arith, ◌≡◌, ℕ, Bool, true, false, List, [], ◌∷◌, refl, sym, ◌∙◌, ap, if◌then◌else◌}
-use Rattle.type_terms.specs.Label.{Sort, infer}
-use Rattle.type_terms.specs.Trees.{Trees, none, tree, ◌+++◌}
-use Rattle.type_terms.specs.Terms.{Entry, Lawful, Has, args_lists, types, trees_at}
-use Rattle.type_terms.specs.Kinds.{ArgHeld, arg_trees, region_trees}
+use Rattle.type_terms.specs.Promised.Label.{Sort, infer}
+use Rattle.type_terms.specs.Promised.Trees.{Trees, none, tree, ◌+++◌}
+use Rattle.type_terms.specs.Promised.Handles.{Entry, Has, types, trees_at}
+use Rattle.type_terms.specs.Terms.{Lawful, args_lists}
+use Rattle.type_terms.specs.Promised.Handles.{ArgHeld, arg_trees, region_trees}
 use Rattle.type_terms.specs.declared.kinds.GenericArgKind.{GenericArgKind}
 use Rattle.type_terms.specs.Made.{terms, is_leaf_label, is_in_range}
 use Rattle.type_terms.proofs.MadeFacts.{type-made}

@@ -2,7 +2,7 @@
 use Rattle.std.proofs.Common.{◌≡◌, ◌∙◌, ◌≤◌, ◌+◌, arith, ℕ, zero, suc, Bool, true, false, List, [], ◌∷◌, refl, sym, ap, subst, Some, slice_get}
 use Rattle.std.proofs.lemmas.Option.{none-some, same_Some}
 use Rattle.evaluation.specs.declared.TheConstants.{FIXPOINT_STEP_LIMIT}
-use Rattle.search_graph.specs.Bound.{frame_bound}
+use Rattle.search_graph.specs.Promised.FrameBound.{frame_bound}
 use Rattle.search_graph.specs.Cache.{KnownResult, IsJustified, AreJustified, answers_in}
 use Rattle.search_graph.specs.Chain.{IsWithinDepth}
 use Rattle.search_graph.specs.Computed.{IsComputed, IsGivenWithin}

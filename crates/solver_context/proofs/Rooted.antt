@@ -1,6 +1,6 @@
 -- From the context in which a goal is asked to the one that a search leaves.
 use Rattle.std.proofs.Common.{◌≡◌, Bool, true, false, ◌&&◌, not, List, ◌∙◌, ap, subst, Option, refl}
-use Rattle.type_terms.specs.Terms.{Entry, Keeps}
+use Rattle.type_terms.specs.Promised.Handles.{Entry, Keeps}
 use Rattle.search_graph.specs.Meaning as Search
 use Rattle.search_graph.proofs.Graphs.{Keeps-trans}
 use Rattle.infer_table.specs.Certainties.{is_certain}

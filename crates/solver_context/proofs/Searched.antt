@@ -1,8 +1,9 @@
 -- What an answer of a search to a goal's canonical form says of the goal, over a table.
 use Rattle.std.proofs.Common.{◌≡◌, List, refl, sym, ◌∙◌, ap, subst, Option}
-use Rattle.type_terms.specs.Label.{of_trait, predicate}
-use Rattle.type_terms.specs.Trees.{none}
-use Rattle.type_terms.specs.Terms.{Entry, Lawful, trees_at}
+use Rattle.type_terms.specs.Promised.Label.{of_trait, predicate}
+use Rattle.type_terms.specs.Promised.Trees.{none}
+use Rattle.type_terms.specs.Promised.Handles.{Entry, trees_at}
+use Rattle.type_terms.specs.Terms.{Lawful}
 use Rattle.infer_table.specs.Canonical.{CanonicalForm, canonical_form}
 use Rattle.infer_table.specs.Content.{Table, content, Ready}
 use Rattle.infer_table.specs.Solutions.{Assignment, Solves}

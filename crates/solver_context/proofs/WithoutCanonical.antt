@@ -1,8 +1,9 @@
 -- Evaluations bring no canonical variables into a table.
 use Rattle.std.proofs.Common.{◌≡◌, ℕ, Bool, true, false, ◌&&◌, refl, ap, sym, ◌∙◌, subst, List, [], ◌∷◌, ◌++◌, map, Some, None, if◌then◌else◌}
 use Rattle.std.specs.Prelude.{is_some}
-use Rattle.type_terms.specs.Label.{Label, Sort, of_type, of_const, of_lifetime, canonical}
-use Rattle.type_terms.specs.Trees.{Trees, none, tree, is_sort, sort_of, is_a, is_no_tree}
+use Rattle.type_terms.specs.Promised.Label.{Label, Sort, of_type, of_const, of_lifetime, canonical}
+use Rattle.type_terms.specs.Promised.Trees.{Trees, none, tree, is_sort, sort_of}
+use Rattle.type_terms.specs.Trees.{is_a, is_no_tree}
 use Rattle.infer_table.specs.declared.canonical.CanonicalVarKind.{CanonicalVarKind}
 use Rattle.infer_table.specs.Canonical.{OpenKinds, GoalTrees, kind_of_leaf, kind_in_clause, is_among, with_label, leaves, goal_leaves}
 use Rattle.infer_table.specs.Unification.{TableTrees, term_sort}

@@ -1,6 +1,6 @@
 -- Answers that say nothing, and the requests of frames in code.
 use Rattle.std.specs.Prelude.{Bool, not, ◌&&◌, List, Option, Some, None}
-use Rattle.type_terms.specs.Terms.{Entry}
+use Rattle.type_terms.specs.Promised.Handles.{Entry}
 use Rattle.search_graph.specs.declared.delegate.Request.{Request}
 use Rattle.search_graph.specs.declared.delegate.Request.TheVariants.{Evaluate, EnterCandidate, FinishCandidate, IgnoreCandidate, Done}
 use Rattle.search_graph.specs.declared.delegate.Reply.{Reply}

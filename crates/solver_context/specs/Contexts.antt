@@ -1,7 +1,8 @@
 -- What a context of the solver holds, and what its numbers stand for.
 use Rattle.std.specs.Prelude.{◌≡◌, List, [], Option, Some, None}
-use Rattle.type_terms.specs.Trees.{none}
-use Rattle.type_terms.specs.Terms.{Entry, Keeps, Lawful}
+use Rattle.type_terms.specs.Promised.Trees.{none}
+use Rattle.type_terms.specs.Promised.Handles.{Entry, Keeps}
+use Rattle.type_terms.specs.Terms.{Lawful}
 use Rattle.infer_table.specs.Canonical.{CanonicalForm}
 use Rattle.infer_table.specs.declared.certainty.TypingMode.{TypingMode}
 use Rattle.infer_table.specs.declared.certainty.TypingMode.TheVariants.{PostAnalysis}

@@ -1,6 +1,6 @@
 -- What the evaluation of a goal of a table says.
 use Rattle.std.specs.Prelude.{◌≡◌, ◌+◌, ℕ, true, List}
-use Rattle.type_terms.specs.Terms.{Entry}
+use Rattle.type_terms.specs.Promised.Handles.{Entry}
 use Rattle.infer_table.specs.Canonical.{CanonicalForm, canonical_form}
 use Rattle.infer_table.specs.Content.{Table}
 use Rattle.infer_table.specs.declared.certainty.TypingMode.{TypingMode}

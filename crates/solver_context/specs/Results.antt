@@ -1,7 +1,7 @@
 -- What a search promises of its frames, of its limits and of the answers that a cache holds, in the words of goals.
 use Rattle.std.specs.Prelude.{◌≡◌, ◌+◌, ◌≤◌, ℕ, true, false, List, Some, slice_get}
 use Rattle.evaluation.specs.declared.TheConstants.{FIXPOINT_STEP_LIMIT}
-use Rattle.search_graph.specs.Bound.{frame_bound}
+use Rattle.search_graph.specs.Promised.FrameBound.{frame_bound}
 use Rattle.search_graph.specs.Cache.{KnownResult, answers_in}
 use Rattle.search_graph.specs.Chain.{IsWithinDepth}
 use Rattle.search_graph.specs.Computed.{IsComputed, IsGivenWithin}

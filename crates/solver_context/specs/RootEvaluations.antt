@@ -1,6 +1,6 @@
 -- What `evaluate_root_goal` promises: how it leaves what it is lent, what it costs, what it says, and when it refuses or ends with a fault.
 use Rattle.std.specs.Prelude.{◌≡◌, List, Option, Some, None, IfErr, OnErr, Result, Err}
-use Rattle.type_terms.specs.Terms.{Keeps}
+use Rattle.type_terms.specs.Promised.Handles.{Keeps}
 use Rattle.infer_table.specs.Content.{Table, Ready, Grows, content}
 use Rattle.infer_table.specs.Goals.{GoalHeld, goal_trees}
 use Rattle.infer_table.specs.Responses.{AnswerTrees}

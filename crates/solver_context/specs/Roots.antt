@@ -1,7 +1,7 @@
 -- Goals of a table: the references that they stand for, their canonical forms, and what answers leave.
 use Rattle.std.specs.Prelude.{◌≡◌, true, false, Bool, List, map, Option, option_and_then}
-use Rattle.type_terms.specs.Trees.{leaf}
-use Rattle.type_terms.specs.Terms.{Entry}
+use Rattle.type_terms.specs.Promised.Trees.{leaf}
+use Rattle.type_terms.specs.Promised.Handles.{Entry}
 use Rattle.type_terms.specs.declared.kinds.GenericArgKind.{GenericArgKind}
 use Rattle.infer_table.specs.Canonical.{GoalTrees, CanonicalForm, canonical_form, goal_leaves}
 use Rattle.infer_table.specs.Content.{Table, content, variables_of}

@@ -1,6 +1,6 @@
 -- What the contexts, numbers and frames of the solver mean to a search.
 use Rattle.std.specs.Prelude.{◌≡◌, ℕ, List, Option, Some, slice_get}
-use Rattle.type_terms.specs.Terms.{Entry}
+use Rattle.type_terms.specs.Promised.Handles.{Entry}
 use Rattle.search_graph.specs.declared.delegate.Reply.{Reply}
 use Rattle.search_graph.specs.declared.delegate.Reply.TheVariants as Replied
 use Rattle.search_graph.specs.Meaning.{Meaning, AreReplies}

@@ -1,6 +1,6 @@
 -- When a context of the solver is at a limit.
 use Rattle.std.specs.Prelude.{◌≡◌, ◌⊎◌, length}
-use Rattle.type_terms.specs.Failures.{SomeKindIsFull}
+use Rattle.type_terms.specs.Promised.Handles.{SomeKindIsFull}
 use Rattle.type_terms.specs.declared.Fault.{Fault}
 use Rattle.type_terms.specs.declared.Fault.TheVariants.{Full}
 use Rattle.goal_frames.specs.declared.store.GoalStore.{GoalStore}

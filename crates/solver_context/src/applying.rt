@@ -1,8 +1,8 @@
 //! An answer put into the table of the goal that was asked.
 
 ghost use Rattle.std.specs.Prelude.{◌≡◌, Some, None, OnOk, OnErr, Err};
-ghost use Rattle.type_terms.specs.Terms.{Entry};
-ghost use Rattle.type_terms.specs.Kinds.{ArgsHeld};
+ghost use Rattle.type_terms.specs.Promised.Handles.{Entry};
+ghost use Rattle.type_terms.specs.Promised.Handles.{ArgsHeld};
 ghost use Rattle.infer_table.specs.Content.{Ready, Grows, content};
 ghost use Rattle.infer_table.specs.Solutions.{Assignment, Solves};
 ghost use Rattle.infer_table.specs.Unification.{table_trees};

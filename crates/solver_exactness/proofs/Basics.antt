@@ -2,8 +2,8 @@
 use Rattle.std.proofs.Common.{List, ◌++◌, [], ◌∷◌, ◌≡◌, refl, ap}
 use Rattle.solver_exactness.specs.FormedFacts.{AreTypeSorts}
 use Rattle.solver_exactness.specs.SolverWays.{premises_of}
-use Rattle.type_terms.specs.Label.{Sort}
-use Rattle.type_terms.specs.Rules.{Rule}
+use Rattle.type_terms.specs.Promised.Label.{Sort}
+use Rattle.type_terms.specs.Promised.Rules.{Rule}
 
 pub are-types-append : (xs ys : List Sort) → AreTypeSorts xs → AreTypeSorts ys → AreTypeSorts (xs ++ ys)
 are-types-append [] ys h g = g

@@ -1,13 +1,13 @@
 -- The candidates by object bounds and by a `dyn` that unsizes to another select the ways by these rules.
 use Rattle.std.proofs.Common.{◌≡◌, ◌⊎◌, inl, inr, ℕ, ◌==◌, Bool, true, false, not, ◌&&◌, if◌then◌else◌, List, [], ◌∷◌, ◌++◌, map, refl, sym, ◌∙◌, ap, subst, Some}
 use Rattle.std.specs.List.{list_all, list_any}
-use Rattle.type_terms.specs.Label.{Label, of_type, dynamic, auto_trait, param, placeholder, infer, canonical, bound}
-use Rattle.type_terms.specs.Trees.{Trees, none, tree, erase_label, is_sort, some_node}
+use Rattle.type_terms.specs.Promised.Label.{Label, of_type, dynamic, auto_trait, param, placeholder, infer, canonical, bound}
+use Rattle.type_terms.specs.Promised.Trees.{Trees, none, tree, erase_label, is_sort, some_node}
 use Rattle.type_terms.specs.Codes.{same}
-use Rattle.type_terms.specs.Worlds.{World, Reference}
-use Rattle.type_terms.specs.Rules.{Rule, row, sized, unsize, unsize_dyn, unsize_upcast, object_auto, object_principal, equal_rows, same_reference, is_declared, are_declared, are_dyn_compatible, principal_with, autos_with, elaborated, strict_supertraits, upcasts_principal, upcasts_autos, unsize_upcast_rules, object_bound_rules, object_rules}
-use Rattle.type_terms.specs.Proofs.{In}
-use Rattle.type_terms.specs.Answers.{is_undeclared}
+use Rattle.type_terms.specs.Promised.Worlds.{World, Reference}
+use Rattle.type_terms.specs.Promised.Rules.{Rule, row, sized, unsize, unsize_dyn, unsize_upcast, object_auto, object_principal, equal_rows, same_reference, is_declared, are_declared, are_dyn_compatible, principal_with, autos_with, elaborated, strict_supertraits, upcasts_principal, upcasts_autos, unsize_upcast_rules, object_bound_rules, object_rules}
+use Rattle.type_terms.specs.Promised.Proofs.{In}
+use Rattle.type_terms.specs.Promised.Answers.{is_undeclared}
 use Rattle.type_terms.proofs.Members.{here, there, in-map, flat-in}
 use Rattle.type_terms.proofs.Fitting.{head-shut, child-shut}
 use Rattle.type_terms.proofs.Walking.{left, right, both}
@@ -30,7 +30,7 @@ use Rattle.assembly_laws.specs.DeclaredWell.{IsDeclaredWell, are_distinct}
 use Rattle.assembly_laws.specs.Asking.{GoalOverKinds, goal_over_kinds, is_rigid, self_of, with_plain_head}
 use Rattle.assembly_laws.specs.Candidates.{Candidate, recording, by_rule, all_equal, misc, if_so, upcasts_from, upcasts_to, upcasts_of, bounds_from, object_source, written_source, objects_of}
 use Rattle.assembly_laws.specs.Cover.{goal_fact, read_reference}
-use Rattle.declarations.specs.Elaboration.{elaborate, supertraits}
+use Rattle.declarations.specs.Promised.Elaboration.{elaborate, supertraits}
 use Rattle.assembly_laws.proofs.BoundTerms.{bounds-are-left}
 use Rattle.assembly_laws.proofs.ByView.{rigid-read}
 use Rattle.assembly_laws.proofs.Elaborating.{every-in}

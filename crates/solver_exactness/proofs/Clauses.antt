@@ -1,9 +1,10 @@
 -- The candidates by where-clauses are the ways by these.
 use Rattle.std.proofs.Common.{◌≡◌, ◌==◌, Bool, true, false, not, ◌&&◌, ◌||◌, if◌then◌else◌, List, [], ◌∷◌, refl, sym, ◌∙◌, ap, subst, Some}
-use Rattle.type_terms.specs.Label.{Label, of_type, of_const, of_lifetime, dynamic, principal, auto_trait, infer, param, placeholder, canonical, bound, static, of_trait, predicate}
-use Rattle.type_terms.specs.Trees.{Trees, none, tree, is_a, is_no_tree, sort_of}
+use Rattle.type_terms.specs.Promised.Label.{Label, of_type, of_const, of_lifetime, dynamic, principal, auto_trait, infer, param, placeholder, canonical, bound, static, of_trait, predicate}
+use Rattle.type_terms.specs.Promised.Trees.{Trees, none, tree, sort_of}
+use Rattle.type_terms.specs.Trees.{is_a, is_no_tree}
 use Rattle.type_terms.specs.Codes.{same}
-use Rattle.type_terms.specs.Worlds.{Reference}
+use Rattle.type_terms.specs.Promised.Worlds.{Reference}
 use Rattle.type_terms.proofs.Matching.{same-sound}
 use Rattle.type_terms.proofs.Walking.{left, right}
 use Rattle.type_terms.specs.Made.{terms, bounds, is_leaf_label, is_made}

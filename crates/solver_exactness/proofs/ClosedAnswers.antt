@@ -1,11 +1,11 @@
 -- What the solver's search answers in coherence to closed references without where-clauses, in the model's words.
 use Rattle.std.proofs.Common.{◌≡◌, ◌&&◌, ℕ, zero, suc, Bool, true, false, List, [], ◌∷◌, inl, inr, map, refl, sym, ◌∙◌, ap, subst, Option, Some, None, if◌then◌else◌}
 use Rattle.std.specs.List.{flat_map}
-use Rattle.type_terms.specs.Worlds.{World, Reference}
-use Rattle.type_terms.specs.Rules.{Rule, rules, strict_supertraits}
-use Rattle.type_terms.specs.Proofs.{In}
-use Rattle.type_terms.specs.Walks.{is_known_in}
-use Rattle.type_terms.specs.Answers.{is_closed, written_in, short_chains, is_possible}
+use Rattle.type_terms.specs.Promised.Worlds.{World, Reference}
+use Rattle.type_terms.specs.Promised.Rules.{Rule, rules, strict_supertraits}
+use Rattle.type_terms.specs.Promised.Proofs.{In}
+use Rattle.type_terms.specs.Promised.Walks.{is_known_in}
+use Rattle.type_terms.specs.Promised.Answers.{is_closed, written_in, short_chains, is_possible}
 use Rattle.type_terms.proofs.Members.{here, there, in-left, in-right, flat-in}
 use Rattle.type_terms.proofs.Walking.{left, right}
 use Rattle.infer_table.specs.Responses.{AnswerTrees}

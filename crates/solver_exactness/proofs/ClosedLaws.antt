@@ -1,7 +1,7 @@
 -- The tables of frames keep the laws for goals without unknowns.
 use Rattle.std.proofs.Common.{◌≡◌, ℕ, zero, suc, ◌+◌, arith, true, false, List, [], ◌∷◌, map, refl, sym, ◌∙◌, ap, Option, Some, None, if◌then◌else◌}
-use Rattle.type_terms.specs.Label.{Sort, of_type, of_const, of_lifetime, placeholder}
-use Rattle.type_terms.specs.Trees.{Trees, leaf, is_sort}
+use Rattle.type_terms.specs.Promised.Label.{Sort, of_type, of_const, of_lifetime, placeholder}
+use Rattle.type_terms.specs.Promised.Trees.{Trees, leaf, is_sort}
 use Rattle.infer_table.specs.declared.canonical.CanonicalVarKind.{CanonicalVarKind}
 use Rattle.infer_table.specs.declared.canonical.CanonicalVarKind.TheVariants.{Ty, PlaceholderTy, Const, PlaceholderConst, Region}
 use Rattle.infer_table.specs.Responses.{AnswerTrees}

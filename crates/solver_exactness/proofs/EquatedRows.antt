@@ -1,12 +1,12 @@
 -- The candidates by calls, and by arrays, structs and other types that unsize, are the ways by these rules.
 use Rattle.std.proofs.Common.{◌≡◌, ℕ, ◌==◌, Bool, true, false, not, ◌&&◌, ◌||◌, if◌then◌else◌, List, [], ◌∷◌, ◌++◌, map, ◌⊎◌, inl, inr, refl, sym, ◌∙◌, ap, subst, Some}
 use Rattle.std.specs.List.{flat_map, list_all}
-use Rattle.type_terms.specs.Label.{Label, of_type, tuple, dynamic, array, slice, adt, fn_ptr, param, placeholder, infer, canonical, bound}
-use Rattle.type_terms.specs.Trees.{Trees, none, tree, erase_label, is_sort}
+use Rattle.type_terms.specs.Promised.Label.{Label, of_type, tuple, dynamic, array, slice, adt, fn_ptr, param, placeholder, infer, canonical, bound}
+use Rattle.type_terms.specs.Promised.Trees.{Trees, none, tree, erase_label, is_sort}
 use Rattle.type_terms.specs.Codes.{same}
-use Rattle.type_terms.specs.Worlds.{World, Reference, StructDecl, structs_named}
-use Rattle.type_terms.specs.Rules.{Rule, BuiltIn, row, is_fn_trait, call_rules, but_last, last_asked, sized, asked as asks_for, fn_ptr_call, unsize, unsize_array, unsize_struct, unsize_to_dyn, is_dyn, unsize_array_rules, unsize_to_dyn_rules, unsize_struct_rules, some_unsizing, with_unsizing, last_unsizes, are_dyn_compatible, principal_with, autos_with}
-use Rattle.type_terms.specs.Proofs.{In}
+use Rattle.type_terms.specs.Promised.Worlds.{World, Reference, StructDecl, structs_named}
+use Rattle.type_terms.specs.Promised.Rules.{Rule, BuiltIn, row, is_fn_trait, call_rules, but_last, last_asked, sized, asked as asks_for, fn_ptr_call, unsize, unsize_array, unsize_struct, unsize_to_dyn, is_dyn, unsize_array_rules, unsize_to_dyn_rules, unsize_struct_rules, some_unsizing, with_unsizing, last_unsizes, are_dyn_compatible, principal_with, autos_with}
+use Rattle.type_terms.specs.Promised.Proofs.{In}
 use Rattle.type_terms.proofs.Members.{here, there, in-filter}
 use Rattle.type_terms.proofs.Fitting.{child-shut, next-shut}
 use Rattle.type_terms.proofs.Walking.{left, right}

@@ -1,10 +1,10 @@
 -- Candidates of a goal without unknowns that equate lists of terms: they apply where both lists are read as one, and else refuse.
 use Rattle.std.proofs.Common.{◌≡◌, ℕ, suc, ◌==◌, Bool, true, false, ◌&&◌, if◌then◌else◌, List, [], ◌∷◌, ◌++◌, map, ◌⊎◌, inl, inr, refl, sym, ◌∙◌, ap, subst, Some}
-use Rattle.type_terms.specs.Label.{Label, of_type, of_const, canonical, param, placeholder}
-use Rattle.type_terms.specs.Trees.{Trees, none, tree, ◌+++◌}
+use Rattle.type_terms.specs.Promised.Label.{Label, of_type, of_const, canonical, param, placeholder}
+use Rattle.type_terms.specs.Promised.Trees.{Trees, none, tree, ◌+++◌}
 use Rattle.type_terms.specs.Codes.{same}
-use Rattle.type_terms.specs.Worlds.{Reference}
-use Rattle.type_terms.specs.Rules.{Rule}
+use Rattle.type_terms.specs.Promised.Worlds.{Reference}
+use Rattle.type_terms.specs.Promised.Rules.{Rule}
 use Rattle.type_terms.proofs.Matching.{same-sound}
 use Rattle.type_terms.proofs.Members.{same-number, self-number}
 use Rattle.type_terms.specs.Made.{terms, is_made}
@@ -25,7 +25,7 @@ use Rattle.solver_exactness.specs.ClosedTables.{AreClosed, ArePlaces}
 use Rattle.assembly_laws.specs.Meaning.{ViewMeaning}
 use Rattle.assembly_laws.specs.Asking.{GoalOverKinds, goal_over_kinds}
 use Rattle.assembly_laws.specs.Candidates.{Candidate, all_equal, by_rule, bounds_from, upcast_source, upcasts_from}
-use Rattle.declarations.specs.Elaboration.{supertraits}
+use Rattle.declarations.specs.Promised.Elaboration.{supertraits}
 use Rattle.assembly_laws.specs.Cover.{read_reference}
 use Rattle.assembly_laws.proofs.EquationTerms.{IsOpenTerms, made-open}
 use Rattle.assembly_laws.proofs.Facts.{same-self}

@@ -1,7 +1,7 @@
 -- Terms that give an impl's parameters these values, whatever the placeholders of the goal stand for.
 use Rattle.std.proofs.Common.{◌≡◌, ℕ, suc, ◌+◌, true, List, [], ◌∷◌, map, length, refl, sym, ◌∙◌, ap, Some}
-use Rattle.type_terms.specs.Label.{Sort, of_type, of_const, of_lifetime, infer}
-use Rattle.type_terms.specs.Trees.{Trees, leaf, sort_of}
+use Rattle.type_terms.specs.Promised.Label.{Sort, of_type, of_const, of_lifetime, infer}
+use Rattle.type_terms.specs.Promised.Trees.{Trees, leaf, sort_of}
 use Rattle.infer_table.specs.Solutions.{resolved, HasValues}
 use Rattle.infer_table.specs.Unification.{TableTrees}
 use Rattle.infer_table.specs.declared.canonical.CanonicalVarKind.{CanonicalVarKind}

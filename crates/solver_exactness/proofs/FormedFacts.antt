@@ -1,13 +1,14 @@
 -- What a view makes of a formed reference is formed: so formed facts are kept along ways.
 use Rattle.std.proofs.Common.{◌≡◌, ℕ, zero, suc, ◌==◌, Bool, true, false, not, ◌&&◌, ◌||◌, List, [], ◌∷◌, ◌++◌, map, length, ◌⊎◌, inl, inr, refl, sym, ◌∙◌, ap, subst, if◌then◌else◌}
 use Rattle.std.specs.List.{flat_map, list_all, list_any}
-use Rattle.type_terms.specs.Label.{Label, Sort, of_type, of_const, of_lifetime, never, uint, param, placeholder, infer, canonical, bound, value, static, bool, char, int, str, array, slice, tuple, dynamic, adt, fn_ptr, ref, raw_pointer, principal, auto_trait}
-use Rattle.type_terms.specs.Trees.{Trees, none, tree, leaf, ◌+++◌, nth, instantiate, is_a, is_no_tree, is_sort, sort_of, some_node, fits, first_of, standing_at, arguments_from, arguments}
-use Rattle.type_terms.specs.Worlds.{World, Reference, StructDecl, TraitDecl, ImplDecl, structs_named, traits_named, with_args, all_with_args}
-use Rattle.type_terms.specs.Rules.{Rule, BuiltIn, row, rules, sized, clone, copy, unsize, tuple_trait, fn_ptr_trait, is_fn_trait, is_auto, is_written, is_dyn, sized_struct, auto_struct, object_auto, object_principal, unsize_dyn, unsize_upcast, unsize_struct, same_reference, impl_rules, asked, each_asked, last_asked, fields_of, together, sized_rules, copy_rules, auto_rules_plain, auto_rules, tuple_rules, fn_ptr_rules, but_last, call_rules, plain_rules, principal_with, autos_with, are_declared, are_dyn_compatible, elaborated, equal_rows, object_bound_rules, object_rules, unsize_array_rules, unsize_to_dyn_rules, upcasts_principal, upcasts_autos, unsize_upcast_rules, some_unsizing, with_unsizing, last_unsizes, unsize_struct_rules, unsize_rules, built_in_rules, super_rules, clause_rules, written_supertraits, strict_supertraits_within, strict_supertraits, is_declared as is_declared_trait}
+use Rattle.type_terms.specs.Promised.Label.{Label, Sort, of_type, of_const, of_lifetime, never, uint, param, placeholder, infer, canonical, bound, value, static, bool, char, int, str, array, slice, tuple, dynamic, adt, fn_ptr, ref, raw_pointer, principal, auto_trait}
+use Rattle.type_terms.specs.Promised.Trees.{Trees, none, tree, leaf, ◌+++◌, nth, instantiate, is_sort, sort_of, some_node}
+use Rattle.type_terms.specs.Trees.{is_a, is_no_tree, fits, first_of, standing_at, arguments_from, arguments}
+use Rattle.type_terms.specs.Promised.Worlds.{World, Reference, StructDecl, TraitDecl, ImplDecl, structs_named, traits_named, with_args, all_with_args}
+use Rattle.type_terms.specs.Promised.Rules.{Rule, BuiltIn, row, rules, sized, clone, copy, unsize, tuple_trait, fn_ptr_trait, is_fn_trait, is_auto, is_written, is_dyn, sized_struct, auto_struct, object_auto, object_principal, unsize_dyn, unsize_upcast, unsize_struct, same_reference, impl_rules, asked, each_asked, last_asked, fields_of, together, sized_rules, copy_rules, auto_rules_plain, auto_rules, tuple_rules, fn_ptr_rules, but_last, call_rules, plain_rules, principal_with, autos_with, are_declared, are_dyn_compatible, elaborated, equal_rows, object_bound_rules, object_rules, unsize_array_rules, unsize_to_dyn_rules, upcasts_principal, upcasts_autos, unsize_upcast_rules, some_unsizing, with_unsizing, last_unsizes, unsize_struct_rules, unsize_rules, built_in_rules, super_rules, clause_rules, written_supertraits, strict_supertraits_within, strict_supertraits, is_declared as is_declared_trait}
 use Rattle.type_terms.specs.Codes.{same}
-use Rattle.type_terms.specs.Proofs.{In}
-use Rattle.type_terms.specs.Walks.{trait_is}
+use Rattle.type_terms.specs.Promised.Proofs.{In}
+use Rattle.type_terms.specs.Promised.Walks.{trait_is}
 use Rattle.type_terms.proofs.Members.{here, there, in-cases, in-nothing, in-filter, same-number}
 use Rattle.type_terms.proofs.Fitting.{head-shut, child-shut, next-shut, append-shut, first-shut, standing-shut, same-reference-sound}
 use Rattle.type_terms.proofs.NoHolds.{member-each}

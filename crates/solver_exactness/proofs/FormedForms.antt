@@ -1,9 +1,10 @@
 -- The terms of a decided goal whose fact is formed have the sorts that are declared.
 use Rattle.std.proofs.Common.{if◌then◌else◌, ◌≡◌, Bool, true, false, not, ◌||◌, List, ◌∷◌, map, refl, sym, ◌∙◌, ap, subst}
-use Rattle.type_terms.specs.Label.{Label, Sort, of_type, of_const, of_lifetime, param, placeholder, infer, canonical, bound, static, dynamic, fn_ptr, principal, auto_trait, predicate}
-use Rattle.type_terms.specs.Trees.{Trees, none, tree, leaf, ◌+++◌, erase_label, sort_of, is_sort, is_a, is_no_tree}
-use Rattle.type_terms.specs.Worlds.{World, Reference}
-use Rattle.type_terms.specs.Rules.{autos_with, is_dyn, asked as asked_for}
+use Rattle.type_terms.specs.Promised.Label.{Label, Sort, of_type, of_const, of_lifetime, param, placeholder, infer, canonical, bound, static, dynamic, fn_ptr, principal, auto_trait, predicate}
+use Rattle.type_terms.specs.Promised.Trees.{Trees, none, tree, leaf, ◌+++◌, erase_label, sort_of, is_sort}
+use Rattle.type_terms.specs.Trees.{is_a, is_no_tree}
+use Rattle.type_terms.specs.Promised.Worlds.{World, Reference}
+use Rattle.type_terms.specs.Promised.Rules.{autos_with, is_dyn, asked as asked_for}
 use Rattle.type_terms.specs.Made.{Standing, terms, bounds, traits, is_leaf_label, is_made}
 use Rattle.type_terms.proofs.Made.{left, right, false-true, no-tree, made-ordinary, last-bound, last-trait, never-dynamic, never-dynamic-bound, never-principal}
 use Rattle.infer_table.specs.declared.canonical.CanonicalVarKind.{CanonicalVarKind}

@@ -1,9 +1,10 @@
 -- Instances of what is declared, by arguments of the parameters' sorts, are formed as declarations ask.
 use Rattle.std.proofs.Common.{◌≡◌, ℕ, zero, suc, ◌==◌, Bool, true, false, not, ◌&&◌, ◌||◌, List, [], ◌∷◌, ◌++◌, map, refl, sym, ◌∙◌, ap, subst}
-use Rattle.type_terms.specs.Label.{Label, Sort, of_type, of_const, of_lifetime, param, placeholder, infer, canonical, bound, inside, static, array, slice, tuple, dynamic, adt, fn_ptr, ref, raw_pointer, principal, auto_trait, of_trait, predicate}
-use Rattle.type_terms.specs.Trees.{Trees, none, tree, leaf, ◌+++◌, nth, shift, instantiate, is_a, is_no_tree, is_sort, sort_of, some_node, fits}
-use Rattle.type_terms.specs.Worlds.{World, Reference}
-use Rattle.type_terms.specs.Rules.{autos_with, asked, is_dyn}
+use Rattle.type_terms.specs.Promised.Label.{Label, Sort, of_type, of_const, of_lifetime, param, placeholder, infer, canonical, bound, inside, static, array, slice, tuple, dynamic, adt, fn_ptr, ref, raw_pointer, principal, auto_trait, of_trait, predicate}
+use Rattle.type_terms.specs.Promised.Trees.{Trees, none, tree, leaf, ◌+++◌, nth, shift, instantiate, is_sort, sort_of, some_node}
+use Rattle.type_terms.specs.Trees.{is_a, is_no_tree, fits}
+use Rattle.type_terms.specs.Promised.Worlds.{World, Reference}
+use Rattle.type_terms.specs.Promised.Rules.{autos_with, asked, is_dyn}
 use Rattle.type_terms.proofs.Fitting.{append-shut}
 use Rattle.type_terms.proofs.Members.{same-number, self-number}
 use Rattle.type_terms.proofs.TreeLaws.{append-none}

@@ -1,12 +1,12 @@
 -- Views that pass the test are formed.
 use Rattle.std.proofs.Common.{◌≡◌, ◌==◌, ℕ, zero, suc, Bool, true, false, ◌&&◌, ◌||◌, not, List, [], ◌∷◌, refl, ap, subst}
 use Rattle.std.specs.List.{list_all}
-use Rattle.type_terms.specs.Label.{Label, Sort, of_type, adt, tuple, fn_ptr, raw_pointer, ref, array, slice, dynamic, principal, auto_trait, of_trait, predicate, param}
-use Rattle.type_terms.specs.Trees.{Trees, none, tree, is_sort}
-use Rattle.type_terms.specs.Worlds.{World, Reference, StructDecl, TraitDecl, ImplDecl, traits_named}
-use Rattle.type_terms.specs.Rules.{sized, clone, copy, unsize, is_auto}
-use Rattle.type_terms.specs.Proofs.{In}
-use Rattle.type_terms.specs.Walks.{struct_is, trait_is}
+use Rattle.type_terms.specs.Promised.Label.{Label, Sort, of_type, adt, tuple, fn_ptr, raw_pointer, ref, array, slice, dynamic, principal, auto_trait, of_trait, predicate, param}
+use Rattle.type_terms.specs.Promised.Trees.{Trees, none, tree, is_sort}
+use Rattle.type_terms.specs.Promised.Worlds.{World, Reference, StructDecl, TraitDecl, ImplDecl, traits_named}
+use Rattle.type_terms.specs.Promised.Rules.{sized, clone, copy, unsize, is_auto}
+use Rattle.type_terms.specs.Promised.Proofs.{In}
+use Rattle.type_terms.specs.Promised.Walks.{struct_is, trait_is}
 use Rattle.type_terms.proofs.Members.{in-filter, same-number, some-member}
 use Rattle.type_terms.proofs.NoHolds.{member-each}
 use Rattle.type_terms.proofs.Walking.{left, right}

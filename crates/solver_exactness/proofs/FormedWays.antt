@@ -1,11 +1,11 @@
 -- Formed facts can be asked, and are kept along ways.
 use Rattle.std.proofs.Common.{◌≡◌, ◌==◌, Bool, true, false, not, ◌||◌, List, [], ◌∷◌, ◌++◌, map, refl, ◌∙◌, ap, if◌then◌else◌}
-use Rattle.type_terms.specs.Label.{Label, Sort, of_type, dynamic, adt, principal, auto_trait, of_trait, predicate}
-use Rattle.type_terms.specs.Trees.{Trees, none, tree, is_sort, some_node}
-use Rattle.type_terms.specs.Worlds.{World, Reference}
-use Rattle.type_terms.specs.Rules.{Rule, rules, unsize, strict_supertraits}
-use Rattle.type_terms.specs.Answers.{is_undeclared}
-use Rattle.type_terms.specs.Walks.{trait_is}
+use Rattle.type_terms.specs.Promised.Label.{Label, Sort, of_type, dynamic, adt, principal, auto_trait, of_trait, predicate}
+use Rattle.type_terms.specs.Promised.Trees.{Trees, none, tree, is_sort, some_node}
+use Rattle.type_terms.specs.Promised.Worlds.{World, Reference}
+use Rattle.type_terms.specs.Promised.Rules.{Rule, rules, unsize, strict_supertraits}
+use Rattle.type_terms.specs.Promised.Answers.{is_undeclared}
+use Rattle.type_terms.specs.Promised.Walks.{trait_is}
 use Rattle.type_terms.proofs.Members.{same-number}
 use Rattle.type_terms.proofs.Walking.{both}
 use Rattle.infer_table.specs.declared.certainty.TypingMode.{TypingMode}

@@ -1,7 +1,7 @@
 -- A table of a goal without unknowns has solutions, whatever stands for the goal's placeholders and for an unknown.
 use Rattle.std.proofs.Common.{◌≡◌, ℕ, Bool, true, false, ◌&&◌, List, [], ◌∷◌, map, refl, sym, ◌∙◌, ap, Some, if◌then◌else◌, inl, inr}
-use Rattle.type_terms.specs.Label.{Label, Sort, of_type, of_const, of_lifetime, infer, bool, value}
-use Rattle.type_terms.specs.Trees.{Trees, none, leaf, sort_of}
+use Rattle.type_terms.specs.Promised.Label.{Label, Sort, of_type, of_const, of_lifetime, infer, bool, value}
+use Rattle.type_terms.specs.Promised.Trees.{Trees, none, leaf, sort_of}
 use Rattle.infer_table.specs.Canonical.{StandsInGoal, kind_of_leaf, kind_in_clause}
 use Rattle.infer_table.specs.Solutions.{Assignment, tree_of, is_variable, resolved, HasValues}
 use Rattle.infer_table.specs.declared.canonical.CanonicalVarKind.{CanonicalVarKind}

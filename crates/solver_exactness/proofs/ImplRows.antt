@@ -1,12 +1,13 @@
 -- The candidates by impls are the ways by impls.
 use Rattle.std.proofs.Common.{◌≡◌, ◌⊎◌, inl, inr, ℕ, zero, suc, ◌+◌, ◌<◌, arith, zero-add, ◌==◌, Bool, true, false, not, ◌&&◌, ◌||◌, if◌then◌else◌, List, [], ◌∷◌, ◌++◌, map, length, refl, sym, ◌∙◌, ap, subst, Some}
 use Rattle.std.specs.List.{flat_map}
-use Rattle.type_terms.specs.Label.{Label, Sort, of_type, of_const, of_lifetime, static, param, placeholder, infer, canonical, bound}
-use Rattle.type_terms.specs.Trees.{Trees, none, tree, leaf, IsA, nth, instantiate, arguments, some_node, erase_label}
+use Rattle.type_terms.specs.Promised.Label.{Label, Sort, of_type, of_const, of_lifetime, static, param, placeholder, infer, canonical, bound}
+use Rattle.type_terms.specs.Promised.Trees.{Trees, none, tree, leaf, IsA, nth, instantiate, some_node, erase_label}
+use Rattle.type_terms.specs.Trees.{arguments}
 use Rattle.type_terms.specs.Codes.{same_label, numbers}
-use Rattle.type_terms.specs.Worlds.{World, Reference, ImplDecl, all_with_args}
-use Rattle.type_terms.specs.Rules.{Rule, impl_rules, is_coinductive}
-use Rattle.type_terms.specs.Proofs.{In}
+use Rattle.type_terms.specs.Promised.Worlds.{World, Reference, ImplDecl, all_with_args}
+use Rattle.type_terms.specs.Promised.Rules.{Rule, impl_rules, is_coinductive}
+use Rattle.type_terms.specs.Promised.Proofs.{In}
 use Rattle.type_terms.proofs.Members.{here, there, in-nothing, self-number}
 use Rattle.type_terms.proofs.Fitting.{ByImpl, impl-rule, next-shut}
 use Rattle.type_terms.proofs.Walking.{left}

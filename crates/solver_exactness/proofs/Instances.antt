@@ -1,10 +1,10 @@
 -- Terms for the variables of a goal without unknowns, and candidates without variables of their own at these.
 use Rattle.assembly_laws.specs.Meaning.{ViewMeaning}
 use Rattle.std.proofs.Common.{◌≡◌, ℕ, Bool, true, ◌&&◌, List, [], ◌∷◌, map, ◌⊎◌, inl, inr, refl, sym, ◌∙◌, ap, subst, Some}
-use Rattle.type_terms.specs.Label.{of_type, of_const, of_lifetime, canonical, param, placeholder}
-use Rattle.type_terms.specs.Trees.{Trees, none, tree, leaf, ◌+++◌}
-use Rattle.type_terms.specs.Worlds.{World, Reference}
-use Rattle.type_terms.specs.Rules.{is_coinductive}
+use Rattle.type_terms.specs.Promised.Label.{of_type, of_const, of_lifetime, canonical, param, placeholder}
+use Rattle.type_terms.specs.Promised.Trees.{Trees, none, tree, leaf, ◌+++◌}
+use Rattle.type_terms.specs.Promised.Worlds.{World, Reference}
+use Rattle.type_terms.specs.Promised.Rules.{is_coinductive}
 use Rattle.type_terms.proofs.TreeLaws.{append-none}
 use Rattle.type_terms.specs.Made.{terms, is_made}
 use Rattle.infer_table.specs.Canonical.{CanonicalForm}

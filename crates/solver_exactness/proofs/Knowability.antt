@@ -1,11 +1,12 @@
 -- What is knowable of a goal without unknowns is knowable of its instance, and the unknowable candidate is one way more.
 use Rattle.std.proofs.Common.{◌≡◌, ◌⊎◌, inl, inr, ℕ, ◌==◌, Bool, true, false, not, ◌&&◌, ◌||◌, if◌then◌else◌, List, [], ◌∷◌, ◌++◌, refl, ◌∙◌, ap, Option, Some, None}
 use Rattle.std.specs.List.{list_all, list_any}
-use Rattle.type_terms.specs.Label.{Label, of_type, of_const, of_lifetime, ref, adt, dynamic, static, value, principal, auto_trait, predicate, param, placeholder, infer, canonical, bound}
-use Rattle.type_terms.specs.Trees.{Trees, none, tree, leaf, ◌+++◌, is_a, is_sort, sort_of, is_no_tree}
-use Rattle.type_terms.specs.Worlds.{World}
-use Rattle.type_terms.specs.LinkedSet.{is_open_place}
-use Rattle.type_terms.specs.Walks.{Met, local, entered, struct_leaf, open_place, other_leaf, visited, dyn_met, struct_is, trait_is, is_home, item_in, until_decisive, ends_local}
+use Rattle.type_terms.specs.Promised.Label.{Label, of_type, of_const, of_lifetime, ref, adt, dynamic, static, value, principal, auto_trait, predicate, param, placeholder, infer, canonical, bound}
+use Rattle.type_terms.specs.Promised.Trees.{Trees, none, tree, leaf, ◌+++◌, is_sort, sort_of}
+use Rattle.type_terms.specs.Trees.{is_a, is_no_tree}
+use Rattle.type_terms.specs.Promised.Worlds.{World}
+use Rattle.type_terms.specs.Promised.Versions.{is_open_place}
+use Rattle.type_terms.specs.Promised.Walks.{Met, local, entered, struct_leaf, open_place, other_leaf, visited, dyn_met, struct_is, trait_is, is_home, item_in, until_decisive, ends_local}
 use Rattle.type_terms.proofs.Walking.{left, right}
 use Rattle.type_terms.specs.Made.{terms, bounds, is_leaf_label, is_made}
 use Rattle.type_terms.proofs.Made.{false-true}

@@ -1,19 +1,19 @@
 -- What is possible, decided, bounded and proved by rules is so by ways.
 use Rattle.std.proofs.Common.{◌≡◌, ℕ, zero, suc, Bool, true, false, not, ◌&&◌, ◌||◌, List, [], ◌∷◌, ◌++◌, map, refl, sym, ap, subst, ◌⊎◌, inl, inr, if◌then◌else◌, append_assoc}
 use Rattle.std.specs.List.{flat_map, list_all, list_any}
-use Rattle.type_terms.specs.Worlds.{World, Reference}
-use Rattle.type_terms.specs.Rules.{Rule, rules, strict_supertraits, is_coinductive}
-use Rattle.type_terms.specs.Proofs.{ProofEntry, In, Stands, Follows, IsProof, HasProof}
-use Rattle.type_terms.specs.Walks.{is_known_in}
-use Rattle.type_terms.specs.Answers.{children, short_chains, is_possible, SingleWay}
+use Rattle.type_terms.specs.Promised.Worlds.{World, Reference}
+use Rattle.type_terms.specs.Promised.Rules.{Rule, rules, strict_supertraits, is_coinductive}
+use Rattle.type_terms.specs.Promised.Proofs.{ProofEntry, In, Stands, Follows, IsProof, HasProof}
+use Rattle.type_terms.specs.Promised.Walks.{is_known_in}
+use Rattle.type_terms.specs.Promised.Answers.{children, short_chains, is_possible, SingleWay}
 use Rattle.type_terms.proofs.Members.{here, there, in-cases, in-nothing, in-map}
 use Rattle.type_terms.proofs.ProofEntries.{map-in, stands-more}
 use Rattle.type_terms.proofs.WorkedProofs.{needs-rule}
 use Rattle.evaluation.specs.Lists.{Every, SomeOf}
 use Rattle.solver_exactness.specs.Ways.{AtMostOneHolds, HasShortChains, IsPossible, HasOneWayWithin}
 use Rattle.solver_exactness.specs.ModelWays.{ways_under, ways_for, ProofsAreByWays, SingleWayIsDecided, PossibleIsByWays, ShortIsByWays}
-use Rattle.type_terms.specs.Proofs as Model
-use Rattle.type_terms.specs.Answers as Answers
+use Rattle.type_terms.specs.Promised.Proofs as Model
+use Rattle.type_terms.specs.Promised.Answers
 use Rattle.type_terms.proofs.Made.{false-true as no-true}
 use Rattle.type_terms.proofs.ProofLists.{stands-after}
 use Rattle.type_terms.proofs.BooleanBasics.{or-right, both-left as left, both-true as both}

@@ -1,12 +1,12 @@
 -- The question of a nested goal is decided where what the goal is read as can be asked.
 use Rattle.std.proofs.Common.{◌≡◌, ℕ, Bool, true, false, not, ◌&&◌, ◌||◌, ◌==◌, List, [], ◌∷◌, map, inl, inr, refl, sym, ◌∙◌, ap, subst, Some, if◌then◌else◌, is_some}
 use Rattle.std.specs.Prelude.{IsSome}
-use Rattle.type_terms.specs.Label.{Label, Sort, of_type, of_const, of_lifetime, infer, param, placeholder, canonical, bound, value, static, of_trait, predicate}
-use Rattle.type_terms.specs.Trees.{Trees, none, tree, ◌+++◌, sort_of, is_sort, some_node}
-use Rattle.type_terms.specs.Worlds.{World}
-use Rattle.type_terms.specs.Answers.{is_open, is_undeclared, written_in}
-use Rattle.type_terms.specs.Rules.{unsize}
-use Rattle.type_terms.specs.Walks.{trait_is}
+use Rattle.type_terms.specs.Promised.Label.{Label, Sort, of_type, of_const, of_lifetime, infer, param, placeholder, canonical, bound, value, static, of_trait, predicate}
+use Rattle.type_terms.specs.Promised.Trees.{Trees, none, tree, ◌+++◌, sort_of, is_sort, some_node}
+use Rattle.type_terms.specs.Promised.Worlds.{World}
+use Rattle.type_terms.specs.Promised.Answers.{is_open, is_undeclared, written_in}
+use Rattle.type_terms.specs.Promised.Rules.{unsize}
+use Rattle.type_terms.specs.Promised.Walks.{trait_is}
 use Rattle.type_terms.proofs.Walking.{left, right, both}
 use Rattle.type_terms.proofs.Fitting.{head-shut, child-shut, next-shut}
 use Rattle.type_terms.specs.Made.{terms, is_made}

@@ -1,11 +1,11 @@
 -- What is elaborated stands once.
 use Rattle.std.proofs.Common.{◌≡◌, ◌⊎◌, inl, inr, ℕ, zero, suc, Bool, true, false, ◌||◌, if◌then◌else◌, List, [], ◌∷◌, ◌++◌, length, refl, sym, ◌∙◌, subst}
-use Rattle.type_terms.specs.Worlds.{World, Reference}
-use Rattle.type_terms.specs.Rules.{same_reference, written_supertraits}
-use Rattle.type_terms.specs.Proofs.{In}
+use Rattle.type_terms.specs.Promised.Worlds.{World, Reference}
+use Rattle.type_terms.specs.Promised.Rules.{same_reference, written_supertraits}
+use Rattle.type_terms.specs.Promised.Proofs.{In}
 use Rattle.type_terms.proofs.Members.{here, there, in-cases, in-nothing, in-left, in-right, some-member, member-some}
 use Rattle.type_terms.proofs.Made.{false-true}
-use Rattle.declarations.specs.Elaboration.{is_put, new_of, pushed, off_stack, all_levels, elaborate, rest_of, supertraits}
+use Rattle.declarations.specs.Promised.Elaboration.{is_put, new_of, pushed, off_stack, all_levels, elaborate, rest_of, supertraits}
 use Rattle.declarations.proofs.Stacks.{pushed-in}
 use Rattle.assembly_laws.proofs.SoundImpls.{same-one}
 use Rattle.solver_exactness.proofs.Selecting.{AreOnce}

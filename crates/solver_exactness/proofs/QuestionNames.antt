@@ -1,9 +1,9 @@
 -- The names in terms over a table, without unknowns, are those in what is read, and to number leaves adds none.
 use Rattle.std.proofs.Common.{◌≡◌, Bool, true, false, ◌||◌, ℕ, refl, sym, subst, List, is_some, if◌then◌else◌}
-use Rattle.type_terms.specs.Label.{Label, Sort, of_type, of_const, of_lifetime, infer, param, placeholder, canonical, bound, static, principal}
-use Rattle.type_terms.specs.Trees.{Trees, none, tree, ◌+++◌, erase_label, some_node}
-use Rattle.type_terms.specs.Worlds.{World}
-use Rattle.type_terms.specs.Answers.{is_undeclared}
+use Rattle.type_terms.specs.Promised.Label.{Label, Sort, of_type, of_const, of_lifetime, infer, param, placeholder, canonical, bound, static, principal}
+use Rattle.type_terms.specs.Promised.Trees.{Trees, none, tree, ◌+++◌, erase_label, some_node}
+use Rattle.type_terms.specs.Promised.Worlds.{World}
+use Rattle.type_terms.specs.Promised.Answers.{is_undeclared}
 use Rattle.type_terms.proofs.Fitting.{head-shut, child-shut, next-shut}
 use Rattle.type_terms.proofs.Made.{false-true}
 use Rattle.infer_table.specs.Canonical.{OpenKinds, relabeled, canonical_label}

@@ -1,13 +1,13 @@
 -- The ways of facts come back as those of references.
 use Rattle.std.proofs.Common.{◌≡◌, ℕ, Bool, true, false, not, ◌&&◌, ◌||◌, if◌then◌else◌, List, [], ◌∷◌, ◌++◌, map, refl, sym, ◌∙◌, ap, None}
 use Rattle.std.specs.List.{list_any}
-use Rattle.type_terms.specs.Label.{adt, ref, dynamic, principal, param, placeholder, infer, canonical, bound}
-use Rattle.type_terms.specs.Trees.{Trees, none, tree, some_node}
-use Rattle.type_terms.specs.Worlds.{World, Reference}
-use Rattle.type_terms.specs.Walks.{Met, local, struct_leaf, entered, visited, dyn_met, struct_is, trait_is, is_home, is_known_in, dyn_leaf}
-use Rattle.type_terms.specs.Rules.{strict_supertraits}
-use Rattle.type_terms.specs.Answers.{is_open, is_closed}
-use Rattle.type_terms.specs.LinkedSet.{is_open_place}
+use Rattle.type_terms.specs.Promised.Label.{adt, ref, dynamic, principal, param, placeholder, infer, canonical, bound}
+use Rattle.type_terms.specs.Promised.Trees.{Trees, none, tree, some_node}
+use Rattle.type_terms.specs.Promised.Worlds.{World, Reference}
+use Rattle.type_terms.specs.Promised.Walks.{Met, local, struct_leaf, entered, visited, dyn_met, struct_is, trait_is, is_home, is_known_in, dyn_leaf}
+use Rattle.type_terms.specs.Promised.Rules.{strict_supertraits}
+use Rattle.type_terms.specs.Promised.Answers.{is_open, is_closed}
+use Rattle.type_terms.specs.Promised.Versions.{is_open_place}
 use Rattle.type_terms.proofs.Fitting.{child-shut, next-shut}
 use Rattle.type_terms.proofs.Made.{false-true}
 use Rattle.evaluation.specs.Content.{Fact}

@@ -1,8 +1,9 @@
 -- Goals whose open leaves are numbered are made over the kinds of these leaves.
 use Rattle.std.proofs.Common.{◌≡◌, ℕ, zero, suc, Bool, true, false, not, ◌||◌, List, [], ◌∷◌, map, inl, inr, refl, sym, ◌∙◌, ap, subst, Option, Some, None, if◌then◌else◌, is_some}
 use Rattle.std.specs.Prelude.{IsSome}
-use Rattle.type_terms.specs.Label.{Label, of_type, of_const, of_lifetime, infer, param, placeholder, canonical, static, dynamic, principal, auto_trait, predicate}
-use Rattle.type_terms.specs.Trees.{Trees, none, tree, sort_of, is_sort, is_no_tree}
+use Rattle.type_terms.specs.Promised.Label.{Label, of_type, of_const, of_lifetime, infer, param, placeholder, canonical, static, dynamic, principal, auto_trait, predicate}
+use Rattle.type_terms.specs.Promised.Trees.{Trees, none, tree, sort_of, is_sort}
+use Rattle.type_terms.specs.Trees.{is_no_tree}
 use Rattle.type_terms.specs.Codes.{same_label}
 use Rattle.type_terms.proofs.Matching.{same-label-sound}
 use Rattle.type_terms.specs.Made.{Standing, terms, bounds, traits, is_leaf_label, is_made}

@@ -1,6 +1,6 @@
 -- What a search is found to answer within its depth is the only answer of plain recursion in chains of one more question.
 use Rattle.std.proofs.Common.{◌+◌, Bool, List}
-use Rattle.type_terms.specs.Terms.{Entry}
+use Rattle.type_terms.specs.Promised.Handles.{Entry}
 use Rattle.infer_table.specs.Canonical.{CanonicalForm}
 use Rattle.infer_table.specs.Responses.{AnswerTrees}
 use Rattle.evaluation.specs.Tables.{frame_tables}

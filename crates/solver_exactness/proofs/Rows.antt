@@ -1,8 +1,8 @@
 -- The candidates by built-in rules that read the outermost types alone are the ways by these rules.
 use Rattle.std.proofs.Common.{◌≡◌, ℕ, Bool, true, false, ◌||◌, ◌==◌, if◌then◌else◌, List, [], ◌∷◌, map, ◌⊎◌, inl, inr, refl, sym, ◌∙◌, ap, subst, Some}
-use Rattle.type_terms.specs.Label.{Label, of_type, canonical, param, placeholder}
-use Rattle.type_terms.specs.Trees.{Trees, tree, erase_label, some_node, none}
-use Rattle.type_terms.specs.Rules.{Rule, sized, copy, clone, tuple_trait, fn_ptr_trait, is_auto, is_written, sized_rules, copy_rules, auto_rules, tuple_rules, fn_ptr_rules}
+use Rattle.type_terms.specs.Promised.Label.{Label, of_type, canonical, param, placeholder}
+use Rattle.type_terms.specs.Promised.Trees.{Trees, tree, erase_label, some_node, none}
+use Rattle.type_terms.specs.Promised.Rules.{Rule, sized, copy, clone, tuple_trait, fn_ptr_trait, is_auto, is_written, sized_rules, copy_rules, auto_rules, tuple_rules, fn_ptr_rules}
 use Rattle.type_terms.proofs.Fitting.{child-shut}
 use Rattle.type_terms.specs.Made.{terms, is_made}
 use Rattle.infer_table.specs.Canonical.{CanonicalForm}

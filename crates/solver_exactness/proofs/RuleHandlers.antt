@@ -1,8 +1,8 @@
 -- Lists of rules over trees answer exactly.
 use Rattle.std.proofs.Common.{rules, ◌≡◌, ℕ, ◌==◌, Bool, true, false, ◌&&◌, if◌then◌else◌, List, [], ◌∷◌, map, length, refl, sym, ◌∙◌, ap, subst, Some}
 use Rattle.std.proofs.lemmas.Bool.{eqb-true, eq-eqb}
-use Rattle.type_terms.specs.Label.{Label, adt, of_trait, predicate, canonical}
-use Rattle.type_terms.specs.Trees.{Trees, none, tree}
+use Rattle.type_terms.specs.Promised.Label.{Label, adt, of_trait, predicate, canonical}
+use Rattle.type_terms.specs.Promised.Trees.{Trees, none, tree}
 use Rattle.type_terms.specs.Codes.{same, same_label}
 use Rattle.type_terms.proofs.Matching.{same-sound}
 use Rattle.infer_table.proofs.CanonicalLaws.{same_label-self}

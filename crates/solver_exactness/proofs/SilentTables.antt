@@ -1,8 +1,8 @@
 -- The table of a goal without unknowns answers nothing but how sure it is.
 use Rattle.std.proofs.Common.{◌≡◌, ℕ, zero, suc, ◌<◌, ◌==◌, arith, Bool, true, false, not, ◌&&◌, ◌||◌, List, [], ◌∷◌, ◌++◌, map, length, refl, sym, ◌∙◌, ap, subst, Some, if◌then◌else◌, is_some}
 use Rattle.std.proofs.lemmas.Bool.Decides.{nat_tests}
-use Rattle.type_terms.specs.Label.{Label, Sort, of_type, of_const, of_lifetime, infer, placeholder, canonical}
-use Rattle.type_terms.specs.Trees.{Trees, none, tree, leaf, ◌+++◌, sort_of, is_sort}
+use Rattle.type_terms.specs.Promised.Label.{Label, Sort, of_type, of_const, of_lifetime, infer, placeholder, canonical}
+use Rattle.type_terms.specs.Promised.Trees.{Trees, none, tree, leaf, ◌+++◌, sort_of, is_sort}
 use Rattle.type_terms.specs.Codes.{same_label}
 use Rattle.type_terms.proofs.Matching.{same-label-sound}
 use Rattle.infer_table.specs.Canonical.{OpenKinds, kind_of_leaf, is_among, with_label, leaves, place_of, canonical_label, relabeled}

@@ -1,7 +1,7 @@
 -- What plain recursion over the solver's frames, and so a search, answers to goals without unknowns.
 use Rattle.std.proofs.Common.{ℕ, zero, suc, Bool, List, map, Option}
-use Rattle.type_terms.specs.Worlds.{World, Reference}
-use Rattle.type_terms.specs.Proofs.{HasProof}
+use Rattle.type_terms.specs.Promised.Worlds.{World, Reference}
+use Rattle.type_terms.specs.Promised.Proofs.{HasProof}
 use Rattle.infer_table.specs.Canonical.{CanonicalForm}
 use Rattle.infer_table.specs.declared.certainty.TypingMode.TheVariants.{PostAnalysis}
 use Rattle.infer_table.specs.Responses.{AnswerTrees}

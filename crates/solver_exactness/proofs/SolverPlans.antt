@@ -1,8 +1,8 @@
 -- The solver's plans consider the candidates of a goal without unknowns as exact plans do.
 use Rattle.infer_table.specs.declared.certainty.TypingMode.{TypingMode}
 use Rattle.std.proofs.Common.{◌≡◌, ℕ, Bool, true, false, not, ◌||◌, if◌then◌else◌, List, [], ◌∷◌, ◌++◌, map, refl, sym, ◌∙◌, ap, subst, Option, Some, None, zero, suc}
-use Rattle.type_terms.specs.Label.{of_type, canonical}
-use Rattle.type_terms.specs.Trees.{Trees, none, tree}
+use Rattle.type_terms.specs.Promised.Label.{of_type, canonical}
+use Rattle.type_terms.specs.Promised.Trees.{Trees, none, tree}
 use Rattle.infer_table.specs.Canonical.{CanonicalForm}
 use Rattle.infer_table.specs.Responses.{AnswerTrees}
 use Rattle.infer_table.specs.declared.canonical.CanonicalVarKind.{CanonicalVarKind}

@@ -1,8 +1,8 @@
 -- The solver's candidates for a goal without unknowns are the ways of its instance, but for order and repeats.
 use Rattle.std.proofs.Common.{◌≡◌, arith, ◌==◌, Bool, true, false, ◌||◌, if◌then◌else◌, List, [], ◌∷◌, ◌++◌, map, refl, sym, ap, subst, Some}
 use Rattle.std.specs.List.{flat_map}
-use Rattle.type_terms.specs.Worlds.{World, Reference}
-use Rattle.type_terms.specs.Rules.{Rule, impl_rules, rules, clause_rules, strict_supertraits, sized, copy, clone, tuple_trait, fn_ptr_trait, is_fn_trait, unsize, is_auto, sized_rules, copy_rules, auto_rules, tuple_rules, fn_ptr_rules, call_rules, unsize_rules, unsize_array_rules, unsize_to_dyn_rules, unsize_upcast_rules, unsize_struct_rules, object_rules}
+use Rattle.type_terms.specs.Promised.Worlds.{World, Reference}
+use Rattle.type_terms.specs.Promised.Rules.{Rule, impl_rules, rules, clause_rules, strict_supertraits, sized, copy, clone, tuple_trait, fn_ptr_trait, is_fn_trait, unsize, is_auto, sized_rules, copy_rules, auto_rules, tuple_rules, fn_ptr_rules, call_rules, unsize_rules, unsize_array_rules, unsize_to_dyn_rules, unsize_upcast_rules, unsize_struct_rules, object_rules}
 use Rattle.infer_table.specs.Canonical.{CanonicalForm}
 use Rattle.evaluation.specs.Content.{Values, Fact}
 use Rattle.solver_exactness.specs.Closed.{Applies, no_more, applied}
@@ -19,7 +19,7 @@ use Rattle.assembly_laws.specs.Asking.{GoalOverKinds, goal_over_kinds, clauses, 
 use Rattle.assembly_laws.specs.Candidates.{Candidate, unknowable, unsure, by_clauses, built_in, by_sized, by_copy, by_auto, by_tuple, by_fn_ptr, by_call, by_unsize, by_impls, by_objects, as_written, misc, if_so, unsize_known, unsizing_outlives, unsize_recording, unsize_array_of, upcasts_of, unsize_struct_of}
 use Rattle.assembly_laws.specs.Cover.{all_candidates, goal_fact, read_reference}
 use Rattle.assembly_laws.specs.Knowing.{is_knowable}
-use Rattle.declarations.specs.Elaboration.{supertraits}
+use Rattle.declarations.specs.Promised.Elaboration.{supertraits}
 use Rattle.solver_exactness.specs.SolverWays.{facts_beside, premises_of}
 use Rattle.solver_exactness.specs.SolverPlans.{specs_in_coherence, specs_outside}
 use Rattle.solver_exactness.specs.RowWays.{AreWaysOf, RowsAreWaysAt, EquatedRowsAreWaysAt, if_of, clause_ways, autos_stand_once}

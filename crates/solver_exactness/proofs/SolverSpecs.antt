@@ -1,10 +1,10 @@
 -- The solver's candidates determine their nested goals, are not too many, and are sure outside coherence.
 use Rattle.std.proofs.Common.{◌≡◌, ℕ, suc, ◌≤◌, arith, Bool, true, false, not, ◌&&◌, ◌||◌, ◌==◌, if◌then◌else◌, List, [], ◌∷◌, ◌++◌, length, refl, sym, subst, Some}
 use Rattle.std.specs.List.{flat_map}
-use Rattle.type_terms.specs.Label.{dynamic, array, slice, adt, fn_ptr}
-use Rattle.type_terms.specs.Trees.{Trees, none, tree}
-use Rattle.type_terms.specs.Worlds.{World, Reference, StructDecl, ImplDecl, structs_named}
-use Rattle.type_terms.specs.Rules.{Rule, sized, clone, copy, tuple_trait, fn_ptr_trait, is_fn_trait, unsize, is_auto, sized_rules, copy_rules, auto_rules, tuple_rules, fn_ptr_rules, unsize_to_dyn_rules, principal_with, autos_with, are_dyn_compatible, are_declared, upcasts_autos, some_unsizing}
+use Rattle.type_terms.specs.Promised.Label.{dynamic, array, slice, adt, fn_ptr}
+use Rattle.type_terms.specs.Promised.Trees.{Trees, none, tree}
+use Rattle.type_terms.specs.Promised.Worlds.{World, Reference, StructDecl, ImplDecl, structs_named}
+use Rattle.type_terms.specs.Promised.Rules.{Rule, sized, clone, copy, tuple_trait, fn_ptr_trait, is_fn_trait, unsize, is_auto, sized_rules, copy_rules, auto_rules, tuple_rules, fn_ptr_rules, unsize_to_dyn_rules, principal_with, autos_with, are_dyn_compatible, are_declared, upcasts_autos, some_unsizing}
 use Rattle.infer_table.specs.Canonical.{CanonicalForm}
 use Rattle.infer_table.specs.declared.certainty.Certainty.TheVariants.{Yes}
 use Rattle.infer_table.specs.declared.certainty.TypingMode.TheVariants.{Coherence}
@@ -31,7 +31,7 @@ use Rattle.assembly_laws.proofs.Cover.{asked-by, known-kinds}
 use Rattle.assembly_laws.proofs.Determined.{facts-same}
 use Rattle.assembly_laws.proofs.LawfulCandidates.{determines}
 use Rattle.assembly_laws.proofs.Recording.{every-recorded}
-use Rattle.declarations.specs.Elaboration.{elaborate, supertraits}
+use Rattle.declarations.specs.Promised.Elaboration.{elaborate, supertraits}
 use Rattle.solver_exactness.specs.SolverPlans.{specs_in_coherence, specs_outside}
 use Rattle.solver_exactness.specs.SolverSpecs.{AreDetermined, AreFew, SpecsAreDetermined, SpecsAreFew, SpecsAreSure}
 use Rattle.assembly_laws.proofs.SoundCandidates.{kinds-whole}

@@ -1,11 +1,12 @@
 -- Candidates of goals in which nothing is bound ask such goals, and those by impls equate such terms.
 use Rattle.std.proofs.Common.{◌≡◌, ℕ, zero, suc, ◌==◌, Bool, true, false, not, ◌&&◌, List, [], ◌∷◌, ◌++◌, map, length, ◌⊎◌, inl, inr, refl, subst, if◌then◌else◌}
 use Rattle.std.specs.List.{flat_map, list_all}
-use Rattle.type_terms.specs.Label.{Label, bool, char, never, int, uint, str, array, slice, tuple, dynamic, adt, fn_ptr, ref, raw_pointer, principal, auto_trait, of_trait, predicate, param, placeholder, infer, canonical, bound, Sort, of_type, of_const, of_lifetime}
-use Rattle.type_terms.specs.Trees.{Trees, none, tree, leaf, erase_label, instantiate, is_a}
-use Rattle.type_terms.specs.Worlds.{World, Reference, StructDecl, TraitDecl, ImplDecl, structs_named, traits_named, all_with_args}
-use Rattle.type_terms.specs.Rules.{Rule, row, sized, is_fn_trait, unsize, is_coinductive, is_written, is_dyn, sized_struct, auto_struct, each_asked, last_asked, fields_of, together, sized_rules, copy_rules, auto_rules_plain, auto_rules, tuple_rules, fn_ptr_rules, but_last, principal_with, autos_with, are_dyn_compatible, are_declared, upcasts_autos, unsize_to_dyn_rules, some_unsizing, with_unsizing, last_unsizes, written_supertraits, strict_supertraits_within, strict_supertraits}
-use Rattle.type_terms.specs.Proofs.{In}
+use Rattle.type_terms.specs.Promised.Label.{Label, bool, char, never, int, uint, str, array, slice, tuple, dynamic, adt, fn_ptr, ref, raw_pointer, principal, auto_trait, of_trait, predicate, param, placeholder, infer, canonical, bound, Sort, of_type, of_const, of_lifetime}
+use Rattle.type_terms.specs.Promised.Trees.{Trees, none, tree, leaf, erase_label, instantiate}
+use Rattle.type_terms.specs.Trees.{is_a}
+use Rattle.type_terms.specs.Promised.Worlds.{World, Reference, StructDecl, TraitDecl, ImplDecl, structs_named, traits_named, all_with_args}
+use Rattle.type_terms.specs.Promised.Rules.{Rule, row, sized, is_fn_trait, unsize, is_coinductive, is_written, is_dyn, sized_struct, auto_struct, each_asked, last_asked, fields_of, together, sized_rules, copy_rules, auto_rules_plain, auto_rules, tuple_rules, fn_ptr_rules, but_last, principal_with, autos_with, are_dyn_compatible, are_declared, upcasts_autos, unsize_to_dyn_rules, some_unsizing, with_unsizing, last_unsizes, written_supertraits, strict_supertraits_within, strict_supertraits}
+use Rattle.type_terms.specs.Promised.Proofs.{In}
 use Rattle.type_terms.proofs.Members.{here, there, in-filter, in-cases, in-nothing}
 use Rattle.type_terms.proofs.NoHolds.{member-each}
 use Rattle.type_terms.proofs.Fitting.{head-shut, child-shut, next-shut, append-shut}
@@ -19,7 +20,7 @@ use Rattle.evaluation.specs.declared.candidate.BuiltinImplSource.TheVariants.{Tr
 use Rattle.evaluation.specs.Instances.{put_in, default_label}
 use Rattle.evaluation.specs.FrameTables.{Nested, Equation, term_of, is_open_label}
 use Rattle.infer_table.specs.Values.{Value}
-use Rattle.declarations.specs.Elaboration.{elaborate, supertraits}
+use Rattle.declarations.specs.Promised.Elaboration.{elaborate, supertraits}
 use Rattle.assembly_laws.specs.Declared.{is_declared, are_terms, are_references}
 use Rattle.assembly_laws.specs.DeclaredWell.{IsDeclaredWell}
 use Rattle.assembly_laws.specs.Asking.{GoalOverKinds, clauses, self_of, next_of, begins_unknown, with_plain_head}

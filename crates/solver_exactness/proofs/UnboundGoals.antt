@@ -1,7 +1,7 @@
 -- What is asked of goals in which nothing is bound is so too, from all tables that the frame comes to.
 use Rattle.std.proofs.Common.{◌≡◌, ◌<◌, ℕ, Bool, true, false, not, ◌⊎◌, inl, inr, List, [], ◌∷◌, ◌++◌, map, refl, sym, ◌∙◌, ap, subst, arith, Some, if◌then◌else◌}
-use Rattle.type_terms.specs.Label.{Sort, of_type, of_const, of_lifetime, of_trait, predicate, infer}
-use Rattle.type_terms.specs.Trees.{Trees, none, some_node}
+use Rattle.type_terms.specs.Promised.Label.{Sort, of_type, of_const, of_lifetime, of_trait, predicate, infer}
+use Rattle.type_terms.specs.Promised.Trees.{Trees, none, some_node}
 use Rattle.type_terms.proofs.Fitting.{child-shut}
 use Rattle.infer_table.specs.Canonical.{goal_leaves}
 use Rattle.infer_table.specs.Solutions.{Binding, HasValues, resolved}

@@ -1,8 +1,9 @@
 -- Terms in which no bound variable stands: what is made of them, and what stands for the unknowns of a frame's table.
 use Rattle.std.proofs.Common.{◌≡◌, ℕ, zero, suc, ◌+◌, Bool, true, false, not, ◌&&◌, List, [], ◌∷◌, ◌++◌, refl, sym, ◌∙◌, ap, subst, Option, Some, None, if◌then◌else◌, is_some}
 use Rattle.std.specs.Prelude.{option_map, option_and_then}
-use Rattle.type_terms.specs.Label.{Label, Sort, of_type, of_const, of_lifetime, infer, param, placeholder, canonical, bound, static, dynamic, principal, auto_trait, predicate, inside}
-use Rattle.type_terms.specs.Trees.{Trees, none, tree, ◌+++◌, nth, shift, instantiate, is_no_tree, is_sort, sort_of, some_node}
+use Rattle.type_terms.specs.Promised.Label.{Label, Sort, of_type, of_const, of_lifetime, infer, param, placeholder, canonical, bound, static, dynamic, principal, auto_trait, predicate, inside}
+use Rattle.type_terms.specs.Promised.Trees.{Trees, none, tree, ◌+++◌, nth, shift, instantiate, is_sort, sort_of, some_node}
+use Rattle.type_terms.specs.Trees.{is_no_tree}
 use Rattle.type_terms.proofs.Fitting.{head-shut, child-shut, next-shut, append-shut}
 use Rattle.type_terms.proofs.Walking.{left, right, both}
 use Rattle.type_terms.specs.Made.{Standing, terms, bounds, traits, is_made}

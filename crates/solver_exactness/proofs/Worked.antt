@@ -1,7 +1,7 @@
 -- Two rules, and the ways by them: `u8: Show`, and `Vec<T>: Show where T: Show`.
 use Rattle.std.proofs.Common.{◌≡◌, true, List, [], ◌∷◌, refl, Some, inl, inr}
-use Rattle.type_terms.specs.Label.{of_type, adt, placeholder, canonical}
-use Rattle.type_terms.specs.Trees.{Trees, none, tree, leaf}
+use Rattle.type_terms.specs.Promised.Label.{of_type, adt, placeholder, canonical}
+use Rattle.type_terms.specs.Promised.Trees.{Trees, none, tree, leaf}
 use Rattle.infer_table.specs.declared.canonical.CanonicalVarKind.TheVariants.{Ty}
 use Rattle.evaluation.specs.Content.{Fact}
 use Rattle.goal_frames.specs.Rules.{TraitBound, goal_of, Rule}

@@ -2,8 +2,8 @@
 -- candidate once, and the rules have one entry for each path of written bounds.
 use Rattle.std.specs.Prelude.{◌≡◌, ◌==◌, true, List, Some}
 use Rattle.std.specs.List.{flat_map}
-use Rattle.type_terms.specs.Worlds.{World, Reference}
-use Rattle.type_terms.specs.Rules.{unsize, impl_rules, unsize_upcast_rules, object_rules}
+use Rattle.type_terms.specs.Promised.Worlds.{World, Reference}
+use Rattle.type_terms.specs.Promised.Rules.{unsize, impl_rules, unsize_upcast_rules, object_rules}
 use Rattle.infer_table.specs.Canonical.{CanonicalForm}
 use Rattle.evaluation.specs.Lists.{Every, SomeOf}
 use Rattle.evaluation.specs.Content.{Values, Fact}

@@ -1,7 +1,7 @@
 -- What plain recursion over the solver's frames, and so a search, answers to decided goals of formed facts, which lead to no others.
 use Rattle.std.specs.Prelude.{◌≡◌, ◌≤◌, ℕ, Bool, true, [], Option}
-use Rattle.type_terms.specs.Worlds.{World}
-use Rattle.type_terms.specs.Answers.{SingleWay, is_bounded}
+use Rattle.type_terms.specs.Promised.Worlds.{World}
+use Rattle.type_terms.specs.Promised.Answers.{SingleWay, is_bounded}
 use Rattle.infer_table.specs.Canonical.{CanonicalForm}
 use Rattle.infer_table.specs.declared.certainty.TypingMode.{TypingMode}
 use Rattle.infer_table.specs.declared.certainty.TypingMode.TheVariants.{Coherence, PostAnalysis}

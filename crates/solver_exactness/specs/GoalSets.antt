@@ -1,11 +1,11 @@
 -- Sets of goals without unknowns that lead to no others: decided goals of facts that can be asked, where the ways of such facts keep to
 -- such facts.
 use Rattle.std.specs.Prelude.{◌≡◌, ◌==◌, Bool, true, false, ◌||◌, not, Some}
-use Rattle.type_terms.specs.Label.{Label, of_type}
-use Rattle.type_terms.specs.Trees.{Trees, none, tree, is_sort, sort_of}
-use Rattle.type_terms.specs.Worlds.{World}
-use Rattle.type_terms.specs.Rules.{unsize}
-use Rattle.type_terms.specs.Answers.{written_in}
+use Rattle.type_terms.specs.Promised.Label.{Label, of_type}
+use Rattle.type_terms.specs.Promised.Trees.{Trees, none, tree, is_sort, sort_of}
+use Rattle.type_terms.specs.Promised.Worlds.{World}
+use Rattle.type_terms.specs.Promised.Rules.{unsize}
+use Rattle.type_terms.specs.Promised.Answers.{written_in}
 use Rattle.type_terms.specs.Made.{terms, is_made}
 use Rattle.infer_table.specs.Canonical.{CanonicalForm}
 use Rattle.infer_table.specs.declared.certainty.TypingMode.{TypingMode}

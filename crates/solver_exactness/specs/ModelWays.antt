@@ -1,10 +1,10 @@
 -- The ways of references by the rules of a set of crates.
 use Rattle.std.specs.Prelude.{◌≡◌, ℕ, true, List, [], ◌∷◌, ◌++◌, map, if◌then◌else◌}
-use Rattle.type_terms.specs.Worlds.{World, Reference}
-use Rattle.type_terms.specs.Rules.{rules, strict_supertraits}
-use Rattle.type_terms.specs.Proofs.{HasProof}
-use Rattle.type_terms.specs.Walks.{is_known_in}
-use Rattle.type_terms.specs.Answers.{short_chains, is_possible, SingleWay}
+use Rattle.type_terms.specs.Promised.Worlds.{World, Reference}
+use Rattle.type_terms.specs.Promised.Rules.{rules, strict_supertraits}
+use Rattle.type_terms.specs.Promised.Proofs.{HasProof}
+use Rattle.type_terms.specs.Promised.Walks.{is_known_in}
+use Rattle.type_terms.specs.Promised.Answers.{short_chains, is_possible, SingleWay}
 use Rattle.solver_exactness.specs.Ways.{HasShortChains, IsPossible, HasOneWayWithin, HoldsByWays}
 
 -- under where-clauses, one way for each rule

@@ -1,7 +1,7 @@
 -- The ways of facts are those of the references that they speak of.
 use Rattle.std.specs.Prelude.{◌≡◌, true, List, [], map}
-use Rattle.type_terms.specs.Worlds.{World, Reference}
-use Rattle.type_terms.specs.Answers.{is_closed}
+use Rattle.type_terms.specs.Promised.Worlds.{World, Reference}
+use Rattle.type_terms.specs.Promised.Answers.{is_closed}
 use Rattle.evaluation.specs.Content.{Fact}
 use Rattle.assembly_laws.specs.Facts.{clauses_of, reference_in}
 use Rattle.assembly_laws.specs.Meaning.{ViewMeaning}

@@ -1,7 +1,7 @@
 -- What `evaluate_root_goal` is told of goals of formed facts, where the handler means what the solver means.
 use Rattle.std.specs.Prelude.{◌≡◌, ◌≤◌, ◌+◌, ℕ, Bool, true, List, [], Option}
-use Rattle.type_terms.specs.Terms.{Entry}
-use Rattle.type_terms.specs.Answers.{SingleWay, is_bounded}
+use Rattle.type_terms.specs.Promised.Handles.{Entry}
+use Rattle.type_terms.specs.Promised.Answers.{SingleWay, is_bounded}
 use Rattle.infer_table.specs.Canonical.{CanonicalForm}
 use Rattle.infer_table.specs.declared.certainty.TypingMode.{TypingMode}
 use Rattle.infer_table.specs.declared.certainty.TypingMode.TheVariants.{Coherence, PostAnalysis}

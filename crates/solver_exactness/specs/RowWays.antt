@@ -1,9 +1,9 @@
 -- The candidates by built-in rules that read the outermost types alone, and by where-clauses, as ways of goals without unknowns.
 use Rattle.std.specs.Prelude.{◌≡◌, ◌==◌, Bool, true, ◌||◌, List, [], ◌∷◌, map, Some, if◌then◌else◌}
-use Rattle.type_terms.specs.Worlds.{World, Reference}
-use Rattle.type_terms.specs.Rules.{Rule, same_reference, sized, copy, clone, tuple_trait, fn_ptr_trait, is_fn_trait, unsize, is_auto, sized_rules, copy_rules, auto_rules, tuple_rules, fn_ptr_rules, autos_with, call_rules, unsize_array_rules, unsize_to_dyn_rules, unsize_struct_rules}
-use Rattle.type_terms.specs.Label.{dynamic}
-use Rattle.type_terms.specs.Trees.{Trees, none, tree}
+use Rattle.type_terms.specs.Promised.Worlds.{World, Reference}
+use Rattle.type_terms.specs.Promised.Rules.{Rule, same_reference, sized, copy, clone, tuple_trait, fn_ptr_trait, is_fn_trait, unsize, is_auto, sized_rules, copy_rules, auto_rules, tuple_rules, fn_ptr_rules, autos_with, call_rules, unsize_array_rules, unsize_to_dyn_rules, unsize_struct_rules}
+use Rattle.type_terms.specs.Promised.Label.{dynamic}
+use Rattle.type_terms.specs.Promised.Trees.{Trees, none, tree}
 use Rattle.infer_table.specs.Canonical.{CanonicalForm}
 use Rattle.evaluation.specs.Content.{Values, Fact}
 use Rattle.evaluation.specs.TableOperations.{begin}

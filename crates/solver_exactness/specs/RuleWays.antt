@@ -1,7 +1,7 @@
 -- The ways of references by a list of rules over trees: the rules whose head matches, each with its premises.
 use Rattle.std.specs.Prelude.{◌≡◌, ℕ, suc, ◌==◌, Bool, ◌&&◌, if◌then◌else◌, List, [], ◌∷◌, map, Option, Some, None}
-use Rattle.type_terms.specs.Label.{Sort, canonical}
-use Rattle.type_terms.specs.Trees.{Trees, none, tree, is_sort}
+use Rattle.type_terms.specs.Promised.Label.{Sort, canonical}
+use Rattle.type_terms.specs.Promised.Trees.{Trees, none, tree, is_sort}
 use Rattle.type_terms.specs.Codes.{same}
 use Rattle.infer_table.specs.declared.canonical.CanonicalVarKind.{CanonicalVarKind}
 use Rattle.infer_table.specs.Raw.{sort_of_kind}

@@ -1,7 +1,7 @@
 -- What plain recursion over the solver's frames, and so a search, answers to goals without unknowns.
 use Rattle.std.specs.Prelude.{◌≡◌, ◌≤◌, ◌&&◌, ℕ, Bool, true, false, [], Option, Some, None}
-use Rattle.type_terms.specs.Worlds.{World, Reference}
-use Rattle.type_terms.specs.Answers.{SingleWay, is_bounded, is_possible}
+use Rattle.type_terms.specs.Promised.Worlds.{World, Reference}
+use Rattle.type_terms.specs.Promised.Answers.{SingleWay, is_bounded, is_possible}
 use Rattle.infer_table.specs.Canonical.{CanonicalForm}
 use Rattle.infer_table.specs.declared.certainty.TypingMode.{TypingMode}
 use Rattle.infer_table.specs.declared.certainty.TypingMode.TheVariants.{Coherence, PostAnalysis}

@@ -1,8 +1,8 @@
 -- The solver's candidates for a goal without unknowns, all together, as ways of its instance.
 use Rattle.std.specs.Prelude.{◌≡◌, true, List, [], ◌∷◌, ◌++◌, Some, if◌then◌else◌}
-use Rattle.type_terms.specs.Worlds.{World, Reference}
-use Rattle.type_terms.specs.Rules.{strict_supertraits}
-use Rattle.type_terms.specs.Proofs.{In}
+use Rattle.type_terms.specs.Promised.Worlds.{World, Reference}
+use Rattle.type_terms.specs.Promised.Rules.{strict_supertraits}
+use Rattle.type_terms.specs.Promised.Proofs.{In}
 use Rattle.infer_table.specs.Canonical.{CanonicalForm}
 use Rattle.evaluation.specs.Content.{Values, Fact}
 use Rattle.solver_exactness.specs.ClosedTables.{AreClosed, ArePlaces}

@@ -1,7 +1,7 @@
 -- The goals without unknowns that the solver answers exactly: what is asked of them, and sets of goals that lead to no others.
 use Rattle.std.specs.Prelude.{◌≡◌, ℕ, zero, suc, Bool, true, List, Some}
-use Rattle.type_terms.specs.Worlds.{World}
-use Rattle.type_terms.specs.Proofs.{HasProof}
+use Rattle.type_terms.specs.Promised.Worlds.{World}
+use Rattle.type_terms.specs.Promised.Proofs.{HasProof}
 use Rattle.infer_table.specs.Canonical.{CanonicalForm}
 use Rattle.infer_table.specs.declared.certainty.TypingMode.{TypingMode}
 use Rattle.infer_table.specs.declared.certainty.TypingMode.TheVariants.{Coherence, PostAnalysis}

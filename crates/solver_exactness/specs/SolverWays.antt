@@ -1,7 +1,7 @@
 -- The ways of facts by the rules of a view.
 use Rattle.std.specs.Prelude.{List, [], ◌∷◌, ◌++◌, map, if◌then◌else◌}
-use Rattle.type_terms.specs.Worlds.{World, Reference}
-use Rattle.type_terms.specs.Rules.{Rule, strict_supertraits}
+use Rattle.type_terms.specs.Promised.Worlds.{World, Reference}
+use Rattle.type_terms.specs.Promised.Rules.{Rule, strict_supertraits}
 use Rattle.evaluation.specs.Content.{Fact}
 use Rattle.assembly_laws.specs.Facts.{clauses_of, reference_in, beside}
 use Rattle.assembly_laws.specs.Knowing.{is_knowable}

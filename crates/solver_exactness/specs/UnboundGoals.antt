@@ -1,7 +1,7 @@
 -- Goals in which no binder binds what stands there: what is asked of them is so too.
 use Rattle.std.specs.Prelude.{◌≡◌, Bool, true, not, Some}
-use Rattle.type_terms.specs.Trees.{some_node}
-use Rattle.type_terms.specs.Worlds.{World}
+use Rattle.type_terms.specs.Promised.Trees.{some_node}
+use Rattle.type_terms.specs.Promised.Worlds.{World}
 use Rattle.infer_table.specs.Canonical.{CanonicalForm}
 use Rattle.infer_table.specs.declared.certainty.TypingMode.{TypingMode}
 use Rattle.evaluation.specs.Lists.{Every}

@@ -1,6 +1,6 @@
 //! The solver on goals without unknowns of formed facts: these lead to no other goals.
 ghost use Rattle.std.specs.Prelude.{Bool, List};
-ghost use Rattle.type_terms.specs.Terms.{Entry};
+ghost use Rattle.type_terms.specs.Promised.Handles.{Entry};
 ghost use Rattle.infer_table.specs.Canonical.{CanonicalForm};
 ghost use Rattle.infer_table.specs.Responses.{AnswerTrees};
 ghost use Rattle.evaluation.specs.Tables.{frame_tables};

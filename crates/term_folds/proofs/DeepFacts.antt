@@ -1,6 +1,6 @@
 -- Lists of types that are still to be folded.
 use Rattle.std.proofs.Common.{List, [], ◌∷◌, ◌++◌}
-use Rattle.type_terms.specs.Terms.{Entry, Has, Keeps, types}
+use Rattle.type_terms.specs.Promised.Handles.{Entry, Has, Keeps, types}
 use Rattle.term_folds.specs.declared.deep.Step.{Step}
 use Rattle.term_folds.specs.Deep.{StepsHeld}
 use Rattle.type_terms.specs.Kept.{has-later}

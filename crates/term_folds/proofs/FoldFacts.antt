@@ -1,11 +1,12 @@
 -- What folds are made of.
 use Rattle.std.proofs.Common.{◌≡◌, ℕ, List, refl, ap, sym, ◌∙◌, subst}
 use Rattle.std.specs.Prelude.{Result, Ok, Err, IfOk}
-use Rattle.type_terms.specs.Label.{Label}
-use Rattle.type_terms.specs.Trees.{Trees, none, tree, ◌+++◌, Single, leaf}
+use Rattle.type_terms.specs.Promised.Label.{Label}
+use Rattle.type_terms.specs.Promised.Trees.{Trees, none, tree, ◌+++◌, leaf}
+use Rattle.type_terms.specs.Trees.{Single}
 use Rattle.type_terms.proofs.TreeLaws.{append-none, append-assoc}
-use Rattle.type_terms.specs.Terms.{Entry, Is, Has, Keeps, types, consts, trees_at}
-use Rattle.type_terms.specs.Kinds.{region_trees, RegionHeld}
+use Rattle.type_terms.specs.Promised.Handles.{Entry, Is, Has, Keeps, types, consts, trees_at}
+use Rattle.type_terms.specs.Promised.Handles.{region_trees, RegionHeld}
 use Rattle.type_terms.specs.declared.region.Region.{Region}
 use Rattle.type_terms.specs.declared.kinds.Ty as of_ty
 use Rattle.type_terms.specs.declared.kinds.Const as of_const

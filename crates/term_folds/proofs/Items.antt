@@ -1,8 +1,9 @@
 -- Folds of lists of types and of arguments, item by item.
 use Rattle.std.proofs.Common.{◌≡◌, ℕ, ◌+◌, ◌<◌, List, [], ◌∷◌, ◌++◌, length, take, get_or, ap, sym, ◌∙◌, subst}
-use Rattle.type_terms.specs.Trees.{Trees, ◌+++◌}
-use Rattle.type_terms.specs.Terms.{Entry, Keeps, trees_at}
-use Rattle.type_terms.specs.Kinds.{TysHeld, tys_trees, ArgsHeld, arg_trees, args_trees}
+use Rattle.type_terms.specs.Promised.Trees.{Trees, ◌+++◌}
+use Rattle.type_terms.specs.Promised.Handles.{Entry, Keeps, trees_at}
+use Rattle.type_terms.specs.Kinds.{TysHeld, tys_trees, args_trees}
+use Rattle.type_terms.specs.Promised.Handles.{ArgsHeld, arg_trees}
 use Rattle.type_terms.specs.declared.kinds.Ty as of_ty
 use Rattle.type_terms.specs.declared.kinds.GenericArgKind.{GenericArgKind}
 use Rattle.type_terms.specs.Kept.{tys-trees-later, args-trees-later}

@@ -1,7 +1,7 @@
 -- The kinds that have no part.
 use Rattle.std.proofs.Common.{◌≡◌, ℕ, List, refl}
-use Rattle.type_terms.specs.Trees.{Trees}
-use Rattle.type_terms.specs.Terms.{Entry}
+use Rattle.type_terms.specs.Promised.Trees.{Trees}
+use Rattle.type_terms.specs.Promised.Handles.{Entry}
 use Rattle.type_terms.specs.Kinds.{kind_trees}
 use Rattle.type_terms.specs.declared.AdtId.{AdtId}
 use Rattle.type_terms.specs.declared.region.Region.{Region}

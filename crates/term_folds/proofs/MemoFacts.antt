@@ -1,9 +1,9 @@
 -- What a walk has found stays found.
 use Rattle.std.proofs.Common.{◌≡◌, ℕ, suc, List, length, refl, ap, sym, ◌∙◌, subst, Option, None, Some, min, nat_eq, true, false, Bool, cond, ◌&&◌, arith}
 use Rattle.std.specs.Prelude.{IfSome}
-use Rattle.type_terms.specs.Label.{Label, fn_ptr, principal}
-use Rattle.type_terms.specs.Trees.{Trees, none, tree}
-use Rattle.type_terms.specs.Terms.{Entry, Has, Keeps, types, trees_at}
+use Rattle.type_terms.specs.Promised.Label.{Label, fn_ptr, principal}
+use Rattle.type_terms.specs.Promised.Trees.{Trees, none, tree}
+use Rattle.type_terms.specs.Promised.Handles.{Entry, Has, Keeps, types, trees_at}
 use Rattle.term_folds.specs.declared.memo.Place.{Place}
 use Rattle.term_folds.specs.declared.memo.Memo.{Memo}
 use Rattle.type_terms.specs.declared.kinds.Ty.{Ty}

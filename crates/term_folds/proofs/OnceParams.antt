@@ -1,8 +1,8 @@
 -- The visitor of parameters may enter a type once.
 use Rattle.std.proofs.Common.{◌≡◌, ℕ, List, refl, ap, sym, ◌∙◌, Bool, true, false, Option, subst}
 use Rattle.std.specs.Prelude.{◌||◌}
-use Rattle.type_terms.specs.Trees.{Trees}
-use Rattle.type_terms.specs.Terms.{Entry, trees_at}
+use Rattle.type_terms.specs.Promised.Trees.{Trees}
+use Rattle.type_terms.specs.Promised.Handles.{Entry, trees_at}
 use Rattle.term_folds.specs.declared.instantiate.InstantiateError.{InstantiateError}
 use Rattle.term_folds.specs.declared.instantiate.ParamVisitor.{ParamVisitor}
 use Rattle.type_terms.specs.declared.once.Once.{Once}

@@ -1,6 +1,6 @@
 -- Folds of values, part by part.
 use Rattle.std.proofs.Common.{ℕ, List, [], ◌∷◌, ◌++◌, ap, sym, subst, append_assoc}
-use Rattle.type_terms.specs.Trees.{Trees}
+use Rattle.type_terms.specs.Promised.Trees.{Trees}
 use Rattle.term_folds.specs.Folds.{Does, Folds, FoldsEach}
 use Rattle.type_terms.specs.Pieces.{Piece, under}
 

@@ -2,9 +2,9 @@
 use Rattle.std.specs.Prelude.{◌≡◌, refl, ℕ, zero, suc, List, [], ◌∷◌, length, min, cond, Bool, true, false, Option, Some, None, ◌||◌, ◌↔◌, Result, Err}
 use Rattle.std.proofs.Common.{ap}
 use Rattle.std.specs.Option.{option_or}
-use Rattle.type_terms.specs.Label.{Label, Sort, of_type, of_const, of_lifetime, param, principal, auto_trait, inside}
-use Rattle.type_terms.specs.Trees.{Trees, none, tree, nth, sort_of, is_sort, some_node}
-use Rattle.type_terms.specs.Terms.{Entry, trees_at}
+use Rattle.type_terms.specs.Promised.Label.{Label, Sort, of_type, of_const, of_lifetime, param, principal, auto_trait, inside}
+use Rattle.type_terms.specs.Promised.Trees.{Trees, none, tree, nth, sort_of, is_sort, some_node}
+use Rattle.type_terms.specs.Promised.Handles.{Entry, trees_at}
 use Rattle.type_terms.specs.declared.TheConstants.{MAX_INDEX}
 use Rattle.type_terms.specs.declared.kinds.GenericArgKind.{GenericArgKind}
 use Rattle.type_terms.specs.declared.kinds.GenericArgKind.TheVariants.{Lifetime, Ty, Const}

@@ -1,6 +1,6 @@
 -- The types that are still to be folded of a deep type.
 use Rattle.std.specs.Prelude.{List, [], ◌∷◌}
-use Rattle.type_terms.specs.Terms.{Entry, Has, types}
+use Rattle.type_terms.specs.Promised.Handles.{Entry, Has, types}
 use Rattle.term_folds.specs.declared.deep.Step.{Step}
 
 -- each is a type of these terms

@@ -1,12 +1,12 @@
 -- What a folder does at a node, and what a fold is.
 use Rattle.std.specs.Prelude.{[], ◌≡◌, ℕ, ◌≤◌, List, ◌∷◌, ◌++◌}
 use Rattle.std.proofs.Common.{arith}
-use Rattle.type_terms.specs.Label.{Label}
-use Rattle.type_terms.specs.Trees.{Trees, none, tree, ◌+++◌}
+use Rattle.type_terms.specs.Promised.Label.{Label}
+use Rattle.type_terms.specs.Promised.Trees.{Trees, none, tree, ◌+++◌}
 use Rattle.type_terms.specs.Visits.{around}
 use Rattle.type_terms.specs.Pieces.{Piece}
-use Rattle.type_terms.specs.Terms.{Entry, Is, Has, trees_at, types, consts}
-use Rattle.type_terms.specs.Kinds.{region_trees, RegionHeld}
+use Rattle.type_terms.specs.Promised.Handles.{Entry, Is, Has, trees_at, types, consts}
+use Rattle.type_terms.specs.Promised.Handles.{region_trees, RegionHeld}
 use Rattle.type_terms.specs.declared.kinds.Ty.{Ty}
 use Rattle.type_terms.specs.declared.kinds.Const.{Const}
 use Rattle.type_terms.specs.declared.region.Region.{Region}

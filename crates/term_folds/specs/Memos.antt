@@ -1,8 +1,8 @@
 -- What a walk has found so far.
 use Rattle.std.specs.Prelude.{◌≡◌, ℕ, ◌&&◌, Bool, nat_eq, List, length, IfSome}
 use Rattle.std.specs.HashMap.{get}
-use Rattle.type_terms.specs.Trees.{Trees}
-use Rattle.type_terms.specs.Terms.{Entry, Has, types, trees_at}
+use Rattle.type_terms.specs.Promised.Trees.{Trees}
+use Rattle.type_terms.specs.Promised.Handles.{Entry, Has, types, trees_at}
 use Rattle.term_folds.specs.declared.memo.Place.{Place}
 use Rattle.term_folds.specs.declared.memo.Memo.{Memo}
 use Rattle.term_folds.specs.Folds.{Does, Folds}

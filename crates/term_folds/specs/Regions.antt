@@ -1,8 +1,8 @@
 -- Free lifetimes replaced.
 use Rattle.std.specs.Prelude.{◌≡◌, ℕ, List, length, cond, ltb, not, Bool, true, false, refl}
 use Rattle.std.proofs.Common.{ap}
-use Rattle.type_terms.specs.Label.{Label, of_lifetime, static, param, placeholder, infer, canonical, bound, principal, auto_trait, inside}
-use Rattle.type_terms.specs.Trees.{Trees, none, tree}
+use Rattle.type_terms.specs.Promised.Label.{Label, of_lifetime, static, param, placeholder, infer, canonical, bound, principal, auto_trait, inside}
+use Rattle.type_terms.specs.Promised.Trees.{Trees, none, tree}
 use Rattle.term_folds.specs.Folds.{Does, enters, puts, again}
 use Rattle.type_terms.specs.Visits.{IsBound}
 

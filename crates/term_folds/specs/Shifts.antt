@@ -1,8 +1,9 @@
 -- Binder numbers shifted.
 use Rattle.std.specs.Prelude.{◌≡◌, ℕ, ◌+◌, ◌<◌, ◌≤◌, List, [], ◌∷◌, length, cond, ltb, refl, Bool, true, false}
 use Rattle.std.proofs.Common.{ap}
-use Rattle.type_terms.specs.Label.{Label, bound, principal, auto_trait, inside}
-use Rattle.type_terms.specs.Trees.{Trees, none, tree, outer_binder}
+use Rattle.type_terms.specs.Promised.Label.{Label, bound, principal, auto_trait, inside}
+use Rattle.type_terms.specs.Promised.Trees.{Trees, none, tree}
+use Rattle.type_terms.specs.Trees.{outer_binder}
 use Rattle.type_terms.specs.declared.TheConstants.{MAX_INDEX}
 use Rattle.term_folds.specs.Folds.{Does, enters, puts, again}
 use Rattle.type_terms.specs.Visits.{IsBound}

@@ -5,8 +5,10 @@
 //! does not rest on it.
 ghost use Rattle.type_terms.specs.Growth.{Grew};
 ghost use Rattle.std.specs.Prelude.{◌≡◌, OnOk, IfOk, IfErr};
-ghost use Rattle.type_terms.specs.Terms.{Has, args_lists, type_lists, types};
-ghost use Rattle.type_terms.specs.Kinds.{ArgHeld, KindHeld};
+ghost use Rattle.type_terms.specs.Promised.Handles.{Has, types};
+ghost use Rattle.type_terms.specs.Terms.{args_lists, type_lists};
+ghost use Rattle.type_terms.specs.Promised.Handles.{ArgHeld};
+ghost use Rattle.type_terms.specs.Kinds.{KindHeld};
 ghost use Rattle.type_terms.specs.Failures.{FailsBy};
 ghost use Rattle.term_folds.specs.Memos.{Remembers};
 ghost use Rattle.term_folds.specs.Deep.{StepsHeld};

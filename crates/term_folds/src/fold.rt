@@ -1,10 +1,13 @@
 //! Folders, and the fold of a term by one.
 ghost use Rattle.type_terms.specs.Growth.{Grew};
 ghost use Rattle.std.specs.Prelude.{◌≡◌, ℕ, ◌+◌, ◌*◌, ◌<◌, ◌≤◌, List, length, IfOk, IfErr};
-ghost use Rattle.type_terms.specs.Label.{Label};
-ghost use Rattle.type_terms.specs.Trees.{Trees, none, tree, ◌+++◌, is_no_tree};
-ghost use Rattle.type_terms.specs.Terms.{Entry, Is, Has, Keeps, types, consts, args_lists, type_lists, bounds_lists, trees_at};
-ghost use Rattle.type_terms.specs.Kinds.{region_trees, kind_trees, KindHeld, KindOlder, RegionHeld, ArgHeld, arg_trees, PrincipalHeld, PrincipalOlder, principal_trees};
+ghost use Rattle.type_terms.specs.Promised.Label.{Label};
+ghost use Rattle.type_terms.specs.Promised.Trees.{Trees, none, tree, ◌+++◌};
+ghost use Rattle.type_terms.specs.Trees.{is_no_tree};
+ghost use Rattle.type_terms.specs.Promised.Handles.{Entry, Is, Has, Keeps, types, consts, bounds_lists, trees_at};
+ghost use Rattle.type_terms.specs.Terms.{args_lists, type_lists};
+ghost use Rattle.type_terms.specs.Promised.Handles.{region_trees, RegionHeld, ArgHeld, arg_trees};
+ghost use Rattle.type_terms.specs.Kinds.{kind_trees, KindHeld, KindOlder, PrincipalHeld, PrincipalOlder, principal_trees};
 ghost use Rattle.type_terms.specs.Binders.{counts_of};
 ghost use Rattle.type_terms.specs.Failures.{FailsBy};
 ghost use Rattle.term_folds.specs.Folds.{Does, enters, again, Folds, FoldsBelow, IsFold, IsFoldBelow, TyAnswer, ConstAnswer, RegionAnswer};

@@ -1,9 +1,10 @@
 //! Values that can be folded.
 ghost use Rattle.type_terms.specs.Growth.{Grew};
 ghost use Rattle.std.specs.Prelude.{◌≡◌, ℕ, ◌⊎◌, List, [], IfOk, IfErr, Err};
-ghost use Rattle.type_terms.specs.Terms.{Has, types, consts, trees_at};
+ghost use Rattle.type_terms.specs.Promised.Handles.{Has, types, consts, trees_at};
 ghost use Rattle.type_terms.specs.Binders.{counts_of};
-ghost use Rattle.type_terms.specs.Failures.{FailsBy, SomeKindIsFull};
+ghost use Rattle.type_terms.specs.Failures.{FailsBy};
+ghost use Rattle.type_terms.specs.Promised.Handles.{SomeKindIsFull};
 ghost use Rattle.term_folds.specs.Folds.{IsFoldBelow, FoldsEach};
 
 use crate::fold::{

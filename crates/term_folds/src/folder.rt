@@ -1,12 +1,12 @@
 //! Folders that cannot fail but for want of room.
 ghost use Rattle.type_terms.specs.Growth.{Grew};
 ghost use Rattle.std.specs.Prelude.{◌≡◌, ℕ, ◌<◌, ◌≤◌, ◌⊎◌, List, length, IfOk, Err};
-ghost use Rattle.type_terms.specs.Label.{Label};
-ghost use Rattle.type_terms.specs.Trees.{Trees, none, tree, ◌+++◌};
-ghost use Rattle.type_terms.specs.Terms.{Entry, Is, Has, Keeps, types, consts, trees_at};
-ghost use Rattle.type_terms.specs.Kinds.{region_trees, RegionHeld};
+ghost use Rattle.type_terms.specs.Promised.Label.{Label};
+ghost use Rattle.type_terms.specs.Promised.Trees.{Trees, none, tree, ◌+++◌};
+ghost use Rattle.type_terms.specs.Promised.Handles.{Entry, Is, Has, Keeps, types, consts, trees_at};
+ghost use Rattle.type_terms.specs.Promised.Handles.{region_trees, RegionHeld};
 ghost use Rattle.type_terms.specs.Binders.{counts_of};
-ghost use Rattle.type_terms.specs.Failures.{SomeKindIsFull};
+ghost use Rattle.type_terms.specs.Promised.Handles.{SomeKindIsFull};
 ghost use Rattle.term_folds.specs.Folds.{Does, enters, again, TyAnswer, ConstAnswer, RegionAnswer};
 ghost use Rattle.type_terms.specs.Visits.{IsBound};
 

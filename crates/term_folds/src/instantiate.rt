@@ -1,8 +1,9 @@
 //! Parameters replaced by arguments.
 ghost use Rattle.std.specs.Prelude.{◌≡◌, ℕ, ◌<◌, length, min, not, IfOk, IfSome, option_map};
-ghost use Rattle.type_terms.specs.Trees.{nth, some_node};
-ghost use Rattle.type_terms.specs.Terms.{Keeps, Has, args_lists, trees_at};
-ghost use Rattle.type_terms.specs.Kinds.{ArgHeld, arg_trees};
+ghost use Rattle.type_terms.specs.Promised.Trees.{nth, some_node};
+ghost use Rattle.type_terms.specs.Promised.Handles.{Keeps, Has, trees_at};
+ghost use Rattle.type_terms.specs.Terms.{args_lists};
+ghost use Rattle.type_terms.specs.Promised.Handles.{ArgHeld, arg_trees};
 ghost use Rattle.term_folds.specs.Arguments.{is_param, sort_at, arg_sort};
 
 use crate::fold::Answer;
@@ -77,7 +78,8 @@ pub(crate) struct ParamVisitor {
 impl TypeVisitor for ParamVisitor {
     type Break = InstantiateError;
 
-    ghost use Rattle.type_terms.specs.Terms.{Has, args_lists, trees_at};
+    ghost use Rattle.type_terms.specs.Promised.Handles.{Has, trees_at};
+    ghost use Rattle.type_terms.specs.Terms.{args_lists};
     ghost use Rattle.term_folds.specs.Arguments.{Looks, looking-bounds};
 
     ghost ready = { λ v es. Has es args_lists v.args.0 };
@@ -157,7 +159,8 @@ pub(crate) struct ArgFolder {
 
 impl TypeFolder for ArgFolder {
     ghost use Rattle.std.proofs.Common.{refl, ap};
-    ghost use Rattle.type_terms.specs.Terms.{Has, args_lists, trees_at};
+    ghost use Rattle.type_terms.specs.Promised.Handles.{Has, trees_at};
+    ghost use Rattle.type_terms.specs.Terms.{args_lists};
     ghost use Rattle.type_terms.specs.Kept.{has-later, trees-later};
     ghost use Rattle.term_folds.specs.Folds.{none_above};
     ghost use Rattle.term_folds.specs.Arguments.{putting, putting-bounds, putting-once, putting-by-depth};

@@ -4,7 +4,7 @@
 //! type is kept by handle and by that number. In each walk the folder is the same, and what is kept stays true while the
 //! interner grows.
 ghost use Rattle.std.specs.Prelude.{◌≡◌, ℕ, List, length, IfSome, IfErr, OnOk};
-ghost use Rattle.type_terms.specs.Terms.{Entry};
+ghost use Rattle.type_terms.specs.Promised.Handles.{Entry};
 ghost use Rattle.type_terms.specs.Binders.{counts_of};
 ghost use Rattle.term_folds.specs.Memos.{Action, IsMemo, Remembers};
 

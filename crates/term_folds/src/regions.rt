@@ -1,8 +1,8 @@
 //! Free lifetimes replaced.
 ghost use Rattle.type_terms.specs.Growth.{GrewOrFull};
 ghost use Rattle.std.specs.Prelude.{◌≡◌, ℕ, IfOk};
-ghost use Rattle.type_terms.specs.Label.{Label};
-ghost use Rattle.type_terms.specs.Kinds.{RegionHeld, region_label};
+ghost use Rattle.type_terms.specs.Promised.Label.{Label};
+ghost use Rattle.type_terms.specs.Promised.Handles.{RegionHeld, region_label};
 ghost use Rattle.type_terms.specs.Pieces.{each_piece};
 ghost use Rattle.term_folds.specs.Regions.{regions_replaced};
 

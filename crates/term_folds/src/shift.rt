@@ -1,8 +1,8 @@
 //! Binder numbers shifted.
 ghost use Rattle.type_terms.specs.Growth.{GrewOrFull};
 ghost use Rattle.std.specs.Prelude.{◌≡◌, ℕ, ◌<◌, length, min, IfOk};
-ghost use Rattle.type_terms.specs.Trees.{shift};
-ghost use Rattle.type_terms.specs.Kinds.{RegionHeld, region_trees};
+ghost use Rattle.type_terms.specs.Promised.Trees.{shift};
+ghost use Rattle.type_terms.specs.Promised.Handles.{RegionHeld, region_trees};
 ghost use Rattle.type_terms.specs.declared.TheConstants.{MAX_INDEX};
 ghost use Rattle.type_terms.specs.Binders.{counts_of};
 ghost use Rattle.type_terms.specs.Pieces.{each_piece};

@@ -1,9 +1,12 @@
 //! The walk of a fold, which keeps what it has found.
 ghost use Rattle.type_terms.specs.Growth.{Grew};
 ghost use Rattle.std.specs.Prelude.{◌≡◌, ℕ, ◌++◌, ◌∷◌, [], IfOk, IfErr};
-ghost use Rattle.type_terms.specs.Trees.{Trees, ◌+++◌, is_no_tree};
-ghost use Rattle.type_terms.specs.Terms.{Entry, Is, Has, types, consts, args_lists, type_lists, bounds_lists, trees_at};
-ghost use Rattle.type_terms.specs.Kinds.{region_trees, kind_trees, KindHeld, KindOlder, RegionHeld, ArgHeld, arg_trees, PrincipalHeld, PrincipalOlder, principal_trees};
+ghost use Rattle.type_terms.specs.Promised.Trees.{Trees, ◌+++◌};
+ghost use Rattle.type_terms.specs.Trees.{is_no_tree};
+ghost use Rattle.type_terms.specs.Promised.Handles.{Entry, Is, Has, types, consts, bounds_lists, trees_at};
+ghost use Rattle.type_terms.specs.Terms.{args_lists, type_lists};
+ghost use Rattle.type_terms.specs.Promised.Handles.{region_trees, RegionHeld, ArgHeld, arg_trees};
+ghost use Rattle.type_terms.specs.Kinds.{kind_trees, KindHeld, KindOlder, PrincipalHeld, PrincipalOlder, principal_trees};
 ghost use Rattle.type_terms.specs.Binders.{counts_of};
 ghost use Rattle.type_terms.specs.Failures.{FailsBy};
 ghost use Rattle.term_folds.specs.Folds.{Folds, FoldsBelow, IsFold, IsFoldBelow};

@@ -1,9 +1,9 @@
 //! Folds of lifetimes, shifts and binders.
 ghost use Rattle.std.specs.Prelude.{◌≡◌, ◌<◌, false, IfOk};
-ghost use Rattle.type_terms.specs.Terms.{Has, Is, Keeps, types};
-ghost use Rattle.type_terms.specs.Kinds.{RegionHeld, region_label};
-ghost use Rattle.type_terms.specs.Label.{bound, of_lifetime, ref, uint};
-ghost use Rattle.type_terms.specs.Trees.{tree, none, leaf};
+ghost use Rattle.type_terms.specs.Promised.Handles.{Has, Is, Keeps, types};
+ghost use Rattle.type_terms.specs.Promised.Handles.{RegionHeld, region_label};
+ghost use Rattle.type_terms.specs.Promised.Label.{bound, of_lifetime, ref, uint};
+ghost use Rattle.type_terms.specs.Promised.Trees.{tree, none, leaf};
 
 use std::alloc::Global;
 use term_folds::binder::{Binder, EarlyBinder};
@@ -24,7 +24,7 @@ use type_terms::region::{Region, RegionKind};
 struct AllStatic;
 
 impl RegionMap for AllStatic {
-    ghost use Rattle.type_terms.specs.Label.{static};
+    ghost use Rattle.type_terms.specs.Promised.Label.{static};
 
     ghost image = { λ _ _. static };
 

@@ -1,6 +1,6 @@
 //! Canonical forms of goals.
 ghost use Rattle.std.specs.Prelude.{IfOk, ◌≡◌, []};
-ghost use Rattle.type_terms.specs.Terms.{Has, Keeps, types};
+ghost use Rattle.type_terms.specs.Promised.Handles.{Has, Keeps, types};
 ghost use Rattle.infer_table.specs.Content.{Ready};
 ghost use Rattle.infer_table.specs.Goals.{GoalHeld, PredicateHeld};
 

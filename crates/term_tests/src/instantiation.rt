@@ -1,8 +1,9 @@
 //! Instantiations, signatures and self types.
 ghost use Rattle.std.specs.Prelude.{IfOk};
-ghost use Rattle.type_terms.specs.Trees.{none, ◌+++◌};
-ghost use Rattle.type_terms.specs.Terms.{Is, Has, Keeps, args_lists};
-ghost use Rattle.type_terms.specs.Kinds.{ArgHeld, arg_trees};
+ghost use Rattle.type_terms.specs.Promised.Trees.{none, ◌+++◌};
+ghost use Rattle.type_terms.specs.Promised.Handles.{Is, Has, Keeps};
+ghost use Rattle.type_terms.specs.Terms.{args_lists};
+ghost use Rattle.type_terms.specs.Promised.Handles.{ArgHeld, arg_trees};
 
 use std::alloc::Global;
 use std::process::Abort;

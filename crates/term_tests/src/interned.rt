@@ -1,7 +1,8 @@
 //! What a full table answers, and that terms made twice are one.
 ghost use Rattle.std.specs.Prelude.{IfOk};
-ghost use Rattle.type_terms.specs.Terms.{Has, args_lists, bounds_lists};
-ghost use Rattle.type_terms.specs.Kinds.{RegionHeld};
+ghost use Rattle.type_terms.specs.Promised.Handles.{Has, bounds_lists};
+ghost use Rattle.type_terms.specs.Terms.{args_lists};
+ghost use Rattle.type_terms.specs.Promised.Handles.{RegionHeld};
 
 use crate::tables::{Sample, pair};
 use std::alloc::Global;

@@ -1,7 +1,8 @@
 //! Variables of a table, its equations, and what undoes them.
 ghost use Rattle.std.specs.Prelude.{IfOk};
-ghost use Rattle.type_terms.specs.Terms.{Has, Keeps, types, type_lists};
-ghost use Rattle.type_terms.specs.Kinds.{RegionHeld};
+ghost use Rattle.type_terms.specs.Promised.Handles.{Has, Keeps, types};
+ghost use Rattle.type_terms.specs.Terms.{type_lists};
+ghost use Rattle.type_terms.specs.Promised.Handles.{RegionHeld};
 ghost use Rattle.infer_table.specs.Content.{Ready, Grows};
 
 use infer_table::certainty::EqError;

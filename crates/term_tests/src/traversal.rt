@@ -1,7 +1,7 @@
 //! Folds that change nothing or fail, and what stands in a value.
 ghost use Rattle.std.specs.Prelude.{◌≡◌, IfOk};
-ghost use Rattle.type_terms.specs.Terms.{Has, Keeps, types};
-ghost use Rattle.type_terms.specs.Kinds.{RegionHeld};
+ghost use Rattle.type_terms.specs.Promised.Handles.{Has, Keeps, types};
+ghost use Rattle.type_terms.specs.Promised.Handles.{RegionHeld};
 
 use crate::tables::{Sample, Shape, make};
 use std::alloc::Global;

@@ -3,8 +3,8 @@ use Rattle.std.proofs.Common.{List, ℕ, ◌≡◌, true, ◌++◌, [], ◌∷�
 use Rattle.std.proofs.lemmas.Bool.{eqb-true}
 use Rattle.std.specs.Prelude.{◌==◌}
 use Rattle.std.specs.Str.{bytes_eq}
-use Rattle.text_definitions.specs.Faults.{is_among}
-use Rattle.text_definitions.specs.Syntax.{Args, no_args, and_arg}
+use Rattle.text_definitions.specs.Promised.Faults.{is_among}
+use Rattle.text_definitions.specs.Promised.Syntax.{Args, no_args, and_arg}
 use Rattle.text_definitions.specs.Uses.{args_count}
 
 pub among-first : (n : List ℕ) (xs ys : List (List ℕ)) → is_among n xs ≡ true → is_among n (xs ++ ys) ≡ true

@@ -1,8 +1,9 @@
 -- Small facts on the types of the code.
 use Rattle.std.proofs.Common.{List, ℕ, Option, ◌≡◌, [], None, refl, Some, Ok, length, ◌≤◌}
-use Rattle.text_definitions.specs.Declarations.{Declarations}
+use Rattle.text_definitions.specs.Promised.Declarations.{Declarations}
 use Rattle.text_definitions.specs.Faults.{variables_in}
-use Rattle.text_definitions.specs.Text.{TextGives, text_limit, fits}
+use Rattle.text_definitions.specs.Text.{TextGives, fits}
+use Rattle.text_definitions.specs.Promised.Text.{text_limit}
 use Rattle.text_definitions.specs.Uses.{lifetime_uses}
 
 pub optional-variables : (s : List (List (List ℕ))) (l : Option (List ℕ)) → variables_in (lifetime_uses s l) ≡ []

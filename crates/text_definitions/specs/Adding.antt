@@ -1,11 +1,13 @@
 -- What a line without a fault adds to the declarations.
 use Rattle.std.specs.Prelude.{ℕ, ◌-◌, if◌then◌else◌, false, true, Bool, List, [], ◌∷◌, ◌++◌, length, map}
-use Rattle.type_terms.specs.Label.{of_type, param, placeholder}
-use Rattle.type_terms.specs.Trees.{leaf}
-use Rattle.text_definitions.specs.Syntax.{Params, Bound, Clause, Types, Line, crate_line, struct_line, trait_line, impl_line, prove_line, refute_line, later_line, supers_line}
-use Rattle.text_definitions.specs.Declarations.{Declarations, NamedCrate, NamedStruct, NamedTrait, NamedImpl, of_later, of_supers, Question, known, kinds_of, names_of, sorted_names, last_crate, last_later, impl_owner}
+use Rattle.type_terms.specs.Promised.Label.{of_type, param, placeholder}
+use Rattle.type_terms.specs.Promised.Trees.{leaf}
+use Rattle.text_definitions.specs.Promised.Syntax.{Params, Bound, Clause, Types, Line, crate_line, struct_line, trait_line, impl_line, prove_line, refute_line, later_line, supers_line}
+use Rattle.text_definitions.specs.Promised.Declarations.{Declarations, NamedCrate, NamedStruct, NamedTrait, NamedImpl, of_later, of_supers, Question, known, kinds_of, names_of, last_crate, last_later, impl_owner}
+use Rattle.text_definitions.specs.Declarations.{sorted_names}
 use Rattle.text_definitions.specs.Uses.{asked_uses, params_of}
-use Rattle.text_definitions.specs.Faults.{with_own, variables_in, once}
+use Rattle.text_definitions.specs.Promised.Faults.{with_own}
+use Rattle.text_definitions.specs.Faults.{variables_in, once}
 use Rattle.text_definitions.specs.Lowering.{Meanings, crate_number, field_trees, with_self, clause_reference}
 
 -- what names stand for in an item's line, whose parameters count from `first`, and in a question's

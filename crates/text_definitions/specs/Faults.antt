@@ -1,38 +1,15 @@
 -- What can be wrong with a line that is written well, after the declarations of the lines before it: one test for each number.
-use Rattle.std.specs.Prelude.{ℕ, ◌+◌, ◌^◌, Bool, true, false, ◌||◌, ◌&&◌, not, List, [], ◌∷◌, ◌++◌, length, Option, Some, None, is_some, count_by, filter, nat_le, nat_lt, ◌==◌, if◌then◌else◌, codes}
+use Rattle.std.specs.Prelude.{ℕ, ◌^◌, Bool, true, false, ◌||◌, ◌&&◌, not, List, [], ◌∷◌, ◌++◌, length, Option, Some, None, is_some, count_by, filter, nat_le, nat_lt, ◌==◌, if◌then◌else◌, codes}
 use Rattle.std.specs.List.{list_any, flat_map}
 use Rattle.std.specs.Option.{option_map_or, option_and_then}
 use Rattle.std.specs.Str.{bytes_eq}
-use Rattle.type_terms.specs.Label.{Sort, of_type, of_const, of_lifetime}
-use Rattle.type_terms.specs.Trees.{is_sort}
-use Rattle.type_terms.specs.Worlds.{sees}
-use Rattle.type_terms.specs.Rules.{sized, tuple_trait, fn_ptr_trait, fn_once, fn_mut, fn_shared, unsize}
-use Rattle.text_definitions.specs.Syntax.{TypeTree, named, Params, Line, crate_line, struct_line, trait_line, impl_line, prove_line, refute_line, later_line, supers_line}
-use Rattle.text_definitions.specs.Declarations.{Declarations, NamedStruct, NamedTrait, world_of, Known, a_crate, a_struct, a_trait, known, kinds_of, names_of, last_crate, last_later, impl_owner}
+use Rattle.type_terms.specs.Promised.Label.{Sort, of_type, of_const, of_lifetime}
+use Rattle.type_terms.specs.Promised.Trees.{is_sort}
+use Rattle.type_terms.specs.Promised.Worlds.{sees}
+use Rattle.text_definitions.specs.Promised.Syntax.{TypeTree, named, Line, crate_line, struct_line, trait_line, impl_line, prove_line, refute_line, later_line, supers_line}
+use Rattle.text_definitions.specs.Promised.Declarations.{Declarations, world_of, Known, a_crate, a_struct, a_trait, known, kinds_of, names_of, last_later, impl_owner}
 use Rattle.text_definitions.specs.Uses.{ItemShape, bound_shape, lifetime_shape, Use, crate_use, name_use, trait_use, lifetime_use, binder_use, variable_use, misfit_use, dyn_use, items_use, number_use, uses, asked_uses, other_uses, header_uses, bound_uses, params_of, declared_name, types_count, line_depth}
-
--- ---- words
-abbrev pub is_among : List ℕ → List (List ℕ) → Bool
-is_among n ns = list_any (λ m. bytes_eq m n) ns
-
--- Some name occurs twice.
-abbrev pub repeats : List (List ℕ) → Bool
-repeats [] = false
-repeats (n ∷ ns) = is_among n ns || repeats ns
-
--- The declarations with the struct or trait of the line itself, whose name its own line knows. Its fields and bounds don't matter here.
-abbrev pub own_struct : Declarations → Bool → List ℕ → Params → NamedStruct
-own_struct d f n ps = record { text = n; kinds = kinds_of ps; item = record { name = length d.structs; home = last_crate d; is_fundamental = f; fields = [] } }
-
--- The trait of the line itself, without its bounds.
-abbrev pub own_trait : Declarations → Bool → Bool → List ℕ → Params → NamedTrait
-own_trait d f a n ps = record { text = n; kinds = kinds_of ps; item = record { name = length d.traits; home = last_crate d; is_fundamental = f; is_auto = a; bounds = [] } }
-
--- The declarations with the struct or trait of the line itself, which the line may name.
-abbrev pub with_own : Declarations → Line → Declarations
-with_own d (struct_line f n ps fs) = record d { structs = d.structs ++ own_struct d f n ps ∷ [] }
-with_own d (trait_line f a n ps bs) = record d { traits = d.traits ++ own_trait d f a n ps ∷ [] }
-with_own d l = d
+use Rattle.text_definitions.specs.Promised.Faults.{is_among, repeats, with_own, is_auto_name, built_in_traits, last_items}
 
 -- ---- 3: a struct, trait or impl before any crate; in a section of a later version, a struct or trait
 -- `later core`, then `impl Clone for str`, needs no crate before it
@@ -177,10 +154,6 @@ abbrev pub is_loaded_auto : Line → Bool
 is_loaded_auto (trait_line f a n ps bs) = a && not ((length (kinds_of ps) == 0) && (length bs == 0))
 is_loaded_auto _ = false
 
--- ---- 11: an impl of an auto trait whose self type isn't a struct of the impl's crate
-abbrev pub is_auto_name : Declarations → List ℕ → Bool
-is_auto_name d n = option_map_or (λ k. elim k [ a_crate i ↦ false | a_struct i h kinds ↦ false | a_trait i h a kinds ↦ a ]) (known d n) false
-
 abbrev pub is_struct_in : ℕ → Known → Bool
 is_struct_in c (a_struct i h kinds) = h == c
 is_struct_in c _ = false
@@ -192,10 +165,6 @@ is_own_struct d l _ = false
 abbrev pub is_foreign_auto : Declarations → Line → Bool
 is_foreign_auto d (impl_line ps h ks) = is_auto_name d h.bound.trait && not (is_own_struct d (impl_line ps h ks) h.subject)
 is_foreign_auto d _ = false
-
--- ---- 12: an impl of a trait that has built-in rules alone
-abbrev pub built_in_traits : List ℕ
-built_in_traits = sized ∷ tuple_trait ∷ fn_ptr_trait ∷ fn_once ∷ fn_mut ∷ fn_shared ∷ unsize ∷ []
 
 abbrev pub is_built_in : Known → Bool
 is_built_in (a_trait i h a kinds) = list_any (λ t. t == i) built_in_traits
@@ -310,10 +279,6 @@ passes_in _ = false
 abbrev pub once : List (List ℕ × Sort) → List (List ℕ × Sort)
 once [] = []
 once (v ∷ vs) = v ∷ filter (λ w. not (bytes_eq w.0 v.0)) (once vs)
-
--- structs, traits and impls of the last crate together
-abbrev pub last_items : Declarations → ℕ
-last_items d = count_by (λ s. s.item.home == last_crate d) d.structs + count_by (λ t. t.item.home == last_crate d) d.traits + count_by (λ i. i.item.home == last_crate d) d.impls
 
 -- there are as many already as there may be; `core` isn't counted, and a text may have any number of sections, and ask for supertraits any number of times
 abbrev pub is_full : Declarations → Line → Bool

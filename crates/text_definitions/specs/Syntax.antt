@@ -1,59 +1,8 @@
 -- What a line says, and the one way to write it: the grammar.
 use Rattle.std.specs.Prelude.{ℕ, Bool, true, false, List, [], ◌∷◌, ◌++◌, map, Option, Some, None, if◌then◌else◌}
-use Rattle.type_terms.specs.Label.{Label}
 use Rattle.text_definitions.specs.Words.{Sign, comma, open_angle, close_angle, exclamation, ampersand, star, open_square, close_square, semicolon, open_round, close_round, plus, colon, Keyword, crate_word, uses_word, fundamental_word, struct_word, auto_word, trait_word, impl_word, for_word, where_word, prove_word, refute_word, in_word, mut_word, const_word, fn_word, dyn_word, later_word, supers_word}
 use Rattle.text_definitions.specs.Tokens.{Token, keyword, primitive, name, lifetime, variable, number, sign, arrow}
-
--- ---- types
-
--- the length of an array: a number, a parameter's name, or a variable
-pub data Length : Type 0 where
-  number_length : ℕ → Length
-  name_length variable_length : List ℕ → Length
-
--- A type as it is written. Names are their bytes, and nothing is looked up here. What may be omitted is omitted in the tree too:
--- a lifetime, the output of a fn. A binder is the names between `for<` and `>`, or none. A name alone at an argument's place is
--- a type here, and so is a variable; they stand for a const where the declared parameter is one.
-mutual
-  pub data TypeTree : Type 0 where
-    of_primitive : Label → TypeTree
-    never_type : TypeTree
-    variable_type : List ℕ → TypeTree
-    named : List ℕ → Args → TypeTree
-    reference_to : (life : Option (List ℕ)) (is_mut : Bool) → TypeTree → TypeTree
-    pointer_to : (is_mut : Bool) → TypeTree → TypeTree
-    slice_of : TypeTree → TypeTree
-    array_of : TypeTree → Length → TypeTree
-    tuple_of : Types → TypeTree
-    fn_of : (binder : List (List ℕ)) → Types → TypeTree
-    fn_to : (binder : List (List ℕ)) → Types → TypeTree → TypeTree
-    dyn_of : Item → Items → TypeTree
-
-  -- A list of types.
-  pub data Types : Type 0 where
-    no_types : Types
-    and_type : TypeTree → Types → Types
-
-  -- the arguments between `<` and `>`; none: there are no such signs
-  pub data Args : Type 0 where
-    no_args : Args
-    and_arg : Arg → Args → Args
-
-  -- An argument: a lifetime, a number, or a type.
-  pub data Arg : Type 0 where
-    lifetime_arg : List ℕ → Arg
-    number_arg : ℕ → Arg
-    type_arg : TypeTree → Arg
-
-  -- A bound of a `dyn`: a trait with its arguments, perhaps under `for<..>`, or a lifetime.
-  pub data Item : Type 0 where
-    bound_item : (binder : List (List ℕ)) (name : List ℕ) → Args → Item
-    lifetime_item : List ℕ → Item
-
-  -- The bounds of a `dyn` after its first.
-  pub data Items : Type 0 where
-    no_items : Items
-    and_item : Item → Items → Items
+use Rattle.text_definitions.specs.Promised.Syntax.{Length, number_length, name_length, variable_length, TypeTree, of_primitive, never_type, variable_type, named, reference_to, pointer_to, slice_of, array_of, tuple_of, fn_of, fn_to, dyn_of, Types, no_types, and_type, Args, no_args, and_arg, Arg, lifetime_arg, number_arg, type_arg, Item, bound_item, lifetime_item, Items, no_items, and_item, Params, Bound, Clause, Line, crate_line, struct_line, trait_line, impl_line, prove_line, refute_line, later_line, supers_line}
 
 -- lifetimes behind commas
 abbrev pub more_lifetimes : List (List ℕ) → List Token
@@ -147,37 +96,8 @@ abbrev mutual
   more_items no_items = []
   more_items (and_item i is) = sign plus ∷ (item_spelling i ++ more_items is)
 
--- ---- parts of lines
-
--- parameters in their order; another order has no tree
-pub record Params : Type 0 where
-  pub lifetimes : List (List ℕ)
-  pub types : List (List ℕ)
-  pub consts : List (List ℕ)
-
 abbrev pub no_params : Params
 no_params = record { lifetimes = []; types = []; consts = [] }
-
--- A trait with its arguments.
-pub record Bound : Type 0 where
-  pub trait : List ℕ
-  pub args : Args
-
--- `type: bound`
-pub record Clause : Type 0 where
-  pub subject : TypeTree
-  pub bound : Bound
-
--- A line that declares or asks something, with its parts as they are written.
-pub data Line : Type 0 where
-  crate_line : (name : List ℕ) (uses : List (List ℕ)) → Line
-  struct_line : (is_fundamental : Bool) (name : List ℕ) (params : Params) (fields : Types) → Line
-  trait_line : (is_fundamental is_auto : Bool) (name : List ℕ) (params : Params) (bounds : List Bound) → Line
-  impl_line : (params : Params) (header : Clause) (clauses : List Clause) → Line
-  prove_line : (asker : List ℕ) (params : Params) (asked : Clause) (clauses : List Clause) → Line
-  refute_line : (asker : List ℕ) (params : Params) (asked : Clause) → Line
-  later_line : (changed : List ℕ) → Line
-  supers_line : (asked : List ℕ) → Line
 
 -- each name behind a comma
 abbrev pub more_names : List (List ℕ) → List Token

@@ -1,9 +1,9 @@
 -- What a line uses: names, lifetimes, variables and lists, each with what has to be known to judge it, from left to right.
 use Rattle.std.specs.Prelude.{ℕ, suc, max, Bool, true, false, List, [], ◌∷◌, ◌++◌, map, Option, Some, None}
 use Rattle.std.specs.List.{flat_map}
-use Rattle.type_terms.specs.Label.{Sort, of_type, of_const, of_lifetime}
-use Rattle.text_definitions.specs.Syntax.{TypeTree, of_primitive, never_type, variable_type, named, reference_to, pointer_to, slice_of, array_of, tuple_of, fn_of, fn_to, dyn_of, Types, no_types, and_type, Args, no_args, and_arg, Arg, lifetime_arg, number_arg, type_arg, Item, bound_item, lifetime_item, Items, no_items, and_item, Length, number_length, name_length, variable_length, Params, Bound, Clause, Line, crate_line, struct_line, trait_line, impl_line, prove_line, refute_line, later_line, supers_line}
-use Rattle.text_definitions.specs.Declarations.{Declarations, Known, a_struct, a_trait, known}
+use Rattle.type_terms.specs.Promised.Label.{Sort, of_type, of_const, of_lifetime}
+use Rattle.text_definitions.specs.Promised.Syntax.{TypeTree, of_primitive, never_type, variable_type, named, reference_to, pointer_to, slice_of, array_of, tuple_of, fn_of, fn_to, dyn_of, Types, no_types, and_type, Args, no_args, and_arg, Arg, lifetime_arg, number_arg, type_arg, Item, bound_item, lifetime_item, Items, no_items, and_item, Length, number_length, name_length, variable_length, Params, Bound, Clause, Line, crate_line, struct_line, trait_line, impl_line, prove_line, refute_line, later_line, supers_line}
+use Rattle.text_definitions.specs.Promised.Declarations.{Declarations, Known, a_struct, a_trait, known}
 
 -- an item of a `dyn`
 pub data ItemShape : Type 0 where

@@ -1,17 +1,19 @@
 -- Worked texts: what the definitions compute of them. Each stands on the contract of a function of src/.
 use Rattle.std.specs.Prelude.{map, filter, not, take, ◌++◌, ◌≡◌, ℕ, zero, suc, Bool, true, false, List, [], ◌∷◌, drop, length, Option, Some, None, Result, Ok, Err, codes}
-use Rattle.type_terms.specs.Label.{Label, of_type, of_const, of_lifetime, bool, uint, adt, array, slice, dynamic, principal, auto_trait, static, value, fn_ptr, tuple, ref, param, infer, bound, str}
-use Rattle.type_terms.specs.Trees.{Trees, none, tree, leaf}
-use Rattle.type_terms.specs.Worlds.{Reference, StructDecl, TraitDecl, ImplDecl}
-use Rattle.text_definitions.specs.Syntax.{TypeTree, of_primitive, variable_type, named, reference_to, pointer_to, slice_of, array_of, fn_of, fn_to, dyn_of, no_types, and_type, Args, no_args, and_arg, lifetime_arg, number_arg, type_arg, bound_item, lifetime_item, no_items, and_item, number_length, name_length, never_type, Params, no_params, Bound, Clause, Line, crate_line, struct_line, trait_line, impl_line, prove_line, refute_line, later_line, supers_line}
+use Rattle.type_terms.specs.Promised.Label.{Label, of_type, of_const, of_lifetime, bool, uint, adt, array, slice, dynamic, principal, auto_trait, static, value, fn_ptr, tuple, ref, param, infer, bound, str}
+use Rattle.type_terms.specs.Promised.Trees.{Trees, none, tree, leaf}
+use Rattle.type_terms.specs.Promised.Worlds.{Reference, StructDecl, TraitDecl, ImplDecl}
+use Rattle.text_definitions.specs.Promised.Syntax.{TypeTree, of_primitive, variable_type, named, reference_to, pointer_to, slice_of, array_of, fn_of, fn_to, dyn_of, no_types, and_type, Args, no_args, and_arg, lifetime_arg, number_arg, type_arg, bound_item, lifetime_item, no_items, and_item, number_length, name_length, never_type, Params, Bound, Clause, Line, crate_line, struct_line, trait_line, impl_line, prove_line, refute_line, later_line, supers_line}
+use Rattle.text_definitions.specs.Syntax.{no_params}
 use Rattle.text_definitions.specs.Written.{IsWritten}
-use Rattle.text_definitions.specs.Declarations.{Declarations, Check, of_later, of_supers, Question, world_of, nothing_declared}
+use Rattle.text_definitions.specs.Promised.Declarations.{Declarations, Check, of_later, of_supers, Question, world_of}
+use Rattle.text_definitions.specs.Declarations.{nothing_declared}
 use Rattle.text_definitions.specs.Faults.{fault_of}
 use Rattle.text_definitions.specs.Adding.{added}
 use Rattle.text_definitions.specs.Text.{TextGives}
-use Rattle.type_terms.specs.Walks.{keeps_orphan_rule}
-use Rattle.type_terms.specs.Erased.{erased_world}
-use Rattle.type_terms.specs.Core.{core_world}
+use Rattle.type_terms.specs.Promised.Walks.{keeps_orphan_rule}
+use Rattle.type_terms.specs.Promised.Erased.{erased_world}
+use Rattle.type_terms.specs.Promised.Core.{core_world}
 use Rattle.text_definitions.specs.Words.{primitives}
 use Rattle.text_definitions.specs.Output.{Names, type_text, values_text}
 use Rattle.text_definitions.specs.Names.{answer_values, with_free}

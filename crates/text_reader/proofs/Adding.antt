@@ -1,6 +1,6 @@
 -- What the tables add is what the line that was read adds.
 use Rattle.std.proofs.Common.{◌≡◌, ℕ, Bool, List, map, Some, None, sym, ap, ◌∙◌}
-use Rattle.text_definitions.specs.Declarations.{Declarations, known}
+use Rattle.text_definitions.specs.Promised.Declarations.{Declarations, known}
 use Rattle.line_reader.proofs.NoFault.{declares-new}
 use Rattle.line_reader.specs.Says.{name_said}
 use Rattle.line_reader.specs.Statement.{Param, Statement, struct_statement, trait_statement, impl_statement}

@@ -3,8 +3,10 @@ use Rattle.std.proofs.Common.{◌≡◌, ℕ, suc, ◌+◌, ◌≤◌, Bool, tru
 use Rattle.std.specs.Borrow.{Bor}
 use Rattle.std.specs.Prelude.{is_some}
 use Rattle.std.proofs.lemmas.Bool.{cases_Bool}
-use Rattle.text_definitions.specs.Declarations.{Declarations, nothing_declared}
-use Rattle.text_definitions.specs.Text.{LineGives, LinesGive, ends, fails, goes_on, TextGives, fits, lines_of, onto_line, text_limit}
+use Rattle.text_definitions.specs.Promised.Declarations.{Declarations}
+use Rattle.text_definitions.specs.Declarations.{nothing_declared}
+use Rattle.text_definitions.specs.Text.{LineGives, LinesGive, ends, fails, goes_on, TextGives, fits, lines_of, onto_line}
+use Rattle.text_definitions.specs.Promised.Text.{text_limit}
 use Rattle.workspace.specs.Numbered.{IsFew}
 use Rattle.text_reader.specs.Behind.{IsOneLine, behind, FitsBehind}
 use Rattle.text_reader.specs.Lines.{lines_behind}

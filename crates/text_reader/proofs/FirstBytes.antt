@@ -1,8 +1,9 @@
 -- What a text gives is known from its first 1,048,577 bytes.
 use Rattle.std.proofs.Common.{◌≡◌, ℕ, ◌+◌, ◌≤◌, ◌==◌, List, length, take, Result, Err, sym, ap, subst, length-take, arith, count_by, lit≤}
 use Rattle.std.proofs.lemmas.List.{take_all, take-take}
-use Rattle.text_definitions.specs.Declarations.{Declarations}
-use Rattle.text_definitions.specs.Text.{TextGives, too_long, fits, long_line}
+use Rattle.text_definitions.specs.Promised.Declarations.{Declarations}
+use Rattle.text_definitions.specs.Text.{TextGives, too_long, fits}
+use Rattle.text_definitions.specs.Promised.Text.{long_line}
 
 ends-in : (m n : ℕ) (bytes : List ℕ) → m ≤ n → count_by (λ b. b == 10) (take m (take n bytes)) + 1 ≡ count_by (λ b. b == 10) (take m bytes) + 1
 ends-in m n bytes h = ap (λ (bs : List ℕ). count_by (λ b. b == 10) bs + 1) (take-take m n bytes h)

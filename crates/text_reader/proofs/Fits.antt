@@ -6,12 +6,13 @@ use Rattle.std.specs.Option.{option_map, option_map_or, option_or}
 use Rattle.std.specs.Str.{bytes_eq}
 use Rattle.std.proofs.lemmas.Bool.Decides.{nat_tests}
 use Rattle.std.proofs.lemmas.Option.{slice_get_within}
-use Rattle.type_terms.specs.Label.{of_type, of_const, of_lifetime}
+use Rattle.type_terms.specs.Promised.Label.{of_type, of_const, of_lifetime}
 use Rattle.type_terms.specs.declared.TheConstants.{MAX_INDEX}
-use Rattle.text_definitions.specs.Syntax.{Clause, Line, crate_line, struct_line, trait_line, impl_line, prove_line, refute_line, later_line, supers_line}
-use Rattle.text_definitions.specs.Declarations.{Declarations, NamedCrate, NamedStruct, NamedTrait, Known, a_crate, a_struct, a_trait, known, crate_known, struct_known, trait_known}
+use Rattle.text_definitions.specs.Promised.Syntax.{Clause, Line, crate_line, struct_line, trait_line, impl_line, prove_line, refute_line, later_line, supers_line}
+use Rattle.text_definitions.specs.Promised.Declarations.{Declarations, NamedCrate, NamedStruct, NamedTrait, Known, a_crate, a_struct, a_trait, known, crate_known, struct_known, trait_known}
 use Rattle.text_definitions.specs.Uses.{Use, crate_use, name_use, trait_use, lifetime_use, binder_use, variable_use, misfit_use, dyn_use, items_use, number_use, type_uses, bound_uses, clause_uses, uses, params_of}
-use Rattle.text_definitions.specs.Faults.{fault_of, with_own, own_struct, own_trait, is_among, is_type_of, is_bad_dyn}
+use Rattle.text_definitions.specs.Faults.{fault_of, is_type_of, is_bad_dyn}
+use Rattle.text_definitions.specs.Promised.Faults.{with_own, own_struct, own_trait, is_among}
 use Rattle.text_definitions.specs.Lowering.{Meanings}
 use Rattle.line_reader.specs.Faultless.{UseFits, UsesFit}
 use Rattle.line_reader.proofs.FittingUses.{faultless-uses}

@@ -3,9 +3,9 @@ use Rattle.std.proofs.Common.{◌≡◌, ℕ, suc, ◌+◌, ◌<◌, ◌≤◌, 
 use Rattle.std.specs.Prelude.{reverse}
 use Rattle.std.specs.List.{list_all}
 use Rattle.std.specs.Option.{option_map, option_and_then}
-use Rattle.type_terms.specs.Trees.{Trees}
+use Rattle.type_terms.specs.Promised.Trees.{Trees}
 use Rattle.text_definitions.specs.Lowering.{Meanings}
-use Rattle.type_terms.specs.Label.{Label, auto_trait}
+use Rattle.type_terms.specs.Promised.Label.{Label, auto_trait}
 use Rattle.name_resolution.specs.Resolved.{ResolvedCell, node_cell, param_cell, variable_cell, lifetime_cell, reference_cell}
 use Rattle.name_resolution.specs.Views.{resolved_in}
 use Rattle.name_resolution.specs.declared.resolved.ResolvedCell as code

@@ -4,17 +4,18 @@ use Rattle.std.proofs.lemmas.List.{length-take, length-map, take_all}
 use Rattle.std.proofs.lemmas.Option.{same_Some}
 use Rattle.std.specs.List.{flat_map}
 use Rattle.std.specs.Prelude.{slice_get}
-use Rattle.type_terms.specs.Label.{of_type, of_const, of_lifetime, param}
-use Rattle.type_terms.specs.Trees.{Trees, leaf, ◌+++◌}
-use Rattle.type_terms.specs.Worlds.{Reference}
+use Rattle.type_terms.specs.Promised.Label.{of_type, of_const, of_lifetime, param}
+use Rattle.type_terms.specs.Promised.Trees.{Trees, leaf, ◌+++◌}
+use Rattle.type_terms.specs.Promised.Worlds.{Reference}
 use Rattle.type_terms.specs.declared.TheConstants.{MAX_INDEX}
 use Rattle.line_reader.specs.TokenViews.{primitive_label}
 use Rattle.line_reader.specs.declared.token.Primitive.{Primitive}
 use Rattle.line_reader.specs.declared.token.Primitive.TheVariants as primitives
-use Rattle.text_definitions.specs.Syntax.{TypeTree, named, Types, no_types, and_type, Params, Bound, Clause, Line}
-use Rattle.text_definitions.specs.Declarations.{known, kinds_of}
+use Rattle.text_definitions.specs.Promised.Syntax.{TypeTree, named, Types, no_types, and_type, Params, Bound, Clause, Line}
+use Rattle.text_definitions.specs.Promised.Declarations.{known, kinds_of}
 use Rattle.text_definitions.specs.Uses.{type_uses, types_uses, bound_uses, params_of, kinds_of_trait}
-use Rattle.text_definitions.specs.Faults.{with_own, variable_limit}
+use Rattle.text_definitions.specs.Promised.Faults.{with_own}
+use Rattle.text_definitions.specs.Faults.{variable_limit}
 use Rattle.text_definitions.specs.Lowering.{Meanings, trait_number, type_tree, field_trees, args_trees, clause_reference}
 use Rattle.line_reader.specs.Faultless.{UsesFit}
 use Rattle.line_reader.specs.Cells as cell

@@ -3,12 +3,13 @@ use Rattle.std.proofs.Common.{◌≡◌, ℕ, ◌≤◌, Bool, true, false, List
 use Rattle.std.specs.List.{flat_map}
 use Rattle.std.specs.Prelude.{min}
 use Rattle.std.proofs.lemmas.List.{length-map}
-use Rattle.type_terms.specs.Label.{Label, Sort, of_type, param, placeholder}
-use Rattle.type_terms.specs.Trees.{leaf}
-use Rattle.text_definitions.specs.Syntax.{Params, Clause, Line, struct_line, trait_line, impl_line, prove_line, refute_line}
-use Rattle.text_definitions.specs.Declarations.{Declarations, kinds_of}
+use Rattle.type_terms.specs.Promised.Label.{Label, Sort, of_type, param, placeholder}
+use Rattle.type_terms.specs.Promised.Trees.{leaf}
+use Rattle.text_definitions.specs.Promised.Syntax.{Params, Clause, Line, struct_line, trait_line, impl_line, prove_line, refute_line}
+use Rattle.text_definitions.specs.Promised.Declarations.{Declarations, kinds_of}
 use Rattle.text_definitions.specs.Uses.{asked_uses, params_of}
-use Rattle.text_definitions.specs.Faults.{with_own, fault_of, variables_in, once, param_limit}
+use Rattle.text_definitions.specs.Promised.Faults.{with_own}
+use Rattle.text_definitions.specs.Faults.{fault_of, variables_in, once, param_limit}
 use Rattle.text_definitions.specs.Lowering.{Meanings, field_trees, clause_reference, with_self}
 use Rattle.text_definitions.specs.Adding.{item_meanings, question_meanings}
 use Rattle.line_reader.proofs.FittingUses.{faultless-limits}

@@ -1,8 +1,8 @@
 -- The parameters of a line from its list of parameters.
 use Rattle.std.proofs.Common.{◌≡◌, ℕ, List, [], ◌∷◌, ◌++◌, map, refl, ap, ◌∙◌, sym}
-use Rattle.type_terms.specs.Label.{of_type, of_const, of_lifetime}
-use Rattle.text_definitions.specs.Syntax.{Params, Line, crate_line, struct_line, trait_line, impl_line, prove_line, refute_line, later_line, supers_line}
-use Rattle.text_definitions.specs.Declarations.{kinds_of}
+use Rattle.type_terms.specs.Promised.Label.{of_type, of_const, of_lifetime}
+use Rattle.text_definitions.specs.Promised.Syntax.{Params, Line, crate_line, struct_line, trait_line, impl_line, prove_line, refute_line, later_line, supers_line}
+use Rattle.text_definitions.specs.Promised.Declarations.{kinds_of}
 use Rattle.text_definitions.specs.Uses.{params_of}
 use Rattle.line_reader.specs.Statement.{Param, lifetime_param, type_param, const_param, param_list, Statement, crate_statement, struct_statement, trait_statement, impl_statement, prove_statement, refute_statement, later_statement, supers_statement, line_statement}
 use Rattle.line_reader.specs.Says.{params_said}

@@ -2,12 +2,12 @@
 use Rattle.std.proofs.Common.{◌≡◌, ℕ, Bool, true, false, List, [], ◌∷◌, ◌++◌, Option, Some, None, refl, sym, ap, ◌∙◌}
 use Rattle.std.proofs.lemmas.List.Folds.{find-append}
 use Rattle.std.specs.Prelude.{if◌then◌else◌, find, length}
-use Rattle.type_terms.specs.Label.{Sort}
-use Rattle.text_definitions.specs.Syntax.{Params}
-use Rattle.text_definitions.specs.Faults.{own_struct, own_trait}
+use Rattle.type_terms.specs.Promised.Label.{Sort}
+use Rattle.text_definitions.specs.Promised.Syntax.{Params}
+use Rattle.text_definitions.specs.Promised.Faults.{own_struct, own_trait}
 use Rattle.std.specs.Option.{option_map, option_or}
 use Rattle.std.specs.Str.{bytes_eq}
-use Rattle.text_definitions.specs.Declarations.{Declarations, NamedCrate, NamedStruct, NamedTrait, Known, a_crate, a_struct, a_trait, known, kinds_of, last_crate}
+use Rattle.text_definitions.specs.Promised.Declarations.{Declarations, NamedCrate, NamedStruct, NamedTrait, Known, a_crate, a_struct, a_trait, known, kinds_of, last_crate}
 use Rattle.text_reader.specs.OwnItems.{known_with_struct, known_with_trait}
 
 own : {A : Type 0} → Bool → A → Option A

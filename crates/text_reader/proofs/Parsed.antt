@@ -1,6 +1,6 @@
 -- What is read of a text is what it gives, since a text gives one thing.
 use Rattle.std.proofs.Common.{◌≡◌, ℕ, List, Result, Ok, Err, refl, subst}
-use Rattle.text_definitions.specs.Declarations.{Declarations}
+use Rattle.text_definitions.specs.Promised.Declarations.{Declarations}
 use Rattle.text_definitions.specs.Text.{TextGives}
 use Rattle.line_reader.proofs.Outcome.{one_outcome}
 use Rattle.name_resolution.specs.FaultNumbers.{fault_number}

@@ -1,7 +1,7 @@
 -- The primitive types among the cells of a line are such.
 use Rattle.std.proofs.Common.{ℕ, List, [], ◌∷◌, ◌++◌, length}
-use Rattle.type_terms.specs.Label.{Label, bool, char, str, int, uint}
-use Rattle.text_definitions.specs.Syntax.{TypeTree, of_primitive, never_type, variable_type, named, reference_to, pointer_to, slice_of, array_of, tuple_of, fn_of, fn_to, dyn_of, Types, no_types, and_type, Args, no_args, and_arg, Arg, lifetime_arg, number_arg, type_arg, Item, bound_item, lifetime_item, Items, no_items, and_item}
+use Rattle.type_terms.specs.Promised.Label.{Label, bool, char, str, int, uint}
+use Rattle.text_definitions.specs.Promised.Syntax.{TypeTree, of_primitive, never_type, variable_type, named, reference_to, pointer_to, slice_of, array_of, tuple_of, fn_of, fn_to, dyn_of, Types, no_types, and_type, Args, no_args, and_arg, Arg, lifetime_arg, number_arg, type_arg, Item, bound_item, lifetime_item, Items, no_items, and_item}
 use Rattle.line_reader.specs.Cells.{Cell, primitive_cell, never_cell, slice_cell, variable_cell, lifetime_cell, number_cell, named_cell, reference_cell, pointer_cell, array_cell, tuple_cell, dyn_cell, fn_cell, fn_to_cell, bound_cell, binder_onto, binder_cell, type_onto, types_onto, args_onto, arg_onto, item_onto, items_onto}
 
 abbrev pub IsPrimitive : Label → Type 0

@@ -1,7 +1,7 @@
 -- What a line is that is asked behind the lines of a text.
 use Rattle.std.proofs.Common.{◌≡◌, ℕ, List, None, Some, Ok, Err, IfOk, Result, refl, sym, ap, subst}
-use Rattle.text_definitions.specs.Syntax.{Line, prove_line, refute_line}
-use Rattle.text_definitions.specs.Declarations.{Declarations, Question}
+use Rattle.text_definitions.specs.Promised.Syntax.{Line, prove_line, refute_line}
+use Rattle.text_definitions.specs.Promised.Declarations.{Declarations, Question}
 use Rattle.text_definitions.specs.Adding.{added}
 use Rattle.text_definitions.specs.Text.{adds}
 use Rattle.line_reader.specs.Statement.{Param}

@@ -1,8 +1,8 @@
 -- An impl belongs to a crate that is there, in a section or not.
 use Rattle.std.proofs.Common.{◌≡◌, ℕ, zero, suc, ◌-◌, ◌<◌, Bool, true, false, if◌then◌else◌, List, [], ◌∷◌, length, refl, arith}
 use Rattle.std.specs.Prelude.{slice_get, unwrap_or}
-use Rattle.type_terms.specs.Worlds.{core}
-use Rattle.text_definitions.specs.Declarations.{Declarations, last_crate, last_changed, impl_owner}
+use Rattle.type_terms.specs.Promised.Worlds.{core}
+use Rattle.text_definitions.specs.Promised.Declarations.{Declarations, last_crate, last_changed, impl_owner}
 use Rattle.workspace.specs.Numbered.{EachNumbered, IsNumbered}
 
 small-there : (cs : List ℕ) (n k : ℕ) → EachNumbered (λ i c. c < n) cs → k < length cs → unwrap_or (slice_get cs k) core < n

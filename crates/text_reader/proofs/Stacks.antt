@@ -2,8 +2,8 @@
 use Rattle.std.proofs.Common.{◌≡◌, ℕ, suc, ◌+◌, ◌≤◌, Bool, true, false, List, [], ◌∷◌, length, Option, Some, None, refl, ap, ◌∙◌, arith}
 use Rattle.std.specs.Prelude.{◌==◌, nat_lt, if◌then◌else◌}
 use Rattle.std.proofs.lemmas.Bool.Decides.{nat_tests}
-use Rattle.type_terms.specs.Label.{Sort, of_type, of_const, of_lifetime}
-use Rattle.text_definitions.specs.Syntax.{Types, no_types, and_type, Args, no_args, and_arg, Arg, lifetime_arg, number_arg, type_arg}
+use Rattle.type_terms.specs.Promised.Label.{Sort, of_type, of_const, of_lifetime}
+use Rattle.text_definitions.specs.Promised.Syntax.{Types, no_types, and_type, Args, no_args, and_arg, Arg, lifetime_arg, number_arg, type_arg}
 use Rattle.text_definitions.specs.Uses.{types_count, args_count, next_kind, other_kinds}
 use Rattle.text_definitions.specs.Lowering.{inserted}
 use Rattle.workspace.specs.Made.{StackPart, type_part, const_part, lifetime_part, auto_part, is_type, is_arg, is_below, off, off_autos}

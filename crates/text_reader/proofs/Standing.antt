@@ -2,9 +2,9 @@
 use Rattle.std.proofs.Common.{◌≡◌, ℕ, zero, suc, ◌+◌, true, List, [], ◌∷◌, ◌++◌, map, refl, sym, ap, ◌∙◌, append_assoc, append-nil}
 use Rattle.std.proofs.lemmas.List.{reverse-reverse}
 use Rattle.std.specs.Prelude.{reverse}
-use Rattle.type_terms.specs.Label.{Sort}
-use Rattle.type_terms.specs.Trees.{Trees, none, tree, leaf, ◌+++◌}
-use Rattle.text_definitions.specs.Syntax.{Args, no_args, and_arg, Arg, lifetime_arg, number_arg, type_arg}
+use Rattle.type_terms.specs.Promised.Label.{Sort}
+use Rattle.type_terms.specs.Promised.Trees.{Trees, none, tree, leaf, ◌+++◌}
+use Rattle.text_definitions.specs.Promised.Syntax.{Args, no_args, and_arg, Arg, lifetime_arg, number_arg, type_arg}
 use Rattle.text_definitions.specs.Uses.{next_kind, other_kinds}
 use Rattle.text_definitions.specs.Lowering.{Meanings, arg_tree, args_trees}
 use Rattle.name_resolution.specs.Resolved.{ResolvedCell, node_cell, param_cell, variable_cell, lifetime_cell, reference_cell, args_before, arg_before}

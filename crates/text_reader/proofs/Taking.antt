@@ -4,10 +4,12 @@ use Rattle.std.specs.Prelude.{nat_lt}
 use Rattle.std.specs.Option.{option_map}
 use Rattle.std.proofs.lemmas.Bool.{cases_Bool, ltb-true, ltb-false}
 use Rattle.std.proofs.lemmas.List.{length-map}
-use Rattle.text_definitions.specs.Syntax.{Line, crate_line, struct_line, trait_line, impl_line, prove_line, refute_line, later_line, supers_line}
-use Rattle.text_definitions.specs.Declarations.{Declarations, NamedImpl, nothing_declared}
+use Rattle.text_definitions.specs.Promised.Syntax.{Line, crate_line, struct_line, trait_line, impl_line, prove_line, refute_line, later_line, supers_line}
+use Rattle.text_definitions.specs.Promised.Declarations.{Declarations, NamedImpl}
+use Rattle.text_definitions.specs.Declarations.{nothing_declared}
 use Rattle.text_definitions.specs.Adding.{added, with_impl, impl_of, item_meanings}
-use Rattle.text_definitions.specs.Text.{LineGives, other_byte, blank, unwritten, faulty, adds, lines_of, text_limit, long_line, TextGives, too_long, fits}
+use Rattle.text_definitions.specs.Text.{LineGives, other_byte, blank, unwritten, faulty, adds, lines_of, TextGives, too_long, fits}
+use Rattle.text_definitions.specs.Promised.Text.{text_limit, long_line}
 use Rattle.line_reader.specs.TypeViews.{cell_of}
 use Rattle.workspace.specs.Numbered.{IsFew}
 use Rattle.line_reader.specs.declared.statement.LineRead.{LineRead}

@@ -4,13 +4,14 @@ use Rattle.std.specs.Prelude.{not, ◌||◌, ◌==◌, nat_lt, if◌then◌else�
 use Rattle.std.specs.List.{list_any}
 use Rattle.std.specs.Option.{option_and_then}
 use Rattle.std.specs.Str.{bytes_eq}
-use Rattle.type_terms.specs.Label.{Label, bool, char, str, int, uint, Sort, of_type, of_const, of_lifetime, array, slice, tuple, dynamic, fn_ptr, raw_pointer, principal}
-use Rattle.type_terms.specs.Trees.{is_sort}
+use Rattle.type_terms.specs.Promised.Label.{Label, bool, char, str, int, uint, Sort, of_type, of_const, of_lifetime, array, slice, tuple, dynamic, fn_ptr, raw_pointer, principal}
+use Rattle.type_terms.specs.Promised.Trees.{is_sort}
 use Rattle.type_terms.specs.declared.TheConstants.{MAX_INDEX}
-use Rattle.text_definitions.specs.Syntax.{TypeTree, of_primitive, never_type, variable_type, named, reference_to, pointer_to, slice_of, array_of, tuple_of, fn_of, fn_to, dyn_of, Types, no_types, and_type, Args, no_args, and_arg, Arg, lifetime_arg, number_arg, type_arg, Item, bound_item, lifetime_item, Items, no_items, and_item, Length, number_length, name_length, variable_length}
-use Rattle.text_definitions.specs.Declarations.{Declarations, Known, a_crate, a_struct, a_trait, known}
+use Rattle.text_definitions.specs.Promised.Syntax.{TypeTree, of_primitive, never_type, variable_type, named, reference_to, pointer_to, slice_of, array_of, tuple_of, fn_of, fn_to, dyn_of, Types, no_types, and_type, Args, no_args, and_arg, Arg, lifetime_arg, number_arg, type_arg, Item, bound_item, lifetime_item, Items, no_items, and_item, Length, number_length, name_length, variable_length}
+use Rattle.text_definitions.specs.Promised.Declarations.{Declarations, Known, a_crate, a_struct, a_trait, known}
 use Rattle.text_definitions.specs.Uses.{Use, items_use, trait_use, next_kind, other_kinds, kinds_of_struct, kinds_of_trait, types_count, args_count, lifetime_uses, length_uses, binder_uses, item_shape, item_shapes, type_uses, types_uses, args_uses, arg_uses, item_uses, items_uses}
-use Rattle.text_definitions.specs.Faults.{is_among, is_auto_name, is_bound, is_late, binds_auto, has_early_lifetime, static_name}
+use Rattle.text_definitions.specs.Promised.Faults.{is_among, is_auto_name}
+use Rattle.text_definitions.specs.Faults.{is_bound, is_late, binds_auto, has_early_lifetime, static_name}
 use Rattle.text_definitions.specs.Lowering.{Meanings, place_among, trait_number, struct_label, inserted, with_auto, autos}
 use Rattle.name_resolution.specs.Resolved.{Region, bound_region, ResolvedCell, node_cell, param_cell, lifetime_cell, reference_cell, region_under, region_of, optional_region, named_cell, length_cell, autos_before, principals_count, principals, item_region, last_region, dyn_before, type_before, types_before, args_before, arg_before, item_before, items_before}
 use Rattle.name_resolution.specs.Standing.{first_of_sort}

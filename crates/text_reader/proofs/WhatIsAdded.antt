@@ -1,10 +1,11 @@
 -- Parts that stand for those of a line are the parts of that line.
 use Rattle.std.proofs.Common.{◌≡◌, ℕ, Bool, true, false, List, [], ◌∷◌, ◌++◌, map, refl, sym, ap, ◌∙◌, subst}
-use Rattle.type_terms.specs.Label.{Sort, of_type, of_const, of_lifetime}
-use Rattle.type_terms.specs.Trees.{Trees}
-use Rattle.type_terms.specs.Worlds.{Reference}
-use Rattle.text_definitions.specs.Syntax.{Params, Line, crate_line, struct_line, trait_line, impl_line, prove_line, refute_line, later_line, supers_line}
-use Rattle.text_definitions.specs.Declarations.{Declarations, Question, Variable, known, names_of, with_sort, sorted_names}
+use Rattle.type_terms.specs.Promised.Label.{Sort, of_type, of_const, of_lifetime}
+use Rattle.type_terms.specs.Promised.Trees.{Trees}
+use Rattle.type_terms.specs.Promised.Worlds.{Reference}
+use Rattle.text_definitions.specs.Promised.Syntax.{Params, Line, crate_line, struct_line, trait_line, impl_line, prove_line, refute_line, later_line, supers_line}
+use Rattle.text_definitions.specs.Promised.Declarations.{Declarations, Question, Variable, known, names_of}
+use Rattle.text_definitions.specs.Declarations.{with_sort, sorted_names}
 use Rattle.text_definitions.specs.Lowering.{crate_number}
 use Rattle.text_definitions.specs.Adding.{question_meanings, question_of}
 use Rattle.line_reader.specs.Statement.{Param, lifetime_param, type_param, const_param, param_list, Statement, struct_statement, trait_statement, impl_statement, line_statement}

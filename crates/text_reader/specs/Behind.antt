@@ -1,7 +1,8 @@
 -- A text with one more line behind it.
 use Rattle.std.specs.Prelude.{◌≡◌, ℕ, ◌+◌, ◌≤◌, List, [], ◌∷◌, ◌++◌, length, Ok, Err}
-use Rattle.text_definitions.specs.Declarations.{Declarations}
-use Rattle.text_definitions.specs.Text.{LineGives, TextGives, lines_of, text_limit}
+use Rattle.text_definitions.specs.Promised.Declarations.{Declarations}
+use Rattle.text_definitions.specs.Text.{LineGives, TextGives, lines_of}
+use Rattle.text_definitions.specs.Promised.Text.{text_limit}
 use Rattle.workspace.specs.Numbered.{IsFew}
 
 -- no byte ends it

@@ -1,8 +1,8 @@
 -- A line that was read, after the declarations of the lines before it. It is judged by the declarations, and added if it has no fault.
 use Rattle.std.specs.Prelude.{◌≡◌, None, Option}
 use Rattle.std.specs.Option.{option_map}
-use Rattle.text_definitions.specs.Syntax.{Line}
-use Rattle.text_definitions.specs.Declarations.{Declarations}
+use Rattle.text_definitions.specs.Promised.Syntax.{Line}
+use Rattle.text_definitions.specs.Promised.Declarations.{Declarations}
 use Rattle.text_definitions.specs.Faults.{fault_of}
 use Rattle.text_definitions.specs.Adding.{added}
 use Rattle.line_reader.specs.Lines.{ReadsLine}

@@ -1,10 +1,10 @@
 -- What the parts of a line stand for, as the tables are given them.
 use Rattle.std.specs.Prelude.{◌≡◌, ℕ, Bool, true, false, List, [], map}
-use Rattle.type_terms.specs.Label.{Sort, of_type, param}
-use Rattle.type_terms.specs.Trees.{Trees, leaf}
-use Rattle.type_terms.specs.Worlds.{Reference}
-use Rattle.text_definitions.specs.Syntax.{Line, struct_line, trait_line, impl_line, prove_line, refute_line}
-use Rattle.text_definitions.specs.Declarations.{Declarations, known}
+use Rattle.type_terms.specs.Promised.Label.{Sort, of_type, param}
+use Rattle.type_terms.specs.Promised.Trees.{Trees, leaf}
+use Rattle.type_terms.specs.Promised.Worlds.{Reference}
+use Rattle.text_definitions.specs.Promised.Syntax.{Line, struct_line, trait_line, impl_line, prove_line, refute_line}
+use Rattle.text_definitions.specs.Promised.Declarations.{Declarations, known}
 use Rattle.text_definitions.specs.Uses.{asked_uses}
 use Rattle.text_definitions.specs.Faults.{variables_in, once}
 use Rattle.text_definitions.specs.Lowering.{crate_number, field_trees, with_self, clause_reference}

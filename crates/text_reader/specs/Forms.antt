@@ -1,7 +1,8 @@
 -- What a line is by itself.
 use Rattle.std.specs.Prelude.{◌≡◌, ℕ, true, false, List}
-use Rattle.text_definitions.specs.Syntax.{Line}
-use Rattle.text_definitions.specs.Written.{IsWritten, is_ascii, is_blank}
+use Rattle.text_definitions.specs.Promised.Syntax.{Line}
+use Rattle.text_definitions.specs.Written.{IsWritten}
+use Rattle.text_definitions.specs.Promised.Written.{is_ascii, is_blank}
 use Rattle.line_reader.specs.Lines.{SaysLine}
 use Rattle.text_reader.specs.declared.form.LineForm.{LineForm}
 use Rattle.text_reader.specs.declared.form.LineForm.TheVariants as forms

@@ -1,6 +1,6 @@
 -- The terms that a list of stored cells stands for, and how cells are appended to others.
 use Rattle.std.specs.Prelude.{◌≡◌, List, [], ◌∷◌, ◌++◌, map, Some}
-use Rattle.type_terms.specs.Trees.{Trees}
+use Rattle.type_terms.specs.Promised.Trees.{Trees}
 use Rattle.text_definitions.specs.Lowering.{Meanings}
 use Rattle.name_resolution.specs.Resolved.{ResolvedCell}
 use Rattle.workspace.specs.TermCells.{behind_cells}

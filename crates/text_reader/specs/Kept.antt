@@ -1,13 +1,14 @@
 -- What is stored of the types, bounds and where-clauses of a line.
 use Rattle.std.specs.Prelude.{◌≡◌, ◌<◌, ◌≤◌, List, [], ◌∷◌, ◌++◌, length, map}
 use Rattle.std.specs.List.{flat_map}
-use Rattle.type_terms.specs.Label.{of_type, param}
-use Rattle.type_terms.specs.Trees.{Trees, leaf}
+use Rattle.type_terms.specs.Promised.Label.{of_type, param}
+use Rattle.type_terms.specs.Promised.Trees.{Trees, leaf}
 use Rattle.type_terms.specs.declared.TheConstants.{MAX_INDEX}
-use Rattle.text_definitions.specs.Syntax.{TypeTree, Types, Bound, Clause, Line}
-use Rattle.text_definitions.specs.Declarations.{kinds_of}
+use Rattle.text_definitions.specs.Promised.Syntax.{TypeTree, Types, Bound, Clause, Line}
+use Rattle.text_definitions.specs.Promised.Declarations.{kinds_of}
 use Rattle.text_definitions.specs.Uses.{type_uses, types_uses, params_of}
-use Rattle.text_definitions.specs.Faults.{with_own, param_limit, variable_limit}
+use Rattle.text_definitions.specs.Promised.Faults.{with_own}
+use Rattle.text_definitions.specs.Faults.{param_limit, variable_limit}
 use Rattle.text_definitions.specs.Lowering.{Meanings, type_tree, field_trees, with_self, clause_reference}
 use Rattle.line_reader.specs.Faultless.{UsesFit}
 use Rattle.line_reader.specs.LineParts as line

@@ -1,10 +1,11 @@
 -- What is known of the types and bounds of a line without a fault.
 use Rattle.std.specs.Prelude.{◌≡◌, ℕ, List, [], ◌∷◌, None}
-use Rattle.type_terms.specs.Label.{of_type}
-use Rattle.text_definitions.specs.Syntax.{Bound, Clause, Line, crate_line, struct_line, trait_line, impl_line, prove_line, refute_line, later_line, supers_line}
-use Rattle.text_definitions.specs.Declarations.{Declarations}
+use Rattle.type_terms.specs.Promised.Label.{of_type}
+use Rattle.text_definitions.specs.Promised.Syntax.{Bound, Clause, Line, crate_line, struct_line, trait_line, impl_line, prove_line, refute_line, later_line, supers_line}
+use Rattle.text_definitions.specs.Promised.Declarations.{Declarations}
 use Rattle.text_definitions.specs.Uses.{type_uses, types_uses, bound_uses}
-use Rattle.text_definitions.specs.Faults.{with_own, fault_of}
+use Rattle.text_definitions.specs.Promised.Faults.{with_own}
+use Rattle.text_definitions.specs.Faults.{fault_of}
 use Rattle.line_reader.specs.Faultless.{UsesFit}
 use Rattle.workspace.specs.Numbered.{IsNumbered, IsFew}
 use Rattle.text_reader.specs.Meant.{NumbersFit}

@@ -1,7 +1,8 @@
 -- The lines of a text, one after the other.
 use Rattle.std.specs.Prelude.{ℕ, List, [], length, Option, Some, None, nat_lt, if◌then◌else◌}
 use Rattle.std.specs.Borrow.{Bor}
-use Rattle.text_definitions.specs.Text.{lines_of, text_limit, long_line}
+use Rattle.text_definitions.specs.Text.{lines_of}
+use Rattle.text_definitions.specs.Promised.Text.{text_limit, long_line}
 
 -- The lines after the end of a line. A line without an end is the last.
 abbrev pub lines_behind : Option (Bor (List ℕ)) → List (List ℕ)

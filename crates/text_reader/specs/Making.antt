@@ -1,8 +1,8 @@
 -- Which resolved cells can be stored: each finds its parts before it, and its numbers are small enough.
 use Rattle.std.specs.Prelude.{◌≡◌, ℕ, suc, ◌+◌, ◌<◌, ◌^◌, Bool, true, false, List, [], ◌∷◌, map, filter, Some, None}
 use Rattle.std.specs.Option.{option_and_then}
-use Rattle.type_terms.specs.Label.{Label, Sort, of_type, of_const, of_lifetime, bool, char, str, never, array, slice, tuple, dynamic, int, uint, adt, fn_ptr, auto_trait, value, raw_pointer, principal}
-use Rattle.type_terms.specs.Trees.{is_sort}
+use Rattle.type_terms.specs.Promised.Label.{Label, Sort, of_type, of_const, of_lifetime, bool, char, str, never, array, slice, tuple, dynamic, int, uint, adt, fn_ptr, auto_trait, value, raw_pointer, principal}
+use Rattle.type_terms.specs.Promised.Trees.{is_sort}
 use Rattle.type_terms.specs.declared.TheConstants.{MAX_INDEX}
 use Rattle.text_definitions.specs.Lowering.{Meanings, place_among, variable_label}
 use Rattle.name_resolution.specs.Resolved.{Region, static_region, param_region, bound_region, ResolvedCell, node_cell, param_cell, variable_cell, lifetime_cell, reference_cell}

@@ -1,10 +1,11 @@
 -- What the names of a line stand for, and when they can be stored as numbers.
 use Rattle.std.specs.Prelude.{◌≡◌, ℕ, ◌+◌, ◌<◌, ◌^◌, Bool, true, false, List, [], ◌∷◌, length, Option, Some}
-use Rattle.type_terms.specs.Label.{of_type}
+use Rattle.type_terms.specs.Promised.Label.{of_type}
 use Rattle.type_terms.specs.declared.TheConstants.{MAX_INDEX}
-use Rattle.text_definitions.specs.Declarations.{Declarations, Known, a_struct, a_trait, known}
+use Rattle.text_definitions.specs.Promised.Declarations.{Declarations, Known, a_struct, a_trait, known}
 use Rattle.text_definitions.specs.Uses.{Use, name_use, misfit_use, dyn_use, number_use}
-use Rattle.text_definitions.specs.Faults.{is_among, is_bad_dyn}
+use Rattle.text_definitions.specs.Promised.Faults.{is_among}
+use Rattle.text_definitions.specs.Faults.{is_bad_dyn}
 use Rattle.text_definitions.specs.Lowering.{Meanings}
 
 -- each known struct and trait has a small number

@@ -1,8 +1,8 @@
 -- What the parameters and variables of a line stand for, and when a cell is stored for another.
 use Rattle.std.specs.Prelude.{◌≡◌, ℕ, List, [], ◌∷◌, map, filter, Some}
-use Rattle.type_terms.specs.Label.{Label, Sort, of_type, of_const, of_lifetime, param, placeholder}
-use Rattle.type_terms.specs.Trees.{is_sort}
-use Rattle.type_terms.specs.Kinds as kinds
+use Rattle.type_terms.specs.Promised.Label.{Label, Sort, of_type, of_const, of_lifetime, param, placeholder}
+use Rattle.type_terms.specs.Promised.Trees.{is_sort}
+use Rattle.type_terms.specs.Promised.Handles as kinds
 use Rattle.type_terms.specs.declared.region.RegionKind.{RegionKind}
 use Rattle.text_definitions.specs.Lowering.{Meanings}
 use Rattle.name_resolution.specs.Machine.{Sight, items, params}

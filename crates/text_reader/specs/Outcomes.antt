@@ -1,6 +1,6 @@
 -- What was found of a line, and of a text.
 use Rattle.std.specs.Prelude.{ℕ, List, Option, Ok, Err, MatchOption}
-use Rattle.text_definitions.specs.Declarations.{Declarations}
+use Rattle.text_definitions.specs.Promised.Declarations.{Declarations}
 use Rattle.text_definitions.specs.Text.{LineGives, LinesGive, TextGives}
 use Rattle.name_resolution.specs.FaultNumbers.{fault_number}
 use Rattle.name_resolution.specs.declared.fault.FaultKind.{FaultKind}

@@ -1,7 +1,7 @@
 -- What a name stands for, by what is declared before a line and by the line's own struct or trait.
 use Rattle.std.specs.Prelude.{Option, Some, None}
 use Rattle.std.specs.Option.{option_or}
-use Rattle.text_definitions.specs.Declarations.{Known, a_trait}
+use Rattle.text_definitions.specs.Promised.Declarations.{Known, a_trait}
 
 -- A struct of the line is found before traits, and after crates and other structs.
 abbrev pub known_with_struct : (before own : Option Known) → Option Known

@@ -1,7 +1,8 @@
 -- What a text gives is determined by its bytes up to the first one too many.
 use Rattle.std.specs.Prelude.{ℕ, ◌+◌, List, take, Result}
-use Rattle.text_definitions.specs.Declarations.{Declarations}
-use Rattle.text_definitions.specs.Text.{TextGives, text_limit}
+use Rattle.text_definitions.specs.Promised.Declarations.{Declarations}
+use Rattle.text_definitions.specs.Text.{TextGives}
+use Rattle.text_definitions.specs.Promised.Text.{text_limit}
 
 -- As many bytes as texts may have, and one more.
 abbrev pub first_bytes : List ℕ → List ℕ

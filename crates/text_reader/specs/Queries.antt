@@ -1,6 +1,6 @@
 -- A line that is asked behind the lines of a text.
 use Rattle.std.specs.Prelude.{◌≡◌, ℕ, ◌<◌, List, length, Some, None, Ok, Err}
-use Rattle.text_definitions.specs.Declarations.{Declarations}
+use Rattle.text_definitions.specs.Promised.Declarations.{Declarations}
 use Rattle.text_definitions.specs.Adding.{added}
 use Rattle.text_definitions.specs.Text.{LineGives}
 use Rattle.line_reader.specs.declared.statement.LineRead.{LineRead}

@@ -1,8 +1,8 @@
 -- What the names of a line are looked up in.
 use Rattle.std.specs.Prelude.{◌≡◌}
-use Rattle.text_definitions.specs.Syntax.{Line}
-use Rattle.text_definitions.specs.Declarations.{Declarations}
-use Rattle.text_definitions.specs.Faults.{with_own}
+use Rattle.text_definitions.specs.Promised.Syntax.{Line}
+use Rattle.text_definitions.specs.Promised.Declarations.{Declarations}
+use Rattle.text_definitions.specs.Promised.Faults.{with_own}
 use Rattle.text_definitions.specs.Uses.{params_of}
 use Rattle.line_reader.specs.Lines.{ReadsLine}
 use Rattle.line_reader.specs.Views.{statement_of}

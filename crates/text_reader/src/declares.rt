@@ -1,7 +1,8 @@
 //! What the lines of a text are declared in, one after the other. The loop over lines knows no tables: it calls `judge` and `declare`
 //! alone.
 ghost use Rattle.std.specs.Prelude.{◌≡◌, ◌≤◌, length, IfOk, OnOk};
-ghost use Rattle.text_definitions.specs.Declarations.{Declarations, nothing_declared};
+ghost use Rattle.text_definitions.specs.Promised.Declarations.{Declarations};
+ghost use Rattle.text_definitions.specs.Declarations.{nothing_declared};
 ghost use Rattle.text_reader.specs.Declaring.{IsRead, FindsFault, HandsOnFound, IsFaultless, IsFoundOf, AddsLine};
 ghost use Rattle.name_resolution.specs.Judged.{fault_in};
 ghost use Rattle.workspace.specs.Numbered.{IsFew};

@@ -1,7 +1,7 @@
 //! The fault of a line, after the lines before it.
 ghost use Rattle.std.specs.Prelude.{◌≡◌, IfOk};
 ghost use Rattle.std.specs.Option.{option_map};
-ghost use Rattle.text_definitions.specs.Syntax.{Line};
+ghost use Rattle.text_definitions.specs.Promised.Syntax.{Line};
 ghost use Rattle.text_definitions.specs.Faults.{fault_of};
 ghost use Rattle.line_reader.specs.Lines.{ReadsLine};
 ghost use Rattle.name_resolution.specs.FaultNumbers.{fault_number};

@@ -2,7 +2,7 @@
 ghost use Rattle.std.specs.Prelude.{◌≡◌, length, ◌<◌, if◌then◌else◌, Some, None, IfOk, IfSome, not};
 ghost use Rattle.std.specs.Option.{option_map};
 ghost use Rattle.type_terms.specs.declared.CrateId.{CrateId};
-ghost use Rattle.text_definitions.specs.Declarations.{a_struct, a_trait, kinds_of, last_crate};
+ghost use Rattle.text_definitions.specs.Promised.Declarations.{a_struct, a_trait, kinds_of, last_crate};
 ghost use Rattle.text_definitions.specs.Faults.{looking_crate};
 ghost use Rattle.text_definitions.specs.Uses.{params_of};
 ghost use Rattle.line_reader.specs.Says.{params_said};

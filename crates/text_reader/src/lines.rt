@@ -1,6 +1,7 @@
 //! The lines of a text.
 ghost use Rattle.std.specs.Prelude.{◌≡◌, ◌==◌, ◌∷◌, ◌<◌, ◌≤◌, count_by, length, take_while, not, true, false, IfSome};
-ghost use Rattle.text_definitions.specs.Text.{lines_of, long_line};
+ghost use Rattle.text_definitions.specs.Text.{lines_of};
+ghost use Rattle.text_definitions.specs.Promised.Text.{long_line};
 ghost use Rattle.text_reader.specs.Behind.{IsOneLine};
 ghost use Rattle.text_reader.specs.Lines.{lines_behind, line_too_far};
 

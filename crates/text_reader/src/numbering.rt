@@ -1,8 +1,8 @@
 //! How the parameters and the variables of a line are numbered.
 ghost use Rattle.std.specs.Prelude.{◌≡◌, ℕ, map, filter};
-ghost use Rattle.type_terms.specs.Label.{of_type, of_const, of_lifetime};
-ghost use Rattle.type_terms.specs.Trees.{is_sort};
-ghost use Rattle.type_terms.specs.Kinds.{RegionHeld, region_label};
+ghost use Rattle.type_terms.specs.Promised.Label.{of_type, of_const, of_lifetime};
+ghost use Rattle.type_terms.specs.Promised.Trees.{is_sort};
+ghost use Rattle.type_terms.specs.Promised.Handles.{RegionHeld, region_label};
 ghost use Rattle.text_definitions.specs.Lowering.{Meanings, place_among};
 ghost use Rattle.workspace.specs.Made.{CellHeld, type_part, const_part};
 ghost use Rattle.workspace.specs.Views.{sort_of_kind};

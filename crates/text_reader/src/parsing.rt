@@ -1,6 +1,6 @@
 //! Whole texts, read into a workspace.
 ghost use Rattle.std.specs.Prelude.{◌≡◌, ℕ, Ok, Err, IfOk, IfErr, MatchResult};
-ghost use Rattle.text_definitions.specs.Declarations.{Declarations};
+ghost use Rattle.text_definitions.specs.Promised.Declarations.{Declarations};
 ghost use Rattle.text_definitions.specs.Text.{TextGives};
 ghost use Rattle.text_reader.specs.Outcomes.{IsTextError};
 ghost use Rattle.text_reader.specs.Parsing.{IsFaultAt};

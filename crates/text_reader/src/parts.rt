@@ -1,7 +1,7 @@
 //! The types, bounds and where-clauses of a line, as cells. Their names were looked up when the line was judged.
 ghost use Rattle.std.specs.Prelude.{◌≡◌, ◌∷◌, [], IfOk, OnOk};
-ghost use Rattle.type_terms.specs.Label.{of_type, param};
-ghost use Rattle.type_terms.specs.Trees.{leaf};
+ghost use Rattle.type_terms.specs.Promised.Label.{of_type, param};
+ghost use Rattle.type_terms.specs.Promised.Trees.{leaf};
 ghost use Rattle.text_definitions.specs.Lowering.{Meanings};
 ghost use Rattle.name_resolution.specs.Machine.{Sight};
 ghost use Rattle.workspace.specs.Made.{type_part};

@@ -1,9 +1,10 @@
 //! What is declared before a line.
 ghost use Rattle.std.specs.Prelude.{◌≡◌, ◌<◌, length, IfSome};
 ghost use Rattle.std.specs.Option.{option_map, option_and_then};
-ghost use Rattle.type_terms.specs.Worlds.{sees};
-ghost use Rattle.text_definitions.specs.Declarations.{known, last_crate, last_later, impl_owner, world_of};
-ghost use Rattle.text_definitions.specs.Faults.{last_items, number_of_crate};
+ghost use Rattle.type_terms.specs.Promised.Worlds.{sees};
+ghost use Rattle.text_definitions.specs.Promised.Declarations.{known, last_crate, last_later, impl_owner, world_of};
+ghost use Rattle.text_definitions.specs.Promised.Faults.{last_items};
+ghost use Rattle.text_definitions.specs.Faults.{number_of_crate};
 ghost use Rattle.text_definitions.specs.Lowering.{crate_number};
 ghost use Rattle.workspace.specs.Numbered.{IsFew};
 ghost use Rattle.workspace.specs.Views.{known_of};
@@ -19,7 +20,7 @@ pub(crate) struct SoFar<'w> {
 }
 
 impl<'w> Model for SoFar<'w> {
-    ghost use Rattle.text_definitions.specs.Declarations.{Declarations};
+    ghost use Rattle.text_definitions.specs.Promised.Declarations.{Declarations};
     ghost use Rattle.workspace.specs.Numbered.{IsFew};
     ghost use Rattle.workspace.specs.Stored.{declarations_code};
     ghost use Rattle.workspace.specs.Tables.{declared, IsConsistent};

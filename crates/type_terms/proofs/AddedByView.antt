@@ -1,13 +1,13 @@
 -- An impl that a later version may add as its crate's view tells it, may be added in each linked set around the view.
 use Rattle.std.proofs.Common.{◌≡◌, ℕ, Bool, true, List, [], ◌∷◌, refl, ap, sym, ◌∙◌, ◌==◌, not, if◌then◌else◌, Option, None, Some}
 use Rattle.std.specs.List.{list_any}
-use Rattle.type_terms.specs.Label.{Label, of_type, of_const, of_lifetime, dynamic, static, adt, value, ref, principal, auto_trait, of_trait, predicate, param, placeholder, infer, canonical, bound}
-use Rattle.type_terms.specs.Trees.{Trees, none, tree}
-use Rattle.type_terms.specs.Worlds.{World, Reference, StructDecl, TraitDecl, ImplDecl, structs_named, traits_named, sees, view_of}
-use Rattle.type_terms.specs.Walks.{Met, local, struct_leaf, dyn_leaf, entered, struct_is, trait_is, is_home, dyn_met, visited, until_decisive, ends_local, keeps_orphan_rule}
-use Rattle.type_terms.specs.Renumbering.{Renumbering, View, HoldsView, view_before, asker_in_set, renumbered_label, renumbered, renumbered_reference, renumbered_impl}
-use Rattle.type_terms.specs.Versions.{begins_with_bound, label_allowed, label_shaped, well_written, sees_struct, sees_trait, in_scope, is_open_place, is_addable, Added, with_impls}
-use Rattle.type_terms.specs.LinkedSet.{JoinedSet}
+use Rattle.type_terms.specs.Promised.Label.{Label, of_type, of_const, of_lifetime, dynamic, static, adt, value, ref, principal, auto_trait, of_trait, predicate, param, placeholder, infer, canonical, bound}
+use Rattle.type_terms.specs.Promised.Trees.{Trees, none, tree}
+use Rattle.type_terms.specs.Promised.Worlds.{World, Reference, StructDecl, TraitDecl, ImplDecl, structs_named, traits_named, sees, view_of}
+use Rattle.type_terms.specs.Promised.Walks.{Met, local, struct_leaf, dyn_leaf, entered, struct_is, trait_is, is_home, dyn_met, visited, until_decisive, ends_local, keeps_orphan_rule}
+use Rattle.type_terms.specs.Promised.Renumbering.{Renumbering, View, HoldsView, view_before, asker_in_set, renumbered_label, renumbered, renumbered_reference, renumbered_impl}
+use Rattle.type_terms.specs.Promised.Versions.{begins_with_bound, label_allowed, label_shaped, well_written, sees_struct, sees_trait, in_scope, is_open_place, is_addable, Added, with_impls}
+use Rattle.type_terms.specs.Promised.LinkedSet.{JoinedSet}
 use Rattle.type_terms.proofs.Members.{filter-in, some-member, member-some, self-number}
 use Rattle.type_terms.proofs.Walking.{left, right, both}
 use Rattle.type_terms.proofs.Unseen.{OneEach, struct-there, trait-there}

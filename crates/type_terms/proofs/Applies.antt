@@ -1,14 +1,16 @@
 -- An impl applies to each closed instance of its header: reading its arguments off the instance finds them.
 use Rattle.std.proofs.Common.{zero-add, ◌≡◌, ℕ, zero, ◌<◌, max, Bool, true, false, List, [], ◌∷◌, ◌++◌, refl, ap, sym, ◌∙◌, ◌&&◌, ◌||◌, ◌==◌, if◌then◌else◌, subst, map}
 use Rattle.std.specs.List.{flat_map}
-use Rattle.type_terms.specs.Label.{Label, Sort, of_type, of_const, of_lifetime, never, param, placeholder, infer, canonical, bound, fn_ptr, principal}
+use Rattle.type_terms.specs.Promised.Label.{Label, Sort, of_type, of_const, of_lifetime, never, param, placeholder, infer, canonical, bound, fn_ptr, principal}
 use Rattle.type_terms.specs.Codes.{same, same_label, numbers, same_numbers}
-use Rattle.type_terms.specs.Trees.{Trees, none, tree, leaf, nth, instantiate, standing_at, arguments, first_of, IsA, Fits, is_a, fits, sort_of, is_sort, is_no_tree, some_node, outer_binder, own_binder, outside, erase, erase_label}
-use Rattle.type_terms.specs.Worlds.{World, Reference, ImplDecl, with_args, all_with_args}
-use Rattle.type_terms.specs.Erased.{IsCovered, erased_reference, erased_impl, erased_world}
-use Rattle.type_terms.specs.Rules.{Rule, by_impl, rules, impl_rules, built_in_rules, clause_rules, same_reference}
-use Rattle.type_terms.specs.Proofs.{In, Every, HasProof}
-use Rattle.type_terms.specs.Answers.{is_closed, is_open}
+use Rattle.type_terms.specs.Promised.Trees.{Trees, none, tree, leaf, nth, instantiate, IsA, Fits, sort_of, is_sort, some_node, erase, erase_label}
+use Rattle.type_terms.specs.Trees.{standing_at, arguments, first_of, is_a, fits, is_no_tree, outer_binder, own_binder, outside}
+use Rattle.type_terms.specs.Promised.Worlds.{World, Reference, ImplDecl, with_args, all_with_args}
+use Rattle.type_terms.specs.Erased.{IsCovered}
+use Rattle.type_terms.specs.Promised.Erased.{erased_reference, erased_impl, erased_world}
+use Rattle.type_terms.specs.Promised.Rules.{Rule, by_impl, rules, impl_rules, built_in_rules, clause_rules, same_reference}
+use Rattle.type_terms.specs.Promised.Proofs.{In, Every, HasProof}
+use Rattle.type_terms.specs.Promised.Answers.{is_closed, is_open}
 use Rattle.type_terms.proofs.Members.{here, there, in-left, in-map, flat-in, self-number}
 use Rattle.type_terms.proofs.Walking.{both, or-left, or-right}
 use Rattle.type_terms.proofs.TreeLaws.{erase-nth, erase-instantiate}

@@ -1,16 +1,17 @@
 -- The auto traits of each `dyn` in another order: known, bounded and possible references stay so.
 use Rattle.std.proofs.Common.{◌≡◌, ℕ, zero, suc, Bool, true, false, List, [], ◌∷◌, refl, ap, sym, ◌∙◌, ◌&&◌, ◌||◌, ◌==◌, not, if◌then◌else◌, subst, ◌⊎◌, inl, inr, map, Option, Some, None}
 use Rattle.std.specs.List.{list_all, list_any, flat_map}
-use Rattle.type_terms.specs.Label.{Label, of_type, of_const, of_lifetime, dynamic, static, adt, value, ref, principal, auto_trait, param, placeholder, infer, canonical, bound, of_trait, predicate}
-use Rattle.type_terms.specs.Trees.{Trees, none, tree, some_node}
-use Rattle.type_terms.specs.Worlds.{World, Reference, StructDecl, TraitDecl, ImplDecl, structs_named, traits_named}
-use Rattle.type_terms.specs.Rules.{Rule, rules, strict_supertraits}
-use Rattle.type_terms.specs.Proofs.{In}
-use Rattle.type_terms.specs.Walks.{Met, local, struct_leaf, dyn_leaf, entered, struct_is, trait_is, is_home, dyn_met, visited, until_decisive, open_walk, ends_local, item_in, is_known_in}
-use Rattle.type_terms.specs.Answers.{is_open, is_closed, is_undeclared, written_in, children, short_chains, is_bounded, is_possible, CommonInstance}
-use Rattle.type_terms.specs.Supers.{dyns_of_bounds}
-use Rattle.type_terms.specs.LinkedSet.{all_written}
-use Rattle.type_terms.specs.Arranging.{Arrangement, turned_back, autos_in, with_autos, arranged, arranged_reference, arranged_struct, arranged_trait, arranged_impl, arranged_world}
+use Rattle.type_terms.specs.Promised.Label.{Label, of_type, of_const, of_lifetime, dynamic, static, adt, value, ref, principal, auto_trait, param, placeholder, infer, canonical, bound, of_trait, predicate}
+use Rattle.type_terms.specs.Promised.Trees.{Trees, none, tree, some_node}
+use Rattle.type_terms.specs.Promised.Worlds.{World, Reference, StructDecl, TraitDecl, ImplDecl, structs_named, traits_named}
+use Rattle.type_terms.specs.Promised.Rules.{Rule, rules, strict_supertraits}
+use Rattle.type_terms.specs.Promised.Proofs.{In}
+use Rattle.type_terms.specs.Promised.Walks.{Met, local, struct_leaf, dyn_leaf, entered, struct_is, trait_is, is_home, dyn_met, visited, until_decisive, open_walk, ends_local, item_in, is_known_in}
+use Rattle.type_terms.specs.Promised.Answers.{is_open, is_closed, is_undeclared, written_in, children, short_chains, is_bounded, is_possible, CommonInstance}
+use Rattle.type_terms.specs.Promised.Supers.{dyns_of_bounds}
+use Rattle.type_terms.specs.Promised.LinkedSet.{all_written}
+use Rattle.type_terms.specs.Promised.Arranging.{Arrangement, autos_in, with_autos, arranged, arranged_reference, arranged_struct, arranged_trait, arranged_impl, arranged_world}
+use Rattle.type_terms.specs.Arranging.{turned_back}
 use Rattle.type_terms.proofs.Members.{here, there, in-cases, in-append, in-left, in-right, in-flat, flat-in, in-map, some-member, member-some, in-nothing}
 use Rattle.type_terms.proofs.Walking.{left, right, both, or-left, or-right, or-cases}
 use Rattle.type_terms.proofs.ProofEntries.{map-in}

@@ -1,15 +1,15 @@
 -- Checks of supertraits, each by a text with its own order of auto traits.
 use Rattle.std.proofs.Common.{◌≡◌, ℕ, true, List, [], ◌∷◌, refl, ap, sym, ◌∙◌, subst, ◌⊎◌, inl, inr, map, length}
-use Rattle.type_terms.specs.Label.{dynamic, auto_trait, param}
-use Rattle.type_terms.specs.Trees.{Trees, none, tree}
-use Rattle.type_terms.specs.Worlds.{World, Reference, ImplDecl, sees}
-use Rattle.type_terms.specs.Rules.{strict_supertraits}
-use Rattle.type_terms.specs.Proofs.{In, Every, HasProof}
-use Rattle.type_terms.specs.Core.{core_world}
-use Rattle.type_terms.specs.Supers.{opaque, opaque_reference, SupersHold, IsHeld}
-use Rattle.type_terms.specs.LinkedSet.{JoinedSet}
-use Rattle.type_terms.specs.Renumbering.{View, HoldsView, asker_in_set, renumbered_impl}
-use Rattle.type_terms.specs.Arranging.{Arrangement, autos_in, with_autos, arranged, arranged_reference, arranged_impl, arranged_world}
+use Rattle.type_terms.specs.Promised.Label.{dynamic, auto_trait, param}
+use Rattle.type_terms.specs.Promised.Trees.{Trees, none, tree}
+use Rattle.type_terms.specs.Promised.Worlds.{World, Reference, ImplDecl, sees}
+use Rattle.type_terms.specs.Promised.Rules.{strict_supertraits}
+use Rattle.type_terms.specs.Promised.Proofs.{In, Every, HasProof}
+use Rattle.type_terms.specs.Promised.Core.{core_world}
+use Rattle.type_terms.specs.Promised.Supers.{opaque, opaque_reference, SupersHold, IsHeld}
+use Rattle.type_terms.specs.Promised.LinkedSet.{JoinedSet}
+use Rattle.type_terms.specs.Promised.Renumbering.{View, HoldsView, asker_in_set, renumbered_impl}
+use Rattle.type_terms.specs.Promised.Arranging.{Arrangement, autos_in, with_autos, arranged, arranged_reference, arranged_impl, arranged_world}
 use Rattle.type_terms.specs.ArrangingLaws.{Listed, HoldsInOrder, IsAnsweredInOrder, HeldSetsInAnyOrder}
 use Rattle.type_terms.proofs.Members.{filter-in, in-map}
 use Rattle.type_terms.proofs.ProofEntries.{map-in}

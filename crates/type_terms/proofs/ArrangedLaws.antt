@@ -1,15 +1,16 @@
 -- What stays where the auto traits of each `dyn` stand in another order, and a worked case.
 use Rattle.std.proofs.Common.{◌≡◌, ℕ, zero, suc, List, [], ◌∷◌, refl, length, subst}
-use Rattle.type_terms.specs.Worlds.{CrateDecl, TraitDecl, view_of}
-use Rattle.type_terms.specs.Proofs.{In}
-use Rattle.type_terms.specs.Core.{core_world}
+use Rattle.type_terms.specs.Promised.Worlds.{CrateDecl, TraitDecl, view_of}
+use Rattle.type_terms.specs.Promised.Proofs.{In}
+use Rattle.type_terms.specs.Promised.Core.{core_world}
 use Rattle.type_terms.specs.Worked.{auto_trait_of, text_with_left_first}
-use Rattle.type_terms.specs.Arranging.{Arrangement, arranged_world}
+use Rattle.type_terms.specs.Promised.Arranging.{Arrangement, arranged_world}
 use Rattle.type_terms.specs.ArrangingLaws.{ArrangingCarriesOver, HoldsInOrder, OppositeOrdersOfOneDyn, text_with_both_right_first, set_with_left_first}
 use Rattle.type_terms.proofs.ArrangedRules.{rules-arranged, over-supers}
 use Rattle.type_terms.proofs.ArrangedProofs.{bound-world, proof-arranged, proof-unarranged}
 use Rattle.type_terms.proofs.ArrangedAnswers.{known-same, bounded-same, possible-same, over-common}
-use Rattle.type_terms.specs.Renumbering.{as_they_are, View, HoldsView}
+use Rattle.type_terms.specs.Renumbering.{as_they_are}
+use Rattle.type_terms.specs.Promised.Renumbering.{View, HoldsView}
 use Rattle.type_terms.proofs.Members.{in-nothing}
 use Rattle.type_terms.proofs.SupersProved.{CoreLike}
 use Rattle.type_terms.proofs.CoreLinked.{Tested, autos-bare, tested-linked}

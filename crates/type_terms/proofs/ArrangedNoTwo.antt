@@ -1,13 +1,15 @@
 -- No two impls of accepted crates prove one reference, each text in its own order of auto traits.
 use Rattle.std.proofs.Common.{◌≡◌, ℕ, ◌<◌, Bool, true, false, List, [], refl, ap, sym, ◌∙◌, ◌==◌, subst, ◌⊎◌, inl, inr, length, arith, ltb}
 use Rattle.std.proofs.lemmas.Bool.Decides.{nat_tests}
-use Rattle.type_terms.specs.Worlds.{World, Reference, ImplDecl, sees, view_of}
-use Rattle.type_terms.specs.Proofs.{In}
-use Rattle.type_terms.specs.Core.{core_world}
-use Rattle.type_terms.specs.Versions.{Added}
-use Rattle.type_terms.specs.LinkedSet.{LinkedSet, Visited, Cleared, IsPair}
-use Rattle.type_terms.specs.Renumbering.{View, HoldsView, view_before, asker_in_set, renumbered_impl}
-use Rattle.type_terms.specs.Arranging.{Arrangement, turned_back, arranged_impl, arranged_reference, arranged_world}
+use Rattle.type_terms.specs.Promised.Worlds.{World, Reference, ImplDecl, sees, view_of}
+use Rattle.type_terms.specs.Promised.Proofs.{In}
+use Rattle.type_terms.specs.Promised.Core.{core_world}
+use Rattle.type_terms.specs.Promised.Versions.{Added}
+use Rattle.type_terms.specs.Promised.LinkedSet.{LinkedSet, Cleared, IsPair}
+use Rattle.type_terms.specs.LinkedSet.{Visited}
+use Rattle.type_terms.specs.Promised.Renumbering.{View, HoldsView, view_before, asker_in_set, renumbered_impl}
+use Rattle.type_terms.specs.Promised.Arranging.{Arrangement, arranged_impl, arranged_reference, arranged_world}
+use Rattle.type_terms.specs.Arranging.{turned_back}
 use Rattle.type_terms.specs.ArrangingLaws.{Listed, HoldsInOrder, IsAnsweredInOrder, NoTwoImplsInAnyOrder, placed_impl}
 use Rattle.type_terms.proofs.Members.{filter-in, in-map, true-or-false, same-number, self-number, not-both}
 use Rattle.type_terms.proofs.NoTwo.{no-two}

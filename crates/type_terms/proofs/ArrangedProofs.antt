@@ -1,12 +1,13 @@
 -- The auto traits of each `dyn` in another order: what has a proof has one still.
 use Rattle.std.proofs.Common.{◌≡◌, Bool, true, false, List, [], ◌∷◌, ◌++◌, refl, ap, sym, ◌∙◌, ◌&&◌, if◌then◌else◌, subst, ◌⊎◌, inl, inr, map}
 use Rattle.std.specs.List.{list_all}
-use Rattle.type_terms.specs.Worlds.{World, CrateDecl, Reference, StructDecl, TraitDecl, ImplDecl}
-use Rattle.type_terms.specs.Rules.{is_coinductive}
-use Rattle.type_terms.specs.Proofs.{ProofEntry, In, Stands, Follows, HasProof}
-use Rattle.type_terms.specs.Supers.{dyns_of_bounds}
-use Rattle.type_terms.specs.LinkedSet.{all_args, all_written}
-use Rattle.type_terms.specs.Arranging.{Arrangement, turned_back, arranged, arranged_reference, arranged_struct, arranged_trait, arranged_impl, arranged_world}
+use Rattle.type_terms.specs.Promised.Worlds.{World, CrateDecl, Reference, StructDecl, TraitDecl, ImplDecl}
+use Rattle.type_terms.specs.Promised.Rules.{is_coinductive}
+use Rattle.type_terms.specs.Promised.Proofs.{ProofEntry, In, Stands, Follows, HasProof}
+use Rattle.type_terms.specs.Promised.Supers.{dyns_of_bounds}
+use Rattle.type_terms.specs.Promised.LinkedSet.{all_args, all_written}
+use Rattle.type_terms.specs.Promised.Arranging.{Arrangement, arranged, arranged_reference, arranged_struct, arranged_trait, arranged_impl, arranged_world}
+use Rattle.type_terms.specs.Arranging.{turned_back}
 use Rattle.type_terms.proofs.Members.{here, there, in-cases, in-append, in-left, in-right, in-nothing}
 use Rattle.type_terms.proofs.Walking.{left, right}
 use Rattle.type_terms.proofs.ProofEntries.{map-in}

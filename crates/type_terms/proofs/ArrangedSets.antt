@@ -1,20 +1,22 @@
 -- A linked set with the auto traits of each `dyn` in another order is one.
 use Rattle.std.proofs.Common.{◌≡◌, ℕ, zero, suc, ◌<◌, Bool, true, false, List, [], ◌∷◌, refl, ap, sym, ◌∙◌, ◌||◌, ◌==◌, not, if◌then◌else◌, subst, ◌⊎◌, inl, inr, map, filter, length, Some, None}
 use Rattle.std.specs.List.{list_any}
-use Rattle.type_terms.specs.Label.{Label, Sort, dynamic, auto_trait, adt, principal, of_trait, predicate, param}
-use Rattle.type_terms.specs.Trees.{Trees, none, tree, Fits, fits, erase, erase_label, some_node}
-use Rattle.type_terms.specs.Worlds.{World, CrateDecl, Reference, StructDecl, TraitDecl, ImplDecl, core, crates_named, structs_named, traits_named, sees, sees_within, view_of, with_args, all_with_args}
-use Rattle.type_terms.specs.Erased.{IsTerms, erased_reference, erased_struct, erased_trait, erased_impl}
-use Rattle.type_terms.specs.Rules.{is_auto, sized, strict_supertraits}
-use Rattle.type_terms.specs.Proofs.{In, Every, HasProof}
-use Rattle.type_terms.specs.Walks.{struct_is, trait_is, until_decisive, ends_local, keeps_orphan_rule}
-use Rattle.type_terms.specs.Answers.{is_closed}
-use Rattle.type_terms.specs.Core.{core_world}
-use Rattle.type_terms.specs.Supers.{mentions_as}
-use Rattle.type_terms.specs.Versions.{begins_with_bound, label_allowed, label_shaped, well_written, sees_struct, sees_trait, in_scope, is_open_place, is_addable, Added, with_impls, HasLaterImpls}
-use Rattle.type_terms.specs.LinkedSet.{JoinedSet, LinkedSet, AutoAtHome, is_stray}
-use Rattle.type_terms.specs.Renumbering.{View}
-use Rattle.type_terms.specs.Arranging.{Arrangement, turned_back, autos_in, next_auto, autos_left, with_autos, children_in_order, arranged, arranged_reference, arranged_struct, arranged_trait, arranged_impl, arranged_world}
+use Rattle.type_terms.specs.Promised.Label.{Label, Sort, dynamic, auto_trait, adt, principal, of_trait, predicate, param}
+use Rattle.type_terms.specs.Promised.Trees.{Trees, none, tree, Fits, erase, erase_label, some_node}
+use Rattle.type_terms.specs.Trees.{fits}
+use Rattle.type_terms.specs.Promised.Worlds.{World, CrateDecl, Reference, StructDecl, TraitDecl, ImplDecl, core, crates_named, structs_named, traits_named, sees, sees_within, view_of, with_args, all_with_args}
+use Rattle.type_terms.specs.Promised.Erased.{IsTerms, erased_reference, erased_struct, erased_trait, erased_impl}
+use Rattle.type_terms.specs.Promised.Rules.{is_auto, sized, strict_supertraits}
+use Rattle.type_terms.specs.Promised.Proofs.{In, Every, HasProof}
+use Rattle.type_terms.specs.Promised.Walks.{struct_is, trait_is, until_decisive, ends_local, keeps_orphan_rule}
+use Rattle.type_terms.specs.Promised.Answers.{is_closed}
+use Rattle.type_terms.specs.Promised.Core.{core_world}
+use Rattle.type_terms.specs.Promised.Supers.{mentions_as}
+use Rattle.type_terms.specs.Promised.Versions.{begins_with_bound, label_allowed, label_shaped, well_written, sees_struct, sees_trait, in_scope, is_open_place, is_addable, Added, with_impls, HasLaterImpls}
+use Rattle.type_terms.specs.Promised.LinkedSet.{JoinedSet, LinkedSet, AutoAtHome, is_stray}
+use Rattle.type_terms.specs.Promised.Renumbering.{View}
+use Rattle.type_terms.specs.Promised.Arranging.{Arrangement, autos_in, next_auto, autos_left, with_autos, children_in_order, arranged, arranged_reference, arranged_struct, arranged_trait, arranged_impl, arranged_world}
+use Rattle.type_terms.specs.Arranging.{turned_back}
 use Rattle.type_terms.proofs.Members.{here, there, in-cases, in-nothing, in-map}
 use Rattle.type_terms.proofs.Walking.{left, right, both}
 use Rattle.type_terms.proofs.ProofEntries.{map-in}

@@ -1,12 +1,14 @@
 -- The auto traits of each `dyn` in another order, and what is done to trees.
 use Rattle.std.proofs.Common.{◌≡◌, ℕ, zero, suc, Bool, true, false, List, [], ◌∷◌, refl, ap, sym, ◌∙◌, ◌||◌, ◌==◌, if◌then◌else◌, subst, length}
-use Rattle.type_terms.specs.Label.{Label, Sort, of_type, of_const, of_lifetime, never, dynamic, auto_trait, bound, param, inside}
+use Rattle.type_terms.specs.Promised.Label.{Label, Sort, of_type, of_const, of_lifetime, never, dynamic, auto_trait, bound, param, inside}
 use Rattle.type_terms.specs.Codes.{same}
-use Rattle.type_terms.specs.Trees.{Trees, none, tree, ◌+++◌, leaf, nth, shift, instantiate, first_of, standing_at, arguments_from, arguments, is_no_tree, is_a, fits, some_node, Single}
-use Rattle.type_terms.specs.Worlds.{Reference}
-use Rattle.type_terms.specs.Rules.{same_reference}
-use Rattle.type_terms.specs.Supers.{no_param, dyns_of_bounds}
-use Rattle.type_terms.specs.Arranging.{Arrangement, turned_back, own_auto, autos_in, autos_left, with_autos, children_in_order, arranged, arranged_reference}
+use Rattle.type_terms.specs.Promised.Trees.{Trees, none, tree, ◌+++◌, leaf, nth, shift, instantiate, some_node}
+use Rattle.type_terms.specs.Trees.{first_of, standing_at, arguments_from, arguments, is_no_tree, is_a, fits, Single}
+use Rattle.type_terms.specs.Promised.Worlds.{Reference}
+use Rattle.type_terms.specs.Promised.Rules.{same_reference}
+use Rattle.type_terms.specs.Promised.Supers.{no_param, dyns_of_bounds}
+use Rattle.type_terms.specs.Promised.Arranging.{Arrangement, own_auto, autos_in, autos_left, with_autos, children_in_order, arranged, arranged_reference}
+use Rattle.type_terms.specs.Arranging.{turned_back}
 use Rattle.type_terms.proofs.Walking.{left, right}
 use Rattle.type_terms.proofs.TreeLaws.{single-nth, single-shift}
 use Rattle.type_terms.proofs.Matching.{same-sound}

@@ -1,11 +1,11 @@
 -- Orders of auto traits, one after the other: a world that lists them in one order does so too where they stand in another.
 use Rattle.std.proofs.Common.{◌≡◌, ℕ, Bool, true, List, refl, ap, sym, ◌∙◌, ◌&&◌, map}
 use Rattle.std.specs.List.{list_all}
-use Rattle.type_terms.specs.Label.{dynamic}
-use Rattle.type_terms.specs.Trees.{Trees, none, tree}
-use Rattle.type_terms.specs.Worlds.{World, Reference, StructDecl, TraitDecl, ImplDecl}
-use Rattle.type_terms.specs.LinkedSet.{all_args, all_written, dyns_rise, DynsInOneOrder}
-use Rattle.type_terms.specs.Arranging.{Arrangement, autos_in, with_autos, arranged, arranged_reference, arranged_struct, arranged_trait, arranged_impl, arranged_world}
+use Rattle.type_terms.specs.Promised.Label.{dynamic}
+use Rattle.type_terms.specs.Promised.Trees.{Trees, none, tree}
+use Rattle.type_terms.specs.Promised.Worlds.{World, Reference, StructDecl, TraitDecl, ImplDecl}
+use Rattle.type_terms.specs.Promised.LinkedSet.{all_args, all_written, dyns_rise, DynsInOneOrder}
+use Rattle.type_terms.specs.Promised.Arranging.{Arrangement, autos_in, with_autos, arranged, arranged_reference, arranged_struct, arranged_trait, arranged_impl, arranged_world}
 use Rattle.type_terms.proofs.RenumberedTrees.{and-same}
 use Rattle.type_terms.proofs.RenumberedRules.{all-over}
 use Rattle.type_terms.proofs.ArrangedTrees.{fill-own, fill-fill, over-fill, autos-now, as-many}

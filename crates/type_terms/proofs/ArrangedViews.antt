@@ -1,17 +1,21 @@
 -- The laws over the view of an answer, in whatever order its text lists auto traits: they are those of the set in that order.
 use Rattle.std.proofs.Common.{◌≡◌, ℕ, true, List, [], ◌∷◌, refl, ap, sym, ◌∙◌, ◌||◌, ◌==◌, subst, ◌⊎◌, inl, inr, map, suc, None, Some}
 use Rattle.std.specs.List.{list_all}
-use Rattle.type_terms.specs.Trees.{Trees, Fits, fits}
-use Rattle.type_terms.specs.Worlds.{World, Reference, ImplDecl, sees, with_args, all_with_args}
-use Rattle.type_terms.specs.Rules.{Rule, rules, strict_supertraits}
-use Rattle.type_terms.specs.Proofs.{In, Every, HasProof}
-use Rattle.type_terms.specs.Walks.{Met, local, struct_leaf, dyn_leaf, entered, other_leaf, open_place, seen, until_decisive, ends_local, open_walk, keeps_orphan_rule, is_known}
-use Rattle.type_terms.specs.Answers.{is_closed}
-use Rattle.type_terms.specs.Supers.{dyns_of_bounds}
-use Rattle.type_terms.specs.Versions.{in_scope, Added}
-use Rattle.type_terms.specs.LinkedSet.{LinkedSet, Unknown, Cleared, all_written}
-use Rattle.type_terms.specs.Renumbering.{View, HoldsView, asker_in_set, renumbered_reference, renumbered_impl, renumbered_rule}
-use Rattle.type_terms.specs.Arranging.{Arrangement, turned_back, arranged, arranged_reference, arranged_impl, arranged_world, IsArrangedRule}
+use Rattle.type_terms.specs.Promised.Trees.{Trees, Fits}
+use Rattle.type_terms.specs.Trees.{fits}
+use Rattle.type_terms.specs.Promised.Worlds.{World, Reference, ImplDecl, sees, with_args, all_with_args}
+use Rattle.type_terms.specs.Promised.Rules.{Rule, rules, strict_supertraits}
+use Rattle.type_terms.specs.Promised.Proofs.{In, Every, HasProof}
+use Rattle.type_terms.specs.Promised.Walks.{Met, local, struct_leaf, dyn_leaf, entered, other_leaf, open_place, seen, until_decisive, ends_local, open_walk, keeps_orphan_rule, is_known}
+use Rattle.type_terms.specs.Promised.Answers.{is_closed}
+use Rattle.type_terms.specs.Promised.Supers.{dyns_of_bounds}
+use Rattle.type_terms.specs.Promised.Versions.{in_scope, Added}
+use Rattle.type_terms.specs.Promised.LinkedSet.{LinkedSet, Cleared, all_written}
+use Rattle.type_terms.specs.LinkedSet.{Unknown}
+use Rattle.type_terms.specs.Promised.Renumbering.{View, HoldsView, asker_in_set, renumbered_reference, renumbered_impl}
+use Rattle.type_terms.specs.Renumbering.{renumbered_rule}
+use Rattle.type_terms.specs.Promised.Arranging.{Arrangement, arranged, arranged_reference, arranged_impl, arranged_world}
+use Rattle.type_terms.specs.Arranging.{turned_back, IsArrangedRule}
 use Rattle.type_terms.specs.ArrangingLaws.{AnswersHoldInAnyOrder, placed_reference}
 use Rattle.type_terms.proofs.Members.{in-map, in-filter}
 use Rattle.type_terms.proofs.NoHolds.{every-member}

@@ -2,10 +2,13 @@
 use Rattle.std.proofs.Common.{◌≡◌, ℕ, zero, suc, ◌+◌, ◌≤◌, List, [], ◌∷◌, ◌++◌, length, arith, Option, Some, None, pred}
 use Rattle.std.specs.List.{slice_get}
 use Rattle.std.proofs.lemmas.Option.{slice_get_within}
-use Rattle.type_terms.specs.Label.{Label, Sort, of_type, of_const, of_lifetime, fn_ptr, principal, array, dynamic, ref, raw_pointer, slice, tuple, adt, auto_trait}
-use Rattle.type_terms.specs.Trees.{Trees, none, tree, leaf, ◌+++◌, outer_binder, depth, own_binder, outside}
-use Rattle.type_terms.specs.Terms.{Entry, Has, trees_at, types, consts, args_lists, type_lists, bounds_lists}
-use Rattle.type_terms.specs.Kinds.{is_mut, bound_label, region_label, const_label, kind_trees, arg_trees, args_trees, tys_trees, principal_trees, autos_trees, BinderHeld, RegionHeld, ConstHeld, KindHeld, ArgHeld, ArgsHeld, TysHeld, PrincipalHeld}
+use Rattle.type_terms.specs.Promised.Label.{Label, Sort, of_type, of_const, of_lifetime, fn_ptr, principal, array, dynamic, ref, raw_pointer, slice, tuple, adt, auto_trait}
+use Rattle.type_terms.specs.Promised.Trees.{Trees, none, tree, leaf, ◌+++◌}
+use Rattle.type_terms.specs.Trees.{outer_binder, depth, own_binder, outside}
+use Rattle.type_terms.specs.Promised.Handles.{Entry, Has, trees_at, types, consts, bounds_lists}
+use Rattle.type_terms.specs.Terms.{args_lists, type_lists}
+use Rattle.type_terms.specs.Kinds.{is_mut, const_label, kind_trees, args_trees, tys_trees, principal_trees, autos_trees, ConstHeld, KindHeld, TysHeld, PrincipalHeld}
+use Rattle.type_terms.specs.Promised.Handles.{bound_label, region_label, arg_trees, BinderHeld, RegionHeld, ArgHeld, ArgsHeld}
 use Rattle.type_terms.specs.Nodes.{grow, Older, node_entry, node_trees, Held}
 use Rattle.type_terms.specs.declared.TheConstants.{MAX_INDEX}
 use Rattle.type_terms.specs.declared.TraitId.{TraitId}

@@ -1,13 +1,13 @@
 -- No two impls of core overlap: their headers differ at the trait or at the first label.
 use Rattle.std.proofs.Common.{◌≡◌, zero, Bool, true, false, not, refl, ap, sym, ◌∙◌, ◌&&◌, ◌||◌, ◌==◌, ◌⊎◌, inl, inr, subst}
 use Rattle.std.specs.List.{list_all}
-use Rattle.type_terms.specs.Label.{Label, never, param}
+use Rattle.type_terms.specs.Promised.Label.{Label, never, param}
 use Rattle.type_terms.specs.Codes.{same_label}
-use Rattle.type_terms.specs.Trees.{Trees, none, tree, instantiate}
-use Rattle.type_terms.specs.Worlds.{ImplDecl, Reference}
-use Rattle.type_terms.specs.Proofs.{In}
-use Rattle.type_terms.specs.Answers.{Overlaps}
-use Rattle.type_terms.specs.Core.{core_world}
+use Rattle.type_terms.specs.Promised.Trees.{Trees, none, tree, instantiate}
+use Rattle.type_terms.specs.Promised.Worlds.{ImplDecl, Reference}
+use Rattle.type_terms.specs.Promised.Proofs.{In}
+use Rattle.type_terms.specs.Promised.Answers.{Overlaps}
+use Rattle.type_terms.specs.Promised.Core.{core_world}
 use Rattle.type_terms.specs.Laws.{CoreIsCoherent}
 use Rattle.type_terms.proofs.Members.{same-number, self-number, not-both}
 use Rattle.type_terms.proofs.Walking.{left, right, or-cases}

@@ -3,18 +3,21 @@
 use Rattle.std.proofs.Common.{◌≡◌, ℕ, zero, ◌<◌, Bool, true, false, not, List, [], ◌∷◌, refl, ap, sym, ◌∙◌, ◌&&◌, ◌||◌, ◌==◌, if◌then◌else◌, subst, ◌⊎◌, inl, inr, arith, map, length, ltb, IsTrue}
 use Rattle.std.proofs.lemmas.Bool.Decides.{nat_tests}
 use Rattle.std.specs.List.{flat_map, list_all, list_any}
-use Rattle.type_terms.specs.Label.{Label, Sort, bool, char, never, array, int, uint, adt, ref, raw_pointer, param, inside}
+use Rattle.type_terms.specs.Promised.Label.{Label, Sort, bool, char, never, array, int, uint, adt, ref, raw_pointer, param, inside}
 use Rattle.type_terms.specs.Codes.{same}
-use Rattle.type_terms.specs.Trees.{Trees, none, tree, ◌+++◌, instantiate, arguments, some_node, Fits, is_sort}
-use Rattle.type_terms.specs.Worlds.{World, Reference, CrateDecl, StructDecl, TraitDecl, ImplDecl, core, structs_named, traits_named, view_of, with_args, all_with_args}
-use Rattle.type_terms.specs.Erased.{IsTerms, IsCovered}
-use Rattle.type_terms.specs.Rules.{sized_leaf, sized_struct, built_in, by_impl, Rule, row, impl_rules, sized_rules, is_auto, is_coinductive, same_reference, sized, clone, copy, asked, last_asked, each_asked, fields_of, strict_supertraits}
-use Rattle.type_terms.specs.Proofs.{In, Every, HasProof}
-use Rattle.type_terms.specs.Walks.{keeps_orphan_rule}
-use Rattle.type_terms.specs.Answers.{is_closed}
-use Rattle.type_terms.specs.Core.{core_world, box, box_impl, copy_impls, type_param}
-use Rattle.type_terms.specs.Supers.{mentions_as, dyns_of_bounds}
-use Rattle.type_terms.specs.LinkedSet.{LinkedSet, in_scope, is_stray, dyns_rise, all_written}
+use Rattle.type_terms.specs.Promised.Trees.{Trees, none, tree, ◌+++◌, instantiate, some_node, Fits, is_sort}
+use Rattle.type_terms.specs.Trees.{arguments}
+use Rattle.type_terms.specs.Promised.Worlds.{World, Reference, CrateDecl, StructDecl, TraitDecl, ImplDecl, core, structs_named, traits_named, view_of, with_args, all_with_args}
+use Rattle.type_terms.specs.Promised.Erased.{IsTerms}
+use Rattle.type_terms.specs.Erased.{IsCovered}
+use Rattle.type_terms.specs.Promised.Rules.{sized_leaf, sized_struct, built_in, by_impl, Rule, row, impl_rules, sized_rules, is_auto, is_coinductive, same_reference, sized, clone, copy, asked, last_asked, each_asked, fields_of, strict_supertraits}
+use Rattle.type_terms.specs.Promised.Proofs.{In, Every, HasProof}
+use Rattle.type_terms.specs.Promised.Walks.{keeps_orphan_rule}
+use Rattle.type_terms.specs.Promised.Answers.{is_closed}
+use Rattle.type_terms.specs.Promised.Core.{core_world, box, box_impl, copy_impls, type_param}
+use Rattle.type_terms.specs.Promised.Supers.{mentions_as, dyns_of_bounds}
+use Rattle.type_terms.specs.Promised.LinkedSet.{LinkedSet, is_stray, dyns_rise, all_written}
+use Rattle.type_terms.specs.Promised.Versions.{in_scope}
 use Rattle.type_terms.proofs.Members.{here, there, in-cases, in-nothing, in-append, in-left, in-filter, flat-in, some-member, member-some, same-number, self-number, not-both}
 use Rattle.type_terms.proofs.Walking.{left, right, both, or-cases}
 use Rattle.type_terms.proofs.TreeLaws.{shift-zero}

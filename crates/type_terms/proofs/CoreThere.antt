@@ -1,12 +1,13 @@
 -- Core stands in a linked set: each trait of core is declared there as in core.
 use Rattle.std.proofs.Common.{◌≡◌, ℕ, true, false, List, [], refl, ap, sym, ◌==◌, subst, inl, filter}
-use Rattle.type_terms.specs.Worlds.{World, TraitDecl, core, sees, view_of}
-use Rattle.type_terms.specs.Rules.{sized, unsize}
-use Rattle.type_terms.specs.Proofs.{In}
-use Rattle.type_terms.specs.Core.{core_world, core_trait}
-use Rattle.type_terms.specs.Renumbering.{View}
-use Rattle.type_terms.specs.Versions.{with_impls, HasLaterImpls}
-use Rattle.type_terms.specs.LinkedSet.{JoinedSet, sees_trait}
+use Rattle.type_terms.specs.Promised.Worlds.{World, TraitDecl, core, sees, view_of}
+use Rattle.type_terms.specs.Promised.Rules.{sized, unsize}
+use Rattle.type_terms.specs.Promised.Proofs.{In}
+use Rattle.type_terms.specs.Promised.Core.{core_world, core_trait}
+use Rattle.type_terms.specs.Promised.Renumbering.{View}
+use Rattle.type_terms.specs.Promised.Versions.{with_impls, HasLaterImpls}
+use Rattle.type_terms.specs.Promised.LinkedSet.{JoinedSet}
+use Rattle.type_terms.specs.Promised.Versions.{sees_trait}
 use Rattle.type_terms.proofs.Members.{in-filter, filter-in, member-some, self-number}
 
 -- where core sees just core, it stands there and has its impls

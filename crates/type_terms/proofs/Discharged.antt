@@ -1,11 +1,11 @@
 -- A proof from where-clauses, put into: where what the where-clauses give has proofs, so has what is concluded.
 use Rattle.std.proofs.Common.{◌≡◌, ℕ, suc, Bool, true, false, List, [], ◌∷◌, ◌++◌, refl, ap, sym, ◌∙◌, if◌then◌else◌, subst, ◌⊎◌, inl, inr, map, append_assoc}
 use Rattle.std.specs.List.{flat_map}
-use Rattle.type_terms.specs.Label.{Label, Sort, dynamic, placeholder}
-use Rattle.type_terms.specs.Trees.{Trees, none, tree}
-use Rattle.type_terms.specs.Worlds.{World, Reference}
-use Rattle.type_terms.specs.Rules.{Rule, Way, by_impl, by_clause, by_super, built_in, rules, impl_rules, built_in_rules, clause_rules, super_rules, strict_supertraits, same_reference, is_coinductive, is_dyn, asked, sized}
-use Rattle.type_terms.specs.Proofs.{ProofEntry, In, Every, Stands, Follows, IsProof, HasProof}
+use Rattle.type_terms.specs.Promised.Label.{Label, Sort, dynamic, placeholder}
+use Rattle.type_terms.specs.Promised.Trees.{Trees, none, tree}
+use Rattle.type_terms.specs.Promised.Worlds.{World, Reference}
+use Rattle.type_terms.specs.Promised.Rules.{Rule, Way, by_impl, by_clause, by_super, built_in, rules, impl_rules, built_in_rules, clause_rules, super_rules, strict_supertraits, same_reference, is_coinductive, is_dyn, asked, sized}
+use Rattle.type_terms.specs.Promised.Proofs.{ProofEntry, In, Every, Stands, Follows, IsProof, HasProof}
 use Rattle.type_terms.proofs.Members.{here, there, in-cases, in-nothing, in-append, in-left, in-right, in-flat, not-both}
 use Rattle.type_terms.proofs.ProofEntries.{map-in, stands-more, entry-stands, way-built-in, built-in-way}
 use Rattle.type_terms.proofs.NoHolds.{every-member}

@@ -1,15 +1,16 @@
 -- The built-in rules of `dyn` and of unsizing, read in a crate's view and in the set: one list where the crate sees the principal.
 use Rattle.std.proofs.Common.{◌≡◌, ℕ, Bool, true, false, not, List, [], ◌∷◌, ◌++◌, refl, ap, sym, ◌∙◌, ◌&&◌, ◌==◌, if◌then◌else◌, subst, ◌⊎◌, inl, inr, None}
 use Rattle.std.specs.List.{list_all, list_any}
-use Rattle.type_terms.specs.Label.{Label, of_type, of_const, of_lifetime, dynamic, static, adt, value, ref, principal, param, placeholder, infer, canonical, bound}
-use Rattle.type_terms.specs.Trees.{Trees, none, tree, some_node}
-use Rattle.type_terms.specs.Worlds.{World, Reference, view_of, traits_named, structs_named}
-use Rattle.type_terms.specs.Walks.{Met, local, struct_leaf, dyn_leaf, entered, other_leaf, open_place, struct_is, trait_is, dyn_met, visited, until_decisive, open_walk, seen, is_known}
-use Rattle.type_terms.specs.Rules.{Rule, row, sized, same_reference, strict_supertraits, is_declared, are_declared, elaborated, are_dyn_compatible, principal_with, autos_with, asked, is_dyn, object_auto, object_principal, equal_rows, unsize_to_dyn, unsize_dyn, unsize_upcast, object_bound_rules, unsize_to_dyn_rules, upcasts_principal, upcasts_autos, unsize_upcast_rules}
-use Rattle.type_terms.specs.Proofs.{In}
-use Rattle.type_terms.specs.Answers.{is_open}
-use Rattle.type_terms.specs.Renumbering.{View}
-use Rattle.type_terms.specs.LinkedSet.{JoinedSet, sees_trait}
+use Rattle.type_terms.specs.Promised.Label.{Label, of_type, of_const, of_lifetime, dynamic, static, adt, value, ref, principal, param, placeholder, infer, canonical, bound}
+use Rattle.type_terms.specs.Promised.Trees.{Trees, none, tree, some_node}
+use Rattle.type_terms.specs.Promised.Worlds.{World, Reference, view_of, traits_named, structs_named}
+use Rattle.type_terms.specs.Promised.Walks.{Met, local, struct_leaf, dyn_leaf, entered, other_leaf, open_place, struct_is, trait_is, dyn_met, visited, until_decisive, open_walk, seen, is_known}
+use Rattle.type_terms.specs.Promised.Rules.{Rule, row, sized, same_reference, strict_supertraits, is_declared, are_declared, elaborated, are_dyn_compatible, principal_with, autos_with, asked, is_dyn, object_auto, object_principal, equal_rows, unsize_to_dyn, unsize_dyn, unsize_upcast, object_bound_rules, unsize_to_dyn_rules, upcasts_principal, upcasts_autos, unsize_upcast_rules}
+use Rattle.type_terms.specs.Promised.Proofs.{In}
+use Rattle.type_terms.specs.Promised.Answers.{is_open}
+use Rattle.type_terms.specs.Promised.Renumbering.{View}
+use Rattle.type_terms.specs.Promised.LinkedSet.{JoinedSet}
+use Rattle.type_terms.specs.Promised.Versions.{sees_trait}
 use Rattle.type_terms.proofs.WalkLists.{clean}
 use Rattle.type_terms.proofs.Members.{here, there, in-cases, in-nothing, in-right, not-both, so-false}
 use Rattle.type_terms.proofs.Walking.{left, right, both, nobody, nobody-trait}

@@ -1,9 +1,9 @@
 -- What a proof that holds supertraits says of what it concludes.
 use Rattle.std.proofs.Common.{List, [], refl, subst}
-use Rattle.type_terms.specs.Worlds.{World, Reference}
-use Rattle.type_terms.specs.Rules.{Rule, rules, strict_supertraits}
-use Rattle.type_terms.specs.Proofs.{ProofEntry, In, Every, Stands, HasProof}
-use Rattle.type_terms.specs.Elaborated.{IsElaboratedProof, HasElaboratedProof}
+use Rattle.type_terms.specs.Promised.Worlds.{World, Reference}
+use Rattle.type_terms.specs.Promised.Rules.{Rule, rules, strict_supertraits}
+use Rattle.type_terms.specs.Promised.Proofs.{ProofEntry, In, Every, Stands, HasProof}
+use Rattle.type_terms.specs.Promised.Proofs.{IsElaboratedProof, HasElaboratedProof}
 use Rattle.type_terms.proofs.ProofEntries.{map-in, every-map, entry-stands}
 use Rattle.type_terms.proofs.NoHolds.{every-member}
 

@@ -4,10 +4,13 @@ use Rattle.std.specs.Prelude.{position}
 use Rattle.std.specs.List.{slice_get}
 use Rattle.std.proofs.lemmas.Option.{slice_get_within}
 use Rattle.std.proofs.lemmas.List.Sums.{sum_by-append}
-use Rattle.type_terms.specs.Trees.{Trees, ◌+++◌, is_no_tree}
+use Rattle.type_terms.specs.Promised.Trees.{Trees, ◌+++◌}
+use Rattle.type_terms.specs.Trees.{is_no_tree}
 use Rattle.indexmap.specs.IndexMap.{keys, values}
-use Rattle.type_terms.specs.Terms.{Entry, Has, Keeps, trees_at, held, types, consts, args_lists, type_lists, bounds_lists}
-use Rattle.type_terms.specs.Kinds.{kind_trees, arg_trees, args_trees, tys_trees, principal_trees, bounds_trees, autos_trees, KindHeld, ArgHeld, ArgsHeld, TysHeld, PrincipalHeld, BoundsHeld, KindOlder, ArgsOlder, TysOlder, PrincipalOlder}
+use Rattle.type_terms.specs.Promised.Handles.{Entry, Has, Keeps, trees_at, held, types, consts, bounds_lists}
+use Rattle.type_terms.specs.Terms.{args_lists, type_lists}
+use Rattle.type_terms.specs.Kinds.{kind_trees, args_trees, tys_trees, principal_trees, bounds_trees, autos_trees, KindHeld, TysHeld, PrincipalHeld, BoundsHeld, KindOlder, ArgsOlder, TysOlder, PrincipalOlder}
+use Rattle.type_terms.specs.Promised.Handles.{arg_trees, ArgHeld, ArgsHeld}
 use Rattle.type_terms.specs.Nodes.{grow, Older, node_entry, node_trees, kind_of, Held, NodeOlder}
 use Rattle.type_terms.specs.Same.{SameNode}
 use Rattle.type_terms.specs.Counts.{count_of, raised}

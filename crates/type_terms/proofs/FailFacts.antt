@@ -1,10 +1,11 @@
 -- How folds end without an answer.
 use Rattle.std.proofs.Common.{◌≡◌, ℕ, ◌≤◌, List, refl, ap, sym, ◌∙◌, inl, inr}
 use Rattle.std.specs.Prelude.{◌⊎◌, Result, Ok, Err, IfErr, IsErrAnd}
-use Rattle.type_terms.specs.Terms.{Entry, held, bounds_lists}
+use Rattle.type_terms.specs.Promised.Handles.{Entry, held, bounds_lists}
 use Rattle.type_terms.specs.declared.Fault.{Fault}
 use Rattle.type_terms.specs.declared.Fault.TheVariants.{Full, Memory}
-use Rattle.type_terms.specs.Failures.{SomeKindIsFull, full, FailsBy, by_itself, by_fault}
+use Rattle.type_terms.specs.Promised.Handles.{SomeKindIsFull, full}
+use Rattle.type_terms.specs.Failures.{FailsBy, by_itself, by_fault}
 
 -- the error behind a `?` that is made of a fault
 pub fault-error : {T E : Type 0} (own : E → Type 0) (made : Fault → E → Type 0) {es : List Entry} {limit : ℕ} {x : Fault} (r : Result T E)

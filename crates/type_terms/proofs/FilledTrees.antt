@@ -1,10 +1,11 @@
 -- Trees put in for placeholders, and what is done to trees.
 use Rattle.std.proofs.Common.{◌≡◌, ℕ, zero, suc, Bool, true, false, refl, ap, sym, ◌∙◌, ◌==◌, if◌then◌else◌, subst}
-use Rattle.type_terms.specs.Label.{Label, Sort, of_type, of_const, of_lifetime, never, dynamic, bound, param, placeholder, inside, shift_label}
+use Rattle.type_terms.specs.Promised.Label.{Label, Sort, of_type, of_const, of_lifetime, never, dynamic, bound, param, placeholder, inside, shift_label}
 use Rattle.type_terms.specs.Codes.{same}
-use Rattle.type_terms.specs.Trees.{Trees, none, tree, ◌+++◌, leaf, nth, shift, instantiate, first_of, standing_at, arguments_from, arguments, sort_of, some_node, Single, IsA, Fits}
-use Rattle.type_terms.specs.LinkedSet.{is_stray}
-use Rattle.type_terms.specs.Supers.{no_param, dyns_of_bounds}
+use Rattle.type_terms.specs.Promised.Trees.{Trees, none, tree, ◌+++◌, leaf, nth, shift, instantiate, sort_of, some_node, IsA, Fits}
+use Rattle.type_terms.specs.Trees.{first_of, standing_at, arguments_from, arguments, Single}
+use Rattle.type_terms.specs.Promised.LinkedSet.{is_stray}
+use Rattle.type_terms.specs.Promised.Supers.{no_param, dyns_of_bounds}
 use Rattle.type_terms.proofs.Walking.{left, right}
 use Rattle.type_terms.proofs.TreeLaws.{single-nth, single-shift}
 use Rattle.type_terms.proofs.Matching.{same-sound}

@@ -1,10 +1,11 @@
 -- Closed arguments as what stands for placeholders.
 use Rattle.std.proofs.Common.{◌≡◌, ℕ, zero, suc, ◌≤◌, Bool, true, false, refl, ap, sym, ◌∙◌, ◌&&◌, ◌||◌, ◌==◌, subst, ◌⊎◌, inl, inr, arith}
-use Rattle.type_terms.specs.Label.{Label, Sort, of_type, of_const, of_lifetime, dynamic, bound, param, placeholder, inside, shift_label}
-use Rattle.type_terms.specs.Trees.{Trees, none, tree, ◌+++◌, nth, shift, instantiate, sort_of, is_sort, some_node, erase, outer_binder, IsA, Fits}
-use Rattle.type_terms.specs.Answers.{is_open}
-use Rattle.type_terms.specs.LinkedSet.{is_stray}
-use Rattle.type_terms.specs.Supers.{no_param, dyns_of_bounds, opaque, mentions_as}
+use Rattle.type_terms.specs.Promised.Label.{Label, Sort, of_type, of_const, of_lifetime, dynamic, bound, param, placeholder, inside, shift_label}
+use Rattle.type_terms.specs.Promised.Trees.{Trees, none, tree, ◌+++◌, nth, shift, instantiate, sort_of, is_sort, some_node, erase, IsA, Fits}
+use Rattle.type_terms.specs.Trees.{outer_binder}
+use Rattle.type_terms.specs.Promised.Answers.{is_open}
+use Rattle.type_terms.specs.Promised.LinkedSet.{is_stray}
+use Rattle.type_terms.specs.Promised.Supers.{no_param, dyns_of_bounds, opaque, mentions_as}
 use Rattle.type_terms.proofs.Members.{same-number, self-number}
 use Rattle.type_terms.proofs.Walking.{left, right, both, or-left, or-right, or-cases}
 use Rattle.type_terms.proofs.TreeLaws.{shift-closed}

@@ -1,11 +1,12 @@
 -- What a rule of an impl says: arguments that fit, that are closed where the reference is, and a header that is the reference.
 use Rattle.std.proofs.Common.{◌≡◌, ℕ, zero, suc, Bool, true, false, not, [], ◌∷◌, refl, ap, ◌&&◌, ◌||◌, ◌==◌, if◌then◌else◌, ◌⊎◌, inl, inr}
-use Rattle.type_terms.specs.Label.{Label, Sort, of_type, of_const, of_lifetime, never, param}
-use Rattle.type_terms.specs.Trees.{Trees, none, tree, ◌+++◌, leaf, nth, IsA, Fits, is_no_tree, is_sort, is_a, fits, sort_of, some_node, standing_at, arguments_from, arguments, first_of}
-use Rattle.type_terms.specs.Worlds.{Reference, ImplDecl, with_args, all_with_args}
-use Rattle.type_terms.specs.Rules.{Rule, by_impl, impl_rules, same_reference}
-use Rattle.type_terms.specs.Proofs.{In}
-use Rattle.type_terms.specs.Answers.{is_closed, is_open}
+use Rattle.type_terms.specs.Promised.Label.{Label, Sort, of_type, of_const, of_lifetime, never, param}
+use Rattle.type_terms.specs.Promised.Trees.{Trees, none, tree, ◌+++◌, leaf, nth, IsA, Fits, is_sort, sort_of, some_node}
+use Rattle.type_terms.specs.Trees.{is_no_tree, is_a, fits, standing_at, arguments_from, arguments, first_of}
+use Rattle.type_terms.specs.Promised.Worlds.{Reference, ImplDecl, with_args, all_with_args}
+use Rattle.type_terms.specs.Promised.Rules.{Rule, by_impl, impl_rules, same_reference}
+use Rattle.type_terms.specs.Promised.Proofs.{In}
+use Rattle.type_terms.specs.Promised.Answers.{is_closed, is_open}
 use Rattle.type_terms.proofs.Matching.{same-sound, or-false-left as no-left, or-false-right as no-right}
 use Rattle.type_terms.proofs.Members.{in-cases, in-nothing, same-number}
 use Rattle.type_terms.proofs.Walking.{left, right}

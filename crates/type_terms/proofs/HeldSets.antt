@@ -1,17 +1,18 @@
 -- A joined set of crates whose headers' supertraits were checked is a linked set.
 use Rattle.std.proofs.Common.{◌≡◌, ℕ, zero, suc, true, false, List, [], ◌∷◌, refl, ap, sym, ◌∙◌, ◌&&◌, ◌==◌, subst, ◌⊎◌, inl, inr, map, length, Some}
 use Rattle.std.specs.List.{list_all}
-use Rattle.type_terms.specs.Label.{param, placeholder, adt}
-use Rattle.type_terms.specs.Trees.{Trees, none, tree, some_node, erase, Fits}
-use Rattle.type_terms.specs.Worlds.{World, Reference, StructDecl, TraitDecl, ImplDecl, core, sees, view_of, structs_named, with_args, all_with_args}
-use Rattle.type_terms.specs.Erased.{erased_impl, erased_reference}
-use Rattle.type_terms.specs.Rules.{Rule, impl_rules, strict_supertraits, is_coinductive, is_auto, sized}
-use Rattle.type_terms.specs.Proofs.{In, Every, HasProof}
-use Rattle.type_terms.specs.Answers.{is_open, is_closed}
-use Rattle.type_terms.specs.Core.{core_world, box}
-use Rattle.type_terms.specs.Renumbering.{Renumbering, View, HoldsView, view_before, asker_in_set, renumbered_label, renumbered, renumbered_reference, renumbered_impl}
-use Rattle.type_terms.specs.LinkedSet.{JoinedSet, LinkedSet, IsOfAnAnsweredCrate, sees_trait, is_stray, all_args}
-use Rattle.type_terms.specs.Supers.{opaque, opaque_reference, dyns_of_bounds, SupersHold, IsHeld}
+use Rattle.type_terms.specs.Promised.Label.{param, placeholder, adt}
+use Rattle.type_terms.specs.Promised.Trees.{Trees, none, tree, some_node, erase, Fits}
+use Rattle.type_terms.specs.Promised.Worlds.{World, Reference, StructDecl, TraitDecl, ImplDecl, core, sees, view_of, structs_named, with_args, all_with_args}
+use Rattle.type_terms.specs.Promised.Erased.{erased_impl, erased_reference}
+use Rattle.type_terms.specs.Promised.Rules.{Rule, impl_rules, strict_supertraits, is_coinductive, is_auto, sized}
+use Rattle.type_terms.specs.Promised.Proofs.{In, Every, HasProof}
+use Rattle.type_terms.specs.Promised.Answers.{is_open, is_closed}
+use Rattle.type_terms.specs.Promised.Core.{core_world, box}
+use Rattle.type_terms.specs.Promised.Renumbering.{Renumbering, View, HoldsView, view_before, asker_in_set, renumbered_label, renumbered, renumbered_reference, renumbered_impl}
+use Rattle.type_terms.specs.Promised.LinkedSet.{JoinedSet, LinkedSet, IsOfAnAnsweredCrate, is_stray, all_args}
+use Rattle.type_terms.specs.Promised.Versions.{sees_trait}
+use Rattle.type_terms.specs.Promised.Supers.{opaque, opaque_reference, dyns_of_bounds, SupersHold, IsHeld}
 use Rattle.type_terms.proofs.Members.{in-filter, filter-in, same-number, true-or-false}
 use Rattle.type_terms.proofs.Walking.{left, right, or-cases}
 use Rattle.type_terms.proofs.ProofEntries.{map-in}

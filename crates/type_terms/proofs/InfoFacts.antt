@@ -5,10 +5,12 @@ use Rattle.std.specs.Int.{bit_at}
 use Rattle.std.proofs.lemmas.Nat.{or_comm, or_lt}
 use Rattle.std.proofs.lemmas.Nat.Bits.{bit_at_or, same_from_bits_below}
 use Rattle.std.proofs.Math.Nat.{max-zero, zero-max, two-pow-succ, pow-le-pow_right}
-use Rattle.type_terms.specs.Label.{Label, fn_ptr, principal, auto_trait}
-use Rattle.type_terms.specs.Trees.{Trees, none, tree, leaf, ◌+++◌, flags, outer_binder, depth, label_flags, own_binder, outside}
-use Rattle.type_terms.specs.Terms.{Entry, Has, trees_at, types}
-use Rattle.type_terms.specs.Kinds.{arg_trees, args_trees, tys_trees, autos_trees, ArgHeld, ArgsHeld, TysHeld}
+use Rattle.type_terms.specs.Promised.Label.{Label, fn_ptr, principal, auto_trait}
+use Rattle.type_terms.specs.Promised.Trees.{Trees, none, tree, leaf, ◌+++◌}
+use Rattle.type_terms.specs.Trees.{flags, outer_binder, depth, label_flags, own_binder, outside}
+use Rattle.type_terms.specs.Promised.Handles.{Entry, Has, trees_at, types}
+use Rattle.type_terms.specs.Promised.Handles.{arg_trees, ArgHeld, ArgsHeld}
+use Rattle.type_terms.specs.Kinds.{args_trees, tys_trees, autos_trees, TysHeld}
 use Rattle.type_terms.specs.Infos.{info_of, join, node_info}
 use Rattle.type_terms.specs.declared.TraitId.{TraitId}
 use Rattle.type_terms.specs.declared.node.Info.{Info}

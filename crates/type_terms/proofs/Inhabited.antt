@@ -1,14 +1,15 @@
 -- A linked set with core, a supertrait, a struct and two impls: the record's conditions can be met.
 use Rattle.std.proofs.Common.{◌≡◌, ℕ, true, List, [], ◌∷◌, ◌++◌, refl, sym, subst, ◌⊎◌, inl, inr, map}
-use Rattle.type_terms.specs.Label.{adt}
-use Rattle.type_terms.specs.Trees.{Trees, leaf, arguments, Fits}
-use Rattle.type_terms.specs.Worlds.{World, Reference, ImplDecl, structs_named, with_args}
+use Rattle.type_terms.specs.Promised.Label.{adt}
+use Rattle.type_terms.specs.Promised.Trees.{Trees, leaf, Fits}
+use Rattle.type_terms.specs.Trees.{arguments}
+use Rattle.type_terms.specs.Promised.Worlds.{World, Reference, ImplDecl, structs_named, with_args}
 use Rattle.type_terms.specs.Worked.{first, impl_of, linked_example}
-use Rattle.type_terms.specs.Rules.{asked, by_impl, Rule, impl_rules}
-use Rattle.type_terms.specs.Proofs.{In, Every, HasProof}
-use Rattle.type_terms.specs.Answers.{is_closed}
-use Rattle.type_terms.specs.Core.{core_world, box}
-use Rattle.type_terms.specs.LinkedSet.{LinkedSet}
+use Rattle.type_terms.specs.Promised.Rules.{asked, by_impl, Rule, impl_rules}
+use Rattle.type_terms.specs.Promised.Proofs.{In, Every, HasProof}
+use Rattle.type_terms.specs.Promised.Answers.{is_closed}
+use Rattle.type_terms.specs.Promised.Core.{core_world, box}
+use Rattle.type_terms.specs.Promised.LinkedSet.{LinkedSet}
 use Rattle.type_terms.proofs.Members.{in-cases, in-nothing, in-append, in-left}
 use Rattle.type_terms.proofs.Fitting.{impl-rule}
 use Rattle.type_terms.proofs.SupersProved.{CoreLike, Supers}

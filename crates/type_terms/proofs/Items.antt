@@ -1,11 +1,14 @@
 -- Lists of types and of arguments, item by item.
 use Rattle.std.proofs.Common.{◌≡◌, ℕ, zero, suc, ◌+◌, ◌<◌, ◌≤◌, List, [], ◌∷◌, ◌++◌, length, take, get_or, refl, ap, sym, ◌∙◌, arith, false}
 use Rattle.std.proofs.lemmas.Grind.{common_steps}
-use Rattle.type_terms.specs.Label.{of_type}
-use Rattle.type_terms.specs.Trees.{Trees, none, tree, ◌+++◌, Single, IsA, is_no_tree}
+use Rattle.type_terms.specs.Promised.Label.{of_type}
+use Rattle.type_terms.specs.Promised.Trees.{Trees, none, tree, ◌+++◌, IsA}
+use Rattle.type_terms.specs.Trees.{Single, is_no_tree}
 use Rattle.type_terms.proofs.TreeLaws.{append-none, append-assoc}
-use Rattle.type_terms.specs.Terms.{Entry, Has, Lawful, types, trees_at}
-use Rattle.type_terms.specs.Kinds.{TysHeld, TysOlder, tys_trees, ArgHeld, ArgsHeld, ArgOlder, ArgsOlder, arg_trees, args_trees}
+use Rattle.type_terms.specs.Promised.Handles.{Entry, Has, types, trees_at}
+use Rattle.type_terms.specs.Terms.{Lawful}
+use Rattle.type_terms.specs.Kinds.{TysHeld, TysOlder, tys_trees, ArgOlder, ArgsOlder, args_trees}
+use Rattle.type_terms.specs.Promised.Handles.{ArgHeld, ArgsHeld, arg_trees}
 use Rattle.type_terms.specs.declared.kinds.Ty as of_ty
 use Rattle.type_terms.specs.declared.kinds.GenericArgKind.{GenericArgKind}
 use Rattle.type_terms.specs.Kept.{is-at}

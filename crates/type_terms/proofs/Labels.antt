@@ -1,8 +1,9 @@
 -- What stands in a label is found again from it.
 use Rattle.std.proofs.Common.{◌≡◌, ℕ, ◌≤◌, refl, ap, sym, ◌∙◌, arith, subst}
 use Rattle.std.proofs.Math.Bridge.{le_prop}
-use Rattle.type_terms.specs.Label.{Label, Sort, of_const, of_lifetime, bool, char, str, never, array, slice, tuple, dynamic, static, int, uint, adt, fn_ptr, value, ref, raw_pointer, param, placeholder, infer, canonical, bound}
-use Rattle.type_terms.specs.Kinds.{int_number, uint_number, is_mut, bound_label, region_label, const_label}
+use Rattle.type_terms.specs.Promised.Label.{Label, Sort, of_const, of_lifetime, bool, char, str, never, array, slice, tuple, dynamic, static, int, uint, adt, fn_ptr, value, ref, raw_pointer, param, placeholder, infer, canonical, bound}
+use Rattle.type_terms.specs.Kinds.{int_number, uint_number, is_mut, const_label}
+use Rattle.type_terms.specs.Promised.Handles.{bound_label, region_label}
 use Rattle.type_terms.specs.declared.TheConstants.{MAX_INDEX}
 use Rattle.type_terms.specs.declared.AdtId.{AdtId}
 use Rattle.type_terms.specs.declared.TraitId.{TraitId}

@@ -1,13 +1,14 @@
 -- A user stands in a set where the crate that it uses has a later version.
 use Rattle.std.proofs.Common.{◌≡◌, [], ◌∷◌, ◌++◌, refl, ap, ◌⊎◌, inl, inr, subst, arith}
-use Rattle.type_terms.specs.Label.{adt}
-use Rattle.type_terms.specs.Trees.{Trees, leaf}
-use Rattle.type_terms.specs.Worlds.{World, ImplDecl, view_of, with_args}
-use Rattle.type_terms.specs.Rules.{asked, by_impl}
-use Rattle.type_terms.specs.Proofs.{In}
-use Rattle.type_terms.specs.Core.{core_world}
-use Rattle.type_terms.specs.Renumbering.{as_they_are, View, HoldsView, view_before}
-use Rattle.type_terms.specs.Versions.{Added}
+use Rattle.type_terms.specs.Promised.Label.{adt}
+use Rattle.type_terms.specs.Promised.Trees.{Trees, leaf}
+use Rattle.type_terms.specs.Promised.Worlds.{World, ImplDecl, view_of, with_args}
+use Rattle.type_terms.specs.Promised.Rules.{asked, by_impl}
+use Rattle.type_terms.specs.Promised.Proofs.{In}
+use Rattle.type_terms.specs.Promised.Core.{core_world}
+use Rattle.type_terms.specs.Renumbering.{as_they_are}
+use Rattle.type_terms.specs.Promised.Renumbering.{View, HoldsView, view_before}
+use Rattle.type_terms.specs.Promised.Versions.{Added}
 use Rattle.type_terms.specs.Worked.{base, u8, impl_of, text_of_a_user, set_with_a_later_base, ALaterVersionInOneSet, OwnLaterVersions}
 use Rattle.type_terms.proofs.Members.{here, in-cases, in-nothing, in-append, in-left, in-right}
 use Rattle.type_terms.proofs.SupersProved.{CoreLike, Supers}

@@ -1,16 +1,19 @@
 -- A crate whose used crates stand at later versions: what it saw once, the set concludes; what they have added is unknown to it.
 use Rattle.std.proofs.Common.{◌≡◌, ℕ, zero, Bool, true, false, List, [], ◌∷◌, ◌++◌, suc, refl, ap, sym, ◌∙◌, ◌&&◌, ◌||◌, ◌==◌, if◌then◌else◌, subst, ◌⊎◌, inl, inr, Some, None, IsTrue}
 use Rattle.std.specs.List.{flat_map, list_all, list_any}
-use Rattle.type_terms.specs.Label.{Label, of_type, of_const, of_lifetime, dynamic, static, adt, value, ref, principal, param, placeholder, infer, canonical, bound}
-use Rattle.type_terms.specs.Trees.{Trees, none, tree, arguments, instantiate, Fits}
-use Rattle.type_terms.specs.Worlds.{World, Reference, TraitDecl, ImplDecl, structs_named, traits_named, sees, view_of, with_args}
-use Rattle.type_terms.specs.Walks.{Met, local, struct_leaf, dyn_leaf, entered, struct_is, trait_is, dyn_met, visited, open_walk, walk, ends_local, keeps_orphan_rule, seen, is_known, is_known_in}
-use Rattle.type_terms.specs.Rules.{clause_rules, super_rules, same_reference, by_clause, Rule, rules, impl_rules, built_in_rules, strict_supertraits, is_auto, is_written, same_head}
-use Rattle.type_terms.specs.Proofs.{ProofEntry, In, Every, Follows, HasProof}
-use Rattle.type_terms.specs.Answers.{is_closed, children, is_bounded, is_possible, CommonInstance, IsFixedClause}
-use Rattle.type_terms.specs.Renumbering.{View}
-use Rattle.type_terms.specs.LinkedSet.{JoinedSet, LinkedSet, Unknown, Cleared, in_scope, sees_struct, sees_trait}
-use Rattle.type_terms.specs.Versions.{Added, with_impls, SeesLaterVersions}
+use Rattle.type_terms.specs.Promised.Label.{Label, of_type, of_const, of_lifetime, dynamic, static, adt, value, ref, principal, param, placeholder, infer, canonical, bound}
+use Rattle.type_terms.specs.Promised.Trees.{Trees, none, tree, instantiate, Fits}
+use Rattle.type_terms.specs.Trees.{arguments}
+use Rattle.type_terms.specs.Promised.Worlds.{World, Reference, TraitDecl, ImplDecl, structs_named, traits_named, sees, view_of, with_args}
+use Rattle.type_terms.specs.Promised.Walks.{Met, local, struct_leaf, dyn_leaf, entered, struct_is, trait_is, dyn_met, visited, open_walk, walk, ends_local, keeps_orphan_rule, seen, is_known, is_known_in}
+use Rattle.type_terms.specs.Promised.Rules.{clause_rules, super_rules, same_reference, by_clause, Rule, rules, impl_rules, built_in_rules, strict_supertraits, is_auto, is_written, same_head}
+use Rattle.type_terms.specs.Promised.Proofs.{ProofEntry, In, Every, Follows, HasProof}
+use Rattle.type_terms.specs.Promised.Answers.{is_closed, children, is_bounded, is_possible, CommonInstance, IsFixedClause}
+use Rattle.type_terms.specs.Promised.Renumbering.{View}
+use Rattle.type_terms.specs.Promised.LinkedSet.{JoinedSet, LinkedSet, Cleared}
+use Rattle.type_terms.specs.LinkedSet.{Unknown}
+use Rattle.type_terms.specs.Promised.Versions.{in_scope, sees_struct, sees_trait}
+use Rattle.type_terms.specs.Promised.Versions.{Added, with_impls, SeesLaterVersions}
 use Rattle.type_terms.proofs.WalkLists.{clean, allowed, of_home}
 use Rattle.type_terms.proofs.Members.{in-filter, filter-in, some-member, member-some, in-append, in-left, in-right, in-flat, flat-in, true-or-false, not-both, so-false, same-number, self-number}
 use Rattle.type_terms.proofs.Walking.{left, right, or-left, or-right, or-cases, passed, walks-local, local-cases, nobody, nobody-trait}

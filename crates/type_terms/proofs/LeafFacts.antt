@@ -1,7 +1,7 @@
 -- What a visit finds below a node that has no part: nothing.
 use Rattle.std.proofs.Common.{◌≡◌, ℕ, List, refl, None}
-use Rattle.type_terms.specs.Trees.{Trees}
-use Rattle.type_terms.specs.Terms.{Entry, Is, consts, trees_at}
+use Rattle.type_terms.specs.Promised.Trees.{Trees}
+use Rattle.type_terms.specs.Promised.Handles.{Entry, Is, consts, trees_at}
 use Rattle.type_terms.specs.Kinds.{kind_trees, const_trees}
 use Rattle.type_terms.specs.declared.AdtId.{AdtId}
 use Rattle.type_terms.specs.declared.region.Region.{Region}

@@ -1,8 +1,9 @@
 -- Terms as they are made, taken apart.
 use Rattle.std.proofs.Common.{◌≡◌, ℕ, Bool, true, false, not, ◌&&◌, ◌||◌, refl}
 pub use Rattle.type_terms.proofs.Walking.{left, right, both}
-use Rattle.type_terms.specs.Label.{Label, of_lifetime, dynamic, principal, auto_trait, predicate}
-use Rattle.type_terms.specs.Trees.{Trees, none, tree, ◌+++◌, sort_of, is_sort, is_no_tree}
+use Rattle.type_terms.specs.Promised.Label.{Label, of_lifetime, dynamic, principal, auto_trait, predicate}
+use Rattle.type_terms.specs.Promised.Trees.{Trees, none, tree, ◌+++◌, sort_of, is_sort}
+use Rattle.type_terms.specs.Trees.{is_no_tree}
 use Rattle.type_terms.specs.Made.{Standing, terms, bounds, traits, is_leaf_label, is_made}
 
 pub false-true : false ≡ true → ⊥

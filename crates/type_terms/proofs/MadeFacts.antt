@@ -1,10 +1,12 @@
 -- Each term is made as it is to be, where its parts are.
 use Rattle.std.proofs.Common.{◌≡◌, ◌≢◌, ℕ, Bool, true, ◌&&◌, List, [], ◌∷◌, ◌++◌, refl, arith, Option, Some, None, le-leb}
-use Rattle.type_terms.specs.Label.{Label, Sort, of_lifetime, param, placeholder, infer, canonical, bound, static}
-use Rattle.type_terms.specs.Trees.{leaf, ◌+++◌, sort_of}
+use Rattle.type_terms.specs.Promised.Label.{Label, Sort, of_lifetime, param, placeholder, infer, canonical, bound, static}
+use Rattle.type_terms.specs.Promised.Trees.{leaf, ◌+++◌, sort_of}
 use Rattle.type_terms.specs.Made.{terms, bounds, traits, is_made, is_in_range}
-use Rattle.type_terms.specs.Terms.{Entry, Has, trees_at, types, consts, args_lists, type_lists, bounds_lists, Made, AllMade}
-use Rattle.type_terms.specs.Kinds.{kind_trees, const_trees, region_label, region_trees, arg_trees, args_trees, tys_trees, principal_trees, autos_trees, bound_label, KindHeld, ArgHeld, ArgsHeld, TysHeld, PrincipalHeld}
+use Rattle.type_terms.specs.Promised.Handles.{Entry, Has, trees_at, types, consts, bounds_lists}
+use Rattle.type_terms.specs.Terms.{args_lists, type_lists, Made, AllMade}
+use Rattle.type_terms.specs.Kinds.{kind_trees, const_trees, args_trees, tys_trees, principal_trees, autos_trees, KindHeld, TysHeld, PrincipalHeld}
+use Rattle.type_terms.specs.Promised.Handles.{region_label, region_trees, arg_trees, bound_label, ArgHeld, ArgsHeld}
 use Rattle.type_terms.specs.Nodes.{grow, node_entry, Held, Older}
 use Rattle.type_terms.specs.declared.TraitId.{TraitId}
 use Rattle.type_terms.specs.declared.node.Node.{Node}

@@ -1,8 +1,9 @@
 -- What a rule of an impl says: its header, with the rule's arguments, is the reference.
 use Rattle.std.proofs.Common.{◌≡◌, ℕ, zero, suc, ◌+◌, Bool, true, false, refl, ap, sym, ◌∙◌, ◌||◌, ◌==◌, arith, subst, ◌⊎◌, inl, inr, ◌<◌, add-zero}
-use Rattle.type_terms.specs.Label.{Label, Sort, never, param, fn_ptr, principal}
+use Rattle.type_terms.specs.Promised.Label.{Label, Sort, never, param, fn_ptr, principal}
 use Rattle.type_terms.specs.Erased.{mentions}
-use Rattle.type_terms.specs.Trees.{Trees, none, tree, ◌+++◌, leaf, instantiate, standing_at, arguments_from, nth, first_of, shift, Single, outer_binder}
+use Rattle.type_terms.specs.Promised.Trees.{Trees, none, tree, ◌+++◌, leaf, instantiate, nth, shift}
+use Rattle.type_terms.specs.Trees.{standing_at, arguments_from, first_of, Single, outer_binder}
 use Rattle.type_terms.specs.Codes.{same, same_label, same_numbers, numbers, label_at, label_back}
 use Rattle.type_terms.proofs.TreeLaws.{single-nth, single-shift, shift-closed, nth-binder, nth-single-zero, nth-single-suc}
 use Rattle.std.proofs.lemmas.Bool.Decides.{nat_tests}

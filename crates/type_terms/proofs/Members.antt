@@ -2,7 +2,7 @@
 use Rattle.std.proofs.Common.{◌≡◌, ℕ, zero, suc, Bool, true, false, List, [], ◌∷◌, ◌++◌, refl, ap, sym, ◌∙◌, ◌||◌, ◌==◌, cond, subst, ◌⊎◌, inl, inr, map, filter, arith}
 use Rattle.std.proofs.lemmas.Bool.Decides.{nat_tests}
 use Rattle.std.specs.List.{flat_map, list_any}
-use Rattle.type_terms.specs.Proofs.{In}
+use Rattle.type_terms.specs.Promised.Proofs.{In}
 
 pub here : {A : Type 0} (x : A) (xs : List A) → In x (x ∷ xs)
 here x xs = (0, refl)

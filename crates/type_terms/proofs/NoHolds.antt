@@ -2,15 +2,17 @@
 use Rattle.std.proofs.Common.{◌≡◌, ℕ, zero, suc, ◌≤◌, Bool, true, false, not, List, [], ◌∷◌, ◌++◌, refl, ap, sym, ◌∙◌, ◌&&◌, ◌||◌, ◌==◌, if◌then◌else◌, cond, subst, ◌⊎◌, inl, inr, map, filter, length, arith}
 use Rattle.std.specs.List.{flat_map, list_all, list_any}
 use Rattle.type_terms.specs.Codes.{same}
-use Rattle.type_terms.specs.Label.{Label, param, placeholder, infer, canonical, bound, inside, array, slice, tuple, adt, raw_pointer, ref, fn_ptr, dynamic, principal, auto_trait}
-use Rattle.type_terms.specs.Trees.{Trees, none, tree, ◌+++◌, instantiate, shift, nth, some_node, arguments}
-use Rattle.type_terms.specs.Worlds.{World, Reference, StructDecl, TraitDecl, ImplDecl, structs_named, traits_named, sees, view_of, with_args, all_with_args}
-use Rattle.type_terms.specs.Walks.{is_known, is_known_in}
-use Rattle.type_terms.specs.Rules.{BuiltIn, sized_tuple, sized_struct, copy_tuple, auto_element, auto_tuple, auto_struct, fn_ptr_call, object_auto, object_principal, equal_rows, upcasts_principal, upcasts_autos, are_declared, unsize_array, unsize_to_dyn, unsize_dyn, unsize_upcast, unsize_struct, Rule, rules, impl_rules, built_in_rules, plain_rules, sized_rules, copy_rules, tuple_rules, fn_ptr_rules, call_rules, but_last, auto_rules, auto_rules_plain, unsize_rules, unsize_array_rules, unsize_to_dyn_rules, unsize_upcast_rules, unsize_struct_rules, some_unsizing, with_unsizing, last_unsizes, object_rules, principal_with, autos_with, elaborated, is_declared, are_dyn_compatible, is_dyn, same_reference, is_auto, is_written, is_fn_trait, sized, copy, clone, tuple_trait, fn_ptr_trait, unsize, row, asked, last_asked, each_asked, together, fields_of, strict_supertraits, strict_supertraits_within, written_supertraits}
-use Rattle.type_terms.specs.Proofs.{ProofEntry, In, Every, HasProof}
-use Rattle.type_terms.specs.Answers.{is_closed, is_open, children, short_chains, is_possible, is_bounded, written_in, FixedLeft, FixedRight, IsFixedClause}
-use Rattle.type_terms.specs.Renumbering.{View}
-use Rattle.type_terms.specs.LinkedSet.{JoinedSet, Unknown, is_stray, Cleared}
+use Rattle.type_terms.specs.Promised.Label.{Label, param, placeholder, infer, canonical, bound, inside, array, slice, tuple, adt, raw_pointer, ref, fn_ptr, dynamic, principal, auto_trait}
+use Rattle.type_terms.specs.Promised.Trees.{Trees, none, tree, ◌+++◌, instantiate, shift, nth, some_node}
+use Rattle.type_terms.specs.Trees.{arguments}
+use Rattle.type_terms.specs.Promised.Worlds.{World, Reference, StructDecl, TraitDecl, ImplDecl, structs_named, traits_named, sees, view_of, with_args, all_with_args}
+use Rattle.type_terms.specs.Promised.Walks.{is_known, is_known_in}
+use Rattle.type_terms.specs.Promised.Rules.{BuiltIn, sized_tuple, sized_struct, copy_tuple, auto_element, auto_tuple, auto_struct, fn_ptr_call, object_auto, object_principal, equal_rows, upcasts_principal, upcasts_autos, are_declared, unsize_array, unsize_to_dyn, unsize_dyn, unsize_upcast, unsize_struct, Rule, rules, impl_rules, built_in_rules, plain_rules, sized_rules, copy_rules, tuple_rules, fn_ptr_rules, call_rules, but_last, auto_rules, auto_rules_plain, unsize_rules, unsize_array_rules, unsize_to_dyn_rules, unsize_upcast_rules, unsize_struct_rules, some_unsizing, with_unsizing, last_unsizes, object_rules, principal_with, autos_with, elaborated, is_declared, are_dyn_compatible, is_dyn, same_reference, is_auto, is_written, is_fn_trait, sized, copy, clone, tuple_trait, fn_ptr_trait, unsize, row, asked, last_asked, each_asked, together, fields_of, strict_supertraits, strict_supertraits_within, written_supertraits}
+use Rattle.type_terms.specs.Promised.Proofs.{ProofEntry, In, Every, HasProof}
+use Rattle.type_terms.specs.Promised.Answers.{is_closed, is_open, children, short_chains, is_possible, is_bounded, written_in, FixedLeft, FixedRight, IsFixedClause}
+use Rattle.type_terms.specs.Promised.Renumbering.{View}
+use Rattle.type_terms.specs.Promised.LinkedSet.{JoinedSet, is_stray, Cleared}
+use Rattle.type_terms.specs.LinkedSet.{Unknown}
 use Rattle.type_terms.proofs.Members.{here, there, in-cases, in-nothing, in-filter, filter-in, in-append, in-left, in-right, in-flat, flat-in, in-map, not-both}
 use Rattle.type_terms.proofs.Walking.{left, right, both, or-left, or-right}
 use Rattle.type_terms.proofs.Fitting.{impl-rule, closed-arguments, not-true, or-no, append-shut, head-shut, child-shut, next-shut}

@@ -1,16 +1,18 @@
 -- In a linked set whose visited pairs are cleared no closed reference has proofs by two impls; added impls of later versions.
 use Rattle.std.proofs.Common.{◌≡◌, ℕ, zero, suc, ◌<◌, Bool, true, false, List, [], ◌∷◌, refl, ap, sym, ◌∙◌, ◌||◌, ◌&&◌, not, ◌==◌, if◌then◌else◌, subst, ◌⊎◌, inl, inr, Some, None, IsTrue, map, arith, length}
 use Rattle.std.specs.List.{list_all, list_any}
-use Rattle.type_terms.specs.Label.{of_type, of_const, of_lifetime, dynamic, static, adt, value, ref, principal, param, placeholder, infer, canonical, bound}
-use Rattle.type_terms.specs.Trees.{Trees, none, tree, instantiate, Fits, arguments}
-use Rattle.type_terms.specs.Worlds.{World, CrateDecl, Reference, ImplDecl, core, structs_named, traits_named, crates_named, sees, sees_within, with_args}
-use Rattle.type_terms.specs.Walks.{Met, local, struct_leaf, dyn_leaf, entered, other_leaf, open_place, struct_is, trait_is, dyn_met, visited, until_decisive, keeps_orphan_rule, is_known}
-use Rattle.type_terms.specs.Rules.{Rule, by_impl, rules, impl_rules}
-use Rattle.type_terms.specs.Proofs.{ProofEntry, In, Every, HasProof, HasProofByImpl}
-use Rattle.type_terms.specs.Answers.{is_closed, CommonInstance}
-use Rattle.type_terms.specs.Renumbering.{View}
-use Rattle.type_terms.specs.Versions.{Added, is_open_place, open_walk_meets_param, in_scope, sees_struct, sees_trait}
-use Rattle.type_terms.specs.LinkedSet.{JoinedSet, Visited, Cleared}
+use Rattle.type_terms.specs.Promised.Label.{of_type, of_const, of_lifetime, dynamic, static, adt, value, ref, principal, param, placeholder, infer, canonical, bound}
+use Rattle.type_terms.specs.Promised.Trees.{Trees, none, tree, instantiate, Fits}
+use Rattle.type_terms.specs.Trees.{arguments}
+use Rattle.type_terms.specs.Promised.Worlds.{World, CrateDecl, Reference, ImplDecl, core, structs_named, traits_named, crates_named, sees, sees_within, with_args}
+use Rattle.type_terms.specs.Promised.Walks.{Met, local, struct_leaf, dyn_leaf, entered, other_leaf, open_place, struct_is, trait_is, dyn_met, visited, until_decisive, keeps_orphan_rule, is_known}
+use Rattle.type_terms.specs.Promised.Rules.{Rule, by_impl, rules, impl_rules}
+use Rattle.type_terms.specs.Promised.Proofs.{ProofEntry, In, Every, HasProof, HasProofByImpl}
+use Rattle.type_terms.specs.Promised.Answers.{is_closed, CommonInstance}
+use Rattle.type_terms.specs.Promised.Renumbering.{View}
+use Rattle.type_terms.specs.Promised.Versions.{Added, is_open_place, open_walk_meets_param, in_scope, sees_struct, sees_trait}
+use Rattle.type_terms.specs.Promised.LinkedSet.{JoinedSet, Cleared}
+use Rattle.type_terms.specs.LinkedSet.{Visited}
 use Rattle.type_terms.proofs.WalkLists.{clean, allowed, before, of_home}
 use Rattle.type_terms.proofs.Members.{in-filter, some-member, same-number, not-both}
 use Rattle.type_terms.proofs.Walking.{left, right, or-cases, reached, passed, walks-local, nobody, nobody-trait, each-append}

@@ -1,11 +1,12 @@
 -- In a world that lists auto traits in one order no two lists have the same members.
 use Rattle.std.proofs.Common.{◌≡◌, ℕ, zero, suc, ◌<◌, true, ap, sym, ◌∙◌, subst, ◌⊎◌, inl, inr, arith, leb}
 use Rattle.std.proofs.lemmas.Bool.Decides.{nat_tests}
-use Rattle.type_terms.specs.Label.{auto_trait}
-use Rattle.type_terms.specs.Trees.{Trees, none, tree}
-use Rattle.type_terms.specs.Proofs.{In}
-use Rattle.type_terms.specs.LinkedSet.{autos_rise}
-use Rattle.type_terms.specs.Arranging.{autos_in, with_autos, arranged, RisesBy}
+use Rattle.type_terms.specs.Promised.Label.{auto_trait}
+use Rattle.type_terms.specs.Promised.Trees.{Trees, none, tree}
+use Rattle.type_terms.specs.Promised.Proofs.{In}
+use Rattle.type_terms.specs.Promised.LinkedSet.{autos_rise}
+use Rattle.type_terms.specs.Promised.Arranging.{autos_in, with_autos, arranged}
+use Rattle.type_terms.specs.Arranging.{RisesBy}
 use Rattle.type_terms.specs.ArrangingLaws.{OneOrderIsOneList}
 use Rattle.type_terms.proofs.Members.{in-cases, in-nothing}
 use Rattle.type_terms.proofs.Walking.{left, right}

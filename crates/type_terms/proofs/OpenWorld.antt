@@ -1,15 +1,18 @@
 -- In a linked set, a rule with proofs that a crate's view doesn't give concludes a reference that is unknown to the crate.
 use Rattle.std.proofs.Common.{◌≡◌, ℕ, zero, suc, Bool, true, false, List, [], ◌∷◌, ◌++◌, refl, ap, sym, ◌∙◌, ◌&&◌, ◌==◌, not, if◌then◌else◌, subst, ◌⊎◌, inl, inr, None, IsTrue, filter, length}
 use Rattle.std.specs.List.{flat_map, list_all, list_any}
-use Rattle.type_terms.specs.Label.{array, slice, dynamic, adt, ref, raw_pointer}
-use Rattle.type_terms.specs.Trees.{Trees, none, tree, arguments, some_node}
-use Rattle.type_terms.specs.Worlds.{World, Reference, StructDecl, TraitDecl, ImplDecl, structs_named, traits_named, sees, view_of, all_with_args}
-use Rattle.type_terms.specs.Walks.{struct_is, visited, until_decisive, open_walk, seen, is_known, Met, local, entered, struct_leaf}
-use Rattle.type_terms.specs.Rules.{BuiltIn, sized_struct, auto_struct, object_auto, object_principal, equal_rows, unsize_struct, built_in, Rule, rules, impl_rules, built_in_rules, plain_rules, sized_rules, auto_rules, auto_rules_plain, unsize_rules, unsize_array_rules, unsize_to_dyn_rules, unsize_upcast_rules, unsize_struct_rules, some_unsizing, with_unsizing, last_unsizes, object_bound_rules, object_rules, principal_with, autos_with, same_reference, elaborated, is_declared, are_dyn_compatible, is_auto, is_written, same_head, sized, unsize, strict_supertraits, strict_supertraits_within, written_supertraits, row, last_asked, each_asked, fields_of}
-use Rattle.type_terms.specs.Proofs.{In, Every, HasProof}
-use Rattle.type_terms.specs.Answers.{is_closed, is_open}
-use Rattle.type_terms.specs.Renumbering.{View}
-use Rattle.type_terms.specs.LinkedSet.{JoinedSet, LinkedSet, Unknown, sees_struct, sees_trait, in_scope}
+use Rattle.type_terms.specs.Promised.Label.{array, slice, dynamic, adt, ref, raw_pointer}
+use Rattle.type_terms.specs.Promised.Trees.{Trees, none, tree, some_node}
+use Rattle.type_terms.specs.Trees.{arguments}
+use Rattle.type_terms.specs.Promised.Worlds.{World, Reference, StructDecl, TraitDecl, ImplDecl, structs_named, traits_named, sees, view_of, all_with_args}
+use Rattle.type_terms.specs.Promised.Walks.{struct_is, visited, until_decisive, open_walk, seen, is_known, Met, local, entered, struct_leaf}
+use Rattle.type_terms.specs.Promised.Rules.{BuiltIn, sized_struct, auto_struct, object_auto, object_principal, equal_rows, unsize_struct, built_in, Rule, rules, impl_rules, built_in_rules, plain_rules, sized_rules, auto_rules, auto_rules_plain, unsize_rules, unsize_array_rules, unsize_to_dyn_rules, unsize_upcast_rules, unsize_struct_rules, some_unsizing, with_unsizing, last_unsizes, object_bound_rules, object_rules, principal_with, autos_with, same_reference, elaborated, is_declared, are_dyn_compatible, is_auto, is_written, same_head, sized, unsize, strict_supertraits, strict_supertraits_within, written_supertraits, row, last_asked, each_asked, fields_of}
+use Rattle.type_terms.specs.Promised.Proofs.{In, Every, HasProof}
+use Rattle.type_terms.specs.Promised.Answers.{is_closed, is_open}
+use Rattle.type_terms.specs.Promised.Renumbering.{View}
+use Rattle.type_terms.specs.Promised.LinkedSet.{JoinedSet, LinkedSet}
+use Rattle.type_terms.specs.LinkedSet.{Unknown}
+use Rattle.type_terms.specs.Promised.Versions.{sees_struct, sees_trait, in_scope}
 use Rattle.type_terms.proofs.Members.{here, in-cases, in-nothing, in-filter, filter-in, some-member, member-some, in-append, in-left, in-right, in-flat, flat-in, true-or-false, not-both, so-false, same-number}
 use Rattle.type_terms.proofs.Walking.{left, right, nobody}
 use Rattle.type_terms.proofs.Unseen.{OneEach, struct-there, trait-there, walk-lemma}

@@ -1,11 +1,11 @@
 -- A world with other crates and impls: what reads structs and traits alone is the same there.
 use Rattle.std.proofs.Common.{◌≡◌, ℕ, zero, suc, Bool, true, false, List, [], ◌∷◌, ◌++◌, refl, ap, ◌∙◌, ◌&&◌, ◌||◌, ◌==◌, not, if◌then◌else◌, Option, None, Some, length}
 use Rattle.std.specs.List.{flat_map, list_all, list_any}
-use Rattle.type_terms.specs.Label.{Label, of_type, of_const, of_lifetime, adt, array, slice, raw_pointer, ref, dynamic, principal, static, value, param, placeholder, infer, canonical, bound}
-use Rattle.type_terms.specs.Trees.{Trees, none, tree}
-use Rattle.type_terms.specs.Worlds.{World, Reference, CrateDecl, ImplDecl}
-use Rattle.type_terms.specs.Walks.{Met, local, struct_leaf, dyn_leaf, entered, other_leaf, open_place, struct_is, trait_is, is_home, dyn_met, visited, until_decisive, ends_local, item_in, is_known_in}
-use Rattle.type_terms.specs.Rules.{Rule, plain_rules, sized_rules, auto_rules, auto_rules_plain, unsize_rules, unsize_array_rules, unsize_to_dyn_rules, unsize_upcast_rules, unsize_struct_rules, upcasts_principal, upcasts_autos, object_rules, object_principal, object_auto, unsize_upcast, unsize_to_dyn, unsize_dyn, equal_rows, built_in_rules, principal_with, autos_with, is_declared, are_declared, are_dyn_compatible, is_dyn, is_auto, is_written, elaborated, same_reference, sized, unsize, row, asked, strict_supertraits, strict_supertraits_within, written_supertraits}
+use Rattle.type_terms.specs.Promised.Label.{Label, of_type, of_const, of_lifetime, adt, array, slice, raw_pointer, ref, dynamic, principal, static, value, param, placeholder, infer, canonical, bound}
+use Rattle.type_terms.specs.Promised.Trees.{Trees, none, tree}
+use Rattle.type_terms.specs.Promised.Worlds.{World, Reference, CrateDecl, ImplDecl}
+use Rattle.type_terms.specs.Promised.Walks.{Met, local, struct_leaf, dyn_leaf, entered, other_leaf, open_place, struct_is, trait_is, is_home, dyn_met, visited, until_decisive, ends_local, item_in, is_known_in}
+use Rattle.type_terms.specs.Promised.Rules.{Rule, plain_rules, sized_rules, auto_rules, auto_rules_plain, unsize_rules, unsize_array_rules, unsize_to_dyn_rules, unsize_upcast_rules, unsize_struct_rules, upcasts_principal, upcasts_autos, object_rules, object_principal, object_auto, unsize_upcast, unsize_to_dyn, unsize_dyn, equal_rows, built_in_rules, principal_with, autos_with, is_declared, are_declared, are_dyn_compatible, is_dyn, is_auto, is_written, elaborated, same_reference, sized, unsize, row, asked, strict_supertraits, strict_supertraits_within, written_supertraits}
 
 flat-same : {A B : Type 0} (f g : A → List B) → ((x : A) → f x ≡ g x) → (xs : List A) → flat_map f xs ≡ flat_map g xs
 flat-same f g h [] = refl

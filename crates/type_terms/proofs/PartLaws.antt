@@ -2,16 +2,16 @@
 use Rattle.std.proofs.Common.{◌≡◌, ℕ, ◌<◌, Bool, true, false, not, List, [], ◌∷◌, ◌++◌, map, if◌then◌else◌, refl, ap, sym, ◌∙◌, ◌&&◌, ◌||◌, ◌==◌, filter, cond, subst, ◌⊎◌, inl, inr, ltb, arith}
 use Rattle.std.proofs.lemmas.Bool.Decides.{nat_tests}
 use Rattle.std.specs.List.{flat_map, list_all}
-use Rattle.type_terms.specs.Label.{adt}
-use Rattle.type_terms.specs.Trees.{leaf, some_node}
-use Rattle.type_terms.specs.Worlds.{World, Reference, StructDecl, TraitDecl, ImplDecl, traits_named}
-use Rattle.type_terms.specs.Rules.{Rule, by_impl, rules, is_coinductive, strict_supertraits, same_head, same_reference, impl_rules, built_in_rules, is_auto, asked}
-use Rattle.type_terms.specs.Proofs.{ProofEntry, In, Every, Stands, Follows, HasProof}
-use Rattle.type_terms.specs.Answers.{is_possible, is_bounded, IsFixedClause}
-use Rattle.type_terms.specs.Supers.{opaque_reference}
-use Rattle.type_terms.specs.Renumbering.{View, HoldsView, renumbered_reference, renumbered_impl}
+use Rattle.type_terms.specs.Promised.Label.{adt}
+use Rattle.type_terms.specs.Promised.Trees.{leaf, some_node}
+use Rattle.type_terms.specs.Promised.Worlds.{World, Reference, StructDecl, TraitDecl, ImplDecl, traits_named}
+use Rattle.type_terms.specs.Promised.Rules.{Rule, by_impl, rules, is_coinductive, strict_supertraits, same_head, same_reference, impl_rules, built_in_rules, is_auto, asked}
+use Rattle.type_terms.specs.Promised.Proofs.{ProofEntry, In, Every, Stands, Follows, HasProof}
+use Rattle.type_terms.specs.Promised.Answers.{is_possible, is_bounded, IsFixedClause}
+use Rattle.type_terms.specs.Promised.Supers.{opaque_reference}
+use Rattle.type_terms.specs.Promised.Renumbering.{View, HoldsView, renumbered_reference, renumbered_impl}
 use Rattle.type_terms.specs.Laws.{CarriesOver}
-use Rattle.type_terms.specs.LinkedSet.{LinkedSet, Cleared}
+use Rattle.type_terms.specs.Promised.LinkedSet.{LinkedSet, Cleared}
 use Rattle.type_terms.specs.Parts.{ATextOfAPartAnswersAlike, IsClosedSet, IsPartFor, AnswersAlike, cut_down, APartAgrees, APartAnswersAlike, APartKeepsHeaders, ClosedByThePartIsClosed, WhatIsCutDownHasTheSameRules, WhatIsCutDownIsAPart, WhatPassesIsEnough, SupersHeldByAPart, listed, is_left_out, matters, shares_head}
 use Rattle.type_terms.specs.Worked.{base, u8, applied, trait_of}
 use Rattle.type_terms.specs.WorkedParts.{whole, few, asked_of_show, show_and_sup, looping, FourImplsAreEnough, SameRulesAreNotEnough}

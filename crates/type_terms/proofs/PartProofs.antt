@@ -1,12 +1,12 @@
 -- Worlds that agree on a closed set of references answer alike there.
 use Rattle.std.proofs.Common.{◌≡◌, ℕ, zero, suc, Bool, true, false, not, List, [], ◌∷◌, ◌++◌, refl, ap, sym, ◌∙◌, ◌&&◌, if◌then◌else◌, subst, ◌⊎◌, inl, inr}
 use Rattle.std.specs.List.{flat_map, list_all, list_any}
-use Rattle.type_terms.specs.Worlds.{World, Reference}
-use Rattle.type_terms.specs.Rules.{Rule, by_clause, by_super, rules, impl_rules, built_in_rules, clause_rules, super_rules, same_reference, is_coinductive, strict_supertraits}
-use Rattle.type_terms.specs.Proofs.{ProofEntry, In, Every, Stands, Follows, HasProof}
-use Rattle.type_terms.specs.Elaborated.{HasElaboratedProof}
-use Rattle.type_terms.specs.Walks.{is_known_in}
-use Rattle.type_terms.specs.Answers.{is_closed, is_possible, is_bounded, written_in, children, short_chains, AtMostOne, SingleWay}
+use Rattle.type_terms.specs.Promised.Worlds.{World, Reference}
+use Rattle.type_terms.specs.Promised.Rules.{Rule, by_clause, by_super, rules, impl_rules, built_in_rules, clause_rules, super_rules, same_reference, is_coinductive, strict_supertraits}
+use Rattle.type_terms.specs.Promised.Proofs.{ProofEntry, In, Every, Stands, Follows, HasProof}
+use Rattle.type_terms.specs.Promised.Proofs.{HasElaboratedProof}
+use Rattle.type_terms.specs.Promised.Walks.{is_known_in}
+use Rattle.type_terms.specs.Promised.Answers.{is_closed, is_possible, is_bounded, written_in, children, short_chains, AtMostOne, SingleWay}
 use Rattle.type_terms.specs.Parts.{WhatAgreesIsDeterminateAlike, IsClosedSet, Agrees, AnswersAlike, WhatAgreesAnswersAlike, AClosedListIsClosed, listed}
 use Rattle.type_terms.proofs.Members.{here, in-cases, in-nothing, in-append, in-left, in-right, in-flat, flat-in, some-member, member-some, not-both}
 use Rattle.type_terms.proofs.ProofEntries.{every-map, stands-more}

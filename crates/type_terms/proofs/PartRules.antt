@@ -1,14 +1,14 @@
 -- A part that keeps what a set of references needs agrees with the whole on it.
 use Rattle.std.proofs.Common.{◌≡◌, ℕ, zero, suc, ◌<◌, ◌≤◌, Bool, true, false, not, List, [], ◌∷◌, ◌++◌, refl, ap, sym, ◌∙◌, ◌&&◌, ◌||◌, ◌==◌, if◌then◌else◌, subst, ◌⊎◌, inl, inr, Option, None, Some, length, arith}
 use Rattle.std.specs.List.{flat_map, list_all, list_any}
-use Rattle.type_terms.specs.Label.{Label, of_type, of_const, of_lifetime, of_trait, region_outlives, type_outlives, regions_equal, adt, array, slice, raw_pointer, ref, dynamic, principal, auto_trait, predicate, static, value, param, placeholder, infer, canonical, bound}
-use Rattle.type_terms.specs.Trees.{Trees, none, tree, some_node}
-use Rattle.type_terms.specs.Worlds.{World, Reference, StructDecl, TraitDecl, ImplDecl, structs_named, traits_named, all_with_args}
-use Rattle.type_terms.specs.Walks.{Met, local, struct_leaf, dyn_leaf, entered, other_leaf, open_place, struct_is, trait_is, is_home, dyn_met, visited, until_decisive, ends_local, item_in, is_known_in, keeps_orphan_rule}
-use Rattle.type_terms.specs.Rules.{Rule, rules, impl_rules, plain_rules, sized_rules, auto_rules, auto_rules_plain, unsize_rules, unsize_array_rules, unsize_to_dyn_rules, unsize_upcast_rules, unsize_struct_rules, upcasts_principal, object_rules, object_principal, object_auto, unsize_upcast, unsize_to_dyn, unsize_dyn, unsize_struct, sized_struct, auto_struct, equal_rows, built_in_rules, principal_with, autos_with, is_declared, are_declared, are_dyn_compatible, is_dyn, is_auto, is_written, same_head, elaborated, same_reference, sized, unsize, row, asked, each_asked, last_asked, fields_of, some_unsizing, with_unsizing, last_unsizes, strict_supertraits, strict_supertraits_within, written_supertraits}
+use Rattle.type_terms.specs.Promised.Label.{Label, of_type, of_const, of_lifetime, of_trait, region_outlives, type_outlives, regions_equal, adt, array, slice, raw_pointer, ref, dynamic, principal, auto_trait, predicate, static, value, param, placeholder, infer, canonical, bound}
+use Rattle.type_terms.specs.Promised.Trees.{Trees, none, tree, some_node}
+use Rattle.type_terms.specs.Promised.Worlds.{World, Reference, StructDecl, TraitDecl, ImplDecl, structs_named, traits_named, all_with_args}
+use Rattle.type_terms.specs.Promised.Walks.{Met, local, struct_leaf, dyn_leaf, entered, other_leaf, open_place, struct_is, trait_is, is_home, dyn_met, visited, until_decisive, ends_local, item_in, is_known_in, keeps_orphan_rule}
+use Rattle.type_terms.specs.Promised.Rules.{Rule, rules, impl_rules, plain_rules, sized_rules, auto_rules, auto_rules_plain, unsize_rules, unsize_array_rules, unsize_to_dyn_rules, unsize_upcast_rules, unsize_struct_rules, upcasts_principal, object_rules, object_principal, object_auto, unsize_upcast, unsize_to_dyn, unsize_dyn, unsize_struct, sized_struct, auto_struct, equal_rows, built_in_rules, principal_with, autos_with, is_declared, are_declared, are_dyn_compatible, is_dyn, is_auto, is_written, same_head, elaborated, same_reference, sized, unsize, row, asked, each_asked, last_asked, fields_of, some_unsizing, with_unsizing, last_unsizes, strict_supertraits, strict_supertraits_within, written_supertraits}
 use Rattle.type_terms.specs.Codes.{same}
-use Rattle.type_terms.specs.Proofs.{In, Every}
-use Rattle.type_terms.specs.Answers.{is_undeclared}
+use Rattle.type_terms.specs.Promised.Proofs.{In, Every}
+use Rattle.type_terms.specs.Promised.Answers.{is_undeclared}
 use Rattle.type_terms.specs.Parts.{KeptNames, is_left_out, IsPartFor, Agrees}
 use Rattle.type_terms.proofs.Members.{here, in-flat, flat-in, in-filter, in-append, in-left, in-right, some-member, member-some, same-number}
 use Rattle.type_terms.proofs.Fitting.{child-shut, next-shut}

@@ -1,9 +1,10 @@
 -- Visits of what is still to be visited.
 use Rattle.std.proofs.Common.{◌≡◌, ℕ, ◌<◌, List, [], ◌∷◌, ◌++◌, length, reverse, refl, ap, sym, ◌∙◌, arith, Option, Some, None, subst}
 use Rattle.std.proofs.lemmas.List.{reverse-append}
-use Rattle.type_terms.specs.Label.{Label, fn_ptr, principal}
-use Rattle.type_terms.specs.Trees.{Trees, none, tree, ◌+++◌, Single}
-use Rattle.type_terms.specs.Terms.{Entry}
+use Rattle.type_terms.specs.Promised.Label.{Label, fn_ptr, principal}
+use Rattle.type_terms.specs.Promised.Trees.{Trees, none, tree, ◌+++◌}
+use Rattle.type_terms.specs.Trees.{Single}
+use Rattle.type_terms.specs.Promised.Handles.{Entry}
 use Rattle.type_terms.specs.Kinds.{kind_trees, tys_trees, args_trees}
 use Rattle.type_terms.specs.declared.kinds.GenericArgKind.{GenericArgKind}
 use Rattle.type_terms.specs.declared.AdtId.{AdtId}

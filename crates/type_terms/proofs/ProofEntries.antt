@@ -1,12 +1,12 @@
 -- What an entry of a proof says; rules that are of an impl are of an impl of the world.
 use Rattle.std.proofs.Common.{◌≡◌, ℕ, Bool, true, false, List, [], ◌∷◌, ◌++◌, refl, sym, ◌∙◌, ◌&&◌, ◌||◌, ◌==◌, not, if◌then◌else◌, subst, ◌⊎◌, inl, inr, map, append_assoc}
 use Rattle.std.specs.List.{flat_map, list_all, list_any}
-use Rattle.type_terms.specs.Label.{array, slice, raw_pointer, ref, adt, tuple, fn_ptr, dynamic}
+use Rattle.type_terms.specs.Promised.Label.{array, slice, raw_pointer, ref, adt, tuple, fn_ptr, dynamic}
 use Rattle.type_terms.specs.Codes.{same}
-use Rattle.type_terms.specs.Trees.{Trees, none, tree}
-use Rattle.type_terms.specs.Worlds.{World, Reference, ImplDecl, structs_named}
-use Rattle.type_terms.specs.Rules.{sized_struct, auto_struct, fn_ptr_call, unsize_array, unsize_to_dyn, unsize_dyn, unsize_upcast, unsize_struct, object_auto, object_principal, equal_rows, upcasts_principal, upcasts_autos, are_declared, principal_with, autos_with, Rule, Way, by_impl, by_clause, by_super, built_in, rules, impl_rules, built_in_rules, plain_rules, sized_rules, copy_rules, tuple_rules, fn_ptr_rules, call_rules, but_last, auto_rules, auto_rules_plain, unsize_rules, unsize_array_rules, unsize_to_dyn_rules, unsize_upcast_rules, unsize_struct_rules, last_unsizes, object_rules, object_bound_rules, is_declared, are_dyn_compatible, same_reference, elaborated, strict_supertraits, is_auto, is_written, is_fn_trait, sized, copy, clone, tuple_trait, fn_ptr_trait, unsize, row, last_asked, each_asked, fields_of, is_coinductive}
-use Rattle.type_terms.specs.Proofs.{ProofEntry, In, Every, Stands, Follows, IsProof, HasProof}
+use Rattle.type_terms.specs.Promised.Trees.{Trees, none, tree}
+use Rattle.type_terms.specs.Promised.Worlds.{World, Reference, ImplDecl, structs_named}
+use Rattle.type_terms.specs.Promised.Rules.{sized_struct, auto_struct, fn_ptr_call, unsize_array, unsize_to_dyn, unsize_dyn, unsize_upcast, unsize_struct, object_auto, object_principal, equal_rows, upcasts_principal, upcasts_autos, are_declared, principal_with, autos_with, Rule, Way, by_impl, by_clause, by_super, built_in, rules, impl_rules, built_in_rules, plain_rules, sized_rules, copy_rules, tuple_rules, fn_ptr_rules, call_rules, but_last, auto_rules, auto_rules_plain, unsize_rules, unsize_array_rules, unsize_to_dyn_rules, unsize_upcast_rules, unsize_struct_rules, last_unsizes, object_rules, object_bound_rules, is_declared, are_dyn_compatible, same_reference, elaborated, strict_supertraits, is_auto, is_written, is_fn_trait, sized, copy, clone, tuple_trait, fn_ptr_trait, unsize, row, last_asked, each_asked, fields_of, is_coinductive}
+use Rattle.type_terms.specs.Promised.Proofs.{ProofEntry, In, Every, Stands, Follows, IsProof, HasProof}
 use Rattle.type_terms.proofs.Members.{here, there, in-cases, in-nothing, in-append, in-left, in-map, in-flat}
 use Rattle.type_terms.proofs.RuleLists.{append-all, if-all, unless-all, equal-all, flat-all, member-all}
 

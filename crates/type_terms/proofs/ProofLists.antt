@@ -1,8 +1,8 @@
 -- Proofs are joined: a rule whose premises have proofs gives a proof.
 use Rattle.std.proofs.Common.{◌≡◌, Bool, true, false, List, [], ◌∷◌, ◌++◌, refl, ap, sym, if◌then◌else◌, subst, ◌⊎◌, inl, inr, append_assoc}
-use Rattle.type_terms.specs.Worlds.{World, Reference}
-use Rattle.type_terms.specs.Rules.{Rule, rules, is_coinductive}
-use Rattle.type_terms.specs.Proofs.{ProofEntry, In, Every, Stands, Follows, IsProof, HasProof}
+use Rattle.type_terms.specs.Promised.Worlds.{World, Reference}
+use Rattle.type_terms.specs.Promised.Rules.{Rule, rules, is_coinductive}
+use Rattle.type_terms.specs.Promised.Proofs.{ProofEntry, In, Every, Stands, Follows, IsProof, HasProof}
 use Rattle.type_terms.proofs.Members.{here, in-append, in-right, in-map}
 use Rattle.type_terms.proofs.ProofEntries.{map-in, every-map, stands-more}
 

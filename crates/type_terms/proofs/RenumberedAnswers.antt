@@ -1,15 +1,16 @@
 -- Other numbers for the items of a view: known, bounded, possible and proved references stay so.
 use Rattle.std.proofs.Common.{◌≡◌, ℕ, zero, suc, Bool, true, false, List, [], ◌∷◌, ◌++◌, refl, ap, sym, ◌∙◌, ◌&&◌, ◌||◌, ◌==◌, not, if◌then◌else◌, subst, ◌⊎◌, inl, inr, map, Option, Some, None}
 use Rattle.std.specs.List.{list_all, list_any, flat_map}
-use Rattle.type_terms.specs.Label.{Label, of_type, of_const, of_lifetime, dynamic, static, adt, value, ref, principal, auto_trait, param, placeholder, infer, canonical, bound, of_trait, predicate}
-use Rattle.type_terms.specs.Trees.{Trees, none, tree}
-use Rattle.type_terms.specs.Worlds.{World, Reference, StructDecl, TraitDecl, structs_named, traits_named}
-use Rattle.type_terms.specs.Rules.{Rule, Way, by_impl, rules, strict_supertraits, is_coinductive, sized}
-use Rattle.type_terms.specs.Proofs.{ProofEntry, In, Every, Stands, Follows, HasProof}
-use Rattle.type_terms.specs.Walks.{Met, local, struct_leaf, dyn_leaf, entered, open_place, struct_is, trait_is, is_home, dyn_met, visited, until_decisive, walk, open_walk, ends_local, keeps_orphan_rule, item_in, is_known_in}
-use Rattle.type_terms.specs.Answers.{is_closed, is_undeclared, written_in, children, short_chains, is_bounded, is_possible}
-use Rattle.type_terms.specs.Versions.{is_open_place, is_addable}
-use Rattle.type_terms.specs.Renumbering.{Renumbering, renumbered_label, renumbered, renumbered_reference, renumbered_struct, renumbered_trait, renumbered_way, renumbered_rule, IsRenumbering}
+use Rattle.type_terms.specs.Promised.Label.{Label, of_type, of_const, of_lifetime, dynamic, static, adt, value, ref, principal, auto_trait, param, placeholder, infer, canonical, bound, of_trait, predicate}
+use Rattle.type_terms.specs.Promised.Trees.{Trees, none, tree}
+use Rattle.type_terms.specs.Promised.Worlds.{World, Reference, StructDecl, TraitDecl, structs_named, traits_named}
+use Rattle.type_terms.specs.Promised.Rules.{Rule, Way, by_impl, rules, strict_supertraits, is_coinductive, sized}
+use Rattle.type_terms.specs.Promised.Proofs.{ProofEntry, In, Every, Stands, Follows, HasProof}
+use Rattle.type_terms.specs.Promised.Walks.{Met, local, struct_leaf, dyn_leaf, entered, open_place, struct_is, trait_is, is_home, dyn_met, visited, until_decisive, walk, open_walk, ends_local, keeps_orphan_rule, item_in, is_known_in}
+use Rattle.type_terms.specs.Promised.Answers.{is_closed, is_undeclared, written_in, children, short_chains, is_bounded, is_possible}
+use Rattle.type_terms.specs.Promised.Versions.{is_open_place, is_addable}
+use Rattle.type_terms.specs.Promised.Renumbering.{Renumbering, renumbered_label, renumbered, renumbered_reference, renumbered_struct, renumbered_trait, IsRenumbering}
+use Rattle.type_terms.specs.Renumbering.{renumbered_way, renumbered_rule}
 use Rattle.type_terms.proofs.Members.{here, there, in-append, in-left, in-right, in-flat, flat-in, in-map, some-member, member-some, in-nothing, so-false, not-both}
 use Rattle.type_terms.proofs.Walking.{left, right, both, or-left, or-right, or-cases}
 use Rattle.type_terms.proofs.ProofEntries.{map-in}

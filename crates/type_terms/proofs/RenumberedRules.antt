@@ -1,14 +1,16 @@
 -- Other numbers for the items of a view: its rules are the rules of the view with those numbers.
 use Rattle.std.proofs.Common.{◌≡◌, ℕ, zero, suc, Bool, true, false, List, [], ◌∷◌, ◌++◌, refl, ap, sym, ◌∙◌, ◌&&◌, ◌||◌, ◌==◌, not, if◌then◌else◌, subst, ◌⊎◌, inl, inr, map, length}
 use Rattle.std.specs.List.{list_all, list_any, flat_map}
-use Rattle.type_terms.specs.Label.{Label, of_type, of_const, of_lifetime, array, slice, tuple, dynamic, adt, fn_ptr, ref, raw_pointer, principal, auto_trait, param}
+use Rattle.type_terms.specs.Promised.Label.{Label, of_type, of_const, of_lifetime, array, slice, tuple, dynamic, adt, fn_ptr, ref, raw_pointer, principal, auto_trait, param}
 use Rattle.type_terms.specs.Codes.{same, same_label}
-use Rattle.type_terms.specs.Trees.{Trees, none, tree, ◌+++◌, instantiate, arguments, fits}
-use Rattle.type_terms.specs.Worlds.{World, Reference, CrateDecl, StructDecl, TraitDecl, ImplDecl, crates_named, structs_named, traits_named, with_args, all_with_args}
-use Rattle.type_terms.specs.Core.{core_world}
-use Rattle.type_terms.specs.Rules.{Rule, BuiltIn, by_impl, row, rules, impl_rules, built_in_rules, plain_rules, sized_rules, copy_rules, tuple_rules, fn_ptr_rules, call_rules, but_last, auto_rules, auto_rules_plain, is_written, same_head, unsize_rules, unsize_array_rules, unsize_to_dyn_rules, unsize_upcast_rules, unsize_struct_rules, upcasts_principal, upcasts_autos, is_parameter, is_unsizing, some_unsizing, with_unsizing, last_unsizes, object_rules, object_bound_rules, principal_with, autos_with, equal_rows, elaborated, are_declared, are_dyn_compatible, is_declared, is_auto, is_fn_trait, is_dyn, clause_rules, super_rules, by_clause, by_super, same_reference, asked, each_asked, last_asked, together, fields_of, written_supertraits, strict_supertraits, strict_supertraits_within, sized, clone, copy, tuple_trait, fn_ptr_trait, fn_once, fn_mut, fn_shared, unsize, sized_tuple, sized_struct, copy_tuple, auto_tuple, auto_struct, fn_ptr_call, object_auto, object_principal, unsize_array, unsize_to_dyn, unsize_dyn, unsize_upcast, unsize_struct}
-use Rattle.type_terms.specs.Proofs.{In}
-use Rattle.type_terms.specs.Renumbering.{Renumbering, renumbered_label, renumbered, renumbered_reference, renumbered_crate, renumbered_struct, renumbered_trait, renumbered_impl, renumbered_rule, IsRenumbering}
+use Rattle.type_terms.specs.Promised.Trees.{Trees, none, tree, ◌+++◌, instantiate}
+use Rattle.type_terms.specs.Trees.{arguments, fits}
+use Rattle.type_terms.specs.Promised.Worlds.{World, Reference, CrateDecl, StructDecl, TraitDecl, ImplDecl, crates_named, structs_named, traits_named, with_args, all_with_args}
+use Rattle.type_terms.specs.Promised.Core.{core_world}
+use Rattle.type_terms.specs.Promised.Rules.{Rule, BuiltIn, by_impl, row, rules, impl_rules, built_in_rules, plain_rules, sized_rules, copy_rules, tuple_rules, fn_ptr_rules, call_rules, but_last, auto_rules, auto_rules_plain, is_written, same_head, unsize_rules, unsize_array_rules, unsize_to_dyn_rules, unsize_upcast_rules, unsize_struct_rules, upcasts_principal, upcasts_autos, is_parameter, is_unsizing, some_unsizing, with_unsizing, last_unsizes, object_rules, object_bound_rules, principal_with, autos_with, equal_rows, elaborated, are_declared, are_dyn_compatible, is_declared, is_auto, is_fn_trait, is_dyn, clause_rules, super_rules, by_clause, by_super, same_reference, asked, each_asked, last_asked, together, fields_of, written_supertraits, strict_supertraits, strict_supertraits_within, sized, clone, copy, tuple_trait, fn_ptr_trait, fn_once, fn_mut, fn_shared, unsize, sized_tuple, sized_struct, copy_tuple, auto_tuple, auto_struct, fn_ptr_call, object_auto, object_principal, unsize_array, unsize_to_dyn, unsize_dyn, unsize_upcast, unsize_struct}
+use Rattle.type_terms.specs.Promised.Proofs.{In}
+use Rattle.type_terms.specs.Promised.Renumbering.{Renumbering, renumbered_label, renumbered, renumbered_reference, renumbered_crate, renumbered_struct, renumbered_trait, renumbered_impl, IsRenumbering}
+use Rattle.type_terms.specs.Renumbering.{renumbered_rule}
 use Rattle.type_terms.proofs.ProofEntries.{map-in}
 use Rattle.type_terms.proofs.Members.{in-append, in-left, in-right, in-flat, flat-in, in-map, some-member, member-some}
 use Rattle.type_terms.proofs.Matching.{same-label-sound}

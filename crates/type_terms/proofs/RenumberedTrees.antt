@@ -1,12 +1,13 @@
 -- Other numbers for structs and traits: all that is done to trees is done alike.
 use Rattle.std.proofs.Common.{◌≡◌, ℕ, zero, suc, Bool, true, false, List, [], ◌∷◌, refl, ap, sym, ◌∙◌, ◌&&◌, ◌||◌, ◌==◌, not, if◌then◌else◌, subst, map}
-use Rattle.type_terms.specs.Label.{Label, PredicateKind, Sort, of_type, of_const, of_lifetime, never, param, bound, adt, principal, auto_trait, fn_ptr, of_trait, predicate, inside, shift_label}
+use Rattle.type_terms.specs.Promised.Label.{Label, PredicateKind, Sort, of_type, of_const, of_lifetime, never, param, bound, adt, principal, auto_trait, fn_ptr, of_trait, predicate, inside, shift_label}
 use Rattle.type_terms.specs.Codes.{same}
-use Rattle.type_terms.specs.Trees.{Trees, none, tree, ◌+++◌, leaf, nth, shift, instantiate, first_of, standing_at, arguments_from, arguments, is_no_tree, is_sort, is_a, fits, sort_of, some_node}
-use Rattle.type_terms.specs.Worlds.{Reference, ImplDecl, with_args, all_with_args}
-use Rattle.type_terms.specs.Rules.{same_reference}
-use Rattle.type_terms.specs.Answers.{is_open, is_closed, CommonInstance}
-use Rattle.type_terms.specs.Renumbering.{Permutation, Renumbering, renumbered_kind, renumbered_label, renumbered, renumbered_reference, renumbered_impl}
+use Rattle.type_terms.specs.Promised.Trees.{Trees, none, tree, ◌+++◌, leaf, nth, shift, instantiate, is_sort, sort_of, some_node}
+use Rattle.type_terms.specs.Trees.{first_of, standing_at, arguments_from, arguments, is_no_tree, is_a, fits}
+use Rattle.type_terms.specs.Promised.Worlds.{Reference, ImplDecl, with_args, all_with_args}
+use Rattle.type_terms.specs.Promised.Rules.{same_reference}
+use Rattle.type_terms.specs.Promised.Answers.{is_open, is_closed, CommonInstance}
+use Rattle.type_terms.specs.Promised.Renumbering.{Permutation, Renumbering, renumbered_kind, renumbered_label, renumbered, renumbered_reference, renumbered_impl}
 use Rattle.type_terms.proofs.Members.{same-number, self-number}
 use Rattle.type_terms.proofs.Matching.{same-sound}
 use Rattle.type_terms.proofs.Fitting.{fits-sound}

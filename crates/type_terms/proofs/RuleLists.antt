@@ -1,9 +1,9 @@
 -- A test that all rules of a list pass.
 use Rattle.std.proofs.Common.{◌≡◌, ℕ, suc, Bool, true, false, List, [], ◌∷◌, ◌++◌, refl, ap, sym, ◌∙◌, if◌then◌else◌, ◌⊎◌, inl, inr}
 use Rattle.std.specs.List.{flat_map, list_all}
-use Rattle.type_terms.specs.Rules.{BuiltIn, Rule, built_in, row, equal_rows, same_reference}
-use Rattle.type_terms.specs.Worlds.{Reference}
-use Rattle.type_terms.specs.Proofs.{In}
+use Rattle.type_terms.specs.Promised.Rules.{BuiltIn, Rule, built_in, row, equal_rows, same_reference}
+use Rattle.type_terms.specs.Promised.Worlds.{Reference}
+use Rattle.type_terms.specs.Promised.Proofs.{In}
 use Rattle.type_terms.proofs.Members.{here, there, in-cases, in-nothing}
 use Rattle.type_terms.proofs.Walking.{left, right, both}
 

@@ -1,10 +1,11 @@
 -- A world's views stand in it with their own numbers.
 use Rattle.std.proofs.Common.{◌≡◌, ℕ, List, [], ◌∷◌, map, refl, sym, ap, ◌∙◌, subst}
-use Rattle.type_terms.specs.Label.{Label, of_trait, adt, principal, auto_trait, predicate}
-use Rattle.type_terms.specs.Trees.{Trees, none, tree}
-use Rattle.type_terms.specs.Worlds.{World, CrateDecl, Reference, StructDecl, TraitDecl, ImplDecl, crates_named, structs_named, traits_named, view_of}
-use Rattle.type_terms.specs.Proofs.{In, Every}
-use Rattle.type_terms.specs.Renumbering.{as_they_are, view_at, HoldsView, renumbered_label, renumbered, renumbered_reference, renumbered_crate, renumbered_struct, renumbered_trait, renumbered_impl}
+use Rattle.type_terms.specs.Promised.Label.{Label, of_trait, adt, principal, auto_trait, predicate}
+use Rattle.type_terms.specs.Promised.Trees.{Trees, none, tree}
+use Rattle.type_terms.specs.Promised.Worlds.{World, CrateDecl, Reference, StructDecl, TraitDecl, ImplDecl, crates_named, structs_named, traits_named, view_of}
+use Rattle.type_terms.specs.Promised.Proofs.{In, Every}
+use Rattle.type_terms.specs.Renumbering.{as_they_are, view_at}
+use Rattle.type_terms.specs.Promised.Renumbering.{HoldsView, renumbered_label, renumbered, renumbered_reference, renumbered_crate, renumbered_struct, renumbered_trait, renumbered_impl}
 use Rattle.type_terms.proofs.ViewLaws.{as-it-was}
 
 two : {A : Type 0} {a b : A} {c d : List A} → a ≡ b → c ≡ d → a ∷ c ≡ b ∷ d

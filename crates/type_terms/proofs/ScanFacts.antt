@@ -4,8 +4,9 @@ use Rattle.std.proofs.lemmas.Bool.Decides.{nat_tests}
 use Rattle.std.proofs.lemmas.Nat.{or_comm, le_or_l, le_or_r, or_shr}
 use lib.Bits.{and_step, or_step, and_zero_r}
 use lib.Arith.{bin_ind}
-use Rattle.type_terms.specs.Label.{Label, of_type, of_const, of_lifetime, param, infer, placeholder, canonical, bound, fn_ptr, principal, inside}
-use Rattle.type_terms.specs.Trees.{Trees, none, tree, flags, outer_binder, own_binder, outside, label_flags, some_node}
+use Rattle.type_terms.specs.Promised.Label.{Label, of_type, of_const, of_lifetime, param, infer, placeholder, canonical, bound, fn_ptr, principal, inside}
+use Rattle.type_terms.specs.Promised.Trees.{Trees, none, tree, some_node}
+use Rattle.type_terms.specs.Trees.{flags, outer_binder, own_binder, outside, label_flags}
 use Rattle.type_terms.specs.Pieces.{Piece, piece_flags, piece_binder}
 use Rattle.type_terms.specs.Scans.{some_node_of, has_flag, is_param, is_infer, is_bound_from, some_bound_from, some_bound_of}
 use Rattle.type_terms.proofs.BooleanBasics.{join-tests}

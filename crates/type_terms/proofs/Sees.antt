@@ -1,10 +1,10 @@
 -- What a crate sees, its uses see too: the number of crates is fuel enough.
 use Rattle.std.proofs.Common.{◌≡◌, ℕ, zero, suc, ◌<◌, ◌≤◌, true, List, sym, ◌||◌, ◌==◌, subst, ◌⊎◌, inl, inr, length, arith}
 use Rattle.std.specs.List.{list_any}
-use Rattle.type_terms.specs.Worlds.{World, CrateDecl, core, crates_named, sees, sees_within}
-use Rattle.type_terms.specs.Proofs.{In}
-use Rattle.type_terms.specs.Renumbering.{View}
-use Rattle.type_terms.specs.LinkedSet.{JoinedSet}
+use Rattle.type_terms.specs.Promised.Worlds.{World, CrateDecl, core, crates_named, sees, sees_within}
+use Rattle.type_terms.specs.Promised.Proofs.{In}
+use Rattle.type_terms.specs.Promised.Renumbering.{View}
+use Rattle.type_terms.specs.Promised.LinkedSet.{JoinedSet}
 use Rattle.type_terms.proofs.Members.{in-filter, filter-in, some-member, member-some, same-number, self-number}
 use Rattle.type_terms.proofs.Walking.{or-left, or-right, or-cases}
 use Rattle.type_terms.proofs.NoTwo.{sees-order}

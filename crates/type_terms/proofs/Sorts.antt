@@ -1,9 +1,12 @@
 -- A type's trees are one type, and a constant's one constant.
 use Rattle.std.proofs.Common.{◌≡◌, ℕ, List, [], ◌∷◌, ◌++◌, refl, arith}
-use Rattle.type_terms.specs.Label.{Sort, of_type, of_const}
-use Rattle.type_terms.specs.Trees.{Trees, none, tree, sort_of, IsA, Single}
-use Rattle.type_terms.specs.Terms.{Entry, Has, trees_at, types, consts, Sorted, AllSorted}
-use Rattle.type_terms.specs.Kinds.{kind_trees, const_label, arg_trees, ArgHeld, bound_label}
+use Rattle.type_terms.specs.Promised.Label.{Sort, of_type, of_const}
+use Rattle.type_terms.specs.Promised.Trees.{Trees, none, tree, sort_of, IsA}
+use Rattle.type_terms.specs.Trees.{Single}
+use Rattle.type_terms.specs.Promised.Handles.{Entry, Has, trees_at, types, consts}
+use Rattle.type_terms.specs.Terms.{Sorted, AllSorted}
+use Rattle.type_terms.specs.Kinds.{kind_trees, const_label}
+use Rattle.type_terms.specs.Promised.Handles.{arg_trees, ArgHeld, bound_label}
 use Rattle.type_terms.specs.Nodes.{grow, node_entry}
 use Rattle.type_terms.specs.declared.node.Node.{Node}
 use Rattle.type_terms.specs.declared.node.Node.TheVariants.{Ty, Const, Args, Tys, Bounds}

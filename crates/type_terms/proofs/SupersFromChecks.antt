@@ -2,13 +2,14 @@
 -- with a proof has its supertraits proved.
 use Rattle.std.proofs.Common.{◌≡◌, ℕ, Bool, true, false, List, [], ◌∷◌, ◌++◌, ap, sym, ◌∙◌, ◌&&◌, ◌==◌, if◌then◌else◌, subst, ◌⊎◌, inl, inr, map}
 use Rattle.std.specs.List.{flat_map}
-use Rattle.type_terms.specs.Label.{Sort, dynamic, placeholder}
-use Rattle.type_terms.specs.Trees.{Trees, none, tree, Fits, arguments, some_node, erase}
-use Rattle.type_terms.specs.Worlds.{World, Reference, ImplDecl, with_args, all_with_args}
-use Rattle.type_terms.specs.Rules.{Rule, rules, impl_rules, built_in_rules, clause_rules, strict_supertraits, is_auto, is_written, auto_rules, is_declared, are_dyn_compatible, object_rules, object_bound_rules, principal_with, autos_with, asked, sized}
-use Rattle.type_terms.specs.Proofs.{ProofEntry, In, Every, Stands, IsProof, HasProof}
-use Rattle.type_terms.specs.Answers.{is_open, is_closed}
-use Rattle.type_terms.specs.Supers.{opaque_reference, mentions_as, SupersHold}
+use Rattle.type_terms.specs.Promised.Label.{Sort, dynamic, placeholder}
+use Rattle.type_terms.specs.Promised.Trees.{Trees, none, tree, Fits, some_node, erase}
+use Rattle.type_terms.specs.Trees.{arguments}
+use Rattle.type_terms.specs.Promised.Worlds.{World, Reference, ImplDecl, with_args, all_with_args}
+use Rattle.type_terms.specs.Promised.Rules.{Rule, rules, impl_rules, built_in_rules, clause_rules, strict_supertraits, is_auto, is_written, auto_rules, is_declared, are_dyn_compatible, object_rules, object_bound_rules, principal_with, autos_with, asked, sized}
+use Rattle.type_terms.specs.Promised.Proofs.{ProofEntry, In, Every, Stands, IsProof, HasProof}
+use Rattle.type_terms.specs.Promised.Answers.{is_open, is_closed}
+use Rattle.type_terms.specs.Promised.Supers.{opaque_reference, mentions_as, SupersHold}
 use Rattle.type_terms.proofs.Members.{here, there, in-cases, in-nothing, in-append, in-flat, flat-in, in-map, self-number, not-both}
 use Rattle.type_terms.proofs.ProofEntries.{map-in, entry-proved}
 use Rattle.type_terms.proofs.Fitting.{ByImpl, impl-rule, closed-arguments, not-true}

@@ -2,15 +2,17 @@
 -- those of the built-in rows because the rows of `Clone`, `Copy` and the traits of calls come together.
 use Rattle.std.proofs.Common.{◌≡◌, ℕ, zero, true, false, List, [], ◌∷◌, ◌++◌, refl, ap, sym, ◌∙◌, ◌||◌, ◌==◌, if◌then◌else◌, subst, ◌⊎◌, inl, inr, length, map}
 use Rattle.std.specs.List.{flat_map, list_any, list_all}
-use Rattle.type_terms.specs.Label.{of_type, param, fn_ptr, tuple, dynamic}
-use Rattle.type_terms.specs.Trees.{Trees, none, tree, ◌+++◌, instantiate, arguments, some_node}
-use Rattle.type_terms.specs.Worlds.{World, Reference, TraitDecl, ImplDecl, core, traits_named, view_of}
-use Rattle.type_terms.specs.Rules.{BuiltIn, sized_leaf, sized_tuple, copy_fn_ptr, copy_tuple, built_in, Rule, rules, impl_rules, built_in_rules, plain_rules, sized_rules, copy_rules, tuple_rules, fn_ptr_rules, call_rules, auto_rules, unsize_rules, object_rules, principal_with, autos_with, is_auto, is_declared, is_coinductive, is_fn_trait, sized, clone, copy, tuple_trait, fn_ptr_trait, fn_once, fn_mut, fn_shared, unsize, row, asked, last_asked, each_asked, strict_supertraits}
-use Rattle.type_terms.specs.Proofs.{ProofEntry, In, Every, Stands, Follows, HasProof}
-use Rattle.type_terms.specs.Answers.{is_closed, is_open}
-use Rattle.type_terms.specs.Core.{core_world, type_param}
-use Rattle.type_terms.specs.Renumbering.{View}
-use Rattle.type_terms.specs.LinkedSet.{JoinedSet, LinkedSet, sees_trait}
+use Rattle.type_terms.specs.Promised.Label.{of_type, param, fn_ptr, tuple, dynamic}
+use Rattle.type_terms.specs.Promised.Trees.{Trees, none, tree, ◌+++◌, instantiate, some_node}
+use Rattle.type_terms.specs.Trees.{arguments}
+use Rattle.type_terms.specs.Promised.Worlds.{World, Reference, TraitDecl, ImplDecl, core, traits_named, view_of}
+use Rattle.type_terms.specs.Promised.Rules.{BuiltIn, sized_leaf, sized_tuple, copy_fn_ptr, copy_tuple, built_in, Rule, rules, impl_rules, built_in_rules, plain_rules, sized_rules, copy_rules, tuple_rules, fn_ptr_rules, call_rules, auto_rules, unsize_rules, object_rules, principal_with, autos_with, is_auto, is_declared, is_coinductive, is_fn_trait, sized, clone, copy, tuple_trait, fn_ptr_trait, fn_once, fn_mut, fn_shared, unsize, row, asked, last_asked, each_asked, strict_supertraits}
+use Rattle.type_terms.specs.Promised.Proofs.{ProofEntry, In, Every, Stands, Follows, HasProof}
+use Rattle.type_terms.specs.Promised.Answers.{is_closed, is_open}
+use Rattle.type_terms.specs.Promised.Core.{core_world, type_param}
+use Rattle.type_terms.specs.Promised.Renumbering.{View}
+use Rattle.type_terms.specs.Promised.LinkedSet.{JoinedSet, LinkedSet}
+use Rattle.type_terms.specs.Promised.Versions.{sees_trait}
 use Rattle.type_terms.proofs.Members.{here, there, in-cases, in-nothing, in-filter, in-append, in-left, in-right, in-flat, some-member, same-number}
 use Rattle.type_terms.proofs.Walking.{left, right, or-cases}
 use Rattle.type_terms.proofs.TreeLaws.{shift-zero}

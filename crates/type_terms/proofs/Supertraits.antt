@@ -1,11 +1,12 @@
 -- Where a crate sees a trait, its view has all of the trait's supertraits.
 use Rattle.std.proofs.Common.{◌≡◌, ℕ, zero, suc, ◌<◌, ◌≤◌, Bool, true, false, List, [], ◌∷◌, ◌++◌, refl, ap, sym, ◌∙◌, ◌==◌, cond, subst, filter, length, arith}
 use Rattle.std.specs.List.{flat_map, list_any}
-use Rattle.type_terms.specs.Worlds.{World, Reference, TraitDecl, traits_named, sees, view_of, with_args, all_with_args}
-use Rattle.type_terms.specs.Rules.{written_supertraits, strict_supertraits, strict_supertraits_within}
-use Rattle.type_terms.specs.Proofs.{In}
-use Rattle.type_terms.specs.Renumbering.{View}
-use Rattle.type_terms.specs.LinkedSet.{JoinedSet, sees_trait}
+use Rattle.type_terms.specs.Promised.Worlds.{World, Reference, TraitDecl, traits_named, sees, view_of, with_args, all_with_args}
+use Rattle.type_terms.specs.Promised.Rules.{written_supertraits, strict_supertraits, strict_supertraits_within}
+use Rattle.type_terms.specs.Promised.Proofs.{In}
+use Rattle.type_terms.specs.Promised.Renumbering.{View}
+use Rattle.type_terms.specs.Promised.LinkedSet.{JoinedSet}
+use Rattle.type_terms.specs.Promised.Versions.{sees_trait}
 use Rattle.type_terms.proofs.Members.{here, there, in-filter, filter-in, in-flat, some-member, member-some, not-both, same-number, self-number}
 use Rattle.type_terms.proofs.Walking.{left}
 use Rattle.type_terms.proofs.Unseen.{trait-there}

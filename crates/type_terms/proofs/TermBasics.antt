@@ -1,14 +1,16 @@
 -- Small facts on trees, labels and the items of a world.
 use Rattle.std.proofs.Common.{◌≡◌, refl, ap, ℕ, true, pred, List, ◌∷◌, suc, [], subst, sym, Bool, if◌then◌else◌, ◌≤◌}
-use Rattle.type_terms.specs.Answers.{is_open}
+use Rattle.type_terms.specs.Promised.Answers.{is_open}
 use Rattle.type_terms.specs.Kept.{is-at}
-use Rattle.type_terms.specs.Label.{Label, shift_label, bound, Sort, of_type, of_const, of_lifetime, fn_ptr, principal, predicate, of_trait, param, inside}
-use Rattle.type_terms.specs.Proofs.{ProofEntry, Stands}
-use Rattle.type_terms.specs.Rules.{last_asked, same_head}
-use Rattle.type_terms.specs.Terms.{Entry, Lawful, Has, types, trees_at, Is}
-use Rattle.type_terms.specs.Trees.{Trees, erase, ◌+++◌, none, tree, erase_label, is_no_tree, is_sort, outside, Single, IsA}
-use Rattle.type_terms.specs.Walks.{Met, local, entered, struct_leaf}
-use Rattle.type_terms.specs.Worlds.{Reference}
+use Rattle.type_terms.specs.Promised.Label.{Label, shift_label, bound, Sort, of_type, of_const, of_lifetime, fn_ptr, principal, predicate, of_trait, param, inside}
+use Rattle.type_terms.specs.Promised.Proofs.{ProofEntry, Stands}
+use Rattle.type_terms.specs.Promised.Rules.{last_asked, same_head}
+use Rattle.type_terms.specs.Promised.Handles.{Entry, Has, types, trees_at, Is}
+use Rattle.type_terms.specs.Terms.{Lawful}
+use Rattle.type_terms.specs.Promised.Trees.{Trees, erase, ◌+++◌, none, tree, erase_label, is_sort, IsA}
+use Rattle.type_terms.specs.Trees.{is_no_tree, outside, Single}
+use Rattle.type_terms.specs.Promised.Walks.{Met, local, entered, struct_leaf}
+use Rattle.type_terms.specs.Promised.Worlds.{Reference}
 use Rattle.type_terms.proofs.NumberBasics.{pred-le}
 
 pub erase-append : (x y : Trees) → erase (x +++ y) ≡ erase x +++ erase y

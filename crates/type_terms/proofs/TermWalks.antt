@@ -1,11 +1,11 @@
 -- Walks skip lifetimes: what they meet is met in the erased world, and the orphan rule and known references are the same there.
 use Rattle.std.proofs.Common.{◌≡◌, ℕ, Bool, true, false, List, [], ◌∷◌, refl, ap, ◌∙◌, ◌||◌, ◌==◌, if◌then◌else◌, Option, Some, None, length}
 use Rattle.std.specs.List.{list_all, list_any}
-use Rattle.type_terms.specs.Label.{of_type, of_const, of_lifetime, dynamic, static, adt, value, ref, fn_ptr, principal, param, placeholder, infer, canonical, bound}
-use Rattle.type_terms.specs.Trees.{Trees, none, tree, erase}
-use Rattle.type_terms.specs.Worlds.{World, Reference, StructDecl, TraitDecl, structs_named, traits_named, sees}
-use Rattle.type_terms.specs.Erased.{erased_reference, erased_struct, erased_trait, erased_world}
-use Rattle.type_terms.specs.Walks.{Met, local, struct_leaf, dyn_leaf, entered, struct_is, trait_is, is_home, dyn_met, visited, until_decisive, walk, open_walk, ends_local, keeps_orphan_rule, seen, item_in, is_known, is_known_in}
+use Rattle.type_terms.specs.Promised.Label.{of_type, of_const, of_lifetime, dynamic, static, adt, value, ref, fn_ptr, principal, param, placeholder, infer, canonical, bound}
+use Rattle.type_terms.specs.Promised.Trees.{Trees, none, tree, erase}
+use Rattle.type_terms.specs.Promised.Worlds.{World, Reference, StructDecl, TraitDecl, structs_named, traits_named, sees}
+use Rattle.type_terms.specs.Promised.Erased.{erased_reference, erased_struct, erased_trait, erased_world}
+use Rattle.type_terms.specs.Promised.Walks.{Met, local, struct_leaf, dyn_leaf, entered, struct_is, trait_is, is_home, dyn_met, visited, until_decisive, walk, open_walk, ends_local, keeps_orphan_rule, seen, item_in, is_known, is_known_in}
 use Rattle.type_terms.proofs.RenumberedTrees.{and-same}
 use Rattle.type_terms.proofs.RenumberedRules.{append-same, cons-same, or-same, any-over}
 use Rattle.type_terms.proofs.TermRules.{filter-map, sees-same}

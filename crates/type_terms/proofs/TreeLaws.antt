@@ -1,7 +1,8 @@
 use Rattle.std.proofs.Common.{◌≡◌, ℕ, zero, suc, ◌+◌, ◌≤◌, refl, ap, sym, ◌∙◌, arith, zero-add}
 use Rattle.std.proofs.lemmas.Bool.Decides.{nat_tests}
-use Rattle.type_terms.specs.Label.{Label, of_type, of_const, of_lifetime, param, placeholder, infer, canonical, bound, fn_ptr, principal, value, inside, raise, shift_label, static}
-use Rattle.type_terms.specs.Trees.{Trees, none, tree, ◌+++◌, shift, nth, instantiate, erase_label, erase, sort_of, IsA, Fits, Single, outer_binder, own_binder}
+use Rattle.type_terms.specs.Promised.Label.{Label, of_type, of_const, of_lifetime, param, placeholder, infer, canonical, bound, fn_ptr, principal, value, inside, raise, shift_label, static}
+use Rattle.type_terms.specs.Promised.Trees.{Trees, none, tree, ◌+++◌, shift, nth, instantiate, erase_label, erase, sort_of, IsA, Fits}
+use Rattle.type_terms.specs.Trees.{Single, outer_binder, own_binder}
 use Rattle.type_terms.proofs.TermBasics.{erase-append, tree-cong as ap3, two as append-cong, inside-binder}
 
 pub raise-merge : (q e c d k : ℕ) → q ≤ c → c ≤ q + e → raise c d (raise q e k) ≡ raise q (e + d) k

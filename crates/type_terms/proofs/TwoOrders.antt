@@ -1,8 +1,9 @@
 -- An arrangement for any two orders: lists that rise by the one and lists that rise by the other change places, and each other list stays.
 use Rattle.std.proofs.Common.{◌≡◌, ℕ, suc, ◌<◌, Bool, true, false, List, [], ◌∷◌, refl, ap, sym, ◌∙◌, if◌then◌else◌, subst, ◌⊎◌, inl, inr, length, arith, ltb}
 use Rattle.std.proofs.lemmas.Bool.Decides.{nat_tests}
-use Rattle.type_terms.specs.Proofs.{In, Every}
-use Rattle.type_terms.specs.Arranging.{Arrangement, RisesBy, AnyTwoOrdersAreArranged}
+use Rattle.type_terms.specs.Promised.Proofs.{In, Every}
+use Rattle.type_terms.specs.Promised.Arranging.{Arrangement}
+use Rattle.type_terms.specs.Arranging.{RisesBy, AnyTwoOrdersAreArranged}
 use Rattle.type_terms.proofs.Members.{here, there, in-cases, in-nothing}
 use Rattle.type_terms.proofs.NoHolds.{every-member}
 use Rattle.type_terms.proofs.CoreLinked.{less}

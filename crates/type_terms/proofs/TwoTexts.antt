@@ -2,14 +2,15 @@
 -- orders.
 use Rattle.std.proofs.Common.{◌≡◌, ℕ, Bool, true, false, cond, List, [], ◌∷◌, ◌++◌, refl, ap, sym, ◌∙◌, ◌==◌, ◌<◌, subst, ◌⊎◌, inl, inr, map, filter, length, ltb, arith}
 use Rattle.std.proofs.lemmas.Bool.Decides.{nat_tests}
-use Rattle.type_terms.specs.Label.{adt}
-use Rattle.type_terms.specs.Trees.{Trees, leaf}
-use Rattle.type_terms.specs.Worlds.{World, CrateDecl, StructDecl, TraitDecl, ImplDecl, core, crates_named, structs_named, traits_named, view_of, with_args}
-use Rattle.type_terms.specs.Rules.{asked, is_declared}
-use Rattle.type_terms.specs.Proofs.{In, Every}
-use Rattle.type_terms.specs.Core.{core_world, box}
-use Rattle.type_terms.specs.Renumbering.{Permutation, Renumbering, same_numbers, as_they_are, renumbered_crate, renumbered_struct, renumbered_trait, renumbered_impl, IsRenumbering, View, HoldsView}
-use Rattle.type_terms.specs.LinkedSet.{LinkedSet}
+use Rattle.type_terms.specs.Promised.Label.{adt}
+use Rattle.type_terms.specs.Promised.Trees.{Trees, leaf}
+use Rattle.type_terms.specs.Promised.Worlds.{World, CrateDecl, StructDecl, TraitDecl, ImplDecl, core, crates_named, structs_named, traits_named, view_of, with_args}
+use Rattle.type_terms.specs.Promised.Rules.{asked, is_declared}
+use Rattle.type_terms.specs.Promised.Proofs.{In, Every}
+use Rattle.type_terms.specs.Promised.Core.{core_world, box}
+use Rattle.type_terms.specs.Promised.Renumbering.{Permutation, Renumbering, renumbered_crate, renumbered_struct, renumbered_trait, renumbered_impl, IsRenumbering, View, HoldsView}
+use Rattle.type_terms.specs.Renumbering.{same_numbers, as_they_are}
+use Rattle.type_terms.specs.Promised.LinkedSet.{LinkedSet}
 use Rattle.type_terms.specs.Worked.{first, second, impl_of, text_of_a_user, set_of_two_users, TwoTextsInOneSet, auto_trait_of, text_with_left_first, text_with_right_first, set_of_both_orders, OppositeOrdersInOneSet}
 use Rattle.type_terms.proofs.Members.{in-cases, in-nothing, in-filter, some-member, not-both, same-number, self-number}
 use Rattle.type_terms.proofs.NoHolds.{member-each}

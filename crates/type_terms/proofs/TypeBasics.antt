@@ -6,10 +6,10 @@ use Rattle.std.specs.Bool.{Decides}
 use Rattle.std.specs.List.{slice_get}
 use Rattle.std.specs.Option.{option_map}
 use Rattle.std.specs.Prelude.{IsErrAnd}
-use Rattle.type_terms.specs.Kinds.{region_label}
-use Rattle.type_terms.specs.Label.{of_lifetime, Label}
-use Rattle.type_terms.specs.Trees.{sort_of, Trees}
-use Rattle.type_terms.specs.Worlds.{Reference}
+use Rattle.type_terms.specs.Promised.Handles.{region_label}
+use Rattle.type_terms.specs.Promised.Label.{of_lifetime, Label}
+use Rattle.type_terms.specs.Promised.Trees.{sort_of, Trees}
+use Rattle.type_terms.specs.Promised.Worlds.{Reference}
 use Rattle.type_terms.specs.contracts.kinds.GenericArgsPartialEq.TheImpl.{ghosts as args}
 use Rattle.type_terms.specs.declared.Fault.{Fault}
 use Rattle.type_terms.specs.declared.Fault.TheVariants.{Full}

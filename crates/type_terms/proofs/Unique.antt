@@ -4,10 +4,13 @@ use Rattle.std.specs.Map.{lookup}
 use Rattle.std.specs.List.{slice_get, IsDistinct}
 use Rattle.std.proofs.lemmas.Option.{slice_get_within, slice_get_cases}
 use Rattle.std.proofs.lemmas.Map.Keys.{IsDistinct-head, IsDistinct-tail}
-use Rattle.type_terms.specs.Label.{Label, Sort, of_type, of_const, of_lifetime}
-use Rattle.type_terms.specs.Trees.{Trees, none, tree, leaf, ◌+++◌, IsA, Single, sort_of}
-use Rattle.type_terms.specs.Terms.{Entry, Is, Has, Absent, Distinct, AllSorted, trees_at, types, consts, args_lists, type_lists, bounds_lists}
-use Rattle.type_terms.specs.Kinds.{region_label, region_trees, kind_trees, const_trees, arg_trees, args_trees, tys_trees, principal_trees, autos_trees, KindHeld, ArgHeld, ArgsHeld, TysHeld, PrincipalHeld, KindOlder, ArgOlder, ArgsOlder, TysOlder, PrincipalOlder}
+use Rattle.type_terms.specs.Promised.Label.{Label, Sort, of_type, of_const, of_lifetime}
+use Rattle.type_terms.specs.Promised.Trees.{Trees, none, tree, leaf, ◌+++◌, IsA, sort_of}
+use Rattle.type_terms.specs.Trees.{Single}
+use Rattle.type_terms.specs.Promised.Handles.{Entry, Is, Has, trees_at, types, consts, bounds_lists}
+use Rattle.type_terms.specs.Terms.{Absent, Distinct, AllSorted, args_lists, type_lists}
+use Rattle.type_terms.specs.Promised.Handles.{region_label, region_trees, arg_trees, ArgHeld, ArgsHeld}
+use Rattle.type_terms.specs.Kinds.{kind_trees, const_trees, args_trees, tys_trees, principal_trees, autos_trees, KindHeld, TysHeld, PrincipalHeld, KindOlder, ArgOlder, ArgsOlder, TysOlder, PrincipalOlder}
 use Rattle.type_terms.specs.Nodes.{grow, Older, node_entry, Held, NodeOlder}
 use Rattle.type_terms.specs.Same.{SameNode}
 use Rattle.type_terms.specs.declared.TraitId.{TraitId}

@@ -1,12 +1,12 @@
 -- The walk lemma, and two impls of crates that don't see each other.
 use Rattle.std.proofs.Common.{◌≡◌, ℕ, zero, Bool, true, false, List, [], ◌∷◌, ap, sym, ◌∙◌, ◌==◌, subst, ◌⊎◌, inl, inr, Some, None}
 use Rattle.std.specs.List.{list_all}
-use Rattle.type_terms.specs.Trees.{Trees, instantiate, Fits}
-use Rattle.type_terms.specs.Worlds.{World, Reference, StructDecl, TraitDecl, structs_named, traits_named, sees, with_args}
-use Rattle.type_terms.specs.Walks.{Met, local, struct_leaf, dyn_leaf, entered, other_leaf, open_place, struct_is, trait_is, visited, until_decisive, open_walk, keeps_orphan_rule, seen, is_known}
-use Rattle.type_terms.specs.LinkedSet.{well_written, sees_struct, sees_trait, in_scope}
+use Rattle.type_terms.specs.Promised.Trees.{Trees, instantiate, Fits}
+use Rattle.type_terms.specs.Promised.Worlds.{World, Reference, StructDecl, TraitDecl, structs_named, traits_named, sees, with_args}
+use Rattle.type_terms.specs.Promised.Walks.{Met, local, struct_leaf, dyn_leaf, entered, other_leaf, open_place, struct_is, trait_is, visited, until_decisive, open_walk, keeps_orphan_rule, seen, is_known}
+use Rattle.type_terms.specs.Promised.Versions.{well_written, sees_struct, sees_trait, in_scope}
 use Rattle.type_terms.proofs.WalkLists.{of_home, allowed, before}
-use Rattle.type_terms.specs.Proofs.{In}
+use Rattle.type_terms.specs.Promised.Proofs.{In}
 use Rattle.type_terms.proofs.Members.{in-filter, some-member, same-number, not-both, so-false}
 use Rattle.type_terms.proofs.Walking.{left, right, or-cases, reached, walks-local}
 

@@ -1,13 +1,13 @@
 -- Known by the view alone is known in the linked set.
 use Rattle.std.proofs.Common.{◌≡◌, ℕ, Bool, true, false, List, [], ◌∷◌, ◌++◌, refl, ap, sym, ◌∙◌, ◌&&◌, ◌||◌, ◌==◌, if◌then◌else◌, subst, ◌⊎◌, inl, inr, Some, None}
 use Rattle.std.specs.List.{list_all}
-use Rattle.type_terms.specs.Label.{of_type, of_const, of_lifetime, dynamic, static, adt, value, ref, principal, param, placeholder, infer, canonical, bound}
-use Rattle.type_terms.specs.Trees.{Trees, none, tree}
-use Rattle.type_terms.specs.Worlds.{World, Reference, StructDecl, TraitDecl, structs_named, traits_named, sees, view_of}
-use Rattle.type_terms.specs.Walks.{Met, local, struct_leaf, dyn_leaf, entered, other_leaf, open_place, struct_is, trait_is, dyn_met, visited, until_decisive, open_walk, walk, ends_local, seen, is_known, item_in, is_known_in}
-use Rattle.type_terms.specs.LinkedSet.{sees_struct, sees_trait}
+use Rattle.type_terms.specs.Promised.Label.{of_type, of_const, of_lifetime, dynamic, static, adt, value, ref, principal, param, placeholder, infer, canonical, bound}
+use Rattle.type_terms.specs.Promised.Trees.{Trees, none, tree}
+use Rattle.type_terms.specs.Promised.Worlds.{World, Reference, StructDecl, TraitDecl, structs_named, traits_named, sees, view_of}
+use Rattle.type_terms.specs.Promised.Walks.{Met, local, struct_leaf, dyn_leaf, entered, other_leaf, open_place, struct_is, trait_is, dyn_met, visited, until_decisive, open_walk, walk, ends_local, seen, is_known, item_in, is_known_in}
+use Rattle.type_terms.specs.Promised.Versions.{sees_struct, sees_trait}
 use Rattle.type_terms.proofs.WalkLists.{clean}
-use Rattle.type_terms.specs.Proofs.{In}
+use Rattle.type_terms.specs.Promised.Proofs.{In}
 use Rattle.type_terms.proofs.Members.{in-filter, filter-in, member-some, self-number, true-or-false, not-both, so-false}
 use Rattle.type_terms.proofs.Walking.{left, right, both, or-left, or-right, or-cases, walks-local, local-cases, clean-left, clean-right, nobody, nobody-trait}
 use Rattle.type_terms.proofs.Unseen.{OneEach, struct-there, trait-there}

@@ -1,15 +1,17 @@
 -- The laws over the views of answers: what holds of a crate's view in the set's numbers holds of it in the numbers of its text.
 use Rattle.std.proofs.Common.{◌≡◌, ◌||◌, ℕ, zero, suc, length, ◌<◌, Bool, true, false, List, [], refl, ap, sym, ◌∙◌, ◌==◌, subst, ◌⊎◌, inl, inr, map, arith, ltb}
 use Rattle.std.proofs.lemmas.Bool.Decides.{nat_tests}
-use Rattle.type_terms.specs.Worlds.{World, Reference, ImplDecl, core, sees, sees_within, view_of, with_args}
-use Rattle.type_terms.specs.Rules.{Rule, rules, strict_supertraits}
-use Rattle.type_terms.specs.Proofs.{In, Every, HasProof, HasProofByImpl}
-use Rattle.type_terms.specs.Walks.{is_known, is_known_in}
-use Rattle.type_terms.specs.Answers.{is_closed, is_bounded, is_possible, CommonInstance, IsFixedClause, FixedLeft, FixedRight}
-use Rattle.type_terms.specs.Core.{core_world}
-use Rattle.type_terms.specs.Versions.{Added}
-use Rattle.type_terms.specs.Renumbering.{Renumbering, View, HoldsView, view_before, asker_in_set, IsRenumbering, renumbered, renumbered_reference, renumbered_rule, renumbered_impl}
-use Rattle.type_terms.specs.LinkedSet.{LinkedSet, Unknown, Visited, Cleared, IsOfAnAnsweredCrate, IsPair}
+use Rattle.type_terms.specs.Promised.Worlds.{World, Reference, ImplDecl, core, sees, sees_within, view_of, with_args}
+use Rattle.type_terms.specs.Promised.Rules.{Rule, rules, strict_supertraits}
+use Rattle.type_terms.specs.Promised.Proofs.{In, Every, HasProof, HasProofByImpl}
+use Rattle.type_terms.specs.Promised.Walks.{is_known, is_known_in}
+use Rattle.type_terms.specs.Promised.Answers.{is_closed, is_bounded, is_possible, CommonInstance, IsFixedClause, FixedLeft, FixedRight}
+use Rattle.type_terms.specs.Promised.Core.{core_world}
+use Rattle.type_terms.specs.Promised.Versions.{Added}
+use Rattle.type_terms.specs.Promised.Renumbering.{Renumbering, View, HoldsView, view_before, asker_in_set, IsRenumbering, renumbered, renumbered_reference, renumbered_impl}
+use Rattle.type_terms.specs.Renumbering.{renumbered_rule}
+use Rattle.type_terms.specs.Promised.LinkedSet.{LinkedSet, Cleared, IsOfAnAnsweredCrate, IsPair}
+use Rattle.type_terms.specs.LinkedSet.{Unknown, Visited}
 use Rattle.type_terms.specs.Laws.{CarriesOver}
 use Rattle.type_terms.proofs.Members.{filter-in, in-map, true-or-false, same-number, self-number, not-both}
 use Rattle.type_terms.proofs.Walking.{or-left}

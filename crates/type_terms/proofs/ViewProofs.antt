@@ -1,15 +1,15 @@
 -- A proof by the rules of a crate's view is a proof in the linked set.
 use Rattle.std.proofs.Common.{◌≡◌, ℕ, zero, suc, length, Bool, true, false, List, [], ◌∷◌, ◌++◌, refl, ap, sym, ◌∙◌, ◌&&◌, ◌||◌, ◌==◌, not, if◌then◌else◌, subst, ◌⊎◌, inl, inr, append_assoc}
 use Rattle.std.specs.List.{flat_map, list_any}
-use Rattle.type_terms.specs.Label.{Label, adt, array, slice, raw_pointer, ref, dynamic}
-use Rattle.type_terms.specs.Trees.{Trees, none, tree}
+use Rattle.type_terms.specs.Promised.Label.{Label, adt, array, slice, raw_pointer, ref, dynamic}
+use Rattle.type_terms.specs.Promised.Trees.{Trees, none, tree}
 use Rattle.type_terms.specs.Codes.{same}
-use Rattle.type_terms.specs.Worlds.{World, Reference, StructDecl, TraitDecl, ImplDecl, structs_named, traits_named, sees, view_of, all_with_args}
-use Rattle.type_terms.specs.Walks.{struct_is}
-use Rattle.type_terms.specs.Rules.{clause_rules, super_rules, by_clause, same_reference, strict_supertraits, strict_supertraits_within, sized_struct, auto_struct, unsize_struct, Rule, rules, impl_rules, built_in_rules, plain_rules, sized_rules, auto_rules, auto_rules_plain, unsize_rules, unsize_array_rules, unsize_to_dyn_rules, unsize_upcast_rules, unsize_struct_rules, upcasts_principal, upcasts_autos, some_unsizing, with_unsizing, last_unsizes, object_rules, principal_with, autos_with, is_declared, are_declared, are_dyn_compatible, is_dyn, is_auto, is_written, same_head, sized, unsize, row, last_asked, each_asked, fields_of, is_coinductive}
-use Rattle.type_terms.specs.Proofs.{ProofEntry, In, Stands, Follows, HasProof}
-use Rattle.type_terms.specs.Renumbering.{View}
-use Rattle.type_terms.specs.LinkedSet.{JoinedSet, AutoAtHome}
+use Rattle.type_terms.specs.Promised.Worlds.{World, Reference, StructDecl, TraitDecl, ImplDecl, structs_named, traits_named, sees, view_of, all_with_args}
+use Rattle.type_terms.specs.Promised.Walks.{struct_is}
+use Rattle.type_terms.specs.Promised.Rules.{clause_rules, super_rules, by_clause, same_reference, strict_supertraits, strict_supertraits_within, sized_struct, auto_struct, unsize_struct, Rule, rules, impl_rules, built_in_rules, plain_rules, sized_rules, auto_rules, auto_rules_plain, unsize_rules, unsize_array_rules, unsize_to_dyn_rules, unsize_upcast_rules, unsize_struct_rules, upcasts_principal, upcasts_autos, some_unsizing, with_unsizing, last_unsizes, object_rules, principal_with, autos_with, is_declared, are_declared, are_dyn_compatible, is_dyn, is_auto, is_written, same_head, sized, unsize, row, last_asked, each_asked, fields_of, is_coinductive}
+use Rattle.type_terms.specs.Promised.Proofs.{ProofEntry, In, Stands, Follows, HasProof}
+use Rattle.type_terms.specs.Promised.Renumbering.{View}
+use Rattle.type_terms.specs.Promised.LinkedSet.{JoinedSet, AutoAtHome}
 use Rattle.type_terms.proofs.Members.{true-or-false, in-nothing, in-filter, filter-in, some-member, member-some, in-append, in-left, in-right, in-flat, flat-in, not-both, so-false, same-number}
 use Rattle.type_terms.proofs.Walking.{left, right, or-left, or-right, or-cases}
 use Rattle.type_terms.proofs.Matching.{same-label-sound}

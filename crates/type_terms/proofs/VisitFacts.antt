@@ -1,10 +1,12 @@
 -- What visits are made of.
 use Rattle.std.proofs.Common.{◌≡◌, ℕ, zero, suc, ◌<◌, List, [], ◌∷◌, ◌++◌, length, take, get_or, refl, ap, sym, ◌∙◌, arith, Option, Some, None, subst, append_assoc}
-use Rattle.type_terms.specs.Label.{Label, principal}
-use Rattle.type_terms.specs.Trees.{Trees, none, tree, ◌+++◌, Single, leaf}
+use Rattle.type_terms.specs.Promised.Label.{Label, principal}
+use Rattle.type_terms.specs.Promised.Trees.{Trees, none, tree, ◌+++◌, leaf}
+use Rattle.type_terms.specs.Trees.{Single}
 use Rattle.type_terms.proofs.TreeLaws.{append-assoc}
-use Rattle.type_terms.specs.Terms.{Entry, trees_at}
-use Rattle.type_terms.specs.Kinds.{tys_trees, arg_trees, args_trees, autos_trees}
+use Rattle.type_terms.specs.Promised.Handles.{Entry, trees_at}
+use Rattle.type_terms.specs.Kinds.{tys_trees, args_trees, autos_trees}
+use Rattle.type_terms.specs.Promised.Handles.{arg_trees}
 use Rattle.type_terms.specs.declared.kinds.Ty as of_ty
 use Rattle.type_terms.specs.declared.kinds.GenericArgKind.{GenericArgKind}
 use Rattle.type_terms.specs.declared.TraitId.{TraitId}

@@ -1,12 +1,12 @@
 -- A walk that ends local does so on every instance, and what it passes on its way is written in the header.
 use Rattle.std.proofs.Common.{◌≡◌, ℕ, zero, Bool, true, false, List, [], ◌∷◌, ◌++◌, refl, ap, sym, ◌∙◌, ◌&&◌, ◌||◌, ◌==◌, if◌then◌else◌, subst, ◌⊎◌, inl, inr, append_assoc, Option, Some, None}
 use Rattle.std.specs.List.{list_all, list_any}
-use Rattle.type_terms.specs.Label.{of_type, of_const, of_lifetime, dynamic, static, adt, auto_trait, value, ref, principal, param, placeholder, infer, canonical, bound, of_trait, predicate}
-use Rattle.type_terms.specs.Trees.{Trees, none, tree, ◌+++◌, instantiate, nth, shift, IsA, Fits}
+use Rattle.type_terms.specs.Promised.Label.{of_type, of_const, of_lifetime, dynamic, static, adt, auto_trait, value, ref, principal, param, placeholder, infer, canonical, bound, of_trait, predicate}
+use Rattle.type_terms.specs.Promised.Trees.{Trees, none, tree, ◌+++◌, instantiate, nth, shift, IsA, Fits}
 use Rattle.type_terms.proofs.TreeLaws.{shift-zero}
-use Rattle.type_terms.specs.Worlds.{World, StructDecl, TraitDecl, structs_named, traits_named}
-use Rattle.type_terms.specs.Walks.{Met, local, struct_leaf, dyn_leaf, entered, other_leaf, open_place, struct_is, trait_is, is_home, dyn_met, visited, until_decisive, ends_local}
-use Rattle.type_terms.specs.LinkedSet.{begins_with_bound, well_written}
+use Rattle.type_terms.specs.Promised.Worlds.{World, StructDecl, TraitDecl, structs_named, traits_named}
+use Rattle.type_terms.specs.Promised.Walks.{Met, local, struct_leaf, dyn_leaf, entered, other_leaf, open_place, struct_is, trait_is, is_home, dyn_met, visited, until_decisive, ends_local}
+use Rattle.type_terms.specs.Promised.Versions.{begins_with_bound, well_written}
 use Rattle.type_terms.proofs.WalkLists.{clean, of_home, allowed, before}
 
 -- Tests

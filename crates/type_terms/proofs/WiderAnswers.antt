@@ -1,14 +1,16 @@
 -- What a world above says of known and possible references, and of linked sets that hold a view below it.
 use Rattle.std.proofs.Common.{◌≡◌, ℕ, zero, suc, Bool, true, false, not, List, [], ◌∷◌, ap, sym, ◌∙◌, ◌&&◌, ◌||◌, ◌==◌, if◌then◌else◌, subst, ◌⊎◌, inl, inr, map, length, Some}
 use Rattle.std.specs.List.{flat_map, list_all, list_any}
-use Rattle.type_terms.specs.Trees.{Trees}
-use Rattle.type_terms.specs.Worlds.{World, Reference, view_of}
-use Rattle.type_terms.specs.Rules.{Rule, rules, strict_supertraits}
-use Rattle.type_terms.specs.Proofs.{In, Every, HasProof}
-use Rattle.type_terms.specs.Walks.{trait_is, until_decisive, ends_local, is_known, is_known_in, keeps_orphan_rule}
-use Rattle.type_terms.specs.Answers.{is_closed, children, short_chains, is_possible, is_bounded, written_in}
-use Rattle.type_terms.specs.Renumbering.{View, HoldsView, view_before, asker_in_set, renumbered_reference, renumbered_rule}
-use Rattle.type_terms.specs.LinkedSet.{LinkedSet, Unknown}
+use Rattle.type_terms.specs.Promised.Trees.{Trees}
+use Rattle.type_terms.specs.Promised.Worlds.{World, Reference, view_of}
+use Rattle.type_terms.specs.Promised.Rules.{Rule, rules, strict_supertraits}
+use Rattle.type_terms.specs.Promised.Proofs.{In, Every, HasProof}
+use Rattle.type_terms.specs.Promised.Walks.{trait_is, until_decisive, ends_local, is_known, is_known_in, keeps_orphan_rule}
+use Rattle.type_terms.specs.Promised.Answers.{is_closed, children, short_chains, is_possible, is_bounded, written_in}
+use Rattle.type_terms.specs.Promised.Renumbering.{View, HoldsView, view_before, asker_in_set, renumbered_reference}
+use Rattle.type_terms.specs.Renumbering.{renumbered_rule}
+use Rattle.type_terms.specs.Promised.LinkedSet.{LinkedSet}
+use Rattle.type_terms.specs.LinkedSet.{Unknown}
 use Rattle.type_terms.specs.Wider.{IsBelow, KeepsTest, SupersKeepTest, AsksFor, Covers, AccountsFor}
 use Rattle.type_terms.proofs.Members.{in-left, in-right, flat-in, in-map, some-member, member-some, so-false, not-both}
 use Rattle.type_terms.proofs.Walking.{left, right, both, or-left, or-right, or-cases}

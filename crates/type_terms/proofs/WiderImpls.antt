@@ -1,11 +1,12 @@
 -- When an impl is wider, and what that says of common instances.
 use Rattle.std.proofs.Common.{◌≡◌, ℕ, zero, Bool, true, false, not, List, [], ◌∷◌, ◌++◌, refl, ap, sym, ◌∙◌, ◌&&◌, ◌==◌, if◌then◌else◌, subst, ◌⊎◌, inl, inr, map}
-use Rattle.type_terms.specs.Trees.{Trees, instantiate, Fits, some_node, fits, arguments, outer_binder}
-use Rattle.type_terms.specs.Worlds.{World, Reference, ImplDecl, with_args, all_with_args}
-use Rattle.type_terms.specs.Rules.{Rule, by_impl, impl_rules, same_reference, is_auto, is_written, same_head}
-use Rattle.type_terms.specs.Label.{Label}
-use Rattle.type_terms.specs.Proofs.{In, Every}
-use Rattle.type_terms.specs.Answers.{is_closed, is_open, CommonInstance, IsFixedClause, FixedLeft, FixedRight}
+use Rattle.type_terms.specs.Promised.Trees.{Trees, instantiate, Fits, some_node}
+use Rattle.type_terms.specs.Trees.{fits, arguments, outer_binder}
+use Rattle.type_terms.specs.Promised.Worlds.{World, Reference, ImplDecl, with_args, all_with_args}
+use Rattle.type_terms.specs.Promised.Rules.{Rule, by_impl, impl_rules, same_reference, is_auto, is_written, same_head}
+use Rattle.type_terms.specs.Promised.Label.{Label}
+use Rattle.type_terms.specs.Promised.Proofs.{In, Every}
+use Rattle.type_terms.specs.Promised.Answers.{is_closed, is_open, CommonInstance, IsFixedClause, FixedLeft, FixedRight}
 use Rattle.type_terms.specs.Wider.{AsksNoMore, IsWider, IsBelow, FewerClauses, PutIn, IsPlainImpl, widened}
 use Rattle.type_terms.proofs.Members.{here, in-cases, in-nothing, in-map, in-append, in-left, some-member, member-some, same-number, not-both}
 use Rattle.type_terms.proofs.Walking.{left}

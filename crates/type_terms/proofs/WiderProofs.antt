@@ -1,10 +1,10 @@
 -- What has a proof in a world has one in each world above it.
 use Rattle.std.proofs.Common.{◌≡◌, ℕ, suc, Bool, true, false, List, [], ◌∷◌, ◌++◌, refl, ap, sym, ◌∙◌, if◌then◌else◌, subst, ◌⊎◌, inl, inr, append_assoc}
-use Rattle.type_terms.specs.Trees.{Trees}
-use Rattle.type_terms.specs.Worlds.{World, Reference}
-use Rattle.type_terms.specs.Rules.{rules, is_coinductive, strict_supertraits}
-use Rattle.type_terms.specs.Proofs.{ProofEntry, In, Every, Stands, Follows, IsProof, HasProof}
-use Rattle.type_terms.specs.Elaborated.{HasElaboratedProof}
+use Rattle.type_terms.specs.Promised.Trees.{Trees}
+use Rattle.type_terms.specs.Promised.Worlds.{World, Reference}
+use Rattle.type_terms.specs.Promised.Rules.{rules, is_coinductive, strict_supertraits}
+use Rattle.type_terms.specs.Promised.Proofs.{ProofEntry, In, Every, Stands, Follows, IsProof, HasProof}
+use Rattle.type_terms.specs.Promised.Proofs.{HasElaboratedProof}
 use Rattle.type_terms.specs.Wider.{AsksNoMore, IsBelow, HasRulesOf, IsVoid, KeepsTest, SupersKeepTest}
 use Rattle.type_terms.proofs.Members.{here, in-cases, in-nothing, not-both}
 use Rattle.type_terms.proofs.ProofEntries.{every-map, stands-more}

@@ -1,11 +1,11 @@
 -- The rules of a world are rules of each world above it, but for premises.
 use Rattle.std.proofs.Common.{◌≡◌, ℕ, suc, Bool, true, false, List, [], ◌∷◌, ◌++◌, refl, ap, sym, ◌==◌, if◌then◌else◌, subst, ◌⊎◌, inl, inr}
 use Rattle.std.specs.List.{flat_map}
-use Rattle.type_terms.specs.Label.{Label}
-use Rattle.type_terms.specs.Trees.{Trees, none, tree}
-use Rattle.type_terms.specs.Worlds.{World, Reference, CrateDecl, ImplDecl}
-use Rattle.type_terms.specs.Rules.{Rule, rules, impl_rules, built_in_rules, plain_rules, sized_rules, auto_rules, auto_rules_plain, unsize_rules, object_rules, is_auto, is_written, sized, unsize, clause_rules, super_rules}
-use Rattle.type_terms.specs.Proofs.{In, Every}
+use Rattle.type_terms.specs.Promised.Label.{Label}
+use Rattle.type_terms.specs.Promised.Trees.{Trees, none, tree}
+use Rattle.type_terms.specs.Promised.Worlds.{World, Reference, CrateDecl, ImplDecl}
+use Rattle.type_terms.specs.Promised.Rules.{Rule, rules, impl_rules, built_in_rules, plain_rules, sized_rules, auto_rules, auto_rules_plain, unsize_rules, object_rules, is_auto, is_written, sized, unsize, clause_rules, super_rules}
+use Rattle.type_terms.specs.Promised.Proofs.{In, Every}
 use Rattle.type_terms.specs.Wider.{AsksNoMore, IsBelow}
 use Rattle.type_terms.proofs.Members.{in-nothing, in-append, in-left, in-right, in-flat, flat-in, not-both}
 use Rattle.type_terms.proofs.OtherImpls.{supers-same, sized-same, plain-same, unsize-same, object-same}

@@ -1,12 +1,12 @@
 -- Pairs of a linked set that are cleared by a world above.
 use Rattle.std.proofs.Common.{◌≡◌, ℕ, true, false, List, [], ◌∷◌, refl, ap, sym, ◌∙◌, subst, ◌⊎◌, inl, inr, map}
-use Rattle.type_terms.specs.Trees.{Trees}
-use Rattle.type_terms.specs.Worlds.{World, Reference, ImplDecl, with_args}
-use Rattle.type_terms.specs.Proofs.{In, Every, HasProof}
-use Rattle.type_terms.specs.Elaborated.{HasElaboratedProof}
-use Rattle.type_terms.specs.Answers.{is_closed, is_bounded, is_possible, CommonInstance, IsFixedClause}
-use Rattle.type_terms.specs.Renumbering.{Renumbering, View, HoldsView, renumbered, renumbered_reference, renumbered_impl}
-use Rattle.type_terms.specs.LinkedSet.{LinkedSet, Cleared}
+use Rattle.type_terms.specs.Promised.Trees.{Trees}
+use Rattle.type_terms.specs.Promised.Worlds.{World, Reference, ImplDecl, with_args}
+use Rattle.type_terms.specs.Promised.Proofs.{In, Every, HasProof}
+use Rattle.type_terms.specs.Promised.Proofs.{HasElaboratedProof}
+use Rattle.type_terms.specs.Promised.Answers.{is_closed, is_bounded, is_possible, CommonInstance, IsFixedClause}
+use Rattle.type_terms.specs.Promised.Renumbering.{Renumbering, View, HoldsView, renumbered, renumbered_reference, renumbered_impl}
+use Rattle.type_terms.specs.Promised.LinkedSet.{LinkedSet, Cleared}
 use Rattle.type_terms.specs.Wider.{IsWider, HasRulesOf, IsPlainImpl, Covers, AsksFor, KeepsTest, SupersKeepTest, anything}
 use Rattle.type_terms.proofs.NoHolds.{every-member}
 use Rattle.type_terms.proofs.RenumberedTrees.{inverse, back, impl-back, over-common, over-with-args}

@@ -1,14 +1,14 @@
 -- The worked cases that computing alone does not show: proofs, their absence, and common instances.
 use Rattle.std.proofs.Common.{◌≡◌, ℕ, zero, suc, true, false, List, [], ◌∷◌, refl, ◌⊎◌, inl, inr, IsTrue, ap, sym, subst, ◌∙◌, arith}
 use Rattle.std.specs.List.{list_any}
-use Rattle.type_terms.specs.Label.{of_type, bool, adt, uint, tuple, ref, static, placeholder, dynamic, principal}
+use Rattle.type_terms.specs.Promised.Label.{of_type, bool, adt, uint, tuple, ref, static, placeholder, dynamic, principal}
 use Rattle.type_terms.specs.Codes.{same}
-use Rattle.type_terms.specs.Trees.{Trees, none, tree, leaf, erase}
-use Rattle.type_terms.specs.Worlds.{World, ImplDecl, Reference, view_of, with_args}
-use Rattle.type_terms.specs.Rules.{rules, Rule, by_impl, by_clause, built_in, auto_struct, auto_leaf, copy_tuple, object_principal, asked, clone, copy}
-use Rattle.type_terms.specs.Proofs.{ProofEntry, In, Every, HasProof}
-use Rattle.type_terms.specs.Answers.{is_possible, CommonInstance, IsRealOverlap, IsFixedClause, AtMostOne, IsDeterminate}
-use Rattle.type_terms.specs.Core.{core_world, box, type_param}
+use Rattle.type_terms.specs.Promised.Trees.{Trees, none, tree, leaf, erase}
+use Rattle.type_terms.specs.Promised.Worlds.{World, ImplDecl, Reference, view_of, with_args}
+use Rattle.type_terms.specs.Promised.Rules.{rules, Rule, by_impl, by_clause, built_in, auto_struct, auto_leaf, copy_tuple, object_principal, asked, clone, copy}
+use Rattle.type_terms.specs.Promised.Proofs.{ProofEntry, In, Every, HasProof}
+use Rattle.type_terms.specs.Promised.Answers.{is_possible, CommonInstance, IsRealOverlap, IsFixedClause, AtMostOne, IsDeterminate}
+use Rattle.type_terms.specs.Promised.Core.{core_world, box, type_param}
 use Rattle.type_terms.specs.Worked.{AnImpossibleClause, AClauseThatMayHoldSomeDay, OnlyLifetimesDiffer, OverlapWithCore, NestedImpls, WhereClauses, CoinductiveCycle, AnImplInPlaceOfTheAutoRule, CopiesInCore, Upcast, TextsAreErased, TwoWaysUpToLifetimes, to, base, first, beside_core, struct, trait_of, auto_trait_of, impl_of, u8, T, applied, shared, dyn_of, fn_of_any, fn_of_static, show_world, HeaderOutOfScope}
 use Rattle.type_terms.proofs.Members.{in-cases, in-nothing}
 use Rattle.type_terms.proofs.Fitting.{fits-sound}

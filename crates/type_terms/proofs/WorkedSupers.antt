@@ -1,8 +1,8 @@
 -- Worked cases of supertraits.
 use Rattle.std.proofs.Common.{[], ◌∷◌, refl}
-use Rattle.type_terms.specs.Label.{placeholder, of_type, principal, dynamic}
-use Rattle.type_terms.specs.Trees.{Trees, none, tree, leaf}
-use Rattle.type_terms.specs.Rules.{by_impl, by_clause, by_super, built_in, unsize_to_dyn, asked, sized, unsize}
+use Rattle.type_terms.specs.Promised.Label.{placeholder, of_type, principal, dynamic}
+use Rattle.type_terms.specs.Promised.Trees.{Trees, none, tree, leaf}
+use Rattle.type_terms.specs.Promised.Rules.{by_impl, by_clause, by_super, built_in, unsize_to_dyn, asked, sized, unsize}
 use Rattle.type_terms.specs.Worked.{u8, applied, base, impl_of, to}
 use Rattle.type_terms.specs.WorkedSupers.{with_supers, AMissingSupertrait, ByAnotherImpl, ByAWhereClause, ByASupertraitOfAWhereClause, NoDynIsSized}
 use Rattle.type_terms.proofs.WorkedProofs.{no-rule}

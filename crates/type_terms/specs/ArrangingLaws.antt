@@ -1,18 +1,21 @@
 -- What stays of a world where the auto traits of each `dyn` stand in another order.
 use Rattle.std.specs.Prelude.{◌≡◌, ◌⊎◌, ℕ, zero, true, false, IsTrue, List, [], ◌∷◌, ◌++◌, map}
-use Rattle.type_terms.specs.Label.{dynamic, auto_trait, static}
-use Rattle.type_terms.specs.Trees.{Trees, none, tree, leaf}
-use Rattle.type_terms.specs.Worlds.{World, Reference, ImplDecl}
-use Rattle.type_terms.specs.Rules.{Rule, rules, strict_supertraits}
-use Rattle.type_terms.specs.Proofs.{In, Every, HasProof, HasProofByImpl}
-use Rattle.type_terms.specs.Walks.{is_known, is_known_in, keeps_orphan_rule}
-use Rattle.type_terms.specs.Answers.{is_closed, is_bounded, is_possible, CommonInstance, IsFixedClause}
-use Rattle.type_terms.specs.Supers.{IsHeld, dyns_of_bounds}
-use Rattle.type_terms.specs.Core.{core_world}
-use Rattle.type_terms.specs.LinkedSet.{JoinedSet, LinkedSet, Unknown, Cleared, IsPair, all_written, autos_rise, dyns_rise}
-use Rattle.type_terms.specs.Renumbering.{Renumbering, SameMembers, View, HoldsView, asker_in_set, renumbered_reference, renumbered_impl, renumbered_rule}
-use Rattle.type_terms.specs.Versions.{in_scope, Added}
-use Rattle.type_terms.specs.Arranging.{Arrangement, turned_back, autos_in, children_in_order, arranged, arranged_reference, arranged_impl, arranged_world, IsArrangedRule}
+use Rattle.type_terms.specs.Promised.Label.{dynamic, auto_trait, static}
+use Rattle.type_terms.specs.Promised.Trees.{Trees, none, tree, leaf}
+use Rattle.type_terms.specs.Promised.Worlds.{World, Reference, ImplDecl}
+use Rattle.type_terms.specs.Promised.Rules.{Rule, rules, strict_supertraits}
+use Rattle.type_terms.specs.Promised.Proofs.{In, Every, HasProof, HasProofByImpl}
+use Rattle.type_terms.specs.Promised.Walks.{is_known, is_known_in, keeps_orphan_rule}
+use Rattle.type_terms.specs.Promised.Answers.{is_closed, is_bounded, is_possible, CommonInstance, IsFixedClause}
+use Rattle.type_terms.specs.Promised.Supers.{IsHeld, dyns_of_bounds}
+use Rattle.type_terms.specs.Promised.Core.{core_world}
+use Rattle.type_terms.specs.Promised.LinkedSet.{JoinedSet, LinkedSet, Cleared, IsPair, all_written, autos_rise, dyns_rise}
+use Rattle.type_terms.specs.LinkedSet.{Unknown}
+use Rattle.type_terms.specs.Promised.Renumbering.{Renumbering, SameMembers, View, HoldsView, asker_in_set, renumbered_reference, renumbered_impl}
+use Rattle.type_terms.specs.Renumbering.{renumbered_rule}
+use Rattle.type_terms.specs.Promised.Versions.{in_scope, Added}
+use Rattle.type_terms.specs.Promised.Arranging.{Arrangement, autos_in, children_in_order, arranged, arranged_reference, arranged_impl, arranged_world}
+use Rattle.type_terms.specs.Arranging.{turned_back, IsArrangedRule}
 use Rattle.type_terms.specs.Worked.{struct, auto_trait_of, text_with_left_first}
 
 -- Its rules up to the order of premises, supertraits and proofs, both ways, known, bounded and possible references, and common instances.

@@ -3,8 +3,8 @@ use Rattle.std.specs.Prelude.{◌≡◌, ℕ, zero, suc, Bool, true, false, refl
 use Rattle.std.proofs.Common.{get_or, ap}
 use Rattle.std.specs.Coded.{Coded, coded_ℕ, coded×, code_by}
 use base.Stored.{Gv, gnil, gcons}
-use Rattle.type_terms.specs.Label.{Label, Sort, of_type, of_const, of_lifetime, bool, char, str, never, array, slice, tuple, dynamic, static, int, uint, adt, fn_ptr, auto_trait, value, ref, raw_pointer, principal, param, placeholder, infer, canonical, bound, PredicateKind, of_trait, region_outlives, type_outlives, regions_equal, predicate}
-use Rattle.type_terms.specs.Trees.{Trees, none, tree}
+use Rattle.type_terms.specs.Promised.Label.{Label, Sort, of_type, of_const, of_lifetime, bool, char, str, never, array, slice, tuple, dynamic, static, int, uint, adt, fn_ptr, auto_trait, value, ref, raw_pointer, principal, param, placeholder, infer, canonical, bound, PredicateKind, of_trait, region_outlives, type_outlives, regions_equal, predicate}
+use Rattle.type_terms.specs.Promised.Trees.{Trees, none, tree}
 
 -- A sort as a number.
 abbrev pub sort_number : Sort → ℕ

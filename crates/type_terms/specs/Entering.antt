@@ -1,8 +1,8 @@
 -- A visitor that enters a type once.
 use Rattle.std.specs.Prelude.{◌≡◌, ◌⊎◌, ℕ, List, true, nat_eq}
 use Rattle.std.specs.HashSet.{contains}
-use Rattle.type_terms.specs.Trees.{Trees}
-use Rattle.type_terms.specs.Terms.{Entry, trees_at}
+use Rattle.type_terms.specs.Promised.Trees.{Trees}
+use Rattle.type_terms.specs.Promised.Handles.{Entry, trees_at}
 use Rattle.type_terms.specs.declared.entered.Entered.{Entered}
 use Rattle.type_terms.specs.declared.once.Once.{Once}
 use Rattle.type_terms.specs.declared.visit.Seen.{Seen}

@@ -1,8 +1,9 @@
 -- What a call leaves of an interner, and why it may refuse.
 use Rattle.std.specs.Prelude.{◌≡◌, IfErr}
 use Rattle.std.specs.declared.result.Result.{Result}
-use Rattle.type_terms.specs.Failures.{SomeKindIsFull}
-use Rattle.type_terms.specs.Terms.{Terms, Keeps}
+use Rattle.type_terms.specs.Promised.Handles.{SomeKindIsFull}
+use Rattle.type_terms.specs.Terms.{Terms}
+use Rattle.type_terms.specs.Promised.Handles.{Keeps}
 use Rattle.type_terms.specs.declared.Fault.{Fault}
 use Rattle.type_terms.specs.declared.Fault.TheVariants.{Full}
 

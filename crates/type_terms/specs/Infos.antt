@@ -1,7 +1,8 @@
 -- what is kept with a term: its flags, its outer binder and its depth
 use Rattle.std.specs.Prelude.{ℕ, ◌+◌, max, bit_or}
-use Rattle.type_terms.specs.Label.{Label}
-use Rattle.type_terms.specs.Trees.{Trees, flags, outer_binder, depth, label_flags, own_binder, outside}
+use Rattle.type_terms.specs.Promised.Label.{Label}
+use Rattle.type_terms.specs.Promised.Trees.{Trees}
+use Rattle.type_terms.specs.Trees.{flags, outer_binder, depth, label_flags, own_binder, outside}
 use Rattle.type_terms.specs.declared.number.BoundVarIndexKind.{BoundVarIndexKind}
 use Rattle.type_terms.specs.declared.number.BoundVarIndexKind.TheVariants.{Bound as KBinder, Canonical as KCanonical}
 use Rattle.type_terms.specs.declared.node.Info.{Info}

@@ -1,7 +1,8 @@
 -- What the interner's fields say.
 use Rattle.std.specs.Prelude.{◌≡◌, ℕ, ◌+◌, ◌≤◌, List, [], length, map}
 use Rattle.indexmap.specs.IndexMap.{keys, values, spare}
-use Rattle.type_terms.specs.Terms.{Terms, Entry, held, types, consts, args_lists, type_lists, bounds_lists}
+use Rattle.type_terms.specs.Terms.{Terms, args_lists, type_lists}
+use Rattle.type_terms.specs.Promised.Handles.{Entry, held, types, consts, bounds_lists}
 use Rattle.type_terms.specs.Nodes.{grow, Older}
 use Rattle.type_terms.specs.Infos.{info_of}
 use Rattle.type_terms.specs.declared.node.Counts.{Counts}

@@ -1,17 +1,12 @@
 -- The trees that a kind stands for, over the terms of an interner.
 use Rattle.std.specs.Prelude.{◌≡◌, ℕ, ◌<◌, List, [], ◌∷◌, Option, Some, None, Bool, true, false, map}
 use Rattle.std.specs.List.Sorted.{IsStrictlyIncreasing}
-use Rattle.type_terms.specs.Label.{Label, Sort, of_type, of_const, of_lifetime, bool as l-bool, char as l-char, str as l-str, never as l-never, array, slice, tuple, dynamic, static, int, uint, adt, fn_ptr, auto_trait, value, ref, raw_pointer, principal, param, placeholder, infer, canonical, bound}
-use Rattle.type_terms.specs.Trees.{Trees, none, tree, leaf, is_no_tree, ◌+++◌}
-use Rattle.type_terms.specs.Terms.{Entry, Has, trees_at, types, consts, args_lists, type_lists, bounds_lists}
-use Rattle.type_terms.specs.declared.TheConstants.{MAX_INDEX}
+use Rattle.type_terms.specs.Promised.Label.{Label, of_type, of_const, bool as l-bool, char as l-char, str as l-str, never as l-never, array, slice, tuple, dynamic, int, uint, adt, fn_ptr, auto_trait, value, ref, raw_pointer, principal, param, placeholder, infer}
+use Rattle.type_terms.specs.Promised.Trees.{Trees, none, tree, leaf, ◌+++◌}
+use Rattle.type_terms.specs.Trees.{is_no_tree}
+use Rattle.type_terms.specs.Promised.Handles.{Entry, Has, trees_at, types, consts, bounds_lists, bound_label, region_trees, arg_trees, BinderHeld, RegionHeld}
+use Rattle.type_terms.specs.Terms.{args_lists, type_lists}
 use Rattle.type_terms.specs.declared.TraitId.{TraitId}
-use Rattle.type_terms.specs.declared.number.BoundVar.{BoundVar}
-use Rattle.type_terms.specs.declared.number.BoundVarIndexKind.{BoundVarIndexKind}
-use Rattle.type_terms.specs.declared.number.BoundVarIndexKind.TheVariants.{Bound as KBinder, Canonical as KCanonical}
-use Rattle.type_terms.specs.declared.region.Region.{Region}
-use Rattle.type_terms.specs.declared.region.RegionKind.{RegionKind}
-use Rattle.type_terms.specs.declared.region.RegionKind.TheVariants.{ReStatic, ReEarlyParam, RePlaceholder, ReBound, ReVar}
 use Rattle.type_terms.specs.declared.kinds.IntTy.{IntTy}
 use Rattle.type_terms.specs.declared.kinds.IntTy.TheVariants.{I8, I16, I32, I64, I128, Isize}
 use Rattle.type_terms.specs.declared.kinds.UintTy.{UintTy}
@@ -50,23 +45,6 @@ abbrev pub is_mut : Mutability → Bool
 is_mut Not = false
 is_mut Mut = true
 
--- a bound variable of this sort
-abbrev pub bound_label : Sort → BoundVarIndexKind → BoundVar → Label
-bound_label s (KBinder k) v = bound s k.index v.index
-bound_label s KCanonical v = canonical s v.index
-
--- a lifetime is one leaf: `'static`, or an open place of the sort of lifetimes
-abbrev pub region_label : RegionKind → Label
-region_label ReStatic = static
-region_label (ReEarlyParam i) = param of_lifetime i
-region_label (RePlaceholder i) = placeholder of_lifetime i
-region_label (ReBound k v) = bound_label of_lifetime k v
-region_label (ReVar v) = infer of_lifetime v.index
-
--- A lifetime is one leaf.
-abbrev pub region_trees : Region → Trees
-region_trees r = leaf (region_label r.kind)
-
 -- a type is one tree: `&'a T` has the lifetime and then T below it, `dyn B + 'a` the bounds and then the lifetime,
 -- and an argument list stands below its struct as its arguments do, one after the other
 abbrev pub kind_trees : List Entry → TyKind → Trees
@@ -100,12 +78,6 @@ const_label (CInfer v) = infer of_const v.index
 abbrev pub const_trees : ConstKind → Trees
 const_trees k = leaf (const_label k)
 
--- a generic argument is one tree
-abbrev pub arg_trees : List Entry → GenericArgKind → Trees
-arg_trees es (Lifetime r) = region_trees r
-arg_trees es (AType t) = trees_at es t.0
-arg_trees es (AConst c) = trees_at es c.0
-
 -- a list is its parts, one after the other
 abbrev pub args_trees : List Entry → List GenericArgKind → Trees
 args_trees es [] = none
@@ -127,17 +99,6 @@ autos_trees (a ∷ rest) = leaf (auto_trait a.index) +++ autos_trees rest
 abbrev pub bounds_trees : List Entry → BoundsData → Trees
 bounds_trees es b = principal_trees es b.principal +++ autos_trees b.autos.items
 
--- ---- what may be made: its handles are the interner's, its binder numbers are below the greatest number,
--- a `fn` pointer has an output, and the auto traits of a `dyn` type rise
-abbrev pub BinderHeld : BoundVarIndexKind → Type 0
-BinderHeld (KBinder k) = k.index < MAX_INDEX
-BinderHeld KCanonical = Unit {0}
-
--- A bound lifetime has a binder number that fits. Other lifetimes always do.
-abbrev pub RegionHeld : RegionKind → Type 0
-RegionHeld (ReBound k v) = BinderHeld k
-RegionHeld _ = Unit {0}
-
 abbrev pub KindHeld : List Entry → TyKind → Type 0
 KindHeld es (Adt d args) = Has es args_lists args.0
 KindHeld es (Ref r t m) = RegionHeld r.kind × Has es types t.0
@@ -153,17 +114,6 @@ KindHeld es _ = Unit {0}
 abbrev pub ConstHeld : ConstKind → Type 0
 ConstHeld (CBound k v) = BinderHeld k
 ConstHeld _ = Unit {0}
-
--- The argument is of this interner.
-abbrev pub ArgHeld : List Entry → GenericArgKind → Type 0
-ArgHeld es (Lifetime r) = RegionHeld r.kind
-ArgHeld es (AType t) = Has es types t.0
-ArgHeld es (AConst c) = Has es consts c.0
-
--- Each argument is of this interner.
-abbrev pub ArgsHeld : List Entry → List GenericArgKind → Type 0
-ArgsHeld es [] = Unit {0}
-ArgsHeld es (a ∷ rest) = ArgHeld es a × ArgsHeld es rest
 
 abbrev pub TysHeld : List Entry → List of-ty.Ty → Type 0
 TysHeld es [] = Unit {0}

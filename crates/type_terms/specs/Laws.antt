@@ -1,23 +1,22 @@
 -- What holds in every linked set. Each law stands on the contract of a function of its name.
 use Rattle.std.specs.Prelude.{◌≡◌, ℕ, true, false, IsTrue, List, [], ◌⊎◌, map}
 use Rattle.std.specs.List.{list_all}
-use Rattle.type_terms.specs.Codes.{same}
-use Rattle.type_terms.specs.Trees.{Trees, Fits, outer_binder, erase}
-use Rattle.type_terms.specs.Worlds.{World, Reference, ImplDecl, core, sees, view_of, with_args, all_with_args}
-use Rattle.type_terms.specs.Erased.{IsErasedTerm, IsTerms, IsCovered, erased_reference, erased_impl, erased_world}
-use Rattle.type_terms.specs.Rules.{Rule, by_impl, rules, strict_supertraits}
-use Rattle.type_terms.specs.Proofs.{In, Every, HasProof, HasProofByImpl}
-use Rattle.type_terms.specs.Walks.{open_walk, keeps_orphan_rule, is_known, is_known_in}
-use Rattle.type_terms.specs.Answers.{is_closed, is_bounded, is_possible, CommonInstance, Overlaps, IsFixedClause}
-use Rattle.type_terms.specs.Core.{core_world}
-use Rattle.type_terms.specs.Supers.{IsHeld}
-use Rattle.type_terms.specs.Renumbering.{Renumbering, View, HoldsView, asker_in_set, IsRenumbering, renumbered_reference, renumbered_rule, renumbered_impl}
-use Rattle.type_terms.specs.Versions.{in_scope, Added}
-use Rattle.type_terms.specs.LinkedSet.{JoinedSet, LinkedSet, Unknown, Cleared, IsOfAnAnsweredCrate, IsPair}
-
--- P holds of each linked set with its answers.
-abbrev pub InEveryLinkedSet : (World → List View → Type 0) → Type 0
-InEveryLinkedSet P = (W : World) (vs : List View) (rank : ℕ → ℕ) → LinkedSet W vs rank → P W vs
+use Rattle.type_terms.specs.Promised.Trees.{Trees, Fits, erase}
+use Rattle.type_terms.specs.Trees.{outer_binder}
+use Rattle.type_terms.specs.Promised.Worlds.{World, Reference, ImplDecl, core, sees, view_of, with_args, all_with_args}
+use Rattle.type_terms.specs.Erased.{IsErasedTerm, IsCovered}
+use Rattle.type_terms.specs.Promised.Erased.{IsTerms, erased_reference, erased_impl, erased_world}
+use Rattle.type_terms.specs.Promised.Rules.{Rule, by_impl, rules, strict_supertraits}
+use Rattle.type_terms.specs.Promised.Proofs.{In, Every, HasProof, HasProofByImpl}
+use Rattle.type_terms.specs.Promised.Walks.{open_walk, keeps_orphan_rule, is_known, is_known_in}
+use Rattle.type_terms.specs.Promised.Answers.{is_closed, is_bounded, is_possible, CommonInstance, Overlaps, IsFixedClause}
+use Rattle.type_terms.specs.Promised.Core.{core_world}
+use Rattle.type_terms.specs.Promised.Supers.{IsHeld}
+use Rattle.type_terms.specs.Promised.Renumbering.{Renumbering, View, HoldsView, asker_in_set, IsRenumbering, renumbered_reference, renumbered_impl}
+use Rattle.type_terms.specs.Renumbering.{renumbered_rule}
+use Rattle.type_terms.specs.Promised.Versions.{in_scope, Added}
+use Rattle.type_terms.specs.Promised.LinkedSet.{JoinedSet, LinkedSet, Cleared, IsOfAnAnsweredCrate, IsPair}
+use Rattle.type_terms.specs.LinkedSet.{Unknown}
 
 -- An erased world is one of terms, and its views are the world's views, erased.
 abbrev pub ErasedWorldsAreTerms : Type 0
@@ -45,10 +44,6 @@ WalksSkipLifetimes =
     × (keeps_orphan_rule (erased_world W) c (erased_reference r) ≡ keeps_orphan_rule W c r)
     × (is_known_in (erased_world W) c (erased_reference r) ≡ is_known_in W c r)
     × (is_known (erased_world W) c (erased_reference r) ≡ is_known W c r)
-
--- Two trees pass the test exactly if they are one. So `same_reference` says that two references are one, and nothing less.
-abbrev pub SameIsEqual : Type 0
-SameIsEqual = (x y : Trees) → (same x y ≡ true → x ≡ y) × (x ≡ y → same x y ≡ true)
 
 -- `core` counts as accepted: its headers keep the orphan rule, and no two of its impls overlap.
 abbrev pub CoreIsCoherent : Type 0

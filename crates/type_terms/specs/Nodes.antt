@@ -1,8 +1,10 @@
 -- The interner's nodes: each stands for the trees of one handle, over the terms before it.
 use Rattle.std.specs.Prelude.{ℕ, List, [], ◌∷◌, ◌++◌}
-use Rattle.type_terms.specs.Trees.{Trees}
-use Rattle.type_terms.specs.Terms.{Entry, types, consts, args_lists, type_lists, bounds_lists}
-use Rattle.type_terms.specs.Kinds.{kind_trees, const_trees, args_trees, tys_trees, bounds_trees, KindHeld, ConstHeld, ArgsHeld, TysHeld, BoundsHeld, KindOlder, ArgsOlder, TysOlder, PrincipalOlder}
+use Rattle.type_terms.specs.Promised.Trees.{Trees}
+use Rattle.type_terms.specs.Promised.Handles.{Entry, types, consts, bounds_lists}
+use Rattle.type_terms.specs.Terms.{args_lists, type_lists}
+use Rattle.type_terms.specs.Kinds.{kind_trees, const_trees, args_trees, tys_trees, bounds_trees, KindHeld, ConstHeld, TysHeld, BoundsHeld, KindOlder, ArgsOlder, TysOlder, PrincipalOlder}
+use Rattle.type_terms.specs.Promised.Handles.{ArgsHeld}
 use Rattle.type_terms.specs.declared.node.Node.{Node}
 use Rattle.type_terms.specs.declared.node.Node.TheVariants.{Ty, Const, Args, Tys, Bounds}
 

@@ -2,17 +2,17 @@
 -- no others. A text of the few lines that a question needs, in place of all.
 use Rattle.std.specs.Prelude.{◌≡◌, ℕ, ◌<◌, Bool, true, false, not, ◌&&◌, ◌||◌, ◌==◌, List, [], filter, ltb}
 use Rattle.std.specs.List.{list_all, list_any}
-use Rattle.type_terms.specs.Label.{Label, adt, principal, auto_trait, of_trait, predicate}
-use Rattle.type_terms.specs.Trees.{Trees, none, tree, some_node}
-use Rattle.type_terms.specs.Worlds.{World, CrateDecl, Reference, TraitDecl, ImplDecl, structs_named, traits_named}
-use Rattle.type_terms.specs.Rules.{Rule, rules, impl_rules, is_auto, is_written, is_coinductive, same_head, same_reference, strict_supertraits}
-use Rattle.type_terms.specs.Proofs.{In, Every, HasProof}
-use Rattle.type_terms.specs.Elaborated.{HasElaboratedProof}
-use Rattle.type_terms.specs.Walks.{is_known_in, keeps_orphan_rule}
-use Rattle.type_terms.specs.Answers.{is_possible, is_bounded, written_in, IsFixedClause, IsUnambiguous, IsDeterminate}
-use Rattle.type_terms.specs.Supers.{SupersHold, opaque_reference}
-use Rattle.type_terms.specs.LinkedSet.{Cleared}
-use Rattle.type_terms.specs.Renumbering.{Renumbering, View, HoldsView, IsRenumbering, renumbered_reference, renumbered_impl}
+use Rattle.type_terms.specs.Promised.Label.{Label, adt, principal, auto_trait, of_trait, predicate}
+use Rattle.type_terms.specs.Promised.Trees.{Trees, none, tree, some_node}
+use Rattle.type_terms.specs.Promised.Worlds.{World, CrateDecl, Reference, TraitDecl, ImplDecl, structs_named, traits_named}
+use Rattle.type_terms.specs.Promised.Rules.{Rule, rules, impl_rules, is_auto, is_written, is_coinductive, same_head, same_reference, strict_supertraits}
+use Rattle.type_terms.specs.Promised.Proofs.{In, Every, HasProof}
+use Rattle.type_terms.specs.Promised.Proofs.{HasElaboratedProof}
+use Rattle.type_terms.specs.Promised.Walks.{is_known_in, keeps_orphan_rule}
+use Rattle.type_terms.specs.Promised.Answers.{is_possible, is_bounded, written_in, IsFixedClause, IsUnambiguous, IsDeterminate}
+use Rattle.type_terms.specs.Promised.Supers.{SupersHold, opaque_reference}
+use Rattle.type_terms.specs.Promised.LinkedSet.{Cleared}
+use Rattle.type_terms.specs.Promised.Renumbering.{Renumbering, View, HoldsView, IsRenumbering, renumbered_reference, renumbered_impl}
 
 -- V's rules for a reference of the set ask for references of the set, and its supertraits are of the set.
 pub record IsClosedSet (R : Reference → Bool) (V : World) : Type 0 where

@@ -2,9 +2,10 @@
 use Rattle.std.specs.ControlFlow.{break_value}
 use Rattle.std.proofs.Common.{ControlFlow}
 use Rattle.std.specs.Prelude.{ℕ, List, [], ◌∷◌, drop, reverse, Option, Some, None}
-use Rattle.type_terms.specs.Trees.{Trees, none, tree, ◌+++◌}
-use Rattle.type_terms.specs.Terms.{Entry, Has, bounds_lists, trees_at}
-use Rattle.type_terms.specs.Kinds.{ArgHeld, ArgsHeld, TysHeld, arg_trees, args_trees, tys_trees}
+use Rattle.type_terms.specs.Promised.Trees.{Trees, none, tree, ◌+++◌}
+use Rattle.type_terms.specs.Promised.Handles.{Entry, Has, bounds_lists, trees_at}
+use Rattle.type_terms.specs.Promised.Handles.{ArgHeld, ArgsHeld, arg_trees}
+use Rattle.type_terms.specs.Kinds.{TysHeld, args_trees, tys_trees}
 use Rattle.type_terms.specs.declared.deep_visit.Part.{Part}
 use Rattle.type_terms.specs.declared.deep_visit.Part.TheVariants.{Arg, Tys, Args, Bounds}
 use Rattle.type_terms.specs.declared.deep_visit.Pending.{Pending}

@@ -1,6 +1,7 @@
 -- What a value with terms is made of.
 use Rattle.std.specs.Prelude.{ℕ, List, [], ◌∷◌, ◌++◌, length, max, bit_or, ◌-◌}
-use Rattle.type_terms.specs.Trees.{Trees, flags, outer_binder}
+use Rattle.type_terms.specs.Promised.Trees.{Trees}
+use Rattle.type_terms.specs.Trees.{flags, outer_binder}
 
 -- a part of a value: its trees, and the binders of the value that are around them, the innermost first
 pub record Piece : Type 0 where

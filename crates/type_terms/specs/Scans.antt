@@ -1,7 +1,8 @@
 -- What a scan of a value finds.
 use Rattle.std.specs.Prelude.{ℕ, ◌+◌, List, [], ◌∷◌, length, bit_and, leb, not, ◌||◌, ◌==◌, Bool, true, false}
-use Rattle.type_terms.specs.Label.{Label, param, infer, bound, inside}
-use Rattle.type_terms.specs.Trees.{Trees, none, tree, label_flags, some_node}
+use Rattle.type_terms.specs.Promised.Label.{Label, param, infer, bound, inside}
+use Rattle.type_terms.specs.Promised.Trees.{Trees, none, tree, some_node}
+use Rattle.type_terms.specs.Trees.{label_flags}
 use Rattle.type_terms.specs.Pieces.{Piece}
 
 -- some node of the value passes the test

@@ -1,20 +1,12 @@
 -- What a contract sees of an interner: the terms that it has, in the order in which they were made.
-use Rattle.std.specs.Prelude.{◌≡◌, ℕ, List, [], ◌∷◌, ◌++◌, Option, Some, None, refl, count_by, ◌==◌, ◌⊎◌, ◌≢◌, true}
+use Rattle.std.specs.Prelude.{◌≡◌, ℕ, List, [], ◌∷◌, ◌++◌, Some, refl, ◌⊎◌, ◌≢◌, true}
 use Rattle.std.specs.List.{slice_get}
 use Rattle.std.specs.Coded.{Coded, code_by, coded×, coded_ℕ, coded_list}
-use Rattle.type_terms.specs.Label.{Label, of_type, of_const, of_lifetime}
-use Rattle.type_terms.specs.Trees.{Trees, none, leaf, ◌+++◌, sort_of, IsA}
+use Rattle.type_terms.specs.Promised.Label.{Label, of_type, of_const, of_lifetime}
+use Rattle.type_terms.specs.Promised.Trees.{Trees, leaf, ◌+++◌, sort_of, IsA}
 use Rattle.type_terms.specs.Codes.{trees_code}
 use Rattle.type_terms.specs.Made.{terms, bounds, is_made, is_in_range}
-
--- a term: which kind of handle it has, and its trees (one tree for a type or a constant)
-pub record Entry : Type 0 where
-  pub kind : ℕ
-  pub trees : Trees
-
--- a term of this kind
-abbrev pub term : ℕ → Trees → Entry
-term kind t = record { kind = kind; trees = t }
+use Rattle.type_terms.specs.Promised.Handles.{Entry, types, consts, bounds_lists}
 
 abbrev pub entry_code : Coded Entry
 entry_code = code_by (ℕ × Trees) (coded× coded_ℕ trees_code) (λ e. (e.kind, e.trees)) (λ p. record { kind = p.0; trees = p.1 }) (λ _. refl)
@@ -32,44 +24,11 @@ terms_code =
     (λ p. record { entries = p.0; limit = p.1.0; room = p.1.1 })
     (λ _. refl)
 
--- the kinds of handle, by number
-abbrev pub types : ℕ
-types = 0
-
--- The number of the kind of constants.
-abbrev pub consts : ℕ
-consts = 1
-
 abbrev pub args_lists : ℕ
 args_lists = 2
 
 abbrev pub type_lists : ℕ
 type_lists = 3
-
--- The number of the kind of the lists of bounds of a `dyn`.
-abbrev pub bounds_lists : ℕ
-bounds_lists = 4
-
--- the handle i of this kind has these trees
-abbrev pub Is : List Entry → ℕ → ℕ → Trees → Type 0
-Is es kind i t = slice_get es i ≡ Some (term kind t)
-
--- i is a handle of this kind
-abbrev pub Has : List Entry → ℕ → ℕ → Type 0
-Has es kind i = (t : Trees) × Is es kind i t
-
--- The trees of an entry. No entry has none.
-abbrev trees_in : Option Entry → Trees
-trees_in None = none
-trees_in (Some e) = e.trees
-
--- the trees of handle i
-abbrev pub trees_at : List Entry → ℕ → Trees
-trees_at es i = trees_in (slice_get es i)
-
--- every old handle keeps its kind and its trees
-abbrev pub Keeps : List Entry → List Entry → Type 0
-Keeps old new = (i : ℕ) (e : Entry) → slice_get old i ≡ Some e → slice_get new i ≡ Some e
 
 -- the term is not among these
 abbrev pub Absent : Entry → List Entry → Type 0
@@ -78,10 +37,6 @@ Absent e es = (i : ℕ) → slice_get es i ≡ Some e → ⊥
 -- the new terms are the old ones, with one more if it was not among them
 abbrev pub AddsAtMost : List Entry → Entry → List Entry → Type 0
 AddsAtMost old e new = (new ≡ old) ⊎ (Absent e old × (new ≡ old ++ e ∷ []))
-
--- how many handles of this kind there are
-abbrev pub held : ℕ → List Entry → ℕ
-held kind es = count_by (λ e. e.kind == kind) es
 
 -- handles of one kind are equal exactly if their trees are
 abbrev pub Distinct : List Entry → Type 0

@@ -1,15 +1,15 @@
 -- Worlds that differ in impls alone, of which one has at least the rules of the other: two texts of the same crates, of which
 -- one says too much.
 use Rattle.std.specs.Prelude.{◌≡◌, ◌⊎◌, ℕ, zero, Bool, true, false, List, [], ◌++◌, map}
-use Rattle.type_terms.specs.Label.{Label}
-use Rattle.type_terms.specs.Trees.{Trees, Fits, instantiate, some_node}
-use Rattle.type_terms.specs.Worlds.{World, Reference, ImplDecl, with_args, all_with_args}
+use Rattle.type_terms.specs.Promised.Label.{Label}
+use Rattle.type_terms.specs.Promised.Trees.{Trees, Fits, instantiate, some_node}
+use Rattle.type_terms.specs.Promised.Worlds.{World, Reference, ImplDecl, with_args, all_with_args}
 use Rattle.type_terms.specs.Erased.{IsCovered}
-use Rattle.type_terms.specs.LinkedSet.{is_stray}
-use Rattle.type_terms.specs.Answers.{is_closed, CommonInstance}
-use Rattle.type_terms.specs.Walks.{is_known_in}
-use Rattle.type_terms.specs.Rules.{Rule, rules, impl_rules, is_auto, is_coinductive, is_written, strict_supertraits}
-use Rattle.type_terms.specs.Proofs.{In, Every, HasProof}
+use Rattle.type_terms.specs.Promised.LinkedSet.{is_stray}
+use Rattle.type_terms.specs.Promised.Answers.{is_closed, CommonInstance}
+use Rattle.type_terms.specs.Promised.Walks.{is_known_in}
+use Rattle.type_terms.specs.Promised.Rules.{Rule, rules, impl_rules, is_auto, is_coinductive, is_written, strict_supertraits}
+use Rattle.type_terms.specs.Promised.Proofs.{In, Every, HasProof}
 
 -- One of the rules asks for nothing but what u asks for.
 abbrev pub AsksNoMore : List Rule → Rule → Type 0

@@ -1,14 +1,14 @@
 -- What a text that says too much, or too little, says of the crates themselves. Each law is a clause of a function of the crate.
 use Rattle.std.specs.Prelude.{◌≡◌, ℕ, Bool, true, false, List, []}
-use Rattle.type_terms.specs.Trees.{Trees}
-use Rattle.type_terms.specs.Worlds.{World, Reference, ImplDecl}
-use Rattle.type_terms.specs.Rules.{Rule, rules, strict_supertraits, is_auto}
-use Rattle.type_terms.specs.Proofs.{In, Every, HasProof}
-use Rattle.type_terms.specs.Elaborated.{HasElaboratedProof}
-use Rattle.type_terms.specs.Walks.{keeps_orphan_rule, is_known_in}
-use Rattle.type_terms.specs.Answers.{is_closed, is_bounded, is_possible, CommonInstance, IsFixedClause}
-use Rattle.type_terms.specs.Renumbering.{View, HoldsView, renumbered_reference, renumbered_impl}
-use Rattle.type_terms.specs.LinkedSet.{Cleared}
+use Rattle.type_terms.specs.Promised.Trees.{Trees}
+use Rattle.type_terms.specs.Promised.Worlds.{World, Reference, ImplDecl}
+use Rattle.type_terms.specs.Promised.Rules.{Rule, rules, strict_supertraits, is_auto}
+use Rattle.type_terms.specs.Promised.Proofs.{In, Every, HasProof}
+use Rattle.type_terms.specs.Promised.Proofs.{HasElaboratedProof}
+use Rattle.type_terms.specs.Promised.Walks.{keeps_orphan_rule, is_known_in}
+use Rattle.type_terms.specs.Promised.Answers.{is_closed, is_bounded, is_possible, CommonInstance, IsFixedClause}
+use Rattle.type_terms.specs.Promised.Renumbering.{View, HoldsView, renumbered_reference, renumbered_impl}
+use Rattle.type_terms.specs.Promised.LinkedSet.{Cleared}
 use Rattle.type_terms.specs.Wider.{AsksNoMore, IsWider, IsBelow, HasRulesOf, IsPlainImpl, FewerClauses, PutIn, ClearedBy, Covers, AccountsFor, KeepsTest, SupersKeepTest, anything, widened}
 
 -- An impl without some of its where-clauses is wider, and so is one of which it is an instance.

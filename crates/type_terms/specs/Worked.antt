@@ -1,21 +1,23 @@
 -- Worked cases: small crates, and what the definitions compute of them. Each stands on the contract of a function of src/.
 -- Crates base, and first and second which use base and not each other; structs are numbered from 10 and traits from 20.
 use Rattle.std.specs.Prelude.{◌≡◌, ℕ, true, false, List, [], ◌∷◌, ◌++◌}
-use Rattle.type_terms.specs.Label.{of_type, of_lifetime, bool, char, str, never, dynamic, tuple, static, int, uint, adt, fn_ptr, array, slice, value, ref, raw_pointer, principal, auto_trait, placeholder, bound}
-use Rattle.type_terms.specs.Trees.{Trees, none, tree, leaf, erase, arguments, instantiate}
-use Rattle.type_terms.specs.Worlds.{World, CrateDecl, StructDecl, TraitDecl, ImplDecl, Reference, core, view_of, with_args, sees}
-use Rattle.type_terms.specs.Rules.{by_impl, built_in, row, rules, strict_supertraits, asked}
-use Rattle.type_terms.specs.Rules.{sized, clone, copy, tuple_trait, fn_ptr_trait, fn_once, fn_mut, fn_shared, unsize}
-use Rattle.type_terms.specs.Rules.{sized_leaf, sized_tuple, sized_struct, copy_fn_ptr, copy_tuple, auto_leaf, auto_str, auto_element, auto_tuple, auto_struct}
-use Rattle.type_terms.specs.Rules.{tuple_of_tuple, fn_ptr_of_fn_ptr, fn_ptr_call, object_auto, object_principal}
-use Rattle.type_terms.specs.Rules.{unsize_array, unsize_to_dyn, unsize_dyn, unsize_upcast, unsize_struct}
-use Rattle.type_terms.specs.Proofs.{Every, HasProof}
-use Rattle.type_terms.specs.Walks.{local, struct_leaf, dyn_leaf, entered, other_leaf, open_place, walk, open_walk, keeps_orphan_rule, is_known}
-use Rattle.type_terms.specs.Answers.{is_bounded, is_possible, IsDeterminate, Overlaps, IsRealOverlap, IsFixedClause}
-use Rattle.type_terms.specs.Core.{core_world, box, type_param}
-use Rattle.type_terms.specs.Erased.{IsTerms, erased_world, erased_impl}
-use Rattle.type_terms.specs.Renumbering.{Renumbering}
-use Rattle.type_terms.specs.LinkedSet.{LinkedSet, in_scope, well_written, open_walk_meets_param, is_addable}
+use Rattle.type_terms.specs.Promised.Label.{of_type, of_lifetime, bool, char, str, never, dynamic, tuple, static, int, uint, adt, fn_ptr, array, slice, value, ref, raw_pointer, principal, auto_trait, placeholder, bound}
+use Rattle.type_terms.specs.Promised.Trees.{Trees, none, tree, leaf, erase, instantiate}
+use Rattle.type_terms.specs.Trees.{arguments}
+use Rattle.type_terms.specs.Promised.Worlds.{World, CrateDecl, StructDecl, TraitDecl, ImplDecl, Reference, core, view_of, with_args, sees}
+use Rattle.type_terms.specs.Promised.Rules.{by_impl, built_in, row, rules, strict_supertraits, asked}
+use Rattle.type_terms.specs.Promised.Rules.{sized, clone, copy, tuple_trait, fn_ptr_trait, fn_once, fn_mut, fn_shared, unsize}
+use Rattle.type_terms.specs.Promised.Rules.{sized_leaf, sized_tuple, sized_struct, copy_fn_ptr, copy_tuple, auto_leaf, auto_str, auto_element, auto_tuple, auto_struct}
+use Rattle.type_terms.specs.Promised.Rules.{tuple_of_tuple, fn_ptr_of_fn_ptr, fn_ptr_call, object_auto, object_principal}
+use Rattle.type_terms.specs.Promised.Rules.{unsize_array, unsize_to_dyn, unsize_dyn, unsize_upcast, unsize_struct}
+use Rattle.type_terms.specs.Promised.Proofs.{Every, HasProof}
+use Rattle.type_terms.specs.Promised.Walks.{local, struct_leaf, dyn_leaf, entered, other_leaf, open_place, walk, open_walk, keeps_orphan_rule, is_known}
+use Rattle.type_terms.specs.Promised.Answers.{is_bounded, is_possible, IsDeterminate, Overlaps, IsRealOverlap, IsFixedClause}
+use Rattle.type_terms.specs.Promised.Core.{core_world, box, type_param}
+use Rattle.type_terms.specs.Promised.Erased.{IsTerms, erased_world, erased_impl}
+use Rattle.type_terms.specs.Promised.Renumbering.{Renumbering}
+use Rattle.type_terms.specs.Promised.LinkedSet.{LinkedSet}
+use Rattle.type_terms.specs.Promised.Versions.{in_scope, well_written, open_walk_meets_param, is_addable}
 
 -- Words of the cases
 abbrev pub base : ℕ

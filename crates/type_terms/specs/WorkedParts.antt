@@ -1,12 +1,12 @@
 -- Worked parts: a small text, what a question needs of it, and parts that lack something.
 use Rattle.std.specs.Prelude.{◌≡◌, Bool, true, false, ◌||◌, ◌==◌, List, [], ◌∷◌, length}
-use Rattle.type_terms.specs.Label.{adt, bool}
-use Rattle.type_terms.specs.Trees.{leaf}
-use Rattle.type_terms.specs.Worlds.{World, StructDecl, TraitDecl, ImplDecl, Reference}
-use Rattle.type_terms.specs.Rules.{rules, asked, is_coinductive, strict_supertraits}
-use Rattle.type_terms.specs.Proofs.{HasProof}
-use Rattle.type_terms.specs.Walks.{is_known_in}
-use Rattle.type_terms.specs.Answers.{is_bounded}
+use Rattle.type_terms.specs.Promised.Label.{adt, bool}
+use Rattle.type_terms.specs.Promised.Trees.{leaf}
+use Rattle.type_terms.specs.Promised.Worlds.{World, StructDecl, TraitDecl, ImplDecl, Reference}
+use Rattle.type_terms.specs.Promised.Rules.{rules, asked, is_coinductive, strict_supertraits}
+use Rattle.type_terms.specs.Promised.Proofs.{HasProof}
+use Rattle.type_terms.specs.Promised.Walks.{is_known_in}
+use Rattle.type_terms.specs.Promised.Answers.{is_bounded}
 use Rattle.type_terms.specs.Worked.{base, first, struct, trait_of, auto_trait_of, impl_of, u8, T, applied}
 use Rattle.type_terms.specs.Parts.{KeptNames, cut_down, keeps_enough, is_closed_list, AnswersAlike}
 

@@ -1,12 +1,12 @@
 -- Worked cases of supertraits: impls whose headers have them proved from their where-clauses, and some that have not. Each stands
 -- on the contract of a function of src/.
 use Rattle.std.specs.Prelude.{◌≡◌, List, [], ◌∷◌}
-use Rattle.type_terms.specs.Label.{auto_trait, dynamic, principal, placeholder, of_type}
-use Rattle.type_terms.specs.Trees.{none, tree, leaf}
-use Rattle.type_terms.specs.Worlds.{World, ImplDecl}
-use Rattle.type_terms.specs.Rules.{rules, asked, sized, unsize}
-use Rattle.type_terms.specs.Proofs.{HasProof}
-use Rattle.type_terms.specs.Supers.{SupersHold}
+use Rattle.type_terms.specs.Promised.Label.{auto_trait, dynamic, principal, placeholder, of_type}
+use Rattle.type_terms.specs.Promised.Trees.{none, tree, leaf}
+use Rattle.type_terms.specs.Promised.Worlds.{World, ImplDecl}
+use Rattle.type_terms.specs.Promised.Rules.{rules, asked, sized, unsize}
+use Rattle.type_terms.specs.Promised.Proofs.{HasProof}
+use Rattle.type_terms.specs.Promised.Supers.{SupersHold}
 use Rattle.type_terms.specs.Worked.{base, beside_core, struct, trait_of, impl_of, T, u8, applied, to}
 
 -- `crate base; trait Sup; trait Sub: Sup; struct V<T>`, with these impls.

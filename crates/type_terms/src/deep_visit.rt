@@ -4,8 +4,9 @@
 //! on its depth. A visit cannot fail for want of memory: where the list cannot grow, the part is visited by recursion.
 ghost use Rattle.std.specs.Prelude.{◌≡◌, [], ◌∷◌, MatchResult};
 ghost use Rattle.std.specs.ControlFlow.{break_value};
-ghost use Rattle.type_terms.specs.Terms.{Has, types, trees_at};
-ghost use Rattle.type_terms.specs.Kinds.{TysHeld, tys_trees, ArgsHeld, args_trees};
+ghost use Rattle.type_terms.specs.Promised.Handles.{Has, types, trees_at};
+ghost use Rattle.type_terms.specs.Kinds.{TysHeld, tys_trees, args_trees};
+ghost use Rattle.type_terms.specs.Promised.Handles.{ArgsHeld};
 ghost use Rattle.type_terms.specs.Binders.{counts_of};
 ghost use Rattle.type_terms.specs.Visits.{Visits, VisitsBelow, VisitsEach};
 ghost use Rattle.type_terms.specs.Pending.{part_trees, PartHeld, AllHeld, ahead, inside, piece, piece_below, path_pieces, piece_of_both, GoesOn};

@@ -18,8 +18,10 @@ ghost use Rattle.std.specs.Prelude.{◌≡◌, ℕ, ◌+◌, ◌*◌, ◌≤◌,
 ghost use Rattle.std.specs.List.{slice_get};
 ghost use Rattle.type_terms.specs.Trees.{flags, outer_binder, depth};
 ghost use Rattle.type_terms.specs.Growth.{Grew};
-ghost use Rattle.type_terms.specs.Terms.{term, AddsAtMost, Absent, held, Is, Has, Lawful, trees_at, types, type_lists, consts, args_lists, bounds_lists};
-ghost use Rattle.type_terms.specs.Kinds.{region_trees, kind_trees, const_trees, arg_trees, args_trees, tys_trees, principal_trees, autos_trees, bounds_trees, RegionHeld, KindHeld, ConstHeld, ArgHeld, ArgsHeld, TysHeld, PrincipalHeld, BoundsHeld, KindOlder, ArgsOlder, TysOlder, PrincipalOlder};
+ghost use Rattle.type_terms.specs.Promised.Handles.{term, held, Is, Has, trees_at, types, consts, bounds_lists};
+ghost use Rattle.type_terms.specs.Terms.{AddsAtMost, Absent, Lawful, type_lists, args_lists};
+ghost use Rattle.type_terms.specs.Promised.Handles.{region_trees, arg_trees, RegionHeld, ArgHeld, ArgsHeld};
+ghost use Rattle.type_terms.specs.Kinds.{kind_trees, const_trees, args_trees, tys_trees, principal_trees, autos_trees, bounds_trees, KindHeld, ConstHeld, TysHeld, PrincipalHeld, BoundsHeld, KindOlder, ArgsOlder, TysOlder, PrincipalOlder};
 ghost use Rattle.type_terms.specs.Nodes.{Held, NodeOlder, kind_of, node_entry, node_trees};
 ghost use Rattle.type_terms.specs.Infos.{info_of};
 ghost use Rattle.type_terms.specs.declared.TheConstants.{MAX_INDEX};
@@ -53,7 +55,7 @@ pub trait Handle: Copy {
 }
 
 impl Handle for Ty {
-    ghost use Rattle.type_terms.specs.Terms.{types};
+    ghost use Rattle.type_terms.specs.Promised.Handles.{types};
 
     ghost handle_kind = { types };
 
@@ -65,7 +67,7 @@ impl Handle for Ty {
 }
 
 impl Handle for Const {
-    ghost use Rattle.type_terms.specs.Terms.{consts};
+    ghost use Rattle.type_terms.specs.Promised.Handles.{consts};
 
     ghost handle_kind = { consts };
 
@@ -101,7 +103,7 @@ impl Handle for Tys {
 }
 
 impl Handle for Bounds {
-    ghost use Rattle.type_terms.specs.Terms.{bounds_lists};
+    ghost use Rattle.type_terms.specs.Promised.Handles.{bounds_lists};
 
     ghost handle_kind = { bounds_lists };
 

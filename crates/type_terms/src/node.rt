@@ -1,9 +1,9 @@
 //! What an interner keeps of a term.
 ghost use Rattle.std.specs.Prelude.{◌≡◌, ◌+◌, ◌≤◌, ◌<◌, ◌^◌};
-ghost use Rattle.type_terms.specs.Label.{fn_ptr};
+ghost use Rattle.type_terms.specs.Promised.Label.{fn_ptr};
 ghost use Rattle.type_terms.specs.Counts.{count_of, number_of, raised};
 ghost use Rattle.type_terms.specs.Infos.{join, node_info, outer_of};
-ghost use Rattle.type_terms.specs.Kinds.{BinderHeld};
+ghost use Rattle.type_terms.specs.Promised.Handles.{BinderHeld};
 ghost use Rattle.type_terms.specs.Nodes.{kind_of};
 
 use crate::flags::TypeFlags;

@@ -1,7 +1,7 @@
 //! Visits that enter a type once.
 ghost use Rattle.std.specs.Prelude.{◌≡◌, List};
-ghost use Rattle.type_terms.specs.Trees.{Trees};
-ghost use Rattle.type_terms.specs.Terms.{Entry};
+ghost use Rattle.type_terms.specs.Promised.Trees.{Trees};
+ghost use Rattle.type_terms.specs.Promised.Handles.{Entry};
 ghost use Rattle.type_terms.specs.Entering.{HasEntered};
 
 use crate::binders::Binders;

@@ -1,9 +1,10 @@
 //! Visitors, and the visit of a term by one.
 ghost use Rattle.std.specs.Prelude.{ℕ, List};
 ghost use Rattle.std.specs.ControlFlow.{break_value};
-ghost use Rattle.type_terms.specs.Trees.{Trees};
-ghost use Rattle.type_terms.specs.Terms.{Entry, Has, types, consts, args_lists, type_lists, bounds_lists, trees_at};
-ghost use Rattle.type_terms.specs.Kinds.{region_trees, RegionHeld, ArgHeld, arg_trees};
+ghost use Rattle.type_terms.specs.Promised.Trees.{Trees};
+ghost use Rattle.type_terms.specs.Promised.Handles.{Entry, Has, types, consts, bounds_lists, trees_at};
+ghost use Rattle.type_terms.specs.Terms.{args_lists, type_lists};
+ghost use Rattle.type_terms.specs.Promised.Handles.{region_trees, RegionHeld, ArgHeld, arg_trees};
 ghost use Rattle.type_terms.specs.Binders.{counts_of};
 ghost use Rattle.type_terms.specs.Visits.{IsBound, Visits, VisitsBelow};
 

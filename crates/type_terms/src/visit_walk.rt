@@ -1,7 +1,8 @@
 //! The walk of a visit, which recurses on the depth of a term.
 ghost use Rattle.std.specs.ControlFlow.{break_value};
-ghost use Rattle.type_terms.specs.Terms.{Has, types, args_lists, type_lists, bounds_lists, trees_at};
-ghost use Rattle.type_terms.specs.Kinds.{ArgHeld, arg_trees};
+ghost use Rattle.type_terms.specs.Promised.Handles.{Has, types, bounds_lists, trees_at};
+ghost use Rattle.type_terms.specs.Terms.{args_lists, type_lists};
+ghost use Rattle.type_terms.specs.Promised.Handles.{ArgHeld, arg_trees};
 ghost use Rattle.type_terms.specs.Binders.{counts_of};
 ghost use Rattle.type_terms.specs.Visits.{Visits, VisitsBelow};
 

@@ -1,7 +1,7 @@
 //! Values that are made of terms.
 ghost use Rattle.std.specs.Prelude.{◌≡◌, ℕ, List, []};
 ghost use Rattle.std.specs.ControlFlow.{break_value};
-ghost use Rattle.type_terms.specs.Terms.{Entry, Keeps};
+ghost use Rattle.type_terms.specs.Promised.Handles.{Entry, Keeps};
 ghost use Rattle.type_terms.specs.Binders.{counts_of};
 ghost use Rattle.type_terms.specs.Pieces.{Piece};
 ghost use Rattle.type_terms.specs.Visits.{VisitsEach};
@@ -61,7 +61,7 @@ pub trait TypeVisitable: Copy {
 
 impl TypeVisitable for Ty {
     ghost use Rattle.std.proofs.Common.{[], ap};
-    ghost use Rattle.type_terms.specs.Terms.{Has, trees_at, types};
+    ghost use Rattle.type_terms.specs.Promised.Handles.{Has, trees_at, types};
     ghost use Rattle.type_terms.specs.Pieces.{one_piece};
     ghost use Rattle.type_terms.specs.Kept.{has-later, trees-later};
 
@@ -87,7 +87,7 @@ impl TypeVisitable for Ty {
 
 impl TypeVisitable for Const {
     ghost use Rattle.std.proofs.Common.{[], ap};
-    ghost use Rattle.type_terms.specs.Terms.{Has, trees_at, consts};
+    ghost use Rattle.type_terms.specs.Promised.Handles.{Has, trees_at, consts};
     ghost use Rattle.type_terms.specs.Pieces.{one_piece};
     ghost use Rattle.type_terms.specs.Kept.{has-later, trees-later};
 
@@ -113,7 +113,8 @@ impl TypeVisitable for Const {
 
 impl TypeVisitable for GenericArgs {
     ghost use Rattle.std.proofs.Common.{[], ap};
-    ghost use Rattle.type_terms.specs.Terms.{Has, trees_at, args_lists};
+    ghost use Rattle.type_terms.specs.Promised.Handles.{Has, trees_at};
+    ghost use Rattle.type_terms.specs.Terms.{args_lists};
     ghost use Rattle.type_terms.specs.Pieces.{one_piece};
     ghost use Rattle.type_terms.specs.Kept.{has-later, trees-later};
 
@@ -139,7 +140,8 @@ impl TypeVisitable for GenericArgs {
 
 impl TypeVisitable for Tys {
     ghost use Rattle.std.proofs.Common.{[], ap};
-    ghost use Rattle.type_terms.specs.Terms.{Has, trees_at, type_lists};
+    ghost use Rattle.type_terms.specs.Promised.Handles.{Has, trees_at};
+    ghost use Rattle.type_terms.specs.Terms.{type_lists};
     ghost use Rattle.type_terms.specs.Pieces.{one_piece};
     ghost use Rattle.type_terms.specs.Kept.{has-later, trees-later};
 
@@ -165,7 +167,7 @@ impl TypeVisitable for Tys {
 
 impl TypeVisitable for Bounds {
     ghost use Rattle.std.proofs.Common.{[], ap};
-    ghost use Rattle.type_terms.specs.Terms.{Has, trees_at, bounds_lists};
+    ghost use Rattle.type_terms.specs.Promised.Handles.{Has, trees_at, bounds_lists};
     ghost use Rattle.type_terms.specs.Pieces.{one_piece};
     ghost use Rattle.type_terms.specs.Kept.{has-later, trees-later};
 
@@ -191,7 +193,7 @@ impl TypeVisitable for Bounds {
 
 impl TypeVisitable for Region {
     ghost use Rattle.std.proofs.Common.{[], refl};
-    ghost use Rattle.type_terms.specs.Kinds.{RegionHeld, region_trees};
+    ghost use Rattle.type_terms.specs.Promised.Handles.{RegionHeld, region_trees};
     ghost use Rattle.type_terms.specs.Pieces.{one_piece};
 
     ghost held = { λ x _. RegionHeld x.kind };
@@ -216,7 +218,7 @@ impl TypeVisitable for Region {
 
 impl TypeVisitable for GenericArgKind {
     ghost use Rattle.std.proofs.Common.{[], ap};
-    ghost use Rattle.type_terms.specs.Kinds.{ArgHeld, arg_trees};
+    ghost use Rattle.type_terms.specs.Promised.Handles.{ArgHeld, arg_trees};
     ghost use Rattle.type_terms.specs.Pieces.{one_piece};
     ghost use Rattle.type_terms.specs.Kept.{arg-held-later, arg-trees-later};
 

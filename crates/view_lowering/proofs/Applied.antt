@@ -5,15 +5,16 @@ use Rattle.std.specs.Prelude.{if◌then◌else◌, slice_get}
 use Rattle.std.specs.List.{list_any, flat_map}
 use Rattle.std.specs.Option.{option_map_or}
 use Rattle.std.specs.Str.{bytes_eq}
-use Rattle.type_terms.specs.Label.{Label, Sort, of_lifetime, of_type, of_const, static, value, param, placeholder, infer, canonical, bound}
-use Rattle.type_terms.specs.Trees.{leaf, sort_of}
-use Rattle.type_terms.specs.Worlds.{Reference}
+use Rattle.type_terms.specs.Promised.Label.{Label, Sort, of_lifetime, of_type, of_const, static, value, param, placeholder, infer, canonical, bound}
+use Rattle.type_terms.specs.Promised.Trees.{leaf, sort_of}
+use Rattle.type_terms.specs.Promised.Worlds.{Reference}
 use Rattle.declarations.specs.Applied.{sorts_of}
-use Rattle.declarations.specs.Merges.{Each}
-use Rattle.text_definitions.specs.Syntax.{TypeTree, of_primitive, never_type, variable_type, named, reference_to, pointer_to, slice_of, array_of, tuple_of, fn_of, fn_to, dyn_of, Args, no_args, and_arg, Arg, lifetime_arg, number_arg, type_arg, Params, Bound, Line, trait_line}
-use Rattle.text_definitions.specs.Declarations.{Declarations, NamedTrait, Known, a_crate, a_struct, a_trait, known}
+use Rattle.declarations.specs.Promised.Elaboration.{Each}
+use Rattle.text_definitions.specs.Promised.Syntax.{TypeTree, of_primitive, never_type, variable_type, named, reference_to, pointer_to, slice_of, array_of, tuple_of, fn_of, fn_to, dyn_of, Args, no_args, and_arg, Arg, lifetime_arg, number_arg, type_arg, Params, Bound, Line, trait_line}
+use Rattle.text_definitions.specs.Promised.Declarations.{Declarations, NamedTrait, Known, a_crate, a_struct, a_trait, known}
 use Rattle.text_definitions.specs.Uses.{Use, args_count, kinds_of_trait, type_uses, args_uses, arg_uses, bound_uses, params_of}
-use Rattle.text_definitions.specs.Faults.{with_own, own_trait, is_among, is_use_of, is_trait_of, static_name}
+use Rattle.text_definitions.specs.Promised.Faults.{with_own, own_trait, is_among}
+use Rattle.text_definitions.specs.Faults.{is_use_of, is_trait_of, static_name}
 use Rattle.text_definitions.specs.Lowering.{Meanings, place_among, type_label, struct_label, lifetime_under, lifetime_label, type_tree, args_trees, arg_tree, with_self}
 use Rattle.text_definitions.specs.Adding.{item_meanings}
 use Rattle.view_lowering.proofs.Begins.{is_scalar}

@@ -1,9 +1,9 @@
 -- Small facts that the proofs of several files cite.
 use Rattle.std.proofs.Common.{ℕ, Bool, ◌≡◌, true, refl, false}
 use Rattle.std.specs.Prelude.{if◌then◌else◌}
-use Rattle.type_terms.specs.Label.{Label, param, of_lifetime, static, bound, fn_ptr, principal}
-use Rattle.type_terms.specs.Trees.{erase_label}
-use Rattle.view_lowering.specs.Plain.{plain_label}
+use Rattle.type_terms.specs.Promised.Label.{Label, param, of_lifetime, static, bound, fn_ptr, principal}
+use Rattle.type_terms.specs.Promised.Trees.{erase_label}
+use Rattle.view_lowering.specs.Promised.SeenWorlds.{plain_label}
 
 pub label-erased : (k : ℕ → Bool) (l : Label) → erase_label (plain_label k l) ≡ erase_label l
 label-erased k (param of_lifetime i) = by (k i)

@@ -1,14 +1,14 @@
 -- What is new of a view that begins with an earlier one, behind that.
 use Rattle.std.proofs.Common.{◌≡◌, ℕ, Bool, List, [], ◌∷◌, ◌++◌, map, Some, refl, sym, ap, ◌∙◌}
 use Rattle.std.specs.Prelude.{filter}
-use Rattle.type_terms.specs.Label.{Sort, of_type}
-use Rattle.type_terms.specs.Worlds.{StructDecl, TraitDecl, ImplDecl, sees}
-use Rattle.type_terms.specs.Terms.{Entry, Keeps}
+use Rattle.type_terms.specs.Promised.Label.{Sort, of_type}
+use Rattle.type_terms.specs.Promised.Worlds.{StructDecl, TraitDecl, ImplDecl, sees}
+use Rattle.type_terms.specs.Promised.Handles.{Entry, Keeps}
 use Rattle.type_terms.specs.declared.AdtId.{AdtId}
 use Rattle.type_terms.specs.declared.CrateId.{CrateId}
 use Rattle.type_terms.specs.declared.TraitId.{TraitId}
-use Rattle.text_definitions.specs.Declarations as text
-use Rattle.text_definitions.specs.Declarations.{world_of}
+use Rattle.text_definitions.specs.Promised.Declarations as text
+use Rattle.text_definitions.specs.Promised.Declarations.{world_of}
 use Rattle.declarations.specs.declared.items.AdtDef.{AdtDef}
 use Rattle.declarations.specs.declared.items.TraitDef.{TraitDef}
 use Rattle.declarations.specs.Held.{AreHeld}
@@ -16,7 +16,7 @@ use Rattle.declarations.specs.Items.{Items, HeldImpl, struct_in, trait_in, writt
 use Rattle.declarations.proofs.Growth.{all-written}
 use Rattle.workspace.specs.Numbered.{IsNumbered}
 use Rattle.view_lowering.specs.Behind.{BeginsWith, AreBefore, is_new, new_structs, new_traits, new_impls, new_struct_sorts, new_trait_sorts, new_impl_sorts}
-use Rattle.view_lowering.specs.Plain.{plain_struct, plain_trait, plain_impl, plainly_seen_from}
+use Rattle.view_lowering.specs.Promised.SeenWorlds.{plain_struct, plain_trait, plain_impl, plainly_seen_from}
 use Rattle.view_lowering.specs.Seen.{param_sorts, struct_sorts_seen, trait_sorts_seen, impl_sorts_seen}
 use Rattle.view_lowering.proofs.Rows.{continues-read, all-behind, rows-before, filter-read}
 use Rattle.view_lowering.proofs.Views.{held_in, view-written}

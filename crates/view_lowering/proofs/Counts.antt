@@ -2,10 +2,10 @@
 use Rattle.std.proofs.Common.{◌≡◌, ℕ, ◌+◌, ◌<◌, ◌≤◌, Bool, List, [], ◌∷◌, length, map, take, get_or, refl, sym, ap, ◌∙◌, arith}
 use Rattle.std.specs.Prelude.{sum_by}
 use Rattle.std.proofs.lemmas.List.Sums.{sum_by-cons, sum_by_more, sum_by-take-le}
-use Rattle.type_terms.specs.Trees.{Trees, none, tree}
-use Rattle.type_terms.specs.Worlds.{Reference}
+use Rattle.type_terms.specs.Promised.Trees.{Trees, none, tree}
+use Rattle.type_terms.specs.Promised.Worlds.{Reference}
 use Rattle.workspace.specs.TermCounts.{parts, reference_terms}
-use Rattle.view_lowering.specs.Plain.{plain, plain_reference}
+use Rattle.view_lowering.specs.Promised.SeenWorlds.{plain, plain_reference}
 
 parts-plain : (k : ℕ → Bool) (t : Trees) → parts (plain k t) ≡ parts t
 parts-plain k none = refl

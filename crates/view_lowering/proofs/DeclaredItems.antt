@@ -8,17 +8,19 @@ use Rattle.std.specs.Prelude.{not, if◌then◌else◌, ◌==◌, slice_get, nat
 use Rattle.std.specs.List.{list_any, list_all, flat_map}
 use Rattle.std.specs.Option.{option_map, option_map_or, option_or}
 use Rattle.std.specs.Str.{bytes_eq}
-use Rattle.type_terms.specs.Label.{Sort, of_lifetime, of_type, of_const, param}
-use Rattle.type_terms.specs.Trees.{Trees, leaf, some_node}
-use Rattle.type_terms.specs.Worlds.{Reference}
-use Rattle.text_definitions.specs.Syntax.{Types, Params, Bound, Clause, Line, struct_line, trait_line, impl_line}
-use Rattle.text_definitions.specs.Declarations.{Declarations, NamedCrate, NamedStruct, NamedTrait, Known, a_crate, a_struct, a_trait, known, kinds_of, sorted_names, with_sort}
+use Rattle.type_terms.specs.Promised.Label.{Sort, of_lifetime, of_type, of_const, param}
+use Rattle.type_terms.specs.Promised.Trees.{Trees, leaf, some_node}
+use Rattle.type_terms.specs.Promised.Worlds.{Reference}
+use Rattle.text_definitions.specs.Promised.Syntax.{Types, Params, Bound, Clause, Line, struct_line, trait_line, impl_line}
+use Rattle.text_definitions.specs.Promised.Declarations.{Declarations, NamedCrate, NamedStruct, NamedTrait, Known, a_crate, a_struct, a_trait, known, kinds_of}
+use Rattle.text_definitions.specs.Declarations.{sorted_names, with_sort}
 use Rattle.text_definitions.specs.Uses.{Use, variable_use, kinds_of_trait, args_count, type_uses, types_uses, bound_uses, clause_uses, header_uses}
-use Rattle.text_definitions.specs.Faults.{with_own, own_trait, is_among, repeats, is_any, variables_in, has_free_param, bounds_use_own, is_use_of, is_name_use, is_trait_of}
+use Rattle.text_definitions.specs.Promised.Faults.{with_own, own_trait, is_among, repeats}
+use Rattle.text_definitions.specs.Faults.{is_any, variables_in, has_free_param, bounds_use_own, is_use_of, is_name_use, is_trait_of}
 use Rattle.text_definitions.specs.Lowering.{trait_number, type_tree, args_trees, with_self, clause_reference}
 use Rattle.text_definitions.specs.Adding.{item_meanings, struct_of, trait_of, impl_of}
 use Rattle.line_reader.specs.Faultless.{UsesFit}
-use Rattle.view_lowering.specs.Plain.{all_kept, none_kept, stands_in}
+use Rattle.view_lowering.specs.Promised.SeenWorlds.{all_kept, none_kept, stands_in}
 use Rattle.assembly_laws.specs.Candidates.{is_param as is_label_of}
 use Rattle.view_lowering.proofs.Tests.{is_good, is_good_struct, is_good_trait, is_good_impl, all_stand}
 use Rattle.view_lowering.proofs.Trees.{good-append, good-param, and, or-left, or-right}

@@ -8,10 +8,10 @@ use Rattle.std.specs.Prelude.{◌==◌, nat_lt, filter, fold, slice_get}
 use Rattle.std.specs.List.{list_all}
 use Rattle.std.specs.Option.{option_map}
 use Rattle.type_terms.proofs.Members.{in-filter, filter-in}
-use Rattle.type_terms.specs.Proofs.{In}
-use Rattle.type_terms.specs.Worlds.{World, Reference, TraitDecl, traits_named}
+use Rattle.type_terms.specs.Promised.Proofs.{In}
+use Rattle.type_terms.specs.Promised.Worlds.{World, Reference, TraitDecl, traits_named}
 use Rattle.assembly_laws.specs.DeclaredWell.{height_within, height_in, bounds_lead_down}
-use Rattle.assembly_laws.specs.Solver.{greatest}
+use Rattle.assembly_laws.specs.Promised.Widths.{greatest}
 use Rattle.view_lowering.proofs.Trees.{and}
 
 -- bounds of these traits have lower numbers

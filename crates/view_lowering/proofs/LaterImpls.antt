@@ -3,20 +3,20 @@ use Rattle.std.proofs.Common.{◌≡◌, ℕ, zero, suc, ◌+◌, Bool, true, fa
 use Rattle.std.specs.Prelude.{◌==◌, filter, slice_get}
 use Rattle.std.proofs.lemmas.List.{map_push}
 use Rattle.std.proofs.lemmas.Option.{same_Some}
-use Rattle.type_terms.specs.Worlds.{ImplDecl, Reference}
-use Rattle.text_definitions.specs.Declarations.{Declarations, NamedImpl, LaterImpl, section_impls}
-use Rattle.type_terms.specs.Terms.{Entry, Keeps}
+use Rattle.type_terms.specs.Promised.Worlds.{ImplDecl, Reference}
+use Rattle.text_definitions.specs.Promised.Declarations.{Declarations, NamedImpl, LaterImpl, section_impls}
+use Rattle.type_terms.specs.Promised.Handles.{Entry, Keeps}
 use Rattle.type_terms.specs.declared.ImplId.{ImplId}
 use Rattle.declarations.specs.declared.items.ImplDef.{ImplDef}
 use Rattle.declarations.specs.Heads.{begins_declared}
 use Rattle.declarations.specs.Held.{ImplHeld}
 use Rattle.declarations.specs.Items.{reference_in, impl_in}
-use Rattle.declarations.specs.Merges.{Each}
+use Rattle.declarations.specs.Promised.Elaboration.{Each}
 use Rattle.declarations.proofs.Bounded.{all-same}
 use Rattle.declarations.proofs.Growth.{args-same, reference-kept, reference-same, references-kept, each-kept as each-map}
 use Rattle.workspace.specs.Numbered as AtEach
 use Rattle.view_lowering.specs.Later.{unnumbered, added_impls, added_in, added_sorts, sorts_of_added}
-use Rattle.view_lowering.specs.Plain.{plain_impl}
+use Rattle.view_lowering.specs.Promised.SeenWorlds.{plain_impl}
 use Rattle.view_lowering.specs.Seen.{param_sorts}
 use Rattle.view_lowering.proofs.Applied.{each-more}
 use Rattle.view_lowering.proofs.Going.{all-taken, one-more-taken}

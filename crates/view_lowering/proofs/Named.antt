@@ -6,8 +6,8 @@ use Rattle.std.proofs.lemmas.Option.{same_Some}
 use Rattle.std.specs.Prelude.{reverse, if◌then◌else◌}
 use Rattle.std.specs.List.{list_any, list_all}
 use Rattle.std.specs.Option.{option_map, option_and_then}
-use Rattle.type_terms.specs.Label.{Label}
-use Rattle.type_terms.specs.Trees.{Trees, none, tree, some_node, ◌+++◌}
+use Rattle.type_terms.specs.Promised.Label.{Label}
+use Rattle.type_terms.specs.Promised.Trees.{Trees, none, tree, some_node, ◌+++◌}
 use Rattle.type_terms.specs.Kinds.{const_label}
 use Rattle.type_terms.specs.declared.kinds.ConstKind.{ConstKind}
 use Rattle.type_terms.specs.declared.kinds.ConstKind.TheVariants as consts
@@ -17,7 +17,7 @@ use Rattle.workspace.specs.Made.{StackPart, type_part, const_part, lifetime_part
 use Rattle.workspace.specs.Views.{cell_of, cells_of}
 use Rattle.workspace.specs.declared.cell.TermCell.{TermCell}
 use Rattle.workspace.specs.declared.cell.TermCell.TheVariants as cells
-use Rattle.view_lowering.specs.Plain.{is_lifetime, stands_in}
+use Rattle.view_lowering.specs.Promised.SeenWorlds.{is_lifetime, stands_in}
 use Rattle.view_lowering.specs.PlainCells.{names, named_in}
 
 -- ---- as many trees as parts stand on the stack

@@ -5,12 +5,13 @@ use Rattle.std.specs.List.{list_any}
 use Rattle.std.specs.Option.{option_map_or}
 use Rattle.std.specs.Str.{bytes_eq}
 use Rattle.std.proofs.lemmas.Slice.Eq.{bytes_eq-Decides}
-use Rattle.type_terms.specs.Label.{Sort, of_lifetime, of_type, of_const}
-use Rattle.type_terms.specs.Trees.{Trees, some_node}
-use Rattle.text_definitions.specs.Syntax.{Params, Line}
-use Rattle.text_definitions.specs.Declarations.{Declarations, known, kinds_of}
+use Rattle.type_terms.specs.Promised.Label.{Sort, of_lifetime, of_type, of_const}
+use Rattle.type_terms.specs.Promised.Trees.{Trees, some_node}
+use Rattle.text_definitions.specs.Promised.Syntax.{Params, Line}
+use Rattle.text_definitions.specs.Promised.Declarations.{Declarations, known, kinds_of}
 use Rattle.text_definitions.specs.Uses.{Use, crate_use, name_use, trait_use, lifetime_use, binder_use, variable_use, misfit_use, dyn_use, items_use, number_use, params_of}
-use Rattle.text_definitions.specs.Faults.{with_own, is_among, repeats, is_param, is_param_of, is_type_of, is_name_use}
+use Rattle.text_definitions.specs.Promised.Faults.{with_own, is_among, repeats}
+use Rattle.text_definitions.specs.Faults.{is_param, is_param_of, is_type_of, is_name_use}
 use Rattle.text_definitions.specs.Lowering.{place_among}
 use Rattle.line_reader.specs.Faultless.{UseFits}
 use Rattle.assembly_laws.specs.Candidates.{is_param as is_label_of}

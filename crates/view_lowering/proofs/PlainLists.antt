@@ -13,10 +13,10 @@ use Rattle.workspace.specs.Made.{StackPart, parts_behind, parts_of, CellHeld, Ce
 use Rattle.workspace.specs.TermCells.{TermCell as Cell, node_cell, trees_of, joined}
 use Rattle.workspace.specs.Views.{cell_of, cells_of, reference_of}
 use Rattle.workspace.specs.declared.declared.ReferenceCells.{ReferenceCells}
-use Rattle.type_terms.specs.Worlds.{Reference}
+use Rattle.type_terms.specs.Promised.Worlds.{Reference}
 use Rattle.workspace.specs.declared.cell.TermCell.{TermCell}
 use Rattle.workspace.specs.declared.cell.TermCell.TheVariants as cells
-use Rattle.view_lowering.specs.Plain.{plain_label, plain_reference}
+use Rattle.view_lowering.specs.Promised.SeenWorlds.{plain_label, plain_reference}
 use Rattle.view_lowering.specs.PlainCells.{is_without_lifetimes, plain_cell}
 use Rattle.view_lowering.proofs.Plainly.{trees-plain, joined-plain}
 use Rattle.type_terms.proofs.BooleanBasics.{and-both as first-of-both}

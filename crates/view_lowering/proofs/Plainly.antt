@@ -2,13 +2,13 @@
 use Rattle.std.proofs.Common.{◌≡◌, ℕ, zero, suc, Bool, true, false, List, [], ◌∷◌, ◌++◌, map, refl, sym, ap, ◌∙◌}
 use Rattle.std.proofs.lemmas.List.{map_push, reverse-append}
 use Rattle.std.specs.Prelude.{reverse, if◌then◌else◌}
-use Rattle.type_terms.specs.Label.{Label, of_lifetime, of_type, of_const, static, param, placeholder, infer, canonical, bound}
-use Rattle.type_terms.specs.Trees.{Trees, none, tree, erase, ◌+++◌}
-use Rattle.type_terms.specs.Erased.{erased_reference, erased_struct, erased_trait, erased_impl, erased_world}
-use Rattle.type_terms.specs.Worlds.{World, Reference, StructDecl, TraitDecl, ImplDecl}
+use Rattle.type_terms.specs.Promised.Label.{Label, of_lifetime, of_type, of_const, static, param, placeholder, infer, canonical, bound}
+use Rattle.type_terms.specs.Promised.Trees.{Trees, none, tree, erase, ◌+++◌}
+use Rattle.type_terms.specs.Promised.Erased.{erased_reference, erased_struct, erased_trait, erased_impl, erased_world}
+use Rattle.type_terms.specs.Promised.Worlds.{World, Reference, StructDecl, TraitDecl, ImplDecl}
 use Rattle.declarations.specs.Heads.{begins_declared}
 use Rattle.workspace.specs.TermCells.{TermCell, node_cell, reference_cell, gathered, below, behind_cell, behind_cells, trees_of, joined}
-use Rattle.view_lowering.specs.Plain.{plain_label, plain, plain_reference, plain_struct, plain_trait, plain_impl, plain_world, all_kept, none_kept, stands_in}
+use Rattle.view_lowering.specs.Promised.SeenWorlds.{plain_label, plain, plain_reference, plain_struct, plain_trait, plain_impl, plain_world, all_kept, none_kept, stands_in}
 use Rattle.view_lowering.specs.PlainCells.{plain_cell}
 use Rattle.type_terms.proofs.TermBasics.{node}
 use Rattle.type_terms.proofs.RenumberedRules.{cons-same as two}

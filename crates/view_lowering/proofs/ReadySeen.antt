@@ -5,10 +5,11 @@ use Rattle.std.proofs.lemmas.Bool.Decides.{Decides-ltb}
 use Rattle.std.proofs.lemmas.Option.{same_Some}
 use Rattle.std.specs.Prelude.{if◌then◌else◌, ◌==◌, nat_lt, slice_get, IfSome}
 use Rattle.std.specs.List.{list_all}
-use Rattle.type_terms.specs.Label.{Sort, of_type}
-use Rattle.type_terms.specs.Trees.{Trees, outer_binder}
-use Rattle.type_terms.specs.Worlds.{World, Reference, StructDecl, TraitDecl, ImplDecl, sees}
-use Rattle.type_terms.specs.Terms.{Entry, trees_at}
+use Rattle.type_terms.specs.Promised.Label.{Sort, of_type}
+use Rattle.type_terms.specs.Promised.Trees.{Trees}
+use Rattle.type_terms.specs.Trees.{outer_binder}
+use Rattle.type_terms.specs.Promised.Worlds.{World, Reference, StructDecl, TraitDecl, ImplDecl, sees}
+use Rattle.type_terms.specs.Promised.Handles.{Entry, trees_at}
 use Rattle.type_terms.specs.declared.AdtId.{AdtId}
 use Rattle.type_terms.specs.declared.TraitId.{TraitId}
 use Rattle.type_terms.specs.declared.kinds.Ty.{Ty}
@@ -17,12 +18,12 @@ use Rattle.declarations.specs.declared.items.AdtDef.{AdtDef}
 use Rattle.declarations.specs.declared.items.TraitDef.{TraitDef}
 use Rattle.declarations.specs.Applied.{SpeaksOf, IsBoundOf, HaveBounds, sorts_of, sorts_of_params}
 use Rattle.declarations.specs.Items.{Items, HeldImpl, reference_in, struct_in, trait_in, impl_in, trait_at}
-use Rattle.declarations.specs.Merges.{Each}
-use Rattle.text_definitions.specs.Declarations as text
-use Rattle.text_definitions.specs.Declarations.{NamedStruct, NamedTrait, NamedImpl, world_of}
+use Rattle.declarations.specs.Promised.Elaboration.{Each}
+use Rattle.text_definitions.specs.Promised.Declarations as text
+use Rattle.text_definitions.specs.Promised.Declarations.{NamedStruct, NamedTrait, NamedImpl, world_of}
 use Rattle.assembly_laws.specs.Candidates.{kinds_of_params}
 use Rattle.assembly_laws.specs.DeclaredWell.{is_single}
-use Rattle.view_lowering.specs.Plain.{plain, plain_reference, plain_struct, plain_trait, plain_impl, all_kept, none_kept, stands_in}
+use Rattle.view_lowering.specs.Promised.SeenWorlds.{plain, plain_reference, plain_struct, plain_trait, plain_impl, all_kept, none_kept, stands_in}
 use Rattle.view_lowering.specs.Seen.{struct_sorts, trait_sorts, impl_sorts, param_sorts}
 use Rattle.view_lowering.specs.Ready.{AreSeen, OfTexts, FieldsSpeak, kind_of_sort, TellsKinds, SpeaksOfOwn, HeadersTell, ImplsSpeak}
 use Rattle.view_lowering.proofs.Tests.{is_good, is_good_struct, is_good_trait, is_good_impl, all_stand}

@@ -5,7 +5,7 @@ use Rattle.std.proofs.lemmas.List.Elements.{filter-append}
 use Rattle.std.proofs.lemmas.Bool.{true≢false, false≢true, or_parts, or_cases}
 use Rattle.std.proofs.lemmas.Option.{same_Some, none-some}
 use Rattle.std.specs.Prelude.{filter, slice_get}
-use Rattle.declarations.specs.Merges.{Each}
+use Rattle.declarations.specs.Promised.Elaboration.{Each}
 use Rattle.workspace.specs.Numbered.{EachNumbered}
 use Rattle.view_lowering.specs.Behind.{Continues, AreBefore, IsNextRow, IsOutOfTurn}
 use Rattle.view_lowering.proofs.Going.{one-more-taken, all-taken}

@@ -4,15 +4,15 @@ use Rattle.std.proofs.lemmas.Option.{same_Some}
 use Rattle.std.specs.Prelude.{not, ◌==◌, slice_get, nat_lt, filter}
 use Rattle.std.specs.List.{list_all}
 use Rattle.std.specs.Option.{option_map_or}
-use Rattle.type_terms.specs.Label.{Label, Sort, of_lifetime, of_type, of_const, fn_ptr, principal, param, bound}
-use Rattle.type_terms.specs.Trees.{Trees, none, tree, some_node, is_sort}
-use Rattle.type_terms.specs.Worlds.{Reference}
+use Rattle.type_terms.specs.Promised.Label.{Label, Sort, of_lifetime, of_type, of_const, fn_ptr, principal, param, bound}
+use Rattle.type_terms.specs.Promised.Trees.{Trees, none, tree, some_node, is_sort}
+use Rattle.type_terms.specs.Promised.Worlds.{Reference}
 use Rattle.type_terms.specs.Made.{terms, is_made}
-use Rattle.text_definitions.specs.Declarations.{NamedStruct, NamedTrait, NamedImpl}
+use Rattle.text_definitions.specs.Promised.Declarations.{NamedStruct, NamedTrait, NamedImpl}
 use Rattle.assembly_laws.specs.Candidates.{is_param}
 use Rattle.assembly_laws.specs.Declared.{is_declared, is_counted, are_terms, are_references, is_lifetime_parameter}
 use Rattle.assembly_laws.specs.DeclaredWell.{is_single}
-use Rattle.view_lowering.specs.Plain.{plain_label, plain, plain_reference, plain_struct, plain_trait, plain_impl, all_kept, none_kept, stands_in}
+use Rattle.view_lowering.specs.Promised.SeenWorlds.{plain_label, plain, plain_reference, plain_struct, plain_trait, plain_impl, all_kept, none_kept, stands_in}
 use Rattle.view_lowering.specs.Seen.{param_sorts}
 use Rattle.view_lowering.proofs.Sorts.{is_bad}
 use Rattle.view_lowering.proofs.Tests.{is_good, is_good_struct, is_good_trait, is_good_impl, all_stand}

@@ -1,8 +1,8 @@
 -- Parameters by number and sort.
 use Rattle.std.specs.Prelude.{Bool, true, false, ◌||◌, not, List, slice_get}
 use Rattle.std.specs.Option.{option_map_or}
-use Rattle.type_terms.specs.Label.{Label, Sort, param, bound}
-use Rattle.type_terms.specs.Trees.{is_sort}
+use Rattle.type_terms.specs.Promised.Label.{Label, Sort, param, bound}
+use Rattle.type_terms.specs.Promised.Trees.{is_sort}
 use Rattle.assembly_laws.specs.Declared.{is_counted}
 
 -- if it is a parameter, its number is that of a parameter of its sort; and no binder binds it

@@ -2,12 +2,13 @@
 use Rattle.std.proofs.Common.{◌≡◌, ℕ, zero, suc, Bool, true, false, cond, ◌||◌, List, ◌∷◌, ◌++◌, Some, None, refl, ap, ◌∙◌}
 use Rattle.std.specs.Prelude.{slice_get, max, if◌then◌else◌}
 use Rattle.std.specs.Option.{option_or}
-use Rattle.type_terms.specs.Label.{Label, Sort, of_lifetime, of_type, of_const, static, fn_ptr, principal, param, bound}
-use Rattle.type_terms.specs.Trees.{Trees, none, tree, some_node, sort_of, own_binder, outside, outer_binder, ◌+++◌}
+use Rattle.type_terms.specs.Promised.Label.{Label, Sort, of_lifetime, of_type, of_const, static, fn_ptr, principal, param, bound}
+use Rattle.type_terms.specs.Promised.Trees.{Trees, none, tree, some_node, sort_of, ◌+++◌}
+use Rattle.type_terms.specs.Trees.{own_binder, outside, outer_binder}
 use Rattle.term_folds.specs.Arguments.{sort_at, misfit, first_misfit}
 use Rattle.term_folds.specs.declared.instantiate.InstantiateError.TheVariants.{ParamKind}
 use Rattle.declarations.specs.Applied.{sorts_of, SpeaksOf}
-use Rattle.view_lowering.specs.Plain.{plain_label, plain}
+use Rattle.view_lowering.specs.Promised.SeenWorlds.{plain_label, plain}
 use Rattle.view_lowering.proofs.Sorts.{is_bad}
 use Rattle.view_lowering.proofs.Trees.{or-left, or-right}
 use Rattle.view_lowering.proofs.SeenViews.{sort-there}

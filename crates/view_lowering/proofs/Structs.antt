@@ -1,8 +1,8 @@
 -- A struct whose fields were lowered.
 use Rattle.std.proofs.Common.{◌≡◌, ℕ, Bool, List, map, Result, Ok, Err, IfOk, ap, ◌∙◌, Vec, Global}
-use Rattle.type_terms.specs.Trees.{Trees}
-use Rattle.type_terms.specs.Worlds.{StructDecl}
-use Rattle.type_terms.specs.Terms.{Entry, trees_at}
+use Rattle.type_terms.specs.Promised.Trees.{Trees}
+use Rattle.type_terms.specs.Promised.Worlds.{StructDecl}
+use Rattle.type_terms.specs.Promised.Handles.{Entry, trees_at}
 use Rattle.type_terms.specs.declared.AdtId.{AdtId}
 use Rattle.type_terms.specs.declared.CrateId.{CrateId}
 use Rattle.type_terms.specs.declared.Fault.{Fault}

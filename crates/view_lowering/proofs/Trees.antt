@@ -1,11 +1,12 @@
 -- Trees that are made as declarations are to be, once they are plain: their parts.
 use Rattle.std.proofs.Common.{◌≡◌, ℕ, Bool, true, false, ◌&&◌, ◌||◌, List, refl}
 use Rattle.std.specs.Prelude.{not, if◌then◌else◌}
-use Rattle.type_terms.specs.Label.{Label, Sort, of_lifetime, of_type, of_const, bool, char, str, never, array, slice, tuple, dynamic, static, int, uint, adt, fn_ptr, auto_trait, value, ref, raw_pointer, principal, param, placeholder, infer, canonical, bound, predicate}
-use Rattle.type_terms.specs.Trees.{Trees, none, tree, leaf, some_node, is_no_tree, ◌+++◌}
+use Rattle.type_terms.specs.Promised.Label.{Label, Sort, of_lifetime, of_type, of_const, bool, char, str, never, array, slice, tuple, dynamic, static, int, uint, adt, fn_ptr, auto_trait, value, ref, raw_pointer, principal, param, placeholder, infer, canonical, bound, predicate}
+use Rattle.type_terms.specs.Promised.Trees.{Trees, none, tree, leaf, some_node, ◌+++◌}
+use Rattle.type_terms.specs.Trees.{is_no_tree}
 use Rattle.type_terms.specs.Made.{terms, bounds, traits, is_made}
 use Rattle.assembly_laws.specs.Declared.{is_declared}
-use Rattle.view_lowering.specs.Plain.{plain_label, plain}
+use Rattle.view_lowering.specs.Promised.SeenWorlds.{plain_label, plain}
 use Rattle.view_lowering.proofs.Sorts.{has_sort, is_bad}
 use Rattle.type_terms.proofs.BooleanBasics.{and-end}
 

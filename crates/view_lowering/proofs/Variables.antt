@@ -4,8 +4,8 @@ use Rattle.std.proofs.lemmas.Slice.Eq.{bytes_eq-Decides}
 use Rattle.std.specs.Prelude.{filter}
 use Rattle.std.specs.List.{list_any}
 use Rattle.std.specs.Str.{bytes_eq}
-use Rattle.type_terms.specs.Label.{Sort}
-use Rattle.type_terms.specs.Trees.{is_sort}
+use Rattle.type_terms.specs.Promised.Label.{Sort}
+use Rattle.type_terms.specs.Promised.Trees.{is_sort}
 use Rattle.infer_table.proofs.SolutionLaws.{is_sort-equal}
 use Rattle.text_definitions.specs.Faults.{once, is_of_other_kind}
 use Rattle.text_definitions.specs.Lowering.{place_among}

@@ -4,13 +4,13 @@ use Rattle.std.specs.Prelude.{◌==◌, filter, slice_get, sum_by, if◌then◌e
 use Rattle.std.proofs.lemmas.Bool.{ne_eqb}
 use Rattle.std.proofs.lemmas.List.{length-map}
 use Rattle.std.proofs.lemmas.List.Sums.{sum_by_push, sum_by-take-le}
-use Rattle.type_terms.specs.Label.{of_type}
+use Rattle.type_terms.specs.Promised.Label.{of_type}
 use Rattle.type_terms.proofs.TermRules.{erased-views, filter-map}
-use Rattle.type_terms.specs.Erased.{erased_struct, erased_trait, erased_world}
-use Rattle.type_terms.specs.Worlds.{World, StructDecl, TraitDecl, ImplDecl, structs_named, traits_named}
-use Rattle.text_definitions.specs.Declarations as text
-use Rattle.text_definitions.specs.Declarations.{world_of}
-use Rattle.type_terms.specs.Terms.{Entry, Keeps}
+use Rattle.type_terms.specs.Promised.Erased.{erased_struct, erased_trait, erased_world}
+use Rattle.type_terms.specs.Promised.Worlds.{World, StructDecl, TraitDecl, ImplDecl, structs_named, traits_named}
+use Rattle.text_definitions.specs.Promised.Declarations as text
+use Rattle.text_definitions.specs.Promised.Declarations.{world_of}
+use Rattle.type_terms.specs.Promised.Handles.{Entry, Keeps}
 use Rattle.type_terms.specs.declared.AdtId.{AdtId}
 use Rattle.type_terms.specs.declared.CrateId.{CrateId}
 use Rattle.type_terms.specs.declared.TraitId.{TraitId}
@@ -18,13 +18,14 @@ use Rattle.declarations.specs.declared.items.AdtDef.{AdtDef}
 use Rattle.declarations.specs.declared.items.TraitDef.{TraitDef}
 use Rattle.declarations.specs.Held.{AreHeld}
 use Rattle.declarations.specs.Items.{Items, HeldImpl, struct_in, trait_in, impl_in, written, declared, with_struct, with_trait, with_impl}
-use Rattle.declarations.specs.Merges.{Each}
+use Rattle.declarations.specs.Promised.Elaboration.{Each}
 use Rattle.declarations.proofs.Growth.{all-written}
-use Rattle.view_lowering.specs.Plain.{plain_struct, plain_trait, plain_impl, plainly_seen_from}
+use Rattle.view_lowering.specs.Promised.SeenWorlds.{plain_struct, plain_trait, plain_impl, plainly_seen_from}
 use Rattle.view_lowering.proofs.Plainly.{world-erased}
 use Rattle.view_lowering.specs.Behind.{AreBefore, is_new, new_structs, new_traits, new_impls, new_struct_sorts, new_trait_sorts, new_impl_sorts, new_struct_terms, new_trait_terms, new_impl_terms}
 use Rattle.view_lowering.specs.MostTerms.{struct_terms, trait_terms, impl_terms}
-use Rattle.view_lowering.specs.Seen.{seen_from, rules_seen_from, impl_sorts, param_sorts, struct_sorts, trait_sorts}
+use Rattle.view_lowering.specs.Promised.SeenWorlds.{seen_from}
+use Rattle.view_lowering.specs.Seen.{rules_seen_from, impl_sorts, param_sorts, struct_sorts, trait_sorts}
 use Rattle.view_lowering.proofs.Going.{one-more-taken, Gone, gone-first, gone-passed, gone-taken, gone-again, all-taken}
 
 -- numbers that are below n are not n

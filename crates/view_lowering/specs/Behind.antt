@@ -1,14 +1,14 @@
 -- What a crate sees of a text in addition to what an earlier crate sees.
 use Rattle.std.specs.Prelude.{◌≡◌, ℕ, Bool, true, false, ◌<◌, ◌+◌, ◌&&◌, ◌||◌, not, List, ◌∷◌, ◌++◌, map, filter, sum_by, if◌then◌else◌, Option, None, Some}
-use Rattle.type_terms.specs.Label.{Sort, of_type}
-use Rattle.type_terms.specs.Worlds.{StructDecl, TraitDecl, ImplDecl, sees}
+use Rattle.type_terms.specs.Promised.Label.{Sort, of_type}
+use Rattle.type_terms.specs.Promised.Worlds.{StructDecl, TraitDecl, ImplDecl, sees}
 use Rattle.type_terms.specs.declared.CrateId.{CrateId}
-use Rattle.text_definitions.specs.Declarations as text
-use Rattle.text_definitions.specs.Declarations.{world_of}
-use Rattle.declarations.specs.Merges.{Each}
+use Rattle.text_definitions.specs.Promised.Declarations as text
+use Rattle.text_definitions.specs.Promised.Declarations.{world_of}
+use Rattle.declarations.specs.Promised.Elaboration.{Each}
 use Rattle.workspace.specs.Numbered.{EachNumbered}
 use Rattle.view_lowering.specs.MostTerms.{struct_terms, trait_terms, impl_terms}
-use Rattle.view_lowering.specs.Plain.{plain_struct, plain_trait, plain_impl}
+use Rattle.view_lowering.specs.Promised.SeenWorlds.{plain_struct, plain_trait, plain_impl}
 use Rattle.view_lowering.specs.Seen.{param_sorts}
 
 -- The elements of a list that satisfy p are those that satisfy q, and then those that satisfy p and not q.

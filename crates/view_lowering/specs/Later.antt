@@ -1,13 +1,13 @@
 -- The impls that later versions add, with their types as terms.
 use Rattle.std.specs.Prelude.{ℕ, zero, List, map, length}
-use Rattle.type_terms.specs.Label.{Sort}
-use Rattle.type_terms.specs.Worlds.{ImplDecl}
-use Rattle.text_definitions.specs.Declarations.{Declarations, section_impls}
-use Rattle.type_terms.specs.Terms.{Entry}
+use Rattle.type_terms.specs.Promised.Label.{Sort}
+use Rattle.type_terms.specs.Promised.Worlds.{ImplDecl}
+use Rattle.text_definitions.specs.Promised.Declarations.{Declarations, section_impls}
+use Rattle.type_terms.specs.Promised.Handles.{Entry}
 use Rattle.declarations.specs.declared.items.ImplDef.{ImplDef}
 use Rattle.declarations.specs.Applied.{sort_of_param}
 use Rattle.declarations.specs.Items.{reference_in}
-use Rattle.view_lowering.specs.Plain.{plain_impl}
+use Rattle.view_lowering.specs.Promised.SeenWorlds.{plain_impl}
 use Rattle.view_lowering.specs.Seen.{param_sorts}
 
 -- An added impl has a number in its section alone, so it is read without it: the number is 0.

@@ -1,3 +1,4 @@
+pub mod Promised
 pub mod Seen
 pub mod Questions
 pub mod Plain

@@ -1,11 +1,11 @@
 -- Cells with the lifetimes that are kept, and no binders.
 use Rattle.std.specs.Prelude.{ℕ, Bool, true, false, List}
 use Rattle.std.specs.List.{list_any}
-use Rattle.type_terms.specs.Kinds.{region_label}
+use Rattle.type_terms.specs.Promised.Handles.{region_label}
 use Rattle.workspace.specs.TermCells.{TermCell as Cell, node_cell, reference_cell}
 use Rattle.workspace.specs.declared.cell.TermCell.{TermCell}
 use Rattle.workspace.specs.declared.cell.TermCell.TheVariants as cells
-use Rattle.view_lowering.specs.Plain.{plain_label, is_lifetime}
+use Rattle.view_lowering.specs.Promised.SeenWorlds.{plain_label, is_lifetime}
 use Rattle.view_lowering.specs.declared.plain.Kept.{Kept}
 use Rattle.view_lowering.specs.declared.plain.Kept.TheVariants as kept
 

@@ -1,14 +1,11 @@
 -- What the queries of a text hold.
-use Rattle.std.specs.Prelude.{◌≡◌, ℕ, zero, suc, Bool, true, false, not, ltb, if◌then◌else◌, List, [], ◌∷◌, map, Ok, Some, slice_get}
-use Rattle.type_terms.specs.Label.{Label, Sort, of_type, of_const, of_lifetime, param, placeholder, infer, canonical, bound}
-use Rattle.type_terms.specs.Trees.{is_sort, some_node}
-use Rattle.text_definitions.specs.Declarations.{Declarations, Question}
+use Rattle.std.specs.Prelude.{◌≡◌, ℕ, zero, suc, Bool, true, false, not, ltb, if◌then◌else◌, List, [], ◌∷◌, Ok, Some, slice_get}
+use Rattle.type_terms.specs.Promised.Label.{Label, Sort, of_type, of_const, of_lifetime, param, placeholder, infer, canonical, bound}
+use Rattle.type_terms.specs.Promised.Trees.{is_sort, some_node}
+use Rattle.text_definitions.specs.Promised.Declarations.{Declarations, Question}
 use Rattle.text_definitions.specs.Text.{TextGives}
-use Rattle.view_lowering.specs.Plain.{unbound_reference}
-
--- The kinds of a query's variables, in their order.
-abbrev pub variable_kinds : Question → List Sort
-variable_kinds q = map (λ v. v.kind) q.variables
+use Rattle.view_lowering.specs.Promised.SeenWorlds.{unbound_reference}
+use Rattle.view_lowering.specs.Promised.Questions.{variable_kinds}
 
 -- How many of them are of a kind.
 abbrev pub number_of : Sort → List Sort → ℕ

@@ -1,23 +1,18 @@
 -- Queries of a text, and their terms.
-use Rattle.std.specs.Prelude.{◌≡◌, ◌≤◌, ◌-◌, ℕ, List, ◌∷◌, map, Some, slice_get}
-use Rattle.text_definitions.specs.Declarations.{Declarations, Question, Variable}
+use Rattle.std.specs.Prelude.{◌≡◌, List, ◌∷◌, map}
+use Rattle.text_definitions.specs.Promised.Declarations.{Question, Variable}
 use Rattle.text_definitions.specs.Names.{own_from, own_unknowns}
-use Rattle.type_terms.specs.Kinds.{arg_trees, ArgsHeld}
-use Rattle.type_terms.specs.Terms.{Entry}
+use Rattle.type_terms.specs.Promised.Handles.{arg_trees, ArgsHeld, Entry}
 use Rattle.type_terms.specs.declared.kinds.GenericArgKind.{GenericArgKind}
 use Rattle.declarations.specs.Applied.{references_in, TraitRefsHeld}
 use Rattle.declarations.specs.Held.{ReferenceHeld}
 use Rattle.declarations.specs.Items.{reference_in}
 use Rattle.workspace.specs.Views.{sort_of_kind}
 use Rattle.workspace.specs.declared.cell.ParamKind.{ParamKind}
-use Rattle.view_lowering.specs.Plain.{unbound_reference, unbound_references}
+use Rattle.view_lowering.specs.Promised.SeenWorlds.{unbound_reference}
+use Rattle.view_lowering.specs.Plain.{unbound_references}
 use Rattle.view_lowering.specs.declared.question.LoweredQuestion.{LoweredQuestion}
 use Rattle.view_lowering.specs.declared.question.Counts.{Counts}
-
--- Query number n of the text, counted from 1, is q.
-pub record IsQuestion (d : Declarations) (n : ℕ) (q : Question) : Type 0 where
-  pub counted : 1 ≤ n
-  pub there : slice_get d.questions (n - 1) ≡ Some q
 
 -- The terms are the query's, without binders. Its parameters are placeholders, and its variables are inference variables. These are listed
 -- in the order of the query's variables.

@@ -1,8 +1,8 @@
 -- The declarations that a crate sees of a text are ready for the solver. All their terms hold the item's own parameters alone, and each
 -- bound has an argument for each parameter of its trait.
 use Rattle.std.specs.Prelude.{◌≡◌, ℕ, List, map, length, Ok}
-use Rattle.type_terms.specs.Label.{Sort, of_type, of_const, of_lifetime}
-use Rattle.type_terms.specs.Terms.{Entry, trees_at}
+use Rattle.type_terms.specs.Promised.Label.{Sort, of_type, of_const, of_lifetime}
+use Rattle.type_terms.specs.Promised.Handles.{Entry, trees_at}
 use Rattle.type_terms.specs.declared.AdtId.{AdtId}
 use Rattle.type_terms.specs.declared.kinds.Ty.{Ty}
 use Rattle.infer_table.specs.declared.canonical.CanonicalVarKind.{CanonicalVarKind}
@@ -11,11 +11,11 @@ use Rattle.term_folds.specs.declared.predicate.TraitRef.{TraitRef}
 use Rattle.declarations.specs.declared.items.AdtDef.{AdtDef}
 use Rattle.declarations.specs.Applied.{SpeaksOf}
 use Rattle.declarations.specs.Items.{Items, HeldImpl, written}
-use Rattle.declarations.specs.Merges.{Each}
-use Rattle.text_definitions.specs.Declarations as text
+use Rattle.declarations.specs.Promised.Elaboration.{Each}
+use Rattle.text_definitions.specs.Promised.Declarations as text
 use Rattle.text_definitions.specs.Text.{TextGives}
 use Rattle.assembly_laws.specs.Candidates.{kinds_of_params}
-use Rattle.view_lowering.specs.Plain.{plainly_seen_from}
+use Rattle.view_lowering.specs.Promised.SeenWorlds.{plainly_seen_from}
 use Rattle.view_lowering.specs.Seen.{struct_sorts, trait_sorts, impl_sorts, struct_sorts_seen, trait_sorts_seen, impl_sorts_seen}
 
 -- The declarations are what crate c sees of the text, without binders, and their parameters have the kinds that the text gives.

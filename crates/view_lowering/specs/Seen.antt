@@ -1,10 +1,10 @@
 -- What a crate sees of a text's declarations, and the kinds of the parameters of items over an interner.
 use Rattle.std.specs.Prelude.{◌≡◌, ℕ, true, List, [], ◌∷◌, map, filter}
-use Rattle.type_terms.specs.Label.{Sort, of_type}
-use Rattle.type_terms.specs.Erased.{erased_world}
-use Rattle.type_terms.specs.Worlds.{World, sees, view_of}
-use Rattle.text_definitions.specs.Declarations as text
-use Rattle.text_definitions.specs.Declarations.{world_of}
+use Rattle.type_terms.specs.Promised.Label.{Sort, of_type}
+use Rattle.type_terms.specs.Promised.Erased.{erased_world}
+use Rattle.type_terms.specs.Promised.Worlds.{World, sees, view_of}
+use Rattle.text_definitions.specs.Promised.Declarations as text
+use Rattle.text_definitions.specs.Promised.Declarations.{world_of}
 use Rattle.type_terms.specs.declared.AdtId.{AdtId}
 use Rattle.type_terms.specs.declared.TraitId.{TraitId}
 use Rattle.declarations.specs.declared.items.AdtDef.{AdtDef}
@@ -13,10 +13,6 @@ use Rattle.declarations.specs.Applied.{sort_of_param}
 use Rattle.declarations.specs.Heads.{begins_declared}
 use Rattle.declarations.specs.Items.{HeldImpl}
 use Rattle.workspace.specs.Numbered.{EachNumbered}
-
--- What crate c sees: the items of all crates that it sees. The crates themselves are left out, because rules do not read them.
-abbrev pub seen_from : text.Declarations → ℕ → World
-seen_from d c = record (view_of (world_of d) c) { crates = [] }
 
 -- The same without lifetimes, as rules are read from it.
 abbrev pub rules_seen_from : text.Declarations → ℕ → World

@@ -1,6 +1,6 @@
 //! A struct, a trait and an impl as declarations. `for<'a> fn(&'a u8)` becomes `fn(&'static u8)`.
 ghost use Rattle.std.specs.Prelude.{◌≡◌, ◌+◌, ◌≤◌, ◌∷◌, true, length, map, IfOk};
-ghost use Rattle.type_terms.specs.Label.{of_type};
+ghost use Rattle.type_terms.specs.Promised.Label.{of_type};
 ghost use Rattle.type_terms.specs.Growth.{GrewOrFull};
 ghost use Rattle.declarations.specs.Applied.{sort_of_param};
 ghost use Rattle.declarations.specs.Heads.{begins_declared};
@@ -9,7 +9,7 @@ ghost use Rattle.declarations.specs.Held.{StructHeld, TraitHeld, ImplHeld};
 ghost use Rattle.workspace.specs.Made.{AreMade, ReferenceMade, ReferencesMade, is_type};
 ghost use Rattle.workspace.specs.Views.{struct_of, trait_of, impl_of, sorts_of, sort_of_kind};
 ghost use Rattle.view_lowering.specs.MostTerms.{struct_terms, trait_terms, impl_terms};
-ghost use Rattle.view_lowering.specs.Plain.{plain_struct, plain_trait, plain_impl};
+ghost use Rattle.view_lowering.specs.Promised.SeenWorlds.{plain_struct, plain_trait, plain_impl};
 ghost use Rattle.view_lowering.specs.Seen.{struct_sorts, trait_sorts, param_sorts};
 
 use crate::parts::{lower_reference, lower_references, param_kind, push_params};

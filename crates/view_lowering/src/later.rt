@@ -2,7 +2,7 @@
 ghost use Rattle.std.specs.Prelude.{◌≡◌, map, IfOk};
 ghost use Rattle.type_terms.specs.Growth.{GrewOrFull};
 ghost use Rattle.declarations.specs.Held.{ImplHeld};
-ghost use Rattle.declarations.specs.Merges.{Each};
+ghost use Rattle.declarations.specs.Promised.Elaboration.{Each};
 ghost use Rattle.view_lowering.specs.Later.{added_impls, added_in, added_sorts, sorts_of_added};
 ghost use Rattle.view_lowering.specs.Seen.{LaterBeginDeclared};
 

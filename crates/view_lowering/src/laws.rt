@@ -1,6 +1,6 @@
 //! Laws of texts.
 ghost use Rattle.std.specs.Prelude.{ℕ, List, Ok};
-ghost use Rattle.text_definitions.specs.Declarations.{Declarations};
+ghost use Rattle.text_definitions.specs.Promised.Declarations.{Declarations};
 ghost use Rattle.text_definitions.specs.Text.{TextGives};
 ghost use Rattle.view_lowering.specs.Seen.{BeginDeclared, LaterBeginDeclared};
 

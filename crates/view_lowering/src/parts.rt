@@ -4,11 +4,11 @@ ghost use Rattle.type_terms.specs.Growth.{GrewOrFull};
 ghost use Rattle.declarations.specs.Applied.{sort_of_param, references_in};
 ghost use Rattle.declarations.specs.Held.{ReferenceHeld};
 ghost use Rattle.declarations.specs.Items.{reference_in};
-ghost use Rattle.declarations.specs.Merges.{Each};
+ghost use Rattle.declarations.specs.Promised.Elaboration.{Each};
 ghost use Rattle.workspace.specs.Made.{ReferenceMade, ReferencesMade};
 ghost use Rattle.workspace.specs.TermCounts.{reference_terms};
 ghost use Rattle.workspace.specs.Views.{sort_of_kind, sorts_of, reference_of};
-ghost use Rattle.view_lowering.specs.Plain.{plain_reference};
+ghost use Rattle.view_lowering.specs.Promised.SeenWorlds.{plain_reference};
 ghost use Rattle.view_lowering.specs.PlainCells.{is_kept};
 
 use crate::plain::{Kept, are_without_lifetimes, plain_reference};

@@ -1,10 +1,10 @@
 //! Cells without binders, and with the lifetimes that are kept.
 ghost use Rattle.std.specs.Prelude.{◌≡◌, List, Bool, map, IfOk};
 ghost use Rattle.std.specs.List.{list_all};
-ghost use Rattle.type_terms.specs.Kinds.{region_label, RegionHeld};
+ghost use Rattle.type_terms.specs.Promised.Handles.{region_label, RegionHeld};
 ghost use Rattle.workspace.specs.Made.{StackPart, AreMade, ReferenceMade, CellHeld, parts_behind};
 ghost use Rattle.workspace.specs.Views.{cell_of, cells_of, reference_of};
-ghost use Rattle.view_lowering.specs.Plain.{plain_label, is_lifetime, plain_reference};
+ghost use Rattle.view_lowering.specs.Promised.SeenWorlds.{plain_label, is_lifetime, plain_reference};
 ghost use Rattle.view_lowering.specs.PlainCells.{names, named_in, is_kept, is_without_lifetimes, plain_cell};
 
 use std::alloc::{AllocError, Global};

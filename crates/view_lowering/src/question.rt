@@ -1,12 +1,13 @@
 //! Queries, with their types as terms.
 ghost use Rattle.std.specs.Prelude.{◌≡◌, map, IfOk};
-ghost use Rattle.text_definitions.specs.Declarations.{Question};
+ghost use Rattle.text_definitions.specs.Promised.Declarations.{Question};
 ghost use Rattle.text_definitions.specs.Names.{own_from};
-ghost use Rattle.type_terms.specs.Kinds.{arg_trees, ArgsHeld, ArgHeld};
+ghost use Rattle.type_terms.specs.Promised.Handles.{arg_trees, ArgsHeld, ArgHeld};
 ghost use Rattle.type_terms.specs.Growth.{GrewOrFull};
 ghost use Rattle.workspace.specs.Made.{ReferenceMade, ReferencesMade};
 ghost use Rattle.workspace.specs.Views.{question_of, variable_of};
-ghost use Rattle.view_lowering.specs.Questions.{IsQuestion, IsLowered, IsNextUnknown};
+ghost use Rattle.view_lowering.specs.Promised.Questions.{IsQuestion};
+ghost use Rattle.view_lowering.specs.Questions.{IsLowered, IsNextUnknown};
 
 use crate::parts::{lower_reference, lower_references};
 use crate::plain::Kept;

@@ -1,15 +1,15 @@
 //! The whole view of a crate, lowered anew or after that of an earlier crate. If `crate b uses a` follows `crate a`, b sees all that a
 //! sees, and then its own items, so only these are lowered for it.
 ghost use Rattle.std.specs.Prelude.{◌≡◌, ◌+◌, ◌<◌, ◌≤◌, ◌++◌, true, Some, length, map, sum_by, OnOk, IfOk, IfErr, IfSome, IfNone};
-ghost use Rattle.type_terms.specs.Worlds.{sees};
+ghost use Rattle.type_terms.specs.Promised.Worlds.{sees};
 ghost use Rattle.type_terms.specs.declared.Fault.TheVariants.{Memory};
-ghost use Rattle.text_definitions.specs.Declarations.{world_of};
+ghost use Rattle.text_definitions.specs.Promised.Declarations.{world_of};
 ghost use Rattle.type_terms.specs.Growth.{GrewOrFull};
 ghost use Rattle.declarations.specs.Held.{AreHeld};
 ghost use Rattle.declarations.specs.Items.{written, declared, struct_in, trait_in, impl_in};
 ghost use Rattle.view_lowering.specs.Behind.{BeginsWith, Continues, IsNextRow, IsOutOfTurn, AreBefore, is_new, new_structs, new_traits, new_impls, new_struct_sorts, new_trait_sorts, new_impl_sorts, new_struct_terms, new_trait_terms, new_impl_terms, most_new_terms};
 ghost use Rattle.view_lowering.specs.MostTerms.{most_terms};
-ghost use Rattle.view_lowering.specs.Plain.{plainly_seen_from};
+ghost use Rattle.view_lowering.specs.Promised.SeenWorlds.{plainly_seen_from};
 ghost use Rattle.view_lowering.specs.Seen.{BeginDeclared, rules_seen_from, struct_sorts, trait_sorts, impl_sorts, struct_sorts_seen, trait_sorts_seen, impl_sorts_seen};
 
 use crate::items::{lower_impl, lower_struct, lower_trait};

@@ -6,9 +6,10 @@ use Rattle.std.specs.Option.{option_and_then}
 use Rattle.std.proofs.lemmas.List.Sums.{sum_by-cons, sum_by-append}
 use Rattle.std.proofs.lemmas.List.{reverse-append}
 use Rattle.std.proofs.lemmas.Option.{same_Some}
-use Rattle.type_terms.specs.Label.{Label, ref, of_type, bool, char, str, never, array, slice, tuple, dynamic, auto_trait, int, uint, adt, fn_ptr, raw_pointer, principal, param, placeholder, infer}
-use Rattle.type_terms.specs.Kinds.{int_number, uint_number, is_mut, region_label, const_label}
-use Rattle.type_terms.specs.Trees.{Trees, none, tree, leaf, ◌+++◌}
+use Rattle.type_terms.specs.Promised.Label.{Label, ref, of_type, bool, char, str, never, array, slice, tuple, dynamic, auto_trait, int, uint, adt, fn_ptr, raw_pointer, principal, param, placeholder, infer}
+use Rattle.type_terms.specs.Kinds.{int_number, uint_number, is_mut, const_label}
+use Rattle.type_terms.specs.Promised.Handles.{region_label}
+use Rattle.type_terms.specs.Promised.Trees.{Trees, none, tree, leaf, ◌+++◌}
 use Rattle.workspace.specs.TermCells as cell
 use Rattle.workspace.specs.TermCells.{gathered, below, behind_cell, behind_cells, trees_of, joined}
 use Rattle.workspace.specs.declared.cell.TermCell.{TermCell}

@@ -2,12 +2,13 @@
 use Rattle.std.proofs.Common.{◌≡◌, ℕ, zero, suc, ◌+◌, ◌<◌, ◌≤◌, true, false, List, [], ◌∷◌, ◌++◌, length, take, refl, sym, ap, subst, ◌∙◌, arith, length-append, append_assoc, get_or, add-one}
 use Rattle.std.proofs.lemmas.List.{map_push, length-map}
 use Rattle.std.specs.Prelude.{map}
-use Rattle.type_terms.specs.Label.{Sort}
-use Rattle.type_terms.specs.Trees.{Trees}
-use Rattle.type_terms.specs.Worlds.{Reference, ImplDecl, core}
-use Rattle.type_terms.specs.Core.{impls_for, scalars}
-use Rattle.type_terms.specs.Rules.{asked}
-use Rattle.text_definitions.specs.Declarations.{Declarations, NamedImpl, last_crate, nothing_declared, bare_impl, copied}
+use Rattle.type_terms.specs.Promised.Label.{Sort}
+use Rattle.type_terms.specs.Promised.Trees.{Trees}
+use Rattle.type_terms.specs.Promised.Worlds.{Reference, ImplDecl, core}
+use Rattle.type_terms.specs.Promised.Core.{impls_for, scalars}
+use Rattle.type_terms.specs.Promised.Rules.{asked}
+use Rattle.text_definitions.specs.Promised.Declarations.{Declarations, NamedImpl, last_crate}
+use Rattle.text_definitions.specs.Declarations.{nothing_declared, bare_impl, copied}
 use Rattle.workspace.specs.declared.cell.TermCell.{TermCell}
 use Rattle.workspace.specs.declared.cell.TermCell.TheVariants as cells
 use Rattle.type_terms.specs.declared.kinds.IntTy.TheVariants as ints

@@ -4,9 +4,10 @@ use Rattle.std.specs.Prelude.{reverse, if◌then◌else◌}
 use Rattle.std.specs.Option.{option_map, option_and_then}
 use Rattle.std.proofs.lemmas.List.{length-append}
 use Rattle.std.proofs.lemmas.Option.{same_Some}
-use Rattle.type_terms.specs.Label.{Label}
-use Rattle.type_terms.specs.Trees.{Trees, none, tree, leaf, ◌+++◌}
-use Rattle.type_terms.specs.Terms.{Entry, AddsAtMost}
+use Rattle.type_terms.specs.Promised.Label.{Label}
+use Rattle.type_terms.specs.Promised.Trees.{Trees, none, tree, leaf, ◌+++◌}
+use Rattle.type_terms.specs.Promised.Handles.{Entry}
+use Rattle.type_terms.specs.Terms.{AddsAtMost}
 
 -- a term is added at most
 pub at-most-one : {old new : List Entry} {e : Entry} → AddsAtMost old e new → length new ≤ length old + 1

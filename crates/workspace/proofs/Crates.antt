@@ -5,7 +5,7 @@ use Rattle.std.proofs.lemmas.Option.{slice_get_within}
 use Rattle.std.proofs.lemmas.List.Elements.{All-head, All-tail, filter-append}
 use Rattle.std.specs.Prelude.{◌==◌, filter, All}
 use Rattle.std.specs.List.{list_any}
-use Rattle.type_terms.specs.Worlds.{World, CrateDecl, core, crates_named, sees_within, sees}
+use Rattle.type_terms.specs.Promised.Worlds.{World, CrateDecl, core, crates_named, sees_within, sees}
 use Rattle.workspace.specs.Numbered.{EachNumbered}
 use Rattle.workspace.proofs.Each.{Every, Every-from_Each, filter-none, filter-push, self-number}
 use Rattle.type_terms.proofs.BooleanBasics.{or-false}

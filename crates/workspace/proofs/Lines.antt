@@ -2,11 +2,12 @@
 use Rattle.std.proofs.Common.{◌≡◌, ℕ, ◌-◌, Bool, false, if◌then◌else◌, List, ◌++◌, length, sym, ap, ◌∙◌, arith, length-append}
 use Rattle.std.proofs.lemmas.List.{length-map}
 use Rattle.std.specs.Prelude.{map}
-use Rattle.type_terms.specs.Label.{Sort, of_type, of_const, of_lifetime}
-use Rattle.type_terms.specs.Trees.{Trees}
-use Rattle.type_terms.specs.Worlds.{Reference}
-use Rattle.text_definitions.specs.Syntax.{Params, Clause, Line, struct_line, trait_line, impl_line}
-use Rattle.text_definitions.specs.Declarations.{Declarations, NamedImpl, kinds_of, with_sort, sorted_names, last_crate, last_changed, last_later}
+use Rattle.type_terms.specs.Promised.Label.{Sort, of_type, of_const, of_lifetime}
+use Rattle.type_terms.specs.Promised.Trees.{Trees}
+use Rattle.type_terms.specs.Promised.Worlds.{Reference}
+use Rattle.text_definitions.specs.Promised.Syntax.{Params, Clause, Line, struct_line, trait_line, impl_line}
+use Rattle.text_definitions.specs.Promised.Declarations.{Declarations, NamedImpl, kinds_of, last_crate, last_changed, last_later}
+use Rattle.text_definitions.specs.Declarations.{with_sort, sorted_names}
 use Rattle.text_definitions.specs.Adding.{added, item_meanings}
 use Rattle.text_definitions.specs.Lowering.{clause_reference}
 use Rattle.workspace.specs.Tables.{with_struct, with_trait, with_impl, with_later}

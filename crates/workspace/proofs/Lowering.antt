@@ -3,10 +3,13 @@ use Rattle.std.proofs.Common.{◌≡◌, ℕ, zero, suc, ◌+◌, Bool, true, fa
 use Rattle.std.proofs.lemmas.Bool.{cases_Bool}
 use Rattle.std.proofs.lemmas.List.{length-map}
 use Rattle.std.specs.Option.{option_map, option_and_then}
-use Rattle.type_terms.specs.Label.{Label, of_type, bool, char, str, never, array, tuple, dynamic, int, uint, adt, fn_ptr, ref, auto_trait, principal, param, placeholder, infer}
-use Rattle.type_terms.specs.Trees.{Trees, none, tree, leaf, ◌+++◌, is_no_tree, IsA}
-use Rattle.type_terms.specs.Terms.{Entry, Is, Has, Keeps, types, consts, args_lists, type_lists, bounds_lists, trees_at, Lawful}
-use Rattle.type_terms.specs.Kinds.{kind_trees, const_label, args_trees, tys_trees, principal_trees, autos_trees, region_trees, is_mut, int_number, uint_number, KindHeld, ArgHeld, ArgsHeld, TysHeld, PrincipalHeld}
+use Rattle.type_terms.specs.Promised.Label.{Label, of_type, bool, char, str, never, array, tuple, dynamic, int, uint, adt, fn_ptr, ref, auto_trait, principal, param, placeholder, infer}
+use Rattle.type_terms.specs.Promised.Trees.{Trees, none, tree, leaf, ◌+++◌, IsA}
+use Rattle.type_terms.specs.Trees.{is_no_tree}
+use Rattle.type_terms.specs.Promised.Handles.{Entry, Is, Has, Keeps, types, consts, bounds_lists, trees_at}
+use Rattle.type_terms.specs.Terms.{args_lists, type_lists, Lawful}
+use Rattle.type_terms.specs.Kinds.{kind_trees, const_label, args_trees, tys_trees, principal_trees, autos_trees, is_mut, int_number, uint_number, KindHeld, TysHeld, PrincipalHeld}
+use Rattle.type_terms.specs.Promised.Handles.{region_trees, ArgHeld, ArgsHeld}
 use Rattle.type_terms.specs.declared.AdtId.{AdtId}
 use Rattle.type_terms.specs.declared.TraitId.{TraitId}
 use Rattle.type_terms.specs.declared.region.Region.{Region}

@@ -1,10 +1,10 @@
 -- How lowering ends without a term.
 use Rattle.std.proofs.Common.{◌≡◌, ℕ, ◌≤◌, List, ap, sym, ◌∙◌}
 use Rattle.std.specs.Prelude.{Result, IfErr, IsErrAnd}
-use Rattle.type_terms.specs.Terms.{Entry, held, bounds_lists}
+use Rattle.type_terms.specs.Promised.Handles.{Entry, held, bounds_lists}
 use Rattle.type_terms.specs.declared.Fault.{Fault}
 use Rattle.type_terms.specs.declared.Fault.TheVariants.{Full}
-use Rattle.type_terms.specs.Failures.{SomeKindIsFull, full}
+use Rattle.type_terms.specs.Promised.Handles.{SomeKindIsFull, full}
 use Rattle.type_terms.proofs.FailFacts.{at-limit}
 
 -- the interner refuses a term of this kind, and a `?` hands that on

@@ -1,11 +1,12 @@
 -- The items of `core` one after the other, as they are added.
 use Rattle.std.specs.Prelude.{◌≡◌, ℕ, ◌<◌, Bool, false, List, [], ◌∷◌, ◌++◌, length, map, take, Option, Some, None, if◌then◌else◌}
-use Rattle.type_terms.specs.Label.{Sort, of_type, of_const, of_lifetime, array, adt, ref, raw_pointer, param}
-use Rattle.type_terms.specs.Trees.{Trees, none, tree, leaf}
-use Rattle.type_terms.specs.Worlds.{Reference, core}
-use Rattle.type_terms.specs.Core.{type_param, box, box_impl, impls_for, scalars}
-use Rattle.type_terms.specs.Rules.{asked, clone}
-use Rattle.text_definitions.specs.Declarations.{Declarations, NamedTrait, NamedImpl, bare_impl, last_crate, nothing_declared, copied, lifetime_a, type_T, const_N}
+use Rattle.type_terms.specs.Promised.Label.{Sort, of_type, of_const, of_lifetime, array, adt, ref, raw_pointer, param}
+use Rattle.type_terms.specs.Promised.Trees.{Trees, none, tree, leaf}
+use Rattle.type_terms.specs.Promised.Worlds.{Reference, core}
+use Rattle.type_terms.specs.Promised.Core.{type_param, box, box_impl, impls_for, scalars}
+use Rattle.type_terms.specs.Promised.Rules.{asked, clone}
+use Rattle.text_definitions.specs.Promised.Declarations.{Declarations, NamedTrait, NamedImpl, last_crate}
+use Rattle.text_definitions.specs.Declarations.{bare_impl, nothing_declared, copied, lifetime_a, type_T, const_N}
 use Rattle.type_terms.specs.declared.TraitId.{TraitId}
 use Rattle.workspace.specs.declared.cell.TermCell.{TermCell}
 use Rattle.workspace.specs.TermCells.{trees_of, joined}

@@ -1,6 +1,6 @@
 -- How a cell is lowered: the terms on the stack that are its parts are taken off, and its term is made of them.
 use Rattle.std.specs.Prelude.{◌≡◌, List, ◌∷◌, map, Some, IsSome}
-use Rattle.type_terms.specs.Terms.{Entry, Keeps}
+use Rattle.type_terms.specs.Promised.Handles.{Entry, Keeps}
 use Rattle.type_terms.specs.declared.kinds.TyKind.{TyKind}
 use Rattle.type_terms.specs.declared.kinds.TyKind.TheVariants as kinds
 use Rattle.workspace.specs.declared.cell.TermCell.{TermCell}

@@ -2,7 +2,8 @@
 use Rattle.std.specs.Prelude.{◌≡◌, ℕ, zero, suc, Bool, true, false, List, [], ◌∷◌, Option, Some, None, nat_lt, if◌then◌else◌}
 use Rattle.std.specs.Option.{option_map, option_and_then}
 use Rattle.std.specs.List.{list_all}
-use Rattle.type_terms.specs.Kinds.{RegionHeld, ConstHeld}
+use Rattle.type_terms.specs.Promised.Handles.{RegionHeld}
+use Rattle.type_terms.specs.Kinds.{ConstHeld}
 use Rattle.workspace.specs.Numbered.{EachNumbered}
 use Rattle.workspace.specs.declared.declared.ReferenceCells.{ReferenceCells}
 use Rattle.workspace.specs.declared.cell.TermCell.{TermCell}

@@ -1,10 +1,11 @@
 -- The parts of a line that declares something, as the tables are given them, and the line that they are of.
 use Rattle.std.specs.Prelude.{◌≡◌, ℕ, ◌-◌, Bool, true, false, List, [], map, length}
-use Rattle.type_terms.specs.Label.{Sort, of_type, param}
-use Rattle.type_terms.specs.Trees.{Trees, leaf}
-use Rattle.type_terms.specs.Worlds.{Reference}
-use Rattle.text_definitions.specs.Syntax.{Line, struct_line, trait_line, impl_line, prove_line, refute_line}
-use Rattle.text_definitions.specs.Declarations.{Declarations, NamedStruct, NamedTrait, NamedImpl, LaterImpl, Question, kinds_of, sorted_names, last_crate, last_changed, last_later}
+use Rattle.type_terms.specs.Promised.Label.{Sort, of_type, param}
+use Rattle.type_terms.specs.Promised.Trees.{Trees, leaf}
+use Rattle.type_terms.specs.Promised.Worlds.{Reference}
+use Rattle.text_definitions.specs.Promised.Syntax.{Line, struct_line, trait_line, impl_line, prove_line, refute_line}
+use Rattle.text_definitions.specs.Promised.Declarations.{Declarations, NamedStruct, NamedTrait, NamedImpl, LaterImpl, Question, kinds_of, last_crate, last_changed, last_later}
+use Rattle.text_definitions.specs.Declarations.{sorted_names}
 use Rattle.text_definitions.specs.Lowering.{field_trees, with_self, clause_reference}
 use Rattle.text_definitions.specs.Adding.{item_meanings, question_meanings, question_of, added}
 use Rattle.workspace.specs.declared.cell.ParamKind.{ParamKind}

@@ -1,9 +1,10 @@
 -- The stack of the terms made so far, and what they stand for. The last item of the vector is on top.
 use Rattle.std.specs.Prelude.{◌≡◌, Bool, true, false, List, [], ◌∷◌, map, Option, Some, None}
-use Rattle.type_terms.specs.Label.{principal, auto_trait}
-use Rattle.type_terms.specs.Trees.{Trees, none, tree, leaf}
-use Rattle.type_terms.specs.Terms.{Entry, Has, types, consts, args_lists, trees_at}
-use Rattle.type_terms.specs.Kinds.{region_trees, RegionHeld}
+use Rattle.type_terms.specs.Promised.Label.{principal, auto_trait}
+use Rattle.type_terms.specs.Promised.Trees.{Trees, none, tree, leaf}
+use Rattle.type_terms.specs.Promised.Handles.{Entry, Has, types, consts, trees_at}
+use Rattle.type_terms.specs.Terms.{args_lists}
+use Rattle.type_terms.specs.Promised.Handles.{region_trees, RegionHeld}
 use Rattle.type_terms.specs.declared.TraitId.{TraitId}
 use Rattle.type_terms.specs.declared.kinds.Ty.{Ty}
 use Rattle.type_terms.specs.declared.kinds.Principal.{Principal}

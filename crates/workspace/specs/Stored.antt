@@ -1,11 +1,11 @@
 -- Declarations as stored values, so that a struct may be seen as them (`impl Model`).
 use Rattle.std.specs.Prelude.{◌≡◌, ℕ, Bool, true, false, List, refl}
 use Rattle.std.specs.Coded.{Coded, code_by, coded_ℕ, coded_bool, coded_list, coded×}
-use Rattle.type_terms.specs.Label.{Sort, of_type, of_const, of_lifetime}
-use Rattle.type_terms.specs.Trees.{Trees}
+use Rattle.type_terms.specs.Promised.Label.{Sort, of_type, of_const, of_lifetime}
+use Rattle.type_terms.specs.Promised.Trees.{Trees}
 use Rattle.type_terms.specs.Codes.{trees_code, sort_number, sort_at}
-use Rattle.type_terms.specs.Worlds.{Reference}
-use Rattle.text_definitions.specs.Declarations.{Declarations, NamedCrate, NamedStruct, NamedTrait, NamedImpl, LaterImpl, Check, of_later, of_supers, Variable, Question}
+use Rattle.type_terms.specs.Promised.Worlds.{Reference}
+use Rattle.text_definitions.specs.Promised.Declarations.{Declarations, NamedCrate, NamedStruct, NamedTrait, NamedImpl, LaterImpl, Check, of_later, of_supers, Variable, Question}
 
 pub sort_again : (s : Sort) → sort_at (sort_number s) ≡ s
 sort_again of_type = refl

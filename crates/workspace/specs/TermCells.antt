@@ -1,8 +1,8 @@
 -- Types as they are stored: lists of cells by numbers alone, and the terms that these stand for. The parts of a cell come before it, and
 -- the cell says how many they are.
 use Rattle.std.specs.Prelude.{ℕ, zero, suc, Bool, List, [], ◌∷◌, reverse}
-use Rattle.type_terms.specs.Label.{Label, ref}
-use Rattle.type_terms.specs.Trees.{Trees, none, tree, leaf, ◌+++◌}
+use Rattle.type_terms.specs.Promised.Label.{Label, ref}
+use Rattle.type_terms.specs.Promised.Trees.{Trees, none, tree, leaf, ◌+++◌}
 
 pub data TermCell : Type 0 where
   node_cell : Label → (inside : ℕ) → TermCell

@@ -1,7 +1,7 @@
 -- How many terms are made of types at most.
 use Rattle.std.specs.Prelude.{ℕ, suc, ◌+◌, ◌*◌}
-use Rattle.type_terms.specs.Trees.{Trees, none, tree}
-use Rattle.type_terms.specs.Worlds.{Reference}
+use Rattle.type_terms.specs.Promised.Trees.{Trees, none, tree}
+use Rattle.type_terms.specs.Promised.Worlds.{Reference}
 
 -- How many parts a term has. Each of them is a term, and may have a list of its parts.
 abbrev pub parts : Trees → ℕ

@@ -1,11 +1,12 @@
 -- What the values of the code stand for among the definitions.
 use Rattle.std.specs.Prelude.{ℕ, suc, Bool, true, false, List, map, length}
 use Rattle.std.specs.Borrow.{Bor}
-use Rattle.type_terms.specs.Label.{Sort, of_type, of_const, of_lifetime, bool, char, str, never, array, slice, tuple, dynamic, auto_trait, int, uint, adt, fn_ptr, raw_pointer, principal, param, placeholder, infer}
-use Rattle.type_terms.specs.Worlds.{Reference}
-use Rattle.type_terms.specs.Kinds.{int_number, uint_number, is_mut, region_label, const_label}
+use Rattle.type_terms.specs.Promised.Label.{Sort, of_type, of_const, of_lifetime, bool, char, str, never, array, slice, tuple, dynamic, auto_trait, int, uint, adt, fn_ptr, raw_pointer, principal, param, placeholder, infer}
+use Rattle.type_terms.specs.Promised.Worlds.{Reference}
+use Rattle.type_terms.specs.Kinds.{int_number, uint_number, is_mut, const_label}
+use Rattle.type_terms.specs.Promised.Handles.{region_label}
 use Rattle.type_terms.specs.declared.CrateId.{CrateId}
-use Rattle.text_definitions.specs.Declarations as text
+use Rattle.text_definitions.specs.Promised.Declarations as text
 use Rattle.workspace.specs.TermCells as cell
 use Rattle.workspace.specs.TermCells.{trees_of, joined}
 use Rattle.workspace.specs.declared.cell.ParamKind.{ParamKind}

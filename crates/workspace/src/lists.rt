@@ -1,7 +1,8 @@
 //! Lists of cells: the fields of a struct, the arguments of a trait reference.
 ghost use Rattle.type_terms.specs.Growth.{GrewOrFull};
 ghost use Rattle.std.specs.Prelude.{◌≡◌, ◌+◌, ◌*◌, ◌≤◌, [], length, map, sum_by, Some, IsSome, IfOk};
-ghost use Rattle.type_terms.specs.Terms.{Is, args_lists, trees_at};
+ghost use Rattle.type_terms.specs.Promised.Handles.{Is, trees_at};
+ghost use Rattle.type_terms.specs.Terms.{args_lists};
 ghost use Rattle.type_terms.specs.Kinds.{TysHeld};
 ghost use Rattle.workspace.specs.Made.{AreMade, CellsHeld, parts_of, is_type, is_arg};
 ghost use Rattle.workspace.specs.TermCounts.{parts};

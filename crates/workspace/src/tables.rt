@@ -2,10 +2,10 @@
 ghost use Rattle.std.specs.Prelude.{◌≡◌, ◌<◌, ◌++◌, ◌∷◌, [], ℕ, None, true, false, All, length, map, filter, nat_le, slice_get, unwrap_or, OnOk, OnErr, IfOk, IfSome};
 ghost use Rattle.std.specs.List.{list_any};
 ghost use Rattle.std.specs.Option.{option_map, option_and_then};
-ghost use Rattle.type_terms.specs.Worlds.{sees};
-ghost use Rattle.text_definitions.specs.Syntax.{Line, crate_line, later_line, supers_line};
-ghost use Rattle.text_definitions.specs.Declarations.{known, world_of, last_crate, last_changed, last_later, impl_owner};
-ghost use Rattle.text_definitions.specs.Faults.{last_items};
+ghost use Rattle.type_terms.specs.Promised.Worlds.{sees};
+ghost use Rattle.text_definitions.specs.Promised.Syntax.{Line, crate_line, later_line, supers_line};
+ghost use Rattle.text_definitions.specs.Promised.Declarations.{known, world_of, last_crate, last_changed, last_later, impl_owner};
+ghost use Rattle.text_definitions.specs.Promised.Faults.{last_items};
 ghost use Rattle.text_definitions.specs.Lowering.{crate_number};
 ghost use Rattle.text_definitions.specs.Adding.{added};
 ghost use Rattle.workspace.specs.Numbered.{IsFew};

@@ -1,7 +1,7 @@
 use Rattle.std.proofs.Common.{◌+◌, map, drop, sym, ap, ◌∙◌}
 use Rattle.std.proofs.lemmas.List.{drop_all}
 use Rattle.text_definitions.specs.Names.{free_unknowns, with_free}
-use Rattle.type_terms.specs.Kinds.{arg_trees}
+use Rattle.type_terms.specs.Promised.Handles.{arg_trees}
 use Rattle.workspace.specs.Views.{question_of}
 use Rattle.answer_lines.specs.Called.{unknowns_of}
 use Rattle.answer_lines.specs.Listed.{listed_of}

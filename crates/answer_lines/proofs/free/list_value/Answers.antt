@@ -2,7 +2,7 @@ use Rattle.std.proofs.Common.{◌∙◌, ap, sym}
 use Rattle.std.specs.ControlFlow.{break_value}
 use Rattle.text_definitions.specs.Names.{with_free}
 use Rattle.answer_lines.specs.Called.{unknowns_of}
-use Rattle.type_terms.specs.Kinds.{arg_trees}
+use Rattle.type_terms.specs.Promised.Handles.{arg_trees}
 use Rattle.workspace.specs.Views.{question_of}
 use Rattle.answer_lines.proofs.Visiting.{visited}
 use Rattle.answer_lines.proofs.free.list_value.Goals as goal

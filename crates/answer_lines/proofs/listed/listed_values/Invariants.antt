@@ -1,5 +1,5 @@
 use Rattle.std.proofs.Common.{◌≡◌, ◌≤◌, ◌++◌, map, drop}
-use Rattle.type_terms.specs.Kinds.{ArgsHeld}
+use Rattle.type_terms.specs.Promised.Handles.{ArgsHeld}
 use Rattle.answer_lines.specs.Listed.{listed_of, ListHeld}
 use Rattle.answer_lines.proofs.Listing.{valued_from}
 use Rattle.answer_lines.proofs.listed.listed_values.Given as goal

@@ -2,7 +2,7 @@ use Rattle.std.proofs.Common.{◌≡◌, ◌∙◌, [], map, ap, sym, subst, IfO
 use Rattle.text_definitions.specs.Names as names
 use Rattle.text_definitions.specs.Names.{valued, own_from}
 use Rattle.answer_lines.specs.Answers.{value_of}
-use Rattle.type_terms.specs.Kinds.{arg_trees}
+use Rattle.type_terms.specs.Promised.Handles.{arg_trees}
 use Rattle.workspace.specs.Views.{question_of, variable_of}
 use Rattle.answer_lines.specs.Called.{unknowns_of}
 use Rattle.answer_lines.specs.Listed.{listed_of}

@@ -1,6 +1,6 @@
 use Rattle.std.proofs.Common.{◌≡◌, drop}
 use Rattle.std.specs.Prelude.{slice_get, filter}
-use Rattle.type_terms.specs.Trees.{is_sort}
+use Rattle.type_terms.specs.Promised.Trees.{is_sort}
 use Rattle.answer_lines.specs.Kinds as term
 use Rattle.workspace.specs.Views as param
 use Rattle.answer_lines.proofs.params.nth_of_kind.Given as goal

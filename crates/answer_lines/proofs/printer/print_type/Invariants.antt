@@ -1,5 +1,5 @@
 use Rattle.std.proofs.Common.{◌≡◌, ◌++◌}
-use Rattle.type_terms.specs.Terms.{trees_at}
+use Rattle.type_terms.specs.Promised.Handles.{trees_at}
 use Rattle.text_definitions.specs.Output.{type_text}
 use Rattle.answer_lines.specs.Pieces.{PiecesHeld, pending, pieces_load}
 use Rattle.answer_lines.proofs.printer.print_type.Given as goal

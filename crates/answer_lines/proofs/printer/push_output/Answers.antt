@@ -1,5 +1,5 @@
 use Rattle.std.proofs.Common.{sym, ◌∙◌, refl}
-use Rattle.type_terms.specs.Terms.{trees_at}
+use Rattle.type_terms.specs.Promised.Handles.{trees_at}
 use Rattle.answer_lines.proofs.Lists.{unit-output, some-output}
 use Rattle.answer_lines.proofs.printer.push_output.Goals as goal
 

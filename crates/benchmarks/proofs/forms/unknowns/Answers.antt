@@ -1,5 +1,5 @@
 use Rattle.std.proofs.Common.{List, [], ◌∷◌, ◌++◌}
-use Rattle.type_terms.specs.Terms.{Entry, Has, types}
+use Rattle.type_terms.specs.Promised.Handles.{Entry, Has, types}
 use Rattle.type_terms.specs.Kinds.{TysHeld}
 use Rattle.type_terms.specs.declared.kinds.Ty.{Ty}
 use Rattle.type_terms.specs.Kept.{tys-held-later}

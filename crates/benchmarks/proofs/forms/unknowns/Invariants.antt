@@ -1,4 +1,4 @@
-use Rattle.type_terms.specs.Terms.{Keeps}
+use Rattle.type_terms.specs.Promised.Handles.{Keeps}
 use Rattle.type_terms.specs.Kinds.{TysHeld}
 use Rattle.infer_table.specs.Content.{Ready}
 use Rattle.benchmarks.proofs.forms.unknowns.Given as goal

@@ -1,4 +1,5 @@
-use Rattle.type_terms.specs.Terms.{Has, types, args_lists}
+use Rattle.type_terms.specs.Promised.Handles.{Has, types}
+use Rattle.type_terms.specs.Terms.{args_lists}
 use Rattle.benchmarks.proofs.terms.instantiate_often.Given as goal
 
 -- the type and the arguments are this interner's

@@ -1,4 +1,4 @@
-use Rattle.type_terms.specs.Terms.{Has, Keeps, types}
+use Rattle.type_terms.specs.Promised.Handles.{Has, Keeps, types}
 use Rattle.benchmarks.proofs.terms.pairs.Given as goal
 
 -- the type so far is one of this interner, and what was there is kept

@@ -1,6 +1,6 @@
 use Rattle.std.proofs.Common.{subst}
-use Rattle.type_terms.specs.Rules.{tuple_rules}
-use Rattle.type_terms.specs.Terms.{types, trees_at}
+use Rattle.type_terms.specs.Promised.Rules.{tuple_rules}
+use Rattle.type_terms.specs.Promised.Handles.{types, trees_at}
 use Rattle.type_terms.specs.Kept.{trees-is}
 use Rattle.assembly_laws.specs.Asking.{with_plain_head}
 use Rattle.built_in_candidates.specs.Constituents.{AreConstituents}

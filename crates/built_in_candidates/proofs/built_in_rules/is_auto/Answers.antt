@@ -1,6 +1,6 @@
 use Rattle.std.proofs.Common.{◌≡◌, Bool, true, false, refl, sym, ap, ◌∙◌, ◌||◌}
 use Rattle.std.specs.List.{list_any}
-use Rattle.type_terms.specs.Worlds.{TraitDecl}
+use Rattle.type_terms.specs.Promised.Worlds.{TraitDecl}
 use Rattle.built_in_candidates.proofs.built_in_rules.is_auto.Goals as goal
 
 or-false : (b : Bool) → b ≡ (b || false)

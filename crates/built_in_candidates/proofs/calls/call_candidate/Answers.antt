@@ -1,9 +1,10 @@
 use Rattle.std.proofs.Common.{map, ap, sym, ◌∙◌, subst}
-use Rattle.type_terms.specs.Label.{tuple}
-use Rattle.type_terms.specs.Trees.{tree, none}
-use Rattle.type_terms.specs.Rules.{but_last, last_asked, sized}
-use Rattle.type_terms.specs.Terms.{types, type_lists, trees_at, Keeps}
-use Rattle.type_terms.specs.Kinds.{arg_trees}
+use Rattle.type_terms.specs.Promised.Label.{tuple}
+use Rattle.type_terms.specs.Promised.Trees.{tree, none}
+use Rattle.type_terms.specs.Promised.Rules.{but_last, last_asked, sized}
+use Rattle.type_terms.specs.Promised.Handles.{types, trees_at, Keeps}
+use Rattle.type_terms.specs.Terms.{type_lists}
+use Rattle.type_terms.specs.Promised.Handles.{arg_trees}
 use Rattle.type_terms.specs.Kept.{has-later, trees-later, arg-held-later, arg-trees-later}
 use Rattle.infer_table.specs.Values.{sort_of_arg}
 use Rattle.infer_table.proofs.Numbers.{goal-held-later}

@@ -1,8 +1,8 @@
 use Rattle.std.proofs.Common.{[], ◌∷◌, ap, ◌∙◌}
-use Rattle.type_terms.specs.Terms.{types, trees_at}
+use Rattle.type_terms.specs.Promised.Handles.{types, trees_at}
 use Rattle.type_terms.specs.Kept.{trees-is}
 use Rattle.infer_table.specs.Values.{sort_of_arg}
-use Rattle.type_terms.specs.Kinds.{arg_trees}
+use Rattle.type_terms.specs.Promised.Handles.{arg_trees}
 use Rattle.built_in_candidates.specs.Goals.{asked_of}
 use Rattle.built_in_candidates.proofs.Pairs.{arg-tree}
 use Rattle.built_in_candidates.proofs.FnPointers.{signature-first, no-second, one-call}

@@ -1,5 +1,5 @@
 use Rattle.std.proofs.Common.{ap, sym, ◌∙◌, subst}
-use Rattle.type_terms.specs.Rules.{but_last}
+use Rattle.type_terms.specs.Promised.Rules.{but_last}
 use Rattle.type_terms.specs.Kinds.{TysHeld, tys_trees}
 use Rattle.built_in_candidates.proofs.FnPointers.{inputs-are, inputs-held}
 use Rattle.built_in_candidates.proofs.calls.inputs.Goals as goal

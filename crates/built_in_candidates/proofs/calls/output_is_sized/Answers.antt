@@ -1,5 +1,5 @@
 use Rattle.std.proofs.Common.{ap, sym, ◌∙◌, subst}
-use Rattle.type_terms.specs.Rules.{last_asked, sized}
+use Rattle.type_terms.specs.Promised.Rules.{last_asked, sized}
 use Rattle.type_terms.specs.Terms.{type_lists}
 use Rattle.type_terms.specs.Kept.{trees-is}
 use Rattle.built_in_candidates.specs.Constituents.{types_asked, TypesHeld}

@@ -1,8 +1,9 @@
 use Rattle.std.proofs.Common.{ap, arith, sym, ◌∙◌, subst, Err}
-use Rattle.type_terms.specs.Label.{tuple}
-use Rattle.type_terms.specs.Trees.{tree, none}
-use Rattle.type_terms.specs.Rules.{but_last}
-use Rattle.type_terms.specs.Terms.{types, type_lists}
+use Rattle.type_terms.specs.Promised.Label.{tuple}
+use Rattle.type_terms.specs.Promised.Trees.{tree, none}
+use Rattle.type_terms.specs.Promised.Rules.{but_last}
+use Rattle.type_terms.specs.Promised.Handles.{types}
+use Rattle.type_terms.specs.Terms.{type_lists}
 use Rattle.type_terms.specs.Kinds.{TysHeld, tys_trees}
 use Rattle.type_terms.specs.Kept.{trees-is}
 use Rattle.type_terms.proofs.FailFacts.{refused-term, at-limit}

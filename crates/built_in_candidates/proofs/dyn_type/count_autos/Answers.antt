@@ -1,6 +1,6 @@
 use Rattle.std.proofs.Common.{length, count_by, ap, sym, ◌∙◌}
 use Rattle.std.specs.Prelude.{◌==◌, filter}
-use Rattle.type_terms.specs.Worlds.{Reference}
+use Rattle.type_terms.specs.Promised.Worlds.{Reference}
 use Rattle.type_terms.specs.declared.TraitId.{TraitId}
 use Rattle.built_in_candidates.proofs.Objects.{autos-at, autos-counted}
 use Rattle.built_in_candidates.proofs.dyn_type.count_autos.Goals as goal

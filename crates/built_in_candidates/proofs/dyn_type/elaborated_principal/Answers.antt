@@ -1,10 +1,10 @@
 use Rattle.std.proofs.Common.{refl, sym, ap, ◌∙◌, subst}
-use Rattle.type_terms.specs.Label.{static}
+use Rattle.type_terms.specs.Promised.Label.{static}
 use Rattle.evaluation.specs.Merge.{if_there}
 use Rattle.declarations.specs.Items.{written}
-use Rattle.declarations.specs.Merges.{Each}
+use Rattle.declarations.specs.Promised.Elaboration.{Each}
 use Rattle.declarations.specs.Applied.{references_in}
-use Rattle.declarations.specs.Elaboration.{elaborate}
+use Rattle.declarations.specs.Promised.Elaboration.{elaborate}
 use Rattle.declarations.proofs.Growth.{all-held, all-written}
 use Rattle.declarations.proofs.Elaborating.{have-bounds-later}
 use Rattle.built_in_candidates.specs.Objects.{AreArgumentsOf}

@@ -1,5 +1,5 @@
 use Rattle.std.proofs.Common.{sym, ap, ◌∙◌}
-use Rattle.type_terms.specs.Rules.{are_declared}
+use Rattle.type_terms.specs.Promised.Rules.{are_declared}
 use Rattle.evaluation.specs.Merge.{if_there}
 use Rattle.declarations.specs.Items.{reference_in, written}
 use Rattle.declarations.specs.Applied.{references_in}

@@ -1,7 +1,7 @@
 use Rattle.std.proofs.Common.{◌&&◌, not, ap, sym, ◌∙◌}
 use Rattle.std.specs.Prelude.{◌==◌}
 use Rattle.std.specs.List.{list_any}
-use Rattle.type_terms.specs.Rules.{sized}
+use Rattle.type_terms.specs.Promised.Rules.{sized}
 use Rattle.term_folds.specs.declared.predicate.TraitRef.{TraitRef}
 use Rattle.evaluation.specs.Merge.{if_there}
 use Rattle.declarations.specs.Applied.{references_in}

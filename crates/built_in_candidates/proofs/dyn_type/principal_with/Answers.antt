@@ -1,5 +1,5 @@
 use Rattle.std.proofs.Common.{ap, sym, ◌∙◌}
-use Rattle.type_terms.specs.Terms.{trees_at}
+use Rattle.type_terms.specs.Promised.Handles.{trees_at}
 use Rattle.built_in_candidates.proofs.Objects.{principal_of, principal-at}
 use Rattle.built_in_candidates.proofs.dyn_type.principal_with.Goals as goal
 

@@ -1,5 +1,6 @@
 use Rattle.std.proofs.Common.{map, sym, ap, ◌∙◌, subst}
-use Rattle.type_terms.specs.Terms.{Keeps, args_lists, trees_at}
+use Rattle.type_terms.specs.Promised.Handles.{Keeps, trees_at}
+use Rattle.type_terms.specs.Terms.{args_lists}
 use Rattle.type_terms.specs.Kept.{trees-later}
 use Rattle.infer_table.proofs.Numbers.{goal-held-later}
 use Rattle.infer_table.proofs.StepFacts.{keeps-trans}

@@ -1,10 +1,10 @@
 use Rattle.std.proofs.Common.{◌<◌, ◌≤◌, ◌-◌, ap, ◌∙◌, subst, Some}
 use Rattle.std.specs.Prelude.{◌==◌}
 use Rattle.std.specs.List.{slice_get}
-use Rattle.type_terms.specs.Trees.{leaf, ◌+++◌}
-use Rattle.type_terms.specs.Rules.{sized}
-use Rattle.type_terms.specs.Worlds.{Reference}
-use Rattle.type_terms.specs.Terms.{trees_at}
+use Rattle.type_terms.specs.Promised.Trees.{leaf, ◌+++◌}
+use Rattle.type_terms.specs.Promised.Rules.{sized}
+use Rattle.type_terms.specs.Promised.Worlds.{Reference}
+use Rattle.type_terms.specs.Promised.Handles.{trees_at}
 use Rattle.evaluation.specs.declared.candidate.BuiltinImplSource.TheVariants.{Misc, Object}
 use Rattle.declarations.specs.Applied.{references_in}
 use Rattle.built_in_candidates.specs.Objects.{BoundRule, bounds_to}

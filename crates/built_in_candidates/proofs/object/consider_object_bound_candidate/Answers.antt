@@ -1,14 +1,14 @@
 use Rattle.std.proofs.Common.{◌≡◌, sym, ap, ◌∙◌, subst, Some}
 use Rattle.std.specs.Prelude.{option_map}
-use Rattle.type_terms.specs.Trees.{leaf, ◌+++◌}
-use Rattle.type_terms.specs.Worlds.{World}
-use Rattle.type_terms.specs.Terms.{types, trees_at}
+use Rattle.type_terms.specs.Promised.Trees.{leaf, ◌+++◌}
+use Rattle.type_terms.specs.Promised.Worlds.{World}
+use Rattle.type_terms.specs.Promised.Handles.{types, trees_at}
 use Rattle.type_terms.specs.Kept.{trees-is}
 use Rattle.infer_table.proofs.Numbers.{goal-held-later}
 use Rattle.evaluation.specs.declared.candidate.CandidateSource.TheVariants.{BuiltinImpl}
 use Rattle.declarations.specs.Items.{reference_in, written}
-use Rattle.declarations.specs.Merges.{Each}
-use Rattle.declarations.specs.Elaboration.{supertraits}
+use Rattle.declarations.specs.Promised.Elaboration.{Each}
+use Rattle.declarations.specs.Promised.Elaboration.{supertraits}
 use Rattle.declarations.proofs.Growth.{all-held, all-written}
 use Rattle.declarations.proofs.Elaborating.{have-bounds-later}
 use Rattle.assembly_laws.specs.Candidates.{by_rule, all_equal}

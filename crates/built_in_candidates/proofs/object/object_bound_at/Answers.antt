@@ -1,12 +1,12 @@
 use Rattle.std.proofs.Common.{sym, ap, ◌∙◌}
 use Rattle.std.specs.List.{slice_get}
-use Rattle.type_terms.specs.Trees.{leaf, ◌+++◌}
-use Rattle.type_terms.specs.Rules.{principal_with, are_dyn_compatible}
-use Rattle.type_terms.specs.Terms.{types, bounds_lists, trees_at}
+use Rattle.type_terms.specs.Promised.Trees.{leaf, ◌+++◌}
+use Rattle.type_terms.specs.Promised.Rules.{principal_with, are_dyn_compatible}
+use Rattle.type_terms.specs.Promised.Handles.{types, bounds_lists, trees_at}
 use Rattle.type_terms.specs.Kept.{trees-later}
 use Rattle.declarations.specs.Items.{written}
 use Rattle.declarations.specs.Applied.{references_in}
-use Rattle.declarations.specs.Elaboration.{elaborate}
+use Rattle.declarations.specs.Promised.Elaboration.{elaborate}
 use Rattle.assembly_laws.specs.Candidates.{if_so}
 use Rattle.built_in_candidates.specs.Objects.{written_and_elaborated}
 use Rattle.built_in_candidates.proofs.object.object_bound_at.Goals as goal

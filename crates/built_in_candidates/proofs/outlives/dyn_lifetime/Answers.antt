@@ -1,6 +1,6 @@
 use Rattle.std.proofs.Common.{Some, ap, sym, ◌∙◌}
-use Rattle.type_terms.specs.Terms.{types, trees_at}
-use Rattle.type_terms.specs.Kinds.{region_label}
+use Rattle.type_terms.specs.Promised.Handles.{types, trees_at}
+use Rattle.type_terms.specs.Promised.Handles.{region_label}
 use Rattle.type_terms.specs.Kept.{trees-is}
 use Rattle.assembly_laws.specs.Candidates.{lifetime_of}
 use Rattle.built_in_candidates.proofs.Lifetimes.{last-is}

@@ -1,5 +1,5 @@
 use Rattle.std.proofs.Common.{Some, sym, ◌∙◌, ap, subst, IfSome, option_map}
-use Rattle.type_terms.specs.Terms.{trees_at}
+use Rattle.type_terms.specs.Promised.Handles.{trees_at}
 use Rattle.evaluation.specs.Readings.{SpecHeld}
 use Rattle.assembly_laws.specs.Candidates.{recording, lifetime_of, outlives}
 use Rattle.built_in_candidates.specs.Goals.{candidate_of}

@@ -1,5 +1,5 @@
 use Rattle.std.proofs.Common.{◌≡◌, ◌++◌, Bool, List, length, map}
-use Rattle.type_terms.specs.Terms.{Entry}
+use Rattle.type_terms.specs.Promised.Handles.{Entry}
 use Rattle.infer_table.specs.Goals.{GoalHeld}
 use Rattle.evaluation.specs.Readings.{is_coinductive_step}
 use Rattle.declarations.specs.Applied.{references_in, TraitRefsHeld}

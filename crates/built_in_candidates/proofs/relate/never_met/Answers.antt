@@ -1,7 +1,7 @@
 use Rattle.std.proofs.Common.{◌≡◌, ap, arith, Err}
-use Rattle.type_terms.specs.Label.{bool, char, of_type}
-use Rattle.type_terms.specs.Trees.{Trees, leaf}
-use Rattle.type_terms.specs.Terms.{types, trees_at}
+use Rattle.type_terms.specs.Promised.Label.{bool, char, of_type}
+use Rattle.type_terms.specs.Promised.Trees.{Trees, leaf}
+use Rattle.type_terms.specs.Promised.Handles.{types, trees_at}
 use Rattle.type_terms.specs.Kept.{trees-is, has-later}
 use Rattle.type_terms.proofs.FailFacts.{refused-term, at-limit}
 use Rattle.evaluation.specs.FrameTables.{Equation}

@@ -1,11 +1,11 @@
 use Rattle.std.proofs.Common.{◌≡◌, [], ◌∷◌, List, map, sym, ap, ◌∙◌, subst, None}
 use Rattle.std.specs.List.{flat_map}
-use Rattle.type_terms.specs.Trees.{instantiate}
-use Rattle.type_terms.specs.Rules.{auto_struct, row, each_asked, fields_of, together}
-use Rattle.type_terms.specs.Terms.{trees_at}
+use Rattle.type_terms.specs.Promised.Trees.{instantiate}
+use Rattle.type_terms.specs.Promised.Rules.{auto_struct, row, each_asked, fields_of, together}
+use Rattle.type_terms.specs.Promised.Handles.{trees_at}
 use Rattle.type_terms.specs.declared.kinds.Ty.{Ty}
 use Rattle.term_folds.specs.Arguments.{first_misfit}
-use Rattle.declarations.specs.Merges.{Each}
+use Rattle.declarations.specs.Promised.Elaboration.{Each}
 use Rattle.declarations.specs.Unsizing.{field_trees}
 use Rattle.built_in_candidates.specs.Constituents.{premises_of, TypesHeld}
 use Rattle.built_in_candidates.proofs.Structs.{fields-fit}

@@ -1,10 +1,11 @@
 use Rattle.std.proofs.Common.{◌≡◌, ◌++◌, List, map, ap, sym, ◌∙◌, subst, None}
-use Rattle.type_terms.specs.Trees.{instantiate}
-use Rattle.type_terms.specs.Terms.{args_lists, types, trees_at}
+use Rattle.type_terms.specs.Promised.Trees.{instantiate}
+use Rattle.type_terms.specs.Terms.{args_lists}
+use Rattle.type_terms.specs.Promised.Handles.{types, trees_at}
 use Rattle.type_terms.specs.declared.kinds.Ty.{Ty}
 use Rattle.term_folds.specs.Arguments.{first_misfit}
 use Rattle.type_terms.specs.Kept.{trees-later}
-use Rattle.declarations.specs.Merges.{Each}
+use Rattle.declarations.specs.Promised.Elaboration.{Each}
 use Rattle.declarations.specs.Unsizing.{field_trees}
 use Rattle.type_terms.proofs.Grown.{grew-on}
 use Rattle.built_in_candidates.specs.Constituents.{TypesHeld}

@@ -1,10 +1,10 @@
 use Rattle.std.proofs.Common.{◌≡◌, ◌++◌, length, None, map}
-use Rattle.type_terms.specs.Trees.{instantiate}
-use Rattle.type_terms.specs.Terms.{trees_at}
+use Rattle.type_terms.specs.Promised.Trees.{instantiate}
+use Rattle.type_terms.specs.Promised.Handles.{trees_at}
 use Rattle.type_terms.specs.Growth.{Grew}
 use Rattle.type_terms.specs.declared.kinds.Ty.{Ty}
 use Rattle.term_folds.specs.Arguments.{first_misfit}
-use Rattle.declarations.specs.Merges.{Each}
+use Rattle.declarations.specs.Promised.Elaboration.{Each}
 use Rattle.declarations.specs.Unsizing.{field_trees}
 use Rattle.built_in_candidates.specs.Constituents.{TypesHeld}
 use Rattle.built_in_candidates.proofs.structural.fields_with.Given as goal

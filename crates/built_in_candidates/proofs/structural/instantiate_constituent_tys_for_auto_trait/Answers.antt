@@ -1,6 +1,7 @@
 use Rattle.std.proofs.Common.{[], ◌∷◌, sym, ap, ◌∙◌, subst}
-use Rattle.type_terms.specs.Rules.{asked, each_asked, auto_rules_plain}
-use Rattle.type_terms.specs.Terms.{types, type_lists, trees_at}
+use Rattle.type_terms.specs.Promised.Rules.{asked, each_asked, auto_rules_plain}
+use Rattle.type_terms.specs.Promised.Handles.{types, trees_at}
+use Rattle.type_terms.specs.Terms.{type_lists}
 use Rattle.type_terms.specs.Kept.{trees-is}
 use Rattle.declarations.specs.Items.{written}
 use Rattle.assembly_laws.specs.Asking.{with_plain_head}

@@ -1,6 +1,7 @@
 use Rattle.std.proofs.Common.{[], ◌∷◌, sym, ap, ◌∙◌, subst}
-use Rattle.type_terms.specs.Rules.{copy_rules, each_asked}
-use Rattle.type_terms.specs.Terms.{types, type_lists}
+use Rattle.type_terms.specs.Promised.Rules.{copy_rules, each_asked}
+use Rattle.type_terms.specs.Promised.Handles.{types}
+use Rattle.type_terms.specs.Terms.{type_lists}
 use Rattle.type_terms.specs.Kept.{trees-is}
 use Rattle.assembly_laws.specs.Asking.{with_plain_head}
 use Rattle.built_in_candidates.specs.Constituents.{premises_of, types_asked, TypesHeld}

@@ -1,6 +1,7 @@
 use Rattle.std.proofs.Common.{[], ◌∷◌, sym, ap, ◌∙◌, subst}
-use Rattle.type_terms.specs.Rules.{sized, sized_rules, last_asked}
-use Rattle.type_terms.specs.Terms.{types, type_lists}
+use Rattle.type_terms.specs.Promised.Rules.{sized, sized_rules, last_asked}
+use Rattle.type_terms.specs.Promised.Handles.{types}
+use Rattle.type_terms.specs.Terms.{type_lists}
 use Rattle.type_terms.specs.Kept.{trees-is}
 use Rattle.declarations.specs.Items.{written}
 use Rattle.assembly_laws.specs.Asking.{with_plain_head}

@@ -1,11 +1,11 @@
 use Rattle.std.proofs.Common.{◌≡◌, [], ◌∷◌, map, sym, ap, ◌∙◌, subst, None}
 use Rattle.std.specs.List.{flat_map}
-use Rattle.type_terms.specs.Trees.{instantiate}
-use Rattle.type_terms.specs.Rules.{row, sized, sized_struct, last_asked, fields_of, together}
-use Rattle.type_terms.specs.Terms.{Has, types, trees_at}
+use Rattle.type_terms.specs.Promised.Trees.{instantiate}
+use Rattle.type_terms.specs.Promised.Rules.{row, sized, sized_struct, last_asked, fields_of, together}
+use Rattle.type_terms.specs.Promised.Handles.{Has, types, trees_at}
 use Rattle.type_terms.specs.declared.kinds.Ty.{Ty}
 use Rattle.term_folds.specs.Arguments.{first_misfit}
-use Rattle.declarations.specs.Merges.{Each}
+use Rattle.declarations.specs.Promised.Elaboration.{Each}
 use Rattle.infer_table.proofs.BindFacts.{type-is}
 use Rattle.built_in_candidates.specs.Constituents.{premises_of, types_asked}
 use Rattle.built_in_candidates.proofs.Trees.{fields-last}

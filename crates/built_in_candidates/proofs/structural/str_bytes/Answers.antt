@@ -1,7 +1,7 @@
 use Rattle.std.proofs.Common.{ap, ◌∙◌, arith, Err}
-use Rattle.type_terms.specs.Label.{slice}
-use Rattle.type_terms.specs.Trees.{tree, none}
-use Rattle.type_terms.specs.Terms.{types}
+use Rattle.type_terms.specs.Promised.Label.{slice}
+use Rattle.type_terms.specs.Promised.Trees.{tree, none}
+use Rattle.type_terms.specs.Promised.Handles.{types}
 use Rattle.type_terms.specs.Kept.{trees-is}
 use Rattle.type_terms.proofs.FailFacts.{refused-term, at-limit}
 use Rattle.type_terms.proofs.Grown.{grew-on}

@@ -1,5 +1,5 @@
 use Rattle.std.proofs.Common.{None, Some, [], ◌∷◌, ap, ◌∙◌}
-use Rattle.type_terms.specs.Terms.{trees_at}
+use Rattle.type_terms.specs.Promised.Handles.{trees_at}
 use Rattle.infer_table.proofs.BindFacts.{type-is}
 use Rattle.built_in_candidates.specs.Goals.{asked_of}
 use Rattle.built_in_candidates.specs.Unsizing.{array_element_of, slice_element_of}

@@ -1,8 +1,8 @@
 use Rattle.std.proofs.Common.{[], ◌∷◌, ap, sym, ◌∙◌, subst, option_map}
 use Rattle.std.specs.Prelude.{◌==◌}
 use Rattle.std.specs.List.{slice_get}
-use Rattle.type_terms.specs.Rules.{is_coinductive, unsize}
-use Rattle.type_terms.specs.Terms.{types, trees_at}
+use Rattle.type_terms.specs.Promised.Rules.{is_coinductive, unsize}
+use Rattle.type_terms.specs.Promised.Handles.{types, trees_at}
 use Rattle.type_terms.specs.Kept.{trees-is, trees-later}
 use Rattle.term_folds.specs.Signatures.{StartsWithType}
 use Rattle.declarations.specs.Items.{written}

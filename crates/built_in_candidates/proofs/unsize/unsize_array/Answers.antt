@@ -1,5 +1,5 @@
 use Rattle.std.proofs.Common.{[], map, ap, sym, ◌∙◌, subst}
-use Rattle.type_terms.specs.Terms.{trees_at}
+use Rattle.type_terms.specs.Promised.Handles.{trees_at}
 use Rattle.evaluation.specs.Lists.{Every}
 use Rattle.evaluation.specs.Readings.{EquationHeld}
 use Rattle.evaluation.specs.StepReadings.{equation_read}

@@ -1,6 +1,6 @@
 use Rattle.std.proofs.Common.{ap, ◌∙◌}
 use Rattle.std.specs.List.{slice_get}
-use Rattle.type_terms.specs.Terms.{trees_at}
+use Rattle.type_terms.specs.Promised.Handles.{trees_at}
 use Rattle.declarations.specs.Items.{written}
 use Rattle.infer_table.proofs.BindFacts.{type-is}
 use Rattle.built_in_candidates.specs.Goals.{asked_of}

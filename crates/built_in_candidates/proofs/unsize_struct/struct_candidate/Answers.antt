@@ -1,7 +1,8 @@
 use Rattle.std.proofs.Common.{[], ◌∷◌, map, ap, ◌∙◌}
 use Rattle.type_terms.specs.Trees.{outer_binder}
-use Rattle.type_terms.specs.Rules.{with_unsizing}
-use Rattle.type_terms.specs.Terms.{types, args_lists, trees_at, Keeps}
+use Rattle.type_terms.specs.Promised.Rules.{with_unsizing}
+use Rattle.type_terms.specs.Promised.Handles.{types, trees_at, Keeps}
+use Rattle.type_terms.specs.Terms.{args_lists}
 use Rattle.term_folds.specs.Arguments.{first_misfit}
 use Rattle.type_terms.specs.Kept.{has-later, trees-later}
 use Rattle.infer_table.proofs.Numbers.{goal-held-later}

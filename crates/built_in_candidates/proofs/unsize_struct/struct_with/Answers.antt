@@ -1,4 +1,4 @@
-use Rattle.type_terms.specs.Terms.{types}
+use Rattle.type_terms.specs.Promised.Handles.{types}
 use Rattle.type_terms.specs.Kept.{trees-is}
 use Rattle.built_in_candidates.proofs.unsize_struct.struct_with.Goals as goal
 

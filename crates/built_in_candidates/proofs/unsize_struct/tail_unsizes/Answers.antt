@@ -1,8 +1,10 @@
 use Rattle.std.proofs.Common.{ap, ◌∙◌}
-use Rattle.type_terms.specs.Trees.{Trees, ◌+++◌, outer_binder, instantiate}
-use Rattle.type_terms.specs.Worlds.{Reference}
-use Rattle.type_terms.specs.Rules.{unsize}
-use Rattle.type_terms.specs.Terms.{types, args_lists, trees_at}
+use Rattle.type_terms.specs.Promised.Trees.{Trees, ◌+++◌, instantiate}
+use Rattle.type_terms.specs.Trees.{outer_binder}
+use Rattle.type_terms.specs.Promised.Worlds.{Reference}
+use Rattle.type_terms.specs.Promised.Rules.{unsize}
+use Rattle.type_terms.specs.Promised.Handles.{types, trees_at}
+use Rattle.type_terms.specs.Terms.{args_lists}
 use Rattle.term_folds.specs.Arguments.{first_misfit}
 use Rattle.type_terms.specs.Kept.{has-later, trees-later}
 use Rattle.built_in_candidates.proofs.unsize_struct.tail_unsizes.Goals as goal

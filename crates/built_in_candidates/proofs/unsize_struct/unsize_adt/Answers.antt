@@ -1,6 +1,6 @@
 use Rattle.std.proofs.Common.{ap, sym, ◌∙◌, refl}
 use Rattle.std.specs.List.{flat_map}
-use Rattle.type_terms.specs.Terms.{trees_at}
+use Rattle.type_terms.specs.Promised.Handles.{trees_at}
 use Rattle.declarations.specs.Items.{struct_in, written}
 use Rattle.assembly_laws.specs.Candidates.{unsize_by_struct}
 use Rattle.built_in_candidates.specs.Goals.{asked_of}

@@ -1,11 +1,11 @@
 use Rattle.std.proofs.Common.{◌≡◌, [], ◌∷◌, length, ap, sym, ◌∙◌, subst, None}
 use Rattle.std.proofs.lemmas.List.{length-map}
-use Rattle.type_terms.specs.Rules.{some_unsizing, last_unsizes}
-use Rattle.type_terms.specs.Terms.{Has, types, trees_at}
+use Rattle.type_terms.specs.Promised.Rules.{some_unsizing, last_unsizes}
+use Rattle.type_terms.specs.Promised.Handles.{Has, types, trees_at}
 use Rattle.type_terms.specs.declared.kinds.Ty.{Ty}
 use Rattle.term_folds.specs.Arguments.{first_misfit}
 use Rattle.declarations.specs.Applied.{sort_of_param}
-use Rattle.declarations.specs.Merges.{Each}
+use Rattle.declarations.specs.Promised.Elaboration.{Each}
 use Rattle.declarations.specs.Unsizing.{field_trees}
 use Rattle.built_in_candidates.specs.Goals.{asked_of}
 use Rattle.built_in_candidates.specs.Unsizing.{tail_asked}

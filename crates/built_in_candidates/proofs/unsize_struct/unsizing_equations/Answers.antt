@@ -1,8 +1,10 @@
 use Rattle.std.proofs.Common.{ap, arith, sym, ◌∙◌, subst, length, Err}
 use Rattle.std.proofs.lemmas.List.{length-map}
-use Rattle.type_terms.specs.Rules.{with_unsizing}
-use Rattle.type_terms.specs.Terms.{args_lists, trees_at}
-use Rattle.type_terms.specs.Kinds.{ArgsHeld, args_trees}
+use Rattle.type_terms.specs.Promised.Rules.{with_unsizing}
+use Rattle.type_terms.specs.Terms.{args_lists}
+use Rattle.type_terms.specs.Promised.Handles.{trees_at}
+use Rattle.type_terms.specs.Promised.Handles.{ArgsHeld}
+use Rattle.type_terms.specs.Kinds.{args_trees}
 use Rattle.type_terms.specs.Kept.{trees-is, has-later, trees-later}
 use Rattle.type_terms.proofs.FailFacts.{refused-term, at-limit}
 use Rattle.declarations.specs.Applied.{sort_of_param}

@@ -1,11 +1,11 @@
 use Rattle.std.proofs.Common.{ap, sym, ◌∙◌, subst}
-use Rattle.type_terms.specs.Trees.{◌+++◌, leaf}
-use Rattle.type_terms.specs.Rules.{principal_with}
-use Rattle.type_terms.specs.Terms.{bounds_lists, trees_at}
+use Rattle.type_terms.specs.Promised.Trees.{◌+++◌, leaf}
+use Rattle.type_terms.specs.Promised.Rules.{principal_with}
+use Rattle.type_terms.specs.Promised.Handles.{bounds_lists, trees_at}
 use Rattle.type_terms.specs.Kept.{has-later, trees-later}
 use Rattle.infer_table.proofs.Numbers.{goal-held-later}
 use Rattle.declarations.specs.Items.{written}
-use Rattle.declarations.specs.Merges.{Each}
+use Rattle.declarations.specs.Promised.Elaboration.{Each}
 use Rattle.declarations.proofs.Growth.{all-held, all-written}
 use Rattle.declarations.proofs.Elaborating.{have-bounds-later}
 use Rattle.assembly_laws.specs.Asking.{with_plain_head}

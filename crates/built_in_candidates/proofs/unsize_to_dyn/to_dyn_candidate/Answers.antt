@@ -1,6 +1,6 @@
 use Rattle.std.proofs.Common.{[], ◌∷◌, ◌++◌, map, ap, sym, ◌∙◌, subst}
-use Rattle.type_terms.specs.Rules.{asked, sized, autos_with, are_dyn_compatible}
-use Rattle.type_terms.specs.Terms.{Keeps, types, bounds_lists, trees_at}
+use Rattle.type_terms.specs.Promised.Rules.{asked, sized, autos_with, are_dyn_compatible}
+use Rattle.type_terms.specs.Promised.Handles.{Keeps, types, bounds_lists, trees_at}
 use Rattle.type_terms.specs.Kept.{has-later, trees-later}
 use Rattle.infer_table.proofs.Numbers.{goal-held-later}
 use Rattle.evaluation.specs.Lists.{Every}
@@ -9,9 +9,9 @@ use Rattle.evaluation.specs.Readings.{EquationHeld}
 use Rattle.evaluation.specs.StepReadings.{equation_read}
 use Rattle.declarations.specs.Items.{written}
 use Rattle.declarations.specs.Applied.{references_in, TraitRefsHeld}
-use Rattle.declarations.specs.Elaboration.{elaborate}
+use Rattle.declarations.specs.Promised.Elaboration.{elaborate}
 use Rattle.assembly_laws.specs.Candidates.{by_rule, misc}
-use Rattle.type_terms.specs.Trees.{◌+++◌, leaf}
+use Rattle.type_terms.specs.Promised.Trees.{◌+++◌, leaf}
 use Rattle.built_in_candidates.specs.Goals.{asked_of}
 use Rattle.built_in_candidates.proofs.Asking.{asked-later}
 use Rattle.built_in_candidates.proofs.ToDyn.{compatible, incompatible}

@@ -1,7 +1,7 @@
 use Rattle.std.proofs.Common.{[], ◌∷◌, ◌++◌, ap, sym, ◌∙◌, subst}
-use Rattle.type_terms.specs.Trees.{◌+++◌, leaf}
-use Rattle.type_terms.specs.Rules.{asked, sized, autos_with}
-use Rattle.type_terms.specs.Terms.{types, bounds_lists, trees_at}
+use Rattle.type_terms.specs.Promised.Trees.{◌+++◌, leaf}
+use Rattle.type_terms.specs.Promised.Rules.{asked, sized, autos_with}
+use Rattle.type_terms.specs.Promised.Handles.{types, bounds_lists, trees_at}
 use Rattle.type_terms.specs.Kept.{trees-is, has-later, trees-later}
 use Rattle.evaluation.specs.Merge.{if_there}
 use Rattle.declarations.specs.Items.{reference_in}

@@ -1,5 +1,5 @@
 use Rattle.std.proofs.Common.{ap, arith, sym, ◌∙◌, Err}
-use Rattle.type_terms.specs.Terms.{types}
+use Rattle.type_terms.specs.Promised.Handles.{types}
 use Rattle.type_terms.specs.Kept.{trees-is}
 use Rattle.type_terms.proofs.FailFacts.{refused-term, at-limit}
 use Rattle.assembly_laws.specs.Asking.{with_plain_head}

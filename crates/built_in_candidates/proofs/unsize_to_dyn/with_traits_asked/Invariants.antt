@@ -1,5 +1,5 @@
 use Rattle.std.proofs.Common.{◌≡◌, ◌++◌, length}
-use Rattle.type_terms.specs.Terms.{trees_at}
+use Rattle.type_terms.specs.Promised.Handles.{trees_at}
 use Rattle.type_terms.specs.Growth.{Grew}
 use Rattle.evaluation.specs.Merge.{if_there}
 use Rattle.declarations.specs.Applied.{references_in, TraitRefsHeld}

@@ -1,7 +1,7 @@
 use Rattle.std.proofs.Common.{◌&&◌, ap, sym, ◌∙◌}
-use Rattle.type_terms.specs.Trees.{leaf, ◌+++◌}
-use Rattle.type_terms.specs.Rules.{autos_with, upcasts_autos}
-use Rattle.type_terms.specs.Terms.{trees_at}
+use Rattle.type_terms.specs.Promised.Trees.{leaf, ◌+++◌}
+use Rattle.type_terms.specs.Promised.Rules.{autos_with, upcasts_autos}
+use Rattle.type_terms.specs.Promised.Handles.{trees_at}
 use Rattle.evaluation.specs.Merge.{if_there}
 use Rattle.declarations.specs.Items.{written}
 use Rattle.declarations.specs.Applied.{references_in}

@@ -1,9 +1,9 @@
 use Rattle.std.proofs.Common.{ap, ◌∙◌, subst}
 use Rattle.std.specs.List.{slice_get}
-use Rattle.type_terms.specs.Trees.{leaf, ◌+++◌}
-use Rattle.type_terms.specs.Terms.{trees_at}
+use Rattle.type_terms.specs.Promised.Trees.{leaf, ◌+++◌}
+use Rattle.type_terms.specs.Promised.Handles.{trees_at}
 use Rattle.declarations.specs.Items.{written}
-use Rattle.declarations.specs.Merges.{Each}
+use Rattle.declarations.specs.Promised.Elaboration.{Each}
 use Rattle.built_in_candidates.specs.Goals.{asked_of}
 use Rattle.built_in_candidates.specs.Objects.{AreArgumentsOf}
 use Rattle.built_in_candidates.proofs.Objects.{principal-any, object-applied, between-read}

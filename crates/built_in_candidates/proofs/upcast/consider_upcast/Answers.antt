@@ -1,15 +1,15 @@
 use Rattle.std.proofs.Common.{Bool, List, ◌&&◌, sym, ap, ◌∙◌}
 use Rattle.std.specs.List.{slice_get}
-use Rattle.type_terms.specs.Trees.{Trees, leaf, ◌+++◌}
-use Rattle.type_terms.specs.Worlds.{Reference}
-use Rattle.type_terms.specs.Rules.{principal_with, autos_with, are_declared, upcasts_autos}
-use Rattle.type_terms.specs.Terms.{bounds_lists, trees_at}
+use Rattle.type_terms.specs.Promised.Trees.{Trees, leaf, ◌+++◌}
+use Rattle.type_terms.specs.Promised.Worlds.{Reference}
+use Rattle.type_terms.specs.Promised.Rules.{principal_with, autos_with, are_declared, upcasts_autos}
+use Rattle.type_terms.specs.Promised.Handles.{bounds_lists, trees_at}
 use Rattle.type_terms.specs.Kept.{trees-later}
 use Rattle.infer_table.proofs.Numbers.{goal-held-later}
 use Rattle.evaluation.specs.Merge.{if_there}
 use Rattle.declarations.specs.Items.{written}
 use Rattle.declarations.specs.Applied.{references_in}
-use Rattle.declarations.specs.Elaboration.{elaborate}
+use Rattle.declarations.specs.Promised.Elaboration.{elaborate}
 use Rattle.assembly_laws.specs.Candidates.{if_so, upcasts_to}
 use Rattle.built_in_candidates.specs.Goals.{asked_of}
 use Rattle.built_in_candidates.proofs.Asking.{asked-later}

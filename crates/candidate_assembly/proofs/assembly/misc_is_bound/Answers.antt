@@ -1,7 +1,7 @@
 use Rattle.std.proofs.Common.{not, ◌&&◌, ap, sym}
 use Rattle.std.specs.Prelude.{◌==◌}
-use Rattle.type_terms.specs.Rules.{unsize}
-use Rattle.type_terms.specs.Terms.{types, trees_at}
+use Rattle.type_terms.specs.Promised.Rules.{unsize}
+use Rattle.type_terms.specs.Promised.Handles.{types, trees_at}
 use Rattle.type_terms.specs.Kept.{trees-is}
 use Rattle.candidate_assembly.proofs.Dyns.{dyn-first, no-dyn-first}
 use Rattle.candidate_assembly.proofs.assembly.misc_is_bound.Goals as goal

@@ -1,5 +1,6 @@
 use Rattle.std.proofs.Common.{sym, ap, ◌∙◌, map}
-use Rattle.type_terms.specs.Terms.{args_lists, trees_at}
+use Rattle.type_terms.specs.Terms.{args_lists}
+use Rattle.type_terms.specs.Promised.Handles.{trees_at}
 use Rattle.type_terms.specs.Kinds.{args_trees}
 use Rattle.type_terms.specs.Kept.{trees-is}
 use Rattle.infer_table.specs.Values.{sort_of_arg}

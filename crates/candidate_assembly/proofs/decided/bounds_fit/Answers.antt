@@ -1,10 +1,11 @@
 use Rattle.std.proofs.Common.{sym, ap, ◌∙◌, not}
 use Rattle.std.specs.Prelude.{◌==◌}
 use Rattle.std.specs.List.{list_any}
-use Rattle.type_terms.specs.Trees.{◌+++◌}
-use Rattle.type_terms.specs.Rules.{unsize}
-use Rattle.type_terms.specs.Terms.{bounds_lists}
-use Rattle.type_terms.specs.Kinds.{bounds_trees, region_trees}
+use Rattle.type_terms.specs.Promised.Trees.{◌+++◌}
+use Rattle.type_terms.specs.Promised.Rules.{unsize}
+use Rattle.type_terms.specs.Promised.Handles.{bounds_lists}
+use Rattle.type_terms.specs.Kinds.{bounds_trees}
+use Rattle.type_terms.specs.Promised.Handles.{region_trees}
 use Rattle.type_terms.specs.declared.TraitId.{TraitId}
 use Rattle.type_terms.specs.Kept.{trees-is}
 use Rattle.candidate_assembly.proofs.Fitting.{bounds_both, bounds-with, bounds-without}

@@ -1,8 +1,9 @@
 use Rattle.std.proofs.Common.{◌≡◌, List, length, map, ap, subst, sym, ◌∙◌, arith}
-use Rattle.type_terms.specs.Trees.{Trees, none}
-use Rattle.type_terms.specs.Worlds.{Reference}
-use Rattle.type_terms.specs.Rules.{is_coinductive}
-use Rattle.type_terms.specs.Terms.{Keeps, args_lists, trees_at}
+use Rattle.type_terms.specs.Promised.Trees.{Trees, none}
+use Rattle.type_terms.specs.Promised.Worlds.{Reference}
+use Rattle.type_terms.specs.Promised.Rules.{is_coinductive}
+use Rattle.type_terms.specs.Promised.Handles.{Keeps, trees_at}
+use Rattle.type_terms.specs.Terms.{args_lists}
 use Rattle.type_terms.specs.Kept.{trees-later}
 use Rattle.term_folds.specs.declared.predicate.TraitRef.{TraitRef}
 use Rattle.infer_table.specs.Constraints.{constraints_trees}

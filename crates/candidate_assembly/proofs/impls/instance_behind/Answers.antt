@@ -1,7 +1,9 @@
 use Rattle.std.proofs.Common.{◌≡◌, List, map, ap, subst, sym, ◌∙◌, Err, None, arith}
-use Rattle.type_terms.specs.Trees.{Trees, outer_binder}
-use Rattle.type_terms.specs.Worlds.{with_args, all_with_args}
-use Rattle.type_terms.specs.Terms.{Keeps, args_lists, trees_at}
+use Rattle.type_terms.specs.Promised.Trees.{Trees}
+use Rattle.type_terms.specs.Trees.{outer_binder}
+use Rattle.type_terms.specs.Promised.Worlds.{with_args, all_with_args}
+use Rattle.type_terms.specs.Promised.Handles.{Keeps, trees_at}
+use Rattle.type_terms.specs.Terms.{args_lists}
 use Rattle.term_folds.specs.Arguments.{first_misfit}
 use Rattle.type_terms.specs.Kept.{has-later, trees-later}
 use Rattle.term_folds.specs.declared.predicate.TraitRef.{TraitRef}
@@ -12,7 +14,7 @@ use Rattle.infer_table.specs.declared.canonical.CanonicalVarKind.{CanonicalVarKi
 use Rattle.infer_table.proofs.StepFacts.{keeps-trans}
 use Rattle.declarations.specs.Applied.{references_in, TraitRefsHeld, sort_of_param}
 use Rattle.declarations.specs.Items.{reference_in}
-use Rattle.declarations.specs.Merges.{Each}
+use Rattle.declarations.specs.Promised.Elaboration.{Each}
 use Rattle.declarations.proofs.Bounded.{all-same}
 use Rattle.declarations.proofs.Growth.{reference-same, references-kept}
 use Rattle.type_terms.proofs.Grown.{grew-on}

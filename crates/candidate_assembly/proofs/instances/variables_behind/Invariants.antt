@@ -1,5 +1,5 @@
 use Rattle.std.proofs.Common.{◌≡◌, ◌+◌, ◌++◌, drop}
-use Rattle.type_terms.specs.Kinds.{ArgsHeld}
+use Rattle.type_terms.specs.Promised.Handles.{ArgsHeld}
 use Rattle.type_terms.specs.Growth.{Grew}
 use Rattle.infer_table.specs.Values.{values_of}
 use Rattle.infer_table.specs.Raw.{variables_from}

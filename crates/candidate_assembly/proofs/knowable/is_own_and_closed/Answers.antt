@@ -1,6 +1,6 @@
 use Rattle.std.proofs.Common.{sym, ap, ◌∙◌, not, ◌&&◌}
-use Rattle.type_terms.specs.Answers.{is_closed}
-use Rattle.type_terms.specs.Terms.{trees_at}
+use Rattle.type_terms.specs.Promised.Answers.{is_closed}
+use Rattle.type_terms.specs.Promised.Handles.{trees_at}
 use Rattle.candidate_assembly.proofs.Knowing.{own-same}
 use Rattle.candidate_assembly.proofs.knowable.is_own_and_closed.Goals as goal
 

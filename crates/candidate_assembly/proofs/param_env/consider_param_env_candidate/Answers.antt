@@ -6,7 +6,7 @@ use Rattle.evaluation.specs.declared.candidate.CandidateSource.TheVariants.{Para
 use Rattle.evaluation.specs.StepReadings.{equation_read}
 use Rattle.declarations.specs.Applied.{TraitRefsHeld}
 use Rattle.assembly_laws.specs.Candidates.{by_rule, all_equal}
-use Rattle.type_terms.specs.Terms.{trees_at}
+use Rattle.type_terms.specs.Promised.Handles.{trees_at}
 use Rattle.built_in_candidates.specs.Goals.{asked_of}
 use Rattle.candidate_assembly.specs.Clauses.{references_to}
 use Rattle.built_in_candidates.proofs.Asking.{asked-later}

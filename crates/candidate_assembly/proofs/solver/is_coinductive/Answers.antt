@@ -1,5 +1,5 @@
 use Rattle.std.proofs.Common.{◌==◌, ◌||◌, sym, ap, ◌∙◌}
-use Rattle.type_terms.specs.Rules.{sized}
+use Rattle.type_terms.specs.Promised.Rules.{sized}
 use Rattle.candidate_assembly.proofs.solver.is_coinductive.Goals as goal
 
 pub returns-then-is_auto : goal.returns-then-is_auto

@@ -1,5 +1,5 @@
 use Rattle.std.proofs.Common.{◌≡◌, false, List, [], map, sym, ap, ◌∙◌, subst}
-use Rattle.type_terms.specs.Trees.{Trees, none}
+use Rattle.type_terms.specs.Promised.Trees.{Trees, none}
 use Rattle.infer_table.specs.declared.canonical.CanonicalVarKind.{CanonicalVarKind}
 use Rattle.infer_table.specs.declared.certainty.Certainty.TheVariants.{Maybe}
 use Rattle.infer_table.specs.declared.certainty.MaybeCause.TheVariants.{Ambiguity}
@@ -11,7 +11,7 @@ use Rattle.evaluation.specs.Readings.{EquationHeld}
 use Rattle.evaluation.specs.declared.candidate.CandidateSource.TheVariants.{CoherenceUnknowable}
 use Rattle.evaluation.specs.FrameTables.{Nested, Equation}
 use Rattle.evaluation.specs.StepReadings.{equation_read}
-use Rattle.type_terms.specs.Rules.{is_coinductive}
+use Rattle.type_terms.specs.Promised.Rules.{is_coinductive}
 use Rattle.declarations.specs.Items.{written}
 use Rattle.declarations.specs.Applied.{references_in, TraitRefsHeld}
 use Rattle.assembly_laws.specs.Candidates.{Candidate, premise}

@@ -1,6 +1,6 @@
 use Rattle.std.proofs.Common.{ap, ◌∙◌, sym, is_some, not}
 use Rattle.std.specs.ControlFlow.{break_value}
-use Rattle.type_terms.specs.Terms.{trees_at}
+use Rattle.type_terms.specs.Promised.Handles.{trees_at}
 use Rattle.declarations.specs.Items.{written}
 use Rattle.candidate_assembly.specs.Finding.{names_undeclared}
 use Rattle.candidate_assembly.specs.declared.visitors.FindsUndeclared.{FindsUndeclared}

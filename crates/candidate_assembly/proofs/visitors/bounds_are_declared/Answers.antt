@@ -1,5 +1,5 @@
 use Rattle.std.proofs.Common.{sym, ap, ◌∙◌, not, ◌||◌}
-use Rattle.type_terms.specs.Terms.{bounds_lists}
+use Rattle.type_terms.specs.Promised.Handles.{bounds_lists}
 use Rattle.type_terms.specs.Kinds.{autos_trees, bounds_trees}
 use Rattle.type_terms.specs.Kept.{trees-is}
 use Rattle.declarations.specs.Items.{written}

@@ -1,5 +1,5 @@
 use Rattle.std.proofs.Common.{ap, ◌∙◌, bit_and, not, ◌==◌}
-use Rattle.type_terms.specs.Terms.{trees_at}
+use Rattle.type_terms.specs.Promised.Handles.{trees_at}
 use Rattle.candidate_assembly.proofs.OpenPlaces.{flags-tell}
 use Rattle.candidate_assembly.proofs.visitors.has_open_places.Goals as goal
 

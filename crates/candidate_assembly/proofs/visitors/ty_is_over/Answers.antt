@@ -1,6 +1,6 @@
 use Rattle.std.proofs.Common.{ap, ◌∙◌, sym, is_some, not}
 use Rattle.std.specs.ControlFlow.{break_value}
-use Rattle.type_terms.specs.Terms.{trees_at}
+use Rattle.type_terms.specs.Promised.Handles.{trees_at}
 use Rattle.candidate_assembly.specs.Finding.{is_foreign}
 use Rattle.candidate_assembly.specs.declared.visitors.FindsForeign.{FindsForeign}
 use Rattle.candidate_assembly.proofs.Finding.{own-terms, type-made}

@@ -1,6 +1,6 @@
 -- The output is what `answer` promises; its definitions are large, so they are handed on, and not looked into.
 use Rattle.std.proofs.Common.{subst, refl}
-use Rattle.coherence.specs.Told.{IsToldText}
+use Rattle.coherence.specs.Promised.Told.{IsToldText}
 use Rattle.celtisdarts_c.specs.Outputs.{status_word}
 use Rattle.celtisdarts_c.specs.Told.{IsAtFront, IsTooShort}
 use Rattle.celtisdarts_c.proofs.whole.celtisdarts_run.Goals as goal

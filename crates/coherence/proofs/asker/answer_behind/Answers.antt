@@ -1,12 +1,12 @@
 use Rattle.std.proofs.Common.{◌∙◌, ◌<◌, ap, arith, length, subst, sym}
 use Rattle.std.specs.Prelude.{IfSome}
-use Rattle.text_definitions.specs.Declarations.{Declarations}
+use Rattle.text_definitions.specs.Promised.Declarations.{Declarations}
 use Rattle.workspace.specs.Numbered.{IsFew}
 use Rattle.workspace.specs.Tables.{with_question}
 use Rattle.workspace.specs.Unasked.{without_last_question}
 use Rattle.workspace.specs.Views.{question_of}
 use Rattle.sessions.specs.SeenViews.{IsLeftView}
-use Rattle.sessions.specs.Subjects.{IsOfText}
+use Rattle.sessions.specs.Promised.Subjects.{IsOfText}
 use Rattle.coherence.specs.Groups.{IsAskedIn}
 use Rattle.coherence.specs.KeptLines.{IsLineOf}
 use Rattle.coherence.specs.declared.ask_fault.AskFault.TheVariants.{Memory}

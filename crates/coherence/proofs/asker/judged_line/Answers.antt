@@ -1,4 +1,4 @@
-use Rattle.sessions.specs.Given.{verdict_in}
+use Rattle.sessions.specs.Promised.Given.{verdict_in}
 use Rattle.coherence.proofs.Answered.{verdict-of}
 use Rattle.coherence.proofs.Named.{names}
 use Rattle.coherence.proofs.asker.judged_line.Goals as goal

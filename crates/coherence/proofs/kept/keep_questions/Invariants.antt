@@ -1,6 +1,6 @@
 use Rattle.std.proofs.Common.{◌≡◌, ℕ, ◌<◌, length, Some}
 use Rattle.std.specs.List.{slice_get}
-use Rattle.sessions.specs.Subjects.{StaysOn}
+use Rattle.sessions.specs.Promised.Subjects.{StaysOn}
 use Rattle.coherence.specs.Groups.{IsAskedIn}
 use Rattle.coherence.specs.KeptLines.{IsLineOf, IsKeptLine}
 use Rattle.coherence.proofs.kept.keep_questions.Given as goal

@@ -1,4 +1,4 @@
-use Rattle.sessions.specs.Given.{later_of}
+use Rattle.sessions.specs.Promised.Given.{later_of}
 use Rattle.sessions.specs.declared.answers.LaterAnswer.TheVariants.{Compatible, Breaking}
 use Rattle.text_definitions.specs.Output.{compatible, breaking}
 use Rattle.coherence.specs.Lines.{of_version}
@@ -7,7 +7,7 @@ use Rattle.coherence.proofs.lines.later_line.Goals as goal
 use Rattle.coherence.proofs.lines.later_line.Goals.{in-Compatible+in_ok-line-in-Compatible, in-Breaking+in_ok-line-in-Breaking}
 use Rattle.std.proofs.Common.{ap}
 use Rattle.std.specs.Prelude.{Err}
-use Rattle.sessions.specs.Shortages.{terms}
+use Rattle.sessions.specs.Promised.Shortages.{terms}
 use Rattle.coherence.proofs.FullTables.{handed-on}
 
 pub check_later-requires : goal.check_later-requires

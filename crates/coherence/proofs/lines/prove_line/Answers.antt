@@ -1,4 +1,4 @@
-use Rattle.sessions.specs.Given.{answer_in}
+use Rattle.sessions.specs.Promised.Given.{answer_in}
 use Rattle.sessions.specs.declared.answers.ProveAnswer.TheVariants.{Yes, Maybe, Unproved}
 use Rattle.coherence.specs.Lines.{of_prove}
 use Rattle.coherence.proofs.Answered.{proved-of, yes-line}

@@ -1,4 +1,4 @@
-use Rattle.sessions.specs.Given.{refutation_of}
+use Rattle.sessions.specs.Promised.Given.{refutation_of}
 use Rattle.sessions.specs.declared.answers.RefuteAnswer.TheVariants.{No, Open}
 use Rattle.coherence.specs.Lines.{of_refute}
 use Rattle.coherence.proofs.Answered.{refuted-of}

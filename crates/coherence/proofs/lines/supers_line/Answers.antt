@@ -1,4 +1,4 @@
-use Rattle.sessions.specs.Given.{supers_of}
+use Rattle.sessions.specs.Promised.Given.{supers_of}
 use Rattle.sessions.specs.declared.answers.SupersAnswer.TheVariants.{Held, Missing, Undecided}
 use Rattle.text_definitions.specs.Output.{held, missing, undecided}
 use Rattle.coherence.specs.Lines.{of_headers}

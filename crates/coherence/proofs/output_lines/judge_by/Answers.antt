@@ -1,6 +1,6 @@
 use Rattle.std.proofs.Common.{◌∙◌, sym}
 use Rattle.std.proofs.lemmas.Result.{err_from_is_err_and}
-use Rattle.sessions.specs.Given.{verdict_in}
+use Rattle.sessions.specs.Promised.Given.{verdict_in}
 use Rattle.coherence.proofs.Answered.{verdict-of}
 use Rattle.coherence.proofs.FullTables.{handed-on}
 use Rattle.coherence.proofs.KeptLines.{stays-on}

@@ -3,12 +3,13 @@ use Rattle.std.specs.Io.KnownBytes.{Appends}
 use Rattle.std.specs.List.{flat_map}
 use Rattle.std.proofs.KnownBytes.{Appends-nil}
 use Rattle.std.proofs.lemmas.Result.{err_from_is_err_and}
-use Rattle.text_definitions.specs.Declarations.{Declarations}
+use Rattle.text_definitions.specs.Promised.Declarations.{Declarations}
 use Rattle.text_definitions.specs.Output.{output_text}
 use Rattle.text_definitions.specs.Text.{TextGives}
-use Rattle.coherence.specs.LineByLine.{OutputProgress, IsAfterLine, IsLineAt, status_of}
-use Rattle.coherence.specs.Told.{IsToldText}
-use Rattle.coherence.specs.Streams.{AppendsPrefix}
+use Rattle.coherence.specs.LineByLine.{OutputProgress, IsAfterLine, IsLineAt}
+use Rattle.coherence.specs.Promised.Told.{status_of}
+use Rattle.coherence.specs.Promised.Told.{IsToldText}
+use Rattle.coherence.specs.Promised.Streams.{AppendsPrefix}
 use Rattle.coherence.specs.declared.status.RunFault.{RunFault}
 use Rattle.coherence.specs.declared.status.Status.{Status}
 use Rattle.coherence.proofs.Told.{FirstLines, no_lines, and_line, all-lines, some-lines, all-given}

@@ -1,6 +1,7 @@
 use Rattle.std.proofs.Common.{suc, ◌∷◌, sym, ap, ◌∙◌, subst}
-use Rattle.type_terms.specs.Terms.{trees_at}
-use Rattle.type_terms.specs.Kinds.{ArgsHeld, TysHeld, args_trees, tys_trees}
+use Rattle.type_terms.specs.Promised.Handles.{trees_at}
+use Rattle.type_terms.specs.Promised.Handles.{ArgsHeld}
+use Rattle.type_terms.specs.Kinds.{TysHeld, args_trees, tys_trees}
 use Rattle.declarations.specs.Apart.{may_meet}
 use Rattle.declarations.specs.Tops.{PartsHeld, left_parts, right_parts}
 use Rattle.declarations.proofs.Meeting.{no-items, no-more-args, args-ended, args-differ, args-go-on, no-more-tys, tys-ended, tys-differ, tys-go-on, arrays-meet}

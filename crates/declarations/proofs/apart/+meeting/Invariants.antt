@@ -1,5 +1,6 @@
 use Rattle.std.proofs.Common.{◌≡◌, ◌+◌, ◌*◌, suc, length}
-use Rattle.type_terms.specs.Kinds.{ArgsHeld, TysHeld, args_trees, tys_trees}
+use Rattle.type_terms.specs.Promised.Handles.{ArgsHeld}
+use Rattle.type_terms.specs.Kinds.{TysHeld, args_trees, tys_trees}
 use Rattle.declarations.specs.Apart.{may_meet}
 use Rattle.declarations.proofs.apart.+meeting.Given as goal
 

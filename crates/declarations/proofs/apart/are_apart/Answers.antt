@@ -1,5 +1,6 @@
 use Rattle.std.proofs.Common.{sym, ap, ◌∙◌}
-use Rattle.type_terms.specs.Terms.{args_lists, trees_at}
+use Rattle.type_terms.specs.Terms.{args_lists}
+use Rattle.type_terms.specs.Promised.Handles.{trees_at}
 use Rattle.type_terms.proofs.Members.{same-number}
 use Rattle.declarations.proofs.Meeting.{not-apart-itself, fixed-apart, one-handle, two-numbers}
 use Rattle.declarations.proofs.apart.are_apart.Goals as goal

@@ -1,5 +1,5 @@
 use Rattle.std.proofs.Common.{suc, sym, ap, ◌∙◌}
-use Rattle.type_terms.specs.Terms.{bounds_lists, trees_at}
+use Rattle.type_terms.specs.Promised.Handles.{bounds_lists, trees_at}
 use Rattle.type_terms.specs.Kept.{trees-is}
 use Rattle.type_terms.specs.Kinds.{bounds_trees}
 use Rattle.declarations.specs.Apart.{may_meet}

@@ -1,5 +1,5 @@
 use Rattle.std.proofs.Common.{suc, ◌||◌, ◌&&◌, not, sym, ap, ◌∙◌}
-use Rattle.type_terms.specs.Terms.{trees_at}
+use Rattle.type_terms.specs.Promised.Handles.{trees_at}
 use Rattle.declarations.specs.Apart.{may_meet}
 use Rattle.declarations.specs.Heads.{label_of}
 use Rattle.declarations.proofs.Keys.{head-tells}

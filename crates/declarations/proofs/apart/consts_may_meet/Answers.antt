@@ -1,6 +1,6 @@
 use Rattle.std.proofs.Common.{suc, sym, ap, ◌∙◌}
-use Rattle.type_terms.specs.Trees.{leaf}
-use Rattle.type_terms.specs.Terms.{consts, trees_at}
+use Rattle.type_terms.specs.Promised.Trees.{leaf}
+use Rattle.type_terms.specs.Promised.Handles.{consts, trees_at}
 use Rattle.type_terms.specs.Kept.{trees-is}
 use Rattle.type_terms.specs.Kinds.{const_label}
 use Rattle.declarations.specs.Apart.{may_meet}

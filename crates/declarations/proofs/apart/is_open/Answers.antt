@@ -1,8 +1,8 @@
 use Rattle.std.proofs.Common.{sym, ap, ◌∙◌}
-use Rattle.type_terms.specs.Kinds.{ArgHeld, arg_trees}
+use Rattle.type_terms.specs.Promised.Handles.{ArgHeld, arg_trees}
 use Rattle.std.proofs.Common.{subst}
 use Rattle.declarations.specs.Tops.{top_is_open}
-use Rattle.type_terms.specs.Terms.{trees_at}
+use Rattle.type_terms.specs.Promised.Handles.{trees_at}
 use Rattle.declarations.proofs.Meeting.{type-node, open-top}
 use Rattle.declarations.proofs.apart.is_open.Goals as goal
 

@@ -1,5 +1,5 @@
 use Rattle.std.proofs.Common.{◌||◌, sym, ap, ◌∙◌}
-use Rattle.type_terms.specs.Kinds.{arg_trees}
+use Rattle.type_terms.specs.Promised.Handles.{arg_trees}
 use Rattle.declarations.specs.Tops.{top_is_open}
 use Rattle.declarations.proofs.Meeting.{unlike-meet}
 use Rattle.declarations.proofs.apart.unlike_may_meet.Goals as goal

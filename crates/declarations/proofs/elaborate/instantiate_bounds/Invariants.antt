@@ -1,9 +1,9 @@
 use Rattle.std.proofs.Common.{◌≡◌, ◌++◌, length, None}
-use Rattle.type_terms.specs.Worlds.{all_with_args}
-use Rattle.type_terms.specs.Terms.{trees_at}
+use Rattle.type_terms.specs.Promised.Worlds.{all_with_args}
+use Rattle.type_terms.specs.Promised.Handles.{trees_at}
 use Rattle.term_folds.specs.Arguments.{first_misfit}
 use Rattle.type_terms.specs.Growth.{Grew}
-use Rattle.declarations.specs.Merges.{Each}
+use Rattle.declarations.specs.Promised.Elaboration.{Each}
 use Rattle.declarations.specs.Applied.{references_in, TraitRefsHeld}
 use Rattle.declarations.proofs.elaborate.instantiate_bounds.Given as goal
 

@@ -1,7 +1,7 @@
 use Rattle.std.proofs.Common.{◌≡◌, length}
-use Rattle.type_terms.specs.Rules.{is_unsizing}
-use Rattle.type_terms.specs.Terms.{Has, types}
-use Rattle.declarations.specs.Merges.{Each}
+use Rattle.type_terms.specs.Promised.Rules.{is_unsizing}
+use Rattle.type_terms.specs.Promised.Handles.{Has, types}
+use Rattle.declarations.specs.Promised.Elaboration.{Each}
 use Rattle.declarations.specs.Unsizing.{field_trees}
 use Rattle.declarations.proofs.unsizing.is_unsizing_param.Given as goal
 

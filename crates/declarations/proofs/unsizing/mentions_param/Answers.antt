@@ -1,4 +1,4 @@
-use Rattle.type_terms.specs.Terms.{trees_at}
+use Rattle.type_terms.specs.Promised.Handles.{trees_at}
 use Rattle.declarations.proofs.Unsized.{value-finds}
 use Rattle.declarations.proofs.unsizing.mentions_param.Goals as goal
 

@@ -1,6 +1,6 @@
 use Rattle.std.proofs.Common.{◌≡◌, ℕ, ◌≤◌, ◌++◌, length, drop, ap, sym, ◌∙◌, subst}
-use Rattle.type_terms.specs.Label.{Sort}
-use Rattle.type_terms.specs.Terms.{Keeps}
+use Rattle.type_terms.specs.Promised.Label.{Sort}
+use Rattle.type_terms.specs.Promised.Handles.{Keeps}
 use Rattle.type_terms.specs.Kinds.{args_trees}
 use Rattle.type_terms.specs.Kept.{args-held-later, args-trees-later}
 use Rattle.infer_table.specs.Content.{content, variables_of, AllConstraintsHeld}

@@ -3,7 +3,8 @@ use Rattle.std.specs.Slice.Iter.{iter_rest}
 use Rattle.std.specs.Iterator.Adapters.{zip_first, zip_second}
 use Rattle.std.proofs.lemmas.Result.{err_from_is_err_and}
 use Rattle.std.proofs.lemmas.Slice.Zip.{zip_turn}
-use Rattle.type_terms.specs.Kinds.{ArgHeld, args_trees}
+use Rattle.type_terms.specs.Promised.Handles.{ArgHeld}
+use Rattle.type_terms.specs.Kinds.{args_trees}
 use Rattle.type_terms.proofs.InfoFacts.{arg-held-at}
 use Rattle.type_terms.specs.Kept.{arg-held-later}
 use Rattle.infer_table.specs.Solutions.{Binding, Equates, HasNoSolution}

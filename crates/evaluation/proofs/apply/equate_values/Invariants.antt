@@ -1,5 +1,5 @@
 use Rattle.std.proofs.Common.{◌≡◌, List, length, drop}
-use Rattle.type_terms.specs.Terms.{Keeps}
+use Rattle.type_terms.specs.Promised.Handles.{Keeps}
 use Rattle.type_terms.specs.Kinds.{args_trees}
 use Rattle.infer_table.specs.Solutions.{Binding, Equates, HasNoSolution}
 use Rattle.infer_table.specs.Content.{content, Ready, Grows}

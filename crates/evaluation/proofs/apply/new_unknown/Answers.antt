@@ -1,5 +1,5 @@
 use Rattle.std.proofs.Common.{ap, Err, arith}
-use Rattle.type_terms.specs.Terms.{types, consts}
+use Rattle.type_terms.specs.Promised.Handles.{types, consts}
 use Rattle.type_terms.proofs.FailFacts.{refused-term, at-limit}
 use Rattle.evaluation.proofs.apply.new_unknown.Goals as goal
 

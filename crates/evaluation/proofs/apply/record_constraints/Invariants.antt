@@ -1,7 +1,7 @@
 use Rattle.std.proofs.Common.{◌≡◌, take, List}
 use Rattle.indexmap.specs.IndexSet.{insert_all}
 use Rattle.infer_table.specs.contracts.terms.RegionConstraintPartialEq.TheImpl.{ghosts as constraint}
-use Rattle.type_terms.specs.Terms.{Entry}
+use Rattle.type_terms.specs.Promised.Handles.{Entry}
 use Rattle.infer_table.specs.Content.{Ready, Grows, AllConstraintsHeld}
 use Rattle.evaluation.proofs.apply.record_constraints.Given as goal
 

@@ -1,6 +1,6 @@
 use Rattle.std.proofs.Common.{◌≡◌, ◌<◌, length, get_or, ap, sym, ◌∙◌, subst, arith, Option}
 use Rattle.std.specs.Prelude.{IfSome, option_map, unwrap_or}
-use Rattle.type_terms.specs.Kinds.{ArgHeld}
+use Rattle.type_terms.specs.Promised.Handles.{ArgHeld}
 use Rattle.type_terms.specs.declared.kinds.GenericArgKind.{GenericArgKind}
 use Rattle.type_terms.specs.Kept.{args-held-later}
 use Rattle.infer_table.specs.declared.canonical.CanonicalVarKind.TheVariants.{Ty}

@@ -1,6 +1,6 @@
 use Rattle.std.proofs.Common.{rules, arith, ◌≡◌, ◌-◌, ◌⊎◌, inl, inr, true, false, not, Ok, [], ◌∷◌, ◌++◌, map, length, take, drop, Some, None, Err, refl, sym, subst, ap, ◌∙◌}
 use Rattle.std.proofs.lemmas.List.{map-append}
-use Rattle.type_terms.specs.Terms.{Keeps}
+use Rattle.type_terms.specs.Promised.Handles.{Keeps}
 use Rattle.type_terms.specs.Kept.{args-held-later}
 use Rattle.infer_table.specs.Values.{values_of, values-later}
 use Rattle.evaluation.specs.Lists.{Every}

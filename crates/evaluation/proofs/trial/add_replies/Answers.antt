@@ -1,7 +1,7 @@
 use Rattle.std.proofs.Common.{◌≡◌, [], ◌∷◌, ◌++◌, ◌+◌, drop, refl, ap, sym, ◌∙◌, subst, List}
 use Rattle.std.specs.Prelude.{option_map}
 use Rattle.std.proofs.lemmas.List.{map-append}
-use Rattle.type_terms.specs.Terms.{Entry}
+use Rattle.type_terms.specs.Promised.Handles.{Entry}
 use Rattle.infer_table.specs.Responses.{answer_trees}
 use Rattle.infer_table.proofs.Values.{past-end}
 use Rattle.evaluation.specs.Lists.{Every}

@@ -1,5 +1,5 @@
 use Rattle.std.proofs.Common.{◌≡◌, ◌++◌, List, drop}
-use Rattle.type_terms.specs.Terms.{Entry}
+use Rattle.type_terms.specs.Promised.Handles.{Entry}
 use Rattle.evaluation.specs.Lists.{Every}
 use Rattle.evaluation.specs.Readings.{ResultHeld}
 use Rattle.evaluation.specs.Evaluating.{replies_trees}

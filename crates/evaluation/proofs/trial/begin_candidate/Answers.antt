@@ -1,5 +1,5 @@
 use Rattle.std.proofs.Common.{ap, sym, subst, Err}
-use Rattle.type_terms.specs.Terms.{Keeps}
+use Rattle.type_terms.specs.Promised.Handles.{Keeps}
 use Rattle.evaluation.specs.Frames.{begun}
 use Rattle.evaluation.specs.OpenCandidates.{StandsAt}
 use Rattle.evaluation.specs.Trial.{spec_trees, candidate, asked}

@@ -1,6 +1,6 @@
 use Rattle.std.proofs.Common.{ap, ◌∙◌, Err}
-use Rattle.type_terms.specs.Terms.{Keeps}
-use Rattle.type_terms.specs.Kinds.{arg_trees}
+use Rattle.type_terms.specs.Promised.Handles.{Keeps}
+use Rattle.type_terms.specs.Promised.Handles.{arg_trees}
 use Rattle.type_terms.specs.Kept.{arg-held-later, args-held-later, arg-trees-later}
 use Rattle.infer_table.specs.Kept.{ready-later}
 use Rattle.infer_table.specs.Unification.{table_trees}

@@ -1,5 +1,5 @@
 use Rattle.std.proofs.Common.{◌≡◌, map, drop}
-use Rattle.type_terms.specs.Terms.{Keeps}
+use Rattle.type_terms.specs.Promised.Handles.{Keeps}
 use Rattle.infer_table.specs.Content.{Ready}
 use Rattle.infer_table.specs.Unification.{table_trees}
 use Rattle.infer_table.specs.Values.{values_of}

@@ -1,6 +1,6 @@
 use Rattle.std.proofs.Common.{◌≡◌, List, [], ◌++◌, map, ap, sym, ◌∙◌, subst, Option}
-use Rattle.type_terms.specs.Terms.{Keeps}
-use Rattle.type_terms.specs.Kinds.{ArgsHeld}
+use Rattle.type_terms.specs.Promised.Handles.{Keeps}
+use Rattle.type_terms.specs.Promised.Handles.{ArgsHeld}
 use Rattle.infer_table.specs.Unification.{table_trees}
 use Rattle.infer_table.specs.Content.{Table, Ready}
 use Rattle.infer_table.proofs.PairFacts.{table-kept}

@@ -1,5 +1,5 @@
 use Rattle.std.proofs.Common.{◌≡◌, []}
-use Rattle.type_terms.specs.Kinds.{arg_trees}
+use Rattle.type_terms.specs.Promised.Handles.{arg_trees}
 use Rattle.term_folds.specs.Folds.{FoldsEach}
 use Rattle.type_terms.specs.Pieces.{one_piece}
 use Rattle.infer_table.specs.Values.{values_of, filled, filling}

@@ -1,6 +1,6 @@
 use Rattle.std.proofs.Common.{◌≡◌, ◌*◌, List, map, length, sym, ◌∙◌, ap, subst, IfOk}
 use Rattle.infer_table.specs.declared.goal.Goal.{Goal}
-use Rattle.type_terms.specs.Terms.{Keeps}
+use Rattle.type_terms.specs.Promised.Handles.{Keeps}
 use Rattle.type_terms.specs.Kept.{args-held-later}
 use Rattle.infer_table.specs.Kept.{ready-later}
 use Rattle.infer_table.proofs.PairFacts.{table-kept}

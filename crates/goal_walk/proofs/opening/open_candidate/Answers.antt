@@ -1,5 +1,5 @@
 use Rattle.std.proofs.Common.{sym, subst}
-use Rattle.type_terms.specs.Kinds.{ArgsHeld}
+use Rattle.type_terms.specs.Promised.Handles.{ArgsHeld}
 use Rattle.type_terms.specs.Kept.{args-held-later}
 use Rattle.infer_table.specs.Kept.{ready-later}
 use Rattle.evaluation.specs.Lists.{Every}

@@ -1,5 +1,5 @@
 use Rattle.std.proofs.Common.{sym, subst, ◌∙◌, ap, ◌++◌}
-use Rattle.type_terms.specs.Kinds.{ArgsHeld}
+use Rattle.type_terms.specs.Promised.Handles.{ArgsHeld}
 use Rattle.type_terms.specs.Kept.{args-held-later}
 use Rattle.infer_table.proofs.PartFacts.{args-held-append}
 use Rattle.goal_walk.proofs.opening.values_of.Goals as goal

@@ -1,7 +1,8 @@
 use Rattle.std.proofs.Common.{refl, ◌≡◌, ap, sym, ◌∙◌, subst, false, [], Err, arith}
 use Rattle.std.specs.Prelude.{map}
-use Rattle.type_terms.specs.Trees.{none, ◌+++◌}
-use Rattle.type_terms.specs.Terms.{Keeps, args_lists, trees_at}
+use Rattle.type_terms.specs.Promised.Trees.{none, ◌+++◌}
+use Rattle.type_terms.specs.Promised.Handles.{Keeps, trees_at}
+use Rattle.type_terms.specs.Terms.{args_lists}
 use Rattle.type_terms.specs.Kinds.{args_trees}
 use Rattle.type_terms.specs.Kept.{append-both, trees-is, trees-later}
 use Rattle.infer_table.proofs.FullFacts.{memory-at-limit}

@@ -1,5 +1,5 @@
 use Rattle.std.proofs.Common.{◌≡◌, take}
-use Rattle.type_terms.specs.Terms.{Keeps}
+use Rattle.type_terms.specs.Promised.Handles.{Keeps}
 use Rattle.infer_table.specs.Goals.{ClausesHeld, ClausesFold}
 use Rattle.infer_table.proofs.goal.fold_clauses.Given as goal
 

@@ -1,5 +1,5 @@
 use Rattle.std.proofs.Common.{◌≡◌, ◌≤◌, length, true, false, [], drop, ap, sym, ◌∙◌, subst, arith}
-use Rattle.type_terms.specs.Terms.{trees_at}
+use Rattle.type_terms.specs.Promised.Handles.{trees_at}
 use Rattle.term_folds.specs.Clauses.{ClauseHeld}
 use Rattle.infer_table.specs.Canonical.{kind_in_clause, kind_of_leaf, leaves}
 use Rattle.infer_table.specs.Goals.{ClausesHeld, environment_trees, predicate_trees}

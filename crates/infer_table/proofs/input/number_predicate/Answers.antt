@@ -1,6 +1,6 @@
 use Rattle.std.proofs.Common.{◌≡◌, false, true, ap, sym, ◌∙◌}
 use Rattle.std.specs.Prelude.{Result, Ok, Err, IfOk}
-use Rattle.type_terms.specs.Terms.{trees_at}
+use Rattle.type_terms.specs.Promised.Handles.{trees_at}
 use Rattle.type_terms.specs.declared.Fault.{Fault}
 use Rattle.infer_table.specs.Canonical.{canonical_label}
 use Rattle.infer_table.specs.Goals.{predicate_trees}

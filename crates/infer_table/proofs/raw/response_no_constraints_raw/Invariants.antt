@@ -1,6 +1,6 @@
 use Rattle.std.proofs.Common.{◌≡◌, ◌++◌, drop}
-use Rattle.type_terms.specs.Terms.{Keeps}
-use Rattle.type_terms.specs.Kinds.{ArgsHeld}
+use Rattle.type_terms.specs.Promised.Handles.{Keeps}
+use Rattle.type_terms.specs.Promised.Handles.{ArgsHeld}
 use Rattle.infer_table.specs.Values.{values_of}
 use Rattle.infer_table.specs.Raw.{variables_from}
 use Rattle.infer_table.proofs.raw.response_no_constraints_raw.Given as goal

@@ -1,5 +1,5 @@
 use Rattle.std.proofs.Common.{◌≡◌, sym, subst, List}
-use Rattle.type_terms.specs.Trees.{Trees}
+use Rattle.type_terms.specs.Promised.Trees.{Trees}
 use Rattle.type_terms.specs.Kinds.{args_trees}
 use Rattle.infer_table.specs.Solutions.{Binding, Solves, instance}
 use Rattle.infer_table.specs.Content.{content, variables_of}

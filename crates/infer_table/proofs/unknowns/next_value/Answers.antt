@@ -1,6 +1,6 @@
 use Rattle.infer_table.specs.Kept.{ready-later}
 use Rattle.std.proofs.Common.{ap, Err, arith}
-use Rattle.type_terms.specs.Terms.{types, consts}
+use Rattle.type_terms.specs.Promised.Handles.{types, consts}
 use Rattle.type_terms.proofs.FailFacts.{refused-term, at-limit}
 use Rattle.infer_table.proofs.unknowns.next_value.Goals as goal
 

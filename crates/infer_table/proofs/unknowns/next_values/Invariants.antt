@@ -1,5 +1,5 @@
 use Rattle.std.proofs.Common.{◌≡◌, take}
-use Rattle.type_terms.specs.Terms.{Keeps}
+use Rattle.type_terms.specs.Promised.Handles.{Keeps}
 use Rattle.infer_table.specs.Content.{Ready, Grows}
 use Rattle.infer_table.specs.Leaves.{AreLeaves, labels}
 use Rattle.infer_table.specs.Unknowns.{next_labels, with_each}

@@ -1,4 +1,4 @@
-use Rattle.type_terms.specs.Terms.{types}
+use Rattle.type_terms.specs.Promised.Handles.{types}
 use Rattle.type_terms.specs.Kept.{has-later}
 use Rattle.layer_tests.proofs.slice_candidates.equation.Goals as goal
 

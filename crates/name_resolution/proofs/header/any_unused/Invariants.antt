@@ -2,7 +2,7 @@ use Rattle.std.proofs.Common.{◌≡◌, ℕ, List, drop, map}
 use Rattle.std.specs.Prelude.{not}
 use Rattle.std.specs.List.{list_any}
 use Rattle.line_reader.specs.TokenViews.{text_of}
-use Rattle.text_definitions.specs.Faults.{is_among}
+use Rattle.text_definitions.specs.Promised.Faults.{is_among}
 use Rattle.name_resolution.specs.UsedNames.{Holds}
 use Rattle.name_resolution.proofs.header.any_unused.Given as goal
 

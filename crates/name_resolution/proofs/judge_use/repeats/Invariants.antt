@@ -1,6 +1,6 @@
 use Rattle.std.proofs.Common.{◌≡◌, ◌≤◌, length, drop, map, false}
 use Rattle.line_reader.specs.TokenViews.{text_of}
-use Rattle.text_definitions.specs.Faults.{repeats}
+use Rattle.text_definitions.specs.Promised.Faults.{repeats}
 use Rattle.name_resolution.specs.UsedNames.{Holds}
 use Rattle.name_resolution.proofs.judge_use.repeats.Given as goal
 

@@ -1,7 +1,7 @@
 use Rattle.std.proofs.Common.{◌≡◌, drop, map}
 use Rattle.std.specs.Prelude.{is_some}
 use Rattle.std.specs.List.{list_any}
-use Rattle.text_definitions.specs.Declarations.{known}
+use Rattle.text_definitions.specs.Promised.Declarations.{known}
 use Rattle.line_reader.specs.TokenViews.{text_of}
 use Rattle.name_resolution.specs.Machine.{items}
 use Rattle.name_resolution.proofs.params.any_known.Given as goal

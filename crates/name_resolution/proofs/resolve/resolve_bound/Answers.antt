@@ -1,6 +1,6 @@
 use Rattle.std.proofs.Common.{length, reverse, sym, ap, ◌∙◌}
-use Rattle.text_definitions.specs.Syntax.{named}
-use Rattle.text_definitions.specs.Declarations.{known}
+use Rattle.text_definitions.specs.Promised.Syntax.{named}
+use Rattle.text_definitions.specs.Promised.Declarations.{known}
 use Rattle.text_definitions.specs.Lowering.{trait_number}
 use Rattle.line_reader.specs.TypeViews.{cells_in}
 use Rattle.name_resolution.specs.Back.{args_back}

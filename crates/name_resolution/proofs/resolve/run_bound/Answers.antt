@@ -1,6 +1,6 @@
 use Rattle.std.proofs.Common.{◌≡◌, ℕ, List, ◌∷◌, [], length, Some, true, false, ap, ◌∙◌}
-use Rattle.type_terms.specs.Label.{Sort}
-use Rattle.text_definitions.specs.Declarations.{known}
+use Rattle.type_terms.specs.Promised.Label.{Sort}
+use Rattle.text_definitions.specs.Promised.Declarations.{known}
 use Rattle.text_definitions.specs.Uses.{trait_use, args_count, kinds_of_trait}
 use Rattle.name_resolution.specs.Back.{count_above}
 use Rattle.name_resolution.specs.Machine.{WalkFrame, items, findings, noting, args_inside}

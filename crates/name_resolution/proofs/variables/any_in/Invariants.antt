@@ -1,6 +1,6 @@
 use Rattle.std.proofs.Common.{◌≡◌, ℕ, List, drop, map}
 use Rattle.std.specs.List.{list_any}
-use Rattle.type_terms.specs.Label.{Sort}
+use Rattle.type_terms.specs.Promised.Label.{Sort}
 use Rattle.text_definitions.specs.Faults.{is_of_other_kind}
 use Rattle.name_resolution.specs.Views.{variable_in}
 use Rattle.name_resolution.specs.Variables.{HoldsKinds}

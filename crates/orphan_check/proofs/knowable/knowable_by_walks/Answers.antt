@@ -1,6 +1,6 @@
 use Rattle.std.proofs.Common.{inl, inr, sym, subst, ◌≡◌, true, false, rules, Err}
 use Rattle.std.specs.Option.{is_some}
-use Rattle.type_terms.specs.Terms.{trees_at}
+use Rattle.type_terms.specs.Promised.Handles.{trees_at}
 use Rattle.orphan_check.specs.declared.errors.InCrate.TheVariants.{Local, Remote}
 use Rattle.orphan_check.specs.declared.errors.OrphanCheckMode.TheVariants.{Proper}
 use Rattle.orphan_check.specs.Steps.{reading, steps}

@@ -1,11 +1,12 @@
 use Rattle.std.proofs.Common.{◌∙◌, ap}
-use Rattle.type_terms.specs.Trees.{◌+++◌}
-use Rattle.type_terms.specs.Terms.{bounds_lists}
-use Rattle.type_terms.specs.Kinds.{region_trees, bounds_trees}
+use Rattle.type_terms.specs.Promised.Trees.{◌+++◌}
+use Rattle.type_terms.specs.Promised.Handles.{bounds_lists}
+use Rattle.type_terms.specs.Promised.Handles.{region_trees}
+use Rattle.type_terms.specs.Kinds.{bounds_trees}
 use Rattle.type_terms.specs.Kept.{trees-is}
 use Rattle.declarations.specs.Items.{declared}
 use Rattle.orphan_check.specs.Steps.{home_in}
-use Rattle.orphan_check.specs.Looks.{dyn_look}
+use Rattle.type_terms.specs.Promised.OrphanErrors.{dyn_look}
 use Rattle.orphan_check.proofs.Looking.{no-principal}
 use Rattle.orphan_check.proofs.look.take_dyn.Goals as goal
 

@@ -1,7 +1,9 @@
 use Rattle.std.proofs.Common.{◌≡◌, arith, sym, ap, ◌∙◌}
 use Rattle.type_terms.specs.Trees.{depth}
-use Rattle.type_terms.specs.Terms.{args_lists, trees_at}
-use Rattle.type_terms.specs.Kinds.{ArgHeld, args_trees}
+use Rattle.type_terms.specs.Terms.{args_lists}
+use Rattle.type_terms.specs.Promised.Handles.{trees_at}
+use Rattle.type_terms.specs.Promised.Handles.{ArgHeld}
+use Rattle.type_terms.specs.Kinds.{args_trees}
 use Rattle.type_terms.specs.Kept.{trees-is}
 use Rattle.type_terms.proofs.Items.{arg-held-at}
 use Rattle.declarations.specs.Items.{declared}

@@ -1,7 +1,9 @@
 use Rattle.std.proofs.Common.{◌≡◌, ◌+◌, ◌*◌, take, None}
 use Rattle.type_terms.specs.Trees.{depth}
-use Rattle.type_terms.specs.Terms.{Is, args_lists, trees_at}
-use Rattle.type_terms.specs.Kinds.{ArgsHeld, arg_trees, args_trees}
+use Rattle.type_terms.specs.Promised.Handles.{Is, trees_at}
+use Rattle.type_terms.specs.Terms.{args_lists}
+use Rattle.type_terms.specs.Promised.Handles.{ArgsHeld, arg_trees}
+use Rattle.type_terms.specs.Kinds.{args_trees}
 use Rattle.orphan_check.specs.Decisive.{decisive_in}
 use Rattle.orphan_check.proofs.open_walk.+written.Given as goal
 

@@ -1,5 +1,5 @@
 use Rattle.std.proofs.Common.{◌≡◌, sym, ◌∙◌, subst, None}
-use Rattle.type_terms.specs.Terms.{trees_at}
+use Rattle.type_terms.specs.Promised.Handles.{trees_at}
 use Rattle.declarations.specs.Items.{declared}
 use Rattle.orphan_check.specs.Decisive.{decisive_in}
 use Rattle.orphan_check.proofs.OpenWalk.{closed-decides, off}

@@ -1,6 +1,6 @@
 use Rattle.std.proofs.Common.{sym, ap, ◌∙◌, None}
-use Rattle.type_terms.specs.Walks.{visited}
-use Rattle.type_terms.specs.Terms.{trees_at}
+use Rattle.type_terms.specs.Promised.Walks.{visited}
+use Rattle.type_terms.specs.Promised.Handles.{trees_at}
 use Rattle.declarations.specs.Items.{declared}
 use Rattle.orphan_check.specs.Decisive.{is_uncovered}
 use Rattle.orphan_check.proofs.OpenWalk.{meets-open}

@@ -1,6 +1,6 @@
 use Rattle.std.proofs.Common.{sym, ap, ◌∙◌, ◌||◌, Some}
-use Rattle.type_terms.specs.Walks.{visited, until_decisive, ends_local}
-use Rattle.type_terms.specs.Terms.{trees_at}
+use Rattle.type_terms.specs.Promised.Walks.{visited, until_decisive, ends_local}
+use Rattle.type_terms.specs.Promised.Handles.{trees_at}
 use Rattle.declarations.specs.Items.{declared}
 use Rattle.orphan_check.specs.Walks.{is_local}
 use Rattle.orphan_check.proofs.OpenWalk.{meets-local}

@@ -1,7 +1,8 @@
 use Rattle.std.proofs.Common.{◌≡◌, ℕ, false, List, ◌∷◌, ◌<◌, ◌==◌, length, refl, sym, ap, ◌∙◌, subst, arith, Err}
 use Rattle.std.proofs.lemmas.Bool.Decides.{nat_tests}
 use Rattle.std.proofs.lemmas.Result.{err_from_is_err_and}
-use Rattle.type_terms.specs.Kinds.{ArgsHeld, args_trees}
+use Rattle.type_terms.specs.Promised.Handles.{ArgsHeld}
+use Rattle.type_terms.specs.Kinds.{args_trees}
 use Rattle.type_terms.proofs.Grown.{grew-on}
 use Rattle.infer_table.specs.Solutions.{Equates, HasNoSolution}
 use Rattle.infer_table.specs.Content.{content}

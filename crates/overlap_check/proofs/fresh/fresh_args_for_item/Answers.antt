@@ -1,13 +1,15 @@
 use Rattle.std.proofs.Common.{◌≡◌, ℕ, List, ◌∷◌, ◌++◌, [], map, ap, sym, ◌∙◌, subst, Ok, Err, arith}
 use Rattle.std.specs.Prelude.{Result, IfErr, OnErr}
-use Rattle.type_terms.specs.Trees.{◌+++◌}
+use Rattle.type_terms.specs.Promised.Trees.{◌+++◌}
 use Rattle.type_terms.proofs.TreeLaws.{append-none}
-use Rattle.type_terms.specs.Terms.{Entry, Is, args_lists, held, trees_at}
-use Rattle.type_terms.specs.Failures.{SomeKindIsFull}
+use Rattle.type_terms.specs.Promised.Handles.{Entry, Is, held, trees_at}
+use Rattle.type_terms.specs.Terms.{args_lists}
+use Rattle.type_terms.specs.Promised.Handles.{SomeKindIsFull}
 use Rattle.type_terms.specs.declared.Fault.{Fault}
 use Rattle.type_terms.specs.declared.Fault.TheVariants.{Full}
 use Rattle.type_terms.proofs.FailFacts.{refused-term}
-use Rattle.type_terms.specs.Kinds.{ArgsHeld, args_trees}
+use Rattle.type_terms.specs.Promised.Handles.{ArgsHeld}
+use Rattle.type_terms.specs.Kinds.{args_trees}
 use Rattle.type_terms.specs.declared.kinds.GenericArgs.{GenericArgs}
 use Rattle.type_terms.specs.Kept.{args-held-later, trees-is}
 use Rattle.type_terms.proofs.Grown.{grew-on}

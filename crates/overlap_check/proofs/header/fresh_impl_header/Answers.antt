@@ -1,7 +1,8 @@
 use Rattle.std.proofs.Common.{◌≡◌, ap, ◌∙◌, map}
 use Rattle.type_terms.specs.Trees.{outer_binder}
-use Rattle.type_terms.specs.Worlds.{with_args}
-use Rattle.type_terms.specs.Terms.{args_lists, trees_at}
+use Rattle.type_terms.specs.Promised.Worlds.{with_args}
+use Rattle.type_terms.specs.Terms.{args_lists}
+use Rattle.type_terms.specs.Promised.Handles.{trees_at}
 use Rattle.type_terms.specs.Kept.{has-later, trees-later}
 use Rattle.infer_table.specs.Kept.{ready-later}
 use Rattle.declarations.specs.Applied.{sort_of_param}

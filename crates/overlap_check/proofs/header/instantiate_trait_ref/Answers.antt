@@ -1,9 +1,9 @@
 use Rattle.std.proofs.Common.{ap, ◌∙◌, [], ◌∷◌, Err}
 use Rattle.term_folds.specs.declared.instantiate.InstantiateError.TheVariants as error
-use Rattle.type_terms.specs.Terms.{trees_at}
+use Rattle.type_terms.specs.Promised.Handles.{trees_at}
 use Rattle.term_folds.specs.declared.predicate.TraitRef.{TraitRef}
 use Rattle.type_terms.specs.Pieces.{each_piece, one_piece}
-use Rattle.type_terms.specs.Trees.{instantiate}
+use Rattle.type_terms.specs.Promised.Trees.{instantiate}
 use Rattle.declarations.proofs.Bounded.{one-instantiated}
 use Rattle.overlap_check.proofs.header.instantiate_trait_ref.Goals as goal
 

@@ -1,6 +1,6 @@
 use Rattle.std.proofs.Common.{sym, ap, ◌∙◌}
-use Rattle.type_terms.specs.Terms.{trees_at}
-use Rattle.type_terms.specs.Worlds.{Reference}
+use Rattle.type_terms.specs.Promised.Handles.{trees_at}
+use Rattle.type_terms.specs.Promised.Worlds.{Reference}
 use Rattle.overlap_check.proofs.Tops.{apart-never-meet}
 use Rattle.overlap_check.proofs.heads.headers_differ.Goals as goal
 

@@ -1,7 +1,7 @@
 use Rattle.std.proofs.Common.{ap, refl, sym, ◌∙◌, subst, map, Ok, Some}
 use Rattle.std.specs.Prelude.{IfSome}
-use Rattle.type_terms.specs.Erased.{erased_impl}
-use Rattle.type_terms.specs.Worlds.{all_with_args}
+use Rattle.type_terms.specs.Promised.Erased.{erased_impl}
+use Rattle.type_terms.specs.Promised.Worlds.{all_with_args}
 use Rattle.infer_table.specs.Content.{content}
 use Rattle.infer_table.specs.Kept.{ready-later}
 use Rattle.infer_table.specs.Applied.{solved_in_turn}

@@ -1,5 +1,5 @@
 use Rattle.std.proofs.Common.{ap}
-use Rattle.type_terms.specs.Worlds.{Reference}
+use Rattle.type_terms.specs.Promised.Worlds.{Reference}
 use Rattle.infer_table.specs.Content.{content}
 use Rattle.overlap_check.proofs.Solved.{ready-facts}
 use Rattle.overlap_check.proofs.Pairs.{apart, has-goals}

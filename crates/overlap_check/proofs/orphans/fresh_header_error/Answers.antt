@@ -1,6 +1,6 @@
 use Rattle.std.proofs.Common.{ap, ◌∙◌, subst}
-use Rattle.type_terms.specs.Erased.{erased_reference}
-use Rattle.type_terms.specs.Terms.{trees_at}
+use Rattle.type_terms.specs.Promised.Erased.{erased_reference}
+use Rattle.type_terms.specs.Promised.Handles.{trees_at}
 use Rattle.infer_table.specs.Content.{Table}
 use Rattle.declarations.specs.Items.{declared, reference_in}
 use Rattle.overlap_check.specs.Headers.{sorts_of_impl, IsHeaderOver}

@@ -1,5 +1,5 @@
 use Rattle.std.proofs.Common.{sym, ◌∙◌}
-use Rattle.type_terms.specs.Erased.{erased_reference}
+use Rattle.type_terms.specs.Promised.Erased.{erased_reference}
 use Rattle.declarations.specs.Items.{declared, reference_in}
 use Rattle.overlap_check.proofs.Judged.{own-keeps}
 use Rattle.overlap_check.proofs.orphans.header_error.Goals as goal

@@ -1,5 +1,5 @@
 use Rattle.std.proofs.Common.{sym, ◌∙◌}
-use Rattle.type_terms.specs.Erased.{erased_impl}
+use Rattle.type_terms.specs.Promised.Erased.{erased_impl}
 use Rattle.declarations.specs.Items.{declared, impl_in}
 use Rattle.overlap_check.specs.Orphans.{IsErrorOf, IsHeaderError}
 use Rattle.overlap_check.proofs.Judged.{ok-then, not-there, own-home, other-home, found-well}

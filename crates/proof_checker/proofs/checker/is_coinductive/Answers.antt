@@ -1,7 +1,7 @@
 use Rattle.std.proofs.Common.{◌==◌, ◌||◌, [], ap, sym, ◌∙◌}
 use Rattle.std.specs.List.{list_any}
-use Rattle.type_terms.specs.Rules.{sized}
-use Rattle.type_terms.specs.Worlds.{TraitDecl}
+use Rattle.type_terms.specs.Promised.Rules.{sized}
+use Rattle.type_terms.specs.Promised.Worlds.{TraitDecl}
 use Rattle.proof_checker.proofs.checker.is_coinductive.Goals as goal
 
 pub returns-then-def : goal.returns-then-def

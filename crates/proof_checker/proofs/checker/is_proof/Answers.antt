@@ -1,6 +1,6 @@
 use Rattle.std.proofs.Common.{◌≡◌, ◌<◌, ◌++◌, inl, inr, ap, sym, ◌∙◌, subst, Some, arith}
 use Rattle.std.specs.List.{slice_get}
-use Rattle.type_terms.specs.Proofs.{In}
+use Rattle.type_terms.specs.Promised.Proofs.{In}
 use Rattle.type_terms.proofs.Grown.{grew-on}
 use Rattle.declarations.specs.Items.{declared}
 use Rattle.declarations.specs.Held.{ReferenceHeld}

@@ -1,9 +1,9 @@
 use Rattle.std.proofs.Common.{◌≡◌, ◌++◌, [], refl, ap, sym, ◌∙◌, subst, take}
 use Rattle.std.specs.Prelude.{IfSome, List}
-use Rattle.type_terms.specs.Worlds.{Reference}
-use Rattle.type_terms.specs.Rules as rule
-use Rattle.type_terms.specs.Rules.{is_coinductive}
-use Rattle.type_terms.specs.Proofs.{In, Every}
+use Rattle.type_terms.specs.Promised.Worlds.{Reference}
+use Rattle.type_terms.specs.Promised.Rules as rule
+use Rattle.type_terms.specs.Promised.Rules.{is_coinductive}
+use Rattle.type_terms.specs.Promised.Proofs.{In, Every}
 use Rattle.declarations.specs.Items.{declared}
 use Rattle.proof_checker.specs.Checked.{IsRuleByWay, IsBuiltInRule, PremisesStand}
 use Rattle.proof_checker.specs.Steps.{term_of, terms_of, steps_say, at_places, assumed_in, IsWayOf, StepHeld, WayHeld}

@@ -1,5 +1,5 @@
 use Rattle.std.proofs.Common.{◌≡◌, length, take}
-use Rattle.type_terms.specs.Proofs.{In, Every}
+use Rattle.type_terms.specs.Promised.Proofs.{In, Every}
 use Rattle.declarations.specs.Applied.{TraitRefsHeld}
 use Rattle.type_terms.specs.Growth.{Grew}
 use Rattle.proof_checker.specs.Steps.{terms_of, steps_say, at_places}

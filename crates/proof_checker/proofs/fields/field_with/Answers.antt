@@ -1,6 +1,6 @@
 use Rattle.std.proofs.Common.{◌≡◌, ap, sym, ◌∙◌, subst, None, Err}
-use Rattle.type_terms.specs.Trees.{instantiate}
-use Rattle.type_terms.specs.Terms.{Has, types, trees_at}
+use Rattle.type_terms.specs.Promised.Trees.{instantiate}
+use Rattle.type_terms.specs.Promised.Handles.{Has, types, trees_at}
 use Rattle.type_terms.specs.declared.kinds.Ty.{Ty}
 use Rattle.type_terms.specs.Pieces.{each_piece, one_piece}
 use Rattle.term_folds.specs.Arguments.{first_misfit}

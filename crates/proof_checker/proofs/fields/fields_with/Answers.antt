@@ -1,13 +1,15 @@
 use Rattle.std.proofs.Common.{refl, ◌≡◌, ◌++◌, List, map, ap, sym, ◌∙◌, subst, None, append-nil}
 use Rattle.std.specs.Prelude.{IfSome}
-use Rattle.type_terms.specs.Trees.{instantiate, outer_binder}
+use Rattle.type_terms.specs.Promised.Trees.{instantiate}
+use Rattle.type_terms.specs.Trees.{outer_binder}
 use Rattle.type_terms.specs.Kinds.{TysHeld}
-use Rattle.type_terms.specs.Terms.{Has, args_lists, types, trees_at}
+use Rattle.type_terms.specs.Promised.Handles.{Has, types, trees_at}
+use Rattle.type_terms.specs.Terms.{args_lists}
 use Rattle.type_terms.specs.declared.kinds.Ty.{Ty}
 use Rattle.term_folds.specs.Arguments.{first_misfit}
 use Rattle.type_terms.specs.Kept.{trees-later, has-later}
 use Rattle.type_terms.proofs.Grown.{grew-on}
-use Rattle.declarations.specs.Merges.{Each}
+use Rattle.declarations.specs.Promised.Elaboration.{Each}
 use Rattle.declarations.specs.Unsizing.{field_trees}
 use Rattle.proof_checker.proofs.PartRows.{types-more, one-more-type}
 use Rattle.proof_checker.proofs.Results.{not-ok, none-each, memory-at-limit}

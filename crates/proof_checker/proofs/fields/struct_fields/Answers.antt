@@ -1,12 +1,12 @@
 use Rattle.std.proofs.Common.{◌≡◌, List, [], ◌∷◌, map, sym, subst, None, ◌∙◌}
-use Rattle.type_terms.specs.Erased.{erased_struct}
+use Rattle.type_terms.specs.Promised.Erased.{erased_struct}
 use Rattle.type_terms.specs.Kinds.{TysHeld}
-use Rattle.type_terms.specs.Terms.{Entry, Has, types, trees_at}
-use Rattle.type_terms.specs.Trees.{instantiate}
+use Rattle.type_terms.specs.Promised.Handles.{Entry, Has, types, trees_at}
+use Rattle.type_terms.specs.Promised.Trees.{instantiate}
 use Rattle.type_terms.specs.declared.kinds.Ty.{Ty}
 use Rattle.term_folds.specs.Arguments.{first_misfit}
 use Rattle.declarations.specs.Items.{struct_in}
-use Rattle.declarations.specs.Merges.{Each}
+use Rattle.declarations.specs.Promised.Elaboration.{Each}
 use Rattle.declarations.specs.Unsizing.{field_trees}
 use Rattle.proof_checker.proofs.Impls.{args-made}
 use Rattle.proof_checker.proofs.PartRows.{fields-erased}

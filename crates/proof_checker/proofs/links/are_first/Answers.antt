@@ -1,9 +1,9 @@
 use Rattle.std.proofs.Common.{◌≡◌, refl, ap, sym, ◌∙◌, subst, ◌∷◌, ◌++◌, List}
-use Rattle.type_terms.specs.Worlds.{Reference}
+use Rattle.type_terms.specs.Promised.Worlds.{Reference}
 use Rattle.type_terms.proofs.Grown.{grew-on}
 use Rattle.declarations.specs.Applied.{TraitRefsHeld}
 use Rattle.declarations.proofs.Growth.{reference-same}
-use Rattle.type_terms.specs.Erased.{erased_reference}
+use Rattle.type_terms.specs.Promised.Erased.{erased_reference}
 use Rattle.proof_checker.specs.Checked.{AreFirstOf}
 use Rattle.proof_checker.specs.Steps.{term_of, terms_of}
 use Rattle.proof_checker.proofs.links.are_first.Goals as goal

@@ -1,8 +1,8 @@
 use Rattle.std.proofs.Common.{◌≡◌, ap, sym, ◌∙◌, subst, map, List, ◌++◌}
 use Rattle.std.specs.Prelude.{IfSome}
-use Rattle.type_terms.specs.Erased.{erased_reference}
-use Rattle.type_terms.specs.Rules.{built_in}
-use Rattle.type_terms.specs.Worlds.{Reference}
+use Rattle.type_terms.specs.Promised.Erased.{erased_reference}
+use Rattle.type_terms.specs.Promised.Rules.{built_in}
+use Rattle.type_terms.specs.Promised.Worlds.{Reference}
 use Rattle.declarations.specs.Items.{declared}
 use Rattle.declarations.specs.Held.{ReferenceHeld}
 use Rattle.declarations.proofs.Growth.{each-kept, reference-kept}

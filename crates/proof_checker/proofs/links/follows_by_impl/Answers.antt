@@ -1,7 +1,7 @@
 use Rattle.std.proofs.Common.{◌≡◌, ap, sym, ◌∙◌, subst, map, ◌++◌}
 use Rattle.std.specs.Prelude.{IfSome}
-use Rattle.type_terms.specs.Rules as rule
-use Rattle.type_terms.specs.Erased.{erased_reference}
+use Rattle.type_terms.specs.Promised.Rules as rule
+use Rattle.type_terms.specs.Promised.Erased.{erased_reference}
 use Rattle.declarations.specs.Items.{declared}
 use Rattle.declarations.specs.Held.{ReferenceHeld}
 use Rattle.declarations.proofs.Growth.{each-kept, reference-kept}

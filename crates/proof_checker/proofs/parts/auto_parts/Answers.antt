@@ -1,10 +1,11 @@
 use Rattle.std.proofs.Common.{refl, ◌≡◌, [], ◌∷◌, List, sym, ap, ◌∙◌, subst}
 use Rattle.type_terms.specs.Kept.{trees-is}
 use Rattle.type_terms.specs.Kinds.{TysHeld}
-use Rattle.type_terms.specs.Label.{slice, uint}
-use Rattle.type_terms.specs.Rules.{asked, auto_rules_plain, each_asked}
-use Rattle.type_terms.specs.Terms.{types, type_lists, trees_at}
-use Rattle.type_terms.specs.Trees.{erase, leaf, none, tree}
+use Rattle.type_terms.specs.Promised.Label.{slice, uint}
+use Rattle.type_terms.specs.Promised.Rules.{asked, auto_rules_plain, each_asked}
+use Rattle.type_terms.specs.Promised.Handles.{types, trees_at}
+use Rattle.type_terms.specs.Terms.{type_lists}
+use Rattle.type_terms.specs.Promised.Trees.{erase, leaf, none, tree}
 use Rattle.type_terms.specs.declared.kinds.Ty.{Ty}
 use Rattle.declarations.specs.Items.{declared}
 use Rattle.proof_checker.specs.Rows.{IsOneRow, each_asked_of}

@@ -2,9 +2,9 @@ use Rattle.std.proofs.Common.{◌≡◌, ◌∙◌, ℕ, Bool, true, not, ◌||�
 use Rattle.std.specs.Prelude.{is_some}
 use Rattle.std.specs.List.{list_any}
 use Rattle.std.specs.Option.{option_map}
-use Rattle.type_terms.specs.Terms.{trees_at}
-use Rattle.type_terms.specs.Trees.{erase}
-use Rattle.type_terms.specs.Worlds.{TraitDecl}
+use Rattle.type_terms.specs.Promised.Handles.{trees_at}
+use Rattle.type_terms.specs.Promised.Trees.{erase}
+use Rattle.type_terms.specs.Promised.Worlds.{TraitDecl}
 use Rattle.type_terms.specs.declared.ImplId.{ImplId}
 use Rattle.declarations.specs.Items.{declared}
 use Rattle.proof_checker.proofs.PartRows.{own-rule}

@@ -1,7 +1,7 @@
 use Rattle.std.proofs.Common.{sym, subst}
-use Rattle.type_terms.specs.Rules.{sized}
-use Rattle.type_terms.specs.Terms.{trees_at}
-use Rattle.type_terms.specs.Trees.{erase}
+use Rattle.type_terms.specs.Promised.Rules.{sized}
+use Rattle.type_terms.specs.Promised.Handles.{trees_at}
+use Rattle.type_terms.specs.Promised.Trees.{erase}
 use Rattle.declarations.specs.Items.{declared}
 use Rattle.proof_checker.specs.Rows.{HasRow, each_asked_of}
 use Rattle.proof_checker.proofs.Results.{mapped-some}

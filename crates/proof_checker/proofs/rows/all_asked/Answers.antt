@@ -1,9 +1,9 @@
 use Rattle.std.proofs.Common.{refl, ◌≡◌, ◌++◌, ap, sym, ◌∙◌, subst, append-nil}
 use Rattle.type_terms.specs.Kept.{trees-later, has-later}
 use Rattle.type_terms.specs.Kinds.{TysHeld}
-use Rattle.type_terms.specs.Rules.{asked}
-use Rattle.type_terms.specs.Terms.{types, trees_at}
-use Rattle.type_terms.specs.Trees.{erase}
+use Rattle.type_terms.specs.Promised.Rules.{asked}
+use Rattle.type_terms.specs.Promised.Handles.{types, trees_at}
+use Rattle.type_terms.specs.Promised.Trees.{erase}
 use Rattle.type_terms.proofs.Grown.{grew-on, grew-none}
 use Rattle.type_terms.proofs.FailFacts.{at-limit}
 use Rattle.declarations.specs.Applied.{TraitRefsHeld}

@@ -1,8 +1,9 @@
 use Rattle.std.proofs.Common.{◌≡◌, sym, ap, ◌∙◌, subst}
 use Rattle.type_terms.specs.Kept.{trees-is}
-use Rattle.type_terms.specs.Rules.{copy_rules, each_asked}
-use Rattle.type_terms.specs.Terms.{types, type_lists, trees_at}
-use Rattle.type_terms.specs.Trees.{erase}
+use Rattle.type_terms.specs.Promised.Rules.{copy_rules, each_asked}
+use Rattle.type_terms.specs.Promised.Handles.{types, trees_at}
+use Rattle.type_terms.specs.Terms.{type_lists}
+use Rattle.type_terms.specs.Promised.Trees.{erase}
 use Rattle.proof_checker.specs.Rows.{IsOneRow, each_asked_of}
 use Rattle.proof_checker.proofs.TypeRows.{tys-asked}
 use Rattle.proof_checker.proofs.Results.{not-ok}

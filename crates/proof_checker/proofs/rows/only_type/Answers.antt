@@ -1,7 +1,9 @@
 use Rattle.std.proofs.Common.{[], ◌∷◌, ap, ◌∙◌, sym, subst}
 use Rattle.type_terms.specs.Kept.{trees-is}
-use Rattle.type_terms.specs.Kinds.{ArgHeld, ArgsHeld, args_trees}
-use Rattle.type_terms.specs.Terms.{args_lists, trees_at}
+use Rattle.type_terms.specs.Promised.Handles.{ArgHeld, ArgsHeld}
+use Rattle.type_terms.specs.Kinds.{args_trees}
+use Rattle.type_terms.specs.Terms.{args_lists}
+use Rattle.type_terms.specs.Promised.Handles.{trees_at}
 use Rattle.type_terms.proofs.TreeLaws.{append-none}
 use Rattle.proof_checker.proofs.TypeRows.{empty-of}
 use Rattle.proof_checker.proofs.rows.only_type.Goals as goal

@@ -1,9 +1,10 @@
 use Rattle.std.proofs.Common.{◌≡◌, sym, ap, ◌∙◌, subst}
 use Rattle.type_terms.specs.Kept.{trees-is}
 use Rattle.type_terms.specs.Kinds.{TysHeld}
-use Rattle.type_terms.specs.Rules.{sized, sized_rules, last_asked}
-use Rattle.type_terms.specs.Terms.{types, type_lists, trees_at}
-use Rattle.type_terms.specs.Trees.{erase}
+use Rattle.type_terms.specs.Promised.Rules.{sized, sized_rules, last_asked}
+use Rattle.type_terms.specs.Promised.Handles.{types, trees_at}
+use Rattle.type_terms.specs.Terms.{type_lists}
+use Rattle.type_terms.specs.Promised.Trees.{erase}
 use Rattle.proof_checker.specs.Rows.{IsOneRow, each_asked_of}
 use Rattle.proof_checker.proofs.TypeRows.{tys-last, held-last}
 use Rattle.proof_checker.proofs.rows.sized_types.Goals as goal

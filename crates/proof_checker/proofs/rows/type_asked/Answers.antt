@@ -1,9 +1,11 @@
 use Rattle.std.proofs.Common.{refl, ◌≤◌, ap, sym, subst, ◌∙◌, arith, Err}
 use Rattle.type_terms.specs.Kept.{trees-is}
-use Rattle.type_terms.specs.Kinds.{ArgsHeld, args_trees}
-use Rattle.type_terms.specs.Rules.{asked}
-use Rattle.type_terms.specs.Terms.{args_lists, bounds_lists, trees_at}
-use Rattle.type_terms.specs.Trees.{erase}
+use Rattle.type_terms.specs.Promised.Handles.{ArgsHeld}
+use Rattle.type_terms.specs.Kinds.{args_trees}
+use Rattle.type_terms.specs.Promised.Rules.{asked}
+use Rattle.type_terms.specs.Terms.{args_lists}
+use Rattle.type_terms.specs.Promised.Handles.{bounds_lists, trees_at}
+use Rattle.type_terms.specs.Promised.Trees.{erase}
 use Rattle.type_terms.proofs.FailFacts.{refused-term, at-limit}
 use Rattle.type_terms.proofs.TreeLaws.{append-none}
 use Rattle.type_terms.proofs.Grown.{grew-none}

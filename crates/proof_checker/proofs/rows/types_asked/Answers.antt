@@ -1,7 +1,7 @@
 use Rattle.std.proofs.Common.{[], sym, subst}
-use Rattle.type_terms.specs.Rules.{sized, copy, clone, tuple_trait, fn_ptr_trait, copy_rules}
-use Rattle.type_terms.specs.Terms.{trees_at}
-use Rattle.type_terms.specs.Trees.{erase}
+use Rattle.type_terms.specs.Promised.Rules.{sized, copy, clone, tuple_trait, fn_ptr_trait, copy_rules}
+use Rattle.type_terms.specs.Promised.Handles.{trees_at}
+use Rattle.type_terms.specs.Promised.Trees.{erase}
 use Rattle.proof_checker.specs.Rows.{HasRow, IsOneRow, each_asked_of}
 use Rattle.proof_checker.proofs.Results.{mapped-some, mapped-if}
 use Rattle.proof_checker.proofs.TypeRows.{sized-row, copy-row, clone-row, tuple-row, fn-ptr-row}

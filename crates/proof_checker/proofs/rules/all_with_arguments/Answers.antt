@@ -1,7 +1,8 @@
 use Rattle.std.proofs.Common.{refl, ◌≡◌, ◌++◌, ap, sym, ◌∙◌, subst, None, append-nil}
 use Rattle.std.specs.Prelude.{IfSome}
-use Rattle.type_terms.specs.Worlds.{with_args, all_with_args}
-use Rattle.type_terms.specs.Terms.{args_lists, trees_at}
+use Rattle.type_terms.specs.Promised.Worlds.{with_args, all_with_args}
+use Rattle.type_terms.specs.Terms.{args_lists}
+use Rattle.type_terms.specs.Promised.Handles.{trees_at}
 use Rattle.term_folds.specs.Arguments.{first_misfit}
 use Rattle.term_folds.specs.declared.predicate.TraitRef.{TraitRef}
 use Rattle.type_terms.specs.Kept.{trees-later, has-later}
@@ -9,7 +10,7 @@ use Rattle.type_terms.proofs.Grown.{grew-on, grew-none}
 use Rattle.type_terms.proofs.FailFacts.{at-limit}
 use Rattle.declarations.specs.Items.{reference_in}
 use Rattle.declarations.specs.Held.{ReferenceHeld}
-use Rattle.declarations.specs.Merges.{Each}
+use Rattle.declarations.specs.Promised.Elaboration.{Each}
 use Rattle.declarations.specs.Applied.{references_in, TraitRefsHeld}
 use Rattle.declarations.proofs.Growth.{reference-same, reference-kept}
 use Rattle.declarations.proofs.Bounded.{held-more, one-more}

@@ -1,17 +1,18 @@
 use Rattle.std.proofs.Common.{◌≡◌, ◌==◌, [], ap, sym, ◌∙◌, subst, map, None}
 use Rattle.std.specs.Prelude.{IfSome}
-use Rattle.type_terms.specs.Worlds.{ImplDecl, with_args, all_with_args}
-use Rattle.type_terms.specs.Erased.{erased_reference}
-use Rattle.type_terms.specs.Proofs.{In}
+use Rattle.type_terms.specs.Promised.Worlds.{ImplDecl, with_args, all_with_args}
+use Rattle.type_terms.specs.Promised.Erased.{erased_reference}
+use Rattle.type_terms.specs.Promised.Proofs.{In}
 use Rattle.type_terms.proofs.Members.{here, in-filter}
-use Rattle.type_terms.specs.Terms.{args_lists, trees_at}
+use Rattle.type_terms.specs.Terms.{args_lists}
+use Rattle.type_terms.specs.Promised.Handles.{trees_at}
 use Rattle.type_terms.specs.Kept.{trees-later, has-later}
 use Rattle.term_folds.specs.Arguments.{first_misfit}
 use Rattle.term_folds.specs.declared.predicate.TraitRef.{TraitRef}
 use Rattle.type_terms.proofs.FailFacts.{at-limit}
 use Rattle.declarations.specs.Items.{reference_in, impl_in, written}
 use Rattle.declarations.specs.Held.{ReferenceHeld}
-use Rattle.declarations.specs.Merges.{Each}
+use Rattle.declarations.specs.Promised.Elaboration.{Each}
 use Rattle.declarations.specs.Applied.{references_in, TraitRefsHeld}
 use Rattle.declarations.proofs.Growth.{reference-same, reference-kept, each-kept}
 use Rattle.declarations.proofs.Bounded.{all-same}

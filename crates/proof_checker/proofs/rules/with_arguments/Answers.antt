@@ -1,8 +1,8 @@
 use Rattle.std.proofs.Common.{◌≡◌, ◌∙◌, ap, sym, subst, None, Err}
-use Rattle.type_terms.specs.Terms.{trees_at}
-use Rattle.type_terms.specs.Trees.{instantiate}
+use Rattle.type_terms.specs.Promised.Handles.{trees_at}
+use Rattle.type_terms.specs.Promised.Trees.{instantiate}
 use Rattle.type_terms.specs.Pieces.{one_piece}
-use Rattle.type_terms.specs.Worlds.{with_args}
+use Rattle.type_terms.specs.Promised.Worlds.{with_args}
 use Rattle.term_folds.specs.Arguments.{first_misfit}
 use Rattle.term_folds.specs.declared.instantiate.InstantiateError.TheVariants as error
 use Rattle.term_folds.specs.declared.predicate.TraitRef.{TraitRef}

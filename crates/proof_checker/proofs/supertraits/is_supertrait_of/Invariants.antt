@@ -1,5 +1,5 @@
 use Rattle.declarations.specs.Items.{declared}
-use Rattle.declarations.specs.Merges.{Each}
+use Rattle.declarations.specs.Promised.Elaboration.{Each}
 use Rattle.type_terms.specs.Growth.{Grew}
 use Rattle.proof_checker.specs.Steps.{term_of}
 use Rattle.proof_checker.proofs.Above.{IsAbove}

@@ -1,11 +1,11 @@
 use Rattle.std.proofs.Common.{◌≡◌, ap, ◌∙◌, sym, subst, None}
 use Rattle.std.specs.Prelude.{IfSome}
-use Rattle.type_terms.specs.Worlds.{all_with_args}
-use Rattle.type_terms.specs.Terms.{trees_at}
+use Rattle.type_terms.specs.Promised.Worlds.{all_with_args}
+use Rattle.type_terms.specs.Promised.Handles.{trees_at}
 use Rattle.term_folds.specs.Arguments.{first_misfit}
 use Rattle.term_folds.specs.declared.predicate.TraitRef.{TraitRef}
 use Rattle.declarations.specs.Applied.{references_in, TraitRefsHeld}
-use Rattle.declarations.specs.Merges.{Each}
+use Rattle.declarations.specs.Promised.Elaboration.{Each}
 use Rattle.proof_checker.proofs.Above.{supertraits-are}
 use Rattle.type_terms.proofs.Grown.{grew-none}
 use Rattle.proof_checker.proofs.Results.{none-each, not-ok}

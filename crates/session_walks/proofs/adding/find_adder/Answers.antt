@@ -1,10 +1,10 @@
 use Rattle.std.proofs.Common.{Some, sym, subst}
 use Rattle.std.specs.Prelude.{IfSome, ℕ}
-use Rattle.type_terms.specs.Worlds.{World}
+use Rattle.type_terms.specs.Promised.Worlds.{World}
 use Rattle.declarations.specs.Held.{ReferenceHeld}
 use Rattle.declarations.specs.Items.{declared, reference_in}
-use Rattle.sessions.specs.Promises.{view_in}
-use Rattle.sessions.specs.Subjects.{Subject}
+use Rattle.sessions.specs.Promised.Promises.{view_in}
+use Rattle.sessions.specs.Promised.Subjects.{Subject}
 use Rattle.session_walks.specs.Adding.{MayAdd}
 use Rattle.session_walks.specs.Unseen.{IsUnseen}
 use Rattle.session_walks.proofs.adding.find_adder.Goals as goal

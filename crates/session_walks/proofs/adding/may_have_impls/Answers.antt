@@ -1,5 +1,5 @@
 use Rattle.std.proofs.Common.{◌∙◌, ◌&&◌, ap, not, refl, sym}
-use Rattle.type_terms.specs.Rules.{is_auto}
+use Rattle.type_terms.specs.Promised.Rules.{is_auto}
 use Rattle.declarations.specs.Items.{declared, written}
 use Rattle.candidate_assembly.proofs.Knowing.{traits-erased}
 use Rattle.session_walks.proofs.adding.may_have_impls.Goals as goal

@@ -1,7 +1,7 @@
 use Rattle.std.proofs.Common.{ap, sym, subst}
 use Rattle.std.specs.Prelude.{IfSome}
 use Rattle.declarations.proofs.Growth.{reference-kept}
-use Rattle.type_terms.specs.Erased.{erased_world}
+use Rattle.type_terms.specs.Promised.Erased.{erased_world}
 use Rattle.proof_checker.proofs.Later.{term-same}
 use Rattle.proof_checker.proofs.Results.{mapped}
 use Rattle.sessions.specs.Checking.{rules_in}

@@ -1,5 +1,5 @@
 use Rattle.std.proofs.Common.{◌≡◌, ◌∙◌, true, ap, sym, subst}
-use Rattle.type_terms.specs.Terms.{trees_at}
+use Rattle.type_terms.specs.Promised.Handles.{trees_at}
 use Rattle.type_terms.proofs.Grown.{grew-on}
 use Rattle.term_folds.specs.Signatures.{StartsWithType}
 use Rattle.declarations.specs.Items.{declared, reference_in}

@@ -1,5 +1,5 @@
 use Rattle.std.proofs.Common.{subst}
-use Rattle.type_terms.specs.Erased.{erased_impl}
+use Rattle.type_terms.specs.Promised.Erased.{erased_impl}
 use Rattle.declarations.specs.Items.{declared, impl_in}
 use Rattle.overlap_check.proofs.Judged.{found-well, one-named}
 use Rattle.proof_checker.specs.Steps.{term_of}

@@ -1,6 +1,6 @@
 use Rattle.std.proofs.Common.{sym, subst}
 use Rattle.declarations.specs.Items.{reference_in}
-use Rattle.sessions.specs.Promises.{view_in}
+use Rattle.sessions.specs.Promised.Promises.{view_in}
 use Rattle.session_walks.specs.Claims.{AddersHold}
 use Rattle.session_walks.specs.Unseen.{IsUnseen}
 use Rattle.session_walks.proofs.ClaimsLater.{one-adder}

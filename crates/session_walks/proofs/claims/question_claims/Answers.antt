@@ -1,5 +1,5 @@
 use Rattle.std.proofs.Common.{sym, subst}
-use Rattle.sessions.specs.Promises.{view_in}
+use Rattle.sessions.specs.Promised.Promises.{view_in}
 use Rattle.session_walks.specs.Rules.{AreChecked}
 use Rattle.session_walks.proofs.ClaimsLater.{checked-on, of-candidates}
 use Rattle.session_walks.proofs.claims.question_claims.Goals as goal

@@ -1,10 +1,10 @@
 use Rattle.std.proofs.Common.{subst}
 use Rattle.std.specs.Prelude.{IfOk, ℕ}
-use Rattle.type_terms.specs.Worlds.{World}
+use Rattle.type_terms.specs.Promised.Worlds.{World}
 use Rattle.sessions.specs.Checking.{rules_in}
 use Rattle.sessions.specs.Later.{section_headers}
-use Rattle.sessions.specs.Promises.{view_in}
-use Rattle.sessions.specs.Subjects.{Subject}
+use Rattle.sessions.specs.Promised.Promises.{view_in}
+use Rattle.sessions.specs.Promised.Subjects.{Subject}
 use Rattle.session_walks.specs.Causes.{IsCauseAt}
 use Rattle.session_walks.proofs.Rests.{rests-advanced}
 use Rattle.sessions.proofs.Keeping.{session-rests}

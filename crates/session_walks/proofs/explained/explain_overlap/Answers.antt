@@ -1,10 +1,10 @@
 use Rattle.std.proofs.Common.{◌≡◌, true, ap, sym, subst}
 use Rattle.std.specs.Prelude.{IfOk, IfSome}
-use Rattle.type_terms.specs.Worlds.{World}
+use Rattle.type_terms.specs.Promised.Worlds.{World}
 use Rattle.proof_checker.specs.Steps.{term_of}
 use Rattle.proof_checker.proofs.Results.{mapped-some}
-use Rattle.sessions.specs.Promises.{view_in}
-use Rattle.sessions.specs.Subjects.{Subject}
+use Rattle.sessions.specs.Promised.Promises.{view_in}
+use Rattle.sessions.specs.Promised.Subjects.{Subject}
 use Rattle.session_walks.specs.Rules.{HasRulesByBoth}
 use Rattle.session_walks.proofs.RuleCandidates.{both-aside}
 use Rattle.sessions.specs.Checking.{HaveOwnNumbers, rules_in}

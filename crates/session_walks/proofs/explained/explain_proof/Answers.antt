@@ -3,7 +3,7 @@ use Rattle.type_terms.specs.Kept.{args-held-later}
 use Rattle.goal_walk.proofs.Walks.{references-later}
 use Rattle.proof_checker.proofs.Later.{steps-kept}
 use Rattle.sessions.specs.Shown.{AreProofOfQuestion}
-use Rattle.sessions.specs.Subjects.{AsksProof}
+use Rattle.sessions.specs.Promised.Subjects.{AsksProof}
 use Rattle.session_walks.proofs.LaterProofs.{proof-later}
 use Rattle.session_walks.proofs.explained.explain_proof.Goals as goal
 

@@ -1,6 +1,6 @@
 use Rattle.std.proofs.Common.{sym, subst}
-use Rattle.text_definitions.specs.Declarations.{Question}
-use Rattle.sessions.specs.Subjects.{Subject, AsksRefutation}
+use Rattle.text_definitions.specs.Promised.Declarations.{Question}
+use Rattle.sessions.specs.Promised.Subjects.{Subject, AsksRefutation}
 use Rattle.sessions.proofs.Keeping.{session-rests}
 use Rattle.session_walks.proofs.Staying.{kept-within, stays}
 use Rattle.session_walks.proofs.explained.explain_refutation.Goals as goal

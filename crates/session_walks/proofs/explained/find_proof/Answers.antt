@@ -1,6 +1,6 @@
 use Rattle.std.proofs.Common.{sym, subst}
-use Rattle.text_definitions.specs.Declarations.{Question}
-use Rattle.sessions.specs.Subjects.{Subject, AsksProof}
+use Rattle.text_definitions.specs.Promised.Declarations.{Question}
+use Rattle.sessions.specs.Promised.Subjects.{Subject, AsksProof}
 use Rattle.sessions.proofs.RightAnswers.{is-asked, clauses-apply}
 use Rattle.sessions.proofs.Keeping.{session-rests}
 use Rattle.session_walks.proofs.Staying.{kept-within, stays}

@@ -1,8 +1,8 @@
 use Rattle.std.proofs.Common.{refl, ap, sym, ◌∙◌, subst, ◌≡◌, []}
 use Rattle.std.specs.Option.{option_map}
-use Rattle.type_terms.specs.Rules.{sized_rules}
-use Rattle.type_terms.specs.Terms.{trees_at}
-use Rattle.type_terms.specs.Trees.{tree}
+use Rattle.type_terms.specs.Promised.Rules.{sized_rules}
+use Rattle.type_terms.specs.Promised.Handles.{trees_at}
+use Rattle.type_terms.specs.Promised.Trees.{tree}
 use Rattle.declarations.specs.Heads.{label_of, head_of}
 use Rattle.declarations.specs.Items.{declared}
 use Rattle.session_walks.specs.Rules.{is_bare}

@@ -1,10 +1,10 @@
 use Rattle.std.proofs.Common.{◌≡◌, Some, ap, sym, subst}
 use Rattle.std.specs.List.{slice_get}
-use Rattle.type_terms.specs.Worlds.{World}
+use Rattle.type_terms.specs.Promised.Worlds.{World}
 use Rattle.declarations.specs.Held.{ReferenceHeld}
 use Rattle.proof_checker.specs.Steps.{term_of}
-use Rattle.sessions.specs.Promises.{view_in}
-use Rattle.sessions.specs.Subjects.{Subject}
+use Rattle.sessions.specs.Promised.Promises.{view_in}
+use Rattle.sessions.specs.Promised.Subjects.{Subject}
 use Rattle.session_walks.specs.Rules.{HasNoRow, HasNoRowAt}
 use Rattle.session_walks.proofs.RuleCandidates.{there-held}
 use Rattle.session_walks.proofs.fitting.no_built_in_rule_fits.Goals as goal

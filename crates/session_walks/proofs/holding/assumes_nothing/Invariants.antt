@@ -1,5 +1,5 @@
 use Rattle.std.proofs.Common.{◌≡◌, List, length}
-use Rattle.type_terms.specs.Terms.{Entry}
+use Rattle.type_terms.specs.Promised.Handles.{Entry}
 use Rattle.proof_checker.specs.Steps.{assumed_in}
 use Rattle.session_walks.proofs.holding.assumes_nothing.Given as goal
 

@@ -1,6 +1,6 @@
-use Rattle.declarations.specs.Merges.{Each}
-use Rattle.sessions.specs.Promises.{view_in}
-use Rattle.sessions.specs.Subjects.{StaysOn}
+use Rattle.declarations.specs.Promised.Elaboration.{Each}
+use Rattle.sessions.specs.Promised.Promises.{view_in}
+use Rattle.sessions.specs.Promised.Subjects.{StaysOn}
 use Rattle.session_walks.specs.Refusals.{HoldsAt}
 use Rattle.session_walks.specs.Walked.{WalkHeld}
 use Rattle.session_walks.proofs.holding.held_goals.Given as goal

@@ -1,7 +1,7 @@
 use Rattle.std.proofs.Common.{◌≡◌, true, Some, subst}
 use Rattle.std.specs.Prelude.{IfSome, slice_get}
-use Rattle.type_terms.specs.Proofs.{HasProof}
-use Rattle.declarations.specs.Merges.{Each}
+use Rattle.type_terms.specs.Promised.Proofs.{HasProof}
+use Rattle.declarations.specs.Promised.Elaboration.{Each}
 use Rattle.declarations.proofs.Growth.{reference-kept}
 use Rattle.infer_table.proofs.TableFacts.{empty-ready}
 use Rattle.proof_checker.specs.Steps.{StepHeld, term_of}

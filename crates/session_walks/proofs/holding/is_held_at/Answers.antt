@@ -1,12 +1,12 @@
 use Rattle.std.proofs.Common.{◌≡◌, true, ap, subst, sym}
 use Rattle.std.specs.Prelude.{IfOk}
-use Rattle.type_terms.specs.Worlds.{World}
+use Rattle.type_terms.specs.Promised.Worlds.{World}
 use Rattle.goal_walk.specs.Walking.{ReferencesHeld}
 use Rattle.goal_walk.proofs.Walks.{references-later}
 use Rattle.proof_checker.proofs.Results.{mapped}
 use Rattle.sessions.specs.Checking.{rules_in}
-use Rattle.sessions.specs.Promises.{view_in}
-use Rattle.sessions.specs.Subjects.{Subject}
+use Rattle.sessions.specs.Promised.Promises.{view_in}
+use Rattle.sessions.specs.Promised.Subjects.{Subject}
 use Rattle.sessions.proofs.Keeping.{session-rests}
 use Rattle.session_walks.specs.Refusals.{HoldsAt}
 use Rattle.session_walks.proofs.HeldGoals.{holds-aside}

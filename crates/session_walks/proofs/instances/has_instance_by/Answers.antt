@@ -1,9 +1,10 @@
 use Rattle.std.proofs.Common.{[], subst}
 use Rattle.std.specs.Prelude.{IfSome}
 use Rattle.type_terms.specs.Kept.{has-later}
-use Rattle.type_terms.specs.Rules.{by_impl}
-use Rattle.type_terms.specs.Terms.{Has, args_lists}
-use Rattle.type_terms.specs.Worlds.{World}
+use Rattle.type_terms.specs.Promised.Rules.{by_impl}
+use Rattle.type_terms.specs.Promised.Handles.{Has}
+use Rattle.type_terms.specs.Terms.{args_lists}
+use Rattle.type_terms.specs.Promised.Worlds.{World}
 use Rattle.type_terms.proofs.Grown.{grew-on}
 use Rattle.declarations.proofs.Growth.{reference-kept}
 use Rattle.candidate_assembly.specs.Kept.{ready-kept}

@@ -1,5 +1,5 @@
 use Rattle.std.proofs.Common.{List, [], ◌∷◌, refl, ap}
-use Rattle.type_terms.specs.Trees.{Trees, none}
+use Rattle.type_terms.specs.Promised.Trees.{Trees, none}
 use Rattle.type_terms.specs.Pieces.{Piece}
 use Rattle.session_walks.proofs.InstanceFacts.{resolved-instance}
 use Rattle.session_walks.proofs.instances.instance_in.Goals as goal

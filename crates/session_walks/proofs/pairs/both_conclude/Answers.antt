@@ -1,6 +1,6 @@
 use Rattle.std.proofs.Common.{[]}
 use Rattle.type_terms.specs.Kept.{has-later}
-use Rattle.type_terms.specs.Rules.{by_impl}
+use Rattle.type_terms.specs.Promised.Rules.{by_impl}
 use Rattle.type_terms.specs.Terms.{args_lists}
 use Rattle.type_terms.proofs.Grown.{grew-on}
 use Rattle.declarations.specs.Items.{declared}

@@ -1,7 +1,8 @@
 use Rattle.type_terms.specs.Kept.{has-later}
 use Rattle.std.proofs.Common.{subst}
 use Rattle.std.specs.Prelude.{IfSome}
-use Rattle.type_terms.specs.Terms.{Has, args_lists}
+use Rattle.type_terms.specs.Promised.Handles.{Has}
+use Rattle.type_terms.specs.Terms.{args_lists}
 use Rattle.type_terms.proofs.Grown.{grew-on}
 use Rattle.overlap_check.proofs.Headers.{impl-later, well-later}
 use Rattle.session_walks.proofs.pairs.common_header.Goals as goal

@@ -1,5 +1,6 @@
 use Rattle.term_folds.specs.declared.predicate.TraitRef.{TraitRef}
-use Rattle.type_terms.specs.Terms.{Has, args_lists}
+use Rattle.type_terms.specs.Promised.Handles.{Has}
+use Rattle.type_terms.specs.Terms.{args_lists}
 use Rattle.std.proofs.Common.{[], sym, subst}
 use Rattle.sessions.proofs.Posing.{goal-held}
 use Rattle.session_walks.proofs.Rests.{rests-asked, askable-at-rest, rests-none}

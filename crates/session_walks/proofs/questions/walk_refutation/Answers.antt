@@ -1,6 +1,7 @@
 use Rattle.std.proofs.Common.{[], sym, subst}
 use Rattle.type_terms.specs.Kept.{has-later}
-use Rattle.type_terms.specs.Terms.{Has, args_lists}
+use Rattle.type_terms.specs.Promised.Handles.{Has}
+use Rattle.type_terms.specs.Terms.{args_lists}
 use Rattle.term_folds.specs.declared.predicate.TraitRef.{TraitRef}
 use Rattle.sessions.proofs.Posing.{goal-held}
 use Rattle.session_walks.proofs.Rests.{advanced-further, rests-advanced, rests-further}

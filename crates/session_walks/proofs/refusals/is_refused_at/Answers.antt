@@ -3,8 +3,8 @@ use Rattle.std.specs.Prelude.{IfOk, slice_get}
 use Rattle.goal_walk.specs.Walking.{ReferencesHeld}
 use Rattle.goal_walk.proofs.Walks.{references-later}
 use Rattle.proof_checker.proofs.Results.{mapped}
-use Rattle.sessions.specs.Promises.{view_in}
-use Rattle.sessions.specs.Subjects.{Subject}
+use Rattle.sessions.specs.Promised.Promises.{view_in}
+use Rattle.sessions.specs.Promised.Subjects.{Subject}
 use Rattle.sessions.proofs.Keeping.{session-rests}
 use Rattle.session_walks.specs.Refusals.{IsRefusedAt}
 use Rattle.session_walks.proofs.RuleCandidates.{there-held}

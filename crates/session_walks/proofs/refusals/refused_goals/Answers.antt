@@ -1,6 +1,6 @@
 use Rattle.std.proofs.Common.{refl, sym, subst}
-use Rattle.declarations.specs.Merges.{Each}
-use Rattle.sessions.specs.Promises.{view_in}
+use Rattle.declarations.specs.Promised.Elaboration.{Each}
+use Rattle.sessions.specs.Promised.Promises.{view_in}
 use Rattle.session_walks.specs.Refusals.{IsRefusedAt}
 use Rattle.session_walks.proofs.RefusedGoals.{at-staying}
 use Rattle.session_walks.proofs.RuleCandidates.{put-if}

@@ -1,7 +1,7 @@
 use Rattle.std.proofs.Common.{sym, subst}
 use Rattle.type_terms.proofs.Grown.{grew-on}
 use Rattle.declarations.specs.Items.{declared}
-use Rattle.declarations.specs.Merges.{Each}
+use Rattle.declarations.specs.Promised.Elaboration.{Each}
 use Rattle.candidate_assembly.specs.Kept.{ready-kept}
 use Rattle.goal_walk.proofs.Walks.{references-later}
 use Rattle.infer_table.specs.Kept.{ready-later}

@@ -1,5 +1,5 @@
 use Rattle.declarations.specs.Items.{declared}
-use Rattle.declarations.specs.Merges.{Each}
+use Rattle.declarations.specs.Promised.Elaboration.{Each}
 use Rattle.infer_table.specs.Content.{Ready}
 use Rattle.type_terms.specs.Growth.{Grew}
 use Rattle.session_walks.specs.Rules.{IsRuleAt, MayApplyAt}

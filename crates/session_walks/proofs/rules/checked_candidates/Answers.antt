@@ -1,10 +1,10 @@
 use Rattle.std.proofs.Common.{ap, subst, sym}
 use Rattle.std.specs.Prelude.{IfOk}
-use Rattle.type_terms.specs.Worlds.{World}
+use Rattle.type_terms.specs.Promised.Worlds.{World}
 use Rattle.proof_checker.proofs.Results.{mapped}
 use Rattle.goal_walk.proofs.Walks.{references-later}
-use Rattle.sessions.specs.Promises.{view_in}
-use Rattle.sessions.specs.Subjects.{Subject}
+use Rattle.sessions.specs.Promised.Promises.{view_in}
+use Rattle.sessions.specs.Promised.Subjects.{Subject}
 use Rattle.sessions.proofs.Keeping.{session-rests}
 use Rattle.session_walks.specs.Rules.{AreChecked}
 use Rattle.session_walks.specs.Walked.{WalkHeld}

@@ -1,5 +1,5 @@
 use Rattle.std.proofs.Common.{refl, sym, subst}
-use Rattle.type_terms.specs.Rules.{by_impl, built_in}
+use Rattle.type_terms.specs.Promised.Rules.{by_impl, built_in}
 use Rattle.declarations.specs.Items.{declared}
 use Rattle.infer_table.specs.Kept.{ready-later}
 use Rattle.proof_checker.proofs.Results.{mapped}

@@ -1,4 +1,4 @@
-use Rattle.type_terms.specs.Rules.{by_impl}
+use Rattle.type_terms.specs.Promised.Rules.{by_impl}
 use Rattle.declarations.specs.Items.{declared}
 use Rattle.declarations.proofs.Growth.{reference-kept, references-kept}
 use Rattle.infer_table.specs.Kept.{ready-later}

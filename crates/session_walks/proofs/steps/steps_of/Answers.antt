@@ -1,7 +1,7 @@
 use Rattle.std.proofs.Common.{◌+◌, [], ◌∙◌, refl, sym, ap, subst, Some, take}
 use Rattle.std.specs.Prelude.{IfSome}
 use Rattle.std.proofs.lemmas.Option.{slice_get-get_or}
-use Rattle.declarations.specs.Merges.{Each}
+use Rattle.declarations.specs.Promised.Elaboration.{Each}
 use Rattle.declarations.proofs.Growth.{references-kept}
 use Rattle.goal_walk.proofs.Walks.{references-later}
 use Rattle.proof_checker.specs.Steps.{StepHeld}

@@ -1,5 +1,5 @@
 use Rattle.std.proofs.Common.{take}
-use Rattle.declarations.specs.Merges.{Each}
+use Rattle.declarations.specs.Promised.Elaboration.{Each}
 use Rattle.infer_table.specs.Content.{Ready}
 use Rattle.proof_checker.specs.Steps.{StepHeld}
 use Rattle.type_terms.specs.Growth.{Grew}

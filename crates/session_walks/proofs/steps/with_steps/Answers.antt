@@ -1,6 +1,6 @@
 use Rattle.std.proofs.Common.{sym, subst}
 use Rattle.std.specs.Prelude.{IfSome}
-use Rattle.declarations.specs.Merges.{Each}
+use Rattle.declarations.specs.Promised.Elaboration.{Each}
 use Rattle.goal_walk.proofs.Walks.{references-later}
 use Rattle.proof_checker.specs.Steps.{StepHeld}
 use Rattle.session_walks.proofs.steps.with_steps.Goals as goal

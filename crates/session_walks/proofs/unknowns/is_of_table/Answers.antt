@@ -1,6 +1,6 @@
 use Rattle.std.proofs.Common.{ap, ◌∙◌, sym, is_some, not}
 use Rattle.std.specs.ControlFlow.{break_value}
-use Rattle.type_terms.specs.Terms.{trees_at}
+use Rattle.type_terms.specs.Promised.Handles.{trees_at}
 use Rattle.candidate_assembly.specs.Finding.{at_root}
 use Rattle.candidate_assembly.proofs.FindingOnce.{once-finds}
 use Rattle.session_walks.specs.Unknowns.{is_other_place, known_to, speaks_of_known}

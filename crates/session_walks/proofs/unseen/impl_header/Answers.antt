@@ -1,6 +1,6 @@
 use Rattle.std.proofs.Common.{subst}
 use Rattle.declarations.specs.Held.{ReferenceHeld}
-use Rattle.sessions.specs.Subjects.{Subject}
+use Rattle.sessions.specs.Promised.Subjects.{Subject}
 use Rattle.session_walks.proofs.unseen.impl_header.Goals as goal
 
 pub returns-in-Some : goal.returns-in-Some

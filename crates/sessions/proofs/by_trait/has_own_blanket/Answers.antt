@@ -1,5 +1,5 @@
 use Rattle.std.proofs.Common.{◌≤◌, arith}
-use Rattle.type_terms.specs.Worlds.{ImplDecl}
+use Rattle.type_terms.specs.Promised.Worlds.{ImplDecl}
 use Rattle.declarations.specs.Items.{declared}
 use Rattle.sessions.specs.ByTrait.{IsOwnBlanket}
 use Rattle.sessions.proofs.ByTrait.{each-no-more, each-one-more, none-below, all-below, declared-none}

@@ -1,5 +1,5 @@
 use Rattle.declarations.specs.Items.{declared}
-use Rattle.type_terms.specs.Worlds.{ImplDecl}
+use Rattle.type_terms.specs.Promised.Worlds.{ImplDecl}
 use Rattle.sessions.specs.ByTrait.{IsOwnBlanket}
 use Rattle.sessions.proofs.ByTrait.{EachBelow}
 use Rattle.sessions.proofs.by_trait.has_own_blanket.Given as goal

@@ -1,5 +1,5 @@
 use Rattle.std.proofs.Common.{Some, sym, subst}
-use Rattle.type_terms.specs.Terms.{trees_at}
+use Rattle.type_terms.specs.Promised.Handles.{trees_at}
 use Rattle.declarations.specs.Items.{reference_in}
 use Rattle.declarations.specs.Relevant.{is_match, matches_in}
 use Rattle.sessions.proofs.Matching.{AreFound, fewer-left, one-found, all-found, names-ascend}

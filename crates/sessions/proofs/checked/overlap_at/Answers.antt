@@ -1,7 +1,7 @@
 use Rattle.std.proofs.Common.{rules, ◌≡◌, Ok, None, sym, subst}
 use Rattle.std.specs.Prelude.{IfSome}
 use Rattle.sessions.specs.Checking.{IsFoundAt, IsJudgedAt, solving_in}
-use Rattle.sessions.specs.Promises.{view_in}
+use Rattle.sessions.specs.Promised.Promises.{view_in}
 use Rattle.sessions.proofs.PairChecks.{apart-passes, judged}
 use Rattle.solver_context.proofs.Growing.{limits-further}
 use Rattle.sessions.proofs.Keeping.{limits-searched}

@@ -1,4 +1,4 @@
-use Rattle.type_terms.specs.Renumbering.{asker_in_set, renumbered_impl}
+use Rattle.type_terms.specs.Promised.Renumbering.{asker_in_set, renumbered_impl}
 use Rattle.sessions.proofs.later.added_impls_break_no_user.Goals as goal
 
 pub returns : goal.returns

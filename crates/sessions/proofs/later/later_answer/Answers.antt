@@ -1,5 +1,5 @@
 use Rattle.std.proofs.Common.{ap, ◌∙◌, map}
-use Rattle.sessions.specs.Given.{later_of}
+use Rattle.sessions.specs.Promised.Given.{later_of}
 use Rattle.sessions.specs.Later.{header_in, section_headers}
 use Rattle.sessions.proofs.LaterChecks.{answer-grown}
 use Rattle.sessions.proofs.later.later_answer.Goals as goal

@@ -3,7 +3,7 @@ use Rattle.std.specs.Prelude.{IfOk}
 use Rattle.infer_table.specs.Content.{Ready}
 use Rattle.infer_table.specs.Kept.{ready-later}
 use Rattle.declarations.specs.Held.{ReferenceHeld}
-use Rattle.declarations.specs.Merges.{Each}
+use Rattle.declarations.specs.Promised.Elaboration.{Each}
 use Rattle.declarations.proofs.Growth.{references-kept}
 use Rattle.search_graph.proofs.Graphs.{Keeps-trans}
 use Rattle.solver_context.specs.Searching.{solver_meaning}

@@ -1,6 +1,6 @@
 use Rattle.std.proofs.Common.{◌≡◌, take}
-use Rattle.type_terms.specs.Terms.{Keeps}
-use Rattle.declarations.specs.Merges.{Each}
+use Rattle.type_terms.specs.Promised.Handles.{Keeps}
+use Rattle.declarations.specs.Promised.Elaboration.{Each}
 use Rattle.search_graph.specs.Cache.{AreJustified, AreConsistent, KeepsResults}
 use Rattle.search_graph.specs.Meaning as Search
 use Rattle.solver_context.specs.Contexts.{IsReady}

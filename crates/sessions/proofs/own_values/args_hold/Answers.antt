@@ -1,10 +1,10 @@
 use Rattle.std.proofs.Common.{ap, ◌∙◌, sym, is_some}
 use Rattle.std.specs.ControlFlow.{break_value}
-use Rattle.type_terms.specs.Terms.{trees_at}
+use Rattle.type_terms.specs.Promised.Handles.{trees_at}
 use Rattle.candidate_assembly.specs.Finding.{at_root}
 use Rattle.candidate_assembly.proofs.FindingOnce.{once-finds}
 use Rattle.sessions.specs.Foreign.{label_of}
-use Rattle.sessions.specs.OwnValues.{is_same_param}
+use Rattle.sessions.specs.Promised.OwnValues.{is_same_param}
 use Rattle.sessions.specs.declared.own_values.FindsParam.{FindsParam}
 use Rattle.sessions.proofs.own_values.args_hold.Goals as goal
 use Rattle.candidate_assembly.proofs.Finding.{some-at-root as found-at-root}

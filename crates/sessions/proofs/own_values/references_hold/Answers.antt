@@ -1,7 +1,7 @@
 use Rattle.std.proofs.Common.{sym, ◌∙◌}
 use Rattle.declarations.specs.Applied.{references_in}
 use Rattle.sessions.specs.Foreign.{label_of}
-use Rattle.sessions.specs.OwnValues.{stands_in}
+use Rattle.sessions.specs.Promised.OwnValues.{stands_in}
 use Rattle.sessions.proofs.Foreign.{held-first, param-found, param-next, param-none}
 use Rattle.sessions.proofs.own_values.references_hold.Goals as goal
 use Rattle.type_terms.proofs.ListBasics.{empty-is}

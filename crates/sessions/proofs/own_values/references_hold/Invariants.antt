@@ -1,7 +1,7 @@
 use Rattle.std.proofs.Common.{◌≡◌, length}
 use Rattle.declarations.specs.Applied.{TraitRefsHeld, references_in}
 use Rattle.sessions.specs.Foreign.{label_of}
-use Rattle.sessions.specs.OwnValues.{stands_in}
+use Rattle.sessions.specs.Promised.OwnValues.{stands_in}
 use Rattle.sessions.proofs.own_values.references_hold.Given as goal
 
 abbrev pub invariant-references : goal.invariant-references

@@ -1,6 +1,6 @@
 use Rattle.std.proofs.Common.{◌≡◌, List, length}
-use Rattle.type_terms.specs.Answers.{is_undeclared}
-use Rattle.type_terms.specs.Terms.{Entry}
+use Rattle.type_terms.specs.Promised.Answers.{is_undeclared}
+use Rattle.type_terms.specs.Promised.Handles.{Entry}
 use Rattle.type_terms.specs.Kinds.{autos_trees}
 use Rattle.declarations.specs.Items.{written}
 use Rattle.candidate_assembly.specs.Finding.{some_root}

@@ -1,7 +1,7 @@
 use Rattle.std.proofs.Common.{ap, ◌∙◌, sym, not}
-use Rattle.type_terms.specs.Kinds.{arg_trees}
-use Rattle.type_terms.specs.Terms.{trees_at}
-use Rattle.type_terms.specs.Trees.{some_node}
+use Rattle.type_terms.specs.Promised.Handles.{arg_trees}
+use Rattle.type_terms.specs.Promised.Handles.{trees_at}
+use Rattle.type_terms.specs.Promised.Trees.{some_node}
 use Rattle.declarations.specs.Items.{written}
 use Rattle.sessions.specs.Foreign.{is_foreign_term, question_in}
 use Rattle.sessions.proofs.Foreign.{type-foreign, type-rest}

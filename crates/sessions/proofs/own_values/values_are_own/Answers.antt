@@ -1,5 +1,5 @@
 use Rattle.std.proofs.Common.{sym, ◌∙◌, map}
-use Rattle.type_terms.specs.Kinds.{arg_trees}
+use Rattle.type_terms.specs.Promised.Handles.{arg_trees}
 use Rattle.declarations.specs.Items.{written}
 use Rattle.sessions.specs.Foreign.{are_own_terms, question_in}
 use Rattle.sessions.proofs.Foreign.{held-value, foreign-found, own-next, own-all}

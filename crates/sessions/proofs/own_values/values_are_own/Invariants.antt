@@ -1,5 +1,5 @@
 use Rattle.std.proofs.Common.{◌≡◌, map, length}
-use Rattle.type_terms.specs.Kinds.{ArgsHeld, arg_trees}
+use Rattle.type_terms.specs.Promised.Handles.{ArgsHeld, arg_trees}
 use Rattle.declarations.specs.Items.{written}
 use Rattle.sessions.specs.Foreign.{are_own_terms, question_in}
 use Rattle.sessions.proofs.own_values.values_are_own.Given as goal

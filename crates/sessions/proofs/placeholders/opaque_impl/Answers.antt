@@ -1,8 +1,9 @@
 use Rattle.std.proofs.Common.{◌≡◌, ◌∙◌, ap, map, sym, subst}
 use Rattle.type_terms.specs.Trees.{outer_binder}
-use Rattle.type_terms.specs.Worlds.{with_args, all_with_args}
+use Rattle.type_terms.specs.Promised.Worlds.{with_args, all_with_args}
 use Rattle.type_terms.specs.Kept.{has-later, trees-later}
-use Rattle.type_terms.specs.Terms.{args_lists, trees_at}
+use Rattle.type_terms.specs.Terms.{args_lists}
+use Rattle.type_terms.specs.Promised.Handles.{trees_at}
 use Rattle.type_terms.proofs.Grown.{grew-on}
 use Rattle.declarations.specs.Applied.{TraitRefsHeld, references_in, sort_of_param}
 use Rattle.declarations.specs.Items.{reference_in}

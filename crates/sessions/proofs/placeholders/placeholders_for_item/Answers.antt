@@ -1,8 +1,10 @@
 use Rattle.std.proofs.Common.{◌≡◌, map, sym, ◌∙◌, subst, arith, Err, ap}
-use Rattle.type_terms.specs.Trees.{◌+++◌}
+use Rattle.type_terms.specs.Promised.Trees.{◌+++◌}
 use Rattle.type_terms.proofs.TreeLaws.{append-none}
-use Rattle.type_terms.specs.Terms.{Is, args_lists, trees_at}
-use Rattle.type_terms.specs.Kinds.{ArgsHeld, args_trees}
+use Rattle.type_terms.specs.Promised.Handles.{Is, trees_at}
+use Rattle.type_terms.specs.Terms.{args_lists}
+use Rattle.type_terms.specs.Promised.Handles.{ArgsHeld}
+use Rattle.type_terms.specs.Kinds.{args_trees}
 use Rattle.type_terms.specs.declared.kinds.GenericArgs.{GenericArgs}
 use Rattle.type_terms.specs.Kept.{args-held-later, trees-is}
 use Rattle.declarations.specs.Applied.{sort_of_param}

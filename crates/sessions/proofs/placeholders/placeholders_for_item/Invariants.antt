@@ -1,7 +1,8 @@
 use Rattle.std.proofs.Common.{◌≡◌, map, length}
-use Rattle.type_terms.specs.Trees.{◌+++◌}
+use Rattle.type_terms.specs.Promised.Trees.{◌+++◌}
 use Rattle.type_terms.specs.Growth.{Grew}
-use Rattle.type_terms.specs.Kinds.{ArgsHeld, args_trees}
+use Rattle.type_terms.specs.Promised.Handles.{ArgsHeld}
+use Rattle.type_terms.specs.Kinds.{args_trees}
 use Rattle.declarations.specs.Applied.{sort_of_param}
 use Rattle.sessions.specs.Placeholders.{placeholders_from}
 use Rattle.sessions.proofs.placeholders.placeholders_for_item.Given as goal

@@ -1,5 +1,5 @@
 use Rattle.std.proofs.Common.{sym, ◌∙◌}
-use Rattle.type_terms.specs.Terms.{trees_at}
+use Rattle.type_terms.specs.Promised.Handles.{trees_at}
 use Rattle.sessions.proofs.Answering.{bound-found, bound-not-found}
 use Rattle.sessions.proofs.proving.has_bound_terms.Goals as goal
 

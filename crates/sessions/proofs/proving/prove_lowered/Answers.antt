@@ -1,12 +1,13 @@
 use Rattle.std.proofs.Common.{rules, ◌≡◌, ◌∙◌, map, ap, sym, subst}
-use Rattle.type_terms.specs.Kinds.{arg_trees, ArgsHeld}
+use Rattle.type_terms.specs.Promised.Handles.{arg_trees, ArgsHeld}
 use Rattle.term_folds.specs.Arguments.{arg_sort}
 use Rattle.type_terms.specs.Kept.{args-held-later}
 use Rattle.declarations.specs.Applied.{TraitRefsHeld, AreApplied, references_in}
-use Rattle.declarations.specs.Elaboration.{elaborate}
+use Rattle.declarations.specs.Promised.Elaboration.{elaborate}
 use Rattle.declarations.specs.Items.{reference_in, written}
 use Rattle.candidate_assembly.specs.Fitting.{solving_of}
-use Rattle.view_lowering.specs.Plain.{unbound_reference, unbound_references}
+use Rattle.view_lowering.specs.Promised.SeenWorlds.{unbound_reference}
+use Rattle.view_lowering.specs.Plain.{unbound_references}
 use Rattle.sessions.specs.Goals.{goal_of}
 use Rattle.sessions.proofs.Alone.{held-there, reference-is}
 use Rattle.sessions.proofs.Posing.{over-ok, args-later, answer-is, same-asked}

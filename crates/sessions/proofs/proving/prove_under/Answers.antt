@@ -1,7 +1,8 @@
 use Rattle.std.proofs.Common.{◌∙◌, map, refl, sym, subst}
 use Rattle.type_terms.specs.Kept.{args-held-later, has-later}
-use Rattle.type_terms.specs.Kinds.{arg_trees}
-use Rattle.type_terms.specs.Terms.{Has, args_lists}
+use Rattle.type_terms.specs.Promised.Handles.{arg_trees}
+use Rattle.type_terms.specs.Promised.Handles.{Has}
+use Rattle.type_terms.specs.Terms.{args_lists}
 use Rattle.term_folds.specs.Arguments.{arg_sort}
 use Rattle.term_folds.specs.declared.predicate.TraitRef.{TraitRef}
 use Rattle.declarations.specs.Applied.{references_in}

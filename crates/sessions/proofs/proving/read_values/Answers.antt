@@ -1,5 +1,5 @@
 use Rattle.std.proofs.Common.{sym, ap, ◌∙◌, List, [], ◌∷◌}
-use Rattle.type_terms.specs.Trees.{Trees, none, some_node}
+use Rattle.type_terms.specs.Promised.Trees.{Trees, none, some_node}
 use Rattle.type_terms.specs.Kept.{args-held-later}
 use Rattle.type_terms.specs.Pieces.{Piece}
 use Rattle.sessions.specs.Proving.{is_bound_term}

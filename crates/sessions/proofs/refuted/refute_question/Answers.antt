@@ -1,9 +1,9 @@
 use Rattle.std.proofs.Common.{true, ap, subst, ◌≡◌}
 use Rattle.std.proofs.Math.Nat.{le-add_right}
 use Rattle.type_terms.specs.Made.{terms, is_made, is_in_range}
-use Rattle.type_terms.specs.Worlds.{Reference}
+use Rattle.type_terms.specs.Promised.Worlds.{Reference}
 use Rattle.candidate_assembly.proofs.Finding.{args-made}
-use Rattle.view_lowering.specs.Plain.{unbound_reference}
+use Rattle.view_lowering.specs.Promised.SeenWorlds.{unbound_reference}
 use Rattle.sessions.specs.Asking.{HasNoProof, IsLeftOpen, IsRefusedAlone, goal_alone}
 use Rattle.sessions.specs.Frames.{StartsFramesOfOne}
 use Rattle.sessions.proofs.Alone.{on-ok}

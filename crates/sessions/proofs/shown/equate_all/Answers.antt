@@ -1,5 +1,5 @@
 use Rattle.std.proofs.Common.{◌∙◌, subst}
-use Rattle.type_terms.specs.Kinds.{ArgsHeld}
+use Rattle.type_terms.specs.Promised.Handles.{ArgsHeld}
 use Rattle.type_terms.specs.Kept.{args-held-later}
 use Rattle.sessions.proofs.shown.equate_all.Goals as goal
 

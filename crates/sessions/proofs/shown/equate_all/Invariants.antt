@@ -1,6 +1,6 @@
 use Rattle.std.proofs.Common.{◌≡◌, length}
-use Rattle.type_terms.specs.Kinds.{ArgsHeld}
-use Rattle.type_terms.specs.Terms.{Keeps}
+use Rattle.type_terms.specs.Promised.Handles.{ArgsHeld}
+use Rattle.type_terms.specs.Promised.Handles.{Keeps}
 use Rattle.infer_table.specs.Content.{Ready}
 use Rattle.sessions.proofs.shown.equate_all.Given as goal
 

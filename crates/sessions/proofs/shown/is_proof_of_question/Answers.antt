@@ -1,8 +1,8 @@
 use Rattle.std.proofs.Common.{rules, ◌≡◌, ◌∙◌, List, map, ap, sym, subst}
-use Rattle.type_terms.specs.Erased.{erased_reference}
+use Rattle.type_terms.specs.Promised.Erased.{erased_reference}
 use Rattle.type_terms.specs.Kept.{args-held-later}
-use Rattle.type_terms.specs.Kinds.{ArgsHeld}
-use Rattle.type_terms.specs.Terms.{Entry}
+use Rattle.type_terms.specs.Promised.Handles.{ArgsHeld}
+use Rattle.type_terms.specs.Promised.Handles.{Entry}
 use Rattle.declarations.specs.Applied.{TraitRefsHeld}
 use Rattle.declarations.specs.Items.{reference_in}
 use Rattle.proof_checker.specs.Steps.{terms_of}
@@ -12,7 +12,8 @@ use Rattle.proof_checker.proofs.Results.{mapped}
 use Rattle.solver_context.proofs.Growing.{further}
 use Rattle.candidate_assembly.specs.Ready.{AreReadyDeclarations}
 use Rattle.candidate_assembly.specs.declared.solver.Solver.{Solver}
-use Rattle.view_lowering.specs.Plain.{unbound_reference, unbound_references}
+use Rattle.view_lowering.specs.Promised.SeenWorlds.{unbound_reference}
+use Rattle.view_lowering.specs.Plain.{unbound_references}
 use Rattle.sessions.specs.Checking.{rules_in}
 use Rattle.sessions.proofs.ShownProofs.{rules-later, shown-before}
 use Rattle.sessions.proofs.shown.is_proof_of_question.Goals as goal

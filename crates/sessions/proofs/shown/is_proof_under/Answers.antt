@@ -1,6 +1,6 @@
 use Rattle.std.proofs.Common.{List}
 use Rattle.type_terms.specs.Kept.{args-held-later}
-use Rattle.type_terms.specs.Terms.{Entry}
+use Rattle.type_terms.specs.Promised.Handles.{Entry}
 use Rattle.declarations.proofs.Growth.{reference-kept, references-kept}
 use Rattle.proof_checker.proofs.Later.{steps-kept}
 use Rattle.proof_checker.proofs.Results.{mapped}

@@ -1,5 +1,5 @@
 use Rattle.std.proofs.Common.{ap, ◌∙◌, refl, List, [], ◌∷◌}
-use Rattle.type_terms.specs.Trees.{Trees, none}
+use Rattle.type_terms.specs.Promised.Trees.{Trees, none}
 use Rattle.type_terms.specs.Kept.{trees-later}
 use Rattle.type_terms.specs.Pieces.{Piece}
 use Rattle.type_terms.specs.Terms.{args_lists}

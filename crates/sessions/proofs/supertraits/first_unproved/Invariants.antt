@@ -1,6 +1,6 @@
 use Rattle.std.proofs.Common.{◌≡◌, take}
-use Rattle.type_terms.specs.Proofs.{Every}
-use Rattle.type_terms.specs.Terms.{Keeps}
+use Rattle.type_terms.specs.Promised.Proofs.{Every}
+use Rattle.type_terms.specs.Promised.Handles.{Keeps}
 use Rattle.declarations.specs.Applied.{references_in}
 use Rattle.candidate_assembly.specs.Fitting.{solving_of}
 use Rattle.solver_context.specs.Contexts.{KeepsLimits}

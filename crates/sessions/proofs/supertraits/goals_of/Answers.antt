@@ -1,8 +1,8 @@
 use Rattle.std.proofs.Common.{◌∙◌, ap, sym, subst}
-use Rattle.type_terms.specs.Worlds.{World}
+use Rattle.type_terms.specs.Promised.Worlds.{World}
 use Rattle.type_terms.proofs.Grown.{grew-on}
 use Rattle.declarations.specs.Applied.{TraitRefsHeld, AreApplied, references_in}
-use Rattle.declarations.specs.Elaboration.{elaborate, supertraits}
+use Rattle.declarations.specs.Promised.Elaboration.{elaborate, supertraits}
 use Rattle.declarations.specs.Items.{reference_in, written}
 use Rattle.declarations.proofs.Bounded.{all-same}
 use Rattle.declarations.proofs.Elaborating.{have-bounds-later}

@@ -1,5 +1,5 @@
 use Rattle.std.proofs.Common.{◌≡◌, ◌++◌, ◌∷◌, [], ap, sym, subst, Err, arith}
-use Rattle.type_terms.specs.Terms.{types, consts}
+use Rattle.type_terms.specs.Promised.Handles.{types, consts}
 use Rattle.type_terms.specs.declared.kinds.GenericArgKind.{GenericArgKind}
 use Rattle.term_folds.specs.Arguments.{arg_sort}
 use Rattle.type_terms.proofs.FailFacts.{refused-term}

@@ -1,5 +1,5 @@
 use Rattle.std.proofs.Common.{◌≡◌, map, take}
-use Rattle.type_terms.specs.Terms.{Keeps}
+use Rattle.type_terms.specs.Promised.Handles.{Keeps}
 use Rattle.term_folds.specs.Arguments.{arg_sort}
 use Rattle.infer_table.specs.Content.{Ready}
 use Rattle.sessions.specs.Tables.{table_of}

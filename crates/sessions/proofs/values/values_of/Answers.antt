@@ -1,6 +1,6 @@
 use Rattle.std.proofs.Common.{◌≡◌, ◌∙◌, refl, ap, List, [], ◌∷◌}
-use Rattle.type_terms.specs.Trees.{Trees, none}
-use Rattle.type_terms.specs.Kinds.{ArgHeld, arg_trees}
+use Rattle.type_terms.specs.Promised.Trees.{Trees, none}
+use Rattle.type_terms.specs.Promised.Handles.{ArgHeld, arg_trees}
 use Rattle.type_terms.specs.Kept.{arg-held-later, arg-trees-later, args-held-later}
 use Rattle.type_terms.specs.Pieces.{Piece}
 use Rattle.infer_table.specs.Content.{content}

@@ -1,6 +1,6 @@
 use Rattle.std.proofs.Common.{◌≡◌, map, take}
-use Rattle.type_terms.specs.Terms.{Keeps}
-use Rattle.type_terms.specs.Kinds.{ArgsHeld, arg_trees}
+use Rattle.type_terms.specs.Promised.Handles.{Keeps}
+use Rattle.type_terms.specs.Promised.Handles.{ArgsHeld, arg_trees}
 use Rattle.infer_table.specs.Content.{Ready, content}
 use Rattle.infer_table.specs.Solutions.{resolved}
 use Rattle.sessions.proofs.values.values_of.Given as goal

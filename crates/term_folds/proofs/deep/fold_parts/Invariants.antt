@@ -1,5 +1,5 @@
 use Rattle.std.proofs.Common.{◌≡◌}
-use Rattle.type_terms.specs.Terms.{Keeps}
+use Rattle.type_terms.specs.Promised.Handles.{Keeps}
 use Rattle.term_folds.specs.Memos.{Remembers}
 use Rattle.term_folds.specs.Deep.{StepsHeld}
 use Rattle.term_folds.proofs.deep.fold_parts.Given as goal

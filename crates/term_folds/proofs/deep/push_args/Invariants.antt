@@ -1,4 +1,4 @@
-use Rattle.type_terms.specs.Kinds.{ArgsHeld}
+use Rattle.type_terms.specs.Promised.Handles.{ArgsHeld}
 use Rattle.term_folds.specs.Deep.{StepsHeld}
 use Rattle.term_folds.proofs.deep.push_args.Given as goal
 

@@ -1,6 +1,6 @@
 use Rattle.std.proofs.Common.{◌≡◌, ap, sym, ◌∙◌, refl}
 use Rattle.type_terms.specs.Trees.{Single}
-use Rattle.type_terms.specs.Terms.{consts, trees_at}
+use Rattle.type_terms.specs.Promised.Handles.{consts, trees_at}
 use Rattle.type_terms.specs.Kinds.{const_trees, const_label}
 use Rattle.type_terms.specs.Binders.{counts_of}
 use Rattle.type_terms.specs.Kept.{trees-is}

@@ -1,4 +1,4 @@
-use Rattle.type_terms.specs.Terms.{trees_at}
+use Rattle.type_terms.specs.Promised.Handles.{trees_at}
 use Rattle.term_folds.proofs.fold.+fold_const.Given as goal
 
 abbrev pub decreases-fold_const : goal.decreases-fold_const

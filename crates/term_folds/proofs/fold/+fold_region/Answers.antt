@@ -1,5 +1,5 @@
 use Rattle.std.proofs.Common.{ap, sym, ◌∙◌, refl}
-use Rattle.type_terms.specs.Kinds.{region_trees, region_label}
+use Rattle.type_terms.specs.Promised.Handles.{region_trees, region_label}
 use Rattle.type_terms.specs.Binders.{counts_of}
 use Rattle.term_folds.specs.Folds.{puts, again}
 use Rattle.term_folds.proofs.FoldFacts.{RegionIs, says-enters, says-puts, says-again, put-at, turn-at, leaf-stays, ok-map}

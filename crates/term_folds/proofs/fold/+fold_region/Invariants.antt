@@ -1,4 +1,4 @@
-use Rattle.type_terms.specs.Kinds.{region_trees}
+use Rattle.type_terms.specs.Promised.Handles.{region_trees}
 use Rattle.term_folds.proofs.fold.+fold_region.Given as goal
 
 abbrev pub decreases-fold_region : goal.decreases-fold_region

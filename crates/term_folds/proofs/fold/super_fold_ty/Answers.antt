@@ -1,6 +1,6 @@
 -- The walk goes on from the table that it begins with, in which the type stands for the same trees.
 use Rattle.std.proofs.Common.{◌∙◌}
-use Rattle.type_terms.specs.Terms.{types}
+use Rattle.type_terms.specs.Promised.Handles.{types}
 use Rattle.type_terms.specs.Kept.{has-later, trees-later}
 use Rattle.type_terms.proofs.Grown.{grew-on}
 use Rattle.term_folds.proofs.ErrorFacts.{no-value, same-error}

@@ -1,13 +1,16 @@
 use Rattle.std.proofs.Common.{◌≡◌, ℕ, ◌<◌, ◌≤◌, List, [], ◌∷◌, arith, subst, ◌∙◌, get_or, length, ap, refl, Some, Err}
 use Rattle.std.proofs.lemmas.Grind.{common_steps}
-use Rattle.type_terms.specs.Trees.{Trees, Single, ◌+++◌}
-use Rattle.type_terms.specs.Terms.{Has, Keeps, types, consts, type_lists, args_lists, bounds_lists, trees_at}
-use Rattle.type_terms.specs.Kinds.{tys_trees, ArgHeld, ArgOlder, args_trees, arg_trees, kind_trees, region_trees, is_mut, principal_trees, autos_trees}
+use Rattle.type_terms.specs.Promised.Trees.{Trees, ◌+++◌}
+use Rattle.type_terms.specs.Trees.{Single}
+use Rattle.type_terms.specs.Promised.Handles.{Has, Keeps, types, consts, bounds_lists, trees_at}
+use Rattle.type_terms.specs.Terms.{type_lists, args_lists}
+use Rattle.type_terms.specs.Kinds.{tys_trees, ArgOlder, args_trees, kind_trees, is_mut, principal_trees, autos_trees}
+use Rattle.type_terms.specs.Promised.Handles.{ArgHeld, arg_trees, region_trees}
 use Rattle.type_terms.specs.declared.kinds.GenericArgKind.{GenericArgKind}
 use Rattle.type_terms.specs.declared.kinds.GenericArgKind.TheVariants.{Lifetime, Ty, Const}
 use Rattle.type_terms.specs.declared.kinds.TyKind.TheVariants.{Ref}
 use Rattle.type_terms.specs.declared.TraitId.{TraitId}
-use Rattle.type_terms.specs.Label.{ref, principal}
+use Rattle.type_terms.specs.Promised.Label.{ref, principal}
 use Rattle.type_terms.specs.Binders.{counts_of}
 use Rattle.type_terms.proofs.Grown.{grew-none, grew-on}
 use Rattle.term_folds.specs.Folds.{Does, enters, Folds, nothing, entered, below}

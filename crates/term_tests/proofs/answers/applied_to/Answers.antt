@@ -1,4 +1,4 @@
-use Rattle.type_terms.specs.Terms.{types}
+use Rattle.type_terms.specs.Promised.Handles.{types}
 use Rattle.type_terms.specs.Kept.{has-later}
 use Rattle.term_tests.proofs.answers.applied_to.Goals as goal
 

@@ -1,8 +1,8 @@
 use Rattle.std.proofs.Common.{◌≡◌, ℕ, ◌≤◌, List, false, sym, subst, arith}
-use Rattle.type_terms.specs.Label.{ref, uint, bound, of_lifetime}
-use Rattle.type_terms.specs.Trees.{tree, none, leaf}
-use Rattle.type_terms.specs.Terms.{Entry, Is, types, trees_at}
-use Rattle.type_terms.specs.Kinds.{region_label}
+use Rattle.type_terms.specs.Promised.Label.{ref, uint, bound, of_lifetime}
+use Rattle.type_terms.specs.Promised.Trees.{tree, none, leaf}
+use Rattle.type_terms.specs.Promised.Handles.{Entry, Is, types, trees_at}
+use Rattle.type_terms.specs.Promised.Handles.{region_label}
 use Rattle.type_terms.specs.declared.region.RegionKind.{RegionKind}
 use Rattle.type_terms.specs.Kept.{trees-is}
 use Rattle.term_folds.specs.Shifts.{ShiftInRange}

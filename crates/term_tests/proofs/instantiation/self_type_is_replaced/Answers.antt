@@ -1,6 +1,7 @@
 use Rattle.std.proofs.Common.{refl, ap, sym, ◌∙◌, subst}
-use Rattle.type_terms.specs.Trees.{Trees, none, ◌+++◌}
-use Rattle.type_terms.specs.Terms.{args_lists, types}
+use Rattle.type_terms.specs.Promised.Trees.{Trees, none, ◌+++◌}
+use Rattle.type_terms.specs.Terms.{args_lists}
+use Rattle.type_terms.specs.Promised.Handles.{types}
 use Rattle.type_terms.specs.Kept.{trees-is}
 use Rattle.term_folds.specs.Signatures.{StartsWithType}
 use Rattle.term_tests.proofs.instantiation.self_type_is_replaced.Goals as goal

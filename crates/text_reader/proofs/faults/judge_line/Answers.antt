@@ -1,6 +1,6 @@
 use Rattle.std.proofs.Common.{◌≡◌, IfOk, ap, sym, subst, ◌∙◌}
 use Rattle.std.specs.Option.{option_map}
-use Rattle.text_definitions.specs.Syntax.{Line}
+use Rattle.text_definitions.specs.Promised.Syntax.{Line}
 use Rattle.text_definitions.specs.Faults.{fault_of}
 use Rattle.line_reader.specs.Lines.{ReadsLine}
 use Rattle.line_reader.specs.Views.{statement_of}

@@ -1,7 +1,7 @@
 use Rattle.std.proofs.Common.{subst}
 use Rattle.std.proofs.lemmas.List.{drop_all}
-use Rattle.type_terms.specs.Label.{of_type, param}
-use Rattle.type_terms.specs.Trees.{leaf}
+use Rattle.type_terms.specs.Promised.Label.{of_type, param}
+use Rattle.type_terms.specs.Promised.Trees.{leaf}
 use Rattle.text_definitions.specs.Lowering.{with_self}
 use Rattle.line_reader.specs.LineParts.{bound_part}
 use Rattle.text_reader.specs.declared.numbering.Numbering.TheVariants.{Item}

@@ -1,9 +1,9 @@
 use Rattle.std.proofs.Common.{List, map, drop}
-use Rattle.type_terms.specs.Label.{of_type, param}
-use Rattle.type_terms.specs.Trees.{leaf}
+use Rattle.type_terms.specs.Promised.Label.{of_type, param}
+use Rattle.type_terms.specs.Promised.Trees.{leaf}
 use Rattle.text_definitions.specs.Lowering.{with_self}
 use Rattle.text_reader.specs.declared.numbering.Numbering.TheVariants.{Item}
-use Rattle.text_definitions.specs.Syntax.{Bound, Line}
+use Rattle.text_definitions.specs.Promised.Syntax.{Bound, Line}
 use Rattle.line_reader.specs.LineParts.{bound_part}
 use Rattle.line_reader.specs.Places.{EachOf}
 use Rattle.text_reader.specs.Kept.{IsSightOf, IsReadAs}

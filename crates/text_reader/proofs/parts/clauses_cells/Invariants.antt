@@ -1,6 +1,6 @@
 use Rattle.std.proofs.Common.{List, length}
 use Rattle.std.specs.List.{flat_map}
-use Rattle.text_definitions.specs.Syntax.{Clause, Line}
+use Rattle.text_definitions.specs.Promised.Syntax.{Clause, Line}
 use Rattle.line_reader.specs.LineParts.{clause_parts}
 use Rattle.line_reader.specs.Places.{EachOf}
 use Rattle.text_reader.specs.Kept.{IsSightOf, IsReadAs}

@@ -1,7 +1,7 @@
 use Rattle.std.proofs.Common.{[], map, drop}
-use Rattle.text_definitions.specs.Syntax.{Types, Line}
+use Rattle.text_definitions.specs.Promised.Syntax.{Types, Line}
 use Rattle.text_definitions.specs.Uses.{types_uses}
-use Rattle.text_definitions.specs.Faults.{with_own}
+use Rattle.text_definitions.specs.Promised.Faults.{with_own}
 use Rattle.line_reader.specs.Faultless.{UsesFit}
 use Rattle.line_reader.specs.LineParts.{type_part}
 use Rattle.line_reader.specs.Statement.{type_list}

@@ -1,5 +1,5 @@
 use Rattle.std.proofs.Common.{ℕ, ◌+◌, ◌≤◌, length, Result}
-use Rattle.text_definitions.specs.Declarations.{Declarations}
+use Rattle.text_definitions.specs.Promised.Declarations.{Declarations}
 use Rattle.text_definitions.specs.Text.{LinesGive, lines_of}
 use Rattle.workspace.specs.Numbered.{IsFew}
 use Rattle.text_reader.proofs.text.take_lines.Given as goal

@@ -1,5 +1,5 @@
 use Rattle.std.proofs.Common.{ap, reverse, ◌∙◌, refl}
-use Rattle.type_terms.specs.Trees.{◌+++◌}
+use Rattle.type_terms.specs.Promised.Trees.{◌+++◌}
 use Rattle.type_terms.specs.Binders.{counts_of}
 use Rattle.type_terms.specs.Pending.{part_trees, ahead, inside}
 use Rattle.type_terms.proofs.VisitFacts.{visits-append, visits-broken}

@@ -1,4 +1,4 @@
-use Rattle.type_terms.specs.Terms.{types}
+use Rattle.type_terms.specs.Promised.Handles.{types}
 use Rattle.type_terms.specs.Binders.{counts_of}
 use Rattle.type_terms.specs.Kept.{trees-is}
 use Rattle.type_terms.specs.Pending.{inside, path_pieces}

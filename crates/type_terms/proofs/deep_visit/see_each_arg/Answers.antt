@@ -1,6 +1,7 @@
 use Rattle.std.proofs.Common.{◌≡◌, ◌+◌, ◌∙◌, get_or, take, ap, refl, sym}
-use Rattle.type_terms.specs.Trees.{◌+++◌}
-use Rattle.type_terms.specs.Kinds.{args_trees, arg_trees}
+use Rattle.type_terms.specs.Promised.Trees.{◌+++◌}
+use Rattle.type_terms.specs.Kinds.{args_trees}
+use Rattle.type_terms.specs.Promised.Handles.{arg_trees}
 use Rattle.type_terms.specs.Visits.{ended}
 use Rattle.type_terms.proofs.Items.{take-push, arg-held-at, args-push}
 use Rattle.type_terms.proofs.VisitFacts.{visits-append, visits-broken, args-cut}

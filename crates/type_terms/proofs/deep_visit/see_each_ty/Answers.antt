@@ -1,6 +1,6 @@
 use Rattle.std.proofs.Common.{◌≡◌, ◌+◌, ◌∙◌, get_or, take, ap, refl}
-use Rattle.type_terms.specs.Trees.{◌+++◌}
-use Rattle.type_terms.specs.Terms.{trees_at}
+use Rattle.type_terms.specs.Promised.Trees.{◌+++◌}
+use Rattle.type_terms.specs.Promised.Handles.{trees_at}
 use Rattle.type_terms.specs.Kinds.{tys_trees}
 use Rattle.type_terms.specs.Visits.{ended}
 use Rattle.type_terms.proofs.Items.{take-push, ty-held-at, tys-push}

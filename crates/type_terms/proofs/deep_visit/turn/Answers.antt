@@ -1,5 +1,5 @@
 use Rattle.std.proofs.Common.{ap, reverse, refl}
-use Rattle.type_terms.specs.Kinds.{arg_trees}
+use Rattle.type_terms.specs.Promised.Handles.{arg_trees}
 use Rattle.type_terms.specs.Binders.{counts_of}
 use Rattle.type_terms.specs.Pending.{ahead, inside}
 use Rattle.type_terms.proofs.PendingFacts.{at-once}

@@ -1,7 +1,8 @@
 use Rattle.std.proofs.Common.{◌≡◌, ap, ◌++◌, ◌∙◌}
 use Rattle.std.specs.Prelude.{Some}
-use Rattle.type_terms.specs.Trees.{◌+++◌}
-use Rattle.type_terms.specs.Terms.{trees_at, bounds_lists, args_lists}
+use Rattle.type_terms.specs.Promised.Trees.{◌+++◌}
+use Rattle.type_terms.specs.Promised.Handles.{trees_at, bounds_lists}
+use Rattle.type_terms.specs.Terms.{args_lists}
 use Rattle.type_terms.specs.Kinds.{principal_trees, autos_trees, args_trees}
 use Rattle.type_terms.specs.Visits.{next_each}
 use Rattle.type_terms.specs.Binders.{counts_of}

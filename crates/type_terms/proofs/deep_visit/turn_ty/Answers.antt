@@ -1,6 +1,6 @@
 use Rattle.std.proofs.Common.{ap, reverse, subst, refl, ◌++◌}
 use Rattle.type_terms.specs.Trees.{Single}
-use Rattle.type_terms.specs.Terms.{trees_at}
+use Rattle.type_terms.specs.Promised.Handles.{trees_at}
 use Rattle.type_terms.specs.declared.visit.Seen.TheVariants.{Enter}
 use Rattle.type_terms.specs.Binders.{counts_of}
 use Rattle.type_terms.specs.Pending.{ahead, inside, path_pieces}

@@ -2,7 +2,7 @@ use Rattle.std.proofs.Common.{[], ◌∷◌, subst}
 use Rattle.std.specs.Prelude.{Some}
 use Rattle.std.specs.ControlFlow.{break_value}
 use Rattle.type_terms.specs.Trees.{Single}
-use Rattle.type_terms.specs.Terms.{trees_at}
+use Rattle.type_terms.specs.Promised.Handles.{trees_at}
 use Rattle.type_terms.specs.Binders.{counts_of}
 use Rattle.type_terms.specs.Visits.{VisitsEach}
 use Rattle.type_terms.specs.Pending.{ahead, piece_below, pieces_ahead}

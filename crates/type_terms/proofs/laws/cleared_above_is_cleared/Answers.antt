@@ -1,6 +1,6 @@
 use Rattle.std.specs.Prelude.{[]}
-use Rattle.type_terms.specs.Proofs.{HasProof}
-use Rattle.type_terms.specs.Elaborated.{HasElaboratedProof}
+use Rattle.type_terms.specs.Promised.Proofs.{HasProof}
+use Rattle.type_terms.specs.Promised.Proofs.{HasElaboratedProof}
 use Rattle.type_terms.proofs.WiderImpls.{cleared-below}
 use Rattle.type_terms.proofs.WiderSets.{proofs-above, elaborated-proofs-above}
 use Rattle.type_terms.proofs.laws.cleared_above_is_cleared.Goals as goal

@@ -1,6 +1,7 @@
 use Rattle.std.proofs.Common.{◌≡◌, refl, subst}
-use Rattle.type_terms.specs.Trees.{Trees, Single}
-use Rattle.type_terms.specs.Terms.{consts, trees_at}
+use Rattle.type_terms.specs.Promised.Trees.{Trees}
+use Rattle.type_terms.specs.Trees.{Single}
+use Rattle.type_terms.specs.Promised.Handles.{consts, trees_at}
 use Rattle.type_terms.specs.Kinds.{const_trees, const_label}
 use Rattle.type_terms.specs.declared.visit.Seen.TheVariants.{Enter}
 use Rattle.type_terms.specs.Binders.{counts_of}

@@ -1,5 +1,5 @@
 use Rattle.std.proofs.Common.{refl}
-use Rattle.type_terms.specs.Kinds.{region_trees, region_label}
+use Rattle.type_terms.specs.Promised.Handles.{region_trees, region_label}
 use Rattle.type_terms.specs.Binders.{counts_of}
 use Rattle.type_terms.proofs.VisitFacts.{break-at, pass-at, enter-leaf}
 use Rattle.type_terms.proofs.visit.visit_region.Goals as goal

@@ -1,7 +1,10 @@
 use Rattle.std.proofs.Common.{◌≡◌, ℕ, ◌+◌, ◌≤◌, arith, sym, ◌∙◌, get_or, take, ap, refl, Some}
-use Rattle.type_terms.specs.Trees.{◌+++◌, Single}
-use Rattle.type_terms.specs.Terms.{types, type_lists, args_lists, bounds_lists, trees_at}
-use Rattle.type_terms.specs.Kinds.{tys_trees, args_trees, arg_trees, ArgOlder, ArgHeld, principal_trees, autos_trees, region_trees}
+use Rattle.type_terms.specs.Promised.Trees.{◌+++◌}
+use Rattle.type_terms.specs.Trees.{Single}
+use Rattle.type_terms.specs.Promised.Handles.{types, bounds_lists, trees_at}
+use Rattle.type_terms.specs.Terms.{type_lists, args_lists}
+use Rattle.type_terms.specs.Kinds.{tys_trees, args_trees, ArgOlder, principal_trees, autos_trees}
+use Rattle.type_terms.specs.Promised.Handles.{arg_trees, ArgHeld, region_trees}
 use Rattle.type_terms.specs.declared.kinds.GenericArgKind.{GenericArgKind}
 use Rattle.type_terms.specs.declared.kinds.GenericArgKind.TheVariants.{Lifetime, Ty, Const}
 use Rattle.type_terms.specs.Binders.{counts_of}

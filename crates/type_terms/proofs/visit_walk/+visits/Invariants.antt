@@ -1,6 +1,8 @@
 use Rattle.std.proofs.Common.{ℕ, ◌+◌, ◌*◌, take, None}
-use Rattle.type_terms.specs.Terms.{Is, type_lists, args_lists}
-use Rattle.type_terms.specs.Kinds.{TysHeld, TysOlder, tys_trees, ArgsHeld, ArgsOlder, args_trees}
+use Rattle.type_terms.specs.Promised.Handles.{Is}
+use Rattle.type_terms.specs.Terms.{type_lists, args_lists}
+use Rattle.type_terms.specs.Kinds.{TysHeld, TysOlder, tys_trees, ArgsOlder, args_trees}
+use Rattle.type_terms.specs.Promised.Handles.{ArgsHeld}
 use Rattle.type_terms.specs.declared.kinds.GenericArgKind.{GenericArgKind}
 use Rattle.type_terms.specs.declared.kinds.GenericArgKind.TheVariants.{Lifetime, Ty, Const}
 use Rattle.type_terms.specs.Binders.{counts_of}

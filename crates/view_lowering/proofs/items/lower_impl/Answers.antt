@@ -1,13 +1,13 @@
 use Rattle.std.proofs.Common.{arith, ◌≡◌, ℕ, List, [], ◌∷◌, map, length, refl, subst, sym, ap, ◌∙◌}
 use Rattle.std.proofs.lemmas.List.{length-map}
-use Rattle.type_terms.specs.Worlds.{ImplDecl, Reference}
+use Rattle.type_terms.specs.Promised.Worlds.{ImplDecl, Reference}
 use Rattle.declarations.specs.Applied.{sort_of_param}
 use Rattle.declarations.specs.Heads.{begins_declared}
 use Rattle.declarations.proofs.Growth.{reference-kept, reference-same, args-same}
 use Rattle.workspace.specs.Made.{ReferencesMade, is_arg}
 use Rattle.workspace.specs.Views.{sort_of_kind, sorted_params, reference_of}
 use Rattle.workspace.specs.declared.declared.Param.{Param}
-use Rattle.view_lowering.specs.Plain.{all_kept, stands_in, plain_reference}
+use Rattle.view_lowering.specs.Promised.SeenWorlds.{all_kept, stands_in, plain_reference}
 use Rattle.view_lowering.specs.PlainCells.{named_in}
 use Rattle.view_lowering.proofs.Plainly.{references-same, begins-plain}
 use Rattle.view_lowering.proofs.Named.{named-stands}

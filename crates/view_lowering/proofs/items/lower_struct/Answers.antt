@@ -3,7 +3,7 @@ use Rattle.type_terms.proofs.FailFacts.{at-limit}
 use Rattle.workspace.specs.Made.{AreMade, is_type}
 use Rattle.workspace.specs.TermCells.{trees_of}
 use Rattle.workspace.specs.Views.{cells_of}
-use Rattle.view_lowering.specs.Plain.{none_kept, plain}
+use Rattle.view_lowering.specs.Promised.SeenWorlds.{none_kept, plain}
 use Rattle.view_lowering.specs.PlainCells.{plain_cell}
 use Rattle.view_lowering.proofs.Plainly.{trees-plain}
 use Rattle.view_lowering.proofs.Structs.{struct-lowered}

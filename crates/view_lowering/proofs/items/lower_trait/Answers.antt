@@ -1,10 +1,10 @@
 use Rattle.std.proofs.Common.{arith, subst, sym, ap, ◌∙◌, map}
 use Rattle.std.specs.Prelude.{sum_by}
-use Rattle.type_terms.specs.Worlds.{TraitDecl}
+use Rattle.type_terms.specs.Promised.Worlds.{TraitDecl}
 use Rattle.workspace.specs.Made.{ReferencesMade}
 use Rattle.workspace.specs.TermCounts.{reference_terms}
 use Rattle.workspace.specs.Views.{reference_of}
-use Rattle.view_lowering.specs.Plain.{none_kept, plain_reference}
+use Rattle.view_lowering.specs.Promised.SeenWorlds.{none_kept, plain_reference}
 use Rattle.view_lowering.proofs.items.lower_trait.Goals as goal
 
 pub lower_references-requires : goal.lower_references-requires

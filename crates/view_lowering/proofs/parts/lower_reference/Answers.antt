@@ -1,7 +1,7 @@
 use Rattle.std.proofs.Common.{◌≡◌, arith, ap, sym, subst, ◌∙◌}
 use Rattle.std.specs.Prelude.{IfOk}
 use Rattle.std.specs.List.{list_all}
-use Rattle.type_terms.specs.Worlds.{Reference}
+use Rattle.type_terms.specs.Promised.Worlds.{Reference}
 use Rattle.declarations.specs.Items.{reference_in}
 use Rattle.workspace.specs.TermCounts.{reference_terms}
 use Rattle.workspace.specs.Views.{reference_of}

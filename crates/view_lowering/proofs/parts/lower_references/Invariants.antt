@@ -4,7 +4,7 @@ use Rattle.declarations.specs.Applied.{references_in, TraitRefsHeld}
 use Rattle.workspace.specs.TermCounts.{reference_terms}
 use Rattle.workspace.specs.Views.{reference_of}
 use Rattle.type_terms.specs.Growth.{Grew}
-use Rattle.view_lowering.specs.Plain.{plain_reference}
+use Rattle.view_lowering.specs.Promised.SeenWorlds.{plain_reference}
 use Rattle.view_lowering.specs.PlainCells.{is_kept}
 use Rattle.view_lowering.proofs.parts.lower_references.Given as goal
 

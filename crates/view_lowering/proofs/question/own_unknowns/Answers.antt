@@ -1,6 +1,6 @@
 use Rattle.std.proofs.Common.{◌∙◌, ◌+◌, ◌++◌, ◌∷◌, ap, sym, subst, map, drop, ◌≡◌, refl}
 use Rattle.text_definitions.specs.Names.{own_from}
-use Rattle.type_terms.specs.Kinds.{arg_trees, ArgsHeld}
+use Rattle.type_terms.specs.Promised.Handles.{arg_trees, ArgsHeld}
 use Rattle.type_terms.proofs.Grown.{grew-on}
 use Rattle.workspace.specs.Views.{variable_of}
 use Rattle.view_lowering.proofs.Unknowns.{unknowns-further, args-more, next-left}

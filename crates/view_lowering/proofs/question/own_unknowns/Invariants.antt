@@ -1,6 +1,6 @@
 use Rattle.std.proofs.Common.{◌≡◌, ◌++◌, map, drop}
 use Rattle.text_definitions.specs.Names.{own_from}
-use Rattle.type_terms.specs.Kinds.{arg_trees, ArgsHeld}
+use Rattle.type_terms.specs.Promised.Handles.{arg_trees, ArgsHeld}
 use Rattle.workspace.specs.Views.{variable_of}
 use Rattle.type_terms.specs.Growth.{Grew}
 use Rattle.view_lowering.proofs.question.own_unknowns.Given as goal

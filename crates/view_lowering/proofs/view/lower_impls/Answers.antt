@@ -4,7 +4,7 @@ use Rattle.std.proofs.lemmas.Option.{slice_get_read, slice_get-map}
 use Rattle.std.specs.Prelude.{slice_get, ◌<◌}
 use Rattle.std.specs.Option.{option_map}
 use Rattle.declarations.specs.Items.{held_impl}
-use Rattle.declarations.specs.Merges.{Each}
+use Rattle.declarations.specs.Promised.Elaboration.{Each}
 use Rattle.declarations.proofs.Growth.{all-held}
 use Rattle.workspace.specs.Views.{impl_of}
 use Rattle.view_lowering.proofs.Views.{ImplsAdded, impls-first, impls-passed, impls-all, impls-few, impls-fewer, impls-sorted, impls-taken}

@@ -1,5 +1,5 @@
 use Rattle.std.proofs.Common.{arith, ap, Err}
-use Rattle.type_terms.specs.Terms.{types}
+use Rattle.type_terms.specs.Promised.Handles.{types}
 use Rattle.workspace.specs.Stack.{stack_of}
 use Rattle.workspace.proofs.Lowering.{array-lowers}
 use Rattle.workspace.proofs.Counting.{at-most-one, none-added}

@@ -1,5 +1,5 @@
 use Rattle.std.proofs.Common.{arith, ap, Err}
-use Rattle.type_terms.specs.Terms.{bounds_lists, types}
+use Rattle.type_terms.specs.Promised.Handles.{bounds_lists, types}
 use Rattle.type_terms.proofs.Grown.{grew-on}
 use Rattle.workspace.specs.Stack.{stack_of}
 use Rattle.workspace.proofs.Lowering.{dyn-lowers, principal-made, principal-held}

@@ -1,6 +1,7 @@
 use Rattle.std.proofs.Common.{subst, ap, ◌∙◌, arith, Err}
 use Rattle.type_terms.specs.Trees.{is_no_tree}
-use Rattle.type_terms.specs.Terms.{type_lists, types}
+use Rattle.type_terms.specs.Terms.{type_lists}
+use Rattle.type_terms.specs.Promised.Handles.{types}
 use Rattle.type_terms.proofs.Grown.{grew-on}
 use Rattle.workspace.specs.Stack.{stack_of, parts_in, StackHeld}
 use Rattle.workspace.proofs.Lowering.{held-pushed, tys-held, fn-lowers, fn-output, fn-made, is-tree}

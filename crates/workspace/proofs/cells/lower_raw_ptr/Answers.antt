@@ -1,7 +1,7 @@
 use Rattle.std.proofs.Common.{refl, arith, ap, Err}
-use Rattle.type_terms.specs.Label.{raw_pointer}
+use Rattle.type_terms.specs.Promised.Label.{raw_pointer}
 use Rattle.type_terms.specs.Kinds.{is_mut}
-use Rattle.type_terms.specs.Terms.{types}
+use Rattle.type_terms.specs.Promised.Handles.{types}
 use Rattle.workspace.specs.declared.cell.TermCell.TheVariants as cells
 use Rattle.workspace.specs.Stack.{stack_of}
 use Rattle.workspace.proofs.Lowering.{over-lowers}

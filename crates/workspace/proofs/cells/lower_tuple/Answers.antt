@@ -1,5 +1,6 @@
 use Rattle.std.proofs.Common.{subst, arith, ap, Err}
-use Rattle.type_terms.specs.Terms.{type_lists, types}
+use Rattle.type_terms.specs.Terms.{type_lists}
+use Rattle.type_terms.specs.Promised.Handles.{types}
 use Rattle.type_terms.proofs.Grown.{grew-on}
 use Rattle.workspace.specs.Stack.{stack_of, StackHeld}
 use Rattle.workspace.proofs.Lowering.{held-pushed, tys-held, tuple-lowers}

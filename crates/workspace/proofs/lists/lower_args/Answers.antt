@@ -1,5 +1,6 @@
 use Rattle.std.proofs.Common.{subst, sym, ap, ◌∙◌, Err, arith}
-use Rattle.type_terms.specs.Terms.{Is, args_lists}
+use Rattle.type_terms.specs.Promised.Handles.{Is}
+use Rattle.type_terms.specs.Terms.{args_lists}
 use Rattle.type_terms.proofs.Grown.{grew-on}
 use Rattle.type_terms.proofs.FailFacts.{at-limit}
 use Rattle.workspace.specs.Made.{is_arg}

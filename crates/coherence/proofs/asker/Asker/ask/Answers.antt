@@ -1,7 +1,7 @@
 use Rattle.std.proofs.Common.{ℕ, List, Ok, subst, sym}
 use Rattle.std.specs.Prelude.{IfOk, IfErr}
 use Rattle.std.proofs.lemmas.Result.{err_from_is_err_and}
-use Rattle.text_definitions.specs.Declarations.{Declarations}
+use Rattle.text_definitions.specs.Promised.Declarations.{Declarations}
 use Rattle.text_definitions.specs.Text.{TextGives}
 use Rattle.text_reader.specs.Behind.{FitsBehind, behind}
 use Rattle.coherence.specs.Asking.{AskedText, IsAskFault, IsLastLine, Serves}

@@ -3,12 +3,13 @@ use Rattle.std.specs.Prelude.{map}
 use Rattle.std.specs.Map.{lookup}
 use Rattle.std.proofs.lemmas.List.{map_push}
 use Rattle.indexmap.proofs.CallerLemmas.{insert_entry-new}
-use Rattle.type_terms.specs.Terms.{trees_at, types}
+use Rattle.type_terms.specs.Promised.Handles.{trees_at, types}
 use Rattle.type_terms.specs.Kept.{trees-is}
 use Rattle.type_terms.specs.contracts.ImplIdPartialEq.TheImpl.{ghosts as impl-id}
 use Rattle.declarations.specs.declared.declarations.ImplEntry.{ImplEntry}
 use Rattle.declarations.specs.Heads.{head_of}
-use Rattle.declarations.specs.Merges.{Each, Rises}
+use Rattle.declarations.specs.Promised.Elaboration.{Each}
+use Rattle.declarations.specs.Merges.{Rises}
 use Rattle.declarations.specs.Items.{HeldImpl}
 use Rattle.declarations.specs.Index.{listed, has_key, ids_of}
 use Rattle.declarations.specs.Inside.{items_of, impl_of}

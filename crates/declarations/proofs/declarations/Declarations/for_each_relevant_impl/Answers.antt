@@ -1,8 +1,8 @@
 use Rattle.std.proofs.Common.{refl, sym, ap, ◌∙◌, None, subst, List}
 use Rattle.std.specs.Prelude.{map, filter}
-use Rattle.type_terms.specs.Label.{of_type}
-use Rattle.type_terms.specs.Trees.{IsA}
-use Rattle.type_terms.specs.Terms.{trees_at, types}
+use Rattle.type_terms.specs.Promised.Label.{of_type}
+use Rattle.type_terms.specs.Promised.Trees.{IsA}
+use Rattle.type_terms.specs.Promised.Handles.{trees_at, types}
 use Rattle.type_terms.specs.Kept.{trees-is}
 use Rattle.type_terms.specs.declared.ImplId.{ImplId}
 use Rattle.declarations.specs.Heads.{head_of}

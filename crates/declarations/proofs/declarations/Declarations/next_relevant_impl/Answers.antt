@@ -1,8 +1,8 @@
 use Rattle.std.proofs.Common.{None, refl, sym, ap, ◌∙◌, subst}
 use Rattle.std.specs.Option.{option_map}
-use Rattle.type_terms.specs.Label.{of_type}
-use Rattle.type_terms.specs.Trees.{IsA}
-use Rattle.type_terms.specs.Terms.{trees_at, types}
+use Rattle.type_terms.specs.Promised.Label.{of_type}
+use Rattle.type_terms.specs.Promised.Trees.{IsA}
+use Rattle.type_terms.specs.Promised.Handles.{trees_at, types}
 use Rattle.type_terms.specs.Kept.{trees-is}
 use Rattle.type_terms.specs.declared.ImplId.{ImplId}
 use Rattle.declarations.specs.Heads.{head_of}

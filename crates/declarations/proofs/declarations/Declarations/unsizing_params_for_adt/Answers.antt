@@ -1,5 +1,5 @@
 use Rattle.std.proofs.Common.{◌∙◌, length}
-use Rattle.type_terms.specs.Erased.{erased_struct}
+use Rattle.type_terms.specs.Promised.Erased.{erased_struct}
 use Rattle.declarations.specs.Items.{struct_in}
 use Rattle.declarations.specs.Unsizing.{field_trees}
 use Rattle.declarations.proofs.Unsized.{flags-told}

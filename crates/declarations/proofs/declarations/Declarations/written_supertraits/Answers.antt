@@ -1,10 +1,10 @@
 use Rattle.std.proofs.Common.{◌≡◌, sym, ap, ◌∙◌, subst, None, Ok, Err}
 use Rattle.std.specs.Prelude.{Result, IfOk}
-use Rattle.type_terms.specs.Terms.{trees_at}
+use Rattle.type_terms.specs.Promised.Handles.{trees_at}
 use Rattle.term_folds.specs.Arguments.{first_misfit}
-use Rattle.type_terms.specs.Worlds.{all_with_args}
+use Rattle.type_terms.specs.Promised.Worlds.{all_with_args}
 use Rattle.declarations.specs.Applied.{references_in, TraitRefsHeld}
-use Rattle.declarations.specs.Merges.{Each}
+use Rattle.declarations.specs.Promised.Elaboration.{Each}
 use Rattle.declarations.proofs.Elaborating.{bounds-fit, bounds-applied}
 use Rattle.declarations.proofs.declarations.Declarations.written_supertraits.Goals as goal
 

@@ -1,6 +1,6 @@
 use Rattle.std.proofs.Common.{◌≡◌, true, false, ap, sym, ◌∙◌, subst, rules}
 use Rattle.declarations.specs.Items.{reference_in}
-use Rattle.declarations.specs.Elaboration.{is_put}
+use Rattle.declarations.specs.Promised.Elaboration.{is_put}
 use Rattle.declarations.specs.Applied.{references_in, TraitRefsHeld}
 use Rattle.declarations.proofs.Extending.{Extending, among-put, extending-first, extending-known, extending-new}
 use Rattle.declarations.proofs.elaborate.Elaborator.extend_deduped.Goals as goal

@@ -1,6 +1,6 @@
 use Rattle.std.proofs.Common.{sym, subst, OnOk, Result}
 use Rattle.std.specs.Prelude.{IfErr}
-use Rattle.type_terms.specs.Kinds.{arg_trees}
+use Rattle.type_terms.specs.Promised.Handles.{arg_trees}
 use Rattle.infer_table.specs.Content.{Table, content, Ready}
 use Rattle.infer_table.specs.Shortages.{EqFullAtLimit}
 use Rattle.infer_table.specs.Solutions.{OlderStays}

@@ -1,5 +1,5 @@
 use Rattle.std.proofs.Common.{ap, sym, subst}
-use Rattle.type_terms.specs.Kinds.{ArgsHeld}
+use Rattle.type_terms.specs.Promised.Handles.{ArgsHeld}
 use Rattle.infer_table.specs.Content.{Ready}
 use Rattle.evaluation.specs.Context.{Context}
 use Rattle.evaluation.proofs.TrialContexts.{ready-begun}

@@ -1,5 +1,5 @@
 use Rattle.std.proofs.Common.{◌≡◌, ℕ, ◌+◌, length, ◌∷◌, [], map, option_map, refl, sym, ◌∙◌, ap, subst}
-use Rattle.type_terms.specs.Terms.{Keeps}
+use Rattle.type_terms.specs.Promised.Handles.{Keeps}
 use Rattle.type_terms.specs.Kept.{args-held-later}
 use Rattle.infer_table.specs.Responses.{ResponseHeld, answer_trees}
 use Rattle.evaluation.specs.Context.{nested_goal}

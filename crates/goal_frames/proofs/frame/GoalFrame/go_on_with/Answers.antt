@@ -1,8 +1,8 @@
 use Rattle.std.proofs.Common.{rules, ◌≡◌, ◌∙◌, map, ap, sym, subst, refl, Option, Some, None, Ok, Err}
 use Rattle.std.specs.Prelude.{IfOk}
-use Rattle.type_terms.specs.Label.{of_trait, predicate}
-use Rattle.type_terms.specs.Trees.{tree, none}
-use Rattle.type_terms.specs.Terms.{trees_at}
+use Rattle.type_terms.specs.Promised.Label.{of_trait, predicate}
+use Rattle.type_terms.specs.Promised.Trees.{tree, none}
+use Rattle.type_terms.specs.Promised.Handles.{trees_at}
 use Rattle.type_terms.specs.declared.TraitId.{TraitId}
 use Rattle.infer_table.specs.Inputs.{form_of}
 use Rattle.evaluation.specs.Readings.{is_coinductive_step}

@@ -1,5 +1,5 @@
 use Rattle.std.proofs.Common.{ap, Err, arith}
-use Rattle.type_terms.specs.Terms.{consts}
+use Rattle.type_terms.specs.Promised.Handles.{consts}
 use Rattle.type_terms.proofs.FailFacts.{faulted, refused-term}
 use Rattle.infer_table.proofs.canonicalizer.CanonicalizerTypeFolder.fold_const.Goals as goal
 

@@ -1,6 +1,6 @@
 use Rattle.std.proofs.Common.{ap, Err, arith, ◌≡◌, Bool, true, false, refl, sym, ◌∙◌, ◌&&◌}
 use Rattle.type_terms.specs.Trees.{Single}
-use Rattle.type_terms.specs.Terms.{trees_at, types}
+use Rattle.type_terms.specs.Promised.Handles.{trees_at, types}
 use Rattle.type_terms.proofs.Sorts.{type-single}
 use Rattle.type_terms.specs.Binders.{counts_of}
 use Rattle.type_terms.specs.Kept.{is-at}

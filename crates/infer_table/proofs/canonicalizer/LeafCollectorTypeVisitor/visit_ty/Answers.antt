@@ -1,6 +1,6 @@
 use Rattle.std.proofs.Common.{◌≡◌, true, refl, sym, ◌∙◌, ap}
 use Rattle.infer_table.specs.Leaves.{labels, are_closed_flags, is_closed}
-use Rattle.type_terms.specs.Terms.{trees_at}
+use Rattle.type_terms.specs.Promised.Handles.{trees_at}
 use Rattle.infer_table.proofs.ClosedFacts.{closed-leaves, closed-only}
 use Rattle.infer_table.proofs.canonicalizer.LeafCollectorTypeVisitor.visit_ty.Goals as goal
 

@@ -1,6 +1,7 @@
 use Rattle.std.proofs.Common.{ℕ, [], List, ap, subst, Err}
-use Rattle.type_terms.specs.Trees.{Trees}
-use Rattle.type_terms.specs.Terms.{trees_at, args_lists}
+use Rattle.type_terms.specs.Promised.Trees.{Trees}
+use Rattle.type_terms.specs.Promised.Handles.{trees_at}
+use Rattle.type_terms.specs.Terms.{args_lists}
 use Rattle.term_folds.specs.Folds.{Does, FoldsEach}
 use Rattle.type_terms.specs.Kept.{has-later, trees-later}
 use Rattle.type_terms.specs.Pieces.{one_piece}

@@ -1,5 +1,5 @@
 use Rattle.std.proofs.Common.{refl}
-use Rattle.type_terms.specs.Terms.{trees_at}
+use Rattle.type_terms.specs.Promised.Handles.{trees_at}
 use Rattle.type_terms.specs.Pieces.{one_piece}
 use Rattle.type_terms.proofs.VisitFacts.{visits-both, visits-stop}
 use Rattle.infer_table.proofs.goal.Goal.visit_with.Goals as goal

@@ -1,7 +1,7 @@
 use Rattle.std.proofs.Common.{sym, subst, ap, ◌∙◌, inl, inr, refl, ◌≡◌, true, false}
 use Rattle.std.specs.Prelude.{bit_and}
-use Rattle.type_terms.specs.Label.{of_type}
-use Rattle.type_terms.specs.Terms.{types, trees_at}
+use Rattle.type_terms.specs.Promised.Label.{of_type}
+use Rattle.type_terms.specs.Promised.Handles.{types, trees_at}
 use Rattle.type_terms.specs.Kinds.{args_trees}
 use Rattle.infer_table.specs.Content.{content, variables_of, IsProper}
 use Rattle.infer_table.specs.Occurring.{Pushes}

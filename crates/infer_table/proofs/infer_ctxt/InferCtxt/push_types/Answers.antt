@@ -1,7 +1,8 @@
 use Rattle.std.proofs.Common.{sym, subst, take, ◌++◌, ◌∷◌, []}
-use Rattle.type_terms.specs.Trees.{◌+++◌}
+use Rattle.type_terms.specs.Promised.Trees.{◌+++◌}
 use Rattle.type_terms.specs.declared.kinds.GenericArgKind.TheVariants.{Lifetime as ALifetime, Const as AConst}
-use Rattle.type_terms.specs.Kinds.{arg_trees, args_trees, ArgHeld}
+use Rattle.type_terms.specs.Promised.Handles.{arg_trees, ArgHeld}
+use Rattle.type_terms.specs.Kinds.{args_trees}
 use Rattle.type_terms.proofs.Items.{arg-held-at}
 use Rattle.infer_table.specs.Content.{content}
 use Rattle.infer_table.specs.Occurring.{Pushes}

@@ -1,5 +1,5 @@
 use Rattle.std.proofs.Common.{Some, None, ap, sym, ◌∙◌}
-use Rattle.type_terms.specs.Label.{of_type}
+use Rattle.type_terms.specs.Promised.Label.{of_type}
 use Rattle.infer_table.proofs.Fillings.{value-at, held-at}
 use Rattle.infer_table.proofs.instantiate.CanonicalInstantiator.ty_value.Goals as goal
 

@@ -1,8 +1,8 @@
 use Rattle.std.proofs.Common.{◌≡◌, Some, ap, ◌∙◌}
-use Rattle.type_terms.specs.Label.{of_const, canonical}
-use Rattle.type_terms.specs.Trees.{leaf}
-use Rattle.type_terms.specs.Terms.{trees_at, consts}
-use Rattle.type_terms.specs.Kinds.{bound_label}
+use Rattle.type_terms.specs.Promised.Label.{of_const, canonical}
+use Rattle.type_terms.specs.Promised.Trees.{leaf}
+use Rattle.type_terms.specs.Promised.Handles.{trees_at, consts}
+use Rattle.type_terms.specs.Promised.Handles.{bound_label}
 use Rattle.type_terms.specs.Kept.{is-at, trees-is}
 use Rattle.term_folds.proofs.FoldFacts.{ConstIs}
 use Rattle.infer_table.specs.Values.{values_of, filling}

@@ -1,7 +1,7 @@
 use Rattle.std.proofs.Common.{refl, ap, ◌∙◌, Some}
-use Rattle.type_terms.specs.Label.{of_lifetime}
-use Rattle.type_terms.specs.Trees.{leaf}
-use Rattle.type_terms.specs.Kinds.{region_label, region_trees}
+use Rattle.type_terms.specs.Promised.Label.{of_lifetime}
+use Rattle.type_terms.specs.Promised.Trees.{leaf}
+use Rattle.type_terms.specs.Promised.Handles.{region_label, region_trees}
 use Rattle.type_terms.specs.declared.region.RegionKind.TheVariants.{ReBound}
 use Rattle.term_folds.proofs.FoldFacts.{RegionIs}
 use Rattle.infer_table.specs.Values.{values_of, filling}

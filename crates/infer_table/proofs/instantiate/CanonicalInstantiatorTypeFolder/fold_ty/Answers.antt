@@ -1,8 +1,8 @@
 use Rattle.std.proofs.Common.{◌≡◌, Some, ap, sym, ◌∙◌, true}
-use Rattle.type_terms.specs.Label.{of_type, canonical}
-use Rattle.type_terms.specs.Trees.{leaf}
-use Rattle.type_terms.specs.Terms.{trees_at, types}
-use Rattle.type_terms.specs.Kinds.{bound_label}
+use Rattle.type_terms.specs.Promised.Label.{of_type, canonical}
+use Rattle.type_terms.specs.Promised.Trees.{leaf}
+use Rattle.type_terms.specs.Promised.Handles.{trees_at, types}
+use Rattle.type_terms.specs.Promised.Handles.{bound_label}
 use Rattle.type_terms.proofs.Sorts.{type-single}
 use Rattle.type_terms.specs.Kept.{is-at, trees-is}
 use Rattle.term_folds.proofs.FoldFacts.{TyIs}

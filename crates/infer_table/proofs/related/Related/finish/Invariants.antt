@@ -1,5 +1,5 @@
 use Rattle.std.proofs.Common.{◌≡◌, List, length}
-use Rattle.type_terms.specs.Terms.{Entry}
+use Rattle.type_terms.specs.Promised.Handles.{Entry}
 use Rattle.infer_table.specs.Content.{Table}
 use Rattle.infer_table.specs.Unification.{Worklist}
 use Rattle.infer_table.specs.Related.{Tracks}

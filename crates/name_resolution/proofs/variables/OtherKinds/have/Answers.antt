@@ -1,5 +1,5 @@
 use Rattle.std.proofs.Common.{ap, sym}
-use Rattle.type_terms.specs.Label.{of_type, of_const, of_lifetime}
+use Rattle.type_terms.specs.Promised.Label.{of_type, of_const, of_lifetime}
 use Rattle.workspace.specs.Views.{sort_of_kind}
 use Rattle.name_resolution.specs.Variables.{other_kind_names}
 use Rattle.name_resolution.proofs.OtherSorts.{has-other}

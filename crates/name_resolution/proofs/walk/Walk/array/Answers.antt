@@ -1,5 +1,5 @@
 use Rattle.std.proofs.Common.{◌≡◌, ◌∷◌, ◌++◌, sym, ap, ◌∙◌}
-use Rattle.type_terms.specs.Label.{array}
+use Rattle.type_terms.specs.Promised.Label.{array}
 use Rattle.text_definitions.specs.Uses.{length_uses}
 use Rattle.text_definitions.specs.Faults.{variables_in}
 use Rattle.line_reader.specs.TypeViews.{length_of}

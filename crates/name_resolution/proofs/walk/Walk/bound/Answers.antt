@@ -1,10 +1,10 @@
 use Rattle.std.proofs.Common.{◌≡◌, ℕ, Bool, List, ◌∷◌, [], ◌++◌, map, length, sym, ap, ◌∙◌, true}
 use Rattle.std.specs.Prelude.{not, ◌&&◌}
 use Rattle.std.proofs.lemmas.List.{length-map}
-use Rattle.type_terms.specs.Label.{Sort, principal}
+use Rattle.type_terms.specs.Promised.Label.{Sort, principal}
 use Rattle.line_reader.specs.TokenViews.{text_of}
-use Rattle.text_definitions.specs.Declarations.{known}
-use Rattle.text_definitions.specs.Faults.{is_auto_name}
+use Rattle.text_definitions.specs.Promised.Declarations.{known}
+use Rattle.text_definitions.specs.Promised.Faults.{is_auto_name}
 use Rattle.text_definitions.specs.Lowering.{trait_number}
 use Rattle.text_definitions.specs.Uses.{trait_use, binder_uses, kinds_of_trait}
 use Rattle.name_resolution.specs.Resolved as resolved

@@ -1,6 +1,6 @@
 use Rattle.std.proofs.Common.{◌≡◌, ℕ, ◌-◌, List, ◌∷◌, [], ◌++◌, map, length, sym, ap, ◌∙◌}
 use Rattle.std.proofs.lemmas.List.{length-map}
-use Rattle.type_terms.specs.Label.{fn_ptr}
+use Rattle.type_terms.specs.Promised.Label.{fn_ptr}
 use Rattle.line_reader.specs.TokenViews.{text_of}
 use Rattle.text_definitions.specs.Uses.{items_use, binder_uses}
 use Rattle.workspace.specs.Views.{sort_of_kind}

@@ -1,7 +1,7 @@
 use Rattle.std.proofs.Common.{◌≡◌, ℕ, Bool, List, Option, ◌∷◌, [], ◌++◌, sym, ap, ◌∙◌, false}
 use Rattle.std.specs.Prelude.{not, ◌&&◌}
-use Rattle.type_terms.specs.Label.{Sort}
-use Rattle.text_definitions.specs.Declarations.{known}
+use Rattle.type_terms.specs.Promised.Label.{Sort}
+use Rattle.text_definitions.specs.Promised.Declarations.{known}
 use Rattle.text_definitions.specs.Uses.{name_use, kinds_of_struct}
 use Rattle.workspace.specs.Views.{sort_of_kind}
 use Rattle.name_resolution.specs.Views.{resolved_in}

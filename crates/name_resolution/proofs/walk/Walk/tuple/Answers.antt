@@ -1,5 +1,5 @@
 use Rattle.std.proofs.Common.{◌≡◌, ◌∷◌, [], ◌++◌, refl, sym, ap, ◌∙◌, false}
-use Rattle.type_terms.specs.Label.{tuple}
+use Rattle.type_terms.specs.Promised.Label.{tuple}
 use Rattle.text_definitions.specs.Uses.{items_use}
 use Rattle.workspace.specs.Views.{sort_of_kind}
 use Rattle.name_resolution.specs.Resolved as resolved

@@ -1,7 +1,7 @@
 use Rattle.std.proofs.Common.{◌∙◌, ap, sym, subst, ◌++◌, Ok, Err}
 use Rattle.std.proofs.lemmas.Result.{err_from_is_err_and}
 use Rattle.std.specs.HashSet.{contains}
-use Rattle.type_terms.specs.Terms.{trees_at}
+use Rattle.type_terms.specs.Promised.Handles.{trees_at}
 use Rattle.orphan_check.specs.Steps.{steps}
 use Rattle.orphan_check.specs.Visited.{visit_eq}
 use Rattle.orphan_check.specs.Walks.{ArePending, AreOnTop, IsVisit, IsDecisive, pending_steps, reads}

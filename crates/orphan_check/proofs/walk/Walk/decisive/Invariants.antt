@@ -1,6 +1,6 @@
 use Rattle.std.proofs.Common.{length}
 use Rattle.std.specs.HashSet.{contains}
-use Rattle.type_terms.specs.Terms.{trees_at}
+use Rattle.type_terms.specs.Promised.Handles.{trees_at}
 use Rattle.orphan_check.specs.Steps.{steps}
 use Rattle.orphan_check.specs.Visited.{visit_eq}
 use Rattle.orphan_check.specs.Walks.{pending_steps, reads}

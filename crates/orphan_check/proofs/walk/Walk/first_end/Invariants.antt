@@ -1,7 +1,7 @@
 use Rattle.std.proofs.Common.{◌≡◌, ◌++◌, length}
-use Rattle.type_terms.specs.Terms.{trees_at}
+use Rattle.type_terms.specs.Promised.Handles.{trees_at}
 use Rattle.orphan_check.specs.Flags.{leaves_in}
-use Rattle.orphan_check.specs.Held.{LeavesHeld}
+use Rattle.orphan_check.specs.Promised.Errors.{LeavesHeld}
 use Rattle.orphan_check.specs.Steps.{steps, first_end, leaves}
 use Rattle.orphan_check.specs.Walks.{ArePending, pending_steps, reads}
 use Rattle.orphan_check.proofs.walk.Walk.first_end.Given as goal

@@ -1,5 +1,5 @@
 use Rattle.std.proofs.Common.{rules}
-use Rattle.type_terms.specs.Terms.{trees_at}
+use Rattle.type_terms.specs.Promised.Handles.{trees_at}
 use Rattle.orphan_check.specs.Steps.{steps}
 use Rattle.orphan_check.specs.Walks.{pending_steps, reads}
 use Rattle.orphan_check.proofs.Ending.{second-failed}

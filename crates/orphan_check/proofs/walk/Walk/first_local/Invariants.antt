@@ -1,5 +1,5 @@
 use Rattle.std.proofs.Common.{◌≡◌, length}
-use Rattle.type_terms.specs.Terms.{trees_at}
+use Rattle.type_terms.specs.Promised.Handles.{trees_at}
 use Rattle.orphan_check.specs.Steps.{steps, second_end}
 use Rattle.orphan_check.specs.Walks.{ArePending, pending_steps, reads}
 use Rattle.orphan_check.proofs.walk.Walk.first_local.Given as goal

@@ -1,6 +1,6 @@
 use Rattle.std.proofs.Common.{◌∙◌, ap, sym, subst, Err}
 use Rattle.std.proofs.lemmas.Result.{err_from_is_err_and}
-use Rattle.type_terms.specs.Terms.{trees_at}
+use Rattle.type_terms.specs.Promised.Handles.{trees_at}
 use Rattle.orphan_check.specs.Steps.{steps}
 use Rattle.orphan_check.specs.Walks.{reads}
 use Rattle.orphan_check.specs.Answers.{IsOrphanAnswer}

@@ -1,5 +1,5 @@
 use Rattle.std.proofs.Common.{refl, ◌∙◌, ap, subst, ◌≡◌, ◌++◌, ◌∷◌, []}
-use Rattle.type_terms.specs.Kinds.{ArgsHeld}
+use Rattle.type_terms.specs.Promised.Handles.{ArgsHeld}
 use Rattle.type_terms.specs.declared.kinds.GenericArgKind.TheVariants.{Ty}
 use Rattle.orphan_check.specs.Walks.{pending_steps, reads}
 use Rattle.orphan_check.proofs.Stepping.{on-top-none, on-top-push, pending-push, push-last, skip-last, args-held-append}

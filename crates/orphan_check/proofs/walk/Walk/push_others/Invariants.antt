@@ -1,5 +1,6 @@
 use Rattle.std.proofs.Common.{◌≡◌, ◌++◌, false, length}
-use Rattle.type_terms.specs.Kinds.{ArgsHeld, args_trees}
+use Rattle.type_terms.specs.Promised.Handles.{ArgsHeld}
+use Rattle.type_terms.specs.Kinds.{args_trees}
 use Rattle.orphan_check.specs.Steps.{steps_in, steps_to}
 use Rattle.orphan_check.specs.Walks.{ArePending, AreOnTop, pending_steps, reads}
 use Rattle.orphan_check.proofs.walk.Walk.push_others.Given as goal

@@ -1,8 +1,9 @@
 use Rattle.std.proofs.Common.{refl, ◌∙◌, ap, sym, subst, ◌≡◌, ◌++◌, ◌∷◌, append_assoc, false}
-use Rattle.type_terms.specs.Terms.{trees_at}
-use Rattle.type_terms.specs.Kinds.{args_trees, ArgsHeld}
+use Rattle.type_terms.specs.Promised.Handles.{trees_at}
+use Rattle.type_terms.specs.Kinds.{args_trees}
+use Rattle.type_terms.specs.Promised.Handles.{ArgsHeld}
 use Rattle.type_terms.specs.declared.kinds.GenericArgKind.TheVariants.{Ty}
-use Rattle.orphan_check.specs.Flags.{is_first}
+use Rattle.orphan_check.specs.Promised.Errors.{is_first}
 use Rattle.orphan_check.specs.Steps.{steps_in, steps_to}
 use Rattle.orphan_check.specs.Walks.{ArePending, AreOnTop, pending_steps, reads}
 use Rattle.orphan_check.proofs.Stepping.{on-top-none, on-top-push, push-steps, first-type, skip-first, no-arguments}

@@ -1,7 +1,8 @@
 use Rattle.std.proofs.Common.{◌≡◌, length}
-use Rattle.type_terms.specs.Terms.{trees_at}
-use Rattle.type_terms.specs.Kinds.{ArgsHeld, args_trees}
-use Rattle.orphan_check.specs.Flags.{is_first}
+use Rattle.type_terms.specs.Promised.Handles.{trees_at}
+use Rattle.type_terms.specs.Promised.Handles.{ArgsHeld}
+use Rattle.type_terms.specs.Kinds.{args_trees}
+use Rattle.orphan_check.specs.Promised.Errors.{is_first}
 use Rattle.orphan_check.specs.Steps.{steps_in, steps_to}
 use Rattle.orphan_check.specs.Walks.{reads}
 use Rattle.orphan_check.proofs.walk.Walk.push_types.Given as goal

@@ -1,7 +1,7 @@
 use Rattle.std.proofs.Common.{refl, ◌∙◌, ap, sym, subst, suc, ◌-◌, ◌∷◌, [], Err}
 use Rattle.std.proofs.lemmas.Result.{err_from_is_err_and}
-use Rattle.type_terms.specs.Terms.{trees_at}
-use Rattle.orphan_check.specs.Flags.{is_first}
+use Rattle.type_terms.specs.Promised.Handles.{trees_at}
+use Rattle.orphan_check.specs.Promised.Errors.{is_first}
 use Rattle.orphan_check.specs.Steps.{too_deep, entered}
 use Rattle.orphan_check.specs.Walks.{IsVisit, pending_steps, reads}
 use Rattle.orphan_check.proofs.Stepping.{on-top-none, on-top-push, first-steps, positive, push-steps, read-refused, step-local, step-open, step-foreign, step-reference, step-fundamental}

@@ -1,5 +1,5 @@
 use Rattle.std.proofs.Common.{List}
-use Rattle.type_terms.specs.Terms.{Entry}
+use Rattle.type_terms.specs.Promised.Handles.{Entry}
 use Rattle.declarations.specs.Items.{declared}
 use Rattle.sessions.specs.ByTrait.{IsListed}
 use Rattle.sessions.proofs.ByTrait.{EachBelow}

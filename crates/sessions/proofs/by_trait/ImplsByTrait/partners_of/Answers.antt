@@ -1,6 +1,6 @@
 use Rattle.std.proofs.Common.{sym, ◌∙◌, ap, subst}
-use Rattle.type_terms.specs.Trees.{nth}
-use Rattle.type_terms.specs.Terms.{trees_at, types}
+use Rattle.type_terms.specs.Promised.Trees.{nth}
+use Rattle.type_terms.specs.Promised.Handles.{trees_at, types}
 use Rattle.type_terms.specs.Kept.{trees-is}
 use Rattle.declarations.specs.Heads.{head_of, label_of}
 use Rattle.declarations.specs.Items.{declared, reference_in}

@@ -1,5 +1,5 @@
 use Rattle.std.proofs.Common.{sym, ◌∙◌}
-use Rattle.type_terms.specs.Terms.{trees_at}
+use Rattle.type_terms.specs.Promised.Handles.{trees_at}
 use Rattle.sessions.proofs.Foreign.{unknown-found, unknown-not-found}
 use Rattle.sessions.proofs.own_values.Asked.has_unknowns.Goals as goal
 

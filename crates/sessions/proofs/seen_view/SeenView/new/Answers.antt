@@ -1,5 +1,5 @@
 use Rattle.std.proofs.Common.{◌∙◌, refl, ap, subst, length, arith}
-use Rattle.type_terms.specs.Failures.{SomeKindIsFull}
+use Rattle.type_terms.specs.Promised.Handles.{SomeKindIsFull}
 use Rattle.type_terms.specs.Growth.{FullAtLimit}
 use Rattle.view_lowering.specs.MostTerms.{most_terms}
 use Rattle.solver_context.proofs.Shortages.{handed}

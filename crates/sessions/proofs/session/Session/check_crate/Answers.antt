@@ -1,10 +1,10 @@
 use Rattle.std.proofs.Common.{rules, ◌≡◌, Some, None, subst, length, sym, ap, ◌∙◌}
 use Rattle.std.specs.Prelude.{IfSome}
-use Rattle.orphan_check.specs.Held.{ErrorHeld}
-use Rattle.text_definitions.specs.Declarations.{Declarations}
-use Rattle.overlap_check.specs.Verdicts.{KeepsOrphanRule}
+use Rattle.orphan_check.specs.Promised.Errors.{ErrorHeld}
+use Rattle.text_definitions.specs.Promised.Declarations.{Declarations}
+use Rattle.type_terms.specs.Promised.Verdicts.{KeepsOrphanRule}
 use Rattle.sessions.specs.Checking.{HasOrphan, HasOverlap}
-use Rattle.sessions.specs.Promises.{view_in}
+use Rattle.sessions.specs.Promised.Promises.{view_in}
 use Rattle.sessions.proofs.CheckedSubjects.{stays-on, overlap-before, all-passed, numbered-still}
 use Rattle.sessions.proofs.session.Session.check_crate.Goals as goal
 

@@ -1,11 +1,11 @@
 use Rattle.std.proofs.Common.{refl, sym, subst, length}
 use Rattle.goal_frames.specs.Stores.{kept_inputs, kept_responses}
 use Rattle.std.specs.Prelude.{IfOk}
-use Rattle.type_terms.specs.Failures.{SomeKindIsFull}
+use Rattle.type_terms.specs.Promised.Handles.{SomeKindIsFull}
 use Rattle.type_terms.specs.Growth.{FullAtLimit}
-use Rattle.sessions.specs.Given.{later_of}
-use Rattle.sessions.specs.Releases.{IsSectionOf, IsLaterAnswer}
-use Rattle.sessions.specs.Subjects.{Subject, StaysOn}
+use Rattle.sessions.specs.Promised.Given.{later_of}
+use Rattle.sessions.specs.Promised.Releases.{IsSectionOf, IsLaterAnswer}
+use Rattle.sessions.specs.Promised.Subjects.{Subject, StaysOn}
 use Rattle.sessions.proofs.Keeping.{session-kept, session-rests, limits-stay}
 use Rattle.sessions.proofs.LaterChecks.{answered-here}
 use Rattle.sessions.proofs.ShortCalls.{at-err}

@@ -1,5 +1,5 @@
 use Rattle.std.proofs.Common.{ℕ, ◌<◌}
-use Rattle.sessions.specs.Subjects.{StaysOn}
+use Rattle.sessions.specs.Promised.Subjects.{StaysOn}
 use Rattle.sessions.proofs.HeaderChecks.{HeldHere}
 use Rattle.sessions.proofs.session.Session.check_supertraits.Given as goal
 

@@ -3,7 +3,7 @@ use Rattle.goal_frames.specs.Stores.{kept_inputs, kept_responses}
 use Rattle.std.specs.Prelude.{IfOk}
 use Rattle.declarations.specs.Items.{IsAbove}
 use Rattle.sessions.specs.Checking.{HasOrphan}
-use Rattle.sessions.specs.Subjects.{Subject, StaysOn}
+use Rattle.sessions.specs.Promised.Subjects.{Subject, StaysOn}
 use Rattle.workspace.specs.Numbered.{IsNumbered}
 use Rattle.sessions.proofs.CratesAside.{orphan-ok}
 use Rattle.sessions.proofs.ImplNumbers.{numbers-below}

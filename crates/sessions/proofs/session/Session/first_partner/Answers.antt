@@ -1,7 +1,7 @@
 use Rattle.std.proofs.Common.{rules, ◌≡◌, ◌≤◌, true, false, length, ◌∙◌, subst, arith}
 use Rattle.std.proofs.lemmas.List.{take_all}
 use Rattle.type_terms.specs.declared.ImplId.{ImplId}
-use Rattle.declarations.specs.Merges.{Each}
+use Rattle.declarations.specs.Promised.Elaboration.{Each}
 use Rattle.sessions.proofs.CheckedSubjects.{Passed, stays-on, overlap-found, pair-passed, numbered-still}
 use Rattle.sessions.proofs.Lists.{each-more}
 use Rattle.sessions.proofs.Partners.{all-partners-passed}

@@ -1,7 +1,7 @@
 use Rattle.std.proofs.Common.{take}
 use Rattle.type_terms.specs.declared.ImplId.{ImplId}
-use Rattle.declarations.specs.Merges.{Each}
-use Rattle.sessions.specs.Subjects.{StaysOn}
+use Rattle.declarations.specs.Promised.Elaboration.{Each}
+use Rattle.sessions.specs.Promised.Subjects.{StaysOn}
 use Rattle.sessions.proofs.CheckedSubjects.{Passed}
 use Rattle.sessions.proofs.session.Session.first_partner.Given as goal
 

@@ -1,11 +1,11 @@
 use Rattle.std.proofs.Common.{◌≡◌, sym, subst, length}
 use Rattle.std.specs.Prelude.{IfOk}
-use Rattle.type_terms.specs.Worlds.{World}
+use Rattle.type_terms.specs.Promised.Worlds.{World}
 use Rattle.declarations.specs.Items.{IsAbove}
 use Rattle.workspace.specs.Numbered.{IsNumbered}
 use Rattle.sessions.specs.ByTrait.{ListsImpls, ListsSeen}
-use Rattle.sessions.specs.Promises.{view_in}
-use Rattle.sessions.specs.Subjects.{Subject}
+use Rattle.sessions.specs.Promised.Promises.{view_in}
+use Rattle.sessions.specs.Promised.Subjects.{Subject}
 use Rattle.sessions.proofs.ImplNumbers.{numbers-below}
 use Rattle.sessions.proofs.session.Session.impls_by_trait.Goals as goal
 

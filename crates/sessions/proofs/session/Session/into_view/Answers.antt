@@ -1,7 +1,7 @@
 use Rattle.std.proofs.Common.{subst}
 use Rattle.sessions.specs.declared.seen_view.SeenView.{SeenView}
 use Rattle.sessions.specs.SeenViews.{IsViewOf}
-use Rattle.sessions.specs.Subjects.{Subject}
+use Rattle.sessions.specs.Promised.Subjects.{Subject}
 use Rattle.sessions.proofs.SeenViews.{view-left}
 use Rattle.sessions.proofs.session.Session.into_view.Goals as goal
 

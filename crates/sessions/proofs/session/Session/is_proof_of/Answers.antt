@@ -1,17 +1,17 @@
 use Rattle.std.proofs.Common.{◌≡◌, ◌∙◌, true, refl, sym, ap, subst, length}
 use Rattle.goal_frames.specs.Stores.{kept_inputs, kept_responses}
 use Rattle.std.specs.Prelude.{IfOk}
-use Rattle.type_terms.specs.Kinds.{ArgsHeld}
-use Rattle.declarations.specs.Merges.{Each}
+use Rattle.type_terms.specs.Promised.Handles.{ArgsHeld}
+use Rattle.declarations.specs.Promised.Elaboration.{Each}
 use Rattle.proof_checker.specs.Steps.{StepHeld}
 use Rattle.proof_checker.proofs.Results.{mapped}
-use Rattle.text_definitions.specs.Declarations.{Question}
+use Rattle.text_definitions.specs.Promised.Declarations.{Question}
 use Rattle.view_lowering.specs.Seen.{rules_seen_from}
 use Rattle.candidate_assembly.specs.Fitting.{solving_of}
 use Rattle.sessions.specs.Checking.{rules_in}
 use Rattle.sessions.specs.Sessions.{IsSolvingOf}
 use Rattle.sessions.specs.Shown.{AreProofOfQuestion}
-use Rattle.sessions.specs.Subjects.{Subject, AsksProof, StaysOn}
+use Rattle.sessions.specs.Promised.Subjects.{Subject, AsksProof, StaysOn}
 use Rattle.sessions.proofs.Keeping.{session-kept, session-rests, limits-stay}
 use Rattle.sessions.proofs.RightAnswers.{is-asked}
 use Rattle.sessions.proofs.ShownProofs.{shown-proof}

@@ -2,7 +2,7 @@ use Rattle.std.proofs.Common.{refl, sym, subst, length}
 use Rattle.goal_frames.specs.Stores.{kept_inputs, kept_responses}
 use Rattle.std.specs.Prelude.{IfOk}
 use Rattle.sessions.specs.Checking.{HasJudged, HaveOwnNumbers}
-use Rattle.sessions.specs.Subjects.{Subject, StaysOn}
+use Rattle.sessions.specs.Promised.Subjects.{Subject, StaysOn}
 use Rattle.workspace.specs.Numbered.{IsNumbered}
 use Rattle.sessions.proofs.ImplNumbers.{own-numbers}
 use Rattle.sessions.proofs.Keeping.{session-rests, limits-stay}

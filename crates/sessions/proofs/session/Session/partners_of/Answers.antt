@@ -1,9 +1,9 @@
 use Rattle.std.proofs.Common.{refl, sym, subst}
 use Rattle.std.specs.Prelude.{IfOk}
-use Rattle.type_terms.specs.Worlds.{World}
+use Rattle.type_terms.specs.Promised.Worlds.{World}
 use Rattle.sessions.specs.ByTrait.{ListsImpls, ListsSeen, HavePartnersSeen}
-use Rattle.sessions.specs.Promises.{view_in}
-use Rattle.sessions.specs.Subjects.{Subject}
+use Rattle.sessions.specs.Promised.Promises.{view_in}
+use Rattle.sessions.specs.Promised.Subjects.{Subject}
 use Rattle.sessions.proofs.PairChecks.{pair-here}
 use Rattle.sessions.proofs.Posing.{over-ok}
 use Rattle.sessions.proofs.session.Session.partners_of.Goals as goal

@@ -1,18 +1,18 @@
 use Rattle.std.proofs.Common.{[], refl, sym, subst, length}
 use Rattle.goal_frames.specs.Stores.{kept_inputs, kept_responses}
 use Rattle.std.specs.Prelude.{IfOk}
-use Rattle.sessions.specs.Given.{answer_in}
-use Rattle.sessions.specs.Promises.{IsProved, view_in}
-use Rattle.sessions.specs.Subjects.{Subject, AsksProof, StaysOn}
-use Rattle.text_definitions.specs.Declarations.{Question}
+use Rattle.sessions.specs.Promised.Given.{answer_in}
+use Rattle.sessions.specs.Promised.Promises.{IsProved, view_in}
+use Rattle.sessions.specs.Promised.Subjects.{Subject, AsksProof, StaysOn}
+use Rattle.text_definitions.specs.Promised.Declarations.{Question}
 use Rattle.sessions.proofs.Keeping.{session-kept, session-rests, limits-stay}
 use Rattle.sessions.proofs.RightAnswers.{is-asked, clauses-apply, answered-rightly}
 use Rattle.candidate_assembly.specs.Fitting.{solving_of}
 use Rattle.candidate_assembly.specs.SolverMeaning.{solver_by_view}
 use Rattle.infer_table.specs.Unification.{table_trees}
-use Rattle.view_lowering.specs.QuestionVariables.{variable_kinds}
+use Rattle.view_lowering.specs.Promised.Questions.{variable_kinds}
 use Rattle.sessions.specs.Frames.{AskingsStartFrames}
-use Rattle.sessions.specs.FrameBounds.{ProvesInFrames}
+use Rattle.sessions.specs.Promised.FrameBounds.{ProvesInFrames}
 use Rattle.sessions.proofs.FrameBounds.{seen-erased-world, question-within}
 use Rattle.sessions.specs.Proving.{goal_asking}
 use Rattle.sessions.specs.Tables.{table_of}

@@ -3,15 +3,15 @@ use Rattle.goal_frames.specs.Stores.{kept_inputs, kept_responses}
 use Rattle.std.specs.Prelude.{IfOk}
 use Rattle.candidate_assembly.specs.SolverMeaning.{solver_by_view}
 use Rattle.candidate_assembly.specs.Fitting.{solving_of}
-use Rattle.view_lowering.specs.Plain.{unbound_reference}
+use Rattle.view_lowering.specs.Promised.SeenWorlds.{unbound_reference}
 use Rattle.sessions.specs.Asking.{asked_alone}
 use Rattle.sessions.specs.Frames.{frames_for}
-use Rattle.sessions.specs.FrameBounds.{RefutesInFrames}
+use Rattle.sessions.specs.Promised.FrameBounds.{RefutesInFrames}
 use Rattle.sessions.proofs.FrameBounds.{seen-erased-world, refutation-within}
-use Rattle.sessions.specs.Given.{refutation_of}
-use Rattle.sessions.specs.Promises.{IsRefutation, view_in}
-use Rattle.sessions.specs.Subjects.{Subject, AsksRefutation}
-use Rattle.text_definitions.specs.Declarations.{Question}
+use Rattle.sessions.specs.Promised.Given.{refutation_of}
+use Rattle.sessions.specs.Promised.Promises.{IsRefutation, view_in}
+use Rattle.sessions.specs.Promised.Subjects.{Subject, AsksRefutation}
+use Rattle.text_definitions.specs.Promised.Declarations.{Question}
 use Rattle.sessions.proofs.Alone.{on-map}
 use Rattle.sessions.proofs.Keeping.{answered-exactly, limits-stay}
 use Rattle.sessions.proofs.ShortCalls.{at-limit}

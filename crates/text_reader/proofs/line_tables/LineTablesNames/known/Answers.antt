@@ -1,8 +1,8 @@
 use Rattle.std.proofs.Common.{◌≡◌, ap, sym, ◌∙◌, rules}
 use Rattle.std.specs.Str.{bytes_eq}
-use Rattle.text_definitions.specs.Declarations.{known, kinds_of}
+use Rattle.text_definitions.specs.Promised.Declarations.{known, kinds_of}
 use Rattle.text_definitions.specs.Uses.{params_of}
-use Rattle.text_definitions.specs.Faults.{with_own}
+use Rattle.text_definitions.specs.Promised.Faults.{with_own}
 use Rattle.line_reader.specs.Views.{statement_of, params_in}
 use Rattle.workspace.specs.Views.{sorts_of}
 use Rattle.text_reader.specs.BareLines.{bare_line, params_from}

@@ -1,5 +1,5 @@
 use Rattle.std.proofs.Common.{◌<◌, length, subst, sym}
-use Rattle.text_definitions.specs.Declarations.{Declarations}
+use Rattle.text_definitions.specs.Promised.Declarations.{Declarations}
 use Rattle.workspace.specs.Tables.{declared}
 use Rattle.text_reader.proofs.Sections.{owner-there}
 use Rattle.text_reader.proofs.so_far.SoFar.impl_owner.Goals as goal

@@ -1,7 +1,8 @@
 use Rattle.std.proofs.Common.{◌≡◌, ◌∷◌, [], ◌++◌, sym, ◌∙◌, ap, refl, Option, None, Some, is_some, false, subst, inr}
 use Rattle.indexmap.specs.IndexMap.{keys}
 use Rattle.indexmap.proofs.CallerLemmas.{insert_entry-new}
-use Rattle.type_terms.specs.Terms.{Absent, held, Terms}
+use Rattle.type_terms.specs.Terms.{Absent, Terms}
+use Rattle.type_terms.specs.Promised.Handles.{held}
 use Rattle.type_terms.specs.Nodes.{node_entry, node_trees, kind_of, Held}
 use Rattle.type_terms.specs.Infos.{info_of}
 use Rattle.type_terms.proofs.Unique.{absent-entry}

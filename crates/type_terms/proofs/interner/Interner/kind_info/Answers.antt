@@ -1,8 +1,9 @@
 use Rattle.std.proofs.Common.{refl, ◌∙◌}
-use Rattle.type_terms.specs.Label.{adt, ref, raw_pointer, array, slice, tuple, fn_ptr, dynamic}
-use Rattle.type_terms.specs.Trees.{◌+++◌}
-use Rattle.type_terms.specs.Terms.{trees_at}
-use Rattle.type_terms.specs.Kinds.{is_mut, region_trees}
+use Rattle.type_terms.specs.Promised.Label.{adt, ref, raw_pointer, array, slice, tuple, fn_ptr, dynamic}
+use Rattle.type_terms.specs.Promised.Trees.{◌+++◌}
+use Rattle.type_terms.specs.Promised.Handles.{trees_at}
+use Rattle.type_terms.specs.Kinds.{is_mut}
+use Rattle.type_terms.specs.Promised.Handles.{region_trees}
 use Rattle.type_terms.proofs.InfoFacts.{info-plain, info-binder, info-joined}
 use Rattle.type_terms.proofs.interner.Interner.kind_info.Goals as goal
 

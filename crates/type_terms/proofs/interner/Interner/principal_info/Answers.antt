@@ -1,6 +1,6 @@
 use Rattle.std.proofs.Common.{sym, ◌∙◌}
-use Rattle.type_terms.specs.Label.{principal}
-use Rattle.type_terms.specs.Terms.{trees_at}
+use Rattle.type_terms.specs.Promised.Label.{principal}
+use Rattle.type_terms.specs.Promised.Handles.{trees_at}
 use Rattle.type_terms.proofs.InfoFacts.{info-binder, principal-info}
 use Rattle.type_terms.proofs.interner.Interner.principal_info.Goals as goal
 

@@ -1,5 +1,5 @@
 use Rattle.std.proofs.Common.{◌∙◌, arith, length, refl, slice_index_or}
-use Rattle.type_terms.specs.Terms.{types}
+use Rattle.type_terms.specs.Promised.Handles.{types}
 use Rattle.type_terms.proofs.Entries.{has-below}
 use Rattle.type_terms.proofs.InfoFacts.{tys-next, ty-held-at, within-default}
 use Rattle.type_terms.proofs.interner.Interner.tys_info.Goals as goal

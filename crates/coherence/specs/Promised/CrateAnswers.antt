@@ -1,0 +1,81 @@
+-- The line of a crate, and what it promises. V is the view of the crate c, without lifetimes.
+use Rattle.std.specs.Prelude.{◌≡◌, ◌⊎◌, ℕ, true, Bool, ◌&&◌, ◌==◌, not, if◌then◌else◌, List, [], ◌∷◌, ◌++◌, map, find, Option, Some, None, slice_get, codes, suc, take, count_by}
+use Rattle.std.specs.Fmt.{decimal}
+use Rattle.std.specs.List.{list_any}
+use Rattle.std.specs.Option.{option_map_or}
+use Rattle.type_terms.specs.Promised.Answers.{CommonInstance, is_bounded, is_possible}
+use Rattle.type_terms.specs.Promised.Proofs.{HasElaboratedProof, In, HasProof}
+use Rattle.type_terms.specs.Promised.Label.{adt, ref}
+use Rattle.type_terms.specs.Promised.LinkedSet.{IsPair}
+use Rattle.type_terms.specs.Promised.Renumbering.{renumbered_impl}
+use Rattle.type_terms.specs.Promised.Supers.{opaque}
+use Rattle.type_terms.specs.Promised.Trees.{Trees, none, tree}
+use Rattle.type_terms.specs.Promised.Versions.{is_open_place}
+use Rattle.type_terms.specs.Promised.Walks.{Met, struct_is, visited, ends_local, keeps_orphan_rule}
+use Rattle.type_terms.specs.Promised.Worlds.{World, Reference, ImplDecl, with_args, core}
+use Rattle.text_definitions.specs.Promised.Declarations.{Declarations}
+use Rattle.language_definitions.specs.Promised.PrintedTypes.{final_text, printed_trees}
+use Rattle.type_terms.specs.Promised.Verdicts.{ClausesNeverMeet, InEverySetWith}
+use Rattle.sessions.specs.Promised.Promises.{view_in}
+
+-- ---- an orphan
+-- The arguments that the orphan rule looks at, in order. It looks through a reference, and through a fundamental struct of another crate
+-- (RFC 1023). For `Box<V<u8>>, bool` it looks at `V<u8>` and `bool`.
+abbrev pub types_met : World → ℕ → Trees → List Trees
+types_met V c none = []
+types_met V c (tree (ref _) k o) = types_met V c k ++ types_met V c o
+types_met V c (tree (adt s) k o) =
+    (if not (struct_is (λ x. c == x.home) V s) && struct_is (λ x. x.is_fundamental) V s then types_met V c k else tree (adt s) k none ∷ []) ++ types_met V c o
+types_met V c (tree l k o) = tree l k none ∷ types_met V c o
+
+-- A type in the header of impl number k, in which its parameters have their names.
+abbrev pub impl_type_text : Declarations → ℕ → Trees → List ℕ
+impl_type_text d k t = final_text (printed_trees d (map (λ p. p.0) (option_map_or (λ i. i.params) (slice_get d.impls k) [])) [] (opaque t))
+
+-- Why crate c may not write the impl, whose header breaks the orphan rule. Either no type that the rule looks at is a parameter, and none
+-- is local. Or this is the first parameter, and this is the first local type after it, if there is one. With a foreign Show and a local B,
+-- `impl<T> Show<B> for Box<T>` has `uncovered T before B`.
+abbrev pub orphan_reason : Declarations → ℕ → ImplDecl → List ℕ
+orphan_reason d c i =
+    let first : (List Met → Bool) → Option Trees = λ p. find (λ t. p (visited (view_in d c) (Some c) t)) (types_met (view_in d c) c i.header.args) in
+    option_map_or (λ t. codes " uncovered " ++ impl_type_text d i.name t ++ option_map_or (λ u. codes " before " ++ impl_type_text d i.name u)
+    (first ends_local) []) (first (list_any is_open_place)) (codes " nonlocal")
+
+-- ---- the line
+-- The first impl of the crate whose header breaks the orphan rule (RFC 2451).
+abbrev pub first_orphan : World → ℕ → Option ImplDecl
+first_orphan V c = find (λ i. (i.home == c) && not (keeps_orphan_rule V c i.header)) V.impls
+
+-- No linked set with the view has a concrete common instance of the pair with proofs of both lists of where-clauses. Nor has the view alone
+-- one, by proofs that hold the supertraits of all that they conclude. The view is named because no linked set holds some views:
+-- `trait Sup; trait Sub: Sup; impl Sub for u8`.
+abbrev pub NoConflict : World → ℕ → ImplDecl → ImplDecl → Type 0
+NoConflict V c i j =
+    ClausesNeverMeet (HasElaboratedProof V []) i j × InEverySetWith V c (λ W ρ. ClausesNeverMeet (HasProof W []) (renumbered_impl ρ i) (renumbered_impl ρ j))
+
+-- The pair has a common instance. A where-clause that is one trait reference r at each common instance is possible, if r is bounded.
+abbrev pub ReallyOverlap : ℕ → World → ℕ → ImplDecl → ImplDecl → Type 0
+ReallyOverlap limit V c i j =
+    CommonInstance i j × ((k r : Reference)
+    → (In k i.clauses × ((m : CommonInstance i j) → with_args m.left k ≡ r)) ⊎ (In k j.clauses × ((m : CommonInstance i j) → with_args m.right k ≡ r))
+    → is_bounded limit V c r ≡ true → is_possible limit V c r ≡ true)
+
+-- ---- the line of a crate
+abbrev pub crate_text : Declarations → ℕ → List ℕ
+crate_text d c = option_map_or (λ n. n.text) (slice_get d.crates c) []
+
+-- The crate of impl number k.
+abbrev pub impl_home : Declarations → ℕ → ℕ
+impl_home d k = option_map_or (λ i. i.item.home) (slice_get d.impls k) core
+
+-- Its number among those of its crate, from 1.
+abbrev pub number_in_crate : Declarations → ℕ → ℕ
+number_in_crate d k = count_by (λ i. i.item.home == impl_home d k) (take (suc k) d.impls)
+
+-- What comes after `crate N: `, and what it promises. All headers are judged before any pair that the crate brings together.
+pub data CrateAnswer (limit : ℕ) (d : Declarations) (c : ℕ) : List ℕ → Type 0 where
+  is_accepted : first_orphan (view_in d c) c ≡ None → ((i j : ImplDecl) → IsPair (view_in d c) c i j → NoConflict (view_in d c) c i j)
+      → CrateAnswer limit d c (codes "accepted")
+  is_orphan : (i : ImplDecl) → first_orphan (view_in d c) c ≡ Some i → CrateAnswer limit d c (codes "orphan impl " ++ decimal (number_in_crate d i.name) ++ orphan_reason d c i)
+  is_overlap : (i j : ImplDecl) → first_orphan (view_in d c) c ≡ None → IsPair (view_in d c) c i j → ReallyOverlap limit (view_in d c) c i j
+      → CrateAnswer limit d c (codes "overlap impl " ++ decimal (number_in_crate d i.name) ++ codes " with " ++ crate_text d j.home ++ codes " " ++ decimal (number_in_crate d j.name))

@@ -1,0 +1,2 @@
+-- What the promises of the calls rest on.
+pub mod Elaboration

@@ -1,0 +1,28 @@
+-- What the answers of a session promise.
+use Rattle.std.specs.Prelude.{ℕ, map}
+use Rattle.type_terms.specs.Promised.Erased.{erased_world, erased_reference}
+use Rattle.type_terms.specs.Promised.Worlds.{World, view_of}
+use Rattle.text_definitions.specs.Promised.Declarations.{Declarations, Question, world_of}
+use Rattle.type_terms.specs.Promised.Questions.{ProveAnswer, IsProveAnswer, RefuteAnswer, IsRefuteAnswer}
+use Rattle.type_terms.specs.Promised.Verdicts.{Verdict, IsVerdict}
+use Rattle.view_lowering.specs.Promised.Questions.{variable_kinds}
+use Rattle.sessions.specs.Promised.OwnValues.{SpeaksOfOwn}
+
+-- The view that answers of crate c are about: all that it sees, up to lifetimes.
+abbrev pub view_in : Declarations → ℕ → World
+view_in d c = view_of (erased_world (world_of d)) c
+
+-- The verdict of crate c, by what it sees of the text.
+abbrev pub IsVerdictOf : ℕ → Declarations → ℕ → Verdict → Type 0
+IsVerdictOf limit d c v = IsVerdict limit (view_in d c) c v
+
+-- The answer to a `prove` question, by what the asking crate sees of the text and the question's where-clauses; the values of a yes name only
+-- what it sees, and their open places are unknowns and the question's parameters.
+abbrev pub IsProved : ℕ → Declarations → Question → ProveAnswer → Type 0
+IsProved limit d q a =
+    let E = map erased_reference q.clauses in
+    IsProveAnswer limit (view_in d q.asker) (variable_kinds q) E (erased_reference q.asked) a × SpeaksOfOwn (view_in d q.asker) E (erased_reference q.asked) a
+
+-- The answer to a `refute` query, by what its crate sees of the text.
+abbrev pub IsRefutation : ℕ → Declarations → Question → RefuteAnswer → Type 0
+IsRefutation limit d q a = IsRefuteAnswer limit (view_in d q.asker) q.asker (variable_kinds q) (erased_reference q.asked) a

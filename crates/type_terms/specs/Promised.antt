@@ -1,0 +1,22 @@
+-- What the promises of the calls rest on.
+pub mod Answers
+pub mod Arranging
+pub mod Core
+pub mod Erased
+pub mod Handles
+pub mod Label
+pub mod LinkedSet
+pub mod OpenedHeaders
+pub mod OrphanErrors
+pub mod Proofs
+pub mod Questions
+pub mod ReadByLaws
+pub mod Renumbering
+pub mod Rules
+pub mod SetLaws
+pub mod Supers
+pub mod Trees
+pub mod Verdicts
+pub mod Versions
+pub mod Walks
+pub mod Worlds
