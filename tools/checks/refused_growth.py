@@ -24,7 +24,7 @@ ANSWERED = """two_crates_accepted orphan_impl an_uncovered_parameter a_local_typ
     where_clauses_are_proved refuted_and_open values_of_a_type_and_a_const values_with_variables later_versions_are_judged_apart
     a_supertrait_that_is_missing a_supertrait_that_is_there""".split()
 EXPLAINED = "a_later_version_may_add_num orphan_impl values_with_variables".split()
-TESTED = ("term_tests", "layer_tests")
+TESTED = ("test_terms", "test_solver")
 # Tests that walk through long lists of goals ask for memory too often.
 LONG = ("rules::", "walks::", "worked::")
 MOST = 100000

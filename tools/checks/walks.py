@@ -23,7 +23,7 @@ WALKS = {
 
 
 def check(tally: Tally, _: argparse.Namespace) -> None:
-    benchmarks = built("benchmarks")
+    benchmarks = built("bench_solver")
     for shape, levels in SHAPES:
         for walk, form in WALKS.items():
             wanted = form.format(levels + 1)

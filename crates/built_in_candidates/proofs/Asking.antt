@@ -7,10 +7,10 @@ use Rattle.type_terms.specs.Promised.Handles.{Entry, Keeps}
 use Rattle.infer_table.specs.declared.input.CanonicalInput.{CanonicalInput}
 use Rattle.infer_table.specs.Goals.{GoalHeld}
 use Rattle.infer_table.proofs.Numbers.{environment-later}
-use Rattle.evaluation.specs.declared.candidate.CandidateSource.{CandidateSource}
+use Rattle.goal_evaluator.specs.declared.candidate.CandidateSource.{CandidateSource}
 use Rattle.declarations.proofs.Growth.{reference-same}
-use Rattle.assembly_laws.specs.Asking.{GoalOverKinds}
-use Rattle.assembly_laws.specs.Candidates.{as_written, by_rule}
+use Rattle.candidate_model.specs.Asking.{GoalOverKinds}
+use Rattle.candidate_model.specs.Candidates.{as_written, by_rule}
 use Rattle.built_in_candidates.specs.Goals.{asked_of}
 use Rattle.built_in_candidates.specs.Constituents.{premises_of}
 

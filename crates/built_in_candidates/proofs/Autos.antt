@@ -13,8 +13,8 @@ use Rattle.type_terms.specs.Kept.{has-later, trees-later}
 use Rattle.term_folds.specs.Signatures.{StartsWithType}
 use Rattle.declarations.specs.Relevant.{next_above}
 use Rattle.declarations.specs.Unsizing.{field_trees}
-use Rattle.assembly_laws.specs.Asking.{with_plain_head}
-use Rattle.assembly_laws.specs.Candidates.{is_relevant_to}
+use Rattle.candidate_model.specs.Asking.{with_plain_head}
+use Rattle.candidate_model.specs.Candidates.{is_relevant_to}
 use Rattle.infer_table.proofs.BindFacts.{type-is}
 use Rattle.built_in_candidates.specs.Constituents.{premises_of, types_asked, TypesHeld}
 use Rattle.built_in_candidates.proofs.Trees.{one-asked}

@@ -14,8 +14,8 @@ use Rattle.type_terms.specs.Kinds.{TysHeld, args_trees, tys_trees}
 use Rattle.type_terms.specs.declared.kinds.GenericArgKind.{GenericArgKind}
 use Rattle.type_terms.specs.declared.kinds.Ty.{Ty}
 use Rattle.term_folds.specs.Signatures.{StartsWithType}
-use Rattle.assembly_laws.specs.Asking.{GoalOverKinds, with_plain_head, next_of}
-use Rattle.assembly_laws.specs.Candidates.{call_of, by_rule, all_equal, misc}
+use Rattle.candidate_model.specs.Asking.{GoalOverKinds, with_plain_head, next_of}
+use Rattle.candidate_model.specs.Candidates.{call_of, by_rule, all_equal, misc}
 use Rattle.infer_table.proofs.BindFacts.{type-is}
 use Rattle.built_in_candidates.specs.FnPointers.{signature_of, IsFirst}
 use Rattle.built_in_candidates.proofs.Pairs.{IsOneTree, arg-tree, as_value, value-is, equate}

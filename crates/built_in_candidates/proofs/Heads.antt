@@ -6,7 +6,7 @@ use Rattle.type_terms.specs.Promised.Worlds.{World}
 use Rattle.type_terms.specs.Promised.Rules.{Rule, sized_rules, copy_rules, tuple_rules, fn_ptr_rules}
 use Rattle.term_folds.specs.Signatures.{StartsWithType}
 use Rattle.declarations.specs.Items.{Items}
-use Rattle.assembly_laws.specs.Asking.{with_plain_head}
+use Rattle.candidate_model.specs.Asking.{with_plain_head}
 use Rattle.built_in_candidates.specs.Constituents.{StructIsApplied}
 
 sized-alone : (V : World) (l : Label) (c o : Trees) → sized_rules V (tree l c o) ≡ sized_rules V (tree l c none)

@@ -18,7 +18,7 @@ use Rattle.declarations.specs.Held.{AreHeld, StructHeld, ImplHeld}
 use Rattle.declarations.specs.Items.{Items, HeldImpl}
 use Rattle.declarations.specs.Promised.Elaboration.{Each}
 use Rattle.declarations.proofs.Growth.{each-kept, all-held}
-use Rattle.assembly_laws.specs.Asking.{self_of, with_plain_head}
+use Rattle.candidate_model.specs.Asking.{self_of, with_plain_head}
 use Rattle.built_in_candidates.specs.Goals.{asked_of}
 use Rattle.built_in_candidates.specs.Constituents.{HaveFields, StructIsApplied, CanBeConsidered}
 use Rattle.built_in_candidates.specs.BuiltIn.{HavePlainHeads}

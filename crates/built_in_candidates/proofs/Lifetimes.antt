@@ -4,9 +4,9 @@ use Rattle.std.specs.List.{slice_get}
 use Rattle.type_terms.specs.Promised.Label.{Label, of_type, dynamic}
 use Rattle.type_terms.specs.Promised.Trees.{Trees, none, tree, leaf, nth, ◌+++◌, IsA}
 use Rattle.term_folds.specs.Signatures.{StartsWithType}
-use Rattle.assembly_laws.specs.Asking.{next_of}
-use Rattle.assembly_laws.specs.Candidates.{Candidate, recording, last_of, lifetime_of, outlives, unsizing_outlives}
-use Rattle.assembly_laws.proofs.CandidateKinds.{with_regions}
+use Rattle.candidate_model.specs.Asking.{next_of}
+use Rattle.candidate_model.specs.Candidates.{Candidate, recording, last_of, lifetime_of, outlives, unsizing_outlives}
+use Rattle.candidate_model.proofs.CandidateKinds.{with_regions}
 use Rattle.built_in_candidates.specs.Unsizing.{BeginsWith}
 use Rattle.type_terms.proofs.TermBasics.{append-none}
 

@@ -20,19 +20,19 @@ use Rattle.type_terms.specs.declared.kinds.BoundsData.{BoundsData}
 use Rattle.type_terms.specs.Kept.{trees-is}
 use Rattle.term_folds.specs.Signatures.{StartsWithType}
 use Rattle.term_folds.specs.declared.predicate.TraitRef.{TraitRef}
-use Rattle.evaluation.specs.Merge.{if_there}
-use Rattle.evaluation.specs.declared.candidate.CandidateSource.TheVariants.{BuiltinImpl}
-use Rattle.evaluation.specs.declared.candidate.BuiltinImplSource.{BuiltinImplSource}
-use Rattle.evaluation.specs.declared.candidate.BuiltinImplSource.TheVariants.{Misc, Object, TraitUpcasting}
+use Rattle.goal_evaluator.specs.Merge.{if_there}
+use Rattle.goal_evaluator.specs.declared.candidate.CandidateSource.TheVariants.{BuiltinImpl}
+use Rattle.goal_evaluator.specs.declared.candidate.BuiltinImplSource.{BuiltinImplSource}
+use Rattle.goal_evaluator.specs.declared.candidate.BuiltinImplSource.TheVariants.{Misc, Object, TraitUpcasting}
 use Rattle.declarations.specs.Items.{Items, reference_in, written}
 use Rattle.declarations.specs.Held.{ReferenceHeld}
 use Rattle.declarations.specs.Promised.Elaboration.{Each}
 use Rattle.declarations.specs.Applied.{references_in, TraitRefsHeld, AreApplied, HaveBounds}
 use Rattle.declarations.specs.Promised.Elaboration.{elaborate, supertraits}
 use Rattle.declarations.proofs.Elaborating.{lead-down}
-use Rattle.assembly_laws.specs.Asking.{GoalOverKinds, with_plain_head}
-use Rattle.assembly_laws.specs.Candidates.{Candidate, by_rule, misc, all_equal, if_so, bounds_from, written_source, object_source, upcasts_from, upcasts_to, upcasts_of, objects_of}
-use Rattle.assembly_laws.proofs.Stack.{elaborated-all, elaborated-only}
+use Rattle.candidate_model.specs.Asking.{GoalOverKinds, with_plain_head}
+use Rattle.candidate_model.specs.Candidates.{Candidate, by_rule, misc, all_equal, if_so, bounds_from, written_source, object_source, upcasts_from, upcasts_to, upcasts_of, objects_of}
+use Rattle.candidate_model.proofs.Stack.{elaborated-all, elaborated-only}
 use Rattle.built_in_candidates.specs.Objects.{bounds_of, AreArgumentsOf, ObjectIsApplied, numbered_to, BoundRule, bound_in, bounds_to, written_and_elaborated, object_bounds, upcast_bounds, upcasts_between}
 
 -- ---- what is read off bounds

@@ -11,12 +11,12 @@ use Rattle.type_terms.specs.declared.kinds.GenericArgKind.TheVariants.{Lifetime,
 use Rattle.type_terms.specs.Kept.{trees-is, arg-trees-later, arg-held-later}
 use Rattle.infer_table.specs.declared.terms.Equation as Code
 use Rattle.infer_table.specs.Values.{Value, value_of, sort_of_arg}
-use Rattle.evaluation.specs.Lists.{Every}
-use Rattle.evaluation.specs.Readings.{EquationHeld}
-use Rattle.evaluation.specs.FrameTables.{Equation}
-use Rattle.evaluation.specs.StepReadings.{equation_read}
-use Rattle.assembly_laws.specs.Candidates.{all_equal, never_met, first_value}
-use Rattle.evaluation.proofs.Contexts.{every-more}
+use Rattle.goal_evaluator.specs.Lists.{Every}
+use Rattle.goal_evaluator.specs.Readings.{EquationHeld}
+use Rattle.goal_evaluator.specs.FrameTables.{Equation}
+use Rattle.goal_evaluator.specs.StepReadings.{equation_read}
+use Rattle.candidate_model.specs.Candidates.{all_equal, never_met, first_value}
+use Rattle.goal_evaluator.proofs.Contexts.{every-more}
 use Rattle.infer_table.proofs.BindFacts.{type-is}
 use Rattle.built_in_candidates.specs.Equations.{ArePaired}
 use Rattle.built_in_candidates.proofs.Lists.{map-push}

@@ -10,10 +10,10 @@ use Rattle.term_folds.specs.Signatures.{StartsWithType}
 use Rattle.declarations.specs.Items.{Items, HeldImpl, impl_in, written}
 use Rattle.declarations.specs.Promised.Elaboration.{Each}
 use Rattle.declarations.specs.Relevant.{relevant_in}
-use Rattle.assembly_laws.specs.Asking.{GoalOverKinds, self_of, with_plain_head}
-use Rattle.assembly_laws.specs.Candidates.{is_relevant_to}
+use Rattle.candidate_model.specs.Asking.{GoalOverKinds, self_of, with_plain_head}
+use Rattle.candidate_model.specs.Candidates.{is_relevant_to}
 use Rattle.built_in_candidates.specs.BuiltIn.{HavePlainHeads}
-use Rattle.assembly_laws.proofs.Basics.{plain-head}
+use Rattle.candidate_model.proofs.Basics.{plain-head}
 
 abbrev pub names : List ImplDecl → List ℕ
 names is = map (λ (i : ImplDecl). i.name) is

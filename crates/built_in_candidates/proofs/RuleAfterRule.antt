@@ -4,11 +4,11 @@ use Rattle.std.specs.List.{slice_get}
 use Rattle.type_terms.specs.Promised.Handles.{Entry, Keeps}
 use Rattle.infer_table.specs.declared.input.CanonicalInput.{CanonicalInput}
 use Rattle.infer_table.specs.Goals.{GoalHeld}
-use Rattle.evaluation.specs.declared.candidate.CandidateSpec.{CandidateSpec}
+use Rattle.goal_evaluator.specs.declared.candidate.CandidateSpec.{CandidateSpec}
 use Rattle.declarations.specs.Held.{AreHeld}
 use Rattle.declarations.specs.Items.{Items, written}
 use Rattle.declarations.proofs.Growth.{all-written}
-use Rattle.assembly_laws.specs.Candidates.{by_unsize}
+use Rattle.candidate_model.specs.Candidates.{by_unsize}
 use Rattle.built_in_candidates.specs.declared.built_in_rules.BuiltInRule.{BuiltInRule}
 use Rattle.built_in_candidates.specs.BuiltInRules.{by_the_rule}
 use Rattle.built_in_candidates.specs.Constituents.{candidates_of}

@@ -13,8 +13,8 @@ use Rattle.term_folds.specs.declared.predicate.TraitRef.{TraitRef}
 use Rattle.declarations.specs.Items.{Items, reference_in}
 use Rattle.declarations.specs.Promised.Elaboration.{Each}
 use Rattle.declarations.specs.Applied.{references_in}
-use Rattle.assembly_laws.specs.Asking.{GoalOverKinds, with_plain_head}
-use Rattle.assembly_laws.specs.Candidates.{as_written, by_rule, misc, if_so}
+use Rattle.candidate_model.specs.Asking.{GoalOverKinds, with_plain_head}
+use Rattle.candidate_model.specs.Candidates.{as_written, by_rule, misc, if_so}
 use Rattle.built_in_candidates.specs.Objects.{bounds_of, AreArgumentsOf}
 use Rattle.built_in_candidates.specs.Unsizing.{traits_asked, to_dyn, TargetIsApplied}
 

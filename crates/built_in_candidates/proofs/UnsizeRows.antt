@@ -9,11 +9,11 @@ use Rattle.type_terms.specs.Promised.Rules.{is_dyn, unsize, unsize_to_dyn_rules}
 use Rattle.type_terms.proofs.Members.{same-number}
 use Rattle.type_terms.specs.Promised.Handles.{Entry}
 use Rattle.term_folds.specs.Signatures.{StartsWithType}
-use Rattle.evaluation.specs.declared.candidate.CandidateSpec.{CandidateSpec}
+use Rattle.goal_evaluator.specs.declared.candidate.CandidateSpec.{CandidateSpec}
 use Rattle.declarations.specs.Items.{Items}
 use Rattle.infer_table.specs.declared.canonical.CanonicalVarKind.{CanonicalVarKind}
-use Rattle.assembly_laws.specs.Asking.{GoalOverKinds, self_of, next_of, with_plain_head, begins_unknown}
-use Rattle.assembly_laws.specs.Candidates.{Candidate, as_written, misc, if_so, unsure, unsize_array_of, upcasts_of, unsize_struct_of, unsize_known, unsize_recording, by_unsize}
+use Rattle.candidate_model.specs.Asking.{GoalOverKinds, self_of, next_of, with_plain_head, begins_unknown}
+use Rattle.candidate_model.specs.Candidates.{Candidate, as_written, misc, if_so, unsure, unsize_array_of, upcasts_of, unsize_struct_of, unsize_known, unsize_recording, by_unsize}
 use Rattle.built_in_candidates.specs.Goals.{candidate_of}
 use Rattle.built_in_candidates.specs.Constituents.{StructIsApplied, candidates_of}
 use Rattle.built_in_candidates.specs.Objects.{bounds_of}

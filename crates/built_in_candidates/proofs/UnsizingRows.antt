@@ -4,9 +4,9 @@ use Rattle.type_terms.specs.Promised.Label.{Label, Sort, of_type, array, slice}
 use Rattle.type_terms.specs.Promised.Trees.{Trees, none, tree, ◌+++◌, IsA}
 use Rattle.type_terms.specs.Promised.Worlds.{World}
 use Rattle.infer_table.specs.Values.{Value}
-use Rattle.evaluation.specs.FrameTables.{Equation}
-use Rattle.assembly_laws.specs.Asking.{GoalOverKinds}
-use Rattle.assembly_laws.specs.Candidates.{Candidate, by_rule, misc, all_equal, first_value, unsize_array_of}
+use Rattle.goal_evaluator.specs.FrameTables.{Equation}
+use Rattle.candidate_model.specs.Asking.{GoalOverKinds}
+use Rattle.candidate_model.specs.Candidates.{Candidate, by_rule, misc, all_equal, first_value, unsize_array_of}
 use Rattle.built_in_candidates.specs.Unsizing.{array_element_of, slice_element_of}
 
 pub array-read : (x n : Trees) → IsA of_type x → Some x ≡ array_element_of (tree array (x +++ n) none)

@@ -3,12 +3,12 @@ use Rattle.std.specs.Prelude.{◌≡◌, List}
 use Rattle.type_terms.specs.Promised.Worlds.{World}
 use Rattle.type_terms.specs.Promised.Rules.{sized_rules, copy_rules, auto_rules, tuple_rules, fn_ptr_rules}
 use Rattle.type_terms.specs.Promised.Handles.{Entry, trees_at}
-use Rattle.evaluation.specs.declared.candidate.CandidateSource.TheVariants.{BuiltinImpl}
-use Rattle.evaluation.specs.declared.candidate.BuiltinImplSource.TheVariants.{Trivial}
+use Rattle.goal_evaluator.specs.declared.candidate.CandidateSource.TheVariants.{BuiltinImpl}
+use Rattle.goal_evaluator.specs.declared.candidate.BuiltinImplSource.TheVariants.{Trivial}
 use Rattle.declarations.specs.Items.{Items}
 use Rattle.declarations.specs.Promised.Elaboration.{Each}
-use Rattle.assembly_laws.specs.Asking.{GoalOverKinds, self_of, with_plain_head}
-use Rattle.assembly_laws.specs.Candidates.{Candidate, as_written, misc}
+use Rattle.candidate_model.specs.Asking.{GoalOverKinds, self_of, with_plain_head}
+use Rattle.candidate_model.specs.Candidates.{Candidate, as_written, misc}
 
 -- Of `Sized`.
 abbrev pub sized_candidates : World → GoalOverKinds → List Candidate

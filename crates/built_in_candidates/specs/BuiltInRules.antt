@@ -4,9 +4,9 @@ use Rattle.std.specs.List.{slice_get}
 use Rattle.type_terms.specs.Promised.Worlds.{World}
 use Rattle.type_terms.specs.Promised.Rules.{sized, clone, copy, tuple_trait, fn_ptr_trait, is_fn_trait, is_auto}
 use Rattle.type_terms.specs.Promised.Handles.{Entry}
-use Rattle.evaluation.specs.declared.candidate.CandidateSpec.{CandidateSpec}
-use Rattle.assembly_laws.specs.Asking.{GoalOverKinds}
-use Rattle.assembly_laws.specs.Candidates.{Candidate, if_so, by_unsize}
+use Rattle.goal_evaluator.specs.declared.candidate.CandidateSpec.{CandidateSpec}
+use Rattle.candidate_model.specs.Asking.{GoalOverKinds}
+use Rattle.candidate_model.specs.Candidates.{Candidate, if_so, by_unsize}
 use Rattle.built_in_candidates.specs.declared.built_in_rules.BuiltInRule.{BuiltInRule}
 use Rattle.built_in_candidates.specs.declared.built_in_rules.BuiltInRule.TheVariants.{«Sized» as RSized, CopyClone, AutoTrait, «Tuple» as RTuple, FnPtr, Calls}
 use Rattle.built_in_candidates.specs.BuiltIn.{sized_candidates, copy_candidates, auto_candidates, tuple_candidates, fn_ptr_candidates}

@@ -11,13 +11,13 @@ use Rattle.type_terms.specs.declared.kinds.Ty.{Ty}
 use Rattle.term_folds.specs.Signatures.{StartsWithType}
 use Rattle.infer_table.specs.declared.input.CanonicalInput.{CanonicalInput}
 use Rattle.infer_table.specs.Goals.{GoalHeld}
-use Rattle.evaluation.specs.declared.candidate.CandidateSpec.{CandidateSpec}
+use Rattle.goal_evaluator.specs.declared.candidate.CandidateSpec.{CandidateSpec}
 use Rattle.declarations.specs.declared.items.AdtDef.{AdtDef}
 use Rattle.declarations.specs.Items.{Items, struct_at}
 use Rattle.declarations.specs.Held.{AreHeld}
 use Rattle.declarations.specs.Promised.Elaboration.{Each}
 use Rattle.declarations.specs.Applied.{sort_of_param, sorts_of, SpeaksOf}
-use Rattle.assembly_laws.specs.Candidates.{Candidate}
+use Rattle.candidate_model.specs.Candidates.{Candidate}
 use Rattle.built_in_candidates.specs.Goals.{candidate_of}
 
 -- What each of the rules asks.

@@ -6,11 +6,11 @@ use Rattle.type_terms.specs.Promised.Handles.{ArgsHeld}
 use Rattle.type_terms.specs.Kinds.{args_trees}
 use Rattle.type_terms.specs.declared.kinds.GenericArgKind.{GenericArgKind}
 use Rattle.infer_table.specs.declared.terms.Equation as Code
-use Rattle.evaluation.specs.Lists.{Every}
-use Rattle.evaluation.specs.Readings.{EquationHeld}
-use Rattle.evaluation.specs.FrameTables.{Equation}
-use Rattle.evaluation.specs.StepReadings.{equation_read}
-use Rattle.assembly_laws.specs.Candidates.{all_equal, never_met}
+use Rattle.goal_evaluator.specs.Lists.{Every}
+use Rattle.goal_evaluator.specs.Readings.{EquationHeld}
+use Rattle.goal_evaluator.specs.FrameTables.{Equation}
+use Rattle.goal_evaluator.specs.StepReadings.{equation_read}
+use Rattle.candidate_model.specs.Candidates.{all_equal, never_met}
 
 -- An equation that no terms meet, where one list is longer.
 abbrev pub never_if : Bool → List Equation

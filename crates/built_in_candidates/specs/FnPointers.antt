@@ -6,8 +6,8 @@ use Rattle.type_terms.specs.Promised.Worlds.{World}
 use Rattle.type_terms.specs.Promised.Handles.{Entry}
 use Rattle.type_terms.specs.Promised.Handles.{ArgHeld, arg_trees}
 use Rattle.type_terms.specs.declared.kinds.GenericArgKind.{GenericArgKind}
-use Rattle.assembly_laws.specs.Asking.{GoalOverKinds, self_of}
-use Rattle.assembly_laws.specs.Candidates.{Candidate, call_of}
+use Rattle.candidate_model.specs.Asking.{GoalOverKinds, self_of}
+use Rattle.candidate_model.specs.Candidates.{Candidate, call_of}
 
 -- Of `Fn`, `FnMut` and `FnOnce`.
 abbrev pub call_candidates : World → GoalOverKinds → List Candidate

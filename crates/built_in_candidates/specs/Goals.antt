@@ -6,14 +6,14 @@ use Rattle.type_terms.specs.Promised.Handles.{Entry}
 use Rattle.infer_table.specs.declared.goal.Goal.{Goal}
 use Rattle.infer_table.specs.declared.input.CanonicalInput.{CanonicalInput}
 use Rattle.infer_table.specs.Goals.{GoalHeld, environment_trees}
-use Rattle.evaluation.specs.declared.candidate.CandidateSpec.{CandidateSpec}
-use Rattle.evaluation.specs.declared.goal.GoalSource.{GoalSource}
-use Rattle.evaluation.specs.Lists.{Every}
-use Rattle.evaluation.specs.FrameTables.{Nested}
-use Rattle.evaluation.specs.StepReadings.{nested_read, spec_read}
+use Rattle.goal_evaluator.specs.declared.candidate.CandidateSpec.{CandidateSpec}
+use Rattle.goal_evaluator.specs.declared.goal.GoalSource.{GoalSource}
+use Rattle.goal_evaluator.specs.Lists.{Every}
+use Rattle.goal_evaluator.specs.FrameTables.{Nested}
+use Rattle.goal_evaluator.specs.StepReadings.{nested_read, spec_read}
 use Rattle.declarations.specs.Items.{reference_in}
-use Rattle.assembly_laws.specs.Asking.{GoalOverKinds}
-use Rattle.assembly_laws.specs.Candidates.{Candidate}
+use Rattle.candidate_model.specs.Asking.{GoalOverKinds}
+use Rattle.candidate_model.specs.Candidates.{Candidate}
 
 -- The goal of a canonical input: its where-clauses and the reference that it asks, over the variables of its kinds.
 abbrev pub asked_of : List Entry → CanonicalInput → GoalOverKinds

@@ -8,14 +8,14 @@ use Rattle.type_terms.specs.Promised.Rules.{sized, principal_with, autos_with, a
 use Rattle.type_terms.specs.Promised.Handles.{Entry, Has, bounds_lists, trees_at}
 use Rattle.type_terms.specs.declared.kinds.Bounds.{Bounds}
 use Rattle.term_folds.specs.declared.predicate.TraitRef.{TraitRef}
-use Rattle.evaluation.specs.declared.candidate.BuiltinImplSource.{BuiltinImplSource}
-use Rattle.evaluation.specs.declared.candidate.BuiltinImplSource.TheVariants.{Misc, Object, TraitUpcasting}
+use Rattle.goal_evaluator.specs.declared.candidate.BuiltinImplSource.{BuiltinImplSource}
+use Rattle.goal_evaluator.specs.declared.candidate.BuiltinImplSource.TheVariants.{Misc, Object, TraitUpcasting}
 use Rattle.declarations.specs.Items.{Items, reference_in, trait_at}
 use Rattle.declarations.specs.Promised.Elaboration.{Each}
 use Rattle.declarations.specs.Applied.{sorts_of, sorts_of_params}
 use Rattle.declarations.specs.Promised.Elaboration.{elaborate, supertraits}
-use Rattle.assembly_laws.specs.Asking.{GoalOverKinds}
-use Rattle.assembly_laws.specs.Candidates.{Candidate, if_so, upcasts_to}
+use Rattle.candidate_model.specs.Asking.{GoalOverKinds}
+use Rattle.candidate_model.specs.Candidates.{Candidate, if_so, upcasts_to}
 
 -- ---- what is read off a type
 -- The bounds of a `dyn` with its lifetime, if the first type is one.

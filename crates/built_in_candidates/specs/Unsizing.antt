@@ -16,8 +16,8 @@ use Rattle.declarations.specs.declared.items.AdtDef.{AdtDef}
 use Rattle.declarations.specs.Applied.{sort_of_param, sorts_of}
 use Rattle.declarations.specs.Items.{Items}
 use Rattle.declarations.specs.Promised.Elaboration.{Each}
-use Rattle.assembly_laws.specs.Asking.{GoalOverKinds, next_of}
-use Rattle.assembly_laws.specs.Candidates.{Candidate, by_rule, misc, if_so}
+use Rattle.candidate_model.specs.Asking.{GoalOverKinds, next_of}
+use Rattle.candidate_model.specs.Candidates.{Candidate, by_rule, misc, if_so}
 use Rattle.built_in_candidates.specs.Constituents.{AreArguments}
 use Rattle.built_in_candidates.specs.Objects.{AreArgumentsOf}
 

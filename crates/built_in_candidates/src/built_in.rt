@@ -6,11 +6,11 @@ ghost use Rattle.type_terms.specs.Promised.Rules.{Rule, sized, asked};
 ghost use Rattle.type_terms.specs.Promised.Handles.{Has, types, trees_at};
 ghost use Rattle.term_folds.specs.Signatures.{StartsWithType};
 ghost use Rattle.infer_table.specs.Goals.{GoalHeld};
-ghost use Rattle.evaluation.specs.Readings.{SpecHeld};
+ghost use Rattle.goal_evaluator.specs.Readings.{SpecHeld};
 ghost use Rattle.declarations.specs.Items.{reference_in, written};
 ghost use Rattle.declarations.specs.Held.{ReferenceHeld};
 ghost use Rattle.declarations.specs.Applied.{references_in, TraitRefsHeld};
-ghost use Rattle.assembly_laws.specs.Candidates.{as_written};
+ghost use Rattle.candidate_model.specs.Candidates.{as_written};
 ghost use Rattle.built_in_candidates.specs.Goals.{asked_of};
 ghost use Rattle.built_in_candidates.specs.Constituents.{AreConstituents, TypesHeld, CanBeConsidered, types_asked, candidates_of};
 ghost use Rattle.built_in_candidates.specs.BuiltIn.{sized_candidates, copy_candidates, auto_candidates, tuple_candidates, fn_ptr_candidates, HavePlainHeads};
@@ -22,7 +22,7 @@ use crate::structural::{
     instantiate_constituent_tys_for_sized_trait,
 };
 use declarations::declarations::Declarations;
-use evaluation::{BuiltinImplSource, CandidateSource, CandidateSpec};
+use goal_evaluator::{BuiltinImplSource, CandidateSource, CandidateSpec};
 use infer_table::input::CanonicalInput;
 use std::alloc::Global;
 use term_folds::predicate::TraitRef;

@@ -4,11 +4,11 @@ ghost use Rattle.std.specs.Prelude.{◌≡◌, ◌==◌, true, List, IfOk, IfSom
 ghost use Rattle.std.specs.List.{slice_get};
 ghost use Rattle.type_terms.specs.Promised.Rules.{unsize, is_auto};
 ghost use Rattle.type_terms.specs.Promised.Handles.{Entry, trees_at};
-ghost use Rattle.evaluation.specs.Readings.{SpecHeld};
+ghost use Rattle.goal_evaluator.specs.Readings.{SpecHeld};
 ghost use Rattle.declarations.specs.Items.{written};
 ghost use Rattle.declarations.specs.Applied.{HaveBounds};
-ghost use Rattle.assembly_laws.specs.Asking.{self_of};
-ghost use Rattle.assembly_laws.specs.Candidates.{built_in};
+ghost use Rattle.candidate_model.specs.Asking.{self_of};
+ghost use Rattle.candidate_model.specs.Candidates.{built_in};
 ghost use Rattle.built_in_candidates.specs.Goals.{asked_of, candidate_of};
 ghost use Rattle.built_in_candidates.specs.Constituents.{CanBeConsidered, candidates_of};
 ghost use Rattle.built_in_candidates.specs.BuiltIn.{HavePlainHeads};
@@ -24,7 +24,7 @@ use crate::built_in::{
 use crate::calls::consider_builtin_fn_trait_candidates;
 use crate::unsize::consider_builtin_unsize_candidate;
 use declarations::declarations::Declarations;
-use evaluation::CandidateSpec;
+use goal_evaluator::CandidateSpec;
 use infer_table::input::CanonicalInput;
 use std::alloc::Global;
 use type_terms::interner::Interner;

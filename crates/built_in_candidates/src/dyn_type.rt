@@ -6,7 +6,7 @@ ghost use Rattle.type_terms.specs.Promised.Trees.{Trees, ◌+++◌};
 ghost use Rattle.type_terms.specs.Promised.Rules.{principal_with, autos_with, are_declared, are_dyn_compatible};
 ghost use Rattle.type_terms.specs.Promised.Handles.{Has, Entry, types, bounds_lists, trees_at};
 ghost use Rattle.type_terms.specs.Terms.{args_lists};
-ghost use Rattle.evaluation.specs.Merge.{if_there};
+ghost use Rattle.goal_evaluator.specs.Merge.{if_there};
 ghost use Rattle.declarations.specs.Items.{written};
 ghost use Rattle.declarations.specs.Held.{AreHeld};
 ghost use Rattle.declarations.specs.Promised.Elaboration.{Each};

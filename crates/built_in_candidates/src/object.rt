@@ -6,14 +6,14 @@ ghost use Rattle.type_terms.specs.Promised.Rules.{principal_with};
 ghost use Rattle.type_terms.specs.Promised.Handles.{Has, types, bounds_lists, trees_at};
 ghost use Rattle.term_folds.specs.Signatures.{StartsWithType};
 ghost use Rattle.infer_table.specs.Goals.{GoalHeld};
-ghost use Rattle.evaluation.specs.Readings.{SpecHeld};
-ghost use Rattle.evaluation.specs.declared.candidate.CandidateSource.TheVariants.{BuiltinImpl};
+ghost use Rattle.goal_evaluator.specs.Readings.{SpecHeld};
+ghost use Rattle.goal_evaluator.specs.declared.candidate.CandidateSource.TheVariants.{BuiltinImpl};
 ghost use Rattle.declarations.specs.Items.{reference_in, written};
 ghost use Rattle.declarations.specs.Held.{AreHeld, ReferenceHeld};
 ghost use Rattle.declarations.specs.Promised.Elaboration.{Each};
 ghost use Rattle.declarations.specs.Applied.{references_in, TraitRefsHeld, IsApplied, HaveBounds};
 ghost use Rattle.declarations.specs.Promised.Elaboration.{supertraits};
-ghost use Rattle.assembly_laws.specs.Candidates.{all_equal, by_rule, by_objects};
+ghost use Rattle.candidate_model.specs.Candidates.{all_equal, by_rule, by_objects};
 ghost use Rattle.built_in_candidates.specs.Goals.{asked_of, candidate_of};
 ghost use Rattle.built_in_candidates.specs.Objects.{ObjectIsApplied, AreArgumentsOf, WithLifetime, bound_in, object_bounds, written_and_elaborated};
 
@@ -24,7 +24,7 @@ use crate::dyn_type::{
 use crate::parts::by_rule;
 use crate::relate::relate_args;
 use declarations::declarations::Declarations;
-use evaluation::{BuiltinImplSource, CandidateSource, CandidateSpec};
+use goal_evaluator::{BuiltinImplSource, CandidateSource, CandidateSpec};
 use infer_table::input::CanonicalInput;
 use std::alloc::Global;
 use term_folds::predicate::TraitRef;

@@ -6,12 +6,12 @@ ghost use Rattle.type_terms.specs.Promised.Handles.{region_trees, RegionHeld};
 ghost use Rattle.type_terms.specs.declared.Fault.TheVariants.{Memory};
 ghost use Rattle.infer_table.specs.Constraints.{constraints_trees};
 ghost use Rattle.infer_table.specs.Content.{IsHeldConstraint};
-ghost use Rattle.evaluation.specs.Merge.{if_there};
-ghost use Rattle.evaluation.specs.Readings.{SpecHeld};
-ghost use Rattle.assembly_laws.specs.Candidates.{recording, lifetime_of, outlives};
+ghost use Rattle.goal_evaluator.specs.Merge.{if_there};
+ghost use Rattle.goal_evaluator.specs.Readings.{SpecHeld};
+ghost use Rattle.candidate_model.specs.Candidates.{recording, lifetime_of, outlives};
 ghost use Rattle.built_in_candidates.specs.Goals.{candidate_of};
 
-use evaluation::CandidateSpec;
+use goal_evaluator::CandidateSpec;
 use infer_table::terms::RegionConstraint;
 use type_terms::Fault;
 use type_terms::interner::Interner;

@@ -4,16 +4,16 @@ ghost use Rattle.type_terms.specs.Promised.Handles.{Entry};
 ghost use Rattle.type_terms.specs.declared.Fault.TheVariants.{Memory};
 ghost use Rattle.infer_table.specs.Goals.{GoalHeld};
 ghost use Rattle.type_terms.specs.Promised.Worlds.{World};
-ghost use Rattle.evaluation.specs.Lists.{Every};
-ghost use Rattle.evaluation.specs.Readings.{SpecHeld, EquationHeld, is_coinductive_step};
-ghost use Rattle.evaluation.specs.StepReadings.{nested_read, spec_read, equation_read};
+ghost use Rattle.goal_evaluator.specs.Lists.{Every};
+ghost use Rattle.goal_evaluator.specs.Readings.{SpecHeld, EquationHeld, is_coinductive_step};
+ghost use Rattle.goal_evaluator.specs.StepReadings.{nested_read, spec_read, equation_read};
 ghost use Rattle.declarations.specs.Items.{reference_in};
 ghost use Rattle.declarations.specs.Held.{ReferenceHeld};
 ghost use Rattle.declarations.specs.Applied.{references_in, TraitRefsHeld};
-ghost use Rattle.assembly_laws.specs.Candidates.{premise, by_rule, unsure};
+ghost use Rattle.candidate_model.specs.Candidates.{premise, by_rule, unsure};
 ghost use Rattle.built_in_candidates.specs.Goals.{asked_of, candidate_of, nested_of, NestedGoalsHeld};
 
-use evaluation::{
+use goal_evaluator::{
     BuiltinImplSource, CandidateSource, CandidateSpec, Certainty, Goal, GoalSource, MaybeCause,
 };
 use infer_table::input::CanonicalInput;

@@ -4,10 +4,10 @@ ghost use Rattle.std.specs.Prelude.{◌≡◌, IfOk, IfErr, map};
 ghost use Rattle.type_terms.specs.Promised.Handles.{Has, trees_at};
 ghost use Rattle.type_terms.specs.Terms.{args_lists};
 ghost use Rattle.type_terms.specs.declared.Fault.TheVariants.{Memory};
-ghost use Rattle.evaluation.specs.Lists.{Every};
-ghost use Rattle.evaluation.specs.Readings.{EquationHeld};
-ghost use Rattle.evaluation.specs.StepReadings.{equation_read};
-ghost use Rattle.assembly_laws.specs.Candidates.{all_equal, never_met};
+ghost use Rattle.goal_evaluator.specs.Lists.{Every};
+ghost use Rattle.goal_evaluator.specs.Readings.{EquationHeld};
+ghost use Rattle.goal_evaluator.specs.StepReadings.{equation_read};
+ghost use Rattle.candidate_model.specs.Candidates.{all_equal, never_met};
 ghost use Rattle.built_in_candidates.specs.Equations.{ArePaired};
 
 use infer_table::terms::Equation;

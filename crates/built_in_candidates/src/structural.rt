@@ -15,7 +15,7 @@ ghost use Rattle.declarations.specs.Items.{written};
 ghost use Rattle.declarations.specs.Held.{AreHeld};
 ghost use Rattle.declarations.specs.Promised.Elaboration.{Each};
 ghost use Rattle.declarations.specs.Unsizing.{field_trees};
-ghost use Rattle.assembly_laws.specs.Asking.{with_plain_head};
+ghost use Rattle.candidate_model.specs.Asking.{with_plain_head};
 ghost use Rattle.built_in_candidates.specs.Constituents.{AreConstituents, TypesHeld, AreArguments, StructIsApplied, HaveFields, last_of};
 
 use declarations::declarations::Declarations;

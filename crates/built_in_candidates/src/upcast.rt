@@ -9,15 +9,15 @@ ghost use Rattle.type_terms.specs.Promised.Handles.{Has, Entry, types, bounds_li
 ghost use Rattle.type_terms.specs.Terms.{args_lists};
 ghost use Rattle.type_terms.specs.declared.Fault.TheVariants.{Memory};
 ghost use Rattle.infer_table.specs.Goals.{GoalHeld};
-ghost use Rattle.evaluation.specs.Merge.{if_there};
-ghost use Rattle.evaluation.specs.Readings.{SpecHeld};
-ghost use Rattle.evaluation.specs.declared.candidate.CandidateSource.TheVariants.{BuiltinImpl};
+ghost use Rattle.goal_evaluator.specs.Merge.{if_there};
+ghost use Rattle.goal_evaluator.specs.Readings.{SpecHeld};
+ghost use Rattle.goal_evaluator.specs.declared.candidate.CandidateSource.TheVariants.{BuiltinImpl};
 ghost use Rattle.declarations.specs.Items.{written};
 ghost use Rattle.declarations.specs.Held.{AreHeld, ReferenceHeld};
 ghost use Rattle.declarations.specs.Promised.Elaboration.{Each};
 ghost use Rattle.declarations.specs.Applied.{references_in, TraitRefsHeld, HaveBounds};
 ghost use Rattle.declarations.specs.Promised.Elaboration.{elaborate};
-ghost use Rattle.assembly_laws.specs.Candidates.{all_equal, by_rule, misc, upcasts_to, upcasts_of};
+ghost use Rattle.candidate_model.specs.Candidates.{all_equal, by_rule, misc, upcasts_to, upcasts_of};
 ghost use Rattle.built_in_candidates.specs.Goals.{asked_of, candidate_of};
 ghost use Rattle.built_in_candidates.specs.Objects.{ObjectIsApplied, AreArgumentsOf, WithLifetime, bound_in, upcast_bounds, upcasts_between};
 
@@ -28,7 +28,7 @@ use crate::dyn_type::{
 use crate::parts::by_rule;
 use crate::relate::relate_args;
 use declarations::declarations::Declarations;
-use evaluation::{BuiltinImplSource, CandidateSource, CandidateSpec};
+use goal_evaluator::{BuiltinImplSource, CandidateSource, CandidateSpec};
 use infer_table::input::CanonicalInput;
 use std::alloc::Global;
 use term_folds::predicate::TraitRef;

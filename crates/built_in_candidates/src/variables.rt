@@ -1,8 +1,8 @@
 //! The variables of a goal's canonical form.
 ghost use Rattle.std.specs.Prelude.{◌≡◌};
 ghost use Rattle.type_terms.specs.Promised.Handles.{Has, types, trees_at};
-ghost use Rattle.evaluation.specs.FrameTables.{kind_at};
-ghost use Rattle.assembly_laws.specs.Asking.{begins_unknown};
+ghost use Rattle.goal_evaluator.specs.FrameTables.{kind_at};
+ghost use Rattle.candidate_model.specs.Asking.{begins_unknown};
 
 use infer_table::canonical::CanonicalVarKind;
 use type_terms::interner::Interner;

@@ -2,11 +2,11 @@
 use Rattle.std.proofs.Common.{◌≡◌, ℕ, suc, Bool, true, false, cond, ◌&&◌, ◌||◌, if◌then◌else◌, List, [], ◌∷◌, ◌++◌, append_assoc, length, refl, sym, ◌∙◌, ap, subst, Option, Some, None, ◌⊎◌, inl, inr}
 use Rattle.std.specs.Prelude.{filter, is_some}
 use Rattle.std.specs.List.{slice_get, list_any}
-use Rattle.evaluation.specs.Lists.{Every}
-use Rattle.evaluation.specs.Merge.{or_else}
-use Rattle.evaluation.specs.Table.{Tables, workings}
-use Rattle.evaluation.specs.Candidate.{Spec, Considered, Next, consider, answer}
-use Rattle.evaluation.specs.Plans.{Plan, answers, told, after, wanted, came, each_of, if_refused, first_alone}
+use Rattle.goal_evaluator.specs.Lists.{Every}
+use Rattle.goal_evaluator.specs.Merge.{or_else}
+use Rattle.goal_evaluator.specs.Table.{Tables, workings}
+use Rattle.goal_evaluator.specs.Candidate.{Spec, Considered, Next, consider, answer}
+use Rattle.goal_evaluator.specs.Plans.{Plan, answers, told, after, wanted, came, each_of, if_refused, first_alone}
 use Rattle.candidate_assembly.proofs.Taken.{count, rest_of, AreIn, AreOut, front, past, still-counted, or-none}
 use Rattle.type_terms.proofs.ListBasics.{append-none}
 

@@ -26,8 +26,8 @@ use Rattle.declarations.specs.declared.items.GenericParamKind.TheVariants.{Lifet
 use Rattle.declarations.specs.Items.{reference_in}
 use Rattle.declarations.specs.Promised.Elaboration.{Each}
 use Rattle.term_folds.specs.declared.predicate.TraitRef.{TraitRef}
-use Rattle.evaluation.specs.Instances.{put_in}
-use Rattle.assembly_laws.specs.Candidates.{moved, rules_behind, impl_id}
+use Rattle.goal_evaluator.specs.Instances.{put_in}
+use Rattle.candidate_model.specs.Candidates.{moved, rules_behind, impl_id}
 use Rattle.candidate_assembly.specs.Headers.{var_kind}
 use Rattle.type_terms.proofs.TermBasics.{below-node as tree-cong}
 use Rattle.term_folds.proofs.TypeBasics.{left-none, right-none}

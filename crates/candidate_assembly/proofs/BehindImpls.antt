@@ -10,27 +10,27 @@ use Rattle.infer_table.specs.Inputs.{form_of}
 use Rattle.infer_table.specs.declared.certainty.TypingMode.{TypingMode}
 use Rattle.infer_table.specs.declared.certainty.TypingMode.TheVariants.{Coherence, PostAnalysis}
 use Rattle.infer_table.specs.declared.input.CanonicalInput.{CanonicalInput}
-use Rattle.evaluation.specs.declared.candidate.Considered as InCode
-use Rattle.evaluation.specs.Candidate.{Considered, Next, IsHistory}
-use Rattle.evaluation.specs.Merge.{or_else}
-use Rattle.evaluation.specs.Table.{workings}
-use Rattle.evaluation.specs.FrameTables.{kinds_known}
-use Rattle.evaluation.specs.Tables.{frame_tables}
+use Rattle.goal_evaluator.specs.declared.candidate.Considered as InCode
+use Rattle.goal_evaluator.specs.Candidate.{Considered, Next, IsHistory}
+use Rattle.goal_evaluator.specs.Merge.{or_else}
+use Rattle.goal_evaluator.specs.Table.{workings}
+use Rattle.goal_evaluator.specs.FrameTables.{kinds_known}
+use Rattle.goal_evaluator.specs.Tables.{frame_tables}
 use Rattle.goal_frames.specs.Handlers.{same_answer, applies_always}
-use Rattle.evaluation.specs.StepReadings.{HasHistory, Shows, shown_by}
+use Rattle.goal_evaluator.specs.StepReadings.{HasHistory, Shows, shown_by}
 use Rattle.declarations.specs.Items.{Items, written}
-use Rattle.assembly_laws.specs.Meaning.{ViewMeaning}
-use Rattle.assembly_laws.specs.Knowing.{is_knowable}
-use Rattle.assembly_laws.specs.Asking.{GoalOverKinds, goal_over_kinds, asked_if, clauses, self_of, begins_unknown}
-use Rattle.assembly_laws.specs.Candidates.{Candidate, unsure, unknowable, by_clauses, built_in}
-use Rattle.assembly_laws.specs.DeclaredWell.{is_declared_well}
-use Rattle.assembly_laws.specs.Lifetimes.{form_gives_lifetimes}
-use Rattle.assembly_laws.specs.Solver.{SolverPast, from, is_clause, is_impl, is_settled, says_nothing, holds_from, solver_handled}
+use Rattle.candidate_model.specs.Meaning.{ViewMeaning}
+use Rattle.candidate_model.specs.Knowing.{is_knowable}
+use Rattle.candidate_model.specs.Asking.{GoalOverKinds, goal_over_kinds, asked_if, clauses, self_of, begins_unknown}
+use Rattle.candidate_model.specs.Candidates.{Candidate, unsure, unknowable, by_clauses, built_in}
+use Rattle.candidate_model.specs.DeclaredWell.{is_declared_well}
+use Rattle.candidate_model.specs.Lifetimes.{form_gives_lifetimes}
+use Rattle.candidate_model.specs.Solver.{SolverPast, from, is_clause, is_impl, is_settled, says_nothing, holds_from, solver_handled}
 use Rattle.type_terms.proofs.Members.{not-both}
 use Rattle.built_in_candidates.specs.Goals.{asked_of}
 use Rattle.candidate_assembly.specs.Counted.{ends_by, is_of}
 use Rattle.candidate_assembly.specs.declared.assembly.Section.TheVariants.{Impls}
-use Rattle.evaluation.specs.declared.candidate.CandidateSource.{CandidateSource}
+use Rattle.goal_evaluator.specs.declared.candidate.CandidateSource.{CandidateSource}
 use Rattle.candidate_assembly.specs.Fitting.{fits_declared, solving_of}
 use Rattle.candidate_assembly.specs.Nexts.{handled_in, ForEachHistory, late_in, next_decided}
 use Rattle.candidate_assembly.specs.Ready.{AreReadyDeclarations, IsWellPosedGoal, Decides}

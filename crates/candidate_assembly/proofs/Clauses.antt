@@ -8,13 +8,13 @@ use Rattle.term_folds.specs.declared.predicate.Clause.{Clause}
 use Rattle.term_folds.specs.declared.predicate.Clause.TheVariants.{Trait, RegionOutlives, TypeOutlives}
 use Rattle.term_folds.specs.declared.predicate.TraitRef.{TraitRef}
 use Rattle.infer_table.specs.Goals.{ClausesHeld, environment_trees}
-use Rattle.evaluation.specs.declared.candidate.CandidateSource.TheVariants.{ParamEnv}
+use Rattle.goal_evaluator.specs.declared.candidate.CandidateSource.TheVariants.{ParamEnv}
 use Rattle.declarations.specs.Items.{reference_in}
 use Rattle.declarations.specs.Held.{ReferenceHeld}
 use Rattle.declarations.specs.Applied.{TraitRefsHeld}
-use Rattle.assembly_laws.specs.Facts.{clauses_of}
-use Rattle.assembly_laws.specs.Asking.{GoalOverKinds}
-use Rattle.assembly_laws.specs.Candidates.{Candidate, by_rule, by_clauses, clause_source, all_equal}
+use Rattle.candidate_model.specs.Facts.{clauses_of}
+use Rattle.candidate_model.specs.Asking.{GoalOverKinds}
+use Rattle.candidate_model.specs.Candidates.{Candidate, by_rule, by_clauses, clause_source, all_equal}
 use Rattle.candidate_assembly.specs.Clauses.{with_reference, references_to}
 
 -- ---- one clause after the other

@@ -1,9 +1,9 @@
 -- What holds of candidates holds of those from some sources.
 use Rattle.std.proofs.Common.{Bool, true, false, if◌then◌else◌, List, [], ◌∷◌}
 use Rattle.type_terms.specs.Promised.Handles.{Entry}
-use Rattle.evaluation.specs.declared.candidate.Considered.{Considered}
-use Rattle.evaluation.specs.Lists.{Every}
-use Rattle.evaluation.specs.Readings.{ResultHeld, ConsideredHeld}
+use Rattle.goal_evaluator.specs.declared.candidate.Considered.{Considered}
+use Rattle.goal_evaluator.specs.Lists.{Every}
+use Rattle.goal_evaluator.specs.Readings.{ResultHeld, ConsideredHeld}
 use Rattle.goal_frames.specs.Fitting.{ResultFits, ConsideredFits}
 use Rattle.candidate_assembly.specs.declared.merge.Sources.{Sources}
 use Rattle.candidate_assembly.specs.Merging.{is_among, from_sources}

@@ -4,13 +4,13 @@ use Rattle.std.specs.Prelude.{filter}
 use Rattle.std.proofs.lemmas.List.{reverse-append}
 use Rattle.type_terms.specs.Promised.Handles.{Entry}
 use Rattle.type_terms.specs.declared.ImplId.{ImplId}
-use Rattle.evaluation.specs.declared.candidate.CandidateSource.{CandidateSource}
-use Rattle.evaluation.specs.declared.candidate.Considered as InCode
-use Rattle.evaluation.specs.Candidate.{Considered}
-use Rattle.evaluation.specs.Table.{workings}
-use Rattle.evaluation.specs.Tables.{frame_tables}
-use Rattle.evaluation.specs.StepReadings.{ShownCandidate, shown, shown_by}
-use Rattle.assembly_laws.specs.Solver.{SolverPast, from}
+use Rattle.goal_evaluator.specs.declared.candidate.CandidateSource.{CandidateSource}
+use Rattle.goal_evaluator.specs.declared.candidate.Considered as InCode
+use Rattle.goal_evaluator.specs.Candidate.{Considered}
+use Rattle.goal_evaluator.specs.Table.{workings}
+use Rattle.goal_evaluator.specs.Tables.{frame_tables}
+use Rattle.goal_evaluator.specs.StepReadings.{ShownCandidate, shown, shown_by}
+use Rattle.candidate_model.specs.Solver.{SolverPast, from}
 use Rattle.candidate_assembly.specs.Counted.{count_from, last_from, ends_by, ForEachPast}
 use Rattle.candidate_assembly.specs.Sections.{considered_from, impl_or, last_impl}
 use Rattle.candidate_assembly.proofs.Along.{count-last}

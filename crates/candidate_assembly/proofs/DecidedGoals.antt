@@ -10,20 +10,20 @@ use Rattle.infer_table.specs.Canonical.{CanonicalForm, GoalTrees}
 use Rattle.infer_table.specs.Inputs.{form_of}
 use Rattle.infer_table.specs.declared.input.CanonicalInput.{CanonicalInput}
 use Rattle.infer_table.proofs.Numbers.{goal-held-later, goal-trees-later}
-use Rattle.evaluation.specs.declared.candidate.Considered as InCode
-use Rattle.evaluation.specs.Candidate.{IsHistory}
-use Rattle.evaluation.specs.Merge.{or_else}
-use Rattle.evaluation.specs.Readings.{ConsideredHeld}
-use Rattle.evaluation.specs.Table.{workings}
-use Rattle.evaluation.specs.Tables.{frame_tables}
-use Rattle.evaluation.specs.StepReadings.{ShownCandidate, shown, Shows, shown_by}
+use Rattle.goal_evaluator.specs.declared.candidate.Considered as InCode
+use Rattle.goal_evaluator.specs.Candidate.{IsHistory}
+use Rattle.goal_evaluator.specs.Merge.{or_else}
+use Rattle.goal_evaluator.specs.Readings.{ConsideredHeld}
+use Rattle.goal_evaluator.specs.Table.{workings}
+use Rattle.goal_evaluator.specs.Tables.{frame_tables}
+use Rattle.goal_evaluator.specs.StepReadings.{ShownCandidate, shown, Shows, shown_by}
 use Rattle.goal_frames.proofs.Later.{shown-later}
 use Rattle.declarations.specs.Items.{Items, reference_in, written}
 use Rattle.declarations.specs.Merges.{Rises}
 use Rattle.declarations.proofs.Growth.{reference-same, args-same, all-written}
-use Rattle.assembly_laws.specs.Asking.{GoalOverKinds, goal_over_kinds, self_of}
-use Rattle.assembly_laws.specs.Candidates.{Candidate, by_impls, by_objects}
-use Rattle.assembly_laws.specs.Solver.{SolverPast, is_impl}
+use Rattle.candidate_model.specs.Asking.{GoalOverKinds, goal_over_kinds, self_of}
+use Rattle.candidate_model.specs.Candidates.{Candidate, by_impls, by_objects}
+use Rattle.candidate_model.specs.Solver.{SolverPast, is_impl}
 use Rattle.candidate_assembly.proofs.Counted.{shown-next}
 use Rattle.built_in_candidates.specs.Constituents.{StructIsApplied, CanBeConsidered}
 use Rattle.candidate_assembly.specs.Counted.{ForEachPast}

@@ -13,12 +13,12 @@ use Rattle.infer_table.specs.declared.canonical.CanonicalVarKind.{CanonicalVarKi
 use Rattle.infer_table.specs.declared.input.CanonicalInput.{CanonicalInput}
 use Rattle.infer_table.specs.Goals.{environment_trees, predicate_trees}
 use Rattle.infer_table.specs.Inputs.{form_of}
-use Rattle.evaluation.specs.Variables.{is_variable_over}
+use Rattle.goal_evaluator.specs.Variables.{is_variable_over}
 use Rattle.declarations.specs.Items.{Items, reference_in, written}
-use Rattle.assembly_laws.specs.Asking.{GoalOverKinds, goal_over_kinds, asked_if, asked_with, all_known, with_first, are_clauses, begins_with_type, begins_unknown, next_of, self_of}
-use Rattle.assembly_laws.specs.DeclaredWell.{is_declared_well}
-use Rattle.assembly_laws.specs.Lifetimes.{gives_lifetimes, given_by, form_gives_lifetimes}
-use Rattle.assembly_laws.proofs.DeclaredWell.{tests-tell}
+use Rattle.candidate_model.specs.Asking.{GoalOverKinds, goal_over_kinds, asked_if, asked_with, all_known, with_first, are_clauses, begins_with_type, begins_unknown, next_of, self_of}
+use Rattle.candidate_model.specs.DeclaredWell.{is_declared_well}
+use Rattle.candidate_model.specs.Lifetimes.{gives_lifetimes, given_by, form_gives_lifetimes}
+use Rattle.candidate_model.proofs.DeclaredWell.{tests-tell}
 use Rattle.built_in_candidates.specs.Goals.{asked_of}
 use Rattle.built_in_candidates.specs.Constituents.{HaveFields}
 use Rattle.candidate_assembly.specs.Fitting.{reference_fits, fits_declared, solving_of, GoalFits}

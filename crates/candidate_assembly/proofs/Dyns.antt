@@ -4,7 +4,7 @@ use Rattle.type_terms.specs.Promised.Label.{Label, dynamic}
 use Rattle.type_terms.specs.Promised.Trees.{Trees, none, tree, nth, erase_label}
 use Rattle.type_terms.specs.Promised.Rules.{is_dyn}
 use Rattle.term_folds.specs.Signatures.{StartsWithType}
-use Rattle.assembly_laws.specs.Asking.{with_plain_head}
+use Rattle.candidate_model.specs.Asking.{with_plain_head}
 use Rattle.built_in_candidates.specs.Objects.{bounds_of}
 use Rattle.built_in_candidates.proofs.ToDyn.{no-dyn}
 use Rattle.candidate_assembly.specs.Sections.{begins_dyn}

@@ -9,24 +9,24 @@ use Rattle.infer_table.specs.declared.response.CanonicalResponse.{CanonicalRespo
 use Rattle.infer_table.specs.Responses.{AnswerTrees, answer_trees}
 use Rattle.infer_table.specs.Values.{values_of}
 use Rattle.infer_table.proofs.Values.{cut-at}
-use Rattle.evaluation.specs.declared.candidate.CandidateSource.{CandidateSource}
-use Rattle.evaluation.specs.declared.candidate.Considered as InCode
-use Rattle.evaluation.specs.declared.candidate.HandlerStep.{HandlerStep}
-use Rattle.evaluation.specs.Candidate.{Considered, Next, answer}
-use Rattle.evaluation.specs.Merge.{merge_or_flounder, responses}
-use Rattle.evaluation.specs.PlanAnswers.{kept_merged, first_passing, taken_or_merged, numbers_but}
-use Rattle.evaluation.specs.Plans.{Plan, wanted}
-use Rattle.evaluation.specs.Responses.{is_identity_modulo_regions}
-use Rattle.evaluation.specs.Table.{workings}
-use Rattle.evaluation.specs.TableAnswers.{IsWellFormed}
-use Rattle.evaluation.specs.TableOperations.{begin}
-use Rattle.evaluation.specs.Tables.{frame_tables}
-use Rattle.evaluation.proofs.Filling.{same-values}
+use Rattle.goal_evaluator.specs.declared.candidate.CandidateSource.{CandidateSource}
+use Rattle.goal_evaluator.specs.declared.candidate.Considered as InCode
+use Rattle.goal_evaluator.specs.declared.candidate.HandlerStep.{HandlerStep}
+use Rattle.goal_evaluator.specs.Candidate.{Considered, Next, answer}
+use Rattle.goal_evaluator.specs.Merge.{merge_or_flounder, responses}
+use Rattle.goal_evaluator.specs.PlanAnswers.{kept_merged, first_passing, taken_or_merged, numbers_but}
+use Rattle.goal_evaluator.specs.Plans.{Plan, wanted}
+use Rattle.goal_evaluator.specs.Responses.{is_identity_modulo_regions}
+use Rattle.goal_evaluator.specs.Table.{workings}
+use Rattle.goal_evaluator.specs.TableAnswers.{IsWellFormed}
+use Rattle.goal_evaluator.specs.TableOperations.{begin}
+use Rattle.goal_evaluator.specs.Tables.{frame_tables}
+use Rattle.goal_evaluator.proofs.Filling.{same-values}
 use Rattle.goal_frames.specs.Fitting.{ResultFits, ConsideredFits}
 use Rattle.goal_frames.specs.Handlers.{same_answer, applies_always}
 use Rattle.goal_frames.specs.Merges.{responses_of, merge_of}
-use Rattle.evaluation.specs.StepReadings.{Shows, shown_by, result_read}
-use Rattle.assembly_laws.specs.Solver.{SolverPast, from, is_clause, is_global, is_impl, is_non_global, is_object, is_trivial, gives_none, holds_from, oldest_gives_none, remain, remains}
+use Rattle.goal_evaluator.specs.StepReadings.{Shows, shown_by, result_read}
+use Rattle.candidate_model.specs.Solver.{SolverPast, from, is_clause, is_global, is_impl, is_non_global, is_object, is_trivial, gives_none, holds_from, oldest_gives_none, remain, remains}
 use Rattle.candidate_assembly.specs.declared.merge.Sources.{Sources}
 use Rattle.candidate_assembly.specs.declared.merge.Sources.TheVariants.{All, Trivial, NonGlobalClauses, Clauses, Remaining}
 use Rattle.candidate_assembly.specs.Merging.{is_among, from_sources, end_in, clause_taken, IsEnd, MergesFrom, AreRemaining}

@@ -24,7 +24,7 @@ use Rattle.type_terms.specs.declared.visit.Seen.{Seen}
 use Rattle.type_terms.specs.declared.visit.Seen.TheVariants.{Break, Enter, Pass}
 use Rattle.infer_table.specs.declared.canonical.CanonicalVarKind.{CanonicalVarKind}
 use Rattle.type_terms.proofs.Made.{false-true, left, right, no-tree, made-ordinary, last-bound, last-trait, never-dynamic, never-dynamic-bound, never-principal}
-use Rattle.evaluation.specs.Variables.{is_variable_over}
+use Rattle.goal_evaluator.specs.Variables.{is_variable_over}
 use Rattle.candidate_assembly.specs.Finding.{BreaksAt, at_root, some_root, is_foreign, names_undeclared}
 use Rattle.type_terms.proofs.BooleanBasics.{behind-test, below-test, here-test, and-true, de-morgan}
 

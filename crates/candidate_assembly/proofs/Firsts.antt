@@ -13,7 +13,7 @@ use Rattle.type_terms.specs.declared.kinds.Const.{Const}
 use Rattle.type_terms.specs.declared.region.Region.{Region}
 use Rattle.infer_table.specs.declared.canonical.CanonicalVarKind.{CanonicalVarKind}
 use Rattle.declarations.specs.Items.{Items}
-use Rattle.assembly_laws.specs.Asking.{begins_with_type, begins_unknown, with_plain_head}
+use Rattle.candidate_model.specs.Asking.{begins_with_type, begins_unknown, with_plain_head}
 use Rattle.built_in_candidates.specs.FnPointers.{IsFirst}
 use Rattle.candidate_assembly.specs.Fitting.{type_fits}
 use Rattle.built_in_candidates.proofs.Pairs.{IsOneTree, arg-tree}

@@ -31,7 +31,7 @@ use Rattle.declarations.specs.declared.items.TraitDef.{TraitDef}
 use Rattle.declarations.specs.Items.{Items, reference_in, struct_at, trait_at, written}
 use Rattle.declarations.specs.Promised.Elaboration.{Each}
 use Rattle.declarations.specs.Applied.{sort_of_param, sorts_of, sorts_of_params}
-use Rattle.assembly_laws.specs.Asking.{next_of, with_plain_head, begins_with_type, is_rigid}
+use Rattle.candidate_model.specs.Asking.{next_of, with_plain_head, begins_with_type, is_rigid}
 use Rattle.infer_table.proofs.SolutionLaws.{is_sort-equal}
 use Rattle.infer_table.proofs.EquationFacts.{erase-sort}
 use Rattle.built_in_candidates.specs.Constituents.{AreArguments, StructIsApplied}

@@ -17,10 +17,10 @@ use Rattle.declarations.specs.Applied.{sort_of_param, sorts_of, SpeaksOf}
 use Rattle.declarations.specs.Items.{Items, struct_at, struct_in, written}
 use Rattle.declarations.specs.Promised.Elaboration.{Each}
 use Rattle.declarations.proofs.Lookups.{turned}
-use Rattle.assembly_laws.specs.Asking.{next_of, with_plain_head}
-use Rattle.assembly_laws.specs.Declared.{is_declared, are_terms}
-use Rattle.assembly_laws.specs.DeclaredWell.{IsDeclaredWell}
-use Rattle.assembly_laws.specs.Lifetimes.{lacks_lifetime, are_given, gives_lifetimes}
+use Rattle.candidate_model.specs.Asking.{next_of, with_plain_head}
+use Rattle.candidate_model.specs.Declared.{is_declared, are_terms}
+use Rattle.candidate_model.specs.DeclaredWell.{IsDeclaredWell}
+use Rattle.candidate_model.specs.Lifetimes.{lacks_lifetime, are_given, gives_lifetimes}
 use Rattle.candidate_assembly.proofs.Fitting.{second-part}
 use Rattle.built_in_candidates.specs.Constituents.{AreArguments, StructIsApplied, HaveFields}
 use Rattle.built_in_candidates.specs.Unsizing.{TargetIsApplied}

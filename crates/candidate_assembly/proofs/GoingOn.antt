@@ -7,23 +7,23 @@ use Rattle.type_terms.specs.Promised.Handles.{Entry}
 use Rattle.infer_table.specs.Canonical.{CanonicalForm}
 use Rattle.infer_table.specs.declared.certainty.TypingMode.{TypingMode}
 use Rattle.infer_table.specs.declared.certainty.TypingMode.TheVariants.{Coherence, PostAnalysis}
-use Rattle.evaluation.specs.Lists.{Every}
-use Rattle.evaluation.specs.declared.candidate.CandidateSource.{CandidateSource}
-use Rattle.evaluation.specs.declared.candidate.CandidateSource.TheVariants.{Impl}
-use Rattle.evaluation.specs.Candidate.{Next, consider, IsHistory}
-use Rattle.evaluation.specs.Merge.{or_else}
-use Rattle.evaluation.specs.Plans.{wanted}
-use Rattle.evaluation.specs.Table.{workings}
-use Rattle.evaluation.specs.FrameTables.{kinds_known}
-use Rattle.evaluation.specs.Tables.{frame_tables}
+use Rattle.goal_evaluator.specs.Lists.{Every}
+use Rattle.goal_evaluator.specs.declared.candidate.CandidateSource.{CandidateSource}
+use Rattle.goal_evaluator.specs.declared.candidate.CandidateSource.TheVariants.{Impl}
+use Rattle.goal_evaluator.specs.Candidate.{Next, consider, IsHistory}
+use Rattle.goal_evaluator.specs.Merge.{or_else}
+use Rattle.goal_evaluator.specs.Plans.{wanted}
+use Rattle.goal_evaluator.specs.Table.{workings}
+use Rattle.goal_evaluator.specs.FrameTables.{kinds_known}
+use Rattle.goal_evaluator.specs.Tables.{frame_tables}
 use Rattle.goal_frames.specs.Handlers.{same_answer, applies_always}
 use Rattle.declarations.specs.Items.{Items, written}
 use Rattle.declarations.specs.Merges.{Rises}
-use Rattle.assembly_laws.specs.Meaning.{ViewMeaning}
-use Rattle.assembly_laws.specs.Knowing.{is_knowable}
-use Rattle.assembly_laws.specs.Asking.{GoalOverKinds, goal_over_kinds, clauses}
-use Rattle.assembly_laws.specs.Candidates.{Candidate, unknowable, by_clauses, built_in, by_impls, by_objects}
-use Rattle.assembly_laws.specs.Solver.{SolverPast, from, is_clause, is_impl, is_settled, holds_from, solver_handled}
+use Rattle.candidate_model.specs.Meaning.{ViewMeaning}
+use Rattle.candidate_model.specs.Knowing.{is_knowable}
+use Rattle.candidate_model.specs.Asking.{GoalOverKinds, goal_over_kinds, clauses}
+use Rattle.candidate_model.specs.Candidates.{Candidate, unknowable, by_clauses, built_in, by_impls, by_objects}
+use Rattle.candidate_model.specs.Solver.{SolverPast, from, is_clause, is_impl, is_settled, holds_from, solver_handled}
 use Rattle.type_terms.proofs.Members.{not-both}
 use Rattle.candidate_assembly.specs.Headers.{impls_above}
 use Rattle.candidate_assembly.specs.Sections.{misc_is_bound, is_unknowable, is_built_in, is_bound, sources_tell, considered_from, early, late, is_first, next_in, decided, next_candidate, end_of, or_end, impl_or, last_impl, WalksGoOn}

@@ -5,21 +5,21 @@ use Rattle.type_terms.specs.Promised.Worlds.{World}
 use Rattle.infer_table.specs.declared.canonical.CanonicalVarKind.{CanonicalVarKind}
 use Rattle.infer_table.specs.declared.certainty.TypingMode.{TypingMode}
 use Rattle.infer_table.specs.declared.certainty.TypingMode.TheVariants.{Coherence, PostAnalysis}
-use Rattle.evaluation.specs.Lists.{Every}
-use Rattle.evaluation.specs.Candidate.{Considered, Next, consider, IsHistory}
-use Rattle.evaluation.specs.Merge.{or_else}
-use Rattle.evaluation.specs.Plans.{Plan, answers, told, after, wanted, came, each_of, first_alone}
-use Rattle.evaluation.specs.PlanAnswers.{kept_merged, first_passing, taken_or_merged, first_taken}
-use Rattle.evaluation.specs.Table.{workings}
-use Rattle.evaluation.specs.FrameTables.{kinds_known}
-use Rattle.evaluation.specs.TableOperations.{begin}
-use Rattle.evaluation.specs.Tables.{frame_tables}
+use Rattle.goal_evaluator.specs.Lists.{Every}
+use Rattle.goal_evaluator.specs.Candidate.{Considered, Next, consider, IsHistory}
+use Rattle.goal_evaluator.specs.Merge.{or_else}
+use Rattle.goal_evaluator.specs.Plans.{Plan, answers, told, after, wanted, came, each_of, first_alone}
+use Rattle.goal_evaluator.specs.PlanAnswers.{kept_merged, first_passing, taken_or_merged, first_taken}
+use Rattle.goal_evaluator.specs.Table.{workings}
+use Rattle.goal_evaluator.specs.FrameTables.{kinds_known}
+use Rattle.goal_evaluator.specs.TableOperations.{begin}
+use Rattle.goal_evaluator.specs.Tables.{frame_tables}
 use Rattle.goal_frames.specs.Handlers.{same_answer, applies_always}
-use Rattle.assembly_laws.specs.Meaning.{ViewMeaning}
-use Rattle.assembly_laws.specs.Knowing.{is_knowable}
-use Rattle.assembly_laws.specs.Asking.{GoalOverKinds, goal_over_kinds, clauses, self_of, begins_unknown}
-use Rattle.assembly_laws.specs.Candidates.{Candidate, unsure, unknowable, by_clauses, built_in, by_impls, by_objects}
-use Rattle.assembly_laws.specs.Solver.{SolverPast, from, is_clause, is_non_global, is_impl, is_trivial, says_nothing, is_settled, holds_from, remains, by_mode, plan_for}
+use Rattle.candidate_model.specs.Meaning.{ViewMeaning}
+use Rattle.candidate_model.specs.Knowing.{is_knowable}
+use Rattle.candidate_model.specs.Asking.{GoalOverKinds, goal_over_kinds, clauses, self_of, begins_unknown}
+use Rattle.candidate_model.specs.Candidates.{Candidate, unsure, unknowable, by_clauses, built_in, by_impls, by_objects}
+use Rattle.candidate_model.specs.Solver.{SolverPast, from, is_clause, is_non_global, is_impl, is_trivial, says_nothing, is_settled, holds_from, remains, by_mode, plan_for}
 use Rattle.candidate_assembly.specs.Merging.{end_in}
 use Rattle.candidate_assembly.specs.Sections.{misc_is_bound, is_unknowable, is_built_in, is_bound, sources_tell, early, late, is_first, next_outside, next_in, decided, next_candidate, end_of, or_end, HistoriesTell}
 use Rattle.candidate_assembly.proofs.Along.{Follows, Answers, same-considered, chosen, outside-next, known-next, unknown-next}

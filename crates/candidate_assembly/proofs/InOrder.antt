@@ -6,14 +6,14 @@ use Rattle.std.specs.List.{slice_get}
 use Rattle.type_terms.specs.Promised.Worlds.{World, ImplDecl}
 use Rattle.type_terms.specs.Promised.Handles.{Entry}
 use Rattle.type_terms.specs.declared.ImplId.{ImplId}
-use Rattle.evaluation.specs.declared.candidate.CandidateSource.{CandidateSource}
-use Rattle.evaluation.specs.declared.candidate.CandidateSource.TheVariants.{Impl}
+use Rattle.goal_evaluator.specs.declared.candidate.CandidateSource.{CandidateSource}
+use Rattle.goal_evaluator.specs.declared.candidate.CandidateSource.TheVariants.{Impl}
 use Rattle.declarations.specs.Items.{HeldImpl, impl_in}
 use Rattle.declarations.specs.Promised.Elaboration.{Each}
 use Rattle.declarations.specs.Merges.{Rises}
 use Rattle.declarations.specs.Relevant.{is_above}
-use Rattle.assembly_laws.specs.Asking.{GoalOverKinds}
-use Rattle.assembly_laws.specs.Candidates.{Candidate, by_impls, by_the_impl, can_match, impl_id}
+use Rattle.candidate_model.specs.Asking.{GoalOverKinds}
+use Rattle.candidate_model.specs.Candidates.{Candidate, by_impls, by_the_impl, can_match, impl_id}
 use Rattle.candidate_assembly.proofs.Behind.{same-impl}
 
 not-below : (m n : ℕ) → m ≡ n → nat_lt n m ≡ false

@@ -8,7 +8,7 @@ use Rattle.type_terms.specs.Made.{terms, is_made, is_in_range}
 use Rattle.type_terms.specs.Scans.{has_flag}
 use Rattle.type_terms.proofs.ScanFacts.{scan-tree}
 use Rattle.infer_table.specs.declared.canonical.CanonicalVarKind.{CanonicalVarKind}
-use Rattle.evaluation.specs.Variables.{is_variable_over}
+use Rattle.goal_evaluator.specs.Variables.{is_variable_over}
 use Rattle.candidate_assembly.proofs.Finding.{foreign, foreign_label, made-over}
 use Rattle.type_terms.proofs.BooleanBasics.{join-tests}
 

@@ -8,20 +8,20 @@ use Rattle.type_terms.specs.Promised.Worlds.{Reference}
 use Rattle.type_terms.specs.Made.{terms, is_leaf_label, is_made}
 use Rattle.type_terms.proofs.Made.{false-true, left}
 use Rattle.infer_table.specs.declared.canonical.CanonicalVarKind.{CanonicalVarKind}
-use Rattle.evaluation.specs.Lists.{Every}
-use Rattle.evaluation.specs.FrameTables.{Equation}
-use Rattle.evaluation.specs.Instances.{put_in}
-use Rattle.evaluation.proofs.Labels.{IsGoodLabel, made-labels}
-use Rattle.evaluation.proofs.Reading.{EachLabel}
-use Rattle.evaluation.specs.Fitting.{is_of_sort, is_slot, AreOver}
-use Rattle.evaluation.specs.Variables.{is_variable_over}
-use Rattle.evaluation.proofs.Readings.{HasLeaves, made-leaves}
+use Rattle.goal_evaluator.specs.Lists.{Every}
+use Rattle.goal_evaluator.specs.FrameTables.{Equation}
+use Rattle.goal_evaluator.specs.Instances.{put_in}
+use Rattle.goal_evaluator.proofs.Labels.{IsGoodLabel, made-labels}
+use Rattle.goal_evaluator.proofs.Reading.{EachLabel}
+use Rattle.goal_evaluator.specs.Fitting.{is_of_sort, is_slot, AreOver}
+use Rattle.goal_evaluator.specs.Variables.{is_variable_over}
+use Rattle.goal_evaluator.proofs.Readings.{HasLeaves, made-leaves}
 use Rattle.goal_frames.specs.RuleFitting.{slots_of}
-use Rattle.assembly_laws.specs.Asking.{with_plain_head, next_of}
-use Rattle.assembly_laws.specs.Candidates.{all_equal, moved, is_param, last_of, lifetime_of, outlives, unsizing_outlives}
-use Rattle.assembly_laws.specs.Declared.{is_declared, are_terms}
-use Rattle.assembly_laws.specs.Facts.{tree_of_reference}
-use Rattle.assembly_laws.proofs.Headers.{child-some, next-some}
+use Rattle.candidate_model.specs.Asking.{with_plain_head, next_of}
+use Rattle.candidate_model.specs.Candidates.{all_equal, moved, is_param, last_of, lifetime_of, outlives, unsizing_outlives}
+use Rattle.candidate_model.specs.Declared.{is_declared, are_terms}
+use Rattle.candidate_model.specs.Facts.{tree_of_reference}
+use Rattle.candidate_model.proofs.Headers.{child-some, next-some}
 use Rattle.goal_frames.proofs.RuleFitting.{goal-slots, over-labels}
 use Rattle.candidate_assembly.proofs.WellDeclared.{itself}
 

@@ -16,37 +16,37 @@ use Rattle.type_terms.proofs.Made.{false-true, left, right}
 use Rattle.infer_table.specs.Canonical.{CanonicalForm}
 use Rattle.infer_table.specs.declared.canonical.CanonicalVarKind.{CanonicalVarKind}
 use Rattle.infer_table.specs.Values.{Value}
-use Rattle.evaluation.specs.declared.candidate.CandidateSource.{CandidateSource}
-use Rattle.evaluation.specs.declared.candidate.CandidateSource.TheVariants.{BuiltinImpl, ParamEnv}
-use Rattle.evaluation.specs.declared.candidate.BuiltinImplSource.TheVariants.{Trivial}
-use Rattle.evaluation.specs.Lists.{Every}
-use Rattle.evaluation.proofs.ListLaws.{Every-both, Every-map}
-use Rattle.evaluation.specs.TableAnswers.{is_kind_of}
-use Rattle.evaluation.specs.FrameTables.{Nested, Equation, kind_at, term_of, is_open_label}
-use Rattle.evaluation.specs.Instances.{default_label}
-use Rattle.evaluation.specs.Fitting.{is_of_sort, AreOver, IsGoalOver, IsValueOver}
-use Rattle.evaluation.specs.Variables.{is_variable_over}
+use Rattle.goal_evaluator.specs.declared.candidate.CandidateSource.{CandidateSource}
+use Rattle.goal_evaluator.specs.declared.candidate.CandidateSource.TheVariants.{BuiltinImpl, ParamEnv}
+use Rattle.goal_evaluator.specs.declared.candidate.BuiltinImplSource.TheVariants.{Trivial}
+use Rattle.goal_evaluator.specs.Lists.{Every}
+use Rattle.goal_evaluator.proofs.ListLaws.{Every-both, Every-map}
+use Rattle.goal_evaluator.specs.TableAnswers.{is_kind_of}
+use Rattle.goal_evaluator.specs.FrameTables.{Nested, Equation, kind_at, term_of, is_open_label}
+use Rattle.goal_evaluator.specs.Instances.{default_label}
+use Rattle.goal_evaluator.specs.Fitting.{is_of_sort, AreOver, IsGoalOver, IsValueOver}
+use Rattle.goal_evaluator.specs.Variables.{is_variable_over}
 use Rattle.goal_frames.specs.RuleFitting.{slots_of, IsOverSlots}
 use Rattle.declarations.specs.Promised.Elaboration.{elaborate, supertraits}
-use Rattle.assembly_laws.specs.Asking.{GoalOverKinds, clauses, self_of, next_of, begins_unknown, all_known, are_clauses, goal_over_kinds}
-use Rattle.assembly_laws.specs.Candidates.{Candidate, all_equal, premise, by_rule, unsure, unknowable, clause_source, by_clauses, rules_behind, is_param, kind_of_param, kinds_of_params, by_the_impl, can_match, by_impls, as_written, misc, if_so, by_sized, by_copy, by_auto, by_tuple, by_fn_ptr, call_of, by_call, unsize_array_of, upcast_source, upcasts_from, upcasts_to, upcasts_of, unsize_by_struct, unsize_struct_of, unsize_known, recording, unsizing_outlives, unsize_recording, by_unsize, built_in, bounds_from, object_source, written_source, objects_of, by_objects}
-use Rattle.assembly_laws.specs.Cover.{AreTermsOf, all_candidates}
-use Rattle.assembly_laws.specs.Declared.{are_terms, is_unsorted, is_otherwise}
-use Rattle.assembly_laws.specs.DeclaredWell.{IsDeclaredWell}
-use Rattle.assembly_laws.specs.Facts.{clauses_of}
-use Rattle.assembly_laws.specs.Meaning.{ViewMeaning}
-use Rattle.assembly_laws.proofs.BoundTerms.{equations-are-terms}
-use Rattle.assembly_laws.proofs.Cover.{IsAsked, asked-by}
-use Rattle.assembly_laws.proofs.DeclaredParts.{header-declared, clause-declared, bound-declared}
-use Rattle.assembly_laws.proofs.Elaborating.{every-in}
-use Rattle.assembly_laws.proofs.LawfulCandidates.{asked-clauses}
-use Rattle.assembly_laws.proofs.Rows.{fields-declared}
-use Rattle.assembly_laws.proofs.Recording.{every-recorded}
+use Rattle.candidate_model.specs.Asking.{GoalOverKinds, clauses, self_of, next_of, begins_unknown, all_known, are_clauses, goal_over_kinds}
+use Rattle.candidate_model.specs.Candidates.{Candidate, all_equal, premise, by_rule, unsure, unknowable, clause_source, by_clauses, rules_behind, is_param, kind_of_param, kinds_of_params, by_the_impl, can_match, by_impls, as_written, misc, if_so, by_sized, by_copy, by_auto, by_tuple, by_fn_ptr, call_of, by_call, unsize_array_of, upcast_source, upcasts_from, upcasts_to, upcasts_of, unsize_by_struct, unsize_struct_of, unsize_known, recording, unsizing_outlives, unsize_recording, by_unsize, built_in, bounds_from, object_source, written_source, objects_of, by_objects}
+use Rattle.candidate_model.specs.Cover.{AreTermsOf, all_candidates}
+use Rattle.candidate_model.specs.Declared.{are_terms, is_unsorted, is_otherwise}
+use Rattle.candidate_model.specs.DeclaredWell.{IsDeclaredWell}
+use Rattle.candidate_model.specs.Facts.{clauses_of}
+use Rattle.candidate_model.specs.Meaning.{ViewMeaning}
+use Rattle.candidate_model.proofs.BoundTerms.{equations-are-terms}
+use Rattle.candidate_model.proofs.Cover.{IsAsked, asked-by}
+use Rattle.candidate_model.proofs.DeclaredParts.{header-declared, clause-declared, bound-declared}
+use Rattle.candidate_model.proofs.Elaborating.{every-in}
+use Rattle.candidate_model.proofs.LawfulCandidates.{asked-clauses}
+use Rattle.candidate_model.proofs.Rows.{fields-declared}
+use Rattle.candidate_model.proofs.Recording.{every-recorded}
 use Rattle.goal_frames.proofs.RuleFitting.{rule-slots}
 use Rattle.candidate_assembly.proofs.Over.{ArePlain, declared-plain, goal-over, over-head, over-behind, over-plain-head, over-append, over-unsizing, AreOverSides, over-equal, over-reference}
 use Rattle.candidate_assembly.proofs.OverRows.{AreOverAll, AskOver, last-over, last-unsizes-over, sized-over, copy-over, auto-over, tuple-over, fn-ptr-over, principal-over, autos-over, to-dyn-over, elaborated-over, supertraits-over, but-last-over, unsizing-over}
 use Rattle.candidate_assembly.proofs.WellDeclared.{found, kind_for, kind-is, kinds-at, label-of, is-less}
-use Rattle.evaluation.proofs.Basics.{both-lists}
+use Rattle.goal_evaluator.proofs.Basics.{both-lists}
 
 -- ---- candidates
 -- the candidate's terms are over these variables

@@ -7,12 +7,12 @@ use Rattle.type_terms.specs.Promised.Rules.{Rule, row, sized, asked, each_asked,
 use Rattle.type_terms.specs.Promised.Proofs.{In}
 use Rattle.type_terms.proofs.Members.{in-filter}
 use Rattle.type_terms.proofs.Made.{false-true}
-use Rattle.evaluation.specs.Lists.{Every}
-use Rattle.evaluation.specs.Fitting.{AreOver}
+use Rattle.goal_evaluator.specs.Lists.{Every}
+use Rattle.goal_evaluator.specs.Fitting.{AreOver}
 use Rattle.declarations.specs.Promised.Elaboration.{elaborate, supertraits}
-use Rattle.assembly_laws.proofs.Elaborating.{every-flat, elaborated-so, supertraits-so}
+use Rattle.candidate_model.proofs.Elaborating.{every-flat, elaborated-so, supertraits-so}
 use Rattle.candidate_assembly.proofs.Over.{ArePlain, over-head, over-append, over-instance}
-use Rattle.evaluation.proofs.Basics.{both-lists}
+use Rattle.goal_evaluator.proofs.Basics.{both-lists}
 
 module _ (V : World) (ls : List Label) (fields : (x : StructDecl) → In x V.structs → Every ArePlain x.fields) (bounds : (x : TraitDecl) → In x V.traits → (b : Reference) → In b x.bounds → ArePlain b.args) where
   abbrev pub AreOverAll : List Reference → Type 0

@@ -9,10 +9,10 @@ use Rattle.declarations.specs.Apart.{are_apart}
 use Rattle.declarations.specs.Items.{Items, HeldImpl, impl_in}
 use Rattle.declarations.specs.Promised.Elaboration.{Each}
 use Rattle.declarations.specs.Relevant as declared
-use Rattle.assembly_laws.specs.Asking.{GoalOverKinds, with_plain_head}
-use Rattle.assembly_laws.specs.Candidates.{is_relevant_to, can_match}
+use Rattle.candidate_model.specs.Asking.{GoalOverKinds, with_plain_head}
+use Rattle.candidate_model.specs.Candidates.{is_relevant_to, can_match}
 use Rattle.candidate_assembly.specs.Headers.{matching_in}
-use Rattle.assembly_laws.proofs.Basics.{plain-head}
+use Rattle.candidate_model.proofs.Basics.{plain-head}
 
 same-relevance : (A H : Trees) → StartsWithType A → with_plain_head H ≡ H → declared.is_relevant_to (erase A) (erase H) ≡ is_relevant_to (with_plain_head A) H
 same-relevance none H s h = absurd s

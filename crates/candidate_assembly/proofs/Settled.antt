@@ -11,12 +11,12 @@ use Rattle.infer_table.specs.Values.{values_of}
 use Rattle.infer_table.specs.declared.response.CanonicalResponse.{CanonicalResponse}
 use Rattle.infer_table.specs.declared.terms.RegionConstraint.{RegionConstraint}
 use Rattle.infer_table.proofs.Values.{cut-at}
-use Rattle.evaluation.specs.declared.candidate.Considered as InCode
-use Rattle.evaluation.specs.Responses.{is_identity_modulo_regions}
-use Rattle.evaluation.specs.TableAnswers.{has_values, IsWellFormed}
-use Rattle.evaluation.proofs.Filling.{same-values}
-use Rattle.evaluation.specs.StepReadings.{ShownCandidate, shown, shown_by, Shows}
-use Rattle.assembly_laws.specs.Solver.{SolverPast, is_non_global, says_nothing, is_settled}
+use Rattle.goal_evaluator.specs.declared.candidate.Considered as InCode
+use Rattle.goal_evaluator.specs.Responses.{is_identity_modulo_regions}
+use Rattle.goal_evaluator.specs.TableAnswers.{has_values, IsWellFormed}
+use Rattle.goal_evaluator.proofs.Filling.{same-values}
+use Rattle.goal_evaluator.specs.StepReadings.{ShownCandidate, shown, shown_by, Shows}
+use Rattle.candidate_model.specs.Solver.{SolverPast, is_non_global, says_nothing, is_settled}
 use Rattle.type_terms.proofs.NumberBasics.{some-length}
 use Rattle.type_terms.proofs.BooleanBasics.{turned, twice}
 

@@ -7,22 +7,22 @@ use Rattle.std.proofs.lemmas.List.Folds.{list_any-append}
 use Rattle.type_terms.specs.Promised.Handles.{Entry}
 use Rattle.infer_table.specs.declared.response.CanonicalResponse.{CanonicalResponse}
 use Rattle.infer_table.specs.Responses.{AnswerTrees, answer_trees}
-use Rattle.evaluation.specs.declared.candidate.CandidateSource.{CandidateSource}
-use Rattle.evaluation.specs.declared.candidate.Considered as InCode
-use Rattle.evaluation.specs.Candidate.{Considered}
-use Rattle.evaluation.specs.Merge.{or_else, if_there, responses}
-use Rattle.evaluation.specs.PlanAnswers.{if_so, numbers_but, passes, first_passing}
-use Rattle.evaluation.specs.Table.{workings}
-use Rattle.evaluation.specs.FrameTables.{FrameTable}
-use Rattle.evaluation.specs.Tables.{frame_tables}
+use Rattle.goal_evaluator.specs.declared.candidate.CandidateSource.{CandidateSource}
+use Rattle.goal_evaluator.specs.declared.candidate.Considered as InCode
+use Rattle.goal_evaluator.specs.Candidate.{Considered}
+use Rattle.goal_evaluator.specs.Merge.{or_else, if_there, responses}
+use Rattle.goal_evaluator.specs.PlanAnswers.{if_so, numbers_but, passes, first_passing}
+use Rattle.goal_evaluator.specs.Table.{workings}
+use Rattle.goal_evaluator.specs.FrameTables.{FrameTable}
+use Rattle.goal_evaluator.specs.Tables.{frame_tables}
 use Rattle.goal_frames.specs.Handlers.{same_answer, applies_always}
 use Rattle.goal_frames.specs.Merges.{responses_of}
-use Rattle.evaluation.specs.StepReadings.{ShownCandidate, Shows, shown, shown_by, result_read}
-use Rattle.assembly_laws.specs.Solver.{SolverPast, from, is_clause, is_object, gives_none, holds_from, oldest_gives_none}
+use Rattle.goal_evaluator.specs.StepReadings.{ShownCandidate, Shows, shown, shown_by, result_read}
+use Rattle.candidate_model.specs.Solver.{SolverPast, from, is_clause, is_object, gives_none, holds_from, oldest_gives_none}
 use Rattle.candidate_assembly.proofs.Taken.{or-none}
 use Rattle.candidate_assembly.proofs.Counted.{shown-next}
 use Rattle.candidate_assembly.specs.Shown.{yes_of, clause_yes, first_yes, other_clauses, first_bound_gives_none}
-use Rattle.evaluation.proofs.TypeBasics.{map-else}
+use Rattle.goal_evaluator.proofs.TypeBasics.{map-else}
 use Rattle.type_terms.proofs.BooleanBasics.{turned}
 
 -- ---- whether some candidate from there holds

@@ -5,18 +5,18 @@ use Rattle.type_terms.specs.Promised.Label.{dynamic, array, slice, adt, fn_ptr}
 use Rattle.type_terms.specs.Promised.Trees.{Trees, none, tree}
 use Rattle.type_terms.specs.Promised.Worlds.{World, Reference, StructDecl, ImplDecl, structs_named}
 use Rattle.type_terms.specs.Promised.Rules.{Rule, sized, clone, copy, tuple_trait, fn_ptr_trait, is_fn_trait, unsize, is_auto, is_written, sized_rules, copy_rules, auto_rules, auto_rules_plain, tuple_rules, fn_ptr_rules, unsize_to_dyn_rules, principal_with, autos_with, are_dyn_compatible, are_declared, upcasts_autos, some_unsizing, with_unsizing, last_unsizes}
-use Rattle.evaluation.specs.Lists.{Every}
-use Rattle.evaluation.specs.declared.candidate.CandidateSource.{CandidateSource}
-use Rattle.evaluation.specs.declared.candidate.CandidateSource.TheVariants.{Impl, BuiltinImpl, ParamEnv}
-use Rattle.evaluation.specs.declared.candidate.BuiltinImplSource.TheVariants.{Trivial, Misc, Object, TraitUpcasting}
+use Rattle.goal_evaluator.specs.Lists.{Every}
+use Rattle.goal_evaluator.specs.declared.candidate.CandidateSource.{CandidateSource}
+use Rattle.goal_evaluator.specs.declared.candidate.CandidateSource.TheVariants.{Impl, BuiltinImpl, ParamEnv}
+use Rattle.goal_evaluator.specs.declared.candidate.BuiltinImplSource.TheVariants.{Trivial, Misc, Object, TraitUpcasting}
 use Rattle.declarations.specs.Promised.Elaboration.{elaborate, supertraits}
-use Rattle.assembly_laws.specs.Asking.{GoalOverKinds, self_of, next_of, begins_unknown}
-use Rattle.assembly_laws.specs.Solver.{is_clause, is_non_global, is_impl}
-use Rattle.assembly_laws.specs.Candidates.{Candidate, unsure, all_equal, by_rule, clause_source, by_clauses, by_the_impl, can_match, by_impls, as_written, misc, if_so, by_sized, by_copy, by_auto, by_tuple, by_fn_ptr, call_of, by_call, unsize_array_of, upcast_source, upcasts_from, upcasts_to, upcasts_of, unsize_by_struct, unsize_struct_of, unsize_known, unsizing_outlives, unsize_recording, built_in, bounds_from, object_source, written_source, objects_of, by_objects}
+use Rattle.candidate_model.specs.Asking.{GoalOverKinds, self_of, next_of, begins_unknown}
+use Rattle.candidate_model.specs.Solver.{is_clause, is_non_global, is_impl}
+use Rattle.candidate_model.specs.Candidates.{Candidate, unsure, all_equal, by_rule, clause_source, by_clauses, by_the_impl, can_match, by_impls, as_written, misc, if_so, by_sized, by_copy, by_auto, by_tuple, by_fn_ptr, call_of, by_call, unsize_array_of, upcast_source, upcasts_from, upcasts_to, upcasts_of, unsize_by_struct, unsize_struct_of, unsize_known, unsizing_outlives, unsize_recording, built_in, bounds_from, object_source, written_source, objects_of, by_objects}
 use Rattle.type_terms.proofs.Members.{same-number}
-use Rattle.assembly_laws.proofs.Recording.{every-recorded}
+use Rattle.candidate_model.proofs.Recording.{every-recorded}
 use Rattle.candidate_assembly.specs.Sections.{begins_dyn, misc_is_bound, is_unknowable, is_built_in, is_bound, autos_of, sources_tell}
-use Rattle.evaluation.proofs.Basics.{every-append}
+use Rattle.goal_evaluator.proofs.Basics.{every-append}
 
 -- ---- sources of different sections
 pub built-clause : (b : Bool) (s : CandidateSource) → is_built_in b s ≡ true → is_clause s ≡ false

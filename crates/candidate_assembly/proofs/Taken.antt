@@ -2,8 +2,8 @@
 use Rattle.std.proofs.Common.{◌≡◌, ℕ, suc, ◌+◌, arith, Bool, true, false, cond, not, List, [], ◌∷◌, ◌++◌, length, refl, sym, ◌∙◌, ap, subst, Option, Some, None}
 use Rattle.std.specs.Prelude.{filter}
 use Rattle.std.specs.List.{slice_get}
-use Rattle.evaluation.specs.Lists.{Every}
-use Rattle.evaluation.specs.Merge.{or_else}
+use Rattle.goal_evaluator.specs.Lists.{Every}
+use Rattle.goal_evaluator.specs.Merge.{or_else}
 
 pub or-none : {A : Type 0} (o : Option A) → or_else o None ≡ o
 or-none None = refl

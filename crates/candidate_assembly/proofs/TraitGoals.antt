@@ -14,29 +14,29 @@ use Rattle.infer_table.specs.declared.canonical.CanonicalVarKind.{CanonicalVarKi
 use Rattle.infer_table.specs.declared.certainty.TypingMode.{TypingMode}
 use Rattle.infer_table.specs.declared.certainty.TypingMode.TheVariants.{Coherence, PostAnalysis}
 use Rattle.infer_table.specs.declared.input.CanonicalInput.{CanonicalInput}
-use Rattle.evaluation.specs.declared.candidate.CandidateSpec.{CandidateSpec}
-use Rattle.evaluation.specs.Candidate.{consider, IsHistory}
-use Rattle.evaluation.specs.Lists.{Every}
-use Rattle.evaluation.specs.Merge.{or_else}
-use Rattle.evaluation.specs.Plans.{Plan, wanted}
-use Rattle.evaluation.specs.Table.{workings}
-use Rattle.evaluation.specs.FrameTables.{kinds_known, Nested, Equation}
-use Rattle.evaluation.specs.Fitting.{AreOver, IsGoalOver, IsValueOver}
-use Rattle.evaluation.specs.Tables.{frame_tables}
-use Rattle.evaluation.specs.Variables.{is_variable_over}
+use Rattle.goal_evaluator.specs.declared.candidate.CandidateSpec.{CandidateSpec}
+use Rattle.goal_evaluator.specs.Candidate.{consider, IsHistory}
+use Rattle.goal_evaluator.specs.Lists.{Every}
+use Rattle.goal_evaluator.specs.Merge.{or_else}
+use Rattle.goal_evaluator.specs.Plans.{Plan, wanted}
+use Rattle.goal_evaluator.specs.Table.{workings}
+use Rattle.goal_evaluator.specs.FrameTables.{kinds_known, Nested, Equation}
+use Rattle.goal_evaluator.specs.Fitting.{AreOver, IsGoalOver, IsValueOver}
+use Rattle.goal_evaluator.specs.Tables.{frame_tables}
+use Rattle.goal_evaluator.specs.Variables.{is_variable_over}
 use Rattle.goal_frames.specs.Fitting.{IsOver}
-use Rattle.evaluation.specs.StepReadings.{equation_read, nested_read, spec_read}
+use Rattle.goal_evaluator.specs.StepReadings.{equation_read, nested_read, spec_read}
 use Rattle.goal_frames.specs.RuleFitting.{slots_of, IsOverSlots}
 use Rattle.goal_frames.proofs.KnownKinds.{all-known as known-some}
 use Rattle.declarations.specs.Items.{Items, written}
-use Rattle.assembly_laws.specs.Asking.{GoalOverKinds, all_known, are_clauses, goal_over_kinds, self_of, begins_unknown, clauses}
-use Rattle.assembly_laws.specs.Candidates.{Candidate, unsure, unknowable, by_clauses, built_in, by_impls, by_objects}
-use Rattle.assembly_laws.specs.Knowing.{is_knowable}
-use Rattle.assembly_laws.specs.Meaning.{ViewMeaning}
-use Rattle.assembly_laws.specs.Solver.{SolverPast, is_clause, is_impl, is_settled, holds_from}
-use Rattle.assembly_laws.proofs.DeclaredWell.{tests-tell}
-use Rattle.assembly_laws.proofs.LawfulCandidates.{asked-clauses}
-use Rattle.assembly_laws.proofs.CandidateKinds.{every-split}
+use Rattle.candidate_model.specs.Asking.{GoalOverKinds, all_known, are_clauses, goal_over_kinds, self_of, begins_unknown, clauses}
+use Rattle.candidate_model.specs.Candidates.{Candidate, unsure, unknowable, by_clauses, built_in, by_impls, by_objects}
+use Rattle.candidate_model.specs.Knowing.{is_knowable}
+use Rattle.candidate_model.specs.Meaning.{ViewMeaning}
+use Rattle.candidate_model.specs.Solver.{SolverPast, is_clause, is_impl, is_settled, holds_from}
+use Rattle.candidate_model.proofs.DeclaredWell.{tests-tell}
+use Rattle.candidate_model.proofs.LawfulCandidates.{asked-clauses}
+use Rattle.candidate_model.proofs.CandidateKinds.{every-split}
 use Rattle.candidate_assembly.specs.Fitting.{solving_of}
 use Rattle.built_in_candidates.specs.Goals.{asked_of, candidate_of}
 use Rattle.candidate_assembly.specs.Merging.{end_in}
@@ -47,7 +47,7 @@ use Rattle.candidate_assembly.specs.Solving.{meaning_for}
 use Rattle.candidate_assembly.proofs.Histories.{histories-tell}
 use Rattle.candidate_assembly.proofs.Over.{goal-over}
 use Rattle.candidate_assembly.proofs.OverCandidates.{all-fit, unknowable-fits}
-use Rattle.evaluation.proofs.Basics.{unmap}
+use Rattle.goal_evaluator.proofs.Basics.{unmap}
 
 -- ---- what comes next
 module _ (es : List Entry) (d : Items) (g : CanonicalInput) where

@@ -10,8 +10,8 @@ use Rattle.declarations.specs.declared.items.ImplDef.{ImplDef}
 use Rattle.declarations.specs.Items.{HeldImpl, impl_at}
 use Rattle.declarations.specs.Promised.Elaboration.{Each}
 use Rattle.declarations.specs.Relevant.{is_above, next_above}
-use Rattle.assembly_laws.specs.Asking.{GoalOverKinds, with_plain_head}
-use Rattle.assembly_laws.specs.Candidates.{by_impls, by_the_impl, can_match}
+use Rattle.candidate_model.specs.Asking.{GoalOverKinds, with_plain_head}
+use Rattle.candidate_model.specs.Candidates.{by_impls, by_the_impl, can_match}
 use Rattle.built_in_candidates.proofs.Relevant.{names}
 use Rattle.candidate_assembly.specs.Headers.{CanBeCandidate}
 

@@ -23,13 +23,13 @@ use Rattle.declarations.specs.Items.{HeldImpl, reference_in, impl_in, written}
 use Rattle.declarations.specs.Promised.Elaboration.{Each}
 use Rattle.infer_table.specs.declared.canonical.CanonicalVarKind.{CanonicalVarKind}
 use Rattle.infer_table.specs.declared.canonical.CanonicalVarKind.TheVariants.{Ty, Const as ConstVar, Region}
-use Rattle.assembly_laws.specs.Asking.{with_plain_head}
-use Rattle.assembly_laws.specs.Candidates.{is_param, kind_of_param, kinds_of_params}
-use Rattle.assembly_laws.specs.Declared.{is_declared, is_counted, are_terms, are_references, is_otherwise, is_unsorted}
-use Rattle.assembly_laws.specs.Determined.{ImplsAreDetermined}
+use Rattle.candidate_model.specs.Asking.{with_plain_head}
+use Rattle.candidate_model.specs.Candidates.{is_param, kind_of_param, kinds_of_params}
+use Rattle.candidate_model.specs.Declared.{is_declared, is_counted, are_terms, are_references, is_otherwise, is_unsorted}
+use Rattle.candidate_model.specs.Determined.{ImplsAreDetermined}
 use Rattle.infer_table.proofs.SolutionLaws.{is_sort-equal}
 use Rattle.type_terms.proofs.Made.{left, right}
-use Rattle.assembly_laws.proofs.Headers.{child-some, next-some}
+use Rattle.candidate_model.proofs.Headers.{child-some, next-some}
 use Rattle.candidate_assembly.specs.Headers.{var_kind, StandInHeader, CanBeCandidate, WellDeclaredHaveCandidates}
 use Rattle.type_terms.proofs.TermBasics.{sort-self as one-sort}
 use Rattle.type_terms.proofs.NumberBasics.{number-self as same-itself}

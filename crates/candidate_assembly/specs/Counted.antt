@@ -2,10 +2,10 @@
 use Rattle.std.specs.Prelude.{ℕ, Bool, List, [], ◌∷◌, map, length, filter, Option}
 use Rattle.type_terms.specs.Promised.Handles.{Entry}
 use Rattle.type_terms.specs.declared.ImplId.{ImplId}
-use Rattle.evaluation.specs.declared.candidate.CandidateSource.{CandidateSource}
-use Rattle.evaluation.specs.declared.candidate.Considered.{Considered}
-use Rattle.evaluation.specs.StepReadings.{Shows, shown_by}
-use Rattle.assembly_laws.specs.Solver.{SolverPast, is_clause, is_impl}
+use Rattle.goal_evaluator.specs.declared.candidate.CandidateSource.{CandidateSource}
+use Rattle.goal_evaluator.specs.declared.candidate.Considered.{Considered}
+use Rattle.goal_evaluator.specs.StepReadings.{Shows, shown_by}
+use Rattle.candidate_model.specs.Solver.{SolverPast, is_clause, is_impl}
 use Rattle.candidate_assembly.specs.declared.assembly.Section.{Section}
 use Rattle.candidate_assembly.specs.declared.assembly.Section.TheVariants.{WhereClauses, BuiltInRules, Impls, ObjectBounds}
 use Rattle.candidate_assembly.specs.Sections.{is_built_in, is_bound, impl_or}

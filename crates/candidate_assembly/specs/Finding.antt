@@ -8,7 +8,7 @@ use Rattle.type_terms.specs.Visits.{IsBound}
 use Rattle.type_terms.specs.declared.visit.Seen.{Seen}
 use Rattle.type_terms.specs.declared.visit.Seen.TheVariants.{Break, Enter}
 use Rattle.infer_table.specs.declared.canonical.CanonicalVarKind.{CanonicalVarKind}
-use Rattle.evaluation.specs.Variables.{is_variable_over}
+use Rattle.goal_evaluator.specs.Variables.{is_variable_over}
 
 -- A visitor breaks if this is true, and enters every other node.
 abbrev pub BreaksAt : {B : Type 0} → Bool → Seen B → Type 0

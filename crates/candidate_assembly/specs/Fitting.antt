@@ -15,7 +15,7 @@ use Rattle.infer_table.specs.Canonical.{CanonicalForm}
 use Rattle.infer_table.specs.declared.input.CanonicalInput.{CanonicalInput}
 use Rattle.declarations.specs.Items.{Items, reference_in, struct_at, trait_at, written}
 use Rattle.declarations.specs.Applied.{sort_of_param, sorts_of, sorts_of_params, IsApplied}
-use Rattle.assembly_laws.specs.Asking.{self_of, next_of}
+use Rattle.candidate_model.specs.Asking.{self_of, next_of}
 use Rattle.built_in_candidates.specs.Goals.{asked_of}
 use Rattle.built_in_candidates.specs.Constituents.{StructIsApplied}
 use Rattle.built_in_candidates.specs.Objects.{ObjectIsApplied}

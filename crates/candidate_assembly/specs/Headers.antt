@@ -14,9 +14,9 @@ use Rattle.declarations.specs.Held.{AreHeld}
 use Rattle.declarations.specs.Items.{Items, written}
 use Rattle.declarations.specs.Promised.Elaboration.{Each}
 use Rattle.declarations.specs.Relevant.{is_above}
-use Rattle.assembly_laws.specs.Asking.{GoalOverKinds, with_plain_head}
-use Rattle.assembly_laws.specs.Candidates.{can_match, kinds_of_params}
-use Rattle.assembly_laws.specs.DeclaredWell.{IsDeclaredWell}
+use Rattle.candidate_model.specs.Asking.{GoalOverKinds, with_plain_head}
+use Rattle.candidate_model.specs.Candidates.{can_match, kinds_of_params}
+use Rattle.candidate_model.specs.DeclaredWell.{IsDeclaredWell}
 
 -- The kind of the variable for a parameter.
 abbrev pub var_kind : GenericParamKind → CanonicalVarKind

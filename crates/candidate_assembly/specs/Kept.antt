@@ -12,9 +12,9 @@ use Rattle.declarations.specs.Items.{Items, HeldImpl}
 use Rattle.declarations.specs.Promised.Elaboration.{Each}
 use Rattle.declarations.proofs.Elaborating.{have-bounds-later}
 use Rattle.declarations.proofs.Growth.{args-same, all-held, all-written}
-use Rattle.assembly_laws.specs.Asking.{with_plain_head}
-use Rattle.assembly_laws.specs.Candidates.{kinds_of_params}
-use Rattle.assembly_laws.specs.DeclaredWell.{is_declared_well}
+use Rattle.candidate_model.specs.Asking.{with_plain_head}
+use Rattle.candidate_model.specs.Candidates.{kinds_of_params}
+use Rattle.candidate_model.specs.DeclaredWell.{is_declared_well}
 use Rattle.built_in_candidates.proofs.Later.{fields-later}
 use Rattle.candidate_assembly.specs.Fitting.{solving_of, fits_declared, sorts_declared}
 use Rattle.candidate_assembly.specs.Headers.{CanBeCandidate, HaveCandidates}

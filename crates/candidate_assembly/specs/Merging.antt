@@ -4,18 +4,18 @@ use Rattle.type_terms.specs.Promised.Handles.{Entry}
 use Rattle.infer_table.specs.declared.canonical.CanonicalVarKind.{CanonicalVarKind}
 use Rattle.infer_table.specs.declared.certainty.TypingMode.{TypingMode}
 use Rattle.infer_table.specs.declared.certainty.TypingMode.TheVariants.{Coherence, PostAnalysis}
-use Rattle.evaluation.specs.declared.candidate.CandidateSource.{CandidateSource}
-use Rattle.evaluation.specs.declared.candidate.Considered.{Considered}
-use Rattle.evaluation.specs.declared.candidate.HandlerStep.{HandlerStep}
-use Rattle.evaluation.specs.Candidate.{answer}
-use Rattle.evaluation.specs.Plans.{Plan, wanted}
-use Rattle.evaluation.specs.PlanAnswers.{first_taken}
-use Rattle.evaluation.specs.TableOperations.{begin}
-use Rattle.evaluation.specs.Tables.{frame_tables}
+use Rattle.goal_evaluator.specs.declared.candidate.CandidateSource.{CandidateSource}
+use Rattle.goal_evaluator.specs.declared.candidate.Considered.{Considered}
+use Rattle.goal_evaluator.specs.declared.candidate.HandlerStep.{HandlerStep}
+use Rattle.goal_evaluator.specs.Candidate.{answer}
+use Rattle.goal_evaluator.specs.Plans.{Plan, wanted}
+use Rattle.goal_evaluator.specs.PlanAnswers.{first_taken}
+use Rattle.goal_evaluator.specs.TableOperations.{begin}
+use Rattle.goal_evaluator.specs.Tables.{frame_tables}
 use Rattle.goal_frames.specs.Handlers.{same_answer, applies_always}
 use Rattle.goal_frames.specs.Merges.{responses_of, merge_of}
-use Rattle.evaluation.specs.StepReadings.{next_read, Shows, shown_by}
-use Rattle.assembly_laws.specs.Solver.{SolverPast, from, remains, is_clause, is_non_global, is_global, is_impl, is_object, is_trivial, preferred, everything}
+use Rattle.goal_evaluator.specs.StepReadings.{next_read, Shows, shown_by}
+use Rattle.candidate_model.specs.Solver.{SolverPast, from, remains, is_clause, is_non_global, is_global, is_impl, is_object, is_trivial, preferred, everything}
 use Rattle.candidate_assembly.specs.declared.merge.Sources.{Sources}
 use Rattle.candidate_assembly.specs.declared.merge.Sources.TheVariants.{All, Trivial, NonGlobalClauses, Clauses, Bounds, Remaining}
 

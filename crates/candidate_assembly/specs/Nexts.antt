@@ -5,18 +5,18 @@ use Rattle.infer_table.specs.Inputs.{form_of}
 use Rattle.infer_table.specs.declared.certainty.TypingMode.{TypingMode}
 use Rattle.infer_table.specs.declared.certainty.TypingMode.TheVariants.{Coherence}
 use Rattle.infer_table.specs.declared.input.CanonicalInput.{CanonicalInput}
-use Rattle.evaluation.specs.declared.candidate.CandidateSpec.{CandidateSpec}
-use Rattle.evaluation.specs.declared.candidate.Considered.{Considered}
-use Rattle.evaluation.specs.Candidate.{IsHistory}
-use Rattle.evaluation.specs.Handler.{Handled}
-use Rattle.evaluation.specs.Merge.{or_else}
-use Rattle.evaluation.specs.Table.{workings}
-use Rattle.evaluation.specs.Tables.{frame_tables}
-use Rattle.evaluation.specs.StepReadings.{Shows, shown_by, handled_for}
+use Rattle.goal_evaluator.specs.declared.candidate.CandidateSpec.{CandidateSpec}
+use Rattle.goal_evaluator.specs.declared.candidate.Considered.{Considered}
+use Rattle.goal_evaluator.specs.Candidate.{IsHistory}
+use Rattle.goal_evaluator.specs.Handler.{Handled}
+use Rattle.goal_evaluator.specs.Merge.{or_else}
+use Rattle.goal_evaluator.specs.Table.{workings}
+use Rattle.goal_evaluator.specs.Tables.{frame_tables}
+use Rattle.goal_evaluator.specs.StepReadings.{Shows, shown_by, handled_for}
 use Rattle.declarations.specs.Items.{Items, written}
-use Rattle.assembly_laws.specs.Asking.{goal_over_kinds}
-use Rattle.assembly_laws.specs.Candidates.{Candidate, unsure}
-use Rattle.assembly_laws.specs.Solver.{SolverPast}
+use Rattle.candidate_model.specs.Asking.{goal_over_kinds}
+use Rattle.candidate_model.specs.Candidates.{Candidate, unsure}
+use Rattle.candidate_model.specs.Solver.{SolverPast}
 use Rattle.candidate_assembly.specs.Fitting.{solving_of}
 use Rattle.built_in_candidates.specs.Goals.{asked_of, candidate_of}
 use Rattle.candidate_assembly.specs.Sections.{early, late, is_first, next_inside, next_outside, next_in, decided, next_candidate}

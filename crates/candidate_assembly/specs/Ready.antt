@@ -7,8 +7,8 @@ use Rattle.infer_table.specs.Goals.{GoalHeld}
 use Rattle.declarations.specs.Applied.{HaveBounds}
 use Rattle.declarations.specs.Held.{AreHeld}
 use Rattle.declarations.specs.Items.{Items, written}
-use Rattle.assembly_laws.specs.Asking.{goal_over_kinds}
-use Rattle.assembly_laws.specs.DeclaredWell.{is_declared_well}
+use Rattle.candidate_model.specs.Asking.{goal_over_kinds}
+use Rattle.candidate_model.specs.DeclaredWell.{is_declared_well}
 use Rattle.built_in_candidates.specs.Constituents.{HaveFields}
 use Rattle.candidate_assembly.specs.Fitting.{GoalFits, solving_of}
 use Rattle.built_in_candidates.specs.Goals.{asked_of}

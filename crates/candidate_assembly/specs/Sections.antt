@@ -12,23 +12,23 @@ use Rattle.infer_table.specs.declared.canonical.CanonicalVarKind.{CanonicalVarKi
 use Rattle.infer_table.specs.declared.certainty.TypingMode.{TypingMode}
 use Rattle.infer_table.specs.declared.certainty.TypingMode.TheVariants.{Coherence, PostAnalysis}
 use Rattle.infer_table.specs.Canonical.{CanonicalForm}
-use Rattle.evaluation.specs.declared.candidate.CandidateSource.{CandidateSource}
-use Rattle.evaluation.specs.declared.candidate.CandidateSource.TheVariants.{Impl, BuiltinImpl, CoherenceUnknowable}
-use Rattle.evaluation.specs.declared.candidate.BuiltinImplSource.TheVariants.{Trivial, Misc, Object, TraitUpcasting}
-use Rattle.evaluation.specs.Candidate.{Next, consider, IsHistory}
-use Rattle.evaluation.specs.Merge.{or_else}
-use Rattle.evaluation.specs.Plans.{Plan, wanted}
-use Rattle.evaluation.specs.Table.{workings}
-use Rattle.evaluation.specs.FrameTables.{kinds_known}
-use Rattle.evaluation.specs.Tables.{frame_tables}
+use Rattle.goal_evaluator.specs.declared.candidate.CandidateSource.{CandidateSource}
+use Rattle.goal_evaluator.specs.declared.candidate.CandidateSource.TheVariants.{Impl, BuiltinImpl, CoherenceUnknowable}
+use Rattle.goal_evaluator.specs.declared.candidate.BuiltinImplSource.TheVariants.{Trivial, Misc, Object, TraitUpcasting}
+use Rattle.goal_evaluator.specs.Candidate.{Next, consider, IsHistory}
+use Rattle.goal_evaluator.specs.Merge.{or_else}
+use Rattle.goal_evaluator.specs.Plans.{Plan, wanted}
+use Rattle.goal_evaluator.specs.Table.{workings}
+use Rattle.goal_evaluator.specs.FrameTables.{kinds_known}
+use Rattle.goal_evaluator.specs.Tables.{frame_tables}
 use Rattle.declarations.specs.Items.{Items, written}
 use Rattle.declarations.specs.Merges.{Rises}
 use Rattle.goal_frames.specs.Handlers.{same_answer, applies_always}
-use Rattle.assembly_laws.specs.Meaning.{ViewMeaning}
-use Rattle.assembly_laws.specs.Knowing.{is_knowable}
-use Rattle.assembly_laws.specs.Asking.{GoalOverKinds, goal_over_kinds, clauses, self_of, begins_unknown}
-use Rattle.assembly_laws.specs.Candidates.{Candidate, unsure, unknowable, by_clauses, built_in, by_impls, by_objects}
-use Rattle.assembly_laws.specs.Solver.{SolverPast, from, holds_from, is_clause, is_impl, is_settled, solver_handled}
+use Rattle.candidate_model.specs.Meaning.{ViewMeaning}
+use Rattle.candidate_model.specs.Knowing.{is_knowable}
+use Rattle.candidate_model.specs.Asking.{GoalOverKinds, goal_over_kinds, clauses, self_of, begins_unknown}
+use Rattle.candidate_model.specs.Candidates.{Candidate, unsure, unknowable, by_clauses, built_in, by_impls, by_objects}
+use Rattle.candidate_model.specs.Solver.{SolverPast, from, holds_from, is_clause, is_impl, is_settled, solver_handled}
 use Rattle.candidate_assembly.specs.Headers.{impls_above}
 use Rattle.candidate_assembly.specs.Merging.{end_in}
 

@@ -1,10 +1,10 @@
 -- The same for the shown candidates, the oldest first.
 use Rattle.std.specs.Prelude.{ℕ, ◌==◌, Bool, ◌&&◌, not, if◌then◌else◌, List, [], ◌∷◌, Option, Some, None}
 use Rattle.infer_table.specs.Responses.{AnswerTrees}
-use Rattle.evaluation.specs.Merge.{or_else}
+use Rattle.goal_evaluator.specs.Merge.{or_else}
 use Rattle.goal_frames.specs.Handlers.{applies_always}
-use Rattle.evaluation.specs.StepReadings.{ShownCandidate}
-use Rattle.assembly_laws.specs.Solver.{is_clause, is_object, gives_none}
+use Rattle.goal_evaluator.specs.StepReadings.{ShownCandidate}
+use Rattle.candidate_model.specs.Solver.{is_clause, is_object, gives_none}
 
 -- A yes without values and constraints, and the candidate's number.
 abbrev pub yes_of : Option AnswerTrees → ℕ → Option (AnswerTrees × ℕ)

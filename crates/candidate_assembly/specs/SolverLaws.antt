@@ -6,25 +6,25 @@ use Rattle.type_terms.specs.Promised.Worlds.{World}
 use Rattle.infer_table.specs.Canonical.{CanonicalForm}
 use Rattle.infer_table.specs.declared.certainty.TypingMode.{TypingMode}
 use Rattle.infer_table.specs.declared.certainty.TypingMode.TheVariants.{Coherence, PostAnalysis}
-use Rattle.evaluation.specs.Handler.{IsHandler}
-use Rattle.evaluation.specs.History.{evaluate, asks, CameInOrder}
-use Rattle.evaluation.specs.Promises.{frame_of_goal, Anything, History}
-use Rattle.evaluation.specs.Content.{Fact, NestedQuestion}
-use Rattle.evaluation.specs.Widths.{number_of}
-use Rattle.evaluation.specs.Tables.{frame_tables}
+use Rattle.goal_evaluator.specs.Handler.{IsHandler}
+use Rattle.goal_evaluator.specs.History.{evaluate, asks, CameInOrder}
+use Rattle.goal_evaluator.specs.Promises.{frame_of_goal, Anything, History}
+use Rattle.goal_evaluator.specs.Content.{Fact, NestedQuestion}
+use Rattle.goal_evaluator.specs.Widths.{number_of}
+use Rattle.goal_evaluator.specs.Tables.{frame_tables}
 use Rattle.goal_frames.specs.Handlers.{same_answer, applies_always}
 use Rattle.goal_frames.specs.HandlerPrograms.{AreLawfulGoals, HandlerIsLawful}
 use Rattle.goal_frames.proofs.Same.{answers-are, applies-to-yeses}
-use Rattle.assembly_laws.specs.Facts.{reference_in}
-use Rattle.assembly_laws.specs.Meaning.{proved_at}
-use Rattle.assembly_laws.specs.DeclaredWell.{is_declared_well}
-use Rattle.assembly_laws.specs.Lifetimes.{form_gives_lifetimes, given_by, GivesLifetimes}
-use Rattle.assembly_laws.specs.Lawful.{ViewIsDeclaredWell}
-use Rattle.assembly_laws.specs.Promised.Widths.{declared_width, number_at, clauses_in}
-use Rattle.assembly_laws.specs.Solver.{widest_of, IsSolution}
-use Rattle.assembly_laws.proofs.DeclaredWell.{tests-tell}
-use Rattle.assembly_laws.proofs.SolverLaw.{solver-is-lawful-and-covers}
-use Rattle.assembly_laws.proofs.Worlds.{same-place, keep-worlds}
+use Rattle.candidate_model.specs.Facts.{reference_in}
+use Rattle.candidate_model.specs.Meaning.{proved_at}
+use Rattle.candidate_model.specs.DeclaredWell.{is_declared_well}
+use Rattle.candidate_model.specs.Lifetimes.{form_gives_lifetimes, given_by, GivesLifetimes}
+use Rattle.candidate_model.specs.Lawful.{ViewIsDeclaredWell}
+use Rattle.candidate_model.specs.Promised.Widths.{declared_width, number_at, clauses_in}
+use Rattle.candidate_model.specs.Solver.{widest_of, IsSolution}
+use Rattle.candidate_model.proofs.DeclaredWell.{tests-tell}
+use Rattle.candidate_model.proofs.SolverLaw.{solver-is-lawful-and-covers}
+use Rattle.candidate_model.proofs.Worlds.{same-place, keep-worlds}
 use Rattle.type_terms.proofs.Made.{left, right}
 use Rattle.candidate_assembly.specs.Kept.{ready-kept, solving-kept}
 use Rattle.candidate_assembly.specs.Solving.{Solving, meaning_for, solver_for}

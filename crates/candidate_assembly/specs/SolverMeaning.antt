@@ -1,6 +1,6 @@
 -- What the solver means as a handler of goals: the goals of a view, and what its declarations are over an interner.
 use Rattle.goal_frames.specs.Meanings.{Goals, HandlerMeaning}
-use Rattle.assembly_laws.specs.Facts.{FollowsByView}
+use Rattle.candidate_model.specs.Facts.{FollowsByView}
 use Rattle.candidate_assembly.specs.Fitting.{solving_of}
 use Rattle.candidate_assembly.specs.Ready.{AreReadyDeclarations}
 use Rattle.candidate_assembly.specs.Solving.{Solving, solver_for, coinductive_for}

@@ -4,15 +4,15 @@ use Rattle.type_terms.specs.Promised.Label.{Sort}
 use Rattle.type_terms.specs.Promised.Worlds.{World}
 use Rattle.infer_table.specs.Canonical.{CanonicalForm}
 use Rattle.infer_table.specs.declared.certainty.TypingMode.{TypingMode}
-use Rattle.evaluation.specs.Handler.{Handled}
-use Rattle.evaluation.specs.Content.{Fact}
-use Rattle.evaluation.specs.Tables.{frame_tables}
+use Rattle.goal_evaluator.specs.Handler.{Handled}
+use Rattle.goal_evaluator.specs.Content.{Fact}
+use Rattle.goal_evaluator.specs.Tables.{frame_tables}
 use Rattle.goal_frames.specs.Handlers.{same_answer, applies_always}
-use Rattle.assembly_laws.specs.Facts.{is_coinductive_fact}
-use Rattle.assembly_laws.specs.Meaning.{ViewMeaning}
-use Rattle.assembly_laws.specs.DeclaredWell.{is_declared_well}
-use Rattle.assembly_laws.specs.Lifetimes.{form_gives_lifetimes}
-use Rattle.assembly_laws.specs.Solver.{solver_handled}
+use Rattle.candidate_model.specs.Facts.{is_coinductive_fact}
+use Rattle.candidate_model.specs.Meaning.{ViewMeaning}
+use Rattle.candidate_model.specs.DeclaredWell.{is_declared_well}
+use Rattle.candidate_model.specs.Lifetimes.{form_gives_lifetimes}
+use Rattle.candidate_model.specs.Solver.{solver_handled}
 
 -- The kinds of the parameters of each struct, trait and impl, in their order. For a trait Self is the first.
 pub record DeclaredSorts : Type 0 where

@@ -7,7 +7,7 @@ ghost use Rattle.type_terms.specs.Promised.Handles.{trees_at};
 ghost use Rattle.type_terms.specs.declared.Fault.TheVariants.{Memory};
 ghost use Rattle.declarations.specs.Items.{reference_in, written};
 ghost use Rattle.declarations.specs.Held.{ReferenceHeld};
-ghost use Rattle.assembly_laws.specs.Knowing.{is_knowable};
+ghost use Rattle.candidate_model.specs.Knowing.{is_knowable};
 
 use crate::visitors::has_open_places;
 use declarations::declarations::Declarations;

@@ -14,17 +14,17 @@ ghost use Rattle.std.specs.List.{list_any};
 ghost use Rattle.type_terms.specs.Promised.Handles.{Entry};
 ghost use Rattle.infer_table.specs.declared.certainty.TypingMode.TheVariants.{PostAnalysis};
 ghost use Rattle.infer_table.specs.Responses.{ResponseHeld, answer_trees};
-ghost use Rattle.evaluation.specs.Readings.{ConsideredHeld, HandlerStepHeld};
-ghost use Rattle.evaluation.specs.Responses.{content};
-ghost use Rattle.evaluation.specs.TableAnswers.{IsWellFormed};
+ghost use Rattle.goal_evaluator.specs.Readings.{ConsideredHeld, HandlerStepHeld};
+ghost use Rattle.goal_evaluator.specs.Responses.{content};
+ghost use Rattle.goal_evaluator.specs.TableAnswers.{IsWellFormed};
 ghost use Rattle.goal_frames.specs.Fitting.{ConsideredFits, StepFits};
 ghost use Rattle.goal_frames.specs.Handlers.{applies_always};
 ghost use Rattle.goal_frames.specs.Merges.{responses_of};
-ghost use Rattle.evaluation.specs.StepReadings.{shown_by};
+ghost use Rattle.goal_evaluator.specs.StepReadings.{shown_by};
 ghost use Rattle.candidate_assembly.specs.Merging.{is_among, from_sources, end_in, clause_taken, IsEnd, MergesFrom, AreRemaining};
 ghost use Rattle.candidate_assembly.specs.Shown.{first_yes, other_clauses, first_bound_gives_none};
 
-use evaluation::{
+use goal_evaluator::{
     BuiltinImplSource, CandidateSource, Certainty, Considered, HandlerStep, ParamEnvSource,
     TypingMode, copy_response, has_no_inference_or_external_constraints,
     is_identity_modulo_regions,

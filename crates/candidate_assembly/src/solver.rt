@@ -10,7 +10,7 @@ use crate::trait_goals::compute_trait_goal;
 use built_in_candidates::built_in::SIZED;
 use built_in_candidates::built_in_rules::is_auto;
 use declarations::declarations::Declarations;
-use evaluation::{Considered, HandlerStep};
+use goal_evaluator::{Considered, HandlerStep};
 use goal_frames::GoalHandler;
 use infer_table::input::CanonicalInput;
 use std::alloc::Global;

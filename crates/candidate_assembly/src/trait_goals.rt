@@ -14,14 +14,14 @@ ghost use Rattle.type_terms.specs.Promised.Handles.{Entry};
 ghost use Rattle.type_terms.specs.declared.Fault.TheVariants.{Memory};
 ghost use Rattle.infer_table.specs.Goals.{GoalHeld};
 ghost use Rattle.infer_table.specs.Responses.{ResponseHeld, answer_trees};
-ghost use Rattle.evaluation.specs.Readings.{ConsideredHeld, ResultHeld, SpecHeld, HandlerStepHeld};
+ghost use Rattle.goal_evaluator.specs.Readings.{ConsideredHeld, ResultHeld, SpecHeld, HandlerStepHeld};
 ghost use Rattle.goal_frames.specs.Fitting.{ConsideredFits, ResultFits, StepFits};
-ghost use Rattle.evaluation.specs.StepReadings.{result_read, shown_by, spec_read, HasHistory, IsNextAfter};
-ghost use Rattle.evaluation.specs.TableAnswers.{IsWellFormed};
+ghost use Rattle.goal_evaluator.specs.StepReadings.{result_read, shown_by, spec_read, HasHistory, IsNextAfter};
+ghost use Rattle.goal_evaluator.specs.TableAnswers.{IsWellFormed};
 ghost use Rattle.declarations.specs.Items.{written};
-ghost use Rattle.assembly_laws.specs.Knowing.{is_knowable};
-ghost use Rattle.assembly_laws.specs.Candidates.{unsure, by_objects};
-ghost use Rattle.assembly_laws.specs.Solver.{says_nothing, is_non_global, is_settled};
+ghost use Rattle.candidate_model.specs.Knowing.{is_knowable};
+ghost use Rattle.candidate_model.specs.Candidates.{unsure, by_objects};
+ghost use Rattle.candidate_model.specs.Solver.{says_nothing, is_non_global, is_settled};
 ghost use Rattle.candidate_assembly.specs.Counted.{ForEachPast};
 ghost use Rattle.built_in_candidates.specs.Goals.{asked_of, candidate_of};
 ghost use Rattle.candidate_assembly.specs.Nexts.{handled_in, IsNextBy, early_in, late_in, late_unless, until, next_inside_in, next_outside_in, next_decided, next_undecided, next_for, mode_at_end};
@@ -39,7 +39,7 @@ use crate::unknowable::consider_coherence_unknowable_candidate;
 use built_in_candidates::object::consider_object_bound_candidate;
 use built_in_candidates::parts::unsure;
 use declarations::declarations::Declarations;
-use evaluation::{
+use goal_evaluator::{
     CandidateSource, CandidateSpec, Considered, HandlerStep, ParamEnvSource, TypingMode,
     is_identity_modulo_regions,
 };

@@ -2,16 +2,16 @@
 ghost use Rattle.type_terms.specs.Growth.{GrewOrFull};
 ghost use Rattle.std.specs.Prelude.{◌≡◌, IfOk};
 ghost use Rattle.infer_table.specs.Goals.{GoalHeld};
-ghost use Rattle.evaluation.specs.Readings.{SpecHeld};
+ghost use Rattle.goal_evaluator.specs.Readings.{SpecHeld};
 ghost use Rattle.declarations.specs.Items.{written};
 ghost use Rattle.declarations.specs.Held.{AreHeld};
 ghost use Rattle.declarations.specs.Applied.{IsApplied, HaveBounds};
-ghost use Rattle.assembly_laws.specs.Candidates.{unknowable};
+ghost use Rattle.candidate_model.specs.Candidates.{unknowable};
 ghost use Rattle.built_in_candidates.specs.Goals.{asked_of, candidate_of};
 
 use built_in_candidates::parts::nested_goals;
 use declarations::declarations::Declarations;
-use evaluation::{CandidateSource, CandidateSpec, Certainty, GoalSource, MaybeCause};
+use goal_evaluator::{CandidateSource, CandidateSpec, Certainty, GoalSource, MaybeCause};
 use infer_table::input::CanonicalInput;
 use std::alloc::Global;
 use type_terms::Fault;

@@ -10,9 +10,9 @@ ghost use Rattle.type_terms.specs.Terms.{args_lists};
 ghost use Rattle.type_terms.specs.Kinds.{autos_trees};
 ghost use Rattle.type_terms.specs.Promised.Handles.{region_label};
 ghost use Rattle.type_terms.specs.Made.{terms, is_made};
-ghost use Rattle.evaluation.specs.TableAnswers.{is_kind_of};
-ghost use Rattle.evaluation.specs.FrameTables.{kind_at};
-ghost use Rattle.evaluation.specs.Variables.{is_variable_over};
+ghost use Rattle.goal_evaluator.specs.TableAnswers.{is_kind_of};
+ghost use Rattle.goal_evaluator.specs.FrameTables.{kind_at};
+ghost use Rattle.goal_evaluator.specs.Variables.{is_variable_over};
 ghost use Rattle.declarations.specs.Items.{written};
 ghost use Rattle.candidate_assembly.specs.Finding.{BreaksAt, some_root};
 

@@ -5,7 +5,7 @@ use Rattle.std.proofs.lemmas.List.{length-map}
 use Rattle.std.proofs.lemmas.Option.{slice_get-get_or, slice_get-map}
 use Rattle.type_terms.proofs.Lists as lists
 use Rattle.type_terms.specs.declared.CrateId.{CrateId}
-use Rattle.text_definitions.specs.Promised.Declarations.{Declarations, NamedCrate, Question}
+use Rattle.text_language.specs.Promised.Declarations.{Declarations, NamedCrate, Question}
 use Rattle.workspace.specs.Numbered.{IsNumbered}
 use Rattle.workspace.specs.Views.{numbers_of, asked_of, asker_of, is_refute, check_of}
 use Rattle.workspace.specs.declared.declared.Asked.{Asked}

@@ -1,6 +1,6 @@
 -- The checks and queries of a crate, as its session takes them.
 use Rattle.std.specs.Prelude.{ℕ}
-use Rattle.text_definitions.specs.Promised.Declarations.{Declarations, Question}
+use Rattle.text_language.specs.Promised.Declarations.{Declarations, Question}
 use Rattle.sessions.specs.Promised.Releases.{IsSectionOf}
 use Rattle.sessions.specs.Promised.Subjects.{AsksProof, AsksRefutation}
 use Rattle.workspace.specs.declared.declared.Asked.{Asked}

@@ -6,9 +6,9 @@ ghost use Rattle.sessions.specs.Promised.Subjects.{StaysOn};
 
 use crate::breaking::breaking;
 use crate::supertraits::supertraits;
-use diagnostics::Diagnostic;
-use explanation_texts::Texts;
-use session_walks::explain_breaking;
+use explain_diagnostics::Diagnostic;
+use explain_texts::Texts;
+use explain_sessions::explain_breaking;
 use sessions::{LaterAnswer, Session};
 use std::alloc::Global;
 use type_terms::{CrateId, Fault, ImplId};

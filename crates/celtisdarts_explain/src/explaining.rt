@@ -1,6 +1,6 @@
 //! Explanations of all lines of an output.
 //!
-//! The text for a crate is made from its verdict, and the text for a query from a trace of its goal (`goal_walk`), which a session makes.
+//! The text for a crate is made from its verdict, and the text for a query from a trace of its goal (`explain_traces`), which a session makes.
 //! One session for each crate explains all its lines. No contract says that a sentence is true.
 
 ghost use Rattle.std.specs.Prelude.{◌≡◌, ◌<◌, length, IfSome, OnOk};
@@ -15,12 +15,12 @@ use crate::places::{
 };
 use crate::questions::{Questioned, explain_asked};
 use crate::spending::Spending;
-use diagnostics::{Diagnostic, SourceFile};
-use explanation_texts::{Texts, fault_diagnostic, item_lines, orphan};
-use session_walks::impl_header;
+use explain_diagnostics::{Diagnostic, SourceFile};
+use explain_texts::{Texts, fault_diagnostic, item_lines, orphan};
+use explain_sessions::impl_header;
 use sessions::{Limits, SeenView, Session, Verdict};
 use std::alloc::{AllocError, Global};
-use text_reader::{TextError, parse};
+use text_parser::{TextError, parse};
 use type_terms::{CrateId, Fault, ImplId};
 use workspace::{ENTRY_LIMIT, Workspace};
 

@@ -32,7 +32,7 @@ use crate::input::read_text;
 use crate::printed::{Lack, Shown, Told, write_told};
 use crate::words::{ColorConfig, Options, read_words};
 use coherence::{Limits, RunFault, Status, run};
-use diagnostics::{Diagnostic, SourceFile};
+use explain_diagnostics::{Diagnostic, SourceFile};
 use std::alloc::{AllocError, Global};
 use std::fs::File;
 use std::io::IsTerminal;

@@ -3,17 +3,17 @@
 ghost use Rattle.std.specs.Prelude.{◌≡◌, IfOk};
 ghost use Rattle.celtisdarts_explain.specs.Told.{ShowsCommonOf};
 ghost use Rattle.sessions.specs.Promised.Subjects.{StaysOn};
-ghost use Rattle.session_walks.specs.Claims.{ClaimsHold};
-ghost use Rattle.session_walks.specs.Walked.{PairWalkHeld};
+ghost use Rattle.explain_sessions.specs.Claims.{ClaimsHold};
+ghost use Rattle.explain_sessions.specs.Walked.{PairWalkHeld};
 
 use crate::explaining::seen_impls;
-use answer_lines::ShownNames;
-use diagnostics::{Diagnostic, ErrCode, Level, Span};
-use explanation_texts::{
+use text_printer::ShownNames;
+use explain_diagnostics::{Diagnostic, ErrCode, Level, Span};
+use explain_texts::{
     Asking, Piece, Sentence, Spoken, Story, Telling, Texts, impl_line, plain, speak, tell,
     tell_clause, with_four, with_one, with_three, with_two,
 };
-use session_walks::{Claims, PairWalk, explain_overlap, impl_header, pair_claims};
+use explain_sessions::{Claims, PairWalk, explain_overlap, impl_header, pair_claims};
 use sessions::Session;
 use std::alloc::{AllocError, Global};
 use type_terms::{Fault, ImplId};

@@ -2,16 +2,16 @@
 
 ghost use Rattle.std.specs.Prelude.{ℕ};
 ghost use Rattle.celtisdarts_explain.specs.Told.{ShowsProofOf};
-ghost use Rattle.session_walks.specs.Claims.{ClaimsHold};
-ghost use Rattle.session_walks.specs.Walked.{AllStepsHeld, ProofWalkHeld};
+ghost use Rattle.explain_sessions.specs.Claims.{ClaimsHold};
+ghost use Rattle.explain_sessions.specs.Walked.{AllStepsHeld, ProofWalkHeld};
 
-use answer_lines::ShownNames;
-use diagnostics::{Diagnostic, Level, Span};
-use explanation_texts::{
+use text_printer::ShownNames;
+use explain_diagnostics::{Diagnostic, Level, Span};
+use explain_texts::{
     Piece, Sentence, Spoken, Story, Telling, Texts, impl_piece, plain, source_piece, speak, tell,
     with_one,
 };
-use session_walks::{Claims, ProofWalk, Step, Way};
+use explain_sessions::{Claims, ProofWalk, Step, Way};
 use sessions::Session;
 use std::alloc::{AllocError, Global};
 use type_terms::ImplId;

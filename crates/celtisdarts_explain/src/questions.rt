@@ -3,18 +3,18 @@
 ghost use Rattle.std.specs.Prelude.{◌≡◌, ℕ};
 ghost use Rattle.celtisdarts_explain.specs.Asked.{IsAskedOf};
 ghost use Rattle.celtisdarts_explain.specs.Told.{ShowsProofOf};
-ghost use Rattle.session_walks.specs.Claims.{ClaimsHold};
-ghost use Rattle.session_walks.specs.Walked.{ProofWalkHeld, WalkHeld};
+ghost use Rattle.explain_sessions.specs.Claims.{ClaimsHold};
+ghost use Rattle.explain_sessions.specs.Walked.{ProofWalkHeld, WalkHeld};
 ghost use Rattle.sessions.specs.Promised.Subjects.{AsksProof, AsksRefutation, StaysOn};
-ghost use Rattle.text_definitions.specs.Promised.Declarations.{Question};
+ghost use Rattle.text_language.specs.Promised.Declarations.{Question};
 ghost use Rattle.type_terms.specs.Promised.Handles.{ArgsHeld};
 
 use crate::proofs::{proved, tell_proof};
 use crate::spending::{Next, Spending, too_long};
-use answer_lines::ShownNames;
-use diagnostics::{Diagnostic, Span};
-use explanation_texts::{Asking, Texts, left_open, refuted, tell, unproved, unsettled};
-use session_walks::{
+use text_printer::ShownNames;
+use explain_diagnostics::{Diagnostic, Span};
+use explain_texts::{Asking, Texts, left_open, refuted, tell, unproved, unsettled};
+use explain_sessions::{
     Claims, GoalWalk, ProofWalk, explain_proof, explain_question, explain_refutation, no_claims,
     question_claims, refutation_claims,
 };

@@ -1,14 +1,14 @@
 //! The text for an unproved supertrait.
 
 ghost use Rattle.std.specs.Prelude.{◌≡◌};
-ghost use Rattle.session_walks.specs.Claims.{ClaimsHold};
-ghost use Rattle.session_walks.specs.Walked.{WalkHeld};
+ghost use Rattle.explain_sessions.specs.Claims.{ClaimsHold};
+ghost use Rattle.explain_sessions.specs.Walked.{WalkHeld};
 ghost use Rattle.sessions.specs.Promised.Subjects.{StaysOn};
 
-use answer_lines::ShownNames;
-use diagnostics::{Diagnostic, Place, Span, on_line};
-use explanation_texts::{Asking, Texts, impl_line, tell, unproved, unsettled};
-use session_walks::{Claims, GoalWalk, explain_supertrait, question_claims};
+use text_printer::ShownNames;
+use explain_diagnostics::{Diagnostic, Place, Span, on_line};
+use explain_texts::{Asking, Texts, impl_line, tell, unproved, unsettled};
+use explain_sessions::{Claims, GoalWalk, explain_supertrait, question_claims};
 use sessions::{Session, SupersAnswer};
 use std::alloc::{AllocError, Global};
 use type_terms::{Fault, ImplId};

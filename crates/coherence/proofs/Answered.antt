@@ -4,9 +4,9 @@ use Rattle.std.specs.List.{slice_get}
 use Rattle.std.specs.Option.{option_map, option_map_or}
 use Rattle.std.proofs.lemmas.Option.{same_Some}
 use Rattle.type_terms.specs.Promised.Trees.{erase}
-use Rattle.text_definitions.specs.Promised.Declarations.{Declarations, NamedCrate, Question}
-use Rattle.text_definitions.specs.Names.{answer_values}
-use Rattle.text_definitions.specs.Output.{Answer, yes, output_text}
+use Rattle.text_language.specs.Promised.Declarations.{Declarations, NamedCrate, Question}
+use Rattle.text_language.specs.Names.{answer_values}
+use Rattle.text_language.specs.Output.{Answer, yes, output_text}
 use Rattle.type_terms.specs.Promised.Handles.{arg_trees}
 use Rattle.type_terms.specs.Promised.Handles.{Entry}
 use Rattle.type_terms.specs.declared.kinds.GenericArgKind.{GenericArgKind}

@@ -7,10 +7,10 @@ use Rattle.type_terms.specs.Promised.Worlds.{World, Reference, TraitDecl, ImplDe
 use Rattle.type_terms.proofs.Members.{here, there, in-map}
 use Rattle.type_terms.proofs.TermRules.{erased-views}
 use Rattle.type_terms.proofs.Walking.{left}
-use Rattle.text_definitions.specs.Promised.Declarations.{Declarations, world_of}
-use Rattle.assembly_laws.specs.Declared.{is_declared_view}
-use Rattle.assembly_laws.proofs.DeclaredParts.{header-declared, bound-declared}
-use Rattle.assembly_laws.proofs.PlainRules.{tame}
+use Rattle.text_language.specs.Promised.Declarations.{Declarations, world_of}
+use Rattle.candidate_model.specs.Declared.{is_declared_view}
+use Rattle.candidate_model.proofs.DeclaredParts.{header-declared, bound-declared}
+use Rattle.candidate_model.proofs.PlainRules.{tame}
 use Rattle.view_lowering.specs.Promised.SeenWorlds.{plain, all_kept, none_kept, plain_reference, plain_trait, plain_impl, plainly_seen_from, unbound_reference}
 use Rattle.view_lowering.proofs.WellSeen.{texts-seen-well}
 use Rattle.sessions.specs.Promised.Promises.{view_in}

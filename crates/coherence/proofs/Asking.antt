@@ -4,13 +4,13 @@ use Rattle.std.specs.Prelude.{IfOk, IfErr, IfSome, IsErrAnd, map, slice_get}
 use Rattle.std.proofs.Math.Seq.{take-append_seam}
 use Rattle.std.proofs.lemmas.List.{length-map}
 use Rattle.std.proofs.lemmas.Option.{same_Some}
-use Rattle.text_definitions.specs.Promised.Declarations.{Declarations, Question}
-use Rattle.text_definitions.specs.Text.{TextGives}
-use Rattle.text_definitions.specs.Promised.Text.{text_limit}
+use Rattle.text_language.specs.Promised.Declarations.{Declarations, Question}
+use Rattle.text_language.specs.Text.{TextGives}
+use Rattle.text_language.specs.Promised.Text.{text_limit}
 use Rattle.type_terms.specs.declared.CrateId.{CrateId}
-use Rattle.text_reader.specs.Behind.{FitsBehind, LinesBehindTexts, behind}
-use Rattle.text_reader.specs.Queries.{IsQueryLine}
-use Rattle.text_reader.specs.declared.query_line.QueryLine.{QueryLine}
+use Rattle.text_parser.specs.Behind.{FitsBehind, LinesBehindTexts, behind}
+use Rattle.text_parser.specs.Queries.{IsQueryLine}
+use Rattle.text_parser.specs.declared.query_line.QueryLine.{QueryLine}
 use Rattle.workspace.specs.Numbered.{IsFew}
 use Rattle.workspace.specs.Tables.{declared, with_question}
 use Rattle.workspace.specs.Unasked.{without_last_question}
@@ -30,7 +30,7 @@ use Rattle.coherence.specs.declared.ask_fault.AskFault.TheVariants as faults
 use Rattle.coherence.specs.declared.status.RunFault.{RunFault}
 use Rattle.coherence.specs.declared.status.RunFault.TheVariants as run_faults
 use Rattle.sessions.proofs.GivenTexts.{given-text}
-use Rattle.text_definitions.proofs.TypeBasics.{text-short}
+use Rattle.text_language.proofs.TypeBasics.{text-short}
 
 -- ---- the view of a crate, which no question is of
 view-asked : (d : Declarations) (q : Question) (c handles : ℕ) (v : SeenView) → IsViewOf d c handles v → IsViewOf (with_question d q) c handles v

@@ -12,10 +12,10 @@ use Rattle.type_terms.specs.Promised.Worlds.{World, Reference, ImplDecl, sees, v
 use Rattle.type_terms.proofs.Members.{in-filter, filter-in, in-map}
 use Rattle.type_terms.proofs.ProofEntries.{map-in}
 use Rattle.type_terms.proofs.ViewLaws.{sees-itself}
-use Rattle.text_definitions.specs.Promised.Declarations.{Declarations, NamedImpl, Check, of_later, of_supers, Question, world_of}
-use Rattle.text_definitions.specs.Names.{answer_values}
-use Rattle.text_definitions.specs.Output.{Answer, answer_text, values_text}
-use Rattle.language_definitions.proofs.SamePrinted.{yes-values-text-is}
+use Rattle.text_language.specs.Promised.Declarations.{Declarations, NamedImpl, Check, of_later, of_supers, Question, world_of}
+use Rattle.text_language.specs.Names.{answer_values}
+use Rattle.text_language.specs.Output.{Answer, answer_text, values_text}
+use Rattle.text_language.proofs.SamePrinted.{yes-values-text-is}
 use Rattle.sessions.specs.QuestionAnswers as answers
 use Rattle.sessions.specs.Promised.Promises.{view_in}
 use Rattle.sessions.specs.Promised.Releases as releases

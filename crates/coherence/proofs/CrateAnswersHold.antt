@@ -11,8 +11,8 @@ use Rattle.type_terms.specs.Promised.Walks.{keeps_orphan_rule}
 use Rattle.type_terms.specs.Promised.Worlds.{World, ImplDecl, sees, core}
 use Rattle.type_terms.proofs.Members.{in-filter, filter-in, same-number, self-number, so-false}
 use Rattle.type_terms.proofs.Walking.{left, right}
-use Rattle.text_definitions.specs.Promised.Declarations.{Declarations, NamedImpl, world_of}
-use Rattle.text_definitions.specs.Output.{answer_text, crate_start, before_text}
+use Rattle.text_language.specs.Promised.Declarations.{Declarations, NamedImpl, world_of}
+use Rattle.text_language.specs.Output.{answer_text, crate_start, before_text}
 use Rattle.type_terms.specs.Promised.OrphanErrors.{OrphanError, nonlocal, uncovered, orphan_error}
 use Rattle.type_terms.specs.Promised.OpenedHeaders.{opened}
 use Rattle.type_terms.specs.Promised.Verdicts as verdicts
@@ -29,7 +29,7 @@ use Rattle.type_terms.proofs.NoHolds.{member-each}
 use Rattle.coherence.proofs.ImplParams.{unmapped, knows, header-ok}
 use Rattle.coherence.proofs.ImplPlaces.{HaveNumbers, impls-have-numbers}
 use Rattle.coherence.proofs.OrphanReasons.{params_at, error_text, reason-is}
-use Rattle.language_definitions.proofs.SameTexts.{text-gives}
+use Rattle.text_language.proofs.SameTexts.{text-gives}
 
 -- ---- an impl that a crate sees, in the text
 numbered : (d : Declarations) → IsOfText d → HaveNumbers d.impls

@@ -3,7 +3,7 @@ use Rattle.std.proofs.Common.{◌≡◌, ℕ, Bool, true, false, List, [], ◌�
 use Rattle.std.specs.Prelude.{if◌then◌else◌}
 use Rattle.type_terms.specs.Promised.Label.{Label, of_lifetime, fn_ptr, principal, param, placeholder, infer, canonical, bound, tuple, ref, raw_pointer}
 use Rattle.type_terms.specs.Promised.Trees.{Trees, none, tree, erase, erase_label, sort_of, is_sort}
-use Rattle.text_definitions.specs.Output.{Names, texts, type_text, node_text, last_text, inputs, between, ends_in_unit, is_unit}
+use Rattle.text_language.specs.Output.{Names, texts, type_text, node_text, last_text, inputs, between, ends_in_unit, is_unit}
 use Rattle.type_terms.proofs.TermBasics.{erased-empty as erased-none}
 
 erased-sort : (l : Label) → sort_of (erase_label l) ≡ sort_of l

@@ -12,9 +12,9 @@ use Rattle.type_terms.specs.Terms.{Lawful}
 use Rattle.type_terms.specs.declared.kinds.GenericArgKind.{GenericArgKind}
 use Rattle.type_terms.proofs.Made.{left, right, false-true, no-tree, made-ordinary}
 use Rattle.type_terms.proofs.MadeFacts.{arg-made}
-use Rattle.text_definitions.specs.Promised.Declarations.{Declarations, Question, Variable}
-use Rattle.text_definitions.specs.Names.{of_kind, own_from, own_unknowns, valued, with_free, free_unknowns, question_names, value_texts, answer_values}
-use Rattle.text_definitions.specs.Output.{Names, ValueText, type_text}
+use Rattle.text_language.specs.Promised.Declarations.{Declarations, Question, Variable}
+use Rattle.text_language.specs.Names.{of_kind, own_from, own_unknowns, valued, with_free, free_unknowns, question_names, value_texts, answer_values}
+use Rattle.text_language.specs.Output.{Names, ValueText, type_text}
 use Rattle.coherence.proofs.ErasedTexts.{text-same}
 use Rattle.coherence.proofs.TermVariables.{IsTerm, AreTermVariables}
 

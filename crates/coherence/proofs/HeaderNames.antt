@@ -8,9 +8,9 @@ use Rattle.type_terms.specs.Promised.Label.{Label, Sort, of_type, of_const, of_l
 use Rattle.type_terms.specs.Promised.Supers.{opaque}
 use Rattle.type_terms.specs.Promised.Trees.{Trees, none, tree, sort_of, is_sort, some_node}
 use Rattle.type_terms.specs.Trees.{is_no_tree}
-use Rattle.text_definitions.specs.Promised.Declarations.{Declarations}
-use Rattle.text_definitions.specs.Names.{struct_text, trait_text, text_at, param_texts, header_names}
-use Rattle.text_definitions.specs.Output.{Names, texts, type_text, node_text, last_text, inputs, between, ends_in_unit}
+use Rattle.text_language.specs.Promised.Declarations.{Declarations}
+use Rattle.text_language.specs.Names.{struct_text, trait_text, text_at, param_texts, header_names}
+use Rattle.text_language.specs.Output.{Names, texts, type_text, node_text, last_text, inputs, between, ends_in_unit}
 use Rattle.type_terms.specs.Promised.OpenedHeaders.{is_param, params_below, with_variables}
 use Rattle.type_terms.proofs.Made.{false-true as no-true}
 use Rattle.type_terms.proofs.TermBasics.{sort-self, sort-equal}

@@ -10,8 +10,8 @@ use Rattle.type_terms.specs.Promised.LinkedSet.{is_stray}
 use Rattle.type_terms.specs.Made.{Standing, terms, bounds, traits, is_made}
 use Rattle.type_terms.proofs.Made.{left, right, false-true, no-tree, made-ordinary, last-bound, last-trait, never-dynamic, never-dynamic-bound, never-principal}
 use Rattle.type_terms.proofs.Members.{same-number, self-number}
-use Rattle.text_definitions.specs.Promised.Declarations.{NamedImpl}
-use Rattle.assembly_laws.specs.Declared.{is_declared}
+use Rattle.text_language.specs.Promised.Declarations.{NamedImpl}
+use Rattle.candidate_model.specs.Declared.{is_declared}
 use Rattle.view_lowering.proofs.Sorts.{is_bad}
 use Rattle.view_lowering.proofs.Tests.{is_good, all_stand, is_good_impl}
 use Rattle.view_lowering.specs.Promised.SeenWorlds.{plain, plain_label, all_kept}

@@ -4,12 +4,12 @@ use Rattle.std.specs.Prelude.{slice_get}
 use Rattle.std.proofs.lemmas.Option.{same_Some}
 use Rattle.type_terms.proofs.Members.{same-number}
 use Rattle.type_terms.proofs.Walking.{left, right}
-use Rattle.text_definitions.specs.Adding.{added, impl_of, item_meanings}
-use Rattle.text_definitions.specs.Promised.Declarations.{Declarations, NamedImpl, last_later}
-use Rattle.text_definitions.specs.Declarations.{nothing_declared}
-use Rattle.text_definitions.specs.Promised.Syntax.{Line, crate_line, struct_line, trait_line, impl_line, prove_line, refute_line, later_line, supers_line}
+use Rattle.text_language.specs.Adding.{added, impl_of, item_meanings}
+use Rattle.text_language.specs.Promised.Declarations.{Declarations, NamedImpl, last_later}
+use Rattle.text_language.specs.Declarations.{nothing_declared}
+use Rattle.text_language.specs.Promised.Syntax.{Line, crate_line, struct_line, trait_line, impl_line, prove_line, refute_line, later_line, supers_line}
 use Rattle.coherence.proofs.Sets.{snoc-at}
-use Rattle.text_definitions.specs.Text.{LineGives, other_byte, blank, unwritten, faulty, adds, LinesGive, ends, fails, goes_on, TextGives, too_long, fits}
+use Rattle.text_language.specs.Text.{LineGives, other_byte, blank, unwritten, faulty, adds, LinesGive, ends, fails, goes_on, TextGives, too_long, fits}
 
 abbrev pub HaveNumbers : List NamedImpl → Type 0
 HaveNumbers xs = (k : ℕ) (x : NamedImpl) → slice_get xs k ≡ Some x → x.item.name ≡ k

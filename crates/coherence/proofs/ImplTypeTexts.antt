@@ -6,11 +6,11 @@ use Rattle.std.specs.Option.{option_map_or}
 use Rattle.type_terms.specs.Promised.Label.{Label, of_type, of_const, of_lifetime, infer}
 use Rattle.type_terms.specs.Promised.Supers.{opaque}
 use Rattle.type_terms.specs.Promised.Trees.{Trees}
-use Rattle.text_definitions.specs.Promised.Declarations.{Declarations}
-use Rattle.text_definitions.specs.Names.{struct_text, trait_text, text_at}
-use Rattle.text_definitions.specs.Output.{type_text}
-use Rattle.language_definitions.specs.Promised.PrintedTypes.{unknowns_within}
-use Rattle.language_definitions.proofs.SamePrintedTypes.{Agrees, type-same}
+use Rattle.text_language.specs.Promised.Declarations.{Declarations}
+use Rattle.text_language.specs.Names.{struct_text, trait_text, text_at}
+use Rattle.text_language.specs.Output.{type_text}
+use Rattle.text_language.specs.Promised.PrintedTypes.{unknowns_within}
+use Rattle.text_language.proofs.SamePrintedTypes.{Agrees, type-same}
 use Rattle.coherence.specs.Promised.CrateAnswers.{impl_type_text}
 
 abbrev pub named_type_text : Declarations → ℕ → Trees → List ℕ

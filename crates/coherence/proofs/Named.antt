@@ -6,7 +6,7 @@ use Rattle.type_terms.specs.Promised.Worlds.{ImplDecl, sees, view_of}
 use Rattle.type_terms.specs.Promised.Erased.{erased_world, erased_impl}
 use Rattle.type_terms.specs.Promised.Proofs.{In}
 use Rattle.type_terms.proofs.Members.{in-filter}
-use Rattle.text_definitions.specs.Promised.Declarations.{Declarations, NamedImpl, world_of}
+use Rattle.text_language.specs.Promised.Declarations.{Declarations, NamedImpl, world_of}
 use Rattle.workspace.specs.Numbered.{IsNumbered}
 use Rattle.sessions.specs.Promised.Promises.{IsVerdictOf, view_in}
 use Rattle.sessions.specs.Promised.Releases.{StopsAt}

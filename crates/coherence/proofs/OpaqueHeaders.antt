@@ -3,7 +3,7 @@ use Rattle.std.proofs.Common.{◌≡◌, Bool, true, false, ◌||◌, refl}
 use Rattle.type_terms.specs.Promised.Label.{Label, of_type, of_const, of_lifetime, static, fn_ptr, principal, param, placeholder, infer, canonical, bound}
 use Rattle.type_terms.specs.Promised.Supers.{opaque}
 use Rattle.type_terms.specs.Promised.Trees.{Trees, none, tree, erase, some_node}
-use Rattle.assembly_laws.proofs.PlainRules.{is_wild}
+use Rattle.candidate_model.proofs.PlainRules.{is_wild}
 use Rattle.view_lowering.specs.Promised.SeenWorlds.{plain, plain_label, all_kept, none_kept}
 use Rattle.coherence.specs.Promised.CheckAnswers.{asked_header}
 use Rattle.type_terms.proofs.BooleanBasics.{true-false as refuse}

@@ -9,8 +9,8 @@ use Rattle.type_terms.specs.Promised.Trees.{Trees}
 use Rattle.type_terms.specs.Promised.Worlds.{World, ImplDecl}
 use Rattle.type_terms.specs.Promised.Walks.{Met, visited, ends_local}
 use Rattle.type_terms.specs.Promised.Versions.{is_open_place}
-use Rattle.text_definitions.specs.Promised.Declarations.{Declarations}
-use Rattle.text_definitions.specs.Output.{before_text}
+use Rattle.text_language.specs.Promised.Declarations.{Declarations}
+use Rattle.text_language.specs.Output.{before_text}
 use Rattle.type_terms.specs.Promised.OpenedHeaders.{opened, with_variables}
 use Rattle.type_terms.specs.Promised.OrphanErrors.{OrphanError, nonlocal, uncovered, orphan_error}
 use Rattle.coherence.specs.Lines.{header_text}

@@ -8,7 +8,7 @@ use Rattle.type_terms.specs.Promised.Proofs.{HasProof}
 use Rattle.type_terms.specs.Promised.Renumbering.{renumbered_reference}
 use Rattle.type_terms.specs.Promised.Trees.{Trees, none, tree, leaf, ◌+++◌, IsA, is_sort}
 use Rattle.type_terms.specs.Promised.Worlds.{Reference}
-use Rattle.text_definitions.specs.Promised.Declarations.{Declarations}
+use Rattle.text_language.specs.Promised.Declarations.{Declarations}
 use Rattle.sessions.specs.QuestionAnswers.{FitKinds, of_kind, filled, filled_reference, SolutionBy, IsProveAnswer, yes, IsRefuteAnswer, no}
 use Rattle.sessions.specs.Promised.CoherentTexts.{TextIsCoherent}
 use Rattle.sessions.specs.Promised.CoherentTexts.{text_world}

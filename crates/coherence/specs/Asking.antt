@@ -1,12 +1,12 @@
 -- A text that is asked at run time.
 use Rattle.std.specs.Prelude.{◌≡◌, ℕ, ◌+◌, ◌-◌, ◌<◌, ◌≤◌, List, length, Option, Ok, Err, IfSome, refl}
 use Rattle.std.specs.Coded.{Coded, code_by, coded_ℕ, coded×}
-use Rattle.name_resolution.specs.FaultNumbers.{fault_number}
-use Rattle.text_definitions.specs.Promised.Declarations.{Declarations, Question}
-use Rattle.text_definitions.specs.Text.{LineGives, TextGives}
-use Rattle.text_definitions.specs.Promised.Text.{text_limit}
-use Rattle.text_reader.specs.Behind.{IsOneLine}
-use Rattle.text_reader.specs.Queries.{FitsTables}
+use Rattle.text_names.specs.FaultNumbers.{fault_number}
+use Rattle.text_language.specs.Promised.Declarations.{Declarations, Question}
+use Rattle.text_language.specs.Text.{LineGives, TextGives}
+use Rattle.text_language.specs.Promised.Text.{text_limit}
+use Rattle.text_parser.specs.Behind.{IsOneLine}
+use Rattle.text_parser.specs.Queries.{FitsTables}
 use Rattle.workspace.specs.Stored.{declarations_code}
 use Rattle.workspace.specs.Tables.{with_question}
 use Rattle.workspace.specs.Views.{question_of}

@@ -2,9 +2,9 @@
 use Rattle.std.specs.Prelude.{◌≡◌, ℕ, true, false, List, [], slice_get}
 use Rattle.std.specs.Option.{option_map, option_map_or}
 use Rattle.type_terms.specs.Promised.Trees.{Trees}
-use Rattle.text_definitions.specs.Promised.Declarations.{Declarations, Check, of_later, of_supers, Question}
-use Rattle.text_definitions.specs.Names.{header_names, answer_values}
-use Rattle.text_definitions.specs.Output.{Answer, accepted, nonlocal, uncovered, overlap, compatible, breaking, held, missing, undecided, yes, maybe, unproved, no, unrefuted, type_text}
+use Rattle.text_language.specs.Promised.Declarations.{Declarations, Check, of_later, of_supers, Question}
+use Rattle.text_language.specs.Names.{header_names, answer_values}
+use Rattle.text_language.specs.Output.{Answer, accepted, nonlocal, uncovered, overlap, compatible, breaking, held, missing, undecided, yes, maybe, unproved, no, unrefuted, type_text}
 use Rattle.sessions.specs.OrphanErrors as errors
 use Rattle.sessions.specs.Promised.Promises.{IsProved, IsRefutation}
 use Rattle.sessions.specs.QuestionAnswers as answers

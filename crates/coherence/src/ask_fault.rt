@@ -4,7 +4,7 @@ ghost use Rattle.std.specs.Prelude.{◌≡◌};
 ghost use Rattle.coherence.specs.declared.ask_fault.AskFault.TheVariants.{Memory};
 
 use crate::status::RunFault;
-use name_resolution::FaultKind;
+use text_names::FaultKind;
 use std::alloc::AllocError;
 
 /// Why a line that is asked behind a text has no answer.

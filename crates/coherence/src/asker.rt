@@ -2,11 +2,11 @@
 
 ghost use Rattle.std.specs.Prelude.{◌≡◌, ◌<◌, ◌≤◌, ℕ, List, length, Ok, IfOk, IfErr, IfSome};
 ghost use Rattle.std.specs.Option.{option_map, option_and_then};
-ghost use Rattle.text_definitions.specs.Promised.Declarations.{known};
-ghost use Rattle.text_definitions.specs.Text.{TextGives};
-ghost use Rattle.text_reader.specs.Behind.{FitsBehind, behind};
-ghost use Rattle.text_reader.specs.Outcomes.{IsTextError};
-ghost use Rattle.text_reader.specs.Queries.{FitsTables};
+ghost use Rattle.text_language.specs.Promised.Declarations.{known};
+ghost use Rattle.text_language.specs.Text.{TextGives};
+ghost use Rattle.text_parser.specs.Behind.{FitsBehind, behind};
+ghost use Rattle.text_parser.specs.Outcomes.{IsTextError};
+ghost use Rattle.text_parser.specs.Queries.{FitsTables};
 ghost use Rattle.workspace.specs.Numbered.{IsNumbered, IsFew};
 ghost use Rattle.workspace.specs.Tables.{with_question, number_of_crate};
 ghost use Rattle.workspace.specs.Views.{asker_of, question_of};
@@ -23,7 +23,7 @@ use crate::status::RunFault;
 use sessions::{Limits, SeenView, Session};
 use std::alloc::Global;
 use std::marker::Model;
-use text_reader::{
+use text_parser::{
     QueryLine, TEXT_LIMIT, TextError, is_one_line, lines_behind_texts, parse, read_query,
     texts_are_few,
 };

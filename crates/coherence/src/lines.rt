@@ -2,11 +2,11 @@
 
 ghost use Rattle.std.specs.Prelude.{◌≡◌, ◌≢◌, ◌<◌, length, map, IfOk, IfErr, IfSome};
 ghost use Rattle.std.specs.Option.{option_map};
-ghost use Rattle.answer_lines.specs.Answers.{text_of};
+ghost use Rattle.text_printer.specs.Answers.{text_of};
 ghost use Rattle.type_terms.specs.Promised.Trees.{erase};
-ghost use Rattle.text_definitions.specs.Promised.Declarations.{Question, of_later, of_supers};
-ghost use Rattle.text_definitions.specs.Names as names;
-ghost use Rattle.text_definitions.specs.Output.{uncovered, yes, output_text};
+ghost use Rattle.text_language.specs.Promised.Declarations.{Question, of_later, of_supers};
+ghost use Rattle.text_language.specs.Names as names;
+ghost use Rattle.text_language.specs.Output.{uncovered, yes, output_text};
 ghost use Rattle.type_terms.specs.Promised.Handles.{arg_trees, ArgsHeld};
 ghost use Rattle.workspace.specs.Numbered.{IsNumbered, IsFew};
 ghost use Rattle.sessions.specs.ErrorTerms.{error_in, type_in};
@@ -23,7 +23,7 @@ ghost use Rattle.coherence.specs.Lines.{header_text, orphan_line, verdict_line};
 ghost use Rattle.coherence.specs.KeptLines.{NamesImpls, HasCheckLine, IsCheckLineOf, HasLine, IsLineOf};
 
 use crate::status::RunFault;
-use answer_lines::{Answer, HeaderNames, answer_values, print_line, print_type};
+use text_printer::{Answer, HeaderNames, answer_values, print_line, print_type};
 use sessions::{
     LaterAnswer, OrphanCheckErr, ProveAnswer, RefuteAnswer, Session, SupersAnswer,
     UncoveredTyParams, Verdict,

@@ -1,9 +1,9 @@
 //! The output for a text in memory, line by line.
 
 ghost use Rattle.std.specs.Prelude.{◌≡◌, ◌≢◌, ◌+◌, ◌-◌, ◌<◌, ℕ, true, false, None, Ok, length, IfOk, IfErr, IfSome, OnOk, OnErr};
-ghost use Rattle.name_resolution.specs.FaultNumbers.{fault_number};
-ghost use Rattle.text_definitions.specs.Output.{fault, output_text};
-ghost use Rattle.text_definitions.specs.Text.{TextGives};
+ghost use Rattle.text_names.specs.FaultNumbers.{fault_number};
+ghost use Rattle.text_language.specs.Output.{fault, output_text};
+ghost use Rattle.text_language.specs.Text.{TextGives};
 ghost use Rattle.workspace.specs.Numbered.{IsNumbered, IsFew};
 ghost use Rattle.sessions.specs.SeenViews.{IsLeftView};
 ghost use Rattle.sessions.specs.Promised.Subjects.{IsOfText, StaysOn};
@@ -19,11 +19,11 @@ use crate::groups::{Group, groups_by_crate};
 use crate::kept::{KeptLines, keep_answers, next_line, no_lines};
 use crate::lines::verdict_line;
 use crate::status::{RunFault, Status};
-use answer_lines::{Answer, print_line};
+use text_printer::{Answer, print_line};
 use sessions::{Limits, SeenView, Session};
 use std::alloc::{AllocError, Global};
 use std::marker::Model;
-use text_reader::{TextError, TextFault, parse};
+use text_parser::{TextError, TextFault, parse};
 use type_terms::{CrateId, Fault};
 use workspace::{ENTRY_LIMIT, Workspace};
 

@@ -12,7 +12,7 @@ use crate::streams::{READ_LIMIT, read_text, write_text};
 use sessions::Limits;
 use std::alloc::Global;
 use std::io::{Read, Write};
-use text_reader::first_bytes;
+use text_parser::first_bytes;
 
 /// Writes the output for a text.
 pub fn answer_text<W: Write>(

@@ -23,7 +23,7 @@ use Rattle.infer_table.proofs.LeafFacts.{same-handle}
 use Rattle.infer_table.specs.Responses.{ResponseHeld, answer_trees, SayTheSame}
 use Rattle.infer_table.proofs.PairFacts.{constraints-later}
 use Rattle.infer_table.proofs.Questions.{first-of-two, region-is}
-use Rattle.evaluation.proofs.SameResponses.{content-cong, response-eq as contents-equal}
+use Rattle.goal_evaluator.proofs.SameResponses.{content-cong, response-eq as contents-equal}
 use Rattle.type_terms.proofs.ListBasics.{next}
 use Rattle.type_terms.proofs.TermBasics.{tree-parts as node-parts}
 use Rattle.infer_table.proofs.TypeBasics.{answer-cong}

@@ -1,8 +1,8 @@
 -- Replies that came in order did so whatever the results are to be.
 use Rattle.std.proofs.Common.{List, [], ◌∷◌}
-use Rattle.evaluation.specs.Frame.{Frame}
-use Rattle.evaluation.specs.History.{Reply, begin, entered, ignored, evaluated, finished, Position, position, IsAwaitedReply, CameInOrder}
-use Rattle.evaluation.proofs.Histories.{step}
+use Rattle.goal_evaluator.specs.Frame.{Frame}
+use Rattle.goal_evaluator.specs.History.{Reply, begin, entered, ignored, evaluated, finished, Position, position, IsAwaitedReply, CameInOrder}
+use Rattle.goal_evaluator.proofs.Histories.{step}
 
 module _ {Q A : Type 0} (R : Q → A → Type 0) where
   abbrev Any : Q → A → Type 0

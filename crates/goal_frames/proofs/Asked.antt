@@ -5,10 +5,10 @@ use Rattle.type_terms.specs.Promised.Trees.{Trees, none, tree}
 use Rattle.type_terms.specs.Made.{terms, is_made}
 use Rattle.infer_table.specs.Canonical.{CanonicalForm}
 use Rattle.infer_table.specs.declared.canonical.CanonicalVarKind.{CanonicalVarKind}
-use Rattle.evaluation.specs.FrameTables.{kinds_known}
+use Rattle.goal_evaluator.specs.FrameTables.{kinds_known}
 use Rattle.type_terms.proofs.Made.{left, right}
 use Rattle.goal_frames.specs.Rules.{TraitBound, goal_of, BoundIsOver}
-use Rattle.evaluation.specs.Variables.{is_variable_over}
+use Rattle.goal_evaluator.specs.Variables.{is_variable_over}
 use Rattle.goal_frames.specs.Handlers.{BareGoal, with_first, all_known, bound_of, places_stand, is_asked, asked_with, bare_goal}
 use Rattle.goal_frames.proofs.KnownKinds.{all-known}
 

@@ -4,14 +4,14 @@ use Rattle.type_terms.specs.Promised.Label.{Label, of_type, of_const, of_lifetim
 use Rattle.type_terms.specs.Promised.Trees.{Trees, none, tree}
 use Rattle.type_terms.specs.Made.{Standing, is_made}
 use Rattle.infer_table.specs.declared.canonical.CanonicalVarKind.{CanonicalVarKind}
-use Rattle.evaluation.specs.Instances.{read_with, goal_read, put_in, of_sort, other_terms, term_at}
-use Rattle.evaluation.specs.Content.{given}
-use Rattle.evaluation.specs.FrameTables.{is_open_label}
+use Rattle.goal_evaluator.specs.Instances.{read_with, goal_read, put_in, of_sort, other_terms, term_at}
+use Rattle.goal_evaluator.specs.Content.{given}
+use Rattle.goal_evaluator.specs.FrameTables.{is_open_label}
 use Rattle.type_terms.proofs.Made.{false-true, is_ordinary}
-use Rattle.evaluation.proofs.Reading.{append-none, IsPutIn, read-put}
-use Rattle.evaluation.proofs.Labels.{IsLeafFor, PutsLeaves, made-put-in, made-more}
+use Rattle.goal_evaluator.proofs.Reading.{append-none, IsPutIn, read-put}
+use Rattle.goal_evaluator.proofs.Labels.{IsLeafFor, PutsLeaves, made-put-in, made-more}
 use Rattle.goal_frames.specs.Rules.{TraitBound, goal_of}
-use Rattle.evaluation.specs.Variables.{is_variable_over}
+use Rattle.goal_evaluator.specs.Variables.{is_variable_over}
 use Rattle.goal_frames.specs.Handlers.{moved, bound_behind}
 
 -- all but the first n

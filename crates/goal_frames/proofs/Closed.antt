@@ -9,16 +9,16 @@ use Rattle.infer_table.specs.Solutions.{HasValues}
 use Rattle.infer_table.specs.declared.canonical.CanonicalVarKind.{CanonicalVarKind}
 use Rattle.infer_table.specs.declared.canonical.CanonicalVarKind.TheVariants.{Ty, PlaceholderTy, Const, PlaceholderConst, Region}
 use Rattle.infer_table.proofs.SolutionLaws.{is_sort-equal as is-sort}
-use Rattle.evaluation.specs.Lists.{Every}
-use Rattle.evaluation.specs.Instances.{read_with, goal_read, of_sort, is_place, other_terms, term_at}
-use Rattle.evaluation.specs.Content.{Values, fits_kind, fits, given, fact_of}
+use Rattle.goal_evaluator.specs.Lists.{Every}
+use Rattle.goal_evaluator.specs.Instances.{read_with, goal_read, of_sort, is_place, other_terms, term_at}
+use Rattle.goal_evaluator.specs.Content.{Values, fits_kind, fits, given, fact_of}
 use Rattle.type_terms.proofs.Made.{false-true, left, right}
-use Rattle.evaluation.proofs.Questions.{sort-of-sort, place-is-a}
-use Rattle.evaluation.proofs.Unplaced.{IsNotPlace}
+use Rattle.goal_evaluator.proofs.Questions.{sort-of-sort, place-is-a}
+use Rattle.goal_evaluator.proofs.Unplaced.{IsNotPlace}
 use Rattle.goal_frames.specs.Rules.{HasNoPlace, IsClosedFact}
-use Rattle.evaluation.specs.Variables.{LabelStandsIn, is_variable_over}
+use Rattle.goal_evaluator.specs.Variables.{LabelStandsIn, is_variable_over}
 use Rattle.goal_frames.specs.Handlers.{BareGoal, is_variable_label, places_stand}
-use Rattle.evaluation.proofs.Readings.{HasLeaves, made-leaves}
+use Rattle.goal_evaluator.proofs.Readings.{HasLeaves, made-leaves}
 use Rattle.goal_frames.proofs.Asked.{IsAsked}
 use Rattle.type_terms.proofs.TermBasics.{is_sort-self as sort-self}
 

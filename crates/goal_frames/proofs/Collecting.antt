@@ -6,14 +6,14 @@ use Rattle.infer_table.specs.Content.{AllConstraintsHeld}
 use Rattle.infer_table.specs.declared.response.CanonicalResponse.{CanonicalResponse}
 use Rattle.infer_table.specs.Responses.{AnswerTrees, ResponseHeld, answer_trees}
 use Rattle.infer_table.proofs.Values.{cut-at}
-use Rattle.evaluation.specs.declared.candidate.Considered.{Considered}
-use Rattle.evaluation.specs.Candidate.{Next, answer}
-use Rattle.evaluation.specs.Lists.{Every}
-use Rattle.evaluation.specs.Readings.{ResultHeld, ConsideredHeld}
-use Rattle.evaluation.specs.Responses.{Content, content}
-use Rattle.evaluation.specs.Table.{workings}
-use Rattle.evaluation.specs.TableAnswers.{IsWellFormed}
-use Rattle.evaluation.specs.Tables.{frame_tables}
+use Rattle.goal_evaluator.specs.declared.candidate.Considered.{Considered}
+use Rattle.goal_evaluator.specs.Candidate.{Next, answer}
+use Rattle.goal_evaluator.specs.Lists.{Every}
+use Rattle.goal_evaluator.specs.Readings.{ResultHeld, ConsideredHeld}
+use Rattle.goal_evaluator.specs.Responses.{Content, content}
+use Rattle.goal_evaluator.specs.Table.{workings}
+use Rattle.goal_evaluator.specs.TableAnswers.{IsWellFormed}
+use Rattle.goal_evaluator.specs.Tables.{frame_tables}
 use Rattle.goal_frames.specs.Fitting.{ResultFits, ConsideredFits}
 use Rattle.goal_frames.specs.Merges.{with_response, responses_of}
 use Rattle.goal_frames.proofs.Responses.{content_trees}

@@ -7,23 +7,23 @@ use Rattle.infer_table.specs.Solutions.{resolved}
 use Rattle.infer_table.proofs.SolutionLaws.{resolved-none}
 use Rattle.infer_table.specs.declared.canonical.CanonicalVarKind.{CanonicalVarKind}
 use Rattle.infer_table.specs.declared.certainty.TypingMode.{TypingMode}
-use Rattle.evaluation.specs.Lists.{Every}
-use Rattle.evaluation.specs.Table.{workings}
-use Rattle.evaluation.specs.Candidate.{Spec}
-use Rattle.evaluation.specs.History.{evaluate, asks, CameInOrder}
-use Rattle.evaluation.specs.Promises.{frame_of_goal, Anything, History}
-use Rattle.evaluation.proofs.Kept.{AreSo, questions_so, made_kept}
-use Rattle.evaluation.proofs.ListLaws.{Every-mono, Every-map}
-use Rattle.evaluation.specs.Instances.{put_in}
-use Rattle.evaluation.specs.Content.{NestedQuestion}
-use Rattle.evaluation.specs.FrameTables.{kinds_known, good_in, FrameTable, IsMadeFrame, slot_at, goal_in, question}
+use Rattle.goal_evaluator.specs.Lists.{Every}
+use Rattle.goal_evaluator.specs.Table.{workings}
+use Rattle.goal_evaluator.specs.Candidate.{Spec}
+use Rattle.goal_evaluator.specs.History.{evaluate, asks, CameInOrder}
+use Rattle.goal_evaluator.specs.Promises.{frame_of_goal, Anything, History}
+use Rattle.goal_evaluator.proofs.Kept.{AreSo, questions_so, made_kept}
+use Rattle.goal_evaluator.proofs.ListLaws.{Every-mono, Every-map}
+use Rattle.goal_evaluator.specs.Instances.{put_in}
+use Rattle.goal_evaluator.specs.Content.{NestedQuestion}
+use Rattle.goal_evaluator.specs.FrameTables.{kinds_known, good_in, FrameTable, IsMadeFrame, slot_at, goal_in, question}
 use Rattle.type_terms.proofs.Made.{false-true}
-use Rattle.evaluation.proofs.Labels.{made-more}
-use Rattle.evaluation.proofs.Equating.{made-put, slots-of}
-use Rattle.evaluation.proofs.Resolved.{made-resolved}
-use Rattle.evaluation.proofs.TableBeginning.{begin-made}
-use Rattle.evaluation.specs.Tables.{frame_tables}
-use Rattle.evaluation.proofs.FrameTableLaws.{tables_are_lawful}
+use Rattle.goal_evaluator.proofs.Labels.{made-more}
+use Rattle.goal_evaluator.proofs.Equating.{made-put, slots-of}
+use Rattle.goal_evaluator.proofs.Resolved.{made-resolved}
+use Rattle.goal_evaluator.proofs.TableBeginning.{begin-made}
+use Rattle.goal_evaluator.specs.Tables.{frame_tables}
+use Rattle.goal_evaluator.proofs.FrameTableLaws.{tables_are_lawful}
 use Rattle.goal_frames.specs.Rules.{TraitBound, goal_of, Rule, RuleBook, BoundIsOver, IsRule, AreRules}
 use Rattle.goal_frames.specs.Handlers.{BareGoal, bare_goal, bound_behind, nested_of_bound, spec_of, candidates_of, handled_by, listing_of, same_answer, applies_always}
 use Rattle.goal_frames.specs.Forms.{is_unnumbered}

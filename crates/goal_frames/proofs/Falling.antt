@@ -5,24 +5,24 @@ use Rattle.std.proofs.lemmas.List.{length-drop, length-reverse}
 use Rattle.type_terms.specs.Promised.Handles.{Entry}
 use Rattle.infer_table.specs.Responses.{AnswerTrees}
 use Rattle.infer_table.specs.declared.input.CanonicalInput.{CanonicalInput}
-use Rattle.evaluation.specs.declared.candidate.CandidateSource.{CandidateSource}
-use Rattle.evaluation.specs.declared.candidate.CandidateSpec.{CandidateSpec}
-use Rattle.evaluation.specs.declared.resuming.OpenCandidate.{OpenCandidate}
-use Rattle.evaluation.specs.OpenCandidates.{questions_left}
-use Rattle.evaluation.specs.declared.candidate.Considered as Code
-use Rattle.evaluation.specs.declared.TheConstants.{FIXPOINT_STEP_LIMIT}
-use Rattle.evaluation.specs.Candidate.{Spec, Considered, Next, consider, answer, goes_on}
-use Rattle.evaluation.specs.Frame.{Frame, considers, answers, Finished}
-use Rattle.evaluation.specs.Handler.{Handled, IsHandler}
-use Rattle.evaluation.specs.History.{Reply, begin, entered, ignored, evaluated, finished, between, inside, told, position, IsAwaitedReply, CameInOrder}
-use Rattle.evaluation.specs.Promises.{frame_of_goal, Anything}
-use Rattle.evaluation.specs.Script.{Script, done, ask}
-use Rattle.evaluation.specs.Table.{workings}
-use Rattle.evaluation.proofs.ListLaws.{distinct-length}
-use Rattle.evaluation.proofs.OpenQuestions.{some-left}
-use Rattle.evaluation.specs.Content.{NestedQuestion}
-use Rattle.evaluation.specs.Tables.{frame_tables}
-use Rattle.evaluation.specs.StepReadings.{ShownCandidate, shown, shown_by, nested_read, spec_read, result_read}
+use Rattle.goal_evaluator.specs.declared.candidate.CandidateSource.{CandidateSource}
+use Rattle.goal_evaluator.specs.declared.candidate.CandidateSpec.{CandidateSpec}
+use Rattle.goal_evaluator.specs.declared.resuming.OpenCandidate.{OpenCandidate}
+use Rattle.goal_evaluator.specs.OpenCandidates.{questions_left}
+use Rattle.goal_evaluator.specs.declared.candidate.Considered as Code
+use Rattle.goal_evaluator.specs.declared.TheConstants.{FIXPOINT_STEP_LIMIT}
+use Rattle.goal_evaluator.specs.Candidate.{Spec, Considered, Next, consider, answer, goes_on}
+use Rattle.goal_evaluator.specs.Frame.{Frame, considers, answers, Finished}
+use Rattle.goal_evaluator.specs.Handler.{Handled, IsHandler}
+use Rattle.goal_evaluator.specs.History.{Reply, begin, entered, ignored, evaluated, finished, between, inside, told, position, IsAwaitedReply, CameInOrder}
+use Rattle.goal_evaluator.specs.Promises.{frame_of_goal, Anything}
+use Rattle.goal_evaluator.specs.Script.{Script, done, ask}
+use Rattle.goal_evaluator.specs.Table.{workings}
+use Rattle.goal_evaluator.proofs.ListLaws.{distinct-length}
+use Rattle.goal_evaluator.proofs.OpenQuestions.{some-left}
+use Rattle.goal_evaluator.specs.Content.{NestedQuestion}
+use Rattle.goal_evaluator.specs.Tables.{frame_tables}
+use Rattle.goal_evaluator.specs.StepReadings.{ShownCandidate, shown, shown_by, nested_read, spec_read, result_read}
 use Rattle.goal_frames.specs.Places.{Heard, FrameStanding, candidate_of, frame_with, Past, IsBetween, IsNextCandidate, with_result, IsFinishing, PositionStands}
 use Rattle.goal_frames.specs.Frames.{FrameHistory, HasCome, HasHeard}
 use Rattle.goal_frames.specs.Steps.{AsksFewer, most_questions, steps_after, steps_at, steps_left, StepsFall}

@@ -6,18 +6,18 @@ use Rattle.type_terms.specs.Made.{terms, is_made}
 use Rattle.infer_table.specs.declared.canonical.CanonicalVarKind.{CanonicalVarKind}
 use Rattle.infer_table.specs.declared.canonical.CanonicalVarKind.TheVariants.{Ty, PlaceholderTy, Const, PlaceholderConst, Region}
 use Rattle.infer_table.specs.Raw.{sort_of_kind}
-use Rattle.evaluation.specs.Lists.{Every}
-use Rattle.evaluation.proofs.ListLaws.{Every-mono}
-use Rattle.evaluation.specs.Instances.{of_sort, first_term, other_terms, term_at}
-use Rattle.evaluation.specs.Content.{Values, ChosenTerms}
-use Rattle.evaluation.specs.FrameTables.{kind_at, HaveValues, AllowsApart}
-use Rattle.evaluation.specs.TableOperations.{begin, fresh}
+use Rattle.goal_evaluator.specs.Lists.{Every}
+use Rattle.goal_evaluator.proofs.ListLaws.{Every-mono}
+use Rattle.goal_evaluator.specs.Instances.{of_sort, first_term, other_terms, term_at}
+use Rattle.goal_evaluator.specs.Content.{Values, ChosenTerms}
+use Rattle.goal_evaluator.specs.FrameTables.{kind_at, HaveValues, AllowsApart}
+use Rattle.goal_evaluator.specs.TableOperations.{begin, fresh}
 use Rattle.goal_frames.specs.Rules.{IsUnknown}
-use Rattle.evaluation.specs.Variables.{is_variable_over}
-use Rattle.evaluation.proofs.Readings.{AgreeIn}
+use Rattle.goal_evaluator.specs.Variables.{is_variable_over}
+use Rattle.goal_evaluator.proofs.Readings.{AgreeIn}
 use Rattle.goal_frames.proofs.Behind.{dropped, term-dropped}
-use Rattle.evaluation.proofs.Slots.{kind-of, own_slot, slot-is, of-sort-twice}
-use Rattle.evaluation.proofs.Unplaced.{IsNotPlace, filled_with, filled-with-allowed, whole, whole-allowed, whole-own, whole-values}
+use Rattle.goal_evaluator.proofs.Slots.{kind-of, own_slot, slot-is, of-sort-twice}
+use Rattle.goal_evaluator.proofs.Unplaced.{IsNotPlace, filled_with, filled-with-allowed, whole, whole-allowed, whole-own, whole-values}
 use Rattle.goal_frames.proofs.TypeBasics.{unknown-kind}
 
 -- ---- values one behind the other

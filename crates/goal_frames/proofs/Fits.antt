@@ -4,21 +4,21 @@ use Rattle.type_terms.specs.Promised.Label.{Label}
 use Rattle.infer_table.specs.declared.canonical.CanonicalVarKind.{CanonicalVarKind}
 use Rattle.infer_table.specs.declared.certainty.TypingMode.{TypingMode}
 use Rattle.infer_table.specs.Responses.{AnswerTrees}
-use Rattle.evaluation.specs.declared.TheConstants.{FIXPOINT_STEP_LIMIT}
-use Rattle.evaluation.specs.Candidate.{Spec, candidate}
-use Rattle.evaluation.specs.Replays.{Run, ready, run}
-use Rattle.evaluation.specs.Lists.{Every}
-use Rattle.evaluation.specs.Script.{Script, done, ask}
-use Rattle.evaluation.specs.Table.{workings}
-use Rattle.evaluation.proofs.Scripts.{Asks}
-use Rattle.evaluation.proofs.Kept.{AreSo, responds_so, made_kept}
-use Rattle.evaluation.specs.TableAnswers.{IsWellFormed}
-use Rattle.evaluation.specs.Content.{NestedQuestion}
-use Rattle.evaluation.specs.FrameTables.{FrameTable, IsMadeFrame, Nested}
-use Rattle.evaluation.proofs.WellFormed.{answers_well_formed}
-use Rattle.evaluation.specs.Tables.{frame_tables}
-use Rattle.evaluation.proofs.FrameTableLaws.{tables_are_lawful}
-use Rattle.evaluation.specs.RoundLaws.{AreOneAnswer}
+use Rattle.goal_evaluator.specs.declared.TheConstants.{FIXPOINT_STEP_LIMIT}
+use Rattle.goal_evaluator.specs.Candidate.{Spec, candidate}
+use Rattle.goal_evaluator.specs.Replays.{Run, ready, run}
+use Rattle.goal_evaluator.specs.Lists.{Every}
+use Rattle.goal_evaluator.specs.Script.{Script, done, ask}
+use Rattle.goal_evaluator.specs.Table.{workings}
+use Rattle.goal_evaluator.proofs.Scripts.{Asks}
+use Rattle.goal_evaluator.proofs.Kept.{AreSo, responds_so, made_kept}
+use Rattle.goal_evaluator.specs.TableAnswers.{IsWellFormed}
+use Rattle.goal_evaluator.specs.Content.{NestedQuestion}
+use Rattle.goal_evaluator.specs.FrameTables.{FrameTable, IsMadeFrame, Nested}
+use Rattle.goal_evaluator.proofs.WellFormed.{answers_well_formed}
+use Rattle.goal_evaluator.specs.Tables.{frame_tables}
+use Rattle.goal_evaluator.proofs.FrameTableLaws.{tables_are_lawful}
+use Rattle.goal_evaluator.specs.RoundLaws.{AreOneAnswer}
 
 pub one-answer : (mode : TypingMode) (coinductive : Bool) (kinds : List CanonicalVarKind) (ls : List Label) (p : NestedQuestion) (a : AnswerTrees) → IsWellFormed a → AreOneAnswer mode coinductive kinds ls p a a
 one-answer mode coinductive kinds ls p a f = record { is = refl; fits = f }

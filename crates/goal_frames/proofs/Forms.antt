@@ -10,17 +10,17 @@ use Rattle.type_terms.specs.Made.{Standing, terms, bounds, traits, is_leaf_label
 use Rattle.infer_table.specs.Canonical.{kind_of_leaf, StandsIn, relabeled, is_among, with_label, leaves, place_of, canonical_label}
 use Rattle.infer_table.specs.declared.canonical.CanonicalVarKind.{CanonicalVarKind}
 use Rattle.infer_table.proofs.CanonicalLaws.{leaves-hold}
-use Rattle.evaluation.specs.Lists.{Every}
-use Rattle.evaluation.specs.FrameTables.{kind_at}
-use Rattle.evaluation.specs.TableAnswers.{is_kind_of, with_kind, kinds_of}
+use Rattle.goal_evaluator.specs.Lists.{Every}
+use Rattle.goal_evaluator.specs.FrameTables.{kind_at}
+use Rattle.goal_evaluator.specs.TableAnswers.{is_kind_of, with_kind, kinds_of}
 use Rattle.type_terms.proofs.Made.{false-true, left, right, both, no-tree, is_ordinary, made-ordinary, makes-ordinary, IsLast, last-bound, last-trait, never-dynamic, never-dynamic-bound, never-principal}
-use Rattle.evaluation.proofs.Reading.{EachLabel}
-use Rattle.evaluation.proofs.Nodes.{every-leaf}
+use Rattle.goal_evaluator.proofs.Reading.{EachLabel}
+use Rattle.goal_evaluator.proofs.Nodes.{every-leaf}
 use Rattle.goal_frames.specs.Rules.{TraitBound}
-use Rattle.evaluation.specs.Variables.{is_variable_over}
+use Rattle.goal_evaluator.specs.Variables.{is_variable_over}
 use Rattle.goal_frames.specs.Handlers.{with_first, all_known, is_variable_label, places_stand, asked_with}
 use Rattle.goal_frames.specs.Forms.{is_unnumbered, CanonicalGoalsAreAsked}
-use Rattle.evaluation.proofs.FirstAnswers.{AreFresh, append-list, length-more, place-is}
+use Rattle.goal_evaluator.proofs.FirstAnswers.{AreFresh, append-list, length-more, place-is}
 use Rattle.type_terms.proofs.TermBasics.{is_sort-self as sort-self}
 use Rattle.type_terms.proofs.NumberBasics.{number-self}
 use Rattle.type_terms.proofs.BooleanBasics.{either-last as or-right}

@@ -5,20 +5,20 @@ use Rattle.infer_table.specs.declared.certainty.TypingMode.{TypingMode}
 use Rattle.infer_table.specs.declared.response.CanonicalResponse.{CanonicalResponse}
 use Rattle.infer_table.specs.Responses.{AnswerTrees, answer_trees}
 use Rattle.search_graph.specs.declared.delegate.Request.TheVariants as Requested
-use Rattle.evaluation.specs.declared.candidate.CandidateSpec.{CandidateSpec}
-use Rattle.evaluation.specs.declared.candidate.Considered as InCode
-use Rattle.evaluation.specs.declared.candidate.HandlerStep.{HandlerStep}
-use Rattle.evaluation.specs.declared.candidate.HandlerStep.TheVariants as Step
-use Rattle.evaluation.specs.declared.TheConstants.{FIXPOINT_STEP_LIMIT}
-use Rattle.evaluation.specs.Candidate.{Considered, Next, IsHistory, goes_on}
-use Rattle.evaluation.specs.Frame.{Frame}
-use Rattle.evaluation.specs.Handler.{Handled}
-use Rattle.evaluation.specs.History.{between, request}
-use Rattle.evaluation.specs.Readings.{ConsideredHeld}
-use Rattle.evaluation.specs.Table.{workings}
-use Rattle.evaluation.specs.Content.{NestedQuestion}
-use Rattle.evaluation.specs.Tables.{frame_tables}
-use Rattle.evaluation.specs.StepReadings.{ShownCandidate, Shows, shown_by, spec_read, next_read}
+use Rattle.goal_evaluator.specs.declared.candidate.CandidateSpec.{CandidateSpec}
+use Rattle.goal_evaluator.specs.declared.candidate.Considered as InCode
+use Rattle.goal_evaluator.specs.declared.candidate.HandlerStep.{HandlerStep}
+use Rattle.goal_evaluator.specs.declared.candidate.HandlerStep.TheVariants as Step
+use Rattle.goal_evaluator.specs.declared.TheConstants.{FIXPOINT_STEP_LIMIT}
+use Rattle.goal_evaluator.specs.Candidate.{Considered, Next, IsHistory, goes_on}
+use Rattle.goal_evaluator.specs.Frame.{Frame}
+use Rattle.goal_evaluator.specs.Handler.{Handled}
+use Rattle.goal_evaluator.specs.History.{between, request}
+use Rattle.goal_evaluator.specs.Readings.{ConsideredHeld}
+use Rattle.goal_evaluator.specs.Table.{workings}
+use Rattle.goal_evaluator.specs.Content.{NestedQuestion}
+use Rattle.goal_evaluator.specs.Tables.{frame_tables}
+use Rattle.goal_evaluator.specs.StepReadings.{ShownCandidate, Shows, shown_by, spec_read, next_read}
 use Rattle.goal_frames.specs.Places.{FrameStanding, IsBetween, IsEntering, IsIgnoring, frame_with}
 use Rattle.goal_frames.specs.Frames.{IsRequestOf}
 use Rattle.goal_frames.proofs.Later.{shown-later}

@@ -3,12 +3,12 @@ use Rattle.std.proofs.Common.{◌≡◌, Bool, true, false, List, [], ◌∷◌,
 use Rattle.search_graph.specs.declared.path_kind.PathKind.{PathKind}
 use Rattle.search_graph.specs.Path.{is_coinductive}
 use Rattle.search_graph.specs.Proof as Searched
-use Rattle.evaluation.specs.Lists.{IsAmong}
-use Rattle.evaluation.specs.Table.{Tables}
-use Rattle.evaluation.specs.Law.{IsInstance}
-use Rattle.evaluation.specs.Proof.{GoalDerivation, end, again, by_rule, HasGraph}
-use Rattle.evaluation.proofs.ListLaws.{Every-mono}
-use Rattle.evaluation.proofs.Unfold.{Instances, IsInstanceOf, FollowsFromQuestions, graph_unfolds}
+use Rattle.goal_evaluator.specs.Lists.{IsAmong}
+use Rattle.goal_evaluator.specs.Table.{Tables}
+use Rattle.goal_evaluator.specs.Law.{IsInstance}
+use Rattle.goal_evaluator.specs.Proof.{GoalDerivation, end, again, by_rule, HasGraph}
+use Rattle.goal_evaluator.proofs.ListLaws.{Every-mono}
+use Rattle.goal_evaluator.proofs.Unfold.{Instances, IsInstanceOf, FollowsFromQuestions, graph_unfolds}
 use Rattle.goal_frames.specs.Programs.{Programs, ArePrograms}
 use Rattle.goal_frames.specs.Searches.{step_kind, kind_of, GoalInMode, goal_in, FollowsInMode}
 use Rattle.goal_frames.specs.Graphs.{GraphsGiveProofLists}

@@ -9,15 +9,15 @@ use Rattle.infer_table.specs.declared.certainty.MaybeCause.TheVariants.{Overflow
 use Rattle.infer_table.specs.declared.certainty.TypingMode.{TypingMode}
 use Rattle.infer_table.specs.declared.certainty.TypingMode.TheVariants.{Coherence, PostAnalysis}
 use Rattle.infer_table.specs.Responses.{AnswerTrees}
-use Rattle.evaluation.specs.Law.{IsYes}
-use Rattle.evaluation.specs.TableAnswers.{respond, has_values}
-use Rattle.evaluation.specs.Widths.{TableWithin}
-use Rattle.evaluation.specs.TableOperations.{begin}
-use Rattle.evaluation.proofs.Finite.{made-of-closed}
-use Rattle.evaluation.proofs.WidthLaws.{respond_within}
-use Rattle.evaluation.specs.Tables.{frame_tables}
+use Rattle.goal_evaluator.specs.Law.{IsYes}
+use Rattle.goal_evaluator.specs.TableAnswers.{respond, has_values}
+use Rattle.goal_evaluator.specs.Widths.{TableWithin}
+use Rattle.goal_evaluator.specs.TableOperations.{begin}
+use Rattle.goal_evaluator.proofs.Finite.{made-of-closed}
+use Rattle.goal_evaluator.proofs.WidthLaws.{respond_within}
+use Rattle.goal_evaluator.specs.Tables.{frame_tables}
 use Rattle.goal_frames.specs.Programs.{SaysNothing}
-use Rattle.evaluation.specs.FrameTables.{kinds_known}
+use Rattle.goal_evaluator.specs.FrameTables.{kinds_known}
 use Rattle.goal_frames.specs.Meanings.{Goals}
 use Rattle.goal_frames.specs.HandlerPrograms.{silent, overflow_answer, cycle_answer, programs_of, HandlersArePrograms, AreLawfulGoals}
 

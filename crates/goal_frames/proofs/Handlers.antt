@@ -11,39 +11,39 @@ use Rattle.infer_table.specs.declared.canonical.CanonicalVarKind.TheVariants.{Ty
 use Rattle.infer_table.specs.declared.certainty.Certainty.TheVariants.{Yes}
 use Rattle.infer_table.specs.declared.certainty.TypingMode.{TypingMode}
 use Rattle.infer_table.specs.declared.certainty.TypingMode.TheVariants.{Coherence, PostAnalysis}
-use Rattle.evaluation.specs.Lists.{Every, SomeOf, IsAmong}
-use Rattle.evaluation.specs.Table.{workings}
-use Rattle.evaluation.specs.Candidate.{Spec}
-use Rattle.evaluation.specs.Law.{NestedIsSolved, Realizes}
-use Rattle.evaluation.specs.Handler.{CandidateIsLawful, IsHandler}
-use Rattle.evaluation.proofs.ListLaws.{Every-both, Every-map, SomeOf-both, among-all, not-true}
-use Rattle.evaluation.proofs.LastRules.{last_rule}
-use Rattle.evaluation.specs.Instances.{read_with, goal_read}
-use Rattle.evaluation.specs.Content.{Values, fits, given, trait_of, Fact, fact_of, ChosenTerms}
-use Rattle.evaluation.specs.FrameTables.{kinds_known, Nested, fact, EquationIsMet}
-use Rattle.evaluation.specs.Widths.{width_of_predicates}
+use Rattle.goal_evaluator.specs.Lists.{Every, SomeOf, IsAmong}
+use Rattle.goal_evaluator.specs.Table.{workings}
+use Rattle.goal_evaluator.specs.Candidate.{Spec}
+use Rattle.goal_evaluator.specs.Law.{NestedIsSolved, Realizes}
+use Rattle.goal_evaluator.specs.Handler.{CandidateIsLawful, IsHandler}
+use Rattle.goal_evaluator.proofs.ListLaws.{Every-both, Every-map, SomeOf-both, among-all, not-true}
+use Rattle.goal_evaluator.proofs.LastRules.{last_rule}
+use Rattle.goal_evaluator.specs.Instances.{read_with, goal_read}
+use Rattle.goal_evaluator.specs.Content.{Values, fits, given, trait_of, Fact, fact_of, ChosenTerms}
+use Rattle.goal_evaluator.specs.FrameTables.{kinds_known, Nested, fact, EquationIsMet}
+use Rattle.goal_evaluator.specs.Widths.{width_of_predicates}
 use Rattle.type_terms.proofs.Made.{false-true, right}
-use Rattle.evaluation.proofs.OperationLaws.{begins-free, begins-within}
-use Rattle.evaluation.specs.TableOperations.{begin, fresh}
-use Rattle.evaluation.specs.Tables.{frame_tables}
-use Rattle.evaluation.proofs.FrameTableLaws.{tables_are_lawful}
+use Rattle.goal_evaluator.proofs.OperationLaws.{begins-free, begins-within}
+use Rattle.goal_evaluator.specs.TableOperations.{begin, fresh}
+use Rattle.goal_evaluator.specs.Tables.{frame_tables}
+use Rattle.goal_evaluator.proofs.FrameTableLaws.{tables_are_lawful}
 use Rattle.goal_frames.specs.Listings.{listed, IsListing}
 use Rattle.goal_frames.specs.Rules.{TraitBound, goal_of, Rule, RuleBook, BoundIsOver, IsRule, AreRules, instance_of, IsBy, IsClosedFact, is_coinductive_trait, is_coinductive, FollowsClosed, HasProofByBook}
 use Rattle.goal_frames.specs.Handlers.{BareGoal, bare_goal, bound_behind, as_one, nested_of_bound, spec_of, specs_for, unsure, number_of_rules, same_answer, applies_always, has_placeholder, world_of, widest_of, listing_of, handled_by}
 use Rattle.goal_frames.proofs.Listings.{listings-are-lawful}
-use Rattle.evaluation.proofs.Readings.{reads-agree}
+use Rattle.goal_evaluator.proofs.Readings.{reads-agree}
 use Rattle.goal_frames.proofs.Behind.{dropped, read-behind, made-behind, made-open}
 use Rattle.goal_frames.proofs.Asked.{IsAsked, asked-is, kinds-are}
-use Rattle.evaluation.proofs.Slots.{own-slots-agree}
+use Rattle.goal_evaluator.proofs.Slots.{own-slots-agree}
 use Rattle.goal_frames.proofs.Sound.{term-one, fact-behind, sound, determined}
 use Rattle.goal_frames.proofs.Widths.{width-behind, rule-within, premises-behind, few}
-use Rattle.evaluation.proofs.FirstAnswers.{begin-says-nothing}
+use Rattle.goal_evaluator.proofs.FirstAnswers.{begin-says-nothing}
 use Rattle.goal_frames.proofs.Same.{answers-are, applies-to-yeses}
 use Rattle.goal_frames.proofs.Closed.{closed-kinds}
-use Rattle.evaluation.proofs.Unplaced.{IsNotPlace}
+use Rattle.goal_evaluator.proofs.Unplaced.{IsNotPlace}
 use Rattle.goal_frames.proofs.Filled.{filled, filled-allowed, filled-agrees}
 use Rattle.type_terms.proofs.TermBasics.{predicate-parts}
-use Rattle.evaluation.proofs.Basics.{unmap as from-map}
+use Rattle.goal_evaluator.proofs.Basics.{unmap as from-map}
 
 -- ---- the candidates are the rules
 module _ (kind : Bool) (a : BareGoal) where

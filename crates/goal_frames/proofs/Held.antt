@@ -3,11 +3,11 @@ use Rattle.std.proofs.Common.{List}
 use Rattle.type_terms.specs.Promised.Handles.{Entry, Keeps}
 use Rattle.infer_table.specs.declared.input.CanonicalInput.{CanonicalInput}
 use Rattle.infer_table.proofs.Numbers.{goal-held-later}
-use Rattle.evaluation.proofs.Contexts.{reply-later}
-use Rattle.evaluation.proofs.OpenCandidates.{open-held-later}
-use Rattle.evaluation.specs.Handler.{Handled}
-use Rattle.evaluation.specs.Tables.{frame_tables}
-use Rattle.evaluation.specs.StepReadings.{ShownCandidate}
+use Rattle.goal_evaluator.proofs.Contexts.{reply-later}
+use Rattle.goal_evaluator.proofs.OpenCandidates.{open-held-later}
+use Rattle.goal_evaluator.specs.Handler.{Handled}
+use Rattle.goal_evaluator.specs.Tables.{frame_tables}
+use Rattle.goal_evaluator.specs.StepReadings.{ShownCandidate}
 use Rattle.goal_frames.specs.Places.{FrameStanding, PlaceAnswers, PositionStands}
 use Rattle.goal_frames.specs.Frames.{PlaceHeld, FrameHeld}
 use Rattle.goal_frames.specs.declared.frame.GoalFrame.{GoalFrame}

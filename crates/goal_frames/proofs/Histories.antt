@@ -8,13 +8,13 @@ use Rattle.search_graph.specs.declared.delegate.Request.TheVariants.{Evaluate, I
 use Rattle.search_graph.specs.declared.delegate.Reply.{Reply}
 use Rattle.search_graph.specs.declared.delegate.Reply.TheVariants.{Begin, Result, Entered, Finished, Ignored}
 use Rattle.search_graph.specs.Meaning.{Meaning, finished, ignoring, IsReplyTo, IsReplyBy, AreReplies, premise_of, premises_back, premises, answer_count, is_open, IsInOrder}
-use Rattle.evaluation.specs.Lists.{SomeOf, IsAmong, IsNoneOf}
-use Rattle.evaluation.specs.Script.{Script, done, ask}
-use Rattle.evaluation.specs.Frame as Scripts
-use Rattle.evaluation.specs.Frame.{considers, answers, numbers}
-use Rattle.evaluation.specs.History as Frames
-use Rattle.evaluation.specs.History.{Position, between, inside, request, told, position, CameInOrder, finished_at, ignored_at, results, others}
-use Rattle.evaluation.proofs.ListLaws.{SomeOf-mono}
+use Rattle.goal_evaluator.specs.Lists.{SomeOf, IsAmong, IsNoneOf}
+use Rattle.goal_evaluator.specs.Script.{Script, done, ask}
+use Rattle.goal_evaluator.specs.Frame as Scripts
+use Rattle.goal_evaluator.specs.Frame.{considers, answers, numbers}
+use Rattle.goal_evaluator.specs.History as Frames
+use Rattle.goal_evaluator.specs.History.{Position, between, inside, request, told, position, CameInOrder, finished_at, ignored_at, results, others}
+use Rattle.goal_evaluator.proofs.ListLaws.{SomeOf-mono}
 use Rattle.goal_frames.specs.Searches.{reply_of, replies_of, request_of}
 use Rattle.type_terms.proofs.ListBasics.{pushed-length as length-last}
 

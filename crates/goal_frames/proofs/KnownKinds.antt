@@ -1,10 +1,10 @@
 -- The kinds of a canonical goal's variables are all known.
 use Rattle.std.proofs.Common.{◌≡◌, List, [], ◌∷◌, map, refl, ◌∙◌, ap, Some}
 use Rattle.infer_table.specs.declared.canonical.CanonicalVarKind.{CanonicalVarKind}
-use Rattle.evaluation.specs.Handler.{Handled}
-use Rattle.evaluation.specs.TableOperations.{begin}
-use Rattle.evaluation.specs.Tables.{frame_tables}
-use Rattle.evaluation.specs.FrameTables.{kinds_known}
+use Rattle.goal_evaluator.specs.Handler.{Handled}
+use Rattle.goal_evaluator.specs.TableOperations.{begin}
+use Rattle.goal_evaluator.specs.Tables.{frame_tables}
+use Rattle.goal_evaluator.specs.FrameTables.{kinds_known}
 
 pub all-known : (ks : List CanonicalVarKind) → kinds_known (map Some ks) ≡ ks
 all-known [] = refl

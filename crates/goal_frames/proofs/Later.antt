@@ -16,23 +16,23 @@ use Rattle.infer_table.proofs.Numbers.{goal-trees-later}
 use Rattle.infer_table.specs.Responses.{AnswerTrees}
 use Rattle.infer_table.proofs.ConstraintLists.{constraints-later}
 use Rattle.infer_table.proofs.Values.{value-later}
-use Rattle.evaluation.proofs.Contexts.{reply-later}
-use Rattle.evaluation.proofs.LaterTrees.{answer-trees-later}
-use Rattle.evaluation.specs.declared.candidate.CandidateSource.{CandidateSource}
-use Rattle.evaluation.specs.declared.candidate.CandidateSpec.{CandidateSpec}
-use Rattle.evaluation.specs.declared.candidate.Considered as InCode
-use Rattle.evaluation.specs.declared.goal.GoalSource.{GoalSource}
-use Rattle.evaluation.specs.Candidate.{Spec}
-use Rattle.evaluation.specs.Lists.{Every}
-use Rattle.evaluation.specs.Readings.{ResultHeld, ConsideredHeld, EquationHeld, SpecHeld, is_coinductive_step}
-use Rattle.evaluation.specs.Table.{workings}
-use Rattle.evaluation.specs.TableAnswers.{IsWellFormed}
-use Rattle.evaluation.specs.FrameTables.{Nested, Equation}
-use Rattle.evaluation.proofs.Later.{equations-held-later, goals-held-later}
-use Rattle.evaluation.specs.Tables.{frame_tables}
-use Rattle.evaluation.specs.Fitting.{AreOver, IsGoalOver, IsValueOver}
-use Rattle.evaluation.specs.Candidates.{labels_of}
-use Rattle.evaluation.specs.StepReadings.{equation_read, nested_read, spec_read, result_read, ShownCandidate, shown_by}
+use Rattle.goal_evaluator.proofs.Contexts.{reply-later}
+use Rattle.goal_evaluator.proofs.LaterTrees.{answer-trees-later}
+use Rattle.goal_evaluator.specs.declared.candidate.CandidateSource.{CandidateSource}
+use Rattle.goal_evaluator.specs.declared.candidate.CandidateSpec.{CandidateSpec}
+use Rattle.goal_evaluator.specs.declared.candidate.Considered as InCode
+use Rattle.goal_evaluator.specs.declared.goal.GoalSource.{GoalSource}
+use Rattle.goal_evaluator.specs.Candidate.{Spec}
+use Rattle.goal_evaluator.specs.Lists.{Every}
+use Rattle.goal_evaluator.specs.Readings.{ResultHeld, ConsideredHeld, EquationHeld, SpecHeld, is_coinductive_step}
+use Rattle.goal_evaluator.specs.Table.{workings}
+use Rattle.goal_evaluator.specs.TableAnswers.{IsWellFormed}
+use Rattle.goal_evaluator.specs.FrameTables.{Nested, Equation}
+use Rattle.goal_evaluator.proofs.Later.{equations-held-later, goals-held-later}
+use Rattle.goal_evaluator.specs.Tables.{frame_tables}
+use Rattle.goal_evaluator.specs.Fitting.{AreOver, IsGoalOver, IsValueOver}
+use Rattle.goal_evaluator.specs.Candidates.{labels_of}
+use Rattle.goal_evaluator.specs.StepReadings.{equation_read, nested_read, spec_read, result_read, ShownCandidate, shown_by}
 use Rattle.goal_frames.specs.Fitting.{ResultFits, ConsideredFits, IsEquationOver, IsOver}
 use Rattle.type_terms.proofs.ListBasics.{one-more}
 

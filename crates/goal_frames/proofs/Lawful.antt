@@ -6,17 +6,17 @@ use Rattle.search_graph.specs.declared.delegate.Request.TheVariants.{Evaluate, E
 use Rattle.search_graph.specs.declared.delegate.Reply.{Reply}
 use Rattle.search_graph.specs.declared.delegate.Reply.TheVariants.{Begin}
 use Rattle.search_graph.specs.Meaning.{Meaning, IsReplyBy, AreReplies, premises, answer_count, IsFair, IsLawful}
-use Rattle.evaluation.specs.declared.TheConstants.{FIXPOINT_STEP_LIMIT}
-use Rattle.evaluation.specs.Lists.{SomeOf, IsAmong, IsNoneOf}
-use Rattle.evaluation.specs.Table.{Tables, IsTable}
-use Rattle.evaluation.specs.Law.{IsYes, AnsweredYes, Counts, IsInstance, AnswerCovers}
-use Rattle.evaluation.specs.Handler.{Handled, AnswerWithin}
-use Rattle.evaluation.specs.Frame.{Frame, Finished}
-use Rattle.evaluation.specs.History as Frames
-use Rattle.evaluation.specs.History.{CameInOrder, finished_in, ignored_in}
-use Rattle.evaluation.specs.Promises.{frame_of_goal, Anything, Fair}
-use Rattle.evaluation.proofs.ListLaws.{Every-mono, SomeOf-mono}
-use Rattle.evaluation.proofs.Ends.{is_bounded, yes_follows, covers_goal, keeps_number}
+use Rattle.goal_evaluator.specs.declared.TheConstants.{FIXPOINT_STEP_LIMIT}
+use Rattle.goal_evaluator.specs.Lists.{SomeOf, IsAmong, IsNoneOf}
+use Rattle.goal_evaluator.specs.Table.{Tables, IsTable}
+use Rattle.goal_evaluator.specs.Law.{IsYes, AnsweredYes, Counts, IsInstance, AnswerCovers}
+use Rattle.goal_evaluator.specs.Handler.{Handled, AnswerWithin}
+use Rattle.goal_evaluator.specs.Frame.{Frame, Finished}
+use Rattle.goal_evaluator.specs.History as Frames
+use Rattle.goal_evaluator.specs.History.{CameInOrder, finished_in, ignored_in}
+use Rattle.goal_evaluator.specs.Promises.{frame_of_goal, Anything, Fair}
+use Rattle.goal_evaluator.proofs.ListLaws.{Every-mono, SomeOf-mono}
+use Rattle.goal_evaluator.proofs.Ends.{is_bounded, yes_follows, covers_goal, keeps_number}
 use Rattle.goal_frames.specs.Programs.{Programs, SaysNothing, ArePrograms}
 use Rattle.goal_frames.specs.Searches.{replies_of, request_of, Handles, kind_of, is_yes_answer, GoalInMode, goal_in, asks, FollowsInMode, CoversGoal, AnswersGoal, meaning}
 use Rattle.goal_frames.proofs.Anyhow.{anyhow}

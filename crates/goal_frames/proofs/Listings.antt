@@ -1,15 +1,15 @@
 -- A lawful list of candidates is a lawful plan.
 use Rattle.std.proofs.Common.{◌≡◌, ℕ, ◌+◌, arith, Bool, List, [], ◌∷◌, length, ap, subst, Option}
 use Rattle.std.specs.List.{slice_get}
-use Rattle.evaluation.specs.Lists.{Every}
-use Rattle.evaluation.specs.Table.{Tables, IsTable, workings}
-use Rattle.evaluation.specs.Candidate.{Spec, Considered, Next, consider, answer}
-use Rattle.evaluation.specs.Handler.{IsHandler}
-use Rattle.evaluation.specs.Merge.{responses, TellsResponsesApart, IsTest}
-use Rattle.evaluation.specs.Plans.{Plan, considers, answers, told, after, wanted, came, each_of}
-use Rattle.evaluation.specs.PlanAnswers.{all_merged}
-use Rattle.evaluation.proofs.Plans.{plan_is_lawful}
-use Rattle.evaluation.proofs.PlanAnswers.{list_keeps}
+use Rattle.goal_evaluator.specs.Lists.{Every}
+use Rattle.goal_evaluator.specs.Table.{Tables, IsTable, workings}
+use Rattle.goal_evaluator.specs.Candidate.{Spec, Considered, Next, consider, answer}
+use Rattle.goal_evaluator.specs.Handler.{IsHandler}
+use Rattle.goal_evaluator.specs.Merge.{responses, TellsResponsesApart, IsTest}
+use Rattle.goal_evaluator.specs.Plans.{Plan, considers, answers, told, after, wanted, came, each_of}
+use Rattle.goal_evaluator.specs.PlanAnswers.{all_merged}
+use Rattle.goal_evaluator.proofs.Plans.{plan_is_lawful}
+use Rattle.goal_evaluator.proofs.PlanAnswers.{list_keeps}
 use Rattle.goal_frames.specs.Listings.{Listing, plan_of, as_plan, listed, IsListing}
 
 pub listings-are-lawful : {Question Response : Type 0} (t : Tables Question Response) (applicable : Response → Bool) (same : Response → Response → Bool) → IsTable t → IsTest t applicable → TellsResponsesApart same

@@ -17,25 +17,25 @@ use Rattle.infer_table.specs.contracts.response.CanonicalResponsePartialEq.TheIm
 use Rattle.infer_table.specs.Values.{value_of, values_of}
 use Rattle.infer_table.specs.Raw.{variables_from}
 use Rattle.infer_table.specs.Responses.{AnswerTrees, ResponseHeld, answer_trees}
-use Rattle.evaluation.specs.declared.merge.MergeCandidateInfo.{MergeCandidateInfo}
-use Rattle.evaluation.specs.Lists.{Every}
-use Rattle.evaluation.specs.Merge.{or_else, common, merge_by, flounder}
-use Rattle.evaluation.specs.Responses.{Content, content, are_variables, is_always_applicable}
-use Rattle.evaluation.specs.TableAnswers.{is_variable_itself, is_fitting, IsWellFormed, respond}
-use Rattle.evaluation.specs.TableOperations.{begin}
-use Rattle.evaluation.proofs.TableBeginning.{begin-made}
-use Rattle.evaluation.proofs.WellFormed.{answers_well_formed}
-use Rattle.evaluation.specs.Tables.{frame_tables}
-use Rattle.evaluation.proofs.Filling.{itself-root}
+use Rattle.goal_evaluator.specs.declared.merge.MergeCandidateInfo.{MergeCandidateInfo}
+use Rattle.goal_evaluator.specs.Lists.{Every}
+use Rattle.goal_evaluator.specs.Merge.{or_else, common, merge_by, flounder}
+use Rattle.goal_evaluator.specs.Responses.{Content, content, are_variables, is_always_applicable}
+use Rattle.goal_evaluator.specs.TableAnswers.{is_variable_itself, is_fitting, IsWellFormed, respond}
+use Rattle.goal_evaluator.specs.TableOperations.{begin}
+use Rattle.goal_evaluator.proofs.TableBeginning.{begin-made}
+use Rattle.goal_evaluator.proofs.WellFormed.{answers_well_formed}
+use Rattle.goal_evaluator.specs.Tables.{frame_tables}
+use Rattle.goal_evaluator.proofs.Filling.{itself-root}
 use Rattle.goal_frames.specs.Handlers.{same_answer, are_own_variables, applies_always}
-use Rattle.evaluation.specs.StepReadings.{result_read}
+use Rattle.goal_evaluator.specs.StepReadings.{result_read}
 use Rattle.goal_frames.specs.Merges.{merge_of}
 use Rattle.goal_frames.proofs.Responses.{content_trees, equal-is}
 use Rattle.goal_frames.proofs.Silences.{silent-is}
 use Rattle.type_terms.proofs.NumberBasics.{some-length}
-use Rattle.evaluation.proofs.ListLaws.{Every-map as every-map}
+use Rattle.goal_evaluator.proofs.ListLaws.{Every-map as every-map}
 use Rattle.infer_table.proofs.TypeBasics.{answer-cong}
-use Rattle.evaluation.proofs.TypeBasics.{map-else as else-map}
+use Rattle.goal_evaluator.proofs.TypeBasics.{map-else as else-map}
 
 abbrev pub Trees_fit : List Entry → CanonicalResponse → Type 0
 Trees_fit es r = IsWellFormed (answer_trees es r)

@@ -2,21 +2,21 @@
 use Rattle.std.proofs.Common.{◌≡◌, ℕ, zero, suc, ◌+◌, ◌<◌, List, [], ◌∷◌, ◌++◌, length, map, drop, refl, sym, ◌∙◌, ap, subst, Option, arith}
 use Rattle.std.proofs.lemmas.List.{reverse-append}
 use Rattle.infer_table.specs.Responses.{AnswerTrees}
-use Rattle.evaluation.specs.declared.candidate.CandidateSource.{CandidateSource}
-use Rattle.evaluation.specs.Candidate.{Spec, Considered}
-use Rattle.evaluation.specs.Frame.{Frame, answers}
-use Rattle.evaluation.specs.Handler.{Handled, IsHandler}
-use Rattle.evaluation.specs.History.{Reply, begin, entered, ignored, evaluated, finished, between, inside, told, position, IsAwaitedReply}
-use Rattle.evaluation.specs.Lists.{IsNoneOf}
-use Rattle.evaluation.specs.Promises.{frame_of_goal, Anything}
-use Rattle.evaluation.specs.Script.{Script, done, ask}
-use Rattle.evaluation.specs.Table.{workings}
-use Rattle.evaluation.specs.Content.{NestedQuestion}
-use Rattle.evaluation.specs.Tables.{frame_tables}
-use Rattle.evaluation.specs.StepReadings.{ShownCandidate, shown}
-use Rattle.evaluation.specs.Replayed.{after}
+use Rattle.goal_evaluator.specs.declared.candidate.CandidateSource.{CandidateSource}
+use Rattle.goal_evaluator.specs.Candidate.{Spec, Considered}
+use Rattle.goal_evaluator.specs.Frame.{Frame, answers}
+use Rattle.goal_evaluator.specs.Handler.{Handled, IsHandler}
+use Rattle.goal_evaluator.specs.History.{Reply, begin, entered, ignored, evaluated, finished, between, inside, told, position, IsAwaitedReply}
+use Rattle.goal_evaluator.specs.Lists.{IsNoneOf}
+use Rattle.goal_evaluator.specs.Promises.{frame_of_goal, Anything}
+use Rattle.goal_evaluator.specs.Script.{Script, done, ask}
+use Rattle.goal_evaluator.specs.Table.{workings}
+use Rattle.goal_evaluator.specs.Content.{NestedQuestion}
+use Rattle.goal_evaluator.specs.Tables.{frame_tables}
+use Rattle.goal_evaluator.specs.StepReadings.{ShownCandidate, shown}
+use Rattle.goal_evaluator.specs.Replayed.{after}
 use Rattle.goal_frames.specs.Places.{Heard, FrameStanding, answers_in, candidate_of, frame_with, IsBetween, with_result, IsEntering, IsInside, IsFinishing, IsIgnoring}
-use Rattle.evaluation.proofs.Basics.{after-none}
+use Rattle.goal_evaluator.proofs.Basics.{after-none}
 
 -- ---- scripts after answers
 -- the script after one more answer

@@ -11,31 +11,31 @@ use Rattle.infer_table.specs.Responses.{AnswerTrees, answer_trees}
 use Rattle.search_graph.specs.declared.path_kind.PathKind.{PathKind}
 use Rattle.search_graph.specs.declared.delegate.Request.{Request}
 use Rattle.search_graph.specs.declared.delegate.Request.TheVariants.{Evaluate, FinishCandidate}
-use Rattle.evaluation.specs.declared.candidate.CandidateSource.{CandidateSource}
-use Rattle.evaluation.specs.declared.candidate.CandidateSpec.{CandidateSpec}
-use Rattle.evaluation.specs.declared.error.EvalError.{EvalError}
-use Rattle.evaluation.specs.declared.error.EvalError.TheVariants as Eval
-use Rattle.evaluation.specs.declared.error.EvalError.TheVariants.{NoSolution}
-use Rattle.evaluation.specs.declared.goal.GoalSource.{GoalSource}
-use Rattle.evaluation.specs.declared.resuming.CandidateStep.{CandidateStep}
-use Rattle.evaluation.specs.declared.resuming.CandidateStep.TheVariants.{Ready, Ask}
-use Rattle.evaluation.specs.declared.resuming.OpenCandidate.{OpenCandidate}
-use Rattle.evaluation.specs.Evaluating.{question_of}
-use Rattle.evaluation.specs.Frames.{begun}
-use Rattle.evaluation.specs.Handler.{Handled}
-use Rattle.evaluation.specs.declared.TheConstants.{FIXPOINT_STEP_LIMIT}
-use Rattle.evaluation.specs.History.{Reply, position, CameInOrder}
-use Rattle.evaluation.specs.Lists.{Every}
-use Rattle.evaluation.specs.OpenCandidates.{CandidateHeld, StandsAt, after_reply, questions_left, AsksAtMost}
-use Rattle.evaluation.specs.Promises.{frame_of_goal, Anything}
-use Rattle.evaluation.specs.Readings.{is_coinductive_step}
-use Rattle.evaluation.specs.Shortages.{EvalFullAtLimit}
-use Rattle.evaluation.specs.StepReadings.{ShownCandidate, shown_by, spec_read}
-use Rattle.evaluation.specs.TableOperations.{begin}
-use Rattle.evaluation.specs.Tables.{frame_tables}
-use Rattle.evaluation.specs.Trial.{spec_trees, candidate}
-use Rattle.evaluation.proofs.OpenBeginnings.{beginning-replays, resuming-replays}
-use Rattle.evaluation.proofs.OpenQuestions.{some-left}
+use Rattle.goal_evaluator.specs.declared.candidate.CandidateSource.{CandidateSource}
+use Rattle.goal_evaluator.specs.declared.candidate.CandidateSpec.{CandidateSpec}
+use Rattle.goal_evaluator.specs.declared.error.EvalError.{EvalError}
+use Rattle.goal_evaluator.specs.declared.error.EvalError.TheVariants as Eval
+use Rattle.goal_evaluator.specs.declared.error.EvalError.TheVariants.{NoSolution}
+use Rattle.goal_evaluator.specs.declared.goal.GoalSource.{GoalSource}
+use Rattle.goal_evaluator.specs.declared.resuming.CandidateStep.{CandidateStep}
+use Rattle.goal_evaluator.specs.declared.resuming.CandidateStep.TheVariants.{Ready, Ask}
+use Rattle.goal_evaluator.specs.declared.resuming.OpenCandidate.{OpenCandidate}
+use Rattle.goal_evaluator.specs.Evaluating.{question_of}
+use Rattle.goal_evaluator.specs.Frames.{begun}
+use Rattle.goal_evaluator.specs.Handler.{Handled}
+use Rattle.goal_evaluator.specs.declared.TheConstants.{FIXPOINT_STEP_LIMIT}
+use Rattle.goal_evaluator.specs.History.{Reply, position, CameInOrder}
+use Rattle.goal_evaluator.specs.Lists.{Every}
+use Rattle.goal_evaluator.specs.OpenCandidates.{CandidateHeld, StandsAt, after_reply, questions_left, AsksAtMost}
+use Rattle.goal_evaluator.specs.Promises.{frame_of_goal, Anything}
+use Rattle.goal_evaluator.specs.Readings.{is_coinductive_step}
+use Rattle.goal_evaluator.specs.Shortages.{EvalFullAtLimit}
+use Rattle.goal_evaluator.specs.StepReadings.{ShownCandidate, shown_by, spec_read}
+use Rattle.goal_evaluator.specs.TableOperations.{begin}
+use Rattle.goal_evaluator.specs.Tables.{frame_tables}
+use Rattle.goal_evaluator.specs.Trial.{spec_trees, candidate}
+use Rattle.goal_evaluator.proofs.OpenBeginnings.{beginning-replays, resuming-replays}
+use Rattle.goal_evaluator.proofs.OpenQuestions.{some-left}
 use Rattle.goal_frames.specs.Fitting.{AnswerFits, IsOver}
 use Rattle.goal_frames.specs.Frames.{FrameHistory, FrameHeld, HasHeard, ReplyIsDue, FrameSteps, RequestHeld, IsRequestOf, AsksAt, GoesOnWith, IsAtStep}
 use Rattle.goal_frames.specs.Places.{FrameStanding, IsInside, IsWaiting, IsFinishing, ComesTo}

@@ -6,13 +6,13 @@ use Rattle.search_graph.specs.declared.delegate.Reply.{Reply}
 use Rattle.search_graph.specs.declared.delegate.Reply.TheVariants.{Begin, Result, Entered, Finished, Ignored}
 use Rattle.search_graph.specs.Meaning.{Meaning, IsInOrder, IsReplyBy, AreReplies}
 use Rattle.search_graph.specs.Computed.{Hears, nothing, also, given, computed, IsGiven, here, below}
-use Rattle.evaluation.specs.Table.{Tables}
-use Rattle.evaluation.specs.Handler.{Handled}
-use Rattle.evaluation.specs.Frame.{Frame}
-use Rattle.evaluation.specs.History as Frames
-use Rattle.evaluation.specs.History.{CameInOrder}
-use Rattle.evaluation.specs.Promises.{frame_of_goal, Anything}
-use Rattle.evaluation.proofs.Ends.{is_bounded, ignores_finished}
+use Rattle.goal_evaluator.specs.Table.{Tables}
+use Rattle.goal_evaluator.specs.Handler.{Handled}
+use Rattle.goal_evaluator.specs.Frame.{Frame}
+use Rattle.goal_evaluator.specs.History as Frames
+use Rattle.goal_evaluator.specs.History.{CameInOrder}
+use Rattle.goal_evaluator.specs.Promises.{frame_of_goal, Anything}
+use Rattle.goal_evaluator.proofs.Ends.{is_bounded, ignores_finished}
 use Rattle.goal_frames.specs.Programs.{Programs, ArePrograms}
 use Rattle.goal_frames.specs.Searches.{replies_of, request_of, Handles, kind_of, GoalInMode, goal_in, asks, meaning}
 use Rattle.goal_frames.specs.Orders.{KeepOrder, End}

@@ -16,9 +16,9 @@ use Rattle.infer_table.specs.contracts.response.CanonicalResponsePartialEq.TheIm
 use Rattle.infer_table.specs.Values.{Value, values_of}
 use Rattle.infer_table.specs.Responses.{AnswerTrees, ResponseHeld, answer_trees}
 use Rattle.infer_table.proofs.UnifyFacts.{same-self}
-use Rattle.evaluation.specs.Merge.{same_certainty}
-use Rattle.evaluation.specs.Responses.{Content, content}
-use Rattle.evaluation.proofs.SameResponses.{content-cong, response-eq}
+use Rattle.goal_evaluator.specs.Merge.{same_certainty}
+use Rattle.goal_evaluator.specs.Responses.{Content, content}
+use Rattle.goal_evaluator.proofs.SameResponses.{content-cong, response-eq}
 use Rattle.type_terms.proofs.Made.{both}
 use Rattle.goal_frames.specs.Handlers.{same_kind, same_kinds, same_values, same_answer}
 use Rattle.goal_frames.proofs.Same.{answers-are}

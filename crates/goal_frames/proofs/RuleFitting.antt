@@ -9,23 +9,23 @@ use Rattle.infer_table.specs.Unification.{TableTrees}
 use Rattle.infer_table.specs.declared.canonical.CanonicalVarKind.{CanonicalVarKind}
 use Rattle.infer_table.specs.declared.canonical.CanonicalVarKind.TheVariants.{Ty, PlaceholderTy, Const, PlaceholderConst, Region}
 use Rattle.infer_table.specs.Applying.{table_after}
-use Rattle.evaluation.specs.Lists.{Every}
-use Rattle.evaluation.specs.Table.{workings}
-use Rattle.evaluation.specs.Candidate.{Spec}
-use Rattle.evaluation.proofs.ListLaws.{Every-mono, Every-map}
-use Rattle.evaluation.specs.Instances.{put_in}
-use Rattle.evaluation.specs.FrameTables.{kind_at, kinds_known, Nested, is_open_label, labels_from, first_content, labels_for}
-use Rattle.evaluation.specs.TableAnswers.{is_kind_of}
+use Rattle.goal_evaluator.specs.Lists.{Every}
+use Rattle.goal_evaluator.specs.Table.{workings}
+use Rattle.goal_evaluator.specs.Candidate.{Spec}
+use Rattle.goal_evaluator.proofs.ListLaws.{Every-mono, Every-map}
+use Rattle.goal_evaluator.specs.Instances.{put_in}
+use Rattle.goal_evaluator.specs.FrameTables.{kind_at, kinds_known, Nested, is_open_label, labels_from, first_content, labels_for}
+use Rattle.goal_evaluator.specs.TableAnswers.{is_kind_of}
 use Rattle.type_terms.proofs.Made.{false-true, both}
-use Rattle.evaluation.proofs.Reading.{EachLabel}
-use Rattle.evaluation.proofs.Labels.{IsGoodLabel, made-labels}
-use Rattle.evaluation.specs.Tables.{frame_tables}
-use Rattle.evaluation.specs.Fitting.{is_of_sort, is_slot, AreOver, IsGoalOver, IsValueOver}
+use Rattle.goal_evaluator.proofs.Reading.{EachLabel}
+use Rattle.goal_evaluator.proofs.Labels.{IsGoodLabel, made-labels}
+use Rattle.goal_evaluator.specs.Tables.{frame_tables}
+use Rattle.goal_evaluator.specs.Fitting.{is_of_sort, is_slot, AreOver, IsGoalOver, IsValueOver}
 use Rattle.goal_frames.specs.Rules.{TraitBound, goal_of, Rule, BoundIsOver, IsRule}
-use Rattle.evaluation.specs.Variables.{is_variable_over}
+use Rattle.goal_evaluator.specs.Variables.{is_variable_over}
 use Rattle.goal_frames.specs.Handlers.{BareGoal, bare_goal, moved, bound_behind, as_one, nested_of_bound, spec_of, candidates_of}
 use Rattle.goal_frames.specs.RuleFitting.{slots_of, IsOverSlots, CandidatesFit}
-use Rattle.evaluation.proofs.Readings.{HasLeaves, made-leaves}
+use Rattle.goal_evaluator.proofs.Readings.{HasLeaves, made-leaves}
 use Rattle.goal_frames.proofs.Behind.{made-behind, made-open}
 use Rattle.goal_frames.proofs.Asked.{IsAsked, asked-is, kinds-are}
 use Rattle.goal_frames.proofs.Handlers.{each-spec}

@@ -4,8 +4,8 @@ use Rattle.std.specs.Prelude.{max}
 use Rattle.infer_table.specs.Canonical.{CanonicalForm}
 use Rattle.infer_table.specs.declared.certainty.TypingMode.{TypingMode}
 use Rattle.infer_table.specs.declared.certainty.TypingMode.TheVariants.{Coherence, PostAnalysis}
-use Rattle.evaluation.specs.Content.{NestedQuestion}
-use Rattle.evaluation.specs.FrameTables.{kinds_known}
+use Rattle.goal_evaluator.specs.Content.{NestedQuestion}
+use Rattle.goal_evaluator.specs.FrameTables.{kinds_known}
 use Rattle.goal_frames.specs.Handlers.{has_placeholder, world_of}
 use Rattle.goal_frames.specs.RulePrograms.{book_of, rule_goals, RulesArePrograms}
 use Rattle.goal_frames.proofs.Handlers.{handlers-are-lawful}

@@ -9,36 +9,36 @@ use Rattle.infer_table.specs.declared.goal.Goal.{Goal}
 use Rattle.infer_table.specs.declared.response.CanonicalResponse.{CanonicalResponse}
 use Rattle.infer_table.specs.Goals.{goal_trees}
 use Rattle.infer_table.specs.Responses.{AnswerTrees}
-use Rattle.evaluation.specs.Ends.{RunIsRefused, Awaits, EndsIn}
-use Rattle.evaluation.specs.Evaluating as InCode
-use Rattle.evaluation.specs.Evaluating.{evaluation}
-use Rattle.evaluation.specs.Frames.{begun}
-use Rattle.evaluation.specs.Trial.{spec_trees, equations_trees, premises_trees, candidate}
-use Rattle.evaluation.specs.declared.TheConstants.{FIXPOINT_STEP_LIMIT}
-use Rattle.evaluation.specs.declared.candidate.CandidateSource.{CandidateSource}
-use Rattle.evaluation.specs.declared.candidate.CandidateSpec.{CandidateSpec}
-use Rattle.evaluation.specs.declared.goal.GoalSource.{GoalSource}
-use Rattle.evaluation.specs.Candidate as Frames
-use Rattle.evaluation.specs.Correspondences.{AreAnswers, AnswersCorrespond, Runs}
-use Rattle.evaluation.specs.Handler.{Handled}
-use Rattle.evaluation.specs.History.{inside, request, evaluate, finish_candidate}
-use Rattle.evaluation.specs.Lists.{Every, Pairwise}
-use Rattle.evaluation.specs.Replays.{Run, ready, waits, run}
-use Rattle.evaluation.specs.Script.{Script, done, ask}
-use Rattle.evaluation.specs.Table.{operations, workings}
-use Rattle.evaluation.specs.Content.{NestedQuestion}
-use Rattle.evaluation.specs.TableAnswers.{IsWellFormed}
-use Rattle.evaluation.specs.FrameTables.{IsMadeFrame}
-use Rattle.evaluation.specs.TableOperations.{begin}
-use Rattle.evaluation.proofs.TableBeginning.{begin-made}
-use Rattle.evaluation.specs.Tables.{frame_tables}
-use Rattle.evaluation.specs.Fitting.{IsGoalOver}
-use Rattle.evaluation.specs.RoundLaws.{AreOneQuestion, in_rounds}
-use Rattle.evaluation.specs.Candidates.{labels_of, AreOneEquation, AreOnePremise, AreOneCandidate}
-use Rattle.evaluation.proofs.Candidates.{candidates-are-one}
-use Rattle.evaluation.specs.StepReadings.{ShownCandidate, equation_read, nested_read, spec_read, result_read}
+use Rattle.goal_evaluator.specs.Ends.{RunIsRefused, Awaits, EndsIn}
+use Rattle.goal_evaluator.specs.Evaluating as InCode
+use Rattle.goal_evaluator.specs.Evaluating.{evaluation}
+use Rattle.goal_evaluator.specs.Frames.{begun}
+use Rattle.goal_evaluator.specs.Trial.{spec_trees, equations_trees, premises_trees, candidate}
+use Rattle.goal_evaluator.specs.declared.TheConstants.{FIXPOINT_STEP_LIMIT}
+use Rattle.goal_evaluator.specs.declared.candidate.CandidateSource.{CandidateSource}
+use Rattle.goal_evaluator.specs.declared.candidate.CandidateSpec.{CandidateSpec}
+use Rattle.goal_evaluator.specs.declared.goal.GoalSource.{GoalSource}
+use Rattle.goal_evaluator.specs.Candidate as Frames
+use Rattle.goal_evaluator.specs.Correspondences.{AreAnswers, AnswersCorrespond, Runs}
+use Rattle.goal_evaluator.specs.Handler.{Handled}
+use Rattle.goal_evaluator.specs.History.{inside, request, evaluate, finish_candidate}
+use Rattle.goal_evaluator.specs.Lists.{Every, Pairwise}
+use Rattle.goal_evaluator.specs.Replays.{Run, ready, waits, run}
+use Rattle.goal_evaluator.specs.Script.{Script, done, ask}
+use Rattle.goal_evaluator.specs.Table.{operations, workings}
+use Rattle.goal_evaluator.specs.Content.{NestedQuestion}
+use Rattle.goal_evaluator.specs.TableAnswers.{IsWellFormed}
+use Rattle.goal_evaluator.specs.FrameTables.{IsMadeFrame}
+use Rattle.goal_evaluator.specs.TableOperations.{begin}
+use Rattle.goal_evaluator.proofs.TableBeginning.{begin-made}
+use Rattle.goal_evaluator.specs.Tables.{frame_tables}
+use Rattle.goal_evaluator.specs.Fitting.{IsGoalOver}
+use Rattle.goal_evaluator.specs.RoundLaws.{AreOneQuestion, in_rounds}
+use Rattle.goal_evaluator.specs.Candidates.{labels_of, AreOneEquation, AreOnePremise, AreOneCandidate}
+use Rattle.goal_evaluator.proofs.Candidates.{candidates-are-one}
+use Rattle.goal_evaluator.specs.StepReadings.{ShownCandidate, equation_read, nested_read, spec_read, result_read}
 use Rattle.goal_frames.specs.Fitting.{AnswerFits, ResultFits, IsEquationOver, IsOver}
-use Rattle.evaluation.specs.Replayed.{after}
+use Rattle.goal_evaluator.specs.Replayed.{after}
 use Rattle.goal_frames.specs.Places.{FrameStanding, candidate_of, Opened, IsInside, WaitsAtQuestion, IsFinishing, with_result}
 use Rattle.goal_frames.proofs.Fits.{one-answer, candidate-fits}
 

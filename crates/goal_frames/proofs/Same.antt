@@ -14,11 +14,11 @@ use Rattle.infer_table.specs.declared.certainty.MaybeCause.TheVariants.{Ambiguit
 use Rattle.infer_table.specs.Values.{Value}
 use Rattle.infer_table.specs.Responses.{AnswerTrees}
 use Rattle.infer_table.proofs.SolutionLaws.{is_sort-equal as is-sort}
-use Rattle.evaluation.specs.Merge.{same_certainty}
-use Rattle.evaluation.specs.TableAnswers.{is_variable_itself, are_variables}
+use Rattle.goal_evaluator.specs.Merge.{same_certainty}
+use Rattle.goal_evaluator.specs.TableAnswers.{is_variable_itself, are_variables}
 use Rattle.type_terms.proofs.Made.{left, right}
-use Rattle.evaluation.specs.Merge.{TellsResponsesApart, IsTest}
-use Rattle.evaluation.specs.Tables.{frame_tables}
+use Rattle.goal_evaluator.specs.Merge.{TellsResponsesApart, IsTest}
+use Rattle.goal_evaluator.specs.Tables.{frame_tables}
 use Rattle.goal_frames.specs.Handlers.{same_kind, same_kinds, same_values, same_answer, are_own_variables, applies_always}
 use Rattle.type_terms.proofs.ListBasics.{cons}
 

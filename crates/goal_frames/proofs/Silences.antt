@@ -11,10 +11,10 @@ use Rattle.infer_table.specs.declared.certainty.MaybeCause.TheVariants.{Ambiguit
 use Rattle.infer_table.specs.Values.{Value}
 use Rattle.infer_table.specs.Raw.{sort_of_kind, variable_value, variables_from}
 use Rattle.infer_table.specs.Responses.{AnswerTrees}
-use Rattle.evaluation.specs.TableAnswers.{own_labels, answer_leaves, value_numbered, with_kind, kinds_of, without_values, respond}
-use Rattle.evaluation.specs.TableOperations.{begin}
-use Rattle.evaluation.specs.FrameTables.{labels_from}
-use Rattle.evaluation.proofs.FirstAnswers.{AreFresh, append-list, length-more, place-is, value_by, own-labels-all, begin-fresh, begin-leaves}
+use Rattle.goal_evaluator.specs.TableAnswers.{own_labels, answer_leaves, value_numbered, with_kind, kinds_of, without_values, respond}
+use Rattle.goal_evaluator.specs.TableOperations.{begin}
+use Rattle.goal_evaluator.specs.FrameTables.{labels_from}
+use Rattle.goal_evaluator.proofs.FirstAnswers.{AreFresh, append-list, length-more, place-is, value_by, own-labels-all, begin-fresh, begin-leaves}
 use Rattle.type_terms.proofs.NumberBasics.{next-number as one-more}
 use Rattle.infer_table.proofs.Basics.{first-and-rest}
 

@@ -4,22 +4,22 @@ use Rattle.type_terms.specs.Promised.Label.{adt, never, of_trait, predicate}
 use Rattle.type_terms.specs.Promised.Trees.{Trees, none, tree, leaf}
 use Rattle.type_terms.specs.Made.{terms, is_made}
 use Rattle.infer_table.specs.Canonical.{CanonicalForm}
-use Rattle.evaluation.specs.Lists.{Every, IsAmong}
-use Rattle.evaluation.proofs.ListLaws.{Every-mono, Every-map, SomeOf-at}
-use Rattle.evaluation.specs.Instances.{read_with, goal_read}
-use Rattle.evaluation.specs.Content.{Values, fits, given, fact_of, ChosenTerms}
-use Rattle.evaluation.specs.FrameTables.{FrameTable, Allows, Nested, fact, is_open_label, term_of, EquationIsMet}
+use Rattle.goal_evaluator.specs.Lists.{Every, IsAmong}
+use Rattle.goal_evaluator.proofs.ListLaws.{Every-mono, Every-map, SomeOf-at}
+use Rattle.goal_evaluator.specs.Instances.{read_with, goal_read}
+use Rattle.goal_evaluator.specs.Content.{Values, fits, given, fact_of, ChosenTerms}
+use Rattle.goal_evaluator.specs.FrameTables.{FrameTable, Allows, Nested, fact, is_open_label, term_of, EquationIsMet}
 use Rattle.type_terms.proofs.Made.{right}
-use Rattle.evaluation.specs.TableOperations.{begin, fresh}
+use Rattle.goal_evaluator.specs.TableOperations.{begin, fresh}
 use Rattle.goal_frames.specs.Rules.{TraitBound, Rule, RuleBook, IsDeterminedBy, IsRule, instance_of, IsBy, FollowsByRule}
-use Rattle.evaluation.specs.Variables.{is_variable_over}
+use Rattle.goal_evaluator.specs.Variables.{is_variable_over}
 use Rattle.goal_frames.specs.Handlers.{BareGoal, bound_behind, as_one, nested_of_bound, spec_of}
-use Rattle.evaluation.proofs.Readings.{AgreeIn, made-leaves, reads-agree, reads-determine}
+use Rattle.goal_evaluator.proofs.Readings.{AgreeIn, made-leaves, reads-agree, reads-determine}
 use Rattle.goal_frames.proofs.Behind.{dropped, read-behind, bound-behind, made-behind, made-open}
 use Rattle.goal_frames.proofs.Asked.{IsAsked}
-use Rattle.evaluation.proofs.Slots.{own-slots-agree, slots-agree}
+use Rattle.goal_evaluator.proofs.Slots.{own-slots-agree, slots-agree}
 use Rattle.type_terms.proofs.ListBasics.{cons}
-use Rattle.evaluation.proofs.TypeBasics.{same-fact}
+use Rattle.goal_evaluator.proofs.TypeBasics.{same-fact}
 
 -- all arguments are one term
 pub term-one : (b : TraitBound) → is_made is_open_label terms b.arguments ≡ true → term_of (as_one b) ≡ tree (adt b.trait) b.arguments none

@@ -7,18 +7,18 @@ use Rattle.infer_table.specs.Responses.{AnswerTrees}
 use Rattle.search_graph.specs.declared.delegate.Reply as InReply
 use Rattle.search_graph.specs.declared.delegate.Reply.TheVariants as Replied
 use Rattle.search_graph.specs.declared.delegate.Request as Requests
-use Rattle.evaluation.specs.declared.candidate.CandidateSource.{CandidateSource}
-use Rattle.evaluation.specs.declared.candidate.CandidateSpec.{CandidateSpec}
-use Rattle.evaluation.specs.declared.candidate.Considered as Code
-use Rattle.evaluation.specs.declared.resuming.OpenCandidate.{OpenCandidate}
-use Rattle.evaluation.specs.Handler.{Handled, IsHandler}
-use Rattle.evaluation.specs.Frame.{Frame, considers, answers}
-use Rattle.evaluation.specs.Script.{Script, done, ask}
-use Rattle.evaluation.specs.Content.{NestedQuestion}
-use Rattle.evaluation.specs.History.{Reply, begin, entered, ignored, evaluated, finished, between, inside, request, position, IsAwaitedReply, CameInOrder}
-use Rattle.evaluation.specs.Promises.{frame_of_goal, Anything}
-use Rattle.evaluation.specs.Tables.{frame_tables}
-use Rattle.evaluation.specs.StepReadings.{ShownCandidate, spec_read, result_read, shown_by}
+use Rattle.goal_evaluator.specs.declared.candidate.CandidateSource.{CandidateSource}
+use Rattle.goal_evaluator.specs.declared.candidate.CandidateSpec.{CandidateSpec}
+use Rattle.goal_evaluator.specs.declared.candidate.Considered as Code
+use Rattle.goal_evaluator.specs.declared.resuming.OpenCandidate.{OpenCandidate}
+use Rattle.goal_evaluator.specs.Handler.{Handled, IsHandler}
+use Rattle.goal_evaluator.specs.Frame.{Frame, considers, answers}
+use Rattle.goal_evaluator.specs.Script.{Script, done, ask}
+use Rattle.goal_evaluator.specs.Content.{NestedQuestion}
+use Rattle.goal_evaluator.specs.History.{Reply, begin, entered, ignored, evaluated, finished, between, inside, request, position, IsAwaitedReply, CameInOrder}
+use Rattle.goal_evaluator.specs.Promises.{frame_of_goal, Anything}
+use Rattle.goal_evaluator.specs.Tables.{frame_tables}
+use Rattle.goal_evaluator.specs.StepReadings.{ShownCandidate, spec_read, result_read, shown_by}
 use Rattle.goal_frames.specs.Places.{Heard, FrameStanding, PositionStands, with_result, candidate_of, IsBetween, IsInside, IsWaiting, IsIgnoring}
 use Rattle.goal_frames.specs.Frames.{FrameHistory, HasCome, HasHeard, FrameHeld, IsRequestOf, FrameSteps, reply_read}
 use Rattle.goal_frames.specs.declared.frame.GoalFrame.{GoalFrame}

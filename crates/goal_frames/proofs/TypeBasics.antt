@@ -1,7 +1,7 @@
 -- Small facts on the types of the code.
 use Rattle.std.proofs.Common.{List, ℕ, ◌≡◌, Some, [], ◌∷◌, zero, subst, suc}
-use Rattle.evaluation.specs.FrameTables.{kind_at}
-use Rattle.evaluation.specs.Lists.{Every}
+use Rattle.goal_evaluator.specs.FrameTables.{kind_at}
+use Rattle.goal_evaluator.specs.Lists.{Every}
 use Rattle.goal_frames.specs.Rules.{IsUnknown}
 use Rattle.infer_table.specs.declared.canonical.CanonicalVarKind.{CanonicalVarKind}
 

@@ -2,12 +2,12 @@
 use Rattle.std.proofs.Common.{ℕ, suc, ◌+◌, ◌≤◌, arith, Bool, true, false, List, [], ◌∷◌, map, length, inl, inr, sym, subst, if◌then◌else◌}
 use Rattle.std.specs.Prelude.{◌==◌}
 use Rattle.type_terms.specs.Promised.Label.{Label, canonical}
-use Rattle.evaluation.specs.Lists.{Every, IsAmong}
-use Rattle.evaluation.proofs.ListLaws.{Every-mono, Every-map}
-use Rattle.evaluation.specs.Widths.{NestedWithin}
-use Rattle.evaluation.proofs.Widths.{IsOneIf, leaf-one, predicates-put, predicates-within, width-of-predicates}
-use Rattle.evaluation.specs.Tables.{frame_tables}
-use Rattle.evaluation.specs.Plans.{nested_in}
+use Rattle.goal_evaluator.specs.Lists.{Every, IsAmong}
+use Rattle.goal_evaluator.proofs.ListLaws.{Every-mono, Every-map}
+use Rattle.goal_evaluator.specs.Widths.{NestedWithin}
+use Rattle.goal_evaluator.proofs.Widths.{IsOneIf, leaf-one, predicates-put, predicates-within, width-of-predicates}
+use Rattle.goal_evaluator.specs.Tables.{frame_tables}
+use Rattle.goal_evaluator.specs.Plans.{nested_in}
 use Rattle.goal_frames.specs.Rules.{TraitBound, goal_of, Rule}
 use Rattle.goal_frames.specs.Handlers.{BareGoal, moved, bound_behind, nested_of_bound, spec_of, specs_for, width_of, number_of_premises, number_of_rules}
 use Rattle.type_terms.proofs.ListBasics.{map-length as length-map}

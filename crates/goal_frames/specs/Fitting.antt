@@ -10,15 +10,15 @@ use Rattle.infer_table.specs.declared.response.CanonicalResponse.{CanonicalRespo
 use Rattle.infer_table.specs.Goals.{goal_trees}
 use Rattle.infer_table.specs.Values.{value_of}
 use Rattle.infer_table.specs.Responses.{AnswerTrees, answer_trees}
-use Rattle.evaluation.specs.Lists.{Every}
-use Rattle.evaluation.specs.declared.candidate.CandidateSpec.{CandidateSpec}
-use Rattle.evaluation.specs.declared.candidate.Considered.{Considered}
-use Rattle.evaluation.specs.declared.candidate.HandlerStep.{HandlerStep}
-use Rattle.evaluation.specs.declared.candidate.HandlerStep.TheVariants.{Consider, Answer, NoSolution}
-use Rattle.evaluation.specs.declared.goal.GoalSource.{GoalSource}
-use Rattle.evaluation.specs.TableAnswers.{IsWellFormed}
-use Rattle.evaluation.specs.Fitting.{AreOver, IsGoalOver, IsValueOver}
-use Rattle.evaluation.specs.Candidates.{labels_of}
+use Rattle.goal_evaluator.specs.Lists.{Every}
+use Rattle.goal_evaluator.specs.declared.candidate.CandidateSpec.{CandidateSpec}
+use Rattle.goal_evaluator.specs.declared.candidate.Considered.{Considered}
+use Rattle.goal_evaluator.specs.declared.candidate.HandlerStep.{HandlerStep}
+use Rattle.goal_evaluator.specs.declared.candidate.HandlerStep.TheVariants.{Consider, Answer, NoSolution}
+use Rattle.goal_evaluator.specs.declared.goal.GoalSource.{GoalSource}
+use Rattle.goal_evaluator.specs.TableAnswers.{IsWellFormed}
+use Rattle.goal_evaluator.specs.Fitting.{AreOver, IsGoalOver, IsValueOver}
+use Rattle.goal_evaluator.specs.Candidates.{labels_of}
 
 -- ---- answers
 -- the values of each are terms over its own variables

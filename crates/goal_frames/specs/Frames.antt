@@ -12,20 +12,20 @@ use Rattle.search_graph.specs.declared.delegate.Reply as Replies
 use Rattle.search_graph.specs.declared.delegate.Reply.TheVariants as Replied
 use Rattle.search_graph.specs.declared.delegate.Request as Requests
 use Rattle.search_graph.specs.declared.delegate.Request.TheVariants as Requested
-use Rattle.evaluation.specs.declared.candidate.CandidateSource.{CandidateSource}
-use Rattle.evaluation.specs.declared.candidate.Considered.{Considered}
-use Rattle.evaluation.specs.declared.error.EvalError.{EvalError}
-use Rattle.evaluation.specs.declared.resuming.CandidateStep.{CandidateStep}
-use Rattle.evaluation.specs.declared.resuming.CandidateStep.TheVariants.{Ask}
-use Rattle.evaluation.specs.Handler.{Handled}
-use Rattle.evaluation.specs.History.{Request, evaluate, enter_candidate, finish_candidate, ignore_candidate, returns, Reply, begin, entered, ignored, evaluated, finished, position, request, asks, CameInOrder}
-use Rattle.evaluation.specs.OpenCandidates.{OpenHeld, CandidateHeld}
-use Rattle.evaluation.specs.Promises.{frame_of_goal, Anything}
-use Rattle.evaluation.specs.Readings.{ResultHeld, ConsideredHeld, SpecHeld}
-use Rattle.evaluation.specs.Content.{NestedQuestion}
-use Rattle.evaluation.specs.Tables.{frame_tables}
+use Rattle.goal_evaluator.specs.declared.candidate.CandidateSource.{CandidateSource}
+use Rattle.goal_evaluator.specs.declared.candidate.Considered.{Considered}
+use Rattle.goal_evaluator.specs.declared.error.EvalError.{EvalError}
+use Rattle.goal_evaluator.specs.declared.resuming.CandidateStep.{CandidateStep}
+use Rattle.goal_evaluator.specs.declared.resuming.CandidateStep.TheVariants.{Ask}
+use Rattle.goal_evaluator.specs.Handler.{Handled}
+use Rattle.goal_evaluator.specs.History.{Request, evaluate, enter_candidate, finish_candidate, ignore_candidate, returns, Reply, begin, entered, ignored, evaluated, finished, position, request, asks, CameInOrder}
+use Rattle.goal_evaluator.specs.OpenCandidates.{OpenHeld, CandidateHeld}
+use Rattle.goal_evaluator.specs.Promises.{frame_of_goal, Anything}
+use Rattle.goal_evaluator.specs.Readings.{ResultHeld, ConsideredHeld, SpecHeld}
+use Rattle.goal_evaluator.specs.Content.{NestedQuestion}
+use Rattle.goal_evaluator.specs.Tables.{frame_tables}
 use Rattle.goal_frames.specs.Searches.{step_kind}
-use Rattle.evaluation.specs.StepReadings.{result_read, shown_by}
+use Rattle.goal_evaluator.specs.StepReadings.{result_read, shown_by}
 use Rattle.goal_frames.specs.Fitting.{ResultFits, ConsideredFits, IsOver}
 use Rattle.goal_frames.specs.Places.{FrameStanding, ComesTo, PositionStands, PlaceAnswers, IsBetween, IsIgnoring}
 use Rattle.goal_frames.specs.declared.frame.GoalFrame.{GoalFrame}

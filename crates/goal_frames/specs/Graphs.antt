@@ -1,8 +1,8 @@
 -- What a search's proof graphs prove.
 use Rattle.search_graph.specs.Proof.{HasProof}
-use Rattle.evaluation.specs.Lists.{IsAmong}
-use Rattle.evaluation.specs.Table.{Tables}
-use Rattle.evaluation.specs.Proof as Lists
+use Rattle.goal_evaluator.specs.Lists.{IsAmong}
+use Rattle.goal_evaluator.specs.Table.{Tables}
+use Rattle.goal_evaluator.specs.Proof as Lists
 use Rattle.goal_frames.specs.Programs.{Programs}
 use Rattle.goal_frames.specs.Searches.{GoalInMode, FollowsInMode}
 

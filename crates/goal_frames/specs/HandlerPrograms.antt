@@ -9,18 +9,18 @@ use Rattle.infer_table.specs.declared.certainty.MaybeCause.TheVariants.{Overflow
 use Rattle.infer_table.specs.declared.certainty.TypingMode.{TypingMode}
 use Rattle.infer_table.specs.declared.certainty.TypingMode.TheVariants.{Coherence, PostAnalysis}
 use Rattle.infer_table.specs.Responses.{AnswerTrees}
-use Rattle.evaluation.specs.Handler.{IsHandler}
+use Rattle.goal_evaluator.specs.Handler.{IsHandler}
 use Rattle.type_terms.specs.Promised.Handles.{Entry, Keeps}
-use Rattle.evaluation.specs.History.{evaluate, asks, CameInOrder}
-use Rattle.evaluation.specs.Promises.{frame_of_goal, Anything, History}
-use Rattle.evaluation.specs.TableAnswers.{respond}
-use Rattle.evaluation.specs.Content.{Values, Fact, NestedQuestion, fact_of}
-use Rattle.evaluation.specs.Finite.{made_of}
-use Rattle.evaluation.specs.Widths.{number_of}
-use Rattle.evaluation.specs.TableOperations.{begin}
-use Rattle.evaluation.specs.Tables.{frame_tables}
+use Rattle.goal_evaluator.specs.History.{evaluate, asks, CameInOrder}
+use Rattle.goal_evaluator.specs.Promises.{frame_of_goal, Anything, History}
+use Rattle.goal_evaluator.specs.TableAnswers.{respond}
+use Rattle.goal_evaluator.specs.Content.{Values, Fact, NestedQuestion, fact_of}
+use Rattle.goal_evaluator.specs.Finite.{made_of}
+use Rattle.goal_evaluator.specs.Widths.{number_of}
+use Rattle.goal_evaluator.specs.TableOperations.{begin}
+use Rattle.goal_evaluator.specs.Tables.{frame_tables}
 use Rattle.goal_frames.specs.Programs.{Programs, ArePrograms}
-use Rattle.evaluation.specs.FrameTables.{kinds_known}
+use Rattle.goal_evaluator.specs.FrameTables.{kinds_known}
 use Rattle.goal_frames.specs.Meanings.{Goals, HandlerMeaning}
 
 -- ---- answers that are fixed for each goal

@@ -15,22 +15,22 @@ use Rattle.infer_table.specs.declared.certainty.TypingMode.{TypingMode}
 use Rattle.infer_table.specs.declared.certainty.TypingMode.TheVariants.{Coherence, PostAnalysis}
 use Rattle.infer_table.specs.Values.{Value}
 use Rattle.infer_table.specs.Responses.{AnswerTrees}
-use Rattle.evaluation.specs.declared.candidate.CandidateSource.TheVariants.{BuiltinImpl}
-use Rattle.evaluation.specs.declared.candidate.BuiltinImplSource.TheVariants.{Misc}
-use Rattle.evaluation.specs.Table.{workings}
-use Rattle.evaluation.specs.Candidate.{Spec}
-use Rattle.evaluation.specs.Handler.{Handled, IsHandler}
-use Rattle.evaluation.specs.Merge.{same_certainty}
-use Rattle.evaluation.specs.TableAnswers.{is_variable_itself}
-use Rattle.evaluation.specs.Instances.{put_in}
-use Rattle.evaluation.specs.Content.{trait_of, fact_of}
-use Rattle.evaluation.specs.FrameTables.{kinds_known, Nested}
-use Rattle.evaluation.specs.Widths.{width_of_predicates, number_of}
-use Rattle.evaluation.specs.TableOperations.{begin}
-use Rattle.evaluation.specs.Tables.{frame_tables}
+use Rattle.goal_evaluator.specs.declared.candidate.CandidateSource.TheVariants.{BuiltinImpl}
+use Rattle.goal_evaluator.specs.declared.candidate.BuiltinImplSource.TheVariants.{Misc}
+use Rattle.goal_evaluator.specs.Table.{workings}
+use Rattle.goal_evaluator.specs.Candidate.{Spec}
+use Rattle.goal_evaluator.specs.Handler.{Handled, IsHandler}
+use Rattle.goal_evaluator.specs.Merge.{same_certainty}
+use Rattle.goal_evaluator.specs.TableAnswers.{is_variable_itself}
+use Rattle.goal_evaluator.specs.Instances.{put_in}
+use Rattle.goal_evaluator.specs.Content.{trait_of, fact_of}
+use Rattle.goal_evaluator.specs.FrameTables.{kinds_known, Nested}
+use Rattle.goal_evaluator.specs.Widths.{width_of_predicates, number_of}
+use Rattle.goal_evaluator.specs.TableOperations.{begin}
+use Rattle.goal_evaluator.specs.Tables.{frame_tables}
 use Rattle.goal_frames.specs.Listings.{Listing, listed}
 use Rattle.goal_frames.specs.Rules.{TraitBound, goal_of, Rule, RuleBook, AreRules, is_coinductive_trait, FollowsByRule, HasProofByBook}
-use Rattle.evaluation.specs.Variables.{is_variable_over}
+use Rattle.goal_evaluator.specs.Variables.{is_variable_over}
 
 -- ---- goals
 -- a goal without where-clauses, over variables of these kinds

@@ -1,13 +1,13 @@
 -- A list of candidates as a plan: one after the other, and then all their responses are merged.
 use Rattle.std.specs.Prelude.{◌≡◌, ℕ, ◌≤◌, Bool, false, length, List, []}
 use Rattle.infer_table.specs.declared.certainty.Certainty.{Certainty}
-use Rattle.evaluation.specs.Lists.{Every, SomeOf}
-use Rattle.evaluation.specs.Table.{Tables, workings, IsFree}
-use Rattle.evaluation.specs.Candidate.{Spec}
-use Rattle.evaluation.specs.Law.{Realizes}
-use Rattle.evaluation.specs.Handler.{Handled, CandidateIsLawful}
-use Rattle.evaluation.specs.Plans.{Plan, Planned, planned, each_of, nested_in}
-use Rattle.evaluation.specs.PlanAnswers.{all_merged}
+use Rattle.goal_evaluator.specs.Lists.{Every, SomeOf}
+use Rattle.goal_evaluator.specs.Table.{Tables, workings, IsFree}
+use Rattle.goal_evaluator.specs.Candidate.{Spec}
+use Rattle.goal_evaluator.specs.Law.{Realizes}
+use Rattle.goal_evaluator.specs.Handler.{Handled, CandidateIsLawful}
+use Rattle.goal_evaluator.specs.Plans.{Plan, Planned, planned, each_of, nested_in}
+use Rattle.goal_evaluator.specs.PlanAnswers.{all_merged}
 
 module _ {Question Response : Type 0} (t : Tables Question Response) where
   -- a goal with the list of its candidates, and what counts as its proofs

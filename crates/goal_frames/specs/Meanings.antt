@@ -4,10 +4,10 @@ use Rattle.type_terms.specs.Promised.Handles.{Entry}
 use Rattle.infer_table.specs.Canonical.{CanonicalForm}
 use Rattle.infer_table.specs.declared.input.CanonicalInput.{CanonicalInput}
 use Rattle.infer_table.specs.declared.certainty.TypingMode.{TypingMode}
-use Rattle.evaluation.specs.Handler.{Handled}
-use Rattle.evaluation.specs.Content.{Fact}
-use Rattle.evaluation.specs.StepReadings.{handled_for}
-use Rattle.evaluation.specs.Tables.{frame_tables}
+use Rattle.goal_evaluator.specs.Handler.{Handled}
+use Rattle.goal_evaluator.specs.Content.{Fact}
+use Rattle.goal_evaluator.specs.StepReadings.{handled_for}
+use Rattle.goal_evaluator.specs.Tables.{frame_tables}
 
 -- all goals, by what is declared
 pub record Goals : Type 1 where

@@ -3,8 +3,8 @@ use Rattle.std.specs.Prelude.{suc, ◌+◌, ◌*◌, ◌≤◌, length, List, Op
 use Rattle.search_graph.specs.declared.delegate.Reply.{Reply}
 use Rattle.search_graph.specs.Meaning.{AreReplies, IsFair}
 use Rattle.search_graph.specs.Computed.{MakesMisstep}
-use Rattle.evaluation.specs.declared.TheConstants.{FIXPOINT_STEP_LIMIT}
-use Rattle.evaluation.specs.Table.{Tables}
+use Rattle.goal_evaluator.specs.declared.TheConstants.{FIXPOINT_STEP_LIMIT}
+use Rattle.goal_evaluator.specs.Table.{Tables}
 use Rattle.goal_frames.specs.Programs.{Programs, SaysNothing}
 use Rattle.goal_frames.specs.Searches.{Handles, GoalInMode, meaning}
 

@@ -4,24 +4,24 @@ use Rattle.type_terms.specs.Promised.Handles.{Entry}
 use Rattle.infer_table.specs.declared.canonical.CanonicalVarKind.{CanonicalVarKind}
 use Rattle.infer_table.specs.declared.input.CanonicalInput.{CanonicalInput}
 use Rattle.infer_table.specs.Responses.{AnswerTrees}
-use Rattle.evaluation.specs.declared.candidate.CandidateSource.{CandidateSource}
-use Rattle.evaluation.specs.declared.error.EvalError.{EvalError}
-use Rattle.evaluation.specs.declared.resuming.CandidateStep.{CandidateStep}
-use Rattle.evaluation.specs.declared.resuming.OpenCandidate.{OpenCandidate}
-use Rattle.evaluation.specs.declared.TheConstants.{FIXPOINT_STEP_LIMIT}
-use Rattle.evaluation.specs.Candidate.{Spec, Considered, consider, used_numbers, IsHistory, candidate, frame}
-use Rattle.evaluation.specs.Candidates.{AreOneCandidate}
-use Rattle.evaluation.specs.Frame.{Frame, considers, answers, Finished, numbers}
-use Rattle.evaluation.specs.Handler.{Handled}
-use Rattle.evaluation.specs.History.{Position, between, inside}
-use Rattle.evaluation.specs.Lists.{Every}
-use Rattle.evaluation.specs.Replayed.{after, IsReplayed, EndsAsReplayed}
-use Rattle.evaluation.specs.Script.{Script, done, ask}
-use Rattle.evaluation.specs.Table.{workings}
-use Rattle.evaluation.specs.Content.{NestedQuestion}
-use Rattle.evaluation.specs.Tables.{frame_tables}
-use Rattle.evaluation.specs.StepReadings.{ShownCandidate, Shows, spec_read, result_read}
-use Rattle.evaluation.specs.Trial.{SpecTrees}
+use Rattle.goal_evaluator.specs.declared.candidate.CandidateSource.{CandidateSource}
+use Rattle.goal_evaluator.specs.declared.error.EvalError.{EvalError}
+use Rattle.goal_evaluator.specs.declared.resuming.CandidateStep.{CandidateStep}
+use Rattle.goal_evaluator.specs.declared.resuming.OpenCandidate.{OpenCandidate}
+use Rattle.goal_evaluator.specs.declared.TheConstants.{FIXPOINT_STEP_LIMIT}
+use Rattle.goal_evaluator.specs.Candidate.{Spec, Considered, consider, used_numbers, IsHistory, candidate, frame}
+use Rattle.goal_evaluator.specs.Candidates.{AreOneCandidate}
+use Rattle.goal_evaluator.specs.Frame.{Frame, considers, answers, Finished, numbers}
+use Rattle.goal_evaluator.specs.Handler.{Handled}
+use Rattle.goal_evaluator.specs.History.{Position, between, inside}
+use Rattle.goal_evaluator.specs.Lists.{Every}
+use Rattle.goal_evaluator.specs.Replayed.{after, IsReplayed, EndsAsReplayed}
+use Rattle.goal_evaluator.specs.Script.{Script, done, ask}
+use Rattle.goal_evaluator.specs.Table.{workings}
+use Rattle.goal_evaluator.specs.Content.{NestedQuestion}
+use Rattle.goal_evaluator.specs.Tables.{frame_tables}
+use Rattle.goal_evaluator.specs.StepReadings.{ShownCandidate, Shows, spec_read, result_read}
+use Rattle.goal_evaluator.specs.Trial.{SpecTrees}
 use Rattle.goal_frames.specs.Fitting.{AnswerFits}
 use Rattle.goal_frames.specs.declared.frame.Place.{Place}
 use Rattle.goal_frames.specs.declared.frame.Place.TheVariants as InCode

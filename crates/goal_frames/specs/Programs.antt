@@ -2,12 +2,12 @@
 use Rattle.std.specs.Prelude.{◌≡◌, ◌≤◌, Bool, false, List, Option, Some, None}
 use Rattle.search_graph.specs.declared.path_kind.PathKind.{PathKind}
 use Rattle.search_graph.specs.declared.path_kind.PathKind.TheVariants.{Coinductive}
-use Rattle.evaluation.specs.Table.{Tables}
-use Rattle.evaluation.specs.Law.{IsYes}
-use Rattle.evaluation.specs.Handler.{Handled, IsHandler}
-use Rattle.evaluation.specs.History.{evaluate, asks, CameInOrder}
-use Rattle.evaluation.specs.Promises.{frame_of_goal, Anything, History}
-use Rattle.evaluation.specs.System.{System, IsSystem}
+use Rattle.goal_evaluator.specs.Table.{Tables}
+use Rattle.goal_evaluator.specs.Law.{IsYes}
+use Rattle.goal_evaluator.specs.Handler.{Handled, IsHandler}
+use Rattle.goal_evaluator.specs.History.{evaluate, asks, CameInOrder}
+use Rattle.goal_evaluator.specs.Promises.{frame_of_goal, Anything, History}
+use Rattle.goal_evaluator.specs.System.{System, IsSystem}
 
 module _ {Question Response : Type 0} (t : Tables Question Response) where
   pub record Programs : Type 1 where

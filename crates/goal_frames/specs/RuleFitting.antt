@@ -3,13 +3,13 @@ use Rattle.std.specs.Prelude.{List}
 use Rattle.type_terms.specs.Promised.Label.{Label}
 use Rattle.infer_table.specs.Canonical.{CanonicalForm}
 use Rattle.infer_table.specs.declared.canonical.CanonicalVarKind.{CanonicalVarKind}
-use Rattle.evaluation.specs.Lists.{Every}
-use Rattle.evaluation.specs.Table.{workings}
-use Rattle.evaluation.specs.Candidate.{Spec}
-use Rattle.evaluation.specs.FrameTables.{kinds_known, Nested, Equation}
-use Rattle.evaluation.specs.TableOperations.{begin, fresh}
-use Rattle.evaluation.specs.Tables.{frame_tables}
-use Rattle.evaluation.specs.Fitting.{AreOver, IsGoalOver, IsValueOver}
+use Rattle.goal_evaluator.specs.Lists.{Every}
+use Rattle.goal_evaluator.specs.Table.{workings}
+use Rattle.goal_evaluator.specs.Candidate.{Spec}
+use Rattle.goal_evaluator.specs.FrameTables.{kinds_known, Nested, Equation}
+use Rattle.goal_evaluator.specs.TableOperations.{begin, fresh}
+use Rattle.goal_evaluator.specs.Tables.{frame_tables}
+use Rattle.goal_evaluator.specs.Fitting.{AreOver, IsGoalOver, IsValueOver}
 use Rattle.goal_frames.specs.Rules.{RuleBook, AreRules}
 use Rattle.goal_frames.specs.Handlers.{bare_goal, candidates_of}
 

@@ -1,6 +1,6 @@
 -- Lists of rules over trees as programs: a context declares the list.
 use Rattle.std.specs.Prelude.{ℕ, Bool, List}
-use Rattle.evaluation.specs.Lists.{Every}
+use Rattle.goal_evaluator.specs.Lists.{Every}
 use Rattle.goal_frames.specs.Rules.{Rule, RuleBook, IsRule, is_coinductive, FollowsByRule}
 use Rattle.goal_frames.specs.Handlers.{handled_by}
 use Rattle.goal_frames.specs.Meanings.{Goals}

@@ -6,11 +6,11 @@ use Rattle.type_terms.specs.Made.{terms, is_made}
 use Rattle.infer_table.specs.Canonical.{GoalTrees}
 use Rattle.infer_table.specs.declared.canonical.CanonicalVarKind.{CanonicalVarKind}
 use Rattle.infer_table.specs.declared.canonical.CanonicalVarKind.TheVariants.{Ty, PlaceholderTy, Const, PlaceholderConst, Region}
-use Rattle.evaluation.specs.Lists.{Every, SomeOf}
-use Rattle.evaluation.specs.Proof.{FactHasProof}
-use Rattle.evaluation.specs.Instances.{goal_read}
-use Rattle.evaluation.specs.Content.{given, Fact}
-use Rattle.evaluation.specs.Variables.{is_variable_over, LabelStandsIn}
+use Rattle.goal_evaluator.specs.Lists.{Every, SomeOf}
+use Rattle.goal_evaluator.specs.Proof.{FactHasProof}
+use Rattle.goal_evaluator.specs.Instances.{goal_read}
+use Rattle.goal_evaluator.specs.Content.{given, Fact}
+use Rattle.goal_evaluator.specs.Variables.{is_variable_over, LabelStandsIn}
 
 -- ---- rules
 -- a trait with its arguments, the self type first: `?0: Show<u8>`

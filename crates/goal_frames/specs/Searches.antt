@@ -8,14 +8,14 @@ use Rattle.search_graph.specs.declared.delegate.Reply.{Reply}
 use Rattle.search_graph.specs.declared.delegate.Reply.TheVariants.{Begin, Result, Entered, Finished, Ignored}
 use Rattle.search_graph.specs.Meaning.{Meaning}
 use Rattle.infer_table.specs.Certainties.{is_certain}
-use Rattle.evaluation.specs.declared.TheConstants.{FIXPOINT_STEP_LIMIT}
-use Rattle.evaluation.specs.Lists.{IsAmong}
-use Rattle.evaluation.specs.Operations.{is_yes}
-use Rattle.evaluation.specs.Table.{Tables, operations}
-use Rattle.evaluation.specs.Law.{AgreesTo, IsInstance}
-use Rattle.evaluation.specs.Handler.{AnswerWithin, FollowsFrom}
-use Rattle.evaluation.specs.History as Frames
-use Rattle.evaluation.specs.Promises.{frame_of_goal}
+use Rattle.goal_evaluator.specs.declared.TheConstants.{FIXPOINT_STEP_LIMIT}
+use Rattle.goal_evaluator.specs.Lists.{IsAmong}
+use Rattle.goal_evaluator.specs.Operations.{is_yes}
+use Rattle.goal_evaluator.specs.Table.{Tables, operations}
+use Rattle.goal_evaluator.specs.Law.{AgreesTo, IsInstance}
+use Rattle.goal_evaluator.specs.Handler.{AnswerWithin, FollowsFrom}
+use Rattle.goal_evaluator.specs.History as Frames
+use Rattle.goal_evaluator.specs.Promises.{frame_of_goal}
 use Rattle.goal_frames.specs.Programs.{Programs}
 
 -- ---- requests and replies, as frames and as searches have them

@@ -5,11 +5,11 @@ use Rattle.infer_table.specs.declared.input.CanonicalInput.{CanonicalInput}
 use Rattle.infer_table.specs.declared.response.CanonicalResponse.{CanonicalResponse}
 use Rattle.infer_table.specs.Responses.{AnswerTrees}
 use Rattle.search_graph.specs.declared.delegate.Request.{Request}
-use Rattle.evaluation.specs.declared.TheConstants.{FIXPOINT_STEP_LIMIT}
-use Rattle.evaluation.specs.Handler.{Handled}
-use Rattle.evaluation.specs.History.{Reply}
-use Rattle.evaluation.specs.OpenCandidates.{questions_left}
-use Rattle.evaluation.specs.Tables.{frame_tables}
+use Rattle.goal_evaluator.specs.declared.TheConstants.{FIXPOINT_STEP_LIMIT}
+use Rattle.goal_evaluator.specs.Handler.{Handled}
+use Rattle.goal_evaluator.specs.History.{Reply}
+use Rattle.goal_evaluator.specs.OpenCandidates.{questions_left}
+use Rattle.goal_evaluator.specs.Tables.{frame_tables}
 use Rattle.goal_frames.specs.Frames.{ReplyIsDue, FrameSteps}
 use Rattle.goal_frames.specs.declared.frame.GoalFrame.{GoalFrame}
 use Rattle.goal_frames.specs.declared.frame.Place.{Place}

@@ -6,7 +6,7 @@ ghost use Rattle.type_terms.specs.Promised.Handles.{Entry};
 ghost use Rattle.infer_table.specs.Goals.{GoalHeld};
 ghost use Rattle.infer_table.specs.Canonical.{CanonicalForm};
 ghost use Rattle.infer_table.specs.declared.certainty.TypingMode.{TypingMode};
-ghost use Rattle.evaluation.specs.Readings.{ResultHeld, SpecHeld, is_coinductive_step};
+ghost use Rattle.goal_evaluator.specs.Readings.{ResultHeld, SpecHeld, is_coinductive_step};
 ghost use Rattle.goal_frames.specs.Searches.{step_kind};
 ghost use Rattle.goal_frames.specs.Meanings.{goal_meaning};
 ghost use Rattle.goal_frames.specs.Fitting.{ResultFits};
@@ -15,7 +15,7 @@ ghost use Rattle.goal_frames.specs.Frames.{FrameHeld, HasHeard, ReplyIsDue, Repl
 ghost use Rattle.goal_frames.specs.Steps.{AsksFewer};
 
 use crate::handler::GoalHandler;
-use evaluation::{
+use goal_evaluator::{
     CandidateSource, CandidateSpec, CandidateStep, Certainty, Considered, EvalError, GoalSource,
     HandlerStep, OpenCandidate, begin_candidate,
 };

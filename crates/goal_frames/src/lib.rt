@@ -1,5 +1,7 @@
-//! Frames of goals: what they mean to a search, the handlers that are lists of rules over trees, the frames that evaluate goals
-//! by a handler step by step, and the store of their goals and answers.
+//! Frames. A frame is the evaluation of one goal by a handler: it stops at each nested goal and goes on with the goal's result.
+//!
+//! Here are what frames mean to a search, the handlers that are lists of rules over terms, and the store of goals and responses. How
+//! a frame evaluates one candidate stands in `goal_evaluator`.
 #![tactic(auto)]
 
 mod frame;

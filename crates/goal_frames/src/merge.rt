@@ -3,13 +3,13 @@
 ghost use Rattle.type_terms.specs.Growth.{GrewOrFull};
 ghost use Rattle.std.specs.Prelude.{◌≡◌, IfOk};
 ghost use Rattle.infer_table.specs.Responses.{ResponseHeld, answer_trees};
-ghost use Rattle.evaluation.specs.Lists.{Every};
-ghost use Rattle.evaluation.specs.Readings.{ResultHeld};
-ghost use Rattle.evaluation.specs.TableAnswers.{IsWellFormed};
+ghost use Rattle.goal_evaluator.specs.Lists.{Every};
+ghost use Rattle.goal_evaluator.specs.Readings.{ResultHeld};
+ghost use Rattle.goal_evaluator.specs.TableAnswers.{IsWellFormed};
 ghost use Rattle.goal_frames.specs.Merges.{merge_of};
-ghost use Rattle.evaluation.specs.StepReadings.{result_read};
+ghost use Rattle.goal_evaluator.specs.StepReadings.{result_read};
 
-use evaluation::{flounder, try_merge_candidates};
+use goal_evaluator::{flounder, try_merge_candidates};
 use infer_table::canonical::CanonicalVarKind;
 use infer_table::response::CanonicalResponse;
 use std::alloc::Global;

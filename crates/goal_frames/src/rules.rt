@@ -1,9 +1,9 @@
 //! Lists of rules over trees as handlers of goals: over the tables of frames they keep the laws of handlers.
 
 ghost use Rattle.std.specs.Prelude.{Bool};
-ghost use Rattle.evaluation.specs.Table.{Tables, IsTable};
-ghost use Rattle.evaluation.specs.Handler.{IsHandler};
-ghost use Rattle.evaluation.specs.Merge.{TellsResponsesApart, IsTest};
+ghost use Rattle.goal_evaluator.specs.Table.{Tables, IsTable};
+ghost use Rattle.goal_evaluator.specs.Handler.{IsHandler};
+ghost use Rattle.goal_evaluator.specs.Merge.{TellsResponsesApart, IsTest};
 ghost use Rattle.goal_frames.specs.Listings.{Listing, IsListing, listed};
 ghost use Rattle.goal_frames.specs.Handlers.{HandlersAreLawful};
 ghost use Rattle.goal_frames.specs.RulePrograms.{RulesArePrograms};

@@ -1,7 +1,7 @@
 //! The frames of goals in a search graph: they keep the laws of its delegates.
 
 ghost use Rattle.std.specs.Prelude.{Option};
-ghost use Rattle.evaluation.specs.Table.{Tables, IsTable};
+ghost use Rattle.goal_evaluator.specs.Table.{Tables, IsTable};
 ghost use Rattle.search_graph.specs.Meaning.{IsLawful};
 ghost use Rattle.goal_frames.specs.Programs.{Programs, ArePrograms};
 ghost use Rattle.goal_frames.specs.Searches.{Handles, GoalInMode, meaning};

@@ -19,11 +19,11 @@ use Rattle.infer_table.specs.Solutions.{Assignment, Solves}
 use Rattle.infer_table.specs.declared.certainty.TypingMode.{TypingMode}
 use Rattle.infer_table.specs.declared.certainty.TypingMode.TheVariants.{Coherence}
 use Rattle.infer_table.specs.declared.goal.Goal.{Goal}
-use Rattle.evaluation.specs.Handler.{Handled}
-use Rattle.evaluation.specs.Tables.{frame_tables}
-use Rattle.solver_context.specs.Contexts.{Asked}
-use Rattle.solver_context.specs.Roots.{goal_in, fact_under, IsPosedGoal, AtProvedSolutions}
-use Rattle.text_definitions.specs.Promised.Declarations.{Question}
+use Rattle.goal_evaluator.specs.Handler.{Handled}
+use Rattle.goal_evaluator.specs.Tables.{frame_tables}
+use Rattle.solver_graph.specs.Contexts.{Asked}
+use Rattle.solver_graph.specs.Roots.{goal_in, fact_under, IsPosedGoal, AtProvedSolutions}
+use Rattle.text_language.specs.Promised.Declarations.{Question}
 use Rattle.view_lowering.specs.Promised.SeenWorlds.{unbound_reference}
 use Rattle.view_lowering.specs.Questions.{IsLowered}
 use Rattle.view_lowering.specs.declared.question.LoweredQuestion.{LoweredQuestion}

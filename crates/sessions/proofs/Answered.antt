@@ -16,11 +16,11 @@ use Rattle.infer_table.specs.WithoutCanonical.{HaveNoCanonical}
 use Rattle.infer_table.specs.declared.goal.Goal.{Goal}
 use Rattle.infer_table.proofs.Numbers.{goal-trees-later, goal-held-later}
 use Rattle.search_graph.specs.SearchState.{SearchState}
-use Rattle.evaluation.specs.Content.{Fact}
-use Rattle.evaluation.specs.Proof as Lists
-use Rattle.solver_context.specs.Contexts.{entries_of}
-use Rattle.solver_context.specs.Roots.{fact_under}
-use Rattle.solver_context.specs.declared.context.SolverCx.{SolverCx}
+use Rattle.goal_evaluator.specs.Content.{Fact}
+use Rattle.goal_evaluator.specs.Proof as Lists
+use Rattle.solver_graph.specs.Contexts.{entries_of}
+use Rattle.solver_graph.specs.Roots.{fact_under}
+use Rattle.solver_graph.specs.declared.context.SolverCx.{SolverCx}
 use Rattle.goal_frames.specs.Meanings.{HandlerMeaning}
 use Rattle.sessions.specs.Proved.{fact_with_values}
 use Rattle.sessions.specs.Proving.{AreReadOff, IsAnswered, IsRefusedGoal, IsUnsettledGoal, is_bound_term}

@@ -17,32 +17,32 @@ use Rattle.type_terms.specs.Made.{Standing, terms, bounds, traits, is_leaf_label
 use Rattle.type_terms.proofs.Made.{is_ordinary, false-true, no-tree, IsLast, made-ordinary, makes-ordinary, made-weaker, last-bound, last-trait, never-dynamic, never-dynamic-bound, never-principal}
 use Rattle.infer_table.specs.Canonical.{OpenKinds, kind_of_leaf, kind_in_clause, StandsIn, relabeled, canonical_label, leaves, is_among, GoalTrees, goal_leaves, canonical_form, HasNoCanonical}
 use Rattle.infer_table.specs.Solutions.{Assignment, IsSorted, instance}
-use Rattle.evaluation.specs.Lists.{Every}
-use Rattle.evaluation.specs.Instances.{as_place, term_at}
-use Rattle.evaluation.specs.Content.{Fact, fact_of}
-use Rattle.evaluation.specs.TableAnswers.{kinds_of}
-use Rattle.evaluation.specs.Variables.{is_variable_over}
-use Rattle.evaluation.proofs.ListLaws.{Every-mono}
-use Rattle.evaluation.proofs.Nodes.{every-leaf}
-use Rattle.evaluation.proofs.Readings.{HasLeaves, made-leaves}
+use Rattle.goal_evaluator.specs.Lists.{Every}
+use Rattle.goal_evaluator.specs.Instances.{as_place, term_at}
+use Rattle.goal_evaluator.specs.Content.{Fact, fact_of}
+use Rattle.goal_evaluator.specs.TableAnswers.{kinds_of}
+use Rattle.goal_evaluator.specs.Variables.{is_variable_over}
+use Rattle.goal_evaluator.proofs.ListLaws.{Every-mono}
+use Rattle.goal_evaluator.proofs.Nodes.{every-leaf}
+use Rattle.goal_evaluator.proofs.Readings.{HasLeaves, made-leaves}
 use Rattle.declarations.specs.Applied.{sorts_of}
-use Rattle.assembly_laws.specs.Asking.{GoalOverKinds, goal_over_kinds, asked_with, asked_if, are_clauses, begins_with_type, next_of}
-use Rattle.assembly_laws.specs.DeclaredWell.{are_distinct}
-use Rattle.assembly_laws.specs.Facts.{trees_of_clauses, clauses_of, reference_in, is_unerased}
-use Rattle.assembly_laws.proofs.Instances.{is_bound}
+use Rattle.candidate_model.specs.Asking.{GoalOverKinds, goal_over_kinds, asked_with, asked_if, are_clauses, begins_with_type, next_of}
+use Rattle.candidate_model.specs.DeclaredWell.{are_distinct}
+use Rattle.candidate_model.specs.Facts.{trees_of_clauses, clauses_of, reference_in, is_unerased}
+use Rattle.candidate_model.proofs.Instances.{is_bound}
 use Rattle.goal_frames.specs.Forms.{is_unnumbered}
-use Rattle.solver_context.specs.Roots.{fact_under, values_under, question_of}
-use Rattle.solver_context.proofs.Forms.{form-instance}
-use Rattle.solver_exactness.specs.ClosedTables.{IsClosedKind, AreClosed, FitPlaces, TellPlaces}
-use Rattle.solver_exactness.specs.FormedAnswers.{IsFormedGoal}
-use Rattle.solver_exactness.specs.FormedFacts.{Sorts, AreTypeSorts, FitsNode, NodesFit, IsFormed, IsFormedFact, IsFormedView}
-use Rattle.solver_exactness.specs.GoalSets.{begins_typed, any_label}
-use Rattle.solver_exactness.specs.SolverChoices.{IsElaborated}
-use Rattle.solver_exactness.specs.UnboundGoals.{is_unbound}
-use Rattle.solver_exactness.proofs.ClosedQuestions.{IsAt, placeholder-at, once-leaves, one-place}
-use Rattle.solver_exactness.proofs.QuestionNames.{names-numbered}
-use Rattle.solver_exactness.proofs.Renumbering.{kinds-known, made-numbered, made-in-clause, goal-open, goal-listed}
-use Rattle.solver_exactness.proofs.UnboundTerms.{numbered-unbound}
+use Rattle.solver_graph.specs.Roots.{fact_under, values_under, question_of}
+use Rattle.solver_graph.proofs.Forms.{form-instance}
+use Rattle.solver_completeness.specs.ClosedTables.{IsClosedKind, AreClosed, FitPlaces, TellPlaces}
+use Rattle.solver_completeness.specs.FormedAnswers.{IsFormedGoal}
+use Rattle.solver_completeness.specs.FormedFacts.{Sorts, AreTypeSorts, FitsNode, NodesFit, IsFormed, IsFormedFact, IsFormedView}
+use Rattle.solver_completeness.specs.GoalSets.{begins_typed, any_label}
+use Rattle.solver_completeness.specs.SolverChoices.{IsElaborated}
+use Rattle.solver_completeness.specs.UnboundGoals.{is_unbound}
+use Rattle.solver_completeness.proofs.ClosedQuestions.{IsAt, placeholder-at, once-leaves, one-place}
+use Rattle.solver_completeness.proofs.QuestionNames.{names-numbered}
+use Rattle.solver_completeness.proofs.Renumbering.{kinds-known, made-numbered, made-in-clause, goal-open, goal-listed}
+use Rattle.solver_completeness.proofs.UnboundTerms.{numbered-unbound}
 use Rattle.sessions.specs.Goals.{goal_of, is_fixed, are_fixed, IsFormedQuestion, AsksUnderClauses, FormedQuestionsAreGoals}
 use Rattle.infer_table.proofs.Basics.{clause-known as clause-open}
 use Rattle.type_terms.proofs.BooleanBasics.{not-true}

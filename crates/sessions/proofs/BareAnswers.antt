@@ -23,10 +23,10 @@ use Rattle.infer_table.specs.Values.{Value, value_for, if_of_sort, filled}
 use Rattle.infer_table.specs.declared.canonical.CanonicalVarKind.{CanonicalVarKind}
 use Rattle.infer_table.proofs.SolutionLaws.{is_sort-equal as is-sort}
 use Rattle.infer_table.proofs.UnifyFacts.{same-self}
-use Rattle.evaluation.specs.FrameTables.{kind_at}
-use Rattle.evaluation.specs.TableAnswers.{is_variable_itself, are_variables, has_values, is_kind_of, is_variable_of, is_fitting, are_fitting, is_fitting_answer, put_into, leaf_value}
-use Rattle.evaluation.proofs.Applying.{for-bindings, new-value}
-use Rattle.solver_context.specs.Roots.{left_by}
+use Rattle.goal_evaluator.specs.FrameTables.{kind_at}
+use Rattle.goal_evaluator.specs.TableAnswers.{is_variable_itself, are_variables, has_values, is_kind_of, is_variable_of, is_fitting, are_fitting, is_fitting_answer, put_into, leaf_value}
+use Rattle.goal_evaluator.proofs.Applying.{for-bindings, new-value}
+use Rattle.solver_graph.specs.Roots.{left_by}
 use Rattle.type_terms.proofs.TermBasics.{is_sort-self}
 use Rattle.type_terms.proofs.NumberBasics.{itself, number-self}
 

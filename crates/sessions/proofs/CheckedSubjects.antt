@@ -1,7 +1,7 @@
 -- What is said of a session after some calls holds as it was before them, and the pairs of all numbers are passed one by one.
 use Rattle.std.proofs.Common.{◌≡◌, ℕ, ◌<◌, ◌≤◌, ◌+◌, arith, Bool, true, false, Option, Some, None, refl, sym, ◌∙◌, subst, ◌⊎◌, inl, inr, length}
 use Rattle.type_terms.specs.declared.ImplId.{ImplId}
-use Rattle.text_definitions.specs.Promised.Declarations.{Declarations}
+use Rattle.text_language.specs.Promised.Declarations.{Declarations}
 use Rattle.type_terms.specs.Promised.Verdicts.{IsOverlap, IsAccepted, KeepsOrphanRule}
 use Rattle.overlap_check.proofs.Contracts.{passed-accepted}
 use Rattle.workspace.specs.Numbered.{IsNumbered}

@@ -15,7 +15,7 @@ use Rattle.declarations.specs.Applied.{IsApplied, sorts_of, sorts_of_params}
 use Rattle.declarations.specs.Items.{reference_in, trait_at}
 use Rattle.declarations.specs.Promised.Elaboration.{Each}
 use Rattle.declarations.specs.declared.items.TraitDef.{TraitDef}
-use Rattle.assembly_laws.proofs.Instances.{is_bound}
+use Rattle.candidate_model.proofs.Instances.{is_bound}
 use Rattle.sessions.specs.Applying.{TextsClausesApply}
 use Rattle.sessions.proofs.AskedGoals.{all-fixed, none-pass, fixed-unbound}
 use Rattle.sessions.proofs.TextQuestions.{clause-formed}

@@ -15,7 +15,7 @@ use Rattle.infer_table.proofs.EquationFacts.{solved-sorted}
 use Rattle.infer_table.proofs.OccurFacts.{lifetime-unbound}
 use Rattle.infer_table.proofs.SolutionLaws.{resolved-unbound}
 use Rattle.infer_table.proofs.SolvableLaws.{completed, instance-completed, tidy-completion}
-use Rattle.assembly_laws.specs.Facts.{is_unerased}
+use Rattle.candidate_model.specs.Facts.{is_unerased}
 use Rattle.type_terms.specs.Promised.Questions.{FitKinds, filled, is_bound_place}
 use Rattle.sessions.specs.Proving.{is_bound_term}
 use Rattle.sessions.specs.Tables.{count_of}

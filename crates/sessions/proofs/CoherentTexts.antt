@@ -15,7 +15,7 @@ use Rattle.type_terms.proofs.HeldSets.{held-linked}
 use Rattle.type_terms.specs.Promised.Verdicts.{IsAccepted}
 use Rattle.type_terms.specs.Promised.SetLaws.{HeadlineHolds, AnswersHold, AnswersHoldEverywhere}
 use Rattle.type_terms.specs.Promised.Questions.{filled_reference, SolutionBy, Solution, yes, IsProveAnswer, no, IsRefuteAnswer}
-use Rattle.text_definitions.specs.Promised.Declarations.{Declarations}
+use Rattle.text_language.specs.Promised.Declarations.{Declarations}
 use Rattle.sessions.specs.Promised.CoherentTexts.{text_world}
 use Rattle.sessions.specs.Promised.Promises.{view_in}
 use Rattle.sessions.specs.Promised.CoherentTexts.{CratesAreAccepted, CratesAreHeld, TextIsCoherent, HeldTextsAreCoherent}
@@ -23,7 +23,7 @@ use Rattle.sessions.specs.CoherentTexts.{AcceptedTextsAreCoherent}
 use Rattle.sessions.proofs.OwnValues.{solved}
 use Rattle.sessions.proofs.KeptTexts.{AllKept, texts-are-kept}
 use Rattle.sessions.proofs.JoinedTexts.{joined, home-below, of-core, core-or-later, map-at}
-use Rattle.language_definitions.proofs.SameTexts.{text-gives}
+use Rattle.text_language.proofs.SameTexts.{text-gives}
 
 -- the numbers from 1 up to n
 abbrev up_to : ℕ → List ℕ

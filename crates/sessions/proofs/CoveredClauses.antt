@@ -8,8 +8,8 @@ use Rattle.type_terms.proofs.Members.{same-number}
 use Rattle.type_terms.proofs.Walking.{or-left as or-here, or-right as or-there}
 use Rattle.type_terms.specs.Made.{Standing, terms, bounds, traits, is_made}
 use Rattle.type_terms.proofs.Made.{left, right, false-true, no-tree, made-ordinary, last-bound, last-trait, never-dynamic, never-dynamic-bound, never-principal}
-use Rattle.assembly_laws.specs.Candidates.{is_param}
-use Rattle.assembly_laws.specs.Declared.{is_declared}
+use Rattle.candidate_model.specs.Candidates.{is_param}
+use Rattle.candidate_model.specs.Declared.{is_declared}
 use Rattle.view_lowering.specs.Promised.SeenWorlds.{plain, plain_label, all_kept}
 use Rattle.view_lowering.proofs.Sorts.{is_bad}
 use Rattle.view_lowering.proofs.Tests.{is_good, all_stand}

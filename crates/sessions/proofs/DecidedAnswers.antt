@@ -13,15 +13,15 @@ use Rattle.goal_frames.specs.declared.store.InputId.{InputId}
 use Rattle.goal_frames.specs.declared.store.ResponseId.{ResponseId}
 use Rattle.goal_frames.specs.declared.frame.GoalFrame.{GoalFrame}
 use Rattle.goal_frames.specs.Searches.{Handles, GoalInMode}
-use Rattle.evaluation.specs.Tables.{frame_tables}
-use Rattle.solver_context.specs.declared.context.SolverCx.{SolverCx}
-use Rattle.solver_context.specs.Searching.{handles}
-use Rattle.text_definitions.specs.Promised.Declarations.{Declarations, Question}
+use Rattle.goal_evaluator.specs.Tables.{frame_tables}
+use Rattle.solver_graph.specs.declared.context.SolverCx.{SolverCx}
+use Rattle.solver_graph.specs.Searching.{handles}
+use Rattle.text_language.specs.Promised.Declarations.{Declarations, Question}
 use Rattle.view_lowering.specs.Promised.SeenWorlds.{all_kept, plain_reference, unbound_reference}
 use Rattle.view_lowering.specs.Plain.{unbound_references}
 use Rattle.view_lowering.specs.Promised.Questions.{IsQuestion}
-use Rattle.assembly_laws.specs.Meaning.{SelfTypesBegin}
-use Rattle.assembly_laws.proofs.ErasedCandidates.{without_lifetimes}
+use Rattle.candidate_model.specs.Meaning.{SelfTypesBegin}
+use Rattle.candidate_model.proofs.ErasedCandidates.{without_lifetimes}
 use Rattle.candidate_assembly.specs.declared.solver.Solver.{Solver}
 use Rattle.candidate_assembly.specs.Solving.{Solving}
 use Rattle.candidate_assembly.specs.SolverMeaning.{solver_by_view}

@@ -7,7 +7,7 @@ use Rattle.type_terms.specs.Promised.LinkedSet.{is_stray}
 use Rattle.type_terms.specs.Promised.Versions.{well_written, label_allowed, label_shaped, begins_with_bound}
 use Rattle.type_terms.specs.Made.{Standing, terms, bounds, traits, is_made}
 use Rattle.type_terms.proofs.Made.{left, right, both, false-true, no-tree, made-ordinary, last-bound, last-trait, never-dynamic, never-dynamic-bound, never-principal}
-use Rattle.assembly_laws.specs.Declared.{is_declared}
+use Rattle.candidate_model.specs.Declared.{is_declared}
 use Rattle.view_lowering.proofs.Trees.{or}
 use Rattle.sessions.proofs.TextTerms.{Scope, IsStructAt, IsTraitAt, TextNode, TextNodes}
 use Rattle.type_terms.specs.Promised.Supers.{no_param, dyns_of_bounds}

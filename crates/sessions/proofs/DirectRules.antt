@@ -6,21 +6,21 @@ use Rattle.type_terms.specs.Promised.Worlds.{World, Reference}
 use Rattle.type_terms.specs.Promised.Rules.{Rule, by_clause, by_super, impl_rules, built_in_rules, same_reference, strict_supertraits, super_rules, clause_rules, elaborated}
 use Rattle.type_terms.specs.Promised.Proofs.{In, HasProof}
 use Rattle.type_terms.proofs.Members.{here, there, in-cases, in-nothing, in-flat, flat-in, some-member, member-some, not-both}
-use Rattle.evaluation.specs.Lists.{Every, SomeOf}
-use Rattle.evaluation.specs.Content.{Fact}
-use Rattle.evaluation.proofs.ListLaws.{Every-mono}
-use Rattle.assembly_laws.specs.Facts.{clauses_of, reference_in, beside}
-use Rattle.solver_exactness.specs.ModelWays.{ways_under}
-use Rattle.solver_exactness.specs.SolverChoices.{IsElaborated}
-use Rattle.solver_exactness.specs.SolverGoals.{FactIsProved}
-use Rattle.solver_exactness.specs.SolverWays.{facts_beside, premises_of}
-use Rattle.solver_exactness.specs.Ways.{AtMostOneHolds, HasOneWayWithin, HoldsByWays}
-use Rattle.solver_exactness.proofs.ModelWays.{proofs_are_by_ways}
-use Rattle.solver_exactness.proofs.MovedWays.{every-from, every-to, some-from, some-to, one-to}
-use Rattle.solver_exactness.proofs.Selecting.{every-left, some-cases, some-both, one-left, one-right, one-cross, one-both, copies, hits, hit, which, AreOnce, map-either}
-use Rattle.evaluation.proofs.Basics.{every-append}
+use Rattle.goal_evaluator.specs.Lists.{Every, SomeOf}
+use Rattle.goal_evaluator.specs.Content.{Fact}
+use Rattle.goal_evaluator.proofs.ListLaws.{Every-mono}
+use Rattle.candidate_model.specs.Facts.{clauses_of, reference_in, beside}
+use Rattle.solver_completeness.specs.ModelWays.{ways_under}
+use Rattle.solver_completeness.specs.SolverChoices.{IsElaborated}
+use Rattle.solver_completeness.specs.SolverGoals.{FactIsProved}
+use Rattle.solver_completeness.specs.SolverWays.{facts_beside, premises_of}
+use Rattle.solver_completeness.specs.Ways.{AtMostOneHolds, HasOneWayWithin, HoldsByWays}
+use Rattle.solver_completeness.proofs.ModelWays.{proofs_are_by_ways}
+use Rattle.solver_completeness.proofs.MovedWays.{every-from, every-to, some-from, some-to, one-to}
+use Rattle.solver_completeness.proofs.Selecting.{every-left, some-cases, some-both, one-left, one-right, one-cross, one-both, copies, hits, hit, which, AreOnce, map-either}
+use Rattle.goal_evaluator.proofs.Basics.{every-append}
 use Rattle.type_terms.proofs.ListBasics.{append-assoc}
-use Rattle.solver_exactness.proofs.Basics.{premises-append}
+use Rattle.solver_completeness.proofs.Basics.{premises-append}
 
 -- ---- the rules
 abbrev pub own_rules : Reference → ℕ → List Reference → List Rule

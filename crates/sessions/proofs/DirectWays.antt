@@ -8,50 +8,50 @@ use Rattle.type_terms.proofs.Walking.{both}
 use Rattle.infer_table.specs.Canonical.{CanonicalForm}
 use Rattle.infer_table.specs.Responses.{AnswerTrees}
 use Rattle.infer_table.specs.declared.certainty.TypingMode.TheVariants.{PostAnalysis}
-use Rattle.evaluation.specs.Content.{Values, Fact, NestedQuestion, fact_of}
-use Rattle.evaluation.specs.FrameTables.{kinds_known}
-use Rattle.evaluation.specs.TableOperations.{begin}
-use Rattle.evaluation.specs.Tables.{frame_tables}
-use Rattle.evaluation.proofs.FrameTableLaws.{tables_are_lawful}
-use Rattle.evaluation.proofs.TableBeginning.{begin-made}
+use Rattle.goal_evaluator.specs.Content.{Values, Fact, NestedQuestion, fact_of}
+use Rattle.goal_evaluator.specs.FrameTables.{kinds_known}
+use Rattle.goal_evaluator.specs.TableOperations.{begin}
+use Rattle.goal_evaluator.specs.Tables.{frame_tables}
+use Rattle.goal_evaluator.proofs.FrameTableLaws.{tables_are_lawful}
+use Rattle.goal_evaluator.proofs.TableBeginning.{begin-made}
 use Rattle.goal_frames.specs.Programs.{ArePrograms}
 use Rattle.goal_frames.specs.Searches.{Handles, GoalInMode as AskedGoal}
-use Rattle.assembly_laws.specs.Facts.{is_plain, clauses_of, reference_in}
-use Rattle.assembly_laws.specs.Meaning.{ViewMeaning}
-use Rattle.assembly_laws.specs.DeclaredWell.{IsDeclaredWell}
-use Rattle.assembly_laws.specs.Asking.{GoalOverKinds, goal_over_kinds, clauses, self_of, next_of, begins_unknown}
-use Rattle.assembly_laws.specs.Candidates.{Candidate, unsure, by_clauses, built_in, by_sized, by_copy, by_auto, by_tuple, by_fn_ptr, by_call, by_unsize, by_impls, by_objects, as_written, misc, if_so, unsize_known, unsizing_outlives, unsize_recording, unsize_array_of, upcasts_of, unsize_struct_of}
-use Rattle.assembly_laws.specs.Cover.{goal_fact}
-use Rattle.assembly_laws.specs.Solver.{solver_planned}
-use Rattle.solver_exactness.specs.Closed.{no_more, AreWays}
-use Rattle.solver_exactness.specs.ClosedTables.{AreClosed, ArePlaces, closed_tables}
-use Rattle.solver_exactness.specs.Exact.{AnswersExactly, AreSure}
-use Rattle.solver_exactness.specs.FormedAnswers.{IsFormedGoal, AreDeclared}
-use Rattle.solver_exactness.specs.FormedFacts.{Sorts, IsFormedFact}
-use Rattle.solver_exactness.specs.GoalSets.{IsGoalOf}
-use Rattle.solver_exactness.specs.RowWays.{AreWaysOf, RowsAreWaysAt, EquatedRowsAreWaysAt, if_of, clause_ways, autos_stand_once}
-use Rattle.solver_exactness.specs.SolverAnswers.{meant_for, solver_programs, IsOnlyFor}
-use Rattle.solver_exactness.specs.SolverChoices.{IsElaborated}
-use Rattle.solver_exactness.specs.SolverGoals.{IsGoal, AreGoals, FactIsProved}
-use Rattle.solver_exactness.specs.SolverPlans.{specs_outside}
-use Rattle.solver_exactness.specs.SolverWays.{facts_beside, premises_of}
-use Rattle.solver_exactness.specs.Ways.{IsSelection, HasOneWayWithin, IsRightFor}
-use Rattle.solver_exactness.proofs.Arranging.{rules-arranged, mixed-select, clauses-select}
-use Rattle.solver_exactness.proofs.BoundRows.{Selected, exactly, both-selected, recorded-selected, upcasts-under, objects}
-use Rattle.solver_exactness.proofs.ClosedLaws.{closed_tables_are_lawful}
-use Rattle.solver_exactness.proofs.Clauses.{clauses-at}
-use Rattle.solver_exactness.proofs.EquatedRows.{equated-rows-at}
-use Rattle.solver_exactness.proofs.ExactPlans.{IsExactPlan, planned-exact}
-use Rattle.solver_exactness.proofs.FormedWays.{formed-are-kept}
-use Rattle.solver_exactness.proofs.Found.{found_is_right}
-use Rattle.solver_exactness.proofs.GoalSets.{goals-lead-to-goals}
-use Rattle.solver_exactness.proofs.ImplRows.{impls}
-use Rattle.solver_exactness.proofs.Instances.{instance, instance-is, kinds-closed}
-use Rattle.solver_exactness.proofs.Rows.{rows-at}
-use Rattle.solver_exactness.proofs.Selecting.{chained, itself}
-use Rattle.solver_exactness.proofs.SolverHandlers.{kinds-all, few, plan-exact, specs-determined}
-use Rattle.solver_exactness.proofs.SolverPlans.{begins-known, kinds-are}
-use Rattle.solver_exactness.proofs.SolverSpecs.{specs-are-sure}
+use Rattle.candidate_model.specs.Facts.{is_plain, clauses_of, reference_in}
+use Rattle.candidate_model.specs.Meaning.{ViewMeaning}
+use Rattle.candidate_model.specs.DeclaredWell.{IsDeclaredWell}
+use Rattle.candidate_model.specs.Asking.{GoalOverKinds, goal_over_kinds, clauses, self_of, next_of, begins_unknown}
+use Rattle.candidate_model.specs.Candidates.{Candidate, unsure, by_clauses, built_in, by_sized, by_copy, by_auto, by_tuple, by_fn_ptr, by_call, by_unsize, by_impls, by_objects, as_written, misc, if_so, unsize_known, unsizing_outlives, unsize_recording, unsize_array_of, upcasts_of, unsize_struct_of}
+use Rattle.candidate_model.specs.Cover.{goal_fact}
+use Rattle.candidate_model.specs.Solver.{solver_planned}
+use Rattle.solver_completeness.specs.Closed.{no_more, AreWays}
+use Rattle.solver_completeness.specs.ClosedTables.{AreClosed, ArePlaces, closed_tables}
+use Rattle.solver_completeness.specs.Exact.{AnswersExactly, AreSure}
+use Rattle.solver_completeness.specs.FormedAnswers.{IsFormedGoal, AreDeclared}
+use Rattle.solver_completeness.specs.FormedFacts.{Sorts, IsFormedFact}
+use Rattle.solver_completeness.specs.GoalSets.{IsGoalOf}
+use Rattle.solver_completeness.specs.RowWays.{AreWaysOf, RowsAreWaysAt, EquatedRowsAreWaysAt, if_of, clause_ways, autos_stand_once}
+use Rattle.solver_completeness.specs.SolverAnswers.{meant_for, solver_programs, IsOnlyFor}
+use Rattle.solver_completeness.specs.SolverChoices.{IsElaborated}
+use Rattle.solver_completeness.specs.SolverGoals.{IsGoal, AreGoals, FactIsProved}
+use Rattle.solver_completeness.specs.SolverPlans.{specs_outside}
+use Rattle.solver_completeness.specs.SolverWays.{facts_beside, premises_of}
+use Rattle.solver_completeness.specs.Ways.{IsSelection, HasOneWayWithin, IsRightFor}
+use Rattle.solver_completeness.proofs.Arranging.{rules-arranged, mixed-select, clauses-select}
+use Rattle.solver_completeness.proofs.BoundRows.{Selected, exactly, both-selected, recorded-selected, upcasts-under, objects}
+use Rattle.solver_completeness.proofs.ClosedLaws.{closed_tables_are_lawful}
+use Rattle.solver_completeness.proofs.Clauses.{clauses-at}
+use Rattle.solver_completeness.proofs.EquatedRows.{equated-rows-at}
+use Rattle.solver_completeness.proofs.ExactPlans.{IsExactPlan, planned-exact}
+use Rattle.solver_completeness.proofs.FormedWays.{formed-are-kept}
+use Rattle.solver_completeness.proofs.Found.{found_is_right}
+use Rattle.solver_completeness.proofs.GoalSets.{goals-lead-to-goals}
+use Rattle.solver_completeness.proofs.ImplRows.{impls}
+use Rattle.solver_completeness.proofs.Instances.{instance, instance-is, kinds-closed}
+use Rattle.solver_completeness.proofs.Rows.{rows-at}
+use Rattle.solver_completeness.proofs.Selecting.{chained, itself}
+use Rattle.solver_completeness.proofs.SolverHandlers.{kinds-all, few, plan-exact, specs-determined}
+use Rattle.solver_completeness.proofs.SolverPlans.{begins-known, kinds-are}
+use Rattle.solver_completeness.proofs.SolverSpecs.{specs-are-sure}
 use Rattle.sessions.proofs.DirectRules.{own_rules, direct_clauses, direct_rules, direct_under, direct_ways, proved-directly}
 
 -- ---- where-clauses that are the reference

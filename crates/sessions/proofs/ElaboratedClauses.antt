@@ -14,23 +14,23 @@ use Rattle.type_terms.proofs.Members.{here, there, in-cases, in-nothing, in-filt
 use Rattle.type_terms.proofs.Supertraits.{flat-same}
 use Rattle.type_terms.specs.Made.{terms, is_leaf_label, is_made}
 use Rattle.type_terms.proofs.Made.{left, both, false-true, is_ordinary, made-ordinary, made-rest, made-alone, made-weaker}
-use Rattle.evaluation.specs.Lists.{Every}
+use Rattle.goal_evaluator.specs.Lists.{Every}
 use Rattle.declarations.specs.Applied.{sorts_of}
 use Rattle.declarations.specs.Promised.Elaboration.{elaborate, all_levels}
-use Rattle.assembly_laws.specs.Asking.{next_of}
-use Rattle.assembly_laws.specs.Declared.{is_declared, is_lifetime_parameter}
-use Rattle.assembly_laws.specs.DeclaredWell.{IsDeclaredWell, are_distinct}
-use Rattle.assembly_laws.proofs.DeclaredParts.{bound-declared}
-use Rattle.assembly_laws.proofs.ErasedRows.{label-stays}
-use Rattle.assembly_laws.proofs.Levels.{strict-closed, all-closed}
-use Rattle.assembly_laws.proofs.Objects.{map-flat, flat-map}
-use Rattle.assembly_laws.proofs.PlainRules.{is_wild, tame}
-use Rattle.assembly_laws.proofs.Stack.{elaborated-all, elaborated-only}
-use Rattle.solver_exactness.specs.FormedFacts.{Sorts, EachNode, AreTypeSorts, IsParamOf, HasParams, FitsNode, NodesFit, IsFormed, IsFormedView, FitsSorts}
-use Rattle.solver_exactness.specs.GoalSets.{begins_typed, any_label}
-use Rattle.solver_exactness.specs.SolverChoices.{IsElaborated}
-use Rattle.solver_exactness.proofs.FormedFacts.{supers-good}
-use Rattle.solver_exactness.proofs.FormedInstances.{Stands, stands-cases, param-is, fits-by}
+use Rattle.candidate_model.specs.Asking.{next_of}
+use Rattle.candidate_model.specs.Declared.{is_declared, is_lifetime_parameter}
+use Rattle.candidate_model.specs.DeclaredWell.{IsDeclaredWell, are_distinct}
+use Rattle.candidate_model.proofs.DeclaredParts.{bound-declared}
+use Rattle.candidate_model.proofs.ErasedRows.{label-stays}
+use Rattle.candidate_model.proofs.Levels.{strict-closed, all-closed}
+use Rattle.candidate_model.proofs.Objects.{map-flat, flat-map}
+use Rattle.candidate_model.proofs.PlainRules.{is_wild, tame}
+use Rattle.candidate_model.proofs.Stack.{elaborated-all, elaborated-only}
+use Rattle.solver_completeness.specs.FormedFacts.{Sorts, EachNode, AreTypeSorts, IsParamOf, HasParams, FitsNode, NodesFit, IsFormed, IsFormedView, FitsSorts}
+use Rattle.solver_completeness.specs.GoalSets.{begins_typed, any_label}
+use Rattle.solver_completeness.specs.SolverChoices.{IsElaborated}
+use Rattle.solver_completeness.proofs.FormedFacts.{supers-good}
+use Rattle.solver_completeness.proofs.FormedInstances.{Stands, stands-cases, param-is, fits-by}
 use Rattle.sessions.specs.Clauses.{AddSupertraits, BoundsFit}
 use Rattle.sessions.specs.Goals.{is_fixed, are_fixed}
 use Rattle.sessions.proofs.AskedGoals.{all-fixed, erased-plain, made-erased, erased-sorts, erased-begins, erased-next, autos-erased, nodes-erased}

@@ -9,9 +9,9 @@ use Rattle.type_terms.specs.Promised.Rules.{written_supertraits, strict_supertra
 use Rattle.type_terms.specs.Promised.Worlds.{World, Reference, StructDecl, TraitDecl, ImplDecl, traits_named, all_with_args}
 use Rattle.type_terms.proofs.RenumberedRules.{map-append}
 use Rattle.type_terms.proofs.TermRules.{filter-map}
-use Rattle.evaluation.specs.Promised.Widths.{count, width, with_self}
-use Rattle.evaluation.proofs.Widths.{count-append}
-use Rattle.assembly_laws.specs.Promised.Widths.{clauses_in, declared_width, greatest, supers_of, width_of}
+use Rattle.goal_evaluator.specs.Promised.Widths.{count, width, with_self}
+use Rattle.goal_evaluator.proofs.Widths.{count-append}
+use Rattle.candidate_model.specs.Promised.Widths.{clauses_in, declared_width, greatest, supers_of, width_of}
 use Rattle.view_lowering.specs.Promised.SeenWorlds.{plain_reference}
 use Rattle.sessions.proofs.SeenPlainly.{reference-erased}
 use Rattle.type_terms.proofs.ListBasics.{map-length as length-map}

@@ -17,21 +17,21 @@ use Rattle.goal_frames.specs.declared.store.InputId.{InputId}
 use Rattle.goal_frames.specs.declared.store.ResponseId.{ResponseId}
 use Rattle.goal_frames.specs.declared.frame.GoalFrame.{GoalFrame}
 use Rattle.goal_frames.specs.Searches.{Handles, GoalInMode}
-use Rattle.evaluation.specs.Tables.{frame_tables}
-use Rattle.solver_context.specs.declared.context.SolverCx.{SolverCx}
-use Rattle.solver_context.specs.Searching.{handles}
-use Rattle.text_definitions.specs.Promised.Declarations.{Declarations, Question}
+use Rattle.goal_evaluator.specs.Tables.{frame_tables}
+use Rattle.solver_graph.specs.declared.context.SolverCx.{SolverCx}
+use Rattle.solver_graph.specs.Searching.{handles}
+use Rattle.text_language.specs.Promised.Declarations.{Declarations, Question}
 use Rattle.view_lowering.specs.Promised.SeenWorlds.{plain_label, plain, all_kept, unbound_reference}
 use Rattle.view_lowering.specs.Promised.Questions.{IsQuestion}
 use Rattle.view_lowering.specs.Promised.Questions.{variable_kinds}
 use Rattle.view_lowering.specs.QuestionVariables.{is_stray, HasVariablesAlone}
 use Rattle.view_lowering.specs.Ready.{AreSeen}
-use Rattle.assembly_laws.specs.Meaning.{SelfTypesBegin}
+use Rattle.candidate_model.specs.Meaning.{SelfTypesBegin}
 use Rattle.candidate_assembly.specs.declared.solver.Solver.{Solver}
 use Rattle.candidate_assembly.specs.Solving.{Solving}
-use Rattle.solver_exactness.specs.FormedFacts.{Sorts, IsFormed, IsFormedView}
-use Rattle.solver_exactness.specs.SolverAnswers.{TellsPossible}
-use Rattle.assembly_laws.specs.DeclaredWell.{IsDeclaredWell}
+use Rattle.solver_completeness.specs.FormedFacts.{Sorts, IsFormed, IsFormedView}
+use Rattle.solver_completeness.specs.SolverAnswers.{TellsPossible}
+use Rattle.candidate_model.specs.DeclaredWell.{IsDeclaredWell}
 use Rattle.candidate_assembly.specs.SolverMeaning.{solver_by_view}
 use Rattle.sessions.specs.Answers.{solver_goals, IsOnlyAnswer}
 use Rattle.sessions.specs.Asking.{IsLeftOpen}

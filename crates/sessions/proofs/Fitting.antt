@@ -15,18 +15,18 @@ use Rattle.type_terms.specs.Made.{terms, is_leaf_label, is_made}
 use Rattle.type_terms.proofs.Made.{is_ordinary, made-ordinary, made-rest}
 use Rattle.type_terms.specs.Promised.Handles.{Entry}
 use Rattle.infer_table.specs.Canonical.{CanonicalForm}
-use Rattle.evaluation.specs.Variables.{is_variable_over}
+use Rattle.goal_evaluator.specs.Variables.{is_variable_over}
 use Rattle.declarations.specs.declared.items.AdtDef.{AdtDef}
 use Rattle.declarations.specs.declared.items.TraitDef.{TraitDef}
 use Rattle.declarations.specs.Applied.{sort_of_param, sorts_of, sorts_of_params}
 use Rattle.declarations.specs.Items.{Items, struct_at, trait_at, written}
-use Rattle.assembly_laws.specs.Asking.{GoalOverKinds, goal_over_kinds, all_known, next_of, with_plain_head, self_of}
-use Rattle.assembly_laws.specs.Lifetimes.{lacks_lifetime, are_given, gives_lifetimes, given_by, form_gives_lifetimes}
-use Rattle.assembly_laws.proofs.Cover.{asked-by}
-use Rattle.assembly_laws.proofs.Instances.{is_bound, Unbound}
+use Rattle.candidate_model.specs.Asking.{GoalOverKinds, goal_over_kinds, all_known, next_of, with_plain_head, self_of}
+use Rattle.candidate_model.specs.Lifetimes.{lacks_lifetime, are_given, gives_lifetimes, given_by, form_gives_lifetimes}
+use Rattle.candidate_model.proofs.Cover.{asked-by}
+use Rattle.candidate_model.proofs.Instances.{is_bound, Unbound}
 use Rattle.candidate_assembly.specs.Fitting.{same_sorts, are_of_trait, is_shut, names_unsize, principal_fits, type_fits, reference_fits, predicate_fits, fits_declared, solving_of}
-use Rattle.solver_exactness.specs.FormedFacts.{Sorts, EachNode, IsParamOf, HasParams, IsTraitOf, NodesFit, FitsSorts, IsFormedView}
-use Rattle.solver_exactness.specs.UnboundGoals.{is_unbound}
+use Rattle.solver_completeness.specs.FormedFacts.{Sorts, EachNode, IsParamOf, HasParams, IsTraitOf, NodesFit, FitsSorts, IsFormedView}
+use Rattle.solver_completeness.specs.UnboundGoals.{is_unbound}
 use Rattle.sessions.specs.Fitting.{sorts_in, fits_in, SortsTellFits}
 use Rattle.type_terms.proofs.TermBasics.{sort-self as same-sort}
 use Rattle.type_terms.proofs.BooleanBasics.{none-of}

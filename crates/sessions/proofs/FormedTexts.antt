@@ -13,19 +13,19 @@ use Rattle.type_terms.specs.Promised.Proofs.{In}
 use Rattle.type_terms.proofs.Members.{in-cases, in-nothing, in-left}
 use Rattle.declarations.specs.Applied.{sorts_of}
 use Rattle.declarations.specs.Promised.Elaboration.{Each}
-use Rattle.text_definitions.specs.Promised.Syntax.{Types, no_types, and_type, Bound, Clause, Line, crate_line, struct_line, trait_line, impl_line, prove_line, refute_line, later_line, supers_line}
-use Rattle.text_definitions.specs.Promised.Declarations.{Declarations, NamedCrate, NamedStruct, NamedTrait, NamedImpl, LaterImpl, Known, a_crate, a_struct, a_trait, world_of, known, last_crate, last_changed, impl_owner, Question}
-use Rattle.text_definitions.specs.Declarations.{nothing_declared}
-use Rattle.text_definitions.specs.Uses.{Use, crate_use, trait_use, args_count, kinds_of_trait, type_uses, types_uses, args_uses, bound_uses, clause_uses, header_uses, uses, params_of}
-use Rattle.text_definitions.specs.Faults.{fault_of, belongs_to_crate, is_impl, is_hidden_use, is_crate, number_of_crate, once, variables_in}
-use Rattle.text_definitions.specs.Promised.Faults.{with_own, own_struct, own_trait}
-use Rattle.text_definitions.specs.Lowering.{crate_number, trait_number, field_trees, type_tree, args_trees, with_self, clause_reference, Meanings}
-use Rattle.text_definitions.specs.Adding.{added, item_meanings, crate_of, struct_of, trait_of, impl_of, question_of, question_meanings}
-use Rattle.text_definitions.specs.Written.{IsWritten}
-use Rattle.text_definitions.specs.Text.{LineGives, other_byte, blank, unwritten, faulty, adds, LinesGive, ends, fails, goes_on, TextGives, too_long, fits}
-use Rattle.line_reader.specs.Faultless.{UsesFit, names_crate}
-use Rattle.line_reader.proofs.NoFault.{passes-tests, belongs-to-crate, uses-crates}
-use Rattle.line_reader.proofs.FittingUses.{faultless-uses}
+use Rattle.text_language.specs.Promised.Syntax.{Types, no_types, and_type, Bound, Clause, Line, crate_line, struct_line, trait_line, impl_line, prove_line, refute_line, later_line, supers_line}
+use Rattle.text_language.specs.Promised.Declarations.{Declarations, NamedCrate, NamedStruct, NamedTrait, NamedImpl, LaterImpl, Known, a_crate, a_struct, a_trait, world_of, known, last_crate, last_changed, impl_owner, Question}
+use Rattle.text_language.specs.Declarations.{nothing_declared}
+use Rattle.text_language.specs.Uses.{Use, crate_use, trait_use, args_count, kinds_of_trait, type_uses, types_uses, args_uses, bound_uses, clause_uses, header_uses, uses, params_of}
+use Rattle.text_language.specs.Faults.{fault_of, belongs_to_crate, is_impl, is_hidden_use, is_crate, number_of_crate, once, variables_in}
+use Rattle.text_language.specs.Promised.Faults.{with_own, own_struct, own_trait}
+use Rattle.text_language.specs.Lowering.{crate_number, trait_number, field_trees, type_tree, args_trees, with_self, clause_reference, Meanings}
+use Rattle.text_language.specs.Adding.{added, item_meanings, crate_of, struct_of, trait_of, impl_of, question_of, question_meanings}
+use Rattle.text_language.specs.Written.{IsWritten}
+use Rattle.text_language.specs.Text.{LineGives, other_byte, blank, unwritten, faulty, adds, LinesGive, ends, fails, goes_on, TextGives, too_long, fits}
+use Rattle.text_lines.specs.Faultless.{UsesFit, names_crate}
+use Rattle.text_lines.proofs.NoFault.{passes-tests, belongs-to-crate, uses-crates}
+use Rattle.text_lines.proofs.FittingUses.{faultless-uses}
 use Rattle.view_lowering.proofs.Applied.{each-more, still-there}
 use Rattle.view_lowering.proofs.ScalarTokens.{ScalarBounds, ScalarClause, ScalarClauses, struct-scalars, trait-scalars, impl-scalars, prove-scalars, refute-scalars}
 use Rattle.view_lowering.proofs.Scalars.{ScalarTypes, ScalarArgs}

@@ -22,13 +22,13 @@ use Rattle.declarations.specs.declared.items.TraitDef.{TraitDef}
 use Rattle.declarations.specs.Applied.{sort_of_param, sorts_of, sorts_of_params}
 use Rattle.declarations.specs.Items.{Items, struct_in, trait_in, struct_at, trait_at, written}
 use Rattle.declarations.specs.Promised.Elaboration.{Each}
-use Rattle.text_definitions.specs.Promised.Declarations as text
-use Rattle.text_definitions.specs.Promised.Declarations.{NamedCrate, NamedStruct, NamedTrait, NamedImpl, world_of}
-use Rattle.text_definitions.specs.Declarations.{nothing_declared}
+use Rattle.text_language.specs.Promised.Declarations as text
+use Rattle.text_language.specs.Promised.Declarations.{NamedCrate, NamedStruct, NamedTrait, NamedImpl, world_of}
+use Rattle.text_language.specs.Declarations.{nothing_declared}
 use Rattle.view_lowering.specs.Promised.SeenWorlds.{plain_label, plain, plain_reference, plain_struct, plain_trait, plain_impl, all_kept, none_kept, stands_in, unbound_reference}
 use Rattle.view_lowering.specs.Seen.{struct_sorts, trait_sorts}
-use Rattle.assembly_laws.specs.Asking.{next_of}
-use Rattle.assembly_laws.specs.DeclaredWell.{are_distinct, is_single}
+use Rattle.candidate_model.specs.Asking.{next_of}
+use Rattle.candidate_model.specs.DeclaredWell.{are_distinct, is_single}
 use Rattle.view_lowering.specs.Ready.{AreSeen, OfTexts}
 use Rattle.view_lowering.proofs.Matched.{IsItem, each-placed, items-matched}
 use Rattle.view_lowering.proofs.Sorts.{is_bad}
@@ -37,8 +37,8 @@ use Rattle.view_lowering.proofs.Tests.{is_good, is_good_struct, is_good_trait}
 use Rattle.view_lowering.proofs.Texts.{Well, is_bare, is_nil}
 use Rattle.view_lowering.proofs.Trees.{and-left, or-left}
 use Rattle.view_lowering.proofs.SeenViews.{good-fits, sort-there}
-use Rattle.solver_exactness.specs.GoalSets.{begins_typed}
-use Rattle.solver_exactness.specs.FormedFacts.{Sorts, EachNode, AreTypeSorts, IsParamOf, HasParams, IsTraitOf, FitsNode, NodesFit, IsField, IsFormedBound, IsFormedView, FitsSorts}
+use Rattle.solver_completeness.specs.GoalSets.{begins_typed}
+use Rattle.solver_completeness.specs.FormedFacts.{Sorts, EachNode, AreTypeSorts, IsParamOf, HasParams, IsTraitOf, FitsNode, NodesFit, IsField, IsFormedBound, IsFormedView, FitsSorts}
 use Rattle.sessions.specs.Fitting.{sorts_in}
 use Rattle.sessions.specs.Views.{TextsAreFormed}
 use Rattle.sessions.proofs.FormedTexts.{scope, IsFormedField, IsFormedReference, StructFormed, TraitFormed, ImplFormed, Formed, core_trait, texts-are-formed}

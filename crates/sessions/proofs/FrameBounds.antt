@@ -23,27 +23,27 @@ use Rattle.search_graph.specs.Computed.{Hears, nothing, also, given, computed, I
 use Rattle.search_graph.specs.Meaning.{Meaning, IsLawful, IsFair, IsReplyBy, AreReplies}
 use Rattle.declarations.specs.Promised.Elaboration.{elaborate}
 use Rattle.declarations.specs.Items.{Items, written}
-use Rattle.evaluation.specs.declared.TheConstants.{FIXPOINT_STEP_LIMIT}
-use Rattle.evaluation.specs.Lists.{Every}
-use Rattle.evaluation.specs.Promised.Widths.{count, width}
-use Rattle.evaluation.specs.Widths.{number_of, number_of_values, BindingsWithin}
-use Rattle.evaluation.proofs.Widths.{AllOne, ArePredicatesWithin, IsWithin, leaf-values-one, predicates-relabeled, predicates-resolved, width-of-predicates, within}
-use Rattle.evaluation.proofs.WidthLaws.{put-into-within, makes-canonical as makes-no-bounds}
+use Rattle.goal_evaluator.specs.declared.TheConstants.{FIXPOINT_STEP_LIMIT}
+use Rattle.goal_evaluator.specs.Lists.{Every}
+use Rattle.goal_evaluator.specs.Promised.Widths.{count, width}
+use Rattle.goal_evaluator.specs.Widths.{number_of, number_of_values, BindingsWithin}
+use Rattle.goal_evaluator.proofs.Widths.{AllOne, ArePredicatesWithin, IsWithin, leaf-values-one, predicates-relabeled, predicates-resolved, width-of-predicates, within}
+use Rattle.goal_evaluator.proofs.WidthLaws.{put-into-within, makes-canonical as makes-no-bounds}
 use Rattle.goal_frames.proofs.HandlerPrograms.{handlers-are-programs}
-use Rattle.assembly_laws.specs.Facts.{trees_of_clauses}
-use Rattle.assembly_laws.specs.Promised.Widths.{declared_width, greatest, number_at, supers_of, width_of}
-use Rattle.assembly_laws.specs.Solver.{widest_of}
-use Rattle.assembly_laws.proofs.CandidateWidths.{instance-within}
-use Rattle.assembly_laws.proofs.DeclaredWidths.{greatest-at}
-use Rattle.assembly_laws.proofs.Elaborating.{elaborated-so, every-in}
+use Rattle.candidate_model.specs.Facts.{trees_of_clauses}
+use Rattle.candidate_model.specs.Promised.Widths.{declared_width, greatest, number_at, supers_of, width_of}
+use Rattle.candidate_model.specs.Solver.{widest_of}
+use Rattle.candidate_model.proofs.CandidateWidths.{instance-within}
+use Rattle.candidate_model.proofs.DeclaredWidths.{greatest-at}
+use Rattle.candidate_model.proofs.Elaborating.{elaborated-so, every-in}
 use Rattle.candidate_assembly.specs.Solving.{Solving}
 use Rattle.candidate_assembly.specs.SolverLaws.{goals-are-lawful}
 use Rattle.candidate_assembly.specs.SolverMeaning.{goals_by_view, solver_by_view}
-use Rattle.solver_context.specs.Evaluations.{IsFoundBySearch}
-use Rattle.solver_context.specs.Lawful.{solver-lawful}
-use Rattle.solver_context.specs.Roots.{values_in}
-use Rattle.solver_context.specs.Searching.{solver_meaning}
-use Rattle.text_definitions.specs.Promised.Declarations.{Declarations, Question}
+use Rattle.solver_graph.specs.Evaluations.{IsFoundBySearch}
+use Rattle.solver_graph.specs.Lawful.{solver-lawful}
+use Rattle.solver_graph.specs.Roots.{values_in}
+use Rattle.solver_graph.specs.Searching.{solver_meaning}
+use Rattle.text_language.specs.Promised.Declarations.{Declarations, Question}
 use Rattle.view_lowering.specs.Promised.SeenWorlds.{all_kept, plainly_seen_from, unbound_reference}
 use Rattle.view_lowering.specs.Plain.{unbound_references}
 use Rattle.view_lowering.specs.Promised.Questions.{variable_kinds}
@@ -57,7 +57,7 @@ use Rattle.sessions.specs.Tables.{table_of}
 use Rattle.sessions.specs.declared.settling.TheConstants.{MAX_ASKINGS}
 use Rattle.sessions.proofs.SeenPlainly.{rules-are}
 use Rattle.sessions.proofs.ErasedWidths.{IsErasedWorld, clauses-in-erased, declared-erased, plain-width}
-use Rattle.evaluation.proofs.ListLaws.{Every-map as every-map}
+use Rattle.goal_evaluator.proofs.ListLaws.{Every-map as every-map}
 
 -- ---- what a search finds is no wider than its goal
 module _ {C I R F : Type 0} (m : Meaning C I R F) (law : IsLawful m) (w : m.World) where

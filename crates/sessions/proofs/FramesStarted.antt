@@ -11,11 +11,11 @@ use Rattle.infer_table.specs.declared.goal.Goal.{Goal}
 use Rattle.infer_table.proofs.Numbers.{goal-trees-later}
 use Rattle.type_terms.specs.Promised.Handles.{Keeps}
 use Rattle.search_graph.specs.SearchState.{SearchState}
-use Rattle.solver_context.specs.Contexts.{entries_of}
-use Rattle.solver_context.specs.Evaluations.{IsFoundBySearch}
-use Rattle.solver_context.specs.Roots.{left_by}
-use Rattle.solver_context.specs.Searching.{solver_meaning}
-use Rattle.solver_context.specs.declared.context.SolverCx.{SolverCx}
+use Rattle.solver_graph.specs.Contexts.{entries_of}
+use Rattle.solver_graph.specs.Evaluations.{IsFoundBySearch}
+use Rattle.solver_graph.specs.Roots.{left_by}
+use Rattle.solver_graph.specs.Searching.{solver_meaning}
+use Rattle.solver_graph.specs.declared.context.SolverCx.{SolverCx}
 use Rattle.goal_frames.specs.Meanings.{HandlerMeaning}
 use Rattle.sessions.specs.Frames.{AreTermsOfSorts, frames_for, resolved_over, AskingsStartFrames, AskingsOf, StartsFramesOfAsking, IsLeftByAnswer, SettlesInFrames}
 use Rattle.sessions.specs.Proving.{asked_outside}

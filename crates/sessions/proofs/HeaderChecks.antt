@@ -10,9 +10,9 @@ use Rattle.term_folds.specs.declared.predicate.TraitRef.{TraitRef}
 use Rattle.declarations.specs.Applied.{references_in}
 use Rattle.declarations.specs.Items.{reference_in, written}
 use Rattle.search_graph.specs.SearchState.{SearchState}
-use Rattle.solver_context.specs.Contexts.{entries_of}
-use Rattle.solver_context.specs.declared.context.SolverCx.{SolverCx}
-use Rattle.text_definitions.specs.Promised.Declarations.{Declarations}
+use Rattle.solver_graph.specs.Contexts.{entries_of}
+use Rattle.solver_graph.specs.declared.context.SolverCx.{SolverCx}
+use Rattle.text_language.specs.Promised.Declarations.{Declarations}
 use Rattle.candidate_assembly.specs.Fitting.{solving_of}
 use Rattle.candidate_assembly.specs.Solving.{Solving}
 use Rattle.candidate_assembly.specs.declared.solver.Solver.{Solver}

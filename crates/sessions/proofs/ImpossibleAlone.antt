@@ -21,22 +21,22 @@ use Rattle.infer_table.proofs.SolutionLaws.{resolved-none, resolved-rigid}
 use Rattle.declarations.specs.Held.{ReferenceHeld}
 use Rattle.declarations.specs.Items.{reference_in}
 use Rattle.declarations.proofs.Growth.{reference-same}
-use Rattle.evaluation.specs.Handler.{Handled}
-use Rattle.evaluation.specs.Tables.{frame_tables}
+use Rattle.goal_evaluator.specs.Handler.{Handled}
+use Rattle.goal_evaluator.specs.Tables.{frame_tables}
 use Rattle.search_graph.specs.Meaning as Search
 use Rattle.search_graph.specs.Plain.{IsNotPlain}
 use Rattle.search_graph.specs.SearchState.{SearchState}
 use Rattle.goal_frames.specs.declared.frame.GoalFrame.{GoalFrame}
 use Rattle.goal_frames.specs.declared.store.InputId.{InputId}
 use Rattle.goal_frames.specs.declared.store.ResponseId.{ResponseId}
-use Rattle.solver_context.specs.declared.context.SolverCx.{SolverCx}
-use Rattle.solver_context.specs.declared.outcome.GoalEvaluation.{GoalEvaluation}
-use Rattle.solver_context.specs.declared.outcome.RootError.{RootError}
-use Rattle.solver_context.specs.declared.outcome.RootError.TheVariants.{Conflict}
-use Rattle.solver_context.specs.Contexts.{Asked, entries_of}
-use Rattle.solver_context.specs.Evaluations.{IsFoundBySearch, asked_in}
-use Rattle.solver_context.specs.Roots.{AtProvedSolutions, fact_under}
-use Rattle.solver_context.specs.Searching.{of_term, solver_meaning}
+use Rattle.solver_graph.specs.declared.context.SolverCx.{SolverCx}
+use Rattle.solver_graph.specs.declared.outcome.GoalEvaluation.{GoalEvaluation}
+use Rattle.solver_graph.specs.declared.outcome.RootError.{RootError}
+use Rattle.solver_graph.specs.declared.outcome.RootError.TheVariants.{Conflict}
+use Rattle.solver_graph.specs.Contexts.{Asked, entries_of}
+use Rattle.solver_graph.specs.Evaluations.{IsFoundBySearch, asked_in}
+use Rattle.solver_graph.specs.Roots.{AtProvedSolutions, fact_under}
+use Rattle.solver_graph.specs.Searching.{of_term, solver_meaning}
 use Rattle.goal_frames.specs.Meanings.{HandlerMeaning}
 use Rattle.sessions.specs.Impossible.{alone, resolved_alone, asked_alone, HasNoProofInWorlds, IsImpossible, SearchLeavesOpen, IsNoRefusal}
 

@@ -24,11 +24,11 @@ use Rattle.type_terms.proofs.AddedByView.{keeps-in-set}
 use Rattle.type_terms.proofs.ViewLaws.{sees-itself}
 use Rattle.type_terms.proofs.SameNumbers.{hold-views}
 use Rattle.declarations.specs.Promised.Elaboration.{Each}
-use Rattle.assembly_laws.specs.Declared.{is_declared}
-use Rattle.assembly_laws.specs.DeclaredWell.{is_single}
+use Rattle.candidate_model.specs.Declared.{is_declared}
+use Rattle.candidate_model.specs.DeclaredWell.{is_single}
 use Rattle.type_terms.specs.Made.{terms, is_made}
-use Rattle.text_definitions.specs.Promised.Declarations.{Declarations, NamedCrate, NamedStruct, NamedTrait, NamedImpl, world_of}
-use Rattle.text_definitions.specs.Declarations.{nothing_declared}
+use Rattle.text_language.specs.Promised.Declarations.{Declarations, NamedCrate, NamedStruct, NamedTrait, NamedImpl, world_of}
+use Rattle.text_language.specs.Declarations.{nothing_declared}
 use Rattle.view_lowering.specs.Promised.SeenWorlds.{plain, all_kept, none_kept, stands_in}
 use Rattle.view_lowering.specs.Seen.{param_sorts}
 use Rattle.view_lowering.proofs.Tests.{is_good, is_good_struct, is_good_trait, is_good_impl, all_stand}
@@ -48,7 +48,7 @@ use Rattle.sessions.proofs.CoveredClauses.{covered}
 use Rattle.sessions.proofs.SeenPlainly.{plain-erased}
 use Rattle.sessions.proofs.RisingBounds.{Rises}
 use Rattle.sessions.proofs.KeptTexts.{AtHome, HeaderKept, ImplRises, AllKept, texts-are-kept}
-use Rattle.language_definitions.proofs.SameTexts.{text-gives}
+use Rattle.text_language.proofs.SameTexts.{text-gives}
 use Rattle.declarations.proofs.Growth.{each-kept as each-map}
 
 -- ---- lists

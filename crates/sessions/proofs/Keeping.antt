@@ -15,11 +15,11 @@ use Rattle.declarations.specs.Items.{Items, written, declared}
 use Rattle.infer_table.specs.Canonical.{canonical_form}
 use Rattle.goal_frames.specs.Stores.{limit_of}
 use Rattle.goal_frames.specs.Handlers.{same_answer, applies_always}
-use Rattle.solver_context.specs.declared.context.SolverCx.{SolverCx}
-use Rattle.solver_context.specs.Contexts.{entries_of, IsReady as IsReadyContext, KeepsLimits}
-use Rattle.solver_context.specs.Evaluations.{IsFoundBySearch}
-use Rattle.solver_context.specs.Searching.{solver_meaning, of_limits}
-use Rattle.text_definitions.specs.Promised.Declarations.{Declarations, Question}
+use Rattle.solver_graph.specs.declared.context.SolverCx.{SolverCx}
+use Rattle.solver_graph.specs.Contexts.{entries_of, IsReady as IsReadyContext, KeepsLimits}
+use Rattle.solver_graph.specs.Evaluations.{IsFoundBySearch}
+use Rattle.solver_graph.specs.Searching.{solver_meaning, of_limits}
+use Rattle.text_language.specs.Promised.Declarations.{Declarations, Question}
 use Rattle.view_lowering.specs.Promised.SeenWorlds.{plainly_seen_from, unbound_reference}
 use Rattle.view_lowering.specs.Seen.{rules_seen_from}
 use Rattle.candidate_assembly.specs.declared.solver.Solver.{Solver}

@@ -13,18 +13,18 @@ use Rattle.type_terms.specs.Promised.Rules.{sized}
 use Rattle.type_terms.specs.Promised.Proofs.{In}
 use Rattle.type_terms.proofs.Members.{in-left, self-number, not-both}
 use Rattle.declarations.specs.Promised.Elaboration.{Each}
-use Rattle.text_definitions.specs.Promised.Syntax.{TypeTree, of_primitive, never_type, variable_type, named, reference_to, pointer_to, slice_of, array_of, tuple_of, fn_of, fn_to, dyn_of, Params, Bound, Clause, Line, crate_line, struct_line, trait_line, impl_line, prove_line, refute_line, later_line, supers_line}
-use Rattle.text_definitions.specs.Promised.Declarations.{Declarations, NamedCrate, NamedStruct, NamedTrait, NamedImpl, LaterImpl, Known, a_crate, a_struct, a_trait, world_of, known, last_crate, last_changed, last_later, impl_owner, kinds_of}
-use Rattle.text_definitions.specs.Declarations.{nothing_declared}
-use Rattle.text_definitions.specs.Uses.{args_count, kinds_of_struct, kinds_of_trait, type_uses, args_uses, clause_uses}
-use Rattle.text_definitions.specs.Faults.{fault_of, belongs_to_crate, is_impl, is_param, is_loaded_auto, is_own_struct, is_struct_in, is_built_in, is_trait_of}
-use Rattle.text_definitions.specs.Promised.Faults.{with_own, is_among, is_auto_name}
-use Rattle.text_definitions.specs.Lowering.{crate_number, place_among, trait_number, struct_label, type_label, type_tree, args_trees, with_self}
-use Rattle.text_definitions.specs.Adding.{added, item_meanings, crate_of, struct_of, trait_of, impl_of}
-use Rattle.text_definitions.specs.Written.{IsWritten}
-use Rattle.text_definitions.specs.Text.{LineGives, other_byte, blank, unwritten, faulty, adds, LinesGive, ends, fails, goes_on, TextGives, too_long, fits}
-use Rattle.line_reader.proofs.NoFault.{passes-tests, belongs-to-crate, uses-crates}
-use Rattle.line_reader.proofs.FittingUses.{faultless-uses}
+use Rattle.text_language.specs.Promised.Syntax.{TypeTree, of_primitive, never_type, variable_type, named, reference_to, pointer_to, slice_of, array_of, tuple_of, fn_of, fn_to, dyn_of, Params, Bound, Clause, Line, crate_line, struct_line, trait_line, impl_line, prove_line, refute_line, later_line, supers_line}
+use Rattle.text_language.specs.Promised.Declarations.{Declarations, NamedCrate, NamedStruct, NamedTrait, NamedImpl, LaterImpl, Known, a_crate, a_struct, a_trait, world_of, known, last_crate, last_changed, last_later, impl_owner, kinds_of}
+use Rattle.text_language.specs.Declarations.{nothing_declared}
+use Rattle.text_language.specs.Uses.{args_count, kinds_of_struct, kinds_of_trait, type_uses, args_uses, clause_uses}
+use Rattle.text_language.specs.Faults.{fault_of, belongs_to_crate, is_impl, is_param, is_loaded_auto, is_own_struct, is_struct_in, is_built_in, is_trait_of}
+use Rattle.text_language.specs.Promised.Faults.{with_own, is_among, is_auto_name}
+use Rattle.text_language.specs.Lowering.{crate_number, place_among, trait_number, struct_label, type_label, type_tree, args_trees, with_self}
+use Rattle.text_language.specs.Adding.{added, item_meanings, crate_of, struct_of, trait_of, impl_of}
+use Rattle.text_language.specs.Written.{IsWritten}
+use Rattle.text_language.specs.Text.{LineGives, other_byte, blank, unwritten, faulty, adds, LinesGive, ends, fails, goes_on, TextGives, too_long, fits}
+use Rattle.text_lines.proofs.NoFault.{passes-tests, belongs-to-crate, uses-crates}
+use Rattle.text_lines.proofs.FittingUses.{faultless-uses}
 use Rattle.view_lowering.proofs.Applied.{each-more, still-there}
 use Rattle.view_lowering.proofs.Texts.{Well, AtPlaces, autos-bare, line-added, core-well}
 use Rattle.view_lowering.proofs.Trees.{and-left, and-right, or-left}

@@ -16,10 +16,10 @@ use Rattle.type_terms.specs.declared.Fault.{Fault}
 use Rattle.declarations.specs.Items.{declared}
 use Rattle.declarations.proofs.Growth.{all-declared}
 use Rattle.declarations.specs.declared.items.ImplDef.{ImplDef}
-use Rattle.text_definitions.specs.Promised.Declarations.{Declarations, NamedImpl, LaterImpl, section_impls}
+use Rattle.text_language.specs.Promised.Declarations.{Declarations, NamedImpl, LaterImpl, section_impls}
 use Rattle.view_lowering.specs.Later.{added_impls, added_in, unnumbered}
-use Rattle.solver_context.specs.declared.context.SolverCx.{SolverCx}
-use Rattle.solver_context.specs.Contexts.{entries_of}
+use Rattle.solver_graph.specs.declared.context.SolverCx.{SolverCx}
+use Rattle.solver_graph.specs.Contexts.{entries_of}
 use Rattle.candidate_assembly.specs.declared.solver.Solver.{Solver}
 use Rattle.view_lowering.specs.Promised.SeenWorlds.{plain_impl, all_kept}
 use Rattle.view_lowering.specs.Seen.{rules_seen_from}
@@ -35,7 +35,7 @@ use Rattle.sessions.proofs.FormedViews.{each-in, map-in}
 use Rattle.sessions.proofs.KeptTexts.{IsOfSection, AllKept, texts-are-kept}
 use Rattle.sessions.proofs.ScopedTexts.{later-scoped}
 use Rattle.sessions.proofs.SeenPlainly.{reference-erased}
-use Rattle.language_definitions.proofs.SameTexts.{text-gives}
+use Rattle.text_language.proofs.SameTexts.{text-gives}
 use Rattle.type_terms.proofs.ListBasics.{map-length as map-long}
 
 -- ---- lists

@@ -1,6 +1,6 @@
 -- What a session leaves of the text that it was made on.
 use Rattle.std.proofs.Common.{◌≡◌, ℕ, sym, subst}
-use Rattle.text_definitions.specs.Promised.Declarations.{Declarations}
+use Rattle.text_language.specs.Promised.Declarations.{Declarations}
 use Rattle.sessions.specs.SeenViews.{IsViewOf, IsLeftView}
 use Rattle.sessions.specs.Promised.Subjects.{Subject}
 use Rattle.sessions.specs.declared.seen_view.SeenView.{SeenView}

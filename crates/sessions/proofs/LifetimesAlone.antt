@@ -16,18 +16,18 @@ use Rattle.infer_table.specs.Responses.{AnswerTrees}
 use Rattle.infer_table.specs.Solutions.{Assignment, IsSorted}
 use Rattle.infer_table.specs.Unification.{TableTrees}
 use Rattle.infer_table.specs.Values.{Value, filled}
-use Rattle.evaluation.specs.Lists.{Every}
-use Rattle.evaluation.specs.Content.{ChosenTerms, reading_of, UnknownStands}
-use Rattle.evaluation.specs.Equations.{Hold}
-use Rattle.evaluation.specs.FrameTables.{FrameTable, IsMadeFrame, AllowsApart, TellsApart, is_good}
-use Rattle.evaluation.specs.Instances.{default_label, first_term, other_terms}
-use Rattle.evaluation.specs.TableAnswers.{ArePicked, IsPicked, is_fitting_answer, put_into, leaf_value}
-use Rattle.evaluation.proofs.Applying.{AreTheirs, all-agree, extended-sorted, for-bindings, further, grown-made, pairs-made, pairs-one, turns}
-use Rattle.evaluation.proofs.Equating.{in-turn-keeps, lifetimes-good, further-apart}
-use Rattle.evaluation.proofs.Nodes.{every-leaf}
-use Rattle.evaluation.proofs.TableBeginning.{below-is}
-use Rattle.assembly_laws.proofs.Plain.{is-sort}
-use Rattle.solver_context.specs.Roots.{left_by, values_in}
+use Rattle.goal_evaluator.specs.Lists.{Every}
+use Rattle.goal_evaluator.specs.Content.{ChosenTerms, reading_of, UnknownStands}
+use Rattle.goal_evaluator.specs.Equations.{Hold}
+use Rattle.goal_evaluator.specs.FrameTables.{FrameTable, IsMadeFrame, AllowsApart, TellsApart, is_good}
+use Rattle.goal_evaluator.specs.Instances.{default_label, first_term, other_terms}
+use Rattle.goal_evaluator.specs.TableAnswers.{ArePicked, IsPicked, is_fitting_answer, put_into, leaf_value}
+use Rattle.goal_evaluator.proofs.Applying.{AreTheirs, all-agree, extended-sorted, for-bindings, further, grown-made, pairs-made, pairs-one, turns}
+use Rattle.goal_evaluator.proofs.Equating.{in-turn-keeps, lifetimes-good, further-apart}
+use Rattle.goal_evaluator.proofs.Nodes.{every-leaf}
+use Rattle.goal_evaluator.proofs.TableBeginning.{below-is}
+use Rattle.candidate_model.proofs.Plain.{is-sort}
+use Rattle.solver_graph.specs.Roots.{left_by, values_in}
 use Rattle.sessions.specs.Asking.{goal_alone}
 use Rattle.type_terms.proofs.Matching.{or-false-left as no-left}
 use Rattle.type_terms.proofs.NumberBasics.{zero-first as zero-plus}

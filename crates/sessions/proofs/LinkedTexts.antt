@@ -17,7 +17,7 @@ use Rattle.sessions.proofs.JoinedTexts.{text-obeys}
 use Rattle.sessions.proofs.FourRecords.{joined-of-four}
 use Rattle.sessions.proofs.AnsweredInOrder.{SeesText, answered-obey}
 use Rattle.sessions.proofs.AnsweredSets.{answered-joined}
-use Rattle.language_definitions.proofs.SameTexts.{text-gives}
+use Rattle.text_language.proofs.SameTexts.{text-gives}
 
 pub texts-obey-their-rules : TextsObeyTheirRules
 texts-obey-their-rules d (bytes, t) = text-obeys d (texts-are-kept bytes d (text-gives bytes (Ok d) t))

@@ -5,8 +5,8 @@ use Rattle.type_terms.specs.Promised.Trees.{Trees, none, tree, is_sort, sort_of,
 use Rattle.type_terms.specs.Trees.{is_no_tree}
 use Rattle.type_terms.specs.Made.{Standing, terms, bounds, traits, is_leaf_label, is_made}
 use Rattle.type_terms.proofs.Made.{left, right, both, false-true, no-tree, IsLast, made-ordinary, makes-ordinary, made-rest, made-alone, made-append, last-bound, last-trait, never-dynamic, never-dynamic-bound, never-principal}
-use Rattle.assembly_laws.specs.Declared.{is_declared, is_lifetime_parameter}
-use Rattle.assembly_laws.proofs.Instances.{is_bound, shift-unbound}
+use Rattle.candidate_model.specs.Declared.{is_declared, is_lifetime_parameter}
+use Rattle.candidate_model.proofs.Instances.{is_bound, shift-unbound}
 use Rattle.type_terms.proofs.TermBasics.{gone}
 use Rattle.type_terms.proofs.BooleanBasics.{none-of}
 

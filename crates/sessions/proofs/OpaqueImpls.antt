@@ -14,16 +14,16 @@ use Rattle.term_folds.specs.declared.predicate.TraitRef.{TraitRef}
 use Rattle.declarations.specs.Applied.{IsApplied, sorts_of}
 use Rattle.declarations.specs.Promised.Elaboration.{supertraits}
 use Rattle.declarations.specs.Items.{Items, reference_in, trait_at, written}
-use Rattle.text_definitions.specs.Promised.Declarations.{Declarations}
-use Rattle.assembly_laws.specs.Declared.{is_counted, is_declared, are_terms}
-use Rattle.assembly_laws.specs.DeclaredWell.{IsDeclaredWell, is_declared_well}
-use Rattle.assembly_laws.proofs.DeclaredParts.{header-declared, clause-declared}
-use Rattle.assembly_laws.proofs.DeclaredWell.{tests-tell}
-use Rattle.assembly_laws.proofs.Instances.{is_bound}
+use Rattle.text_language.specs.Promised.Declarations.{Declarations}
+use Rattle.candidate_model.specs.Declared.{is_counted, is_declared, are_terms}
+use Rattle.candidate_model.specs.DeclaredWell.{IsDeclaredWell, is_declared_well}
+use Rattle.candidate_model.proofs.DeclaredParts.{header-declared, clause-declared}
+use Rattle.candidate_model.proofs.DeclaredWell.{tests-tell}
+use Rattle.candidate_model.proofs.Instances.{is_bound}
 use Rattle.candidate_assembly.specs.Solving.{Solving}
 use Rattle.view_lowering.specs.Ready.{AreSeen}
 use Rattle.view_lowering.proofs.WellSeen.{texts-seen-well}
-use Rattle.solver_exactness.specs.FormedFacts.{Sorts, FitsSorts, IsFormedView}
+use Rattle.solver_completeness.specs.FormedFacts.{Sorts, FitsSorts, IsFormedView}
 use Rattle.sessions.specs.Fitting.{sorts_in}
 use Rattle.sessions.specs.Questions.{AreFixedReferences, IsFormedAsWritten}
 use Rattle.sessions.specs.Promised.Subjects.{IsOfText}

@@ -18,15 +18,15 @@ use Rattle.type_terms.specs.Made.{Standing, terms, bounds, traits, is_leaf_label
 use Rattle.type_terms.proofs.Made.{left, right, both, false-true, no-tree, IsLast, made-ordinary, makes-ordinary, last-bound, last-trait, never-dynamic, never-dynamic-bound, never-principal}
 use Rattle.term_folds.specs.Arguments.{sort_at}
 use Rattle.declarations.specs.Applied.{sorts_of}
-use Rattle.assembly_laws.specs.Declared.{is_declared}
+use Rattle.candidate_model.specs.Declared.{is_declared}
 use Rattle.overlap_check.specs.Fresh.{HasArguments}
-use Rattle.solver_exactness.specs.FormedFacts.{Sorts, NodesFit}
-use Rattle.solver_exactness.proofs.FormedInstances.{node-same}
+use Rattle.solver_completeness.specs.FormedFacts.{Sorts, NodesFit}
+use Rattle.solver_completeness.proofs.FormedInstances.{node-same}
 use Rattle.view_lowering.specs.Promised.SeenWorlds.{plain, plain_reference}
 use Rattle.sessions.specs.Goals.{is_fixed}
 use Rattle.sessions.specs.Placeholders.{placeholders_from}
 use Rattle.sessions.proofs.SeenPlainly.{plain-erased}
-use Rattle.assembly_laws.proofs.Basics.{same-autos}
+use Rattle.candidate_model.proofs.Basics.{same-autos}
 
 -- ---- placeholders in a row
 pub placeholders-closed : (n : ℕ) (ss : List Sort) → outer_binder (placeholders_from n ss) ≡ 0

@@ -16,15 +16,15 @@ use Rattle.infer_table.specs.Content.{content}
 use Rattle.infer_table.specs.Solutions.{AllValued, Binding, HasValues, replace, resolved}
 use Rattle.infer_table.specs.Unification.{table_trees}
 use Rattle.infer_table.proofs.ContentFacts.{valued}
-use Rattle.evaluation.specs.Law.{IsYes}
-use Rattle.evaluation.specs.TableAnswers.{has_values}
-use Rattle.evaluation.specs.Tables.{frame_tables}
-use Rattle.evaluation.proofs.Labels.{IsGoodLabel, made-labels}
-use Rattle.evaluation.proofs.Reading.{EachLabel}
-use Rattle.solver_context.specs.Roots.{left_by}
+use Rattle.goal_evaluator.specs.Law.{IsYes}
+use Rattle.goal_evaluator.specs.TableAnswers.{has_values}
+use Rattle.goal_evaluator.specs.Tables.{frame_tables}
+use Rattle.goal_evaluator.proofs.Labels.{IsGoodLabel, made-labels}
+use Rattle.goal_evaluator.proofs.Reading.{EachLabel}
+use Rattle.solver_graph.specs.Roots.{left_by}
 use Rattle.declarations.specs.Promised.Elaboration.{elaborate}
 use Rattle.declarations.specs.Items.{written}
-use Rattle.text_definitions.specs.Promised.Declarations.{Declarations, Question}
+use Rattle.text_language.specs.Promised.Declarations.{Declarations, Question}
 use Rattle.view_lowering.specs.Promised.SeenWorlds.{unbound_reference}
 use Rattle.view_lowering.specs.Plain.{unbound_references}
 use Rattle.view_lowering.specs.Promised.Questions.{variable_kinds}

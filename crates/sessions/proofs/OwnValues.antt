@@ -9,7 +9,7 @@ use Rattle.type_terms.specs.Promised.Trees.{Trees, none, tree, leaf, erase, eras
 use Rattle.type_terms.specs.Promised.Worlds.{World, CrateDecl, StructDecl, Reference}
 use Rattle.type_terms.proofs.Fitting.{or-no, child-shut, next-shut}
 use Rattle.type_terms.proofs.Made.{false-true}
-use Rattle.assembly_laws.proofs.ErasedCandidates.{without_lifetimes}
+use Rattle.candidate_model.proofs.ErasedCandidates.{without_lifetimes}
 use Rattle.type_terms.specs.Promised.Questions.{FitKinds, filled_reference, HoldUnknownsAlone, SolutionBy, IsProveAnswer, yes, is_bound_place}
 use Rattle.overlap_check.proofs.Filling.{filled-shut}
 use Rattle.sessions.specs.Foreign.{is_unknown_term, is_foreign_term, are_own_terms}

@@ -18,16 +18,16 @@ use Rattle.infer_table.specs.Unification.{table_trees}
 use Rattle.infer_table.proofs.ContentFacts.{older-sorted, valued}
 use Rattle.infer_table.proofs.Kept.{turns-keep}
 use Rattle.infer_table.proofs.Places.{in_terms, AllTrees, trees-of, made-of}
-use Rattle.evaluation.specs.Equations.{IsValue}
-use Rattle.evaluation.specs.Lists.{Every}
-use Rattle.evaluation.proofs.Resolved.{made-resolved}
+use Rattle.goal_evaluator.specs.Equations.{IsValue}
+use Rattle.goal_evaluator.specs.Lists.{Every}
+use Rattle.goal_evaluator.proofs.Resolved.{made-resolved}
 use Rattle.declarations.specs.Applied.{references_in}
 use Rattle.declarations.specs.Items.{reference_in, impl_in, written}
 use Rattle.declarations.specs.Promised.Elaboration.{Each}
 use Rattle.declarations.specs.declared.items.ImplDef.{ImplDef}
-use Rattle.assembly_laws.specs.Declared.{is_declared, are_terms, are_references, is_declared_view}
-use Rattle.assembly_laws.specs.DeclaredWell.{is_declared_well}
-use Rattle.assembly_laws.proofs.DeclaredWell.{tests-tell}
+use Rattle.candidate_model.specs.Declared.{is_declared, are_terms, are_references, is_declared_view}
+use Rattle.candidate_model.specs.DeclaredWell.{is_declared_well}
+use Rattle.candidate_model.proofs.DeclaredWell.{tests-tell}
 use Rattle.overlap_check.specs.Fresh.{HasArguments}
 use Rattle.overlap_check.specs.Goals.{IsInstantiable}
 use Rattle.overlap_check.specs.Headers.{sorts_of_impl, unknowns_for, with_unknowns_for, empty_table, pair_table, left_args, right_args, IsIntersection, IsSolved}
@@ -36,7 +36,7 @@ use Rattle.overlap_check.proofs.Headers.{pair-values}
 use Rattle.overlap_check.proofs.Written.{held-instantiable}
 use Rattle.view_lowering.specs.Promised.SeenWorlds.{plainly_seen_from}
 use Rattle.view_lowering.proofs.WellSeen.{texts-seen-well}
-use Rattle.solver_exactness.specs.FormedFacts.{Sorts, NodesFit, IsTraitOf, IsFormedView}
+use Rattle.solver_completeness.specs.FormedFacts.{Sorts, NodesFit, IsTraitOf, IsFormedView}
 use Rattle.sessions.specs.Fitting.{sorts_in}
 use Rattle.sessions.specs.Goals.{stands_free, HasFormedTerms}
 use Rattle.sessions.specs.PairGoals.{IsImplOf, AreFormedOver, PairGoalsAreFormed}

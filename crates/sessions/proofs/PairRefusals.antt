@@ -24,9 +24,9 @@ use Rattle.infer_table.specs.WellFormed.{is_numbered}
 use Rattle.infer_table.proofs.ContentFacts.{is-trees}
 use Rattle.infer_table.proofs.Places.{in_terms, AreTrees, trees-of, trees-proper, numbered}
 use Rattle.infer_table.proofs.SolutionLaws.{resolved-none, resolved-rigid}
-use Rattle.evaluation.specs.FrameTables.{kinds_known}
-use Rattle.assembly_laws.specs.Meaning.{ViewMeaning, SolutionPlace, proved_at}
-use Rattle.assembly_laws.specs.Solver.{has_placeholder, solver_handled}
+use Rattle.goal_evaluator.specs.FrameTables.{kinds_known}
+use Rattle.candidate_model.specs.Meaning.{ViewMeaning, SolutionPlace, proved_at}
+use Rattle.candidate_model.specs.Solver.{has_placeholder, solver_handled}
 use Rattle.overlap_check.specs.Goals.{repeated, unknown_kinds}
 use Rattle.overlap_check.specs.Headers.{IsOfTable, resolved_reference}
 use Rattle.type_terms.specs.Promised.Questions.{FitKinds, of_kind, filled, filled_reference}

@@ -19,17 +19,17 @@ use Rattle.infer_table.proofs.Kept.{Keeps}
 use Rattle.infer_table.proofs.Places.{Place, in_terms, in_object, in_autos, AreTrees, AllTrees, trees-of, made-of}
 use Rattle.infer_table.proofs.SolutionLaws.{is_variable-equal}
 use Rattle.infer_table.proofs.WellFacts.{parts-terms, followed-terms}
-use Rattle.evaluation.specs.Lists.{Every}
-use Rattle.evaluation.specs.Equations.{IsValue}
-use Rattle.evaluation.proofs.Resolved.{made-resolved}
+use Rattle.goal_evaluator.specs.Lists.{Every}
+use Rattle.goal_evaluator.specs.Equations.{IsValue}
+use Rattle.goal_evaluator.proofs.Resolved.{made-resolved}
 use Rattle.declarations.specs.Applied.{sorts_of}
-use Rattle.assembly_laws.specs.Declared.{is_declared}
+use Rattle.candidate_model.specs.Declared.{is_declared}
 use Rattle.overlap_check.specs.Fresh.{with_unknown, fresh_unknowns, HasArguments}
-use Rattle.solver_exactness.specs.FormedFacts.{Sorts, NodesFit, FitsNode}
-use Rattle.solver_exactness.proofs.FormedInstances.{node-same, sorts-append}
+use Rattle.solver_completeness.specs.FormedFacts.{Sorts, NodesFit, FitsNode}
+use Rattle.solver_completeness.proofs.FormedInstances.{node-same, sorts-append}
 use Rattle.sessions.specs.Goals.{stands_free}
 use Rattle.sessions.proofs.TextTerms.{nodes-append}
-use Rattle.assembly_laws.proofs.Basics.{same-autos}
+use Rattle.candidate_model.proofs.Basics.{same-autos}
 
 -- ---- the auto traits in a row
 autos-append : (x y : Trees) → autos_with none (x +++ y) ≡ autos_with none x ++ autos_with none y

@@ -12,15 +12,15 @@ use Rattle.type_terms.proofs.ProofEntries.{map-in}
 use Rattle.type_terms.proofs.Fitting.{append-shut, head-shut, child-shut, next-shut}
 use Rattle.type_terms.proofs.Members.{here, there, in-filter, in-flat}
 use Rattle.type_terms.proofs.Walking.{left, right}
-use Rattle.evaluation.specs.Lists.{Every}
-use Rattle.assembly_laws.specs.Declared.{are_terms, is_declared_view}
-use Rattle.assembly_laws.specs.Facts.{is_unerased}
-use Rattle.assembly_laws.proofs.DeclaredParts.{clause-declared, bound-declared}
-use Rattle.assembly_laws.proofs.OpenLevels.{principal-plain, autos-plain}
-use Rattle.assembly_laws.proofs.PlainRules.{Plain, IsPlainReference, HavePlainPremises, plain-instance, plain-last, every-flat, plain-sized, plain-auto, plain-copy, plain-tuple, plain-fn-ptr}
-use Rattle.assembly_laws.proofs.ReadOff.{arguments-plain}
-use Rattle.assembly_laws.proofs.Rows.{fields-declared}
-use Rattle.evaluation.proofs.Basics.{every-append}
+use Rattle.goal_evaluator.specs.Lists.{Every}
+use Rattle.candidate_model.specs.Declared.{are_terms, is_declared_view}
+use Rattle.candidate_model.specs.Facts.{is_unerased}
+use Rattle.candidate_model.proofs.DeclaredParts.{clause-declared, bound-declared}
+use Rattle.candidate_model.proofs.OpenLevels.{principal-plain, autos-plain}
+use Rattle.candidate_model.proofs.PlainRules.{Plain, IsPlainReference, HavePlainPremises, plain-instance, plain-last, every-flat, plain-sized, plain-auto, plain-copy, plain-tuple, plain-fn-ptr}
+use Rattle.candidate_model.proofs.ReadOff.{arguments-plain}
+use Rattle.candidate_model.proofs.Rows.{fields-declared}
+use Rattle.goal_evaluator.proofs.Basics.{every-append}
 
 -- ---- lists
 every-of : {A : Type 0} (P : A → Type 0) (xs : List A) → ((x : A) → In x xs → P x) → Every P xs

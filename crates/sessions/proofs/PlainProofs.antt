@@ -6,12 +6,12 @@ use Rattle.type_terms.specs.Promised.Trees.{some_node}
 use Rattle.type_terms.specs.Promised.Worlds.{World, CrateDecl, Reference}
 use Rattle.type_terms.proofs.Members.{here, there, in-cases, in-nothing}
 use Rattle.type_terms.proofs.Made.{false-true}
-use Rattle.evaluation.specs.Lists as Lists
-use Rattle.assembly_laws.specs.DeclaredWell.{IsDeclaredWell}
-use Rattle.assembly_laws.specs.Facts.{is_unerased}
-use Rattle.assembly_laws.specs.Meaning.{SelfTypesBegin}
-use Rattle.assembly_laws.proofs.ErasedCandidates.{without_lifetimes}
-use Rattle.assembly_laws.proofs.PlainRules.{Plain, IsPlainReference}
+use Rattle.goal_evaluator.specs.Lists as Lists
+use Rattle.candidate_model.specs.DeclaredWell.{IsDeclaredWell}
+use Rattle.candidate_model.specs.Facts.{is_unerased}
+use Rattle.candidate_model.specs.Meaning.{SelfTypesBegin}
+use Rattle.candidate_model.proofs.ErasedCandidates.{without_lifetimes}
+use Rattle.candidate_model.proofs.PlainRules.{Plain, IsPlainReference}
 use Rattle.sessions.proofs.PlainPremises.{rules-plain}
 use Rattle.sessions.proofs.WithoutLifetimes.{FieldsAreErased, rules-same}
 

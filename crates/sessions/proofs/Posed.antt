@@ -6,8 +6,8 @@ use Rattle.type_terms.specs.Promised.Worlds.{Reference}
 use Rattle.type_terms.proofs.Fitting.{child-shut, next-shut}
 use Rattle.infer_table.specs.Canonical.{HasNoCanonical, kind_of_leaf, leaves, with_label, is_among, canonical_form}
 use Rattle.infer_table.specs.Covers.{AreKnown}
-use Rattle.evaluation.specs.FrameTables.{kinds_known}
-use Rattle.assembly_laws.specs.Solver.{has_placeholder}
+use Rattle.goal_evaluator.specs.FrameTables.{kinds_known}
+use Rattle.candidate_model.specs.Solver.{has_placeholder}
 use Rattle.view_lowering.specs.QuestionVariables.{number_of, is_stray}
 use Rattle.sessions.specs.Asking.{goal_alone}
 use Rattle.sessions.proofs.Given.{below}

@@ -15,8 +15,8 @@ use Rattle.infer_table.specs.Canonical.{GoalTrees}
 use Rattle.infer_table.specs.Goals.{ClausesHeld, GoalHeld}
 use Rattle.infer_table.specs.declared.goal.Goal.{Goal}
 use Rattle.candidate_assembly.specs.Solving.{Solving}
-use Rattle.text_definitions.specs.Promised.Declarations.{Question}
-use Rattle.text_definitions.specs.Names.{own_unknowns}
+use Rattle.text_language.specs.Promised.Declarations.{Question}
+use Rattle.text_language.specs.Names.{own_unknowns}
 use Rattle.view_lowering.specs.Promised.Questions.{variable_kinds}
 use Rattle.sessions.specs.Goals.{goal_of}
 use Rattle.sessions.specs.Proving.{IsAnsweredInSearch, IsGoalAnswered, goal_asking}

@@ -8,10 +8,10 @@ use Rattle.infer_table.specs.Content.{Table, content, Ready, IsProper}
 use Rattle.infer_table.specs.Goals.{GoalHeld, goal_trees}
 use Rattle.infer_table.specs.Solutions.{instance, resolved}
 use Rattle.infer_table.specs.declared.goal.Goal.{Goal}
-use Rattle.evaluation.proofs.Readings.{HasLeaves}
-use Rattle.evaluation.specs.Content.{Fact, trait_of}
-use Rattle.evaluation.specs.Proof as Lists
-use Rattle.solver_context.proofs.Leaves.{goal-leaves}
+use Rattle.goal_evaluator.proofs.Readings.{HasLeaves}
+use Rattle.goal_evaluator.specs.Content.{Fact, trait_of}
+use Rattle.goal_evaluator.specs.Proof as Lists
+use Rattle.solver_graph.proofs.Leaves.{goal-leaves}
 use Rattle.sessions.specs.Proved.{ValuesAreProved}
 use Rattle.sessions.proofs.Itself.{themselves, themselves-solve, themselves-read}
 

@@ -22,27 +22,27 @@ use Rattle.infer_table.specs.Content.{Table, Ready, content, IsProper}
 use Rattle.infer_table.specs.Covers.{AreKnown}
 use Rattle.infer_table.specs.Inputs.{IsWithoutCanonical}
 use Rattle.infer_table.specs.Solutions.{Assignment, Binding, instance, resolved}
-use Rattle.evaluation.specs.Content.{Fact}
-use Rattle.evaluation.specs.Proof as Lists
-use Rattle.evaluation.proofs.Readings.{HasLeaves, made-leaves}
+use Rattle.goal_evaluator.specs.Content.{Fact}
+use Rattle.goal_evaluator.specs.Proof as Lists
+use Rattle.goal_evaluator.proofs.Readings.{HasLeaves, made-leaves}
 use Rattle.declarations.specs.Promised.Elaboration.{elaborate}
 use Rattle.declarations.specs.Items.{Items, written}
-use Rattle.assembly_laws.specs.Facts.{is_unerased, trees_of_clauses, clauses_of, children_of, reference_in, FollowsByView, is_coinductive_fact}
-use Rattle.assembly_laws.proofs.Facts.{references-come-back, proofs-of-facts}
-use Rattle.assembly_laws.proofs.Stack.{elaborated-only}
-use Rattle.solver_context.specs.Roots.{fact_under}
+use Rattle.candidate_model.specs.Facts.{is_unerased, trees_of_clauses, clauses_of, children_of, reference_in, FollowsByView, is_coinductive_fact}
+use Rattle.candidate_model.proofs.Facts.{references-come-back, proofs-of-facts}
+use Rattle.candidate_model.proofs.Stack.{elaborated-only}
+use Rattle.solver_graph.specs.Roots.{fact_under}
 use Rattle.candidate_assembly.specs.Fitting.{solving_of}
 use Rattle.candidate_assembly.specs.Solving.{Solving}
-use Rattle.solver_exactness.specs.FormedFacts.{Sorts, IsFormedView}
-use Rattle.assembly_laws.specs.DeclaredWell.{IsDeclaredWell, is_declared_well}
-use Rattle.assembly_laws.proofs.DeclaredWell.{tests-tell}
+use Rattle.solver_completeness.specs.FormedFacts.{Sorts, IsFormedView}
+use Rattle.candidate_model.specs.DeclaredWell.{IsDeclaredWell, is_declared_well}
+use Rattle.candidate_model.proofs.DeclaredWell.{tests-tell}
 use Rattle.view_lowering.proofs.WellSeen.{texts-seen-well}
-use Rattle.assembly_laws.specs.Meaning.{SelfTypesBegin}
-use Rattle.assembly_laws.proofs.ErasedCandidates.{without_lifetimes}
-use Rattle.assembly_laws.proofs.PlainRules.{Plain}
-use Rattle.text_definitions.specs.Promised.Declarations.{Declarations, Question, Variable}
+use Rattle.candidate_model.specs.Meaning.{SelfTypesBegin}
+use Rattle.candidate_model.proofs.ErasedCandidates.{without_lifetimes}
+use Rattle.candidate_model.proofs.PlainRules.{Plain}
+use Rattle.text_language.specs.Promised.Declarations.{Declarations, Question, Variable}
 use Rattle.view_lowering.specs.Promised.Questions.{IsQuestion}
-use Rattle.text_definitions.specs.Names.{own_from}
+use Rattle.text_language.specs.Names.{own_from}
 use Rattle.view_lowering.specs.Promised.SeenWorlds.{unbound_reference}
 use Rattle.view_lowering.specs.Plain.{unbound_references}
 use Rattle.view_lowering.specs.QuestionVariables.{number_of}

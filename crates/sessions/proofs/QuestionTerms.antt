@@ -12,19 +12,19 @@ use Rattle.type_terms.specs.Promised.Worlds.{Reference}
 use Rattle.type_terms.specs.Made.{terms, bounds, traits, is_made}
 use Rattle.type_terms.proofs.Made.{false-true, made-weaker}
 use Rattle.declarations.specs.Promised.Elaboration.{Each}
-use Rattle.text_definitions.specs.Promised.Syntax.{TypeTree, of_primitive, never_type, variable_type, named, reference_to, pointer_to, slice_of, array_of, tuple_of, fn_of, fn_to, dyn_of, Types, no_types, and_type, Args, no_args, and_arg, Arg, lifetime_arg, number_arg, type_arg, Item, bound_item, lifetime_item, Items, no_items, and_item, Length, number_length, name_length, variable_length, Clause, Line, crate_line, struct_line, trait_line, impl_line, prove_line, refute_line, later_line, supers_line}
-use Rattle.text_definitions.specs.Promised.Declarations.{Declarations, NamedImpl, Question, Variable, Known, a_crate, a_struct, a_trait, known}
-use Rattle.text_definitions.specs.Declarations.{nothing_declared}
-use Rattle.text_definitions.specs.Uses.{Use, name_use, trait_use, variable_use, dyn_use, items_use, item_shape, item_shapes, args_count, types_count, kinds_of_struct, kinds_of_trait, next_kind, other_kinds, length_uses, lifetime_uses, binder_uses, type_uses, types_uses, args_uses, arg_uses, item_uses, items_uses, bound_uses, clause_uses, params_of}
-use Rattle.text_definitions.specs.Faults.{fault_of, is_param, is_param_of, is_type_of, static_name, is_late, is_any, variables_in, once, is_of_other_kind}
-use Rattle.text_definitions.specs.Promised.Faults.{with_own, is_among, is_auto_name}
-use Rattle.text_definitions.specs.Lowering.{Meanings, place_among, variable_label, type_label, lifetime_under, lifetime_label, optional_lifetime, length_label, struct_label, trait_number, auto_leaves, autos, with_auto, item_lifetime, last_lifetime, type_tree, types_trees, args_trees, arg_tree, item_tree, items_trees, clause_reference}
-use Rattle.text_definitions.specs.Adding.{added, impl_of, item_meanings, question_of, question_meanings}
-use Rattle.text_definitions.specs.Written.{IsWritten}
-use Rattle.text_definitions.specs.Text.{LineGives, other_byte, blank, unwritten, faulty, adds, LinesGive, ends, fails, goes_on, TextGives, too_long, fits}
-use Rattle.line_reader.specs.Faultless.{UseFits, UsesFit}
-use Rattle.line_reader.proofs.NoFault.{passes-tests}
-use Rattle.line_reader.proofs.FittingUses.{faultless-uses}
+use Rattle.text_language.specs.Promised.Syntax.{TypeTree, of_primitive, never_type, variable_type, named, reference_to, pointer_to, slice_of, array_of, tuple_of, fn_of, fn_to, dyn_of, Types, no_types, and_type, Args, no_args, and_arg, Arg, lifetime_arg, number_arg, type_arg, Item, bound_item, lifetime_item, Items, no_items, and_item, Length, number_length, name_length, variable_length, Clause, Line, crate_line, struct_line, trait_line, impl_line, prove_line, refute_line, later_line, supers_line}
+use Rattle.text_language.specs.Promised.Declarations.{Declarations, NamedImpl, Question, Variable, Known, a_crate, a_struct, a_trait, known}
+use Rattle.text_language.specs.Declarations.{nothing_declared}
+use Rattle.text_language.specs.Uses.{Use, name_use, trait_use, variable_use, dyn_use, items_use, item_shape, item_shapes, args_count, types_count, kinds_of_struct, kinds_of_trait, next_kind, other_kinds, length_uses, lifetime_uses, binder_uses, type_uses, types_uses, args_uses, arg_uses, item_uses, items_uses, bound_uses, clause_uses, params_of}
+use Rattle.text_language.specs.Faults.{fault_of, is_param, is_param_of, is_type_of, static_name, is_late, is_any, variables_in, once, is_of_other_kind}
+use Rattle.text_language.specs.Promised.Faults.{with_own, is_among, is_auto_name}
+use Rattle.text_language.specs.Lowering.{Meanings, place_among, variable_label, type_label, lifetime_under, lifetime_label, optional_lifetime, length_label, struct_label, trait_number, auto_leaves, autos, with_auto, item_lifetime, last_lifetime, type_tree, types_trees, args_trees, arg_tree, item_tree, items_trees, clause_reference}
+use Rattle.text_language.specs.Adding.{added, impl_of, item_meanings, question_of, question_meanings}
+use Rattle.text_language.specs.Written.{IsWritten}
+use Rattle.text_language.specs.Text.{LineGives, other_byte, blank, unwritten, faulty, adds, LinesGive, ends, fails, goes_on, TextGives, too_long, fits}
+use Rattle.text_lines.specs.Faultless.{UseFits, UsesFit}
+use Rattle.text_lines.proofs.NoFault.{passes-tests}
+use Rattle.text_lines.proofs.FittingUses.{faultless-uses}
 use Rattle.view_lowering.specs.Promised.SeenWorlds.{plain, plain_label, all_kept, unbound_reference}
 use Rattle.view_lowering.specs.Plain.{unbound_references}
 use Rattle.view_lowering.specs.QuestionVariables.{number_of}
@@ -36,7 +36,7 @@ use Rattle.view_lowering.proofs.ScalarTokens.{ScalarClause, ScalarClauses, prove
 use Rattle.view_lowering.proofs.Applied.{each-more}
 use Rattle.view_lowering.proofs.Trees.{and, and-left, and-right, or-left, or-right}
 use Rattle.sessions.specs.Goals.{is_fixed, are_fixed}
-use Rattle.text_definitions.proofs.Basics.{among-first, no-count}
+use Rattle.text_language.proofs.Basics.{among-first, no-count}
 use Rattle.type_terms.proofs.BooleanBasics.{and-end}
 
 -- ---- which unknowns may stand

@@ -5,9 +5,9 @@ use Rattle.declarations.specs.declared.items.GenericParamKind.{GenericParamKind}
 use Rattle.declarations.specs.declared.items.GenericParamKind.TheVariants.{Lifetime, «Type» as TypeParam, Const}
 use Rattle.declarations.specs.Applied.{sort_of_param}
 use Rattle.declarations.specs.Items.{HeldImpl, written}
-use Rattle.assembly_laws.specs.Candidates.{kinds_of_params}
-use Rattle.assembly_laws.specs.DeclaredWell.{is_declared_well}
-use Rattle.assembly_laws.proofs.DeclaredWell.{tests-tell}
+use Rattle.candidate_model.specs.Candidates.{kinds_of_params}
+use Rattle.candidate_model.specs.DeclaredWell.{is_declared_well}
+use Rattle.candidate_model.proofs.DeclaredWell.{tests-tell}
 use Rattle.candidate_assembly.specs.Headers.{var_kind, StandInHeader}
 use Rattle.candidate_assembly.proofs.WellDeclared.{well-declared-have-candidates}
 use Rattle.declarations.specs.Applied.{HaveBounds}

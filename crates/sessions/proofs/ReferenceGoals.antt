@@ -7,7 +7,7 @@ use Rattle.term_folds.specs.declared.predicate.TraitRef.{TraitRef}
 use Rattle.infer_table.specs.Canonical.{GoalTrees}
 use Rattle.infer_table.specs.Goals.{environment_trees}
 use Rattle.declarations.specs.Applied.{references_in}
-use Rattle.assembly_laws.specs.Facts.{trees_of_clauses}
+use Rattle.candidate_model.specs.Facts.{trees_of_clauses}
 use Rattle.sessions.specs.Questions.{where_clauses, ReferencesAreGoals}
 
 clauses-are : (es : List Entry) (rs : List TraitRef) → environment_trees es (where_clauses rs) ≡ trees_of_clauses (references_in es rs)

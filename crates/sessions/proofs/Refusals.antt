@@ -14,13 +14,13 @@ use Rattle.infer_table.specs.Canonical.{GoalTrees, CanonicalForm, canonical_form
 use Rattle.infer_table.specs.Responses.{AnswerTrees}
 use Rattle.infer_table.specs.Solutions.{Assignment, IsSorted, instance}
 use Rattle.infer_table.specs.declared.certainty.TypingMode.TheVariants.{Coherence}
-use Rattle.solver_context.specs.Roots.{fact_under}
-use Rattle.assembly_laws.specs.Meaning.{ViewMeaning, LinkedWith, SelfTypesBegin, SolutionPlace, by_view, in_set, proved_at}
-use Rattle.assembly_laws.specs.Solver.{solver_handled}
+use Rattle.solver_graph.specs.Roots.{fact_under}
+use Rattle.candidate_model.specs.Meaning.{ViewMeaning, LinkedWith, SelfTypesBegin, SolutionPlace, by_view, in_set, proved_at}
+use Rattle.candidate_model.specs.Solver.{solver_handled}
 use Rattle.type_terms.specs.Promised.Verdicts.{placed}
 use Rattle.type_terms.specs.Promised.Questions.{FitKinds, filled, filled_reference, SolutionBy, Solution}
 use Rattle.overlap_check.proofs.Filling.{over-filled-reference, over-fit, over-each-closed}
-use Rattle.text_definitions.specs.Promised.Declarations.{Declarations, Question}
+use Rattle.text_language.specs.Promised.Declarations.{Declarations, Question}
 use Rattle.view_lowering.specs.Promised.SeenWorlds.{all_kept, plain, plain_label, unbound_reference}
 use Rattle.view_lowering.specs.Seen.{rules_seen_from}
 use Rattle.view_lowering.specs.Promised.Questions.{variable_kinds}

@@ -4,9 +4,9 @@ use Rattle.std.specs.Prelude.{IfOk, slice_get}
 use Rattle.type_terms.specs.Promised.Handles.{Entry}
 use Rattle.type_terms.specs.declared.Fault.{Fault}
 use Rattle.search_graph.specs.SearchState.{SearchState}
-use Rattle.solver_context.specs.Contexts.{entries_of}
-use Rattle.solver_context.specs.declared.context.SolverCx.{SolverCx}
-use Rattle.text_definitions.specs.Promised.Declarations.{Declarations, Question}
+use Rattle.solver_graph.specs.Contexts.{entries_of}
+use Rattle.solver_graph.specs.declared.context.SolverCx.{SolverCx}
+use Rattle.text_language.specs.Promised.Declarations.{Declarations, Question}
 use Rattle.view_lowering.specs.Promised.Questions.{IsQuestion}
 use Rattle.candidate_assembly.specs.Fitting.{solving_of}
 use Rattle.candidate_assembly.specs.Solving.{Solving}

@@ -8,12 +8,12 @@ use Rattle.type_terms.specs.Promised.Trees.{Trees, none, tree, leaf, ◌+++◌, 
 use Rattle.type_terms.specs.Promised.Worlds.{Reference}
 use Rattle.type_terms.specs.Promised.LinkedSet.{autos_rise, dyns_rise}
 use Rattle.declarations.specs.Promised.Elaboration.{Each}
-use Rattle.text_definitions.specs.Promised.Syntax.{TypeTree, of_primitive, never_type, variable_type, named, reference_to, pointer_to, slice_of, array_of, tuple_of, fn_of, fn_to, dyn_of, Types, no_types, and_type, Args, no_args, and_arg, Arg, lifetime_arg, number_arg, type_arg, Item, bound_item, lifetime_item, Items, no_items, and_item, Params, Bound, Clause}
-use Rattle.text_definitions.specs.Promised.Declarations.{Declarations, Known, a_crate, a_struct, a_trait, known}
-use Rattle.text_definitions.specs.Uses.{kinds_of_struct, kinds_of_trait, next_kind, other_kinds}
-use Rattle.text_definitions.specs.Promised.Faults.{is_among, is_auto_name}
-use Rattle.text_definitions.specs.Faults.{static_name}
-use Rattle.text_definitions.specs.Lowering.{Meanings, place_among, trait_number, struct_label, type_label, const_label, lifetime_under, lifetime_label, optional_lifetime, length_label, inserted, with_auto, autos, auto_leaves, item_lifetime, last_lifetime, type_tree, types_trees, args_trees, arg_tree, item_tree, items_trees, field_trees, with_self, clause_reference}
+use Rattle.text_language.specs.Promised.Syntax.{TypeTree, of_primitive, never_type, variable_type, named, reference_to, pointer_to, slice_of, array_of, tuple_of, fn_of, fn_to, dyn_of, Types, no_types, and_type, Args, no_args, and_arg, Arg, lifetime_arg, number_arg, type_arg, Item, bound_item, lifetime_item, Items, no_items, and_item, Params, Bound, Clause}
+use Rattle.text_language.specs.Promised.Declarations.{Declarations, Known, a_crate, a_struct, a_trait, known}
+use Rattle.text_language.specs.Uses.{kinds_of_struct, kinds_of_trait, next_kind, other_kinds}
+use Rattle.text_language.specs.Promised.Faults.{is_among, is_auto_name}
+use Rattle.text_language.specs.Faults.{static_name}
+use Rattle.text_language.specs.Lowering.{Meanings, place_among, trait_number, struct_label, type_label, const_label, lifetime_under, lifetime_label, optional_lifetime, length_label, inserted, with_auto, autos, auto_leaves, item_lifetime, last_lifetime, type_tree, types_trees, args_trees, arg_tree, item_tree, items_trees, field_trees, with_self, clause_reference}
 use Rattle.type_terms.proofs.TreeLaws.{append-assoc}
 use Rattle.type_terms.proofs.Made.{left, right, both}
 

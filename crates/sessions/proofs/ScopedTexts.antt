@@ -9,7 +9,7 @@ use Rattle.type_terms.specs.Promised.Proofs.{In}
 use Rattle.type_terms.specs.Promised.Versions.{sees_struct, sees_trait, label_allowed, label_shaped, well_written, in_scope}
 use Rattle.type_terms.proofs.Members.{in-append, in-filter, filter-in, in-map, some-member, member-some}
 use Rattle.view_lowering.proofs.Trees.{and, and-left, and-right}
-use Rattle.text_definitions.specs.Promised.Declarations.{Declarations, NamedImpl, LaterImpl}
+use Rattle.text_language.specs.Promised.Declarations.{Declarations, NamedImpl, LaterImpl}
 use Rattle.view_lowering.proofs.Tests.{is_good_impl}
 use Rattle.type_terms.proofs.NoHolds.{member-each}
 use Rattle.sessions.specs.Promised.CoherentTexts.{text_world}
@@ -19,7 +19,7 @@ use Rattle.sessions.proofs.FormedViews.{each-in, map-in}
 use Rattle.sessions.proofs.KeptTexts.{HeaderKept, AllKept, texts-are-kept}
 use Rattle.sessions.proofs.JoinedTexts.{ordered, uses-there, scope-of, clause-scope-of}
 use Rattle.sessions.proofs.Seeing.{seen-in-view}
-use Rattle.language_definitions.proofs.SameTexts.{text-gives}
+use Rattle.text_language.proofs.SameTexts.{text-gives}
 
 -- ---- what is well written with some names is so with more
 module _ (S P S' P' : ℕ → Bool) (structs : (s : ℕ) → S s ≡ true → S' s ≡ true) (traits : (t : ℕ) → P t ≡ true → P' t ≡ true) where

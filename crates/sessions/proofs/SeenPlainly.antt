@@ -11,11 +11,11 @@ use Rattle.type_terms.proofs.TermRules.{erased-views}
 use Rattle.type_terms.specs.Promised.Handles.{Entry}
 use Rattle.declarations.specs.Heads.{begins_declared}
 use Rattle.declarations.specs.Items.{Items, written}
-use Rattle.text_definitions.specs.Promised.Declarations as text
-use Rattle.text_definitions.specs.Promised.Declarations.{NamedImpl, world_of}
-use Rattle.text_definitions.specs.Text.{TextGives}
-use Rattle.assembly_laws.specs.Declared.{is_lifetime_parameter}
-use Rattle.assembly_laws.specs.Meaning.{SelfTypesBegin}
+use Rattle.text_language.specs.Promised.Declarations as text
+use Rattle.text_language.specs.Promised.Declarations.{NamedImpl, world_of}
+use Rattle.text_language.specs.Text.{TextGives}
+use Rattle.candidate_model.specs.Declared.{is_lifetime_parameter}
+use Rattle.candidate_model.specs.Meaning.{SelfTypesBegin}
 use Rattle.view_lowering.specs.Promised.SeenWorlds.{plain, plain_reference, plain_struct, plain_trait, plain_impl, plain_world, plainly_seen_from, all_kept, none_kept, stands_in}
 use Rattle.view_lowering.specs.Promised.SeenWorlds.{seen_from}
 use Rattle.view_lowering.specs.Seen.{rules_seen_from}

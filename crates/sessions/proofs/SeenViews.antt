@@ -8,12 +8,12 @@ use Rattle.type_terms.specs.Promised.Worlds.{sees}
 use Rattle.type_terms.specs.declared.CrateId.{CrateId}
 use Rattle.search_graph.specs.SearchState.{SearchState}
 use Rattle.declarations.specs.Items.{Items}
-use Rattle.text_definitions.specs.Promised.Declarations.{Declarations, world_of}
+use Rattle.text_language.specs.Promised.Declarations.{Declarations, world_of}
 use Rattle.view_lowering.specs.Behind.{most_new_terms, new_struct_terms, new_trait_terms, new_impl_terms}
 use Rattle.view_lowering.specs.MostTerms.{most_terms, struct_terms, trait_terms, impl_terms, struct_terms_seen, trait_terms_seen, impl_terms_seen}
 use Rattle.goal_frames.specs.Stores.{limit_of}
-use Rattle.solver_context.specs.Contexts.{IsReady as IsReadyContext}
-use Rattle.solver_context.specs.declared.context.SolverCx.{SolverCx}
+use Rattle.solver_graph.specs.Contexts.{IsReady as IsReadyContext}
+use Rattle.solver_graph.specs.declared.context.SolverCx.{SolverCx}
 use Rattle.candidate_assembly.specs.Ready.{AreReadyDeclarations}
 use Rattle.candidate_assembly.specs.Solving.{Solving}
 use Rattle.candidate_assembly.specs.declared.solver.Solver.{Solver}

@@ -9,7 +9,7 @@ use Rattle.declarations.specs.Heads.{begins_declared}
 use Rattle.declarations.specs.Held.{ImplHeld, AreHeld}
 use Rattle.declarations.specs.Items.{Items, HeldImpl, impl_in, written}
 use Rattle.declarations.specs.Promised.Elaboration.{Each}
-use Rattle.assembly_laws.specs.Meaning.{SelfTypesBegin}
+use Rattle.candidate_model.specs.Meaning.{SelfTypesBegin}
 
 each-of : {A : Type 0} (P : A → Type 0) (xs : List A) (x : A) → Each P xs → In x xs → P x
 each-of P [] x e i = absurd (in-nothing x i)

@@ -18,18 +18,18 @@ use Rattle.infer_table.specs.declared.certainty.Certainty.TheVariants.{Yes, Mayb
 use Rattle.infer_table.specs.declared.goal.Goal.{Goal}
 use Rattle.infer_table.proofs.Numbers.{goal-trees-later}
 use Rattle.infer_table.proofs.WithoutCanonical.{resolving-keeps-out}
-use Rattle.evaluation.specs.Content.{Fact}
-use Rattle.evaluation.specs.Proof as Lists
-use Rattle.evaluation.specs.TableAnswers.{has_values}
-use Rattle.evaluation.specs.Tables.{frame_tables}
-use Rattle.evaluation.specs.declared.goal.HasChanged.TheVariants as Changed
+use Rattle.goal_evaluator.specs.Content.{Fact}
+use Rattle.goal_evaluator.specs.Proof as Lists
+use Rattle.goal_evaluator.specs.TableAnswers.{has_values}
+use Rattle.goal_evaluator.specs.Tables.{frame_tables}
+use Rattle.goal_evaluator.specs.declared.goal.HasChanged.TheVariants as Changed
 use Rattle.goal_frames.specs.Searches.{is_yes_answer}
 use Rattle.goal_frames.specs.declared.store.InputId.{InputId}
 use Rattle.goal_frames.specs.declared.store.ResponseId.{ResponseId}
-use Rattle.solver_context.specs.Changes.{changed}
-use Rattle.solver_context.specs.Contexts.{entries_of}
-use Rattle.solver_context.specs.Roots.{fact_under, SolutionsAreProved}
-use Rattle.solver_context.specs.declared.context.SolverCx.{SolverCx}
+use Rattle.solver_graph.specs.Changes.{changed}
+use Rattle.solver_graph.specs.Contexts.{entries_of}
+use Rattle.solver_graph.specs.Roots.{fact_under, SolutionsAreProved}
+use Rattle.solver_graph.specs.declared.context.SolverCx.{SolverCx}
 use Rattle.goal_frames.specs.Meanings.{HandlerMeaning}
 use Rattle.sessions.specs.Settling.{m, HasAsked, IsProvedBy}
 use Rattle.type_terms.proofs.BooleanBasics.{no-and as and-false}

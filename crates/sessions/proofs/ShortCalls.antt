@@ -8,13 +8,13 @@ use Rattle.type_terms.specs.Promised.Handles.{SomeKindIsFull, full}
 use Rattle.type_terms.specs.declared.Fault.{Fault}
 use Rattle.type_terms.specs.Growth.{FullAtLimit}
 use Rattle.goal_frames.specs.Stores.{kept_inputs, kept_responses}
-use Rattle.solver_context.specs.Contexts.{entries_of}
-use Rattle.solver_context.specs.Shortages.{ContextIsFull, ContextFullAtLimit, RootFullAtLimit, interner, store}
-use Rattle.solver_context.proofs.Shortages.{handed}
-use Rattle.solver_context.specs.declared.context.SolverCx.{SolverCx}
-use Rattle.solver_context.specs.declared.outcome.GoalEvaluation.{GoalEvaluation}
-use Rattle.solver_context.specs.declared.outcome.RootError.{RootError}
-use Rattle.solver_context.specs.declared.outcome.RootError.TheVariants as Root
+use Rattle.solver_graph.specs.Contexts.{entries_of}
+use Rattle.solver_graph.specs.Shortages.{ContextIsFull, ContextFullAtLimit, RootFullAtLimit, interner, store}
+use Rattle.solver_graph.proofs.Shortages.{handed}
+use Rattle.solver_graph.specs.declared.context.SolverCx.{SolverCx}
+use Rattle.solver_graph.specs.declared.outcome.GoalEvaluation.{GoalEvaluation}
+use Rattle.solver_graph.specs.declared.outcome.RootError.{RootError}
+use Rattle.solver_graph.specs.declared.outcome.RootError.TheVariants as Root
 use Rattle.candidate_assembly.specs.declared.solver.Solver.{Solver}
 use Rattle.sessions.specs.Sessions.{HasLimits}
 use Rattle.sessions.specs.Promised.Shortages.{IsAtLimit, SessionFullAtLimit, terms, goals, answers}

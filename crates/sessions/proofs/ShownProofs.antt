@@ -17,8 +17,8 @@ use Rattle.declarations.proofs.Elaborating.{each-in}
 use Rattle.declarations.proofs.Growth.{all-declared, reference-same}
 use Rattle.overlap_check.specs.Orphans.{AreWrittenWell, HeaderHoldsParams}
 use Rattle.overlap_check.specs.Written.{IsWrittenWell}
-use Rattle.solver_context.specs.Contexts.{entries_of}
-use Rattle.solver_context.specs.declared.context.SolverCx.{SolverCx}
+use Rattle.solver_graph.specs.Contexts.{entries_of}
+use Rattle.solver_graph.specs.declared.context.SolverCx.{SolverCx}
 use Rattle.candidate_assembly.specs.declared.solver.Solver.{Solver}
 use Rattle.infer_table.specs.Content.{content}
 use Rattle.type_terms.specs.Promised.Questions.{filled, filled_reference}
@@ -26,7 +26,7 @@ use Rattle.proof_checker.specs.Steps.{term_of, terms_of, ParametersAreCovered, A
 use Rattle.proof_checker.proofs.Later.{terms-same}
 use Rattle.proof_checker.proofs.Moved.{proof-before}
 use Rattle.proof_checker.specs.declared.steps.Step.{Step}
-use Rattle.text_definitions.specs.Promised.Declarations.{Declarations, Question}
+use Rattle.text_language.specs.Promised.Declarations.{Declarations, Question}
 use Rattle.view_lowering.specs.Promised.SeenWorlds.{unbound_reference}
 use Rattle.view_lowering.specs.Plain.{unbound_references}
 use Rattle.view_lowering.specs.Promised.Questions.{variable_kinds}

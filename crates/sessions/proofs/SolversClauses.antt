@@ -14,7 +14,7 @@ use Rattle.infer_table.specs.Canonical.{CanonicalForm}
 use Rattle.declarations.specs.Applied.{IsApplied, AreApplied, sorts_of, sorts_of_params}
 use Rattle.declarations.specs.Items.{Items, trait_at}
 use Rattle.declarations.specs.declared.items.TraitDef.{TraitDef}
-use Rattle.assembly_laws.specs.Asking.{next_of}
+use Rattle.candidate_model.specs.Asking.{next_of}
 use Rattle.candidate_assembly.specs.Fitting.{same_sorts, are_of_trait, is_shut, type_fits, fits_declared, solving_of}
 use Rattle.candidate_assembly.specs.Solving.{Solving}
 use Rattle.sessions.specs.Applying.{SolversClausesApply}

@@ -6,8 +6,8 @@ use Rattle.type_terms.specs.Promised.Proofs.{In}
 use Rattle.type_terms.proofs.ProofEntries.{map-in}
 use Rattle.type_terms.proofs.Members.{here, there, in-nothing, in-cases, in-filter, in-flat, flat-in, same-number}
 use Rattle.declarations.specs.Promised.Elaboration.{supertraits}
-use Rattle.assembly_laws.specs.Declared.{LeadDown}
-use Rattle.assembly_laws.proofs.Stack.{elaborated-all}
+use Rattle.candidate_model.specs.Declared.{LeadDown}
+use Rattle.candidate_model.proofs.Stack.{elaborated-all}
 
 module _ (V : World) (rank : ℕ → ℕ) (down : LeadDown V rank) where
   written-lower : (r s : Reference) → In s (written_supertraits V r) → rank s.trait < rank r.trait

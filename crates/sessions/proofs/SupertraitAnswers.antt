@@ -18,15 +18,15 @@ use Rattle.type_terms.proofs.Made.{false-true}
 use Rattle.infer_table.specs.Canonical.{HasNoCanonical}
 use Rattle.infer_table.specs.Content.{Table, Ready, content}
 use Rattle.infer_table.proofs.ContentFacts.{valued}
-use Rattle.evaluation.proofs.Labels.{made-labels}
+use Rattle.goal_evaluator.proofs.Labels.{made-labels}
 use Rattle.declarations.specs.Applied.{references_in}
 use Rattle.declarations.specs.Promised.Elaboration.{elaborate, supertraits}
 use Rattle.declarations.specs.Items.{Items, written}
-use Rattle.text_definitions.specs.Promised.Declarations.{Declarations, world_of}
-use Rattle.assembly_laws.specs.DeclaredWell.{IsDeclaredWell}
-use Rattle.assembly_laws.specs.Facts.{children_of, reference_in}
-use Rattle.assembly_laws.proofs.ErasedCandidates.{without_lifetimes}
-use Rattle.solver_context.specs.Roots.{fact_under}
+use Rattle.text_language.specs.Promised.Declarations.{Declarations, world_of}
+use Rattle.candidate_model.specs.DeclaredWell.{IsDeclaredWell}
+use Rattle.candidate_model.specs.Facts.{children_of, reference_in}
+use Rattle.candidate_model.proofs.ErasedCandidates.{without_lifetimes}
+use Rattle.solver_graph.specs.Roots.{fact_under}
 use Rattle.candidate_assembly.specs.Fitting.{solving_of}
 use Rattle.candidate_assembly.specs.Solving.{Solving}
 use Rattle.view_lowering.specs.Promised.SeenWorlds.{plain_reference, plain_impl, unbound_reference, stands_in}
@@ -58,7 +58,7 @@ use Rattle.sessions.proofs.ProvedQuestions.{args-fixed, clean-fixed, filled-fixe
 use Rattle.sessions.proofs.SeenPlainly.{rules-are, seen-begin, seen-erased}
 use Rattle.sessions.proofs.StrictSupertraits.{strict-among}
 use Rattle.sessions.proofs.WithoutLifetimes.{FieldsAreErased, erased-is, supers-same}
-use Rattle.assembly_laws.specs.Meaning.{SelfTypesBegin}
+use Rattle.candidate_model.specs.Meaning.{SelfTypesBegin}
 use Rattle.sessions.proofs.GivenTexts.{text-given}
 use Rattle.type_terms.proofs.ListBasics.{take-map}
 

@@ -17,42 +17,42 @@ use Rattle.infer_table.specs.Responses.{AnswerTrees}
 use Rattle.infer_table.specs.Solutions.{Assignment, IsSorted}
 use Rattle.infer_table.specs.declared.certainty.TypingMode.{TypingMode}
 use Rattle.infer_table.specs.declared.certainty.TypingMode.TheVariants.{Coherence, PostAnalysis}
-use Rattle.evaluation.specs.Content.{Values, NestedQuestion, Fact, fact_of}
-use Rattle.evaluation.specs.Instances.{default_label}
-use Rattle.evaluation.specs.Tables.{frame_tables}
+use Rattle.goal_evaluator.specs.Content.{Values, NestedQuestion, Fact, fact_of}
+use Rattle.goal_evaluator.specs.Instances.{default_label}
+use Rattle.goal_evaluator.specs.Tables.{frame_tables}
 use Rattle.goal_frames.specs.Handlers.{same_answer, applies_always}
 use Rattle.goal_frames.specs.Programs.{ArePrograms}
 use Rattle.goal_frames.specs.Searches.{Handles, GoalInMode}
 use Rattle.goal_frames.proofs.HandlerPrograms.{handlers-are-programs}
 use Rattle.declarations.specs.Promised.Elaboration.{elaborate}
 use Rattle.declarations.specs.Items.{Items, written}
-use Rattle.text_definitions.specs.Promised.Declarations as text
-use Rattle.text_definitions.specs.Text.{TextGives}
-use Rattle.assembly_laws.specs.DeclaredWell.{IsDeclaredWell, is_declared_well}
-use Rattle.assembly_laws.specs.Facts.{clauses_of, reference_in}
-use Rattle.assembly_laws.specs.Meaning.{ViewMeaning, SelfTypesBegin}
-use Rattle.assembly_laws.proofs.DeclaredWell.{tests-tell}
-use Rattle.assembly_laws.proofs.ErasedCandidates.{without_lifetimes}
-use Rattle.assembly_laws.proofs.Stack.{elaborated-all, elaborated-only}
+use Rattle.text_language.specs.Promised.Declarations as text
+use Rattle.text_language.specs.Text.{TextGives}
+use Rattle.candidate_model.specs.DeclaredWell.{IsDeclaredWell, is_declared_well}
+use Rattle.candidate_model.specs.Facts.{clauses_of, reference_in}
+use Rattle.candidate_model.specs.Meaning.{ViewMeaning, SelfTypesBegin}
+use Rattle.candidate_model.proofs.DeclaredWell.{tests-tell}
+use Rattle.candidate_model.proofs.ErasedCandidates.{without_lifetimes}
+use Rattle.candidate_model.proofs.Stack.{elaborated-all, elaborated-only}
 use Rattle.candidate_assembly.specs.Fitting.{solving_of}
 use Rattle.candidate_assembly.specs.Solving.{Solving}
 use Rattle.candidate_assembly.specs.SolverMeaning.{goals_by_view}
 use Rattle.candidate_assembly.specs.SolverLaws.{goals-are-lawful}
 use Rattle.view_lowering.specs.Ready.{AreSeen, OfTexts}
 use Rattle.view_lowering.proofs.WellSeen.{texts-seen-well}
-use Rattle.solver_context.specs.Roots.{question_of, values_under}
-use Rattle.solver_exactness.specs.FormedAnswers.{IsFormedGoal, AreDeclared}
-use Rattle.solver_exactness.specs.FormedFacts.{Sorts, IsFormed, IsFormedFact, IsFormedView}
-use Rattle.solver_exactness.specs.SolverAnswers.{solver_programs, TellsPossible}
-use Rattle.solver_exactness.specs.SolverChoices.{IsElaborated}
-use Rattle.solver_exactness.specs.SolverWays.{facts_beside, premises_of}
-use Rattle.solver_exactness.specs.UnboundGoals.{is_unbound}
-use Rattle.solver_exactness.specs.Ways.{HasOneWayWithin}
-use Rattle.solver_exactness.proofs.FormedAnswers.{formed-searches-are-right, formed-tells-possible}
-use Rattle.solver_exactness.proofs.ModelWays.{single_way_is_decided}
-use Rattle.solver_exactness.proofs.Once.{elaborated-once}
-use Rattle.solver_exactness.proofs.Selecting.{hits, hits-map}
-use Rattle.solver_exactness.proofs.UnboundGoals.{unbound-are-admitted}
+use Rattle.solver_graph.specs.Roots.{question_of, values_under}
+use Rattle.solver_completeness.specs.FormedAnswers.{IsFormedGoal, AreDeclared}
+use Rattle.solver_completeness.specs.FormedFacts.{Sorts, IsFormed, IsFormedFact, IsFormedView}
+use Rattle.solver_completeness.specs.SolverAnswers.{solver_programs, TellsPossible}
+use Rattle.solver_completeness.specs.SolverChoices.{IsElaborated}
+use Rattle.solver_completeness.specs.SolverWays.{facts_beside, premises_of}
+use Rattle.solver_completeness.specs.UnboundGoals.{is_unbound}
+use Rattle.solver_completeness.specs.Ways.{HasOneWayWithin}
+use Rattle.solver_completeness.proofs.FormedAnswers.{formed-searches-are-right, formed-tells-possible}
+use Rattle.solver_completeness.proofs.ModelWays.{single_way_is_decided}
+use Rattle.solver_completeness.proofs.Once.{elaborated-once}
+use Rattle.solver_completeness.proofs.Selecting.{hits, hits-map}
+use Rattle.solver_completeness.proofs.UnboundGoals.{unbound-are-admitted}
 use Rattle.sessions.specs.Answers.{solver_goals, IsOnlyAnswer, IsRightOf, AreAnsweredRight, AreAnsweredAsWritten, AreToldPossible}
 use Rattle.sessions.specs.Clauses.{AddSupertraits}
 use Rattle.sessions.specs.Fitting.{sorts_in, fits_in}

@@ -14,16 +14,16 @@ use Rattle.type_terms.proofs.Made.{false-true}
 use Rattle.declarations.specs.Promised.Elaboration.{elaborate}
 use Rattle.declarations.specs.Items.{Items, written, reference_in}
 use Rattle.declarations.specs.Promised.Elaboration.{Each}
-use Rattle.text_definitions.specs.Promised.Declarations as text
-use Rattle.text_definitions.specs.Text.{TextGives}
+use Rattle.text_language.specs.Promised.Declarations as text
+use Rattle.text_language.specs.Text.{TextGives}
 use Rattle.view_lowering.specs.Promised.SeenWorlds.{unbound_reference}
 use Rattle.view_lowering.specs.Plain.{unbound_references}
 use Rattle.view_lowering.specs.Promised.Questions.{variable_kinds}
 use Rattle.view_lowering.specs.Ready.{AreSeen}
 use Rattle.view_lowering.proofs.WellSeen.{texts-seen-well}
-use Rattle.assembly_laws.specs.DeclaredWell.{IsDeclaredWell, is_declared_well}
-use Rattle.assembly_laws.proofs.DeclaredWell.{tests-tell}
-use Rattle.solver_exactness.specs.FormedFacts.{Sorts, FitsSorts, IsFormedView}
+use Rattle.candidate_model.specs.DeclaredWell.{IsDeclaredWell, is_declared_well}
+use Rattle.candidate_model.proofs.DeclaredWell.{tests-tell}
+use Rattle.solver_completeness.specs.FormedFacts.{Sorts, FitsSorts, IsFormedView}
 use Rattle.sessions.specs.Fitting.{sorts_in}
 use Rattle.sessions.specs.Goals.{is_fixed, are_fixed}
 use Rattle.sessions.specs.Questions.{AreFixedReferences, IsFormedAsWritten, IsFormedElaborated, TextsQuestionsAreFormed, TextsQuestionsAreElaborated}

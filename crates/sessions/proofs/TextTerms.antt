@@ -12,24 +12,24 @@ use Rattle.type_terms.specs.Promised.Worlds.{Reference, sees}
 use Rattle.type_terms.specs.Promised.Rules.{autos_with}
 use Rattle.type_terms.proofs.Members.{self-number}
 use Rattle.declarations.specs.Applied.{sorts_of}
-use Rattle.text_definitions.specs.Promised.Syntax.{TypeTree, of_primitive, never_type, variable_type, named, reference_to, pointer_to, slice_of, array_of, tuple_of, fn_of, fn_to, dyn_of, Types, no_types, and_type, Args, no_args, and_arg, Arg, lifetime_arg, number_arg, type_arg, Item, bound_item, lifetime_item, Items, no_items, and_item, Length, number_length, name_length, variable_length, Line}
-use Rattle.text_definitions.specs.Promised.Declarations.{Declarations, NamedCrate, NamedStruct, NamedTrait, world_of, Known, a_crate, a_struct, a_trait, known}
-use Rattle.text_definitions.specs.Uses.{Use, name_use, trait_use, items_use, dyn_use, item_shape, item_shapes, args_count, types_count, kinds_of_struct, kinds_of_trait, length_uses, lifetime_uses, binder_uses, type_uses, types_uses, args_uses, arg_uses, item_uses, items_uses, params_of}
-use Rattle.text_definitions.specs.Promised.Faults.{with_own, is_among, is_auto_name}
-use Rattle.text_definitions.specs.Faults.{is_param, is_param_of, is_type_of, is_trait_of, home_of, is_hidden_use, static_name}
-use Rattle.text_definitions.specs.Lowering.{Meanings, place_among, trait_number, struct_label, type_label, const_label, lifetime_under, lifetime_label, optional_lifetime, length_label, inserted, with_auto, autos, auto_leaves, item_lifetime, last_lifetime, type_tree, types_trees, args_trees, arg_tree, item_tree, items_trees}
-use Rattle.line_reader.specs.Faultless.{UsesFit}
+use Rattle.text_language.specs.Promised.Syntax.{TypeTree, of_primitive, never_type, variable_type, named, reference_to, pointer_to, slice_of, array_of, tuple_of, fn_of, fn_to, dyn_of, Types, no_types, and_type, Args, no_args, and_arg, Arg, lifetime_arg, number_arg, type_arg, Item, bound_item, lifetime_item, Items, no_items, and_item, Length, number_length, name_length, variable_length, Line}
+use Rattle.text_language.specs.Promised.Declarations.{Declarations, NamedCrate, NamedStruct, NamedTrait, world_of, Known, a_crate, a_struct, a_trait, known}
+use Rattle.text_language.specs.Uses.{Use, name_use, trait_use, items_use, dyn_use, item_shape, item_shapes, args_count, types_count, kinds_of_struct, kinds_of_trait, length_uses, lifetime_uses, binder_uses, type_uses, types_uses, args_uses, arg_uses, item_uses, items_uses, params_of}
+use Rattle.text_language.specs.Promised.Faults.{with_own, is_among, is_auto_name}
+use Rattle.text_language.specs.Faults.{is_param, is_param_of, is_type_of, is_trait_of, home_of, is_hidden_use, static_name}
+use Rattle.text_language.specs.Lowering.{Meanings, place_among, trait_number, struct_label, type_label, const_label, lifetime_under, lifetime_label, optional_lifetime, length_label, inserted, with_auto, autos, auto_leaves, item_lifetime, last_lifetime, type_tree, types_trees, args_trees, arg_tree, item_tree, items_trees}
+use Rattle.text_lines.specs.Faultless.{UsesFit}
 use Rattle.view_lowering.proofs.Begins.{is_scalar}
 use Rattle.view_lowering.proofs.Scalars.{Scalars, ScalarTypes, ScalarArgs, ScalarArg, ScalarItem, ScalarItems}
 use Rattle.view_lowering.proofs.Spoken.{sorts-append}
 use Rattle.view_lowering.proofs.Standing.{AutosAreBare}
 use Rattle.view_lowering.proofs.Trees.{and-left, or-left, or-right}
-use Rattle.assembly_laws.specs.Asking.{next_of}
-use Rattle.assembly_laws.specs.DeclaredWell.{are_distinct}
-use Rattle.solver_exactness.specs.GoalSets.{begins_typed}
-use Rattle.solver_exactness.specs.RowWays.{autos_stand_once}
-use Rattle.solver_exactness.specs.FormedFacts.{EachNode, AreTypeSorts}
-use Rattle.solver_exactness.proofs.Basics.{are-types-append}
+use Rattle.candidate_model.specs.Asking.{next_of}
+use Rattle.candidate_model.specs.DeclaredWell.{are_distinct}
+use Rattle.solver_completeness.specs.GoalSets.{begins_typed}
+use Rattle.solver_completeness.specs.RowWays.{autos_stand_once}
+use Rattle.solver_completeness.specs.FormedFacts.{EachNode, AreTypeSorts}
+use Rattle.solver_completeness.proofs.Basics.{are-types-append}
 
 -- ---- what is declared, and of which crates it is seen
 pub record Scope : Type 0 where

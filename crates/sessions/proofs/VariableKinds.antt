@@ -13,8 +13,8 @@ use Rattle.type_terms.specs.declared.kinds.GenericArgKind.{GenericArgKind}
 use Rattle.type_terms.specs.declared.kinds.GenericArgKind.TheVariants.{Ty, Const, Lifetime}
 use Rattle.term_folds.specs.Arguments.{arg_sort}
 use Rattle.infer_table.proofs.BindFacts.{type-is, const-is}
-use Rattle.text_definitions.specs.Promised.Declarations.{Variable}
-use Rattle.text_definitions.specs.Names.{own_from}
+use Rattle.text_language.specs.Promised.Declarations.{Variable}
+use Rattle.text_language.specs.Names.{own_from}
 use Rattle.type_terms.proofs.ListBasics.{first-same, rest-same, two}
 
 -- what stands for a variable, by its kind

@@ -25,25 +25,25 @@ use Rattle.type_terms.proofs.TreeLaws.{erase-instantiate, nth-single-zero, nth-s
 use Rattle.type_terms.proofs.Walking.{left, right}
 use Rattle.type_terms.specs.Made.{terms, is_made}
 use Rattle.type_terms.proofs.Made.{false-true}
-use Rattle.evaluation.specs.Lists.{Every}
-use Rattle.assembly_laws.specs.Candidates.{is_param}
-use Rattle.assembly_laws.specs.Declared.{is_declared as is_declared_label, are_terms, is_unsorted, is_lifetime_parameter}
-use Rattle.assembly_laws.specs.DeclaredWell.{IsDeclaredWell}
-use Rattle.assembly_laws.specs.Facts.{is_unerased}
-use Rattle.assembly_laws.specs.Meaning.{SelfTypesBegin}
-use Rattle.assembly_laws.proofs.DeclaredParts.{header-declared, clause-declared, bound-declared}
-use Rattle.assembly_laws.proofs.ErasedCandidates.{types-same, consts-same, without_lifetimes}
-use Rattle.assembly_laws.proofs.ErasedRows.{declared-head, label-stays as kept-label}
-use Rattle.assembly_laws.proofs.ErasedTerms.{erased-lifetimes, declared-stays}
-use Rattle.assembly_laws.proofs.PlainRules.{is_wild, tame, Plain, IsPlainReference, HavePlainPremises, plain-unbound, plain-instance}
-use Rattle.assembly_laws.proofs.ReadOff.{by-declared, is_kept, none-passes, below, one-sort, arguments-plain}
-use Rattle.assembly_laws.proofs.Headers.{child-some, next-some, here-some}
-use Rattle.assembly_laws.proofs.Rows.{fields-declared}
+use Rattle.goal_evaluator.specs.Lists.{Every}
+use Rattle.candidate_model.specs.Candidates.{is_param}
+use Rattle.candidate_model.specs.Declared.{is_declared as is_declared_label, are_terms, is_unsorted, is_lifetime_parameter}
+use Rattle.candidate_model.specs.DeclaredWell.{IsDeclaredWell}
+use Rattle.candidate_model.specs.Facts.{is_unerased}
+use Rattle.candidate_model.specs.Meaning.{SelfTypesBegin}
+use Rattle.candidate_model.proofs.DeclaredParts.{header-declared, clause-declared, bound-declared}
+use Rattle.candidate_model.proofs.ErasedCandidates.{types-same, consts-same, without_lifetimes}
+use Rattle.candidate_model.proofs.ErasedRows.{declared-head, label-stays as kept-label}
+use Rattle.candidate_model.proofs.ErasedTerms.{erased-lifetimes, declared-stays}
+use Rattle.candidate_model.proofs.PlainRules.{is_wild, tame, Plain, IsPlainReference, HavePlainPremises, plain-unbound, plain-instance}
+use Rattle.candidate_model.proofs.ReadOff.{by-declared, is_kept, none-passes, below, one-sort, arguments-plain}
+use Rattle.candidate_model.proofs.Headers.{child-some, next-some, here-some}
+use Rattle.candidate_model.proofs.Rows.{fields-declared}
 use Rattle.sessions.proofs.PlainPremises.{supers-plain, rules-plain}
-use Rattle.solver_exactness.proofs.FormedInstances.{Stands, stands-cases, fits-by, sort-where}
+use Rattle.solver_completeness.proofs.FormedInstances.{Stands, stands-cases, fits-by, sort-where}
 use Rattle.sessions.proofs.Fitting.{shut}
 use Rattle.type_terms.proofs.TermBasics.{three as same-node, is_sort-self as sort-self, if-same}
-use Rattle.evaluation.proofs.Basics.{every-append}
+use Rattle.goal_evaluator.proofs.Basics.{every-append}
 
 -- ---- terms
 label-stays : (l : Label) → is_unerased l ≡ false → erase_label l ≡ l

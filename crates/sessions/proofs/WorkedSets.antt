@@ -21,16 +21,16 @@ use Rattle.type_terms.proofs.NoHolds.{member-each}
 use Rattle.type_terms.proofs.ViewLaws.{as-it-was}
 use Rattle.type_terms.proofs.SameNumbers.{holds-view}
 use Rattle.type_terms.proofs.TwoTexts.{exchanged, by-lists}
-use Rattle.text_definitions.specs.Tokens.{tokens_of}
-use Rattle.text_definitions.specs.Promised.Syntax.{named, no_args, no_types, Line, crate_line, struct_line, trait_line, impl_line}
-use Rattle.text_definitions.specs.Syntax.{no_params}
-use Rattle.text_definitions.specs.Promised.Declarations.{Declarations}
-use Rattle.text_definitions.specs.Declarations.{nothing_declared}
-use Rattle.text_definitions.specs.Adding.{added}
-use Rattle.text_definitions.specs.Written.{IsWritten}
-use Rattle.text_definitions.specs.Promised.Written.{is_ascii, is_blank}
-use Rattle.text_definitions.specs.Faults.{fault_of}
-use Rattle.text_definitions.specs.Text.{TextGives, fits, LinesGive, ends, goes_on, adds}
+use Rattle.text_language.specs.Tokens.{tokens_of}
+use Rattle.text_language.specs.Promised.Syntax.{named, no_args, no_types, Line, crate_line, struct_line, trait_line, impl_line}
+use Rattle.text_language.specs.Syntax.{no_params}
+use Rattle.text_language.specs.Promised.Declarations.{Declarations}
+use Rattle.text_language.specs.Declarations.{nothing_declared}
+use Rattle.text_language.specs.Adding.{added}
+use Rattle.text_language.specs.Written.{IsWritten}
+use Rattle.text_language.specs.Promised.Written.{is_ascii, is_blank}
+use Rattle.text_language.specs.Faults.{fault_of}
+use Rattle.text_language.specs.Text.{TextGives, fits, LinesGive, ends, goes_on, adds}
 use Rattle.type_terms.specs.Promised.Verdicts.{IsAccepted}
 use Rattle.overlap_check.proofs.Contracts.{apart-cleared}
 use Rattle.sessions.specs.Promised.CoherentTexts.{text_world}
@@ -39,7 +39,7 @@ use Rattle.sessions.specs.Promised.AnsweredSets.{IsAcceptedAndHeld, WasAsked, Is
 use Rattle.sessions.specs.WorkedSets.{text_with_aside, text_with_second, CratesOfTwoTextsAreASet}
 use Rattle.sessions.proofs.KeptTexts.{texts-are-kept}
 use Rattle.sessions.proofs.JoinedTexts.{text-is-ordered, of-core}
-use Rattle.language_definitions.proofs.SameTexts.{text-says}
+use Rattle.text_language.proofs.SameTexts.{text-says}
 
 -- ---- the lines
 abbrev crate : List ℕ → List (List ℕ) → Line

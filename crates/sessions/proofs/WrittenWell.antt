@@ -27,13 +27,13 @@ use Rattle.declarations.specs.Applied.{sort_of_param}
 use Rattle.declarations.specs.Items.{Items, HeldImpl, reference_in, impl_in, written}
 use Rattle.declarations.specs.Promised.Elaboration.{Each}
 use Rattle.declarations.proofs.Elaborating.{each-in}
-use Rattle.assembly_laws.specs.Candidates.{is_param, kind_of_param, kinds_of_params}
-use Rattle.assembly_laws.specs.Declared.{is_declared, is_counted, are_terms, is_otherwise, is_unsorted}
-use Rattle.assembly_laws.specs.DeclaredWell.{IsDeclaredWell}
-use Rattle.assembly_laws.proofs.ClosedPremises.{plain}
-use Rattle.assembly_laws.proofs.DeclaredParts.{header-declared, clause-declared}
-use Rattle.assembly_laws.proofs.DeclaredWell.{tests-tell}
-use Rattle.assembly_laws.proofs.ErasedTerms.{declared-stays, erased-lifetimes}
+use Rattle.candidate_model.specs.Candidates.{is_param, kind_of_param, kinds_of_params}
+use Rattle.candidate_model.specs.Declared.{is_declared, is_counted, are_terms, is_otherwise, is_unsorted}
+use Rattle.candidate_model.specs.DeclaredWell.{IsDeclaredWell}
+use Rattle.candidate_model.proofs.ClosedPremises.{plain}
+use Rattle.candidate_model.proofs.DeclaredParts.{header-declared, clause-declared}
+use Rattle.candidate_model.proofs.DeclaredWell.{tests-tell}
+use Rattle.candidate_model.proofs.ErasedTerms.{declared-stays, erased-lifetimes}
 use Rattle.candidate_assembly.specs.Headers.{CanBeCandidate, var_kind}
 use Rattle.candidate_assembly.specs.Ready.{AreReadyDeclarations}
 use Rattle.candidate_assembly.proofs.WellDeclared.{is-less}

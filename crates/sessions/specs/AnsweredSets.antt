@@ -5,7 +5,7 @@ use Rattle.type_terms.specs.Promised.Proofs.{In}
 use Rattle.type_terms.specs.Promised.Renumbering.{asker_in_set}
 use Rattle.type_terms.specs.Promised.LinkedSet.{LinkedSet}
 use Rattle.type_terms.specs.ArrangingLaws.{Listed, HoldsInOrder}
-use Rattle.text_definitions.specs.Promised.Declarations.{Declarations}
+use Rattle.text_language.specs.Promised.Declarations.{Declarations}
 use Rattle.overlap_check.specs.SessionLaws.{HeadlineInOrder}
 use Rattle.sessions.specs.JoinedSets.{ObeysTextRules}
 use Rattle.sessions.specs.Promised.AnsweredSets.{OrderedCrates, IsAcceptedAndHeld, IsOfAskedCrates}

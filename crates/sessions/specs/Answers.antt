@@ -10,8 +10,8 @@ use Rattle.infer_table.specs.Responses.{AnswerTrees}
 use Rattle.infer_table.specs.declared.certainty.TypingMode.{TypingMode}
 use Rattle.infer_table.specs.declared.certainty.TypingMode.TheVariants.{Coherence, PostAnalysis}
 use Rattle.search_graph.specs.Plain.{IsPlain}
-use Rattle.evaluation.specs.Law.{IsYes}
-use Rattle.evaluation.specs.Tables.{frame_tables}
+use Rattle.goal_evaluator.specs.Law.{IsYes}
+use Rattle.goal_evaluator.specs.Tables.{frame_tables}
 use Rattle.goal_frames.specs.HandlerPrograms.{programs_of}
 use Rattle.goal_frames.specs.Programs.{Programs}
 use Rattle.goal_frames.specs.Searches.{Handles, GoalInMode, meaning}
@@ -19,7 +19,7 @@ use Rattle.declarations.specs.Promised.Elaboration.{elaborate}
 use Rattle.declarations.specs.Items.{Items, written}
 use Rattle.candidate_assembly.specs.Fitting.{solving_of}
 use Rattle.candidate_assembly.specs.Solving.{Solving}
-use Rattle.solver_exactness.specs.SolverAnswers.{TellsPossible}
+use Rattle.solver_completeness.specs.SolverAnswers.{TellsPossible}
 use Rattle.candidate_assembly.specs.SolverMeaning.{goals_by_view}
 use Rattle.sessions.specs.Fitting.{sorts_in}
 use Rattle.sessions.specs.Goals.{goal_of, IsFormedQuestion}

@@ -3,8 +3,8 @@ use Rattle.std.specs.Prelude.{ℕ, List, Ok}
 use Rattle.type_terms.specs.Promised.Handles.{Entry}
 use Rattle.declarations.specs.Applied.{AreApplied}
 use Rattle.declarations.specs.Items.{Items}
-use Rattle.text_definitions.specs.Promised.Declarations as text
-use Rattle.text_definitions.specs.Text.{TextGives}
+use Rattle.text_language.specs.Promised.Declarations as text
+use Rattle.text_language.specs.Text.{TextGives}
 use Rattle.view_lowering.specs.Promised.Questions.{IsQuestion}
 use Rattle.view_lowering.specs.Questions.{IsLowered}
 use Rattle.view_lowering.specs.Ready.{AreSeen}

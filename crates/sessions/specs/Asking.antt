@@ -9,13 +9,13 @@ use Rattle.infer_table.specs.Solutions.{Assignment, IsSorted}
 use Rattle.infer_table.specs.Unification.{TableTrees}
 use Rattle.infer_table.specs.declared.certainty.TypingMode.{TypingMode}
 use Rattle.infer_table.specs.declared.certainty.TypingMode.TheVariants.{Coherence}
-use Rattle.evaluation.specs.Handler.{Handled}
-use Rattle.evaluation.specs.Tables.{frame_tables}
+use Rattle.goal_evaluator.specs.Handler.{Handled}
+use Rattle.goal_evaluator.specs.Tables.{frame_tables}
 use Rattle.search_graph.specs.Plain.{IsNotPlain}
-use Rattle.solver_context.specs.Contexts.{Asked}
-use Rattle.solver_context.specs.Evaluations.{IsFoundBySearch}
-use Rattle.solver_context.specs.Roots.{fact_under, left_by}
-use Rattle.solver_context.specs.Searching.{solver_meaning}
+use Rattle.solver_graph.specs.Contexts.{Asked}
+use Rattle.solver_graph.specs.Evaluations.{IsFoundBySearch}
+use Rattle.solver_graph.specs.Roots.{fact_under, left_by}
+use Rattle.solver_graph.specs.Searching.{solver_meaning}
 use Rattle.goal_frames.specs.Meanings.{HandlerMeaning}
 
 -- ---- goals

@@ -17,8 +17,8 @@ use Rattle.overlap_check.specs.Partners.{IsPairAt}
 use Rattle.overlap_check.specs.SessionLaws.{IsPassed}
 use Rattle.type_terms.specs.Promised.Verdicts.{IsOverlap}
 use Rattle.overlap_check.specs.declared.intersection.ImplIntersection.{ImplIntersection}
-use Rattle.solver_context.specs.declared.context.SolverCx.{SolverCx}
-use Rattle.solver_context.specs.Contexts.{entries_of, IsReady as IsReadyContext, Advances}
+use Rattle.solver_graph.specs.declared.context.SolverCx.{SolverCx}
+use Rattle.solver_graph.specs.Contexts.{entries_of, IsReady as IsReadyContext, Advances}
 use Rattle.candidate_assembly.specs.declared.solver.Solver.{Solver}
 use Rattle.candidate_assembly.specs.Fitting.{solving_of}
 use Rattle.candidate_assembly.specs.Ready.{AreReadyDeclarations}

@@ -1,7 +1,7 @@
 -- What follows for a text as a whole if all its crates are accepted.
 use Rattle.std.specs.Prelude.{ℕ}
 use Rattle.type_terms.specs.Promised.LinkedSet.{HeadersHaveSupertraits}
-use Rattle.text_definitions.specs.Promised.Declarations.{Declarations}
+use Rattle.text_language.specs.Promised.Declarations.{Declarations}
 use Rattle.sessions.specs.Promised.CoherentTexts.{text_world, CratesAreAccepted, TextIsCoherent}
 use Rattle.sessions.specs.Promised.Subjects.{IsOfText}
 

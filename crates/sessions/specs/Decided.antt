@@ -7,11 +7,11 @@ use Rattle.infer_table.specs.Canonical.{canonical_form}
 use Rattle.infer_table.specs.Responses.{AnswerTrees}
 use Rattle.infer_table.specs.declared.certainty.TypingMode.TheVariants.{PostAnalysis}
 use Rattle.search_graph.specs.Plain.{IsNotPlain}
-use Rattle.solver_context.specs.Contexts.{Asked}
-use Rattle.solver_context.specs.Evaluations.{IsFoundBySearch}
+use Rattle.solver_graph.specs.Contexts.{Asked}
+use Rattle.solver_graph.specs.Evaluations.{IsFoundBySearch}
 use Rattle.declarations.specs.Promised.Elaboration.{elaborate}
 use Rattle.declarations.specs.Items.{written}
-use Rattle.text_definitions.specs.Promised.Declarations.{Declarations, Question}
+use Rattle.text_language.specs.Promised.Declarations.{Declarations, Question}
 use Rattle.view_lowering.specs.Promised.SeenWorlds.{unbound_reference}
 use Rattle.view_lowering.specs.Plain.{unbound_references}
 use Rattle.view_lowering.specs.Promised.Questions.{IsQuestion}

@@ -5,11 +5,11 @@ use Rattle.type_terms.specs.Promised.Handles.{Entry}
 use Rattle.infer_table.specs.Canonical.{CanonicalForm}
 use Rattle.declarations.specs.Applied.{sort_of_param, sorts_of_params}
 use Rattle.declarations.specs.Items.{Items, struct_at, trait_at, written}
-use Rattle.assembly_laws.specs.Lifetimes.{form_gives_lifetimes}
+use Rattle.candidate_model.specs.Lifetimes.{form_gives_lifetimes}
 use Rattle.candidate_assembly.specs.Fitting.{solving_of}
 use Rattle.candidate_assembly.specs.Solving.{Solving}
-use Rattle.solver_exactness.specs.FormedFacts.{Sorts, IsFormedView}
-use Rattle.solver_exactness.specs.UnboundGoals.{FitsBySorts}
+use Rattle.solver_completeness.specs.FormedFacts.{Sorts, IsFormedView}
+use Rattle.solver_completeness.specs.UnboundGoals.{FitsBySorts}
 
 -- The kinds of the parameters of each struct and trait. An undeclared one has none.
 abbrev pub sorts_in : Items → Sorts

@@ -3,26 +3,26 @@ use Rattle.std.specs.Prelude.{◌≡◌, ◌≤◌, ◌+◌, ◌⊎◌, ℕ, zer
 use Rattle.type_terms.specs.Promised.Label.{Sort}
 use Rattle.type_terms.specs.Promised.Trees.{IsA}
 use Rattle.type_terms.specs.Promised.Worlds.{Reference}
-use Rattle.evaluation.specs.declared.TheConstants.{FIXPOINT_STEP_LIMIT}
+use Rattle.goal_evaluator.specs.declared.TheConstants.{FIXPOINT_STEP_LIMIT}
 use Rattle.infer_table.specs.Canonical.{GoalTrees}
 use Rattle.infer_table.specs.Content.{Table, content}
 use Rattle.infer_table.specs.Goals.{goal_trees, goal_resolved}
 use Rattle.infer_table.specs.Responses.{AnswerTrees}
 use Rattle.infer_table.specs.Solutions.{Binding}
-use Rattle.evaluation.specs.Lists.{Every}
+use Rattle.goal_evaluator.specs.Lists.{Every}
 use Rattle.infer_table.specs.Unification.{TableTrees, table_trees}
 use Rattle.infer_table.specs.declared.goal.Goal.{Goal}
 use Rattle.search_graph.specs.Promised.FrameBound.{frame_bound}
 use Rattle.search_graph.specs.SearchState.{SearchState}
-use Rattle.solver_context.specs.Contexts.{Asked, entries_of}
-use Rattle.solver_context.specs.Evaluations.{IsFoundBySearch}
-use Rattle.solver_context.specs.Roots.{left_by}
-use Rattle.solver_context.specs.declared.context.SolverCx.{SolverCx}
-use Rattle.solver_context.specs.Searching.{solver_meaning}
+use Rattle.solver_graph.specs.Contexts.{Asked, entries_of}
+use Rattle.solver_graph.specs.Evaluations.{IsFoundBySearch}
+use Rattle.solver_graph.specs.Roots.{left_by}
+use Rattle.solver_graph.specs.declared.context.SolverCx.{SolverCx}
+use Rattle.solver_graph.specs.Searching.{solver_meaning}
 use Rattle.goal_frames.specs.Meanings.{HandlerMeaning}
 use Rattle.candidate_assembly.specs.Solving.{Solving}
 use Rattle.candidate_assembly.specs.SolverMeaning.{solver_by_view}
-use Rattle.text_definitions.specs.Promised.Declarations.{Question}
+use Rattle.text_language.specs.Promised.Declarations.{Question}
 use Rattle.view_lowering.specs.Promised.Questions.{variable_kinds}
 use Rattle.sessions.specs.Asking.{asked_alone}
 use Rattle.sessions.specs.Proving.{asked_outside, goal_asking}

@@ -9,13 +9,13 @@ use Rattle.type_terms.specs.Made.{terms, is_made}
 use Rattle.declarations.specs.Applied.{sorts_of}
 use Rattle.infer_table.specs.Canonical.{GoalTrees}
 use Rattle.infer_table.specs.Solutions.{Assignment, IsSorted}
-use Rattle.evaluation.specs.Content.{fact_of}
-use Rattle.assembly_laws.specs.Facts.{tree_of_reference, trees_of_clauses, clauses_of, reference_in}
-use Rattle.solver_context.specs.Roots.{question_of, values_under}
-use Rattle.solver_exactness.specs.FormedAnswers.{IsFormedGoal}
-use Rattle.solver_exactness.specs.FormedFacts.{Sorts, NodesFit, IsTraitOf, IsFormedView}
-use Rattle.solver_exactness.specs.SolverChoices.{IsElaborated}
-use Rattle.solver_exactness.specs.UnboundGoals.{is_unbound}
+use Rattle.goal_evaluator.specs.Content.{fact_of}
+use Rattle.candidate_model.specs.Facts.{tree_of_reference, trees_of_clauses, clauses_of, reference_in}
+use Rattle.solver_graph.specs.Roots.{question_of, values_under}
+use Rattle.solver_completeness.specs.FormedAnswers.{IsFormedGoal}
+use Rattle.solver_completeness.specs.FormedFacts.{Sorts, NodesFit, IsTraitOf, IsFormedView}
+use Rattle.solver_completeness.specs.SolverChoices.{IsElaborated}
+use Rattle.solver_completeness.specs.UnboundGoals.{is_unbound}
 
 -- The trait reference as a goal, under these where-clauses.
 abbrev pub goal_of : List Reference → Reference → GoalTrees

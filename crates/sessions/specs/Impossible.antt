@@ -15,18 +15,18 @@ use Rattle.infer_table.specs.declared.certainty.TypingMode.{TypingMode}
 use Rattle.infer_table.specs.declared.certainty.TypingMode.TheVariants.{Coherence}
 use Rattle.declarations.specs.Items.{reference_in}
 use Rattle.overlap_check.specs.Headers.{IsOfTable}
-use Rattle.evaluation.specs.Handler.{Handled}
-use Rattle.evaluation.specs.Tables.{frame_tables}
+use Rattle.goal_evaluator.specs.Handler.{Handled}
+use Rattle.goal_evaluator.specs.Tables.{frame_tables}
 use Rattle.search_graph.specs.SearchState.{SearchState}
-use Rattle.solver_context.specs.declared.context.SolverCx.{SolverCx}
-use Rattle.solver_context.specs.declared.outcome.GoalEvaluation.{GoalEvaluation}
-use Rattle.solver_context.specs.declared.outcome.RootError.{RootError}
-use Rattle.solver_context.specs.declared.outcome.RootError.TheVariants.{Conflict}
-use Rattle.solver_context.specs.Contexts.{Asked, entries_of}
-use Rattle.solver_context.specs.Evaluations.{IsFoundBySearch}
-use Rattle.solver_context.specs.Results.{IsNotPlainWithin}
-use Rattle.solver_context.specs.Roots.{fact_under}
-use Rattle.solver_context.specs.Searching.{solver_meaning, world_of}
+use Rattle.solver_graph.specs.declared.context.SolverCx.{SolverCx}
+use Rattle.solver_graph.specs.declared.outcome.GoalEvaluation.{GoalEvaluation}
+use Rattle.solver_graph.specs.declared.outcome.RootError.{RootError}
+use Rattle.solver_graph.specs.declared.outcome.RootError.TheVariants.{Conflict}
+use Rattle.solver_graph.specs.Contexts.{Asked, entries_of}
+use Rattle.solver_graph.specs.Evaluations.{IsFoundBySearch}
+use Rattle.solver_graph.specs.Results.{IsNotPlainWithin}
+use Rattle.solver_graph.specs.Roots.{fact_under}
+use Rattle.solver_graph.specs.Searching.{solver_meaning, world_of}
 use Rattle.goal_frames.specs.Meanings.{HandlerMeaning}
 
 -- The trait reference as a goal without where-clauses.

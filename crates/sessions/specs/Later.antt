@@ -7,7 +7,7 @@ use Rattle.type_terms.specs.Promised.Worlds.{World, Reference}
 use Rattle.type_terms.specs.Promised.Handles.{Entry}
 use Rattle.declarations.specs.Items.{reference_in}
 use Rattle.declarations.specs.declared.items.ImplDef.{ImplDef}
-use Rattle.text_definitions.specs.Promised.Declarations.{Declarations, section_impls}
+use Rattle.text_language.specs.Promised.Declarations.{Declarations, section_impls}
 use Rattle.sessions.specs.Promised.Releases.{LaterAnswer, compatible, breaking}
 
 -- The header of an impl over the terms of an interner, without lifetimes.

@@ -4,7 +4,7 @@ use Rattle.type_terms.specs.Promised.Proofs.{In}
 use Rattle.type_terms.specs.Promised.Worlds.{ImplDecl}
 use Rattle.type_terms.specs.Promised.Handles.{Entry}
 use Rattle.declarations.specs.Items.{Items, IsAbove, written, declared}
-use Rattle.text_definitions.specs.Promised.Declarations.{Declarations}
+use Rattle.text_language.specs.Promised.Declarations.{Declarations}
 use Rattle.workspace.specs.Numbered.{IsNumbered}
 use Rattle.view_lowering.specs.Promised.SeenWorlds.{plainly_seen_from}
 

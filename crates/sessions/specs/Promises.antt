@@ -1,6 +1,6 @@
 -- What the answers of a session promise.
 use Rattle.type_terms.specs.Promised.Erased.{erased_reference}
-use Rattle.text_definitions.specs.Promised.Declarations.{Declarations, Question}
+use Rattle.text_language.specs.Promised.Declarations.{Declarations, Question}
 use Rattle.type_terms.specs.Promised.Questions.{IsRefuted}
 use Rattle.view_lowering.specs.Promised.Questions.{variable_kinds}
 use Rattle.sessions.specs.Promised.Promises.{view_in}

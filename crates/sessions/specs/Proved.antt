@@ -8,9 +8,9 @@ use Rattle.infer_table.specs.Content.{Table, content, Ready}
 use Rattle.infer_table.specs.Goals.{GoalHeld, goal_trees}
 use Rattle.infer_table.specs.Solutions.{Assignment, Binding, Solves, resolved}
 use Rattle.infer_table.specs.declared.goal.Goal.{Goal}
-use Rattle.evaluation.specs.Content.{Fact, trait_of}
-use Rattle.evaluation.specs.Proof as Lists
-use Rattle.solver_context.specs.Roots.{fact_under}
+use Rattle.goal_evaluator.specs.Content.{Fact, trait_of}
+use Rattle.goal_evaluator.specs.Proof as Lists
+use Rattle.solver_graph.specs.Roots.{fact_under}
 
 -- The goal with the values of these bindings put in, without lifetimes. A variable without a value stands for itself.
 abbrev pub fact_with_values : List Binding → GoalTrees → Fact

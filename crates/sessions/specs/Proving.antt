@@ -18,21 +18,21 @@ use Rattle.infer_table.specs.Solutions.{Assignment, Solves, resolved}
 use Rattle.infer_table.specs.Unification.{table_trees}
 use Rattle.infer_table.specs.declared.certainty.TypingMode.TheVariants.{PostAnalysis}
 use Rattle.search_graph.specs.Plain.{IsNotPlain}
-use Rattle.evaluation.specs.Content.{Fact}
-use Rattle.evaluation.specs.Proof as Lists
-use Rattle.evaluation.specs.Tables.{frame_tables}
+use Rattle.goal_evaluator.specs.Content.{Fact}
+use Rattle.goal_evaluator.specs.Proof as Lists
+use Rattle.goal_evaluator.specs.Tables.{frame_tables}
 use Rattle.goal_frames.specs.Searches.{is_yes_answer}
-use Rattle.solver_context.specs.Contexts.{Asked, Advances, IsReady as IsReadyContext, entries_of}
-use Rattle.solver_context.specs.Evaluations.{IsFoundBySearch}
-use Rattle.solver_context.specs.Roots.{left_by, fact_under}
-use Rattle.solver_context.specs.Searching.{solver_meaning}
-use Rattle.solver_context.specs.declared.context.SolverCx.{SolverCx}
+use Rattle.solver_graph.specs.Contexts.{Asked, Advances, IsReady as IsReadyContext, entries_of}
+use Rattle.solver_graph.specs.Evaluations.{IsFoundBySearch}
+use Rattle.solver_graph.specs.Roots.{left_by, fact_under}
+use Rattle.solver_graph.specs.Searching.{solver_meaning}
+use Rattle.solver_graph.specs.declared.context.SolverCx.{SolverCx}
 use Rattle.candidate_assembly.specs.declared.solver.Solver.{Solver}
 use Rattle.candidate_assembly.specs.Fitting.{solving_of}
 use Rattle.candidate_assembly.specs.Ready.{AreReadyDeclarations}
 use Rattle.candidate_assembly.specs.Solving.{Solving}
-use Rattle.text_definitions.specs.Promised.Declarations.{Question}
-use Rattle.text_definitions.specs.Names.{own_unknowns}
+use Rattle.text_language.specs.Promised.Declarations.{Question}
+use Rattle.text_language.specs.Names.{own_unknowns}
 use Rattle.view_lowering.specs.Promised.SeenWorlds.{unbound_reference}
 use Rattle.view_lowering.specs.Plain.{unbound_references}
 use Rattle.view_lowering.specs.Promised.Questions.{variable_kinds}

@@ -13,14 +13,14 @@ use Rattle.infer_table.specs.declared.goal.Goal.{Goal}
 use Rattle.declarations.specs.Applied.{references_in}
 use Rattle.declarations.specs.Promised.Elaboration.{elaborate}
 use Rattle.declarations.specs.Items.{Items, written, reference_in}
-use Rattle.text_definitions.specs.Promised.Declarations as text
-use Rattle.text_definitions.specs.Text.{TextGives}
+use Rattle.text_language.specs.Promised.Declarations as text
+use Rattle.text_language.specs.Text.{TextGives}
 use Rattle.view_lowering.specs.Promised.Questions.{IsQuestion}
 use Rattle.view_lowering.specs.Questions.{IsLowered}
 use Rattle.view_lowering.specs.declared.question.LoweredQuestion.{LoweredQuestion}
 use Rattle.view_lowering.specs.Ready.{AreSeen}
-use Rattle.solver_exactness.specs.FormedFacts.{Sorts, FitsSorts}
-use Rattle.solver_exactness.specs.SolverChoices.{IsElaborated}
+use Rattle.solver_completeness.specs.FormedFacts.{Sorts, FitsSorts}
+use Rattle.solver_completeness.specs.SolverChoices.{IsElaborated}
 use Rattle.sessions.specs.Clauses.{AddSupertraits}
 use Rattle.sessions.specs.Fitting.{sorts_in}
 use Rattle.sessions.specs.Goals.{goal_of, are_fixed, IsFormedQuestion}

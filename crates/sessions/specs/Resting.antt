@@ -4,9 +4,9 @@ use Rattle.search_graph.specs.Cache.{KnownResult, AreJustified}
 use Rattle.search_graph.specs.SearchState.{SearchState}
 use Rattle.goal_frames.specs.declared.store.InputId.{InputId}
 use Rattle.goal_frames.specs.declared.store.ResponseId.{ResponseId}
-use Rattle.solver_context.specs.declared.context.SolverCx.{SolverCx}
-use Rattle.solver_context.specs.Contexts.{IsReady}
-use Rattle.solver_context.specs.Searching.{solver_meaning}
+use Rattle.solver_graph.specs.declared.context.SolverCx.{SolverCx}
+use Rattle.solver_graph.specs.Contexts.{IsReady}
+use Rattle.solver_graph.specs.Searching.{solver_meaning}
 use Rattle.goal_frames.specs.Meanings.{HandlerMeaning}
 
 abbrev pub Cached : Type 0

@@ -4,7 +4,7 @@ use Rattle.type_terms.specs.Promised.Proofs.{In}
 use Rattle.type_terms.specs.Promised.Erased.{erased_reference}
 use Rattle.type_terms.specs.Promised.Versions.{in_scope}
 use Rattle.type_terms.specs.Promised.Worlds.{Reference}
-use Rattle.text_definitions.specs.Promised.Declarations.{Declarations, NamedImpl}
+use Rattle.text_language.specs.Promised.Declarations.{Declarations, NamedImpl}
 use Rattle.sessions.specs.Promised.Promises.{view_in}
 use Rattle.sessions.specs.Promised.Subjects.{IsOfText}
 

@@ -13,19 +13,19 @@ use Rattle.infer_table.specs.declared.goal.Goal.{Goal}
 use Rattle.search_graph.specs.Cache.{KnownResult, AreJustified, AreConsistent, KeepsResults}
 use Rattle.search_graph.specs.Meaning as Search
 use Rattle.search_graph.specs.SearchState.{SearchState}
-use Rattle.evaluation.specs.Content.{Fact}
-use Rattle.evaluation.specs.Proof as Lists
-use Rattle.evaluation.specs.Tables.{frame_tables}
+use Rattle.goal_evaluator.specs.Content.{Fact}
+use Rattle.goal_evaluator.specs.Proof as Lists
+use Rattle.goal_evaluator.specs.Tables.{frame_tables}
 use Rattle.goal_frames.specs.Searches.{is_yes_answer}
 use Rattle.goal_frames.specs.declared.frame.GoalFrame.{GoalFrame}
 use Rattle.goal_frames.specs.declared.store.InputId.{InputId}
 use Rattle.goal_frames.specs.declared.store.ResponseId.{ResponseId}
-use Rattle.solver_context.specs.Contexts.{entries_of, IsReady}
-use Rattle.solver_context.specs.Evaluations.{asked_in, IsFoundBySearch}
-use Rattle.solver_context.specs.Results.{IsNotPlainWithin}
-use Rattle.solver_context.specs.Roots.{goal_in, fact_under, left_by}
-use Rattle.solver_context.specs.Searching.{solver_meaning}
-use Rattle.solver_context.specs.declared.context.SolverCx.{SolverCx}
+use Rattle.solver_graph.specs.Contexts.{entries_of, IsReady}
+use Rattle.solver_graph.specs.Evaluations.{asked_in, IsFoundBySearch}
+use Rattle.solver_graph.specs.Results.{IsNotPlainWithin}
+use Rattle.solver_graph.specs.Roots.{goal_in, fact_under, left_by}
+use Rattle.solver_graph.specs.Searching.{solver_meaning}
+use Rattle.solver_graph.specs.declared.context.SolverCx.{SolverCx}
 use Rattle.goal_frames.specs.Meanings.{HandlerMeaning}
 
 module _ {Handler : Type 0} (handler : HandlerMeaning Handler) where

@@ -9,7 +9,7 @@ use Rattle.infer_table.specs.Solutions.{resolved}
 use Rattle.type_terms.specs.Promised.Questions.{FitKinds, filled_reference}
 use Rattle.proof_checker.specs.Steps.{AreProofOf}
 use Rattle.proof_checker.specs.declared.steps.Step.{Step}
-use Rattle.text_definitions.specs.Promised.Declarations.{Declarations, Question}
+use Rattle.text_language.specs.Promised.Declarations.{Declarations, Question}
 use Rattle.view_lowering.specs.Promised.Questions.{variable_kinds}
 use Rattle.sessions.specs.Promised.Promises.{view_in}
 

@@ -10,7 +10,7 @@ use Rattle.declarations.specs.Promised.Elaboration.{elaborate, supertraits}
 use Rattle.declarations.specs.Items.{Items, reference_in, written}
 use Rattle.candidate_assembly.specs.Fitting.{solving_of}
 use Rattle.candidate_assembly.specs.Solving.{Solving}
-use Rattle.text_definitions.specs.Promised.Declarations as text
+use Rattle.text_language.specs.Promised.Declarations as text
 use Rattle.sessions.specs.Goals.{goal_of}
 use Rattle.sessions.specs.Promised.Promises.{view_in}
 use Rattle.sessions.specs.Proving.{IsGoalAnswered}

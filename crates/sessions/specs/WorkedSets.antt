@@ -2,8 +2,8 @@
 use Rattle.std.specs.Prelude.{◌≡◌, ℕ, List, [], ◌∷◌, ◌++◌, Ok, codes}
 use Rattle.type_terms.specs.Promised.Renumbering.{Renumbering}
 use Rattle.type_terms.specs.Renumbering.{view_at}
-use Rattle.text_definitions.specs.Promised.Declarations.{Declarations}
-use Rattle.text_definitions.specs.Text.{TextGives}
+use Rattle.text_language.specs.Promised.Declarations.{Declarations}
+use Rattle.text_language.specs.Text.{TextGives}
 use Rattle.sessions.specs.Promised.CoherentTexts.{text_world}
 use Rattle.sessions.specs.Promised.Promises.{view_in}
 use Rattle.sessions.specs.Promised.AnsweredSets.{IsAnsweredSet}

@@ -2,14 +2,14 @@
 
 ghost use Rattle.std.specs.Prelude.{◌≡◌, IfOk, IfErr};
 ghost use Rattle.type_terms.specs.Growth.{FullAtLimit};
-ghost use Rattle.text_definitions.specs.Promised.Declarations.{Question};
+ghost use Rattle.text_language.specs.Promised.Declarations.{Question};
 ghost use Rattle.view_lowering.specs.Promised.Questions.{IsQuestion};
 ghost use Rattle.view_lowering.specs.Questions.{IsLowered};
-ghost use Rattle.solver_context.specs.Contexts.{IsReady, InternerGrows, Advances};
+ghost use Rattle.solver_graph.specs.Contexts.{IsReady, InternerGrows, Advances};
 ghost use Rattle.sessions.specs.Resting.{AreAtRest};
 
 use goal_frames::GoalHandler;
-use solver_context::{SolverCx, context_laws};
+use solver_graph::{SolverCx, context_laws};
 use type_terms::Fault;
 use view_lowering::{LoweredQuestion, lower_question};
 use workspace::Workspace;

@@ -7,12 +7,12 @@ ghost use Rattle.type_terms.specs.Growth.{FullAtLimit};
 ghost use Rattle.declarations.specs.Items.{IsAbove};
 ghost use Rattle.orphan_check.specs.Promised.Errors.{ErrorHeld};
 ghost use Rattle.overlap_check.specs.Orphans.{IsFirstError};
-ghost use Rattle.text_definitions.specs.Promised.Declarations.{Declarations};
+ghost use Rattle.text_language.specs.Promised.Declarations.{Declarations};
 ghost use Rattle.sessions.specs.Checking.{IsReadySolver, SolverStaysReady, HaveOwnNumbers, AreApartAt, IsFoundAt, IsJudgedAt, rules_in, solving_in};
 ghost use Rattle.sessions.specs.Promised.Promises.{view_in};
 ghost use Rattle.sessions.specs.Sessions.{SolverRests, IsSession};
-ghost use Rattle.solver_context.specs.Contexts.{KeepsLimits};
-ghost use Rattle.solver_context.specs.Shortages.{ContextFullAtLimit};
+ghost use Rattle.solver_graph.specs.Contexts.{KeepsLimits};
+ghost use Rattle.solver_graph.specs.Shortages.{ContextFullAtLimit};
 
 use crate::asked::rest_laws;
 use crate::obligations::has_impossible_obligation;
@@ -25,7 +25,7 @@ use overlap_check::intersection::{ImplIntersection, impl_intersection};
 use overlap_check::orphans::first_orphan;
 use overlap_check::partners::pair_at;
 use search_graph::{GlobalCache, SearchGraph};
-use solver_context::{SolverCx, SolverGraph};
+use solver_graph::{SolverCx, SolverGraph};
 use type_terms::kinds::Ty;
 use type_terms::{Fault, ImplId};
 

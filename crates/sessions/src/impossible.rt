@@ -5,18 +5,18 @@ ghost use Rattle.infer_table.specs.Content.{Table, Ready, Grows, place_in};
 ghost use Rattle.declarations.specs.Held.{ReferenceHeld};
 ghost use Rattle.search_graph.specs.Cache.{AreJustified, AreConsistent, KeepsResults};
 ghost use Rattle.search_graph.specs.Meaning as Search;
-ghost use Rattle.solver_context.specs.Contexts.{IsReady};
-ghost use Rattle.solver_context.specs.Searching.{solver_meaning};
-ghost use Rattle.solver_context.specs.Shortages.{ContextFullAtLimit, RootFullAtLimit};
+ghost use Rattle.solver_graph.specs.Contexts.{IsReady};
+ghost use Rattle.solver_graph.specs.Searching.{solver_meaning};
+ghost use Rattle.solver_graph.specs.Shortages.{ContextFullAtLimit, RootFullAtLimit};
 ghost use Rattle.sessions.specs.Impossible.{IsImpossible, SearchLeavesOpen, IsNoRefusal};
 
-use evaluation::TypingMode;
+use goal_evaluator::TypingMode;
 use goal_frames::GoalHandler;
 use infer_table::goal::Goal;
 use infer_table::infer_ctxt::InferCtxt;
 use infer_table::terms::Snapshot;
 use search_graph::{GlobalCache, SearchGraph};
-use solver_context::{GoalEvaluation, RootError, SolverCx, SolverGraph, evaluate_root_goal};
+use solver_graph::{GoalEvaluation, RootError, SolverCx, SolverGraph, evaluate_root_goal};
 use term_folds::predicate::{TraitPredicate, TraitRef};
 use type_terms::Fault;
 

@@ -29,7 +29,7 @@ use declarations::items::ImplDef;
 use orphan_check::laws::walks_and_errors;
 use orphan_check::open_walk::open_walk_meets_param;
 use orphan_check::orphan::keeps_orphan_rule;
-use solver_context::SolverCx;
+use solver_graph::SolverCx;
 use term_folds::predicate::TraitRef;
 use type_terms::interner::Interner;
 use type_terms::laws::{

@@ -8,9 +8,9 @@ ghost use Rattle.declarations.specs.Applied.{TraitRefsHeld};
 ghost use Rattle.declarations.specs.Promised.Elaboration.{Each};
 ghost use Rattle.search_graph.specs.Cache.{AreJustified, AreConsistent, KeepsResults};
 ghost use Rattle.search_graph.specs.Meaning as Search;
-ghost use Rattle.solver_context.specs.Contexts.{IsReady};
-ghost use Rattle.solver_context.specs.Searching.{solver_meaning};
-ghost use Rattle.solver_context.specs.Shortages.{ContextFullAtLimit};
+ghost use Rattle.solver_graph.specs.Contexts.{IsReady};
+ghost use Rattle.solver_graph.specs.Searching.{solver_meaning};
+ghost use Rattle.solver_graph.specs.Shortages.{ContextFullAtLimit};
 ghost use Rattle.sessions.specs.Impossible.{IsImpossible, SearchLeavesOpen};
 
 use crate::impossible::is_impossible;
@@ -18,7 +18,7 @@ use goal_frames::GoalHandler;
 use infer_table::infer_ctxt::InferCtxt;
 use overlap_check::intersection::ImplIntersection;
 use search_graph::{GlobalCache, SearchGraph};
-use solver_context::{SolverCx, SolverGraph};
+use solver_graph::{SolverCx, SolverGraph};
 use term_folds::predicate::TraitRef;
 use type_terms::Fault;
 

@@ -3,7 +3,7 @@
 
 ghost use Rattle.std.specs.Prelude.{Option};
 ghost use Rattle.infer_table.specs.Responses.{AnswerTrees};
-ghost use Rattle.evaluation.specs.Tables.{frame_tables};
+ghost use Rattle.goal_evaluator.specs.Tables.{frame_tables};
 ghost use Rattle.goal_frames.specs.Searches.{Handles, GoalInMode};
 ghost use Rattle.candidate_assembly.specs.Solving.{Solving};
 ghost use Rattle.view_lowering.specs.Ready.{OfTexts};

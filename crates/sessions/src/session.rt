@@ -11,7 +11,7 @@ ghost use Rattle.type_terms.specs.Promised.SetLaws.{AnswersHoldEverywhere, Headl
 ghost use Rattle.proof_checker.specs.Steps.{StepHeld};
 ghost use Rattle.view_lowering.specs.MostTerms.{most_terms};
 ghost use Rattle.workspace.specs.Numbered.{IsNumbered};
-ghost use Rattle.text_definitions.specs.Promised.Declarations.{Question};
+ghost use Rattle.text_language.specs.Promised.Declarations.{Question};
 ghost use Rattle.sessions.specs.Promised.AnsweredSets.{AnsweredSetsAreCoherent, AnsweredSetsAreLinked};
 ghost use Rattle.sessions.specs.ByTrait.{ListsSeen, HavePartnersSeen};
 ghost use Rattle.sessions.specs.Promised.CoherentTexts.{HeldTextsAreCoherent};
@@ -48,7 +48,7 @@ use orphan_check::errors::OrphanCheckErr;
 use overlap_check::{accepted_sets_have_one_impl, answers_hold_in_linked_sets};
 use proof_checker::steps::Step;
 use search_graph::{GlobalCache, SearchGraph};
-use solver_context::{SolverCx, SolverGraph};
+use solver_graph::{SolverCx, SolverGraph};
 use std::alloc::{AllocError, Global};
 use std::marker::Model;
 use std::mem;
@@ -67,7 +67,7 @@ use workspace::Workspace;
 /// A fault is `Memory` if memory is refused, or if there are no numbers for so many variables or parameters (`MAX_INDEX`). It is `Full`
 /// only if a limit of the session is reached.
 ///
-/// The fields are public so that `session_walks` can run the same search. Callers must keep the invariant `IsSessionWithin`.
+/// The fields are public so that `explain_sessions` can run the same search. Callers must keep the invariant `IsSessionWithin`.
 pub struct Session<'w> {
     pub workspace: &'w Workspace,
     pub crate_id: CrateId,

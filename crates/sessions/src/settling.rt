@@ -2,17 +2,17 @@
 //! evaluated, and a yes without values ends it.
 
 ghost use Rattle.std.specs.Prelude.{◌≡◌, ◌-◌, Ok, IfErr};
-ghost use Rattle.solver_context.specs.Shortages.{ContextFullAtLimit};
+ghost use Rattle.solver_graph.specs.Shortages.{ContextFullAtLimit};
 ghost use Rattle.sessions.specs.Frames.{AskingsOf, IsLeftByAnswer, StartsFramesOfAsking};
 ghost use Rattle.sessions.specs.declared.settling.TheConstants.{MAX_ASKINGS};
 ghost use Rattle.sessions.specs.Settling.{IsAskable, HasAsked, IsProvedBy, GoalIsRefused, IsUnsettled};
 
-use evaluation::{Certainty, HasChanged, TypingMode};
+use goal_evaluator::{Certainty, HasChanged, TypingMode};
 use goal_frames::GoalHandler;
 use infer_table::goal::Goal;
 use infer_table::infer_ctxt::InferCtxt;
 use search_graph::{GlobalCache, SearchGraph};
-use solver_context::{RootError, SolverCx, SolverGraph, evaluate_root_goal};
+use solver_graph::{RootError, SolverCx, SolverGraph, evaluate_root_goal};
 use type_terms::Fault;
 
 /// How often a goal is evaluated at most. The values of one answer may make the next one definite.

@@ -10,13 +10,13 @@ use Rattle.type_terms.specs.Promised.Trees.{leaf, sort_of}
 use Rattle.type_terms.specs.Promised.Worlds.{Reference}
 use Rattle.declarations.specs.Applied.{sorts_of}
 use Rattle.declarations.specs.Promised.Elaboration.{Each}
-use Rattle.text_definitions.specs.Promised.Syntax.{TypeTree, of_primitive, never_type, variable_type, named, reference_to, pointer_to, slice_of, array_of, tuple_of, fn_of, fn_to, dyn_of, Args, no_args, and_arg, Arg, lifetime_arg, number_arg, type_arg, Params, Bound, Line, trait_line}
-use Rattle.text_definitions.specs.Promised.Declarations.{Declarations, NamedTrait, Known, a_crate, a_struct, a_trait, known}
-use Rattle.text_definitions.specs.Uses.{Use, args_count, kinds_of_trait, type_uses, args_uses, arg_uses, bound_uses, params_of}
-use Rattle.text_definitions.specs.Promised.Faults.{with_own, own_trait, is_among}
-use Rattle.text_definitions.specs.Faults.{is_use_of, is_trait_of, static_name}
-use Rattle.text_definitions.specs.Lowering.{Meanings, place_among, type_label, struct_label, lifetime_under, lifetime_label, type_tree, args_trees, arg_tree, with_self}
-use Rattle.text_definitions.specs.Adding.{item_meanings}
+use Rattle.text_language.specs.Promised.Syntax.{TypeTree, of_primitive, never_type, variable_type, named, reference_to, pointer_to, slice_of, array_of, tuple_of, fn_of, fn_to, dyn_of, Args, no_args, and_arg, Arg, lifetime_arg, number_arg, type_arg, Params, Bound, Line, trait_line}
+use Rattle.text_language.specs.Promised.Declarations.{Declarations, NamedTrait, Known, a_crate, a_struct, a_trait, known}
+use Rattle.text_language.specs.Uses.{Use, args_count, kinds_of_trait, type_uses, args_uses, arg_uses, bound_uses, params_of}
+use Rattle.text_language.specs.Promised.Faults.{with_own, own_trait, is_among}
+use Rattle.text_language.specs.Faults.{is_use_of, is_trait_of, static_name}
+use Rattle.text_language.specs.Lowering.{Meanings, place_among, type_label, struct_label, lifetime_under, lifetime_label, type_tree, args_trees, arg_tree, with_self}
+use Rattle.text_language.specs.Adding.{item_meanings}
 use Rattle.view_lowering.proofs.Begins.{is_scalar}
 use Rattle.view_lowering.proofs.Trees.{or-left, or-right}
 use Rattle.view_lowering.proofs.Types.{AllFit, first-fit, rest-fit}

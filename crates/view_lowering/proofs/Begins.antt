@@ -7,19 +7,19 @@ use Rattle.std.specs.List.{list_all, flat_map}
 use Rattle.std.specs.Str.{bytes_eq}
 use Rattle.type_terms.specs.Promised.Label.{Label, Sort, of_type, param, bool, char, str, never, array, slice, tuple, dynamic, static, int, uint, adt, fn_ptr, ref, raw_pointer, auto_trait, value, principal, placeholder, infer, canonical, bound, predicate}
 use Rattle.type_terms.specs.Promised.Trees.{Trees, none, tree, ◌+++◌}
-use Rattle.text_definitions.specs.Words.{Keyword, for_word, primitives, primitive_named, keyword_named, Sign, sign_at, is_digit}
-use Rattle.text_definitions.specs.Tokens.{Token, keyword, primitive, name, lifetime, variable, number, sign, arrow, LinePiece, word, quoted, queried, pointing, byte, in_front, word_token, as_lifetime, as_variable, sign_token, name_token, number_from, tokens_from, tokens_of, pieces}
-use Rattle.text_definitions.specs.Promised.Syntax.{TypeTree, of_primitive, never_type, variable_type, named, reference_to, pointer_to, slice_of, array_of, tuple_of, fn_of, fn_to, dyn_of, Line, crate_line, struct_line, trait_line, impl_line, prove_line, refute_line, later_line, supers_line, Params, Clause}
-use Rattle.text_definitions.specs.Syntax.{spelling, type_spelling, params_spelling, bound_spelling, where_spelling, clause_spelling}
-use Rattle.text_definitions.specs.Written.{IsWritten}
-use Rattle.text_definitions.specs.Promised.Declarations.{Declarations, NamedImpl, LaterImpl, Known, a_crate, a_struct, a_trait, known}
-use Rattle.text_definitions.specs.Declarations.{nothing_declared}
-use Rattle.text_definitions.specs.Uses.{Use, crate_use, name_use, trait_use, lifetime_use, binder_use, variable_use, misfit_use, dyn_use, items_use, number_use, type_uses, bound_uses, clause_uses, kinds_of_struct}
-use Rattle.text_definitions.specs.Promised.Faults.{is_among}
-use Rattle.text_definitions.specs.Faults.{variables_in, is_any, has_stray_variable, tests, first_of, fault_of}
-use Rattle.text_definitions.specs.Lowering.{Meanings, type_tree, args_trees, struct_label, place_among}
-use Rattle.text_definitions.specs.Adding.{item_meanings, impl_of, with_impl, added}
-use Rattle.text_definitions.specs.Text.{LineGives, other_byte, blank, unwritten, faulty, adds, LinesGive, ends, fails, goes_on, TextGives, too_long, fits}
+use Rattle.text_language.specs.Words.{Keyword, for_word, primitives, primitive_named, keyword_named, Sign, sign_at, is_digit}
+use Rattle.text_language.specs.Tokens.{Token, keyword, primitive, name, lifetime, variable, number, sign, arrow, LinePiece, word, quoted, queried, pointing, byte, in_front, word_token, as_lifetime, as_variable, sign_token, name_token, number_from, tokens_from, tokens_of, pieces}
+use Rattle.text_language.specs.Promised.Syntax.{TypeTree, of_primitive, never_type, variable_type, named, reference_to, pointer_to, slice_of, array_of, tuple_of, fn_of, fn_to, dyn_of, Line, crate_line, struct_line, trait_line, impl_line, prove_line, refute_line, later_line, supers_line, Params, Clause}
+use Rattle.text_language.specs.Syntax.{spelling, type_spelling, params_spelling, bound_spelling, where_spelling, clause_spelling}
+use Rattle.text_language.specs.Written.{IsWritten}
+use Rattle.text_language.specs.Promised.Declarations.{Declarations, NamedImpl, LaterImpl, Known, a_crate, a_struct, a_trait, known}
+use Rattle.text_language.specs.Declarations.{nothing_declared}
+use Rattle.text_language.specs.Uses.{Use, crate_use, name_use, trait_use, lifetime_use, binder_use, variable_use, misfit_use, dyn_use, items_use, number_use, type_uses, bound_uses, clause_uses, kinds_of_struct}
+use Rattle.text_language.specs.Promised.Faults.{is_among}
+use Rattle.text_language.specs.Faults.{variables_in, is_any, has_stray_variable, tests, first_of, fault_of}
+use Rattle.text_language.specs.Lowering.{Meanings, type_tree, args_trees, struct_label, place_among}
+use Rattle.text_language.specs.Adding.{item_meanings, impl_of, with_impl, added}
+use Rattle.text_language.specs.Text.{LineGives, other_byte, blank, unwritten, faulty, adds, LinesGive, ends, fails, goes_on, TextGives, too_long, fits}
 use Rattle.declarations.specs.Heads.{begins_declared}
 use Rattle.workspace.specs.Numbered.{EachNumbered}
 use Rattle.view_lowering.specs.Seen.{BeginDeclared, LaterBeginDeclared}

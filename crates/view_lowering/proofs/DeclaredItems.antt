@@ -11,17 +11,17 @@ use Rattle.std.specs.Str.{bytes_eq}
 use Rattle.type_terms.specs.Promised.Label.{Sort, of_lifetime, of_type, of_const, param}
 use Rattle.type_terms.specs.Promised.Trees.{Trees, leaf, some_node}
 use Rattle.type_terms.specs.Promised.Worlds.{Reference}
-use Rattle.text_definitions.specs.Promised.Syntax.{Types, Params, Bound, Clause, Line, struct_line, trait_line, impl_line}
-use Rattle.text_definitions.specs.Promised.Declarations.{Declarations, NamedCrate, NamedStruct, NamedTrait, Known, a_crate, a_struct, a_trait, known, kinds_of}
-use Rattle.text_definitions.specs.Declarations.{sorted_names, with_sort}
-use Rattle.text_definitions.specs.Uses.{Use, variable_use, kinds_of_trait, args_count, type_uses, types_uses, bound_uses, clause_uses, header_uses}
-use Rattle.text_definitions.specs.Promised.Faults.{with_own, own_trait, is_among, repeats}
-use Rattle.text_definitions.specs.Faults.{is_any, variables_in, has_free_param, bounds_use_own, is_use_of, is_name_use, is_trait_of}
-use Rattle.text_definitions.specs.Lowering.{trait_number, type_tree, args_trees, with_self, clause_reference}
-use Rattle.text_definitions.specs.Adding.{item_meanings, struct_of, trait_of, impl_of}
-use Rattle.line_reader.specs.Faultless.{UsesFit}
+use Rattle.text_language.specs.Promised.Syntax.{Types, Params, Bound, Clause, Line, struct_line, trait_line, impl_line}
+use Rattle.text_language.specs.Promised.Declarations.{Declarations, NamedCrate, NamedStruct, NamedTrait, Known, a_crate, a_struct, a_trait, known, kinds_of}
+use Rattle.text_language.specs.Declarations.{sorted_names, with_sort}
+use Rattle.text_language.specs.Uses.{Use, variable_use, kinds_of_trait, args_count, type_uses, types_uses, bound_uses, clause_uses, header_uses}
+use Rattle.text_language.specs.Promised.Faults.{with_own, own_trait, is_among, repeats}
+use Rattle.text_language.specs.Faults.{is_any, variables_in, has_free_param, bounds_use_own, is_use_of, is_name_use, is_trait_of}
+use Rattle.text_language.specs.Lowering.{trait_number, type_tree, args_trees, with_self, clause_reference}
+use Rattle.text_language.specs.Adding.{item_meanings, struct_of, trait_of, impl_of}
+use Rattle.text_lines.specs.Faultless.{UsesFit}
 use Rattle.view_lowering.specs.Promised.SeenWorlds.{all_kept, none_kept, stands_in}
-use Rattle.assembly_laws.specs.Candidates.{is_param as is_label_of}
+use Rattle.candidate_model.specs.Candidates.{is_param as is_label_of}
 use Rattle.view_lowering.proofs.Tests.{is_good, is_good_struct, is_good_trait, is_good_impl, all_stand}
 use Rattle.view_lowering.proofs.Trees.{good-append, good-param, and, or-left, or-right}
 use Rattle.view_lowering.proofs.Types.{AllFit, first-fit, rest-fit, good-type, good-args}
@@ -31,7 +31,7 @@ use Rattle.view_lowering.proofs.Standing.{AutosAreBare, is_use_as, this, that, a
 use Rattle.view_lowering.proofs.Params.{turned, params-stand, types-used, consts-used, among-second}
 use Rattle.view_lowering.proofs.Lines.{kinds-numbered, trait-numbered, good-test, fields-good}
 use Rattle.type_terms.proofs.ListBasics.{same-name as same-names}
-use Rattle.text_definitions.proofs.Basics.{among-first}
+use Rattle.text_language.proofs.Basics.{among-first}
 
 -- ---- all uses fit, and none is a variable
 pub all-fit : (d : Declarations) (l : Line) (us : List Use) → UsesFit d l us → is_any (variables_in us) ≡ false → AllFit d l us

@@ -8,10 +8,10 @@ use Rattle.std.specs.List.{list_all}
 use Rattle.type_terms.specs.Promised.Label.{Label, Sort, of_lifetime, of_type, of_const, static, fn_ptr, principal, param, bound}
 use Rattle.type_terms.specs.Promised.Trees.{Trees, none, tree, some_node, is_sort}
 use Rattle.type_terms.specs.Promised.Worlds.{Reference}
-use Rattle.text_definitions.specs.Promised.Declarations.{NamedImpl}
-use Rattle.assembly_laws.specs.Candidates.{is_param}
-use Rattle.assembly_laws.specs.Declared.{is_otherwise, is_unsorted}
-use Rattle.assembly_laws.specs.DeclaredWell.{is_loose}
+use Rattle.text_language.specs.Promised.Declarations.{NamedImpl}
+use Rattle.candidate_model.specs.Candidates.{is_param}
+use Rattle.candidate_model.specs.Declared.{is_otherwise, is_unsorted}
+use Rattle.candidate_model.specs.DeclaredWell.{is_loose}
 use Rattle.view_lowering.specs.Promised.SeenWorlds.{plain_label, plain, plain_reference, plain_impl, all_kept, is_lifetime, stands_in}
 use Rattle.view_lowering.specs.Seen.{param_sorts}
 use Rattle.view_lowering.proofs.Sorts.{is_bad}

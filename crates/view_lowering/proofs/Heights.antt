@@ -10,8 +10,8 @@ use Rattle.std.specs.Option.{option_map}
 use Rattle.type_terms.proofs.Members.{in-filter, filter-in}
 use Rattle.type_terms.specs.Promised.Proofs.{In}
 use Rattle.type_terms.specs.Promised.Worlds.{World, Reference, TraitDecl, traits_named}
-use Rattle.assembly_laws.specs.DeclaredWell.{height_within, height_in, bounds_lead_down}
-use Rattle.assembly_laws.specs.Promised.Widths.{greatest}
+use Rattle.candidate_model.specs.DeclaredWell.{height_within, height_in, bounds_lead_down}
+use Rattle.candidate_model.specs.Promised.Widths.{greatest}
 use Rattle.view_lowering.proofs.Trees.{and}
 
 -- bounds of these traits have lower numbers

@@ -4,7 +4,7 @@ use Rattle.std.specs.Prelude.{◌==◌, filter, slice_get}
 use Rattle.std.proofs.lemmas.List.{map_push}
 use Rattle.std.proofs.lemmas.Option.{same_Some}
 use Rattle.type_terms.specs.Promised.Worlds.{ImplDecl, Reference}
-use Rattle.text_definitions.specs.Promised.Declarations.{Declarations, NamedImpl, LaterImpl, section_impls}
+use Rattle.text_language.specs.Promised.Declarations.{Declarations, NamedImpl, LaterImpl, section_impls}
 use Rattle.type_terms.specs.Promised.Handles.{Entry, Keeps}
 use Rattle.type_terms.specs.declared.ImplId.{ImplId}
 use Rattle.declarations.specs.declared.items.ImplDef.{ImplDef}

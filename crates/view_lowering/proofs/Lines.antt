@@ -6,13 +6,13 @@ use Rattle.std.specs.Option.{option_map_or}
 use Rattle.std.specs.Str.{bytes_eq}
 use Rattle.type_terms.specs.Promised.Label.{Sort, of_lifetime, of_type, of_const, param}
 use Rattle.type_terms.specs.Promised.Trees.{Trees, is_sort}
-use Rattle.text_definitions.specs.Promised.Syntax.{TypeTree, of_primitive, never_type, variable_type, named, reference_to, pointer_to, slice_of, array_of, tuple_of, fn_of, fn_to, dyn_of, Types, no_types, and_type, Params, Line}
-use Rattle.text_definitions.specs.Promised.Declarations.{Declarations, kinds_of}
-use Rattle.text_definitions.specs.Uses.{type_uses, types_uses, params_of}
-use Rattle.text_definitions.specs.Promised.Faults.{with_own, is_among}
-use Rattle.text_definitions.specs.Lowering.{place_among, type_tree, field_trees}
-use Rattle.text_definitions.specs.Adding.{item_meanings}
-use Rattle.assembly_laws.specs.DeclaredWell.{is_single}
+use Rattle.text_language.specs.Promised.Syntax.{TypeTree, of_primitive, never_type, variable_type, named, reference_to, pointer_to, slice_of, array_of, tuple_of, fn_of, fn_to, dyn_of, Types, no_types, and_type, Params, Line}
+use Rattle.text_language.specs.Promised.Declarations.{Declarations, kinds_of}
+use Rattle.text_language.specs.Uses.{type_uses, types_uses, params_of}
+use Rattle.text_language.specs.Promised.Faults.{with_own, is_among}
+use Rattle.text_language.specs.Lowering.{place_among, type_tree, field_trees}
+use Rattle.text_language.specs.Adding.{item_meanings}
+use Rattle.candidate_model.specs.DeclaredWell.{is_single}
 use Rattle.view_lowering.specs.Promised.SeenWorlds.{none_kept}
 use Rattle.view_lowering.proofs.Sorts.{has_sort}
 use Rattle.view_lowering.proofs.Tests.{is_good}

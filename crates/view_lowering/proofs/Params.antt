@@ -7,20 +7,20 @@ use Rattle.std.specs.Str.{bytes_eq}
 use Rattle.std.proofs.lemmas.Slice.Eq.{bytes_eq-Decides}
 use Rattle.type_terms.specs.Promised.Label.{Sort, of_lifetime, of_type, of_const}
 use Rattle.type_terms.specs.Promised.Trees.{Trees, some_node}
-use Rattle.text_definitions.specs.Promised.Syntax.{Params, Line}
-use Rattle.text_definitions.specs.Promised.Declarations.{Declarations, known, kinds_of}
-use Rattle.text_definitions.specs.Uses.{Use, crate_use, name_use, trait_use, lifetime_use, binder_use, variable_use, misfit_use, dyn_use, items_use, number_use, params_of}
-use Rattle.text_definitions.specs.Promised.Faults.{with_own, is_among, repeats}
-use Rattle.text_definitions.specs.Faults.{is_param, is_param_of, is_type_of, is_name_use}
-use Rattle.text_definitions.specs.Lowering.{place_among}
-use Rattle.line_reader.specs.Faultless.{UseFits}
-use Rattle.assembly_laws.specs.Candidates.{is_param as is_label_of}
+use Rattle.text_language.specs.Promised.Syntax.{Params, Line}
+use Rattle.text_language.specs.Promised.Declarations.{Declarations, known, kinds_of}
+use Rattle.text_language.specs.Uses.{Use, crate_use, name_use, trait_use, lifetime_use, binder_use, variable_use, misfit_use, dyn_use, items_use, number_use, params_of}
+use Rattle.text_language.specs.Promised.Faults.{with_own, is_among, repeats}
+use Rattle.text_language.specs.Faults.{is_param, is_param_of, is_type_of, is_name_use}
+use Rattle.text_language.specs.Lowering.{place_among}
+use Rattle.text_lines.specs.Faultless.{UseFits}
+use Rattle.candidate_model.specs.Candidates.{is_param as is_label_of}
 use Rattle.view_lowering.proofs.Tests.{all_stand}
 use Rattle.view_lowering.proofs.Trees.{and, and-left, or-left, or-right}
 use Rattle.view_lowering.proofs.Types.{AllFit}
 use Rattle.view_lowering.proofs.Standing.{is_use_as}
 use Rattle.type_terms.proofs.ListBasics.{same-name as same-names}
-use Rattle.text_definitions.proofs.Basics.{among-first}
+use Rattle.text_language.proofs.Basics.{among-first}
 
 -- ---- names
 pub name-self : (n : List ℕ) → bytes_eq n n ≡ true

@@ -6,19 +6,19 @@ use Rattle.std.proofs.lemmas.Option.{same_Some}
 use Rattle.std.specs.Prelude.{◌==◌, slice_get}
 use Rattle.type_terms.specs.Promised.Label.{Label, Sort, of_type, of_const, of_lifetime, fn_ptr, principal, param, bound}
 use Rattle.type_terms.specs.Promised.Trees.{Trees, none, tree, some_node}
-use Rattle.text_definitions.specs.Promised.Syntax.{Params, Clause, Line, crate_line, struct_line, trait_line, impl_line, prove_line, refute_line, later_line, supers_line}
-use Rattle.text_definitions.specs.Promised.Declarations.{Declarations, NamedImpl, Question, Variable, kinds_of}
-use Rattle.text_definitions.specs.Declarations.{nothing_declared}
-use Rattle.text_definitions.specs.Uses.{Use, variable_use, clause_uses}
-use Rattle.text_definitions.specs.Faults.{fault_of, variables_in, once}
-use Rattle.text_definitions.specs.Lowering.{clause_reference}
-use Rattle.text_definitions.specs.Adding.{added, impl_of, item_meanings, question_of, question_meanings}
-use Rattle.text_definitions.specs.Written.{IsWritten}
-use Rattle.text_definitions.specs.Text.{LineGives, other_byte, blank, unwritten, faulty, adds, LinesGive, ends, fails, goes_on, TextGives, too_long, fits}
+use Rattle.text_language.specs.Promised.Syntax.{Params, Clause, Line, crate_line, struct_line, trait_line, impl_line, prove_line, refute_line, later_line, supers_line}
+use Rattle.text_language.specs.Promised.Declarations.{Declarations, NamedImpl, Question, Variable, kinds_of}
+use Rattle.text_language.specs.Declarations.{nothing_declared}
+use Rattle.text_language.specs.Uses.{Use, variable_use, clause_uses}
+use Rattle.text_language.specs.Faults.{fault_of, variables_in, once}
+use Rattle.text_language.specs.Lowering.{clause_reference}
+use Rattle.text_language.specs.Adding.{added, impl_of, item_meanings, question_of, question_meanings}
+use Rattle.text_language.specs.Written.{IsWritten}
+use Rattle.text_language.specs.Text.{LineGives, other_byte, blank, unwritten, faulty, adds, LinesGive, ends, fails, goes_on, TextGives, too_long, fits}
 use Rattle.declarations.specs.Promised.Elaboration.{Each}
-use Rattle.line_reader.specs.Faultless.{UsesFit}
-use Rattle.line_reader.proofs.NoFault.{passes-tests}
-use Rattle.line_reader.proofs.FittingUses.{faultless-uses}
+use Rattle.text_lines.specs.Faultless.{UsesFit}
+use Rattle.text_lines.proofs.NoFault.{passes-tests}
+use Rattle.text_lines.proofs.FittingUses.{faultless-uses}
 use Rattle.view_lowering.specs.Promised.SeenWorlds.{plain, plain_label, all_kept}
 use Rattle.view_lowering.specs.QuestionVariables.{is_stray, HasVariablesAlone, RefutationsHaveVariablesAlone}
 use Rattle.view_lowering.proofs.Applied.{each-more}

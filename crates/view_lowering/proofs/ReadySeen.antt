@@ -19,10 +19,10 @@ use Rattle.declarations.specs.declared.items.TraitDef.{TraitDef}
 use Rattle.declarations.specs.Applied.{SpeaksOf, IsBoundOf, HaveBounds, sorts_of, sorts_of_params}
 use Rattle.declarations.specs.Items.{Items, HeldImpl, reference_in, struct_in, trait_in, impl_in, trait_at}
 use Rattle.declarations.specs.Promised.Elaboration.{Each}
-use Rattle.text_definitions.specs.Promised.Declarations as text
-use Rattle.text_definitions.specs.Promised.Declarations.{NamedStruct, NamedTrait, NamedImpl, world_of}
-use Rattle.assembly_laws.specs.Candidates.{kinds_of_params}
-use Rattle.assembly_laws.specs.DeclaredWell.{is_single}
+use Rattle.text_language.specs.Promised.Declarations as text
+use Rattle.text_language.specs.Promised.Declarations.{NamedStruct, NamedTrait, NamedImpl, world_of}
+use Rattle.candidate_model.specs.Candidates.{kinds_of_params}
+use Rattle.candidate_model.specs.DeclaredWell.{is_single}
 use Rattle.view_lowering.specs.Promised.SeenWorlds.{plain, plain_reference, plain_struct, plain_trait, plain_impl, all_kept, none_kept, stands_in}
 use Rattle.view_lowering.specs.Seen.{struct_sorts, trait_sorts, impl_sorts, param_sorts}
 use Rattle.view_lowering.specs.Ready.{AreSeen, OfTexts, FieldsSpeak, kind_of_sort, TellsKinds, SpeaksOfOwn, HeadersTell, ImplsSpeak}

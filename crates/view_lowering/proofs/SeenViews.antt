@@ -8,10 +8,10 @@ use Rattle.type_terms.specs.Promised.Label.{Label, Sort, of_lifetime, of_type, o
 use Rattle.type_terms.specs.Promised.Trees.{Trees, none, tree, some_node, is_sort}
 use Rattle.type_terms.specs.Promised.Worlds.{Reference}
 use Rattle.type_terms.specs.Made.{terms, is_made}
-use Rattle.text_definitions.specs.Promised.Declarations.{NamedStruct, NamedTrait, NamedImpl}
-use Rattle.assembly_laws.specs.Candidates.{is_param}
-use Rattle.assembly_laws.specs.Declared.{is_declared, is_counted, are_terms, are_references, is_lifetime_parameter}
-use Rattle.assembly_laws.specs.DeclaredWell.{is_single}
+use Rattle.text_language.specs.Promised.Declarations.{NamedStruct, NamedTrait, NamedImpl}
+use Rattle.candidate_model.specs.Candidates.{is_param}
+use Rattle.candidate_model.specs.Declared.{is_declared, is_counted, are_terms, are_references, is_lifetime_parameter}
+use Rattle.candidate_model.specs.DeclaredWell.{is_single}
 use Rattle.view_lowering.specs.Promised.SeenWorlds.{plain_label, plain, plain_reference, plain_struct, plain_trait, plain_impl, all_kept, none_kept, stands_in}
 use Rattle.view_lowering.specs.Seen.{param_sorts}
 use Rattle.view_lowering.proofs.Sorts.{is_bad}

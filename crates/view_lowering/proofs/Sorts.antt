@@ -3,7 +3,7 @@ use Rattle.std.specs.Prelude.{Bool, true, false, ◌||◌, not, List, slice_get}
 use Rattle.std.specs.Option.{option_map_or}
 use Rattle.type_terms.specs.Promised.Label.{Label, Sort, param, bound}
 use Rattle.type_terms.specs.Promised.Trees.{is_sort}
-use Rattle.assembly_laws.specs.Declared.{is_counted}
+use Rattle.candidate_model.specs.Declared.{is_counted}
 
 -- if it is a parameter, its number is that of a parameter of its sort; and no binder binds it
 abbrev pub has_sort : List Sort → Label → Bool

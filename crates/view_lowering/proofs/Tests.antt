@@ -5,10 +5,10 @@ use Rattle.type_terms.specs.Promised.Label.{Sort, of_type, of_const, of_lifetime
 use Rattle.type_terms.specs.Promised.Trees.{Trees, some_node}
 use Rattle.type_terms.specs.Promised.Worlds.{Reference}
 use Rattle.type_terms.specs.Made.{terms, is_made}
-use Rattle.text_definitions.specs.Promised.Declarations.{NamedStruct, NamedTrait, NamedImpl}
-use Rattle.assembly_laws.specs.Candidates.{is_param}
-use Rattle.assembly_laws.specs.Declared.{is_declared}
-use Rattle.assembly_laws.specs.DeclaredWell.{is_single}
+use Rattle.text_language.specs.Promised.Declarations.{NamedStruct, NamedTrait, NamedImpl}
+use Rattle.candidate_model.specs.Candidates.{is_param}
+use Rattle.candidate_model.specs.Declared.{is_declared}
+use Rattle.candidate_model.specs.DeclaredWell.{is_single}
 use Rattle.view_lowering.specs.Promised.SeenWorlds.{plain, all_kept, none_kept, stands_in}
 use Rattle.view_lowering.specs.Seen.{param_sorts}
 use Rattle.view_lowering.proofs.Sorts.{is_bad}

@@ -9,18 +9,18 @@ use Rattle.std.specs.List.{list_all}
 use Rattle.std.specs.Option.{option_map, option_map_or, option_or}
 use Rattle.std.specs.Str.{bytes_eq}
 use Rattle.type_terms.specs.Promised.Label.{Sort}
-use Rattle.text_definitions.specs.Promised.Syntax.{Params, Bound, Line, crate_line, struct_line, trait_line, impl_line, prove_line, refute_line, later_line, supers_line}
-use Rattle.text_definitions.specs.Promised.Declarations.{Declarations, NamedCrate, NamedStruct, NamedTrait, NamedImpl, LaterImpl, Known, a_crate, a_struct, a_trait, kinds_of}
-use Rattle.text_definitions.specs.Declarations.{nothing_declared}
-use Rattle.text_definitions.specs.Uses.{uses, params_of}
-use Rattle.text_definitions.specs.Faults.{fault_of, takes_names, is_loaded_auto}
-use Rattle.text_definitions.specs.Promised.Faults.{with_own, repeats}
-use Rattle.text_definitions.specs.Adding.{added, with_impl, struct_of, trait_of, impl_of, item_meanings}
-use Rattle.text_definitions.specs.Written.{IsWritten}
-use Rattle.text_definitions.specs.Text.{LineGives, other_byte, blank, unwritten, faulty, adds, LinesGive, ends, fails, goes_on, TextGives, too_long, fits}
+use Rattle.text_language.specs.Promised.Syntax.{Params, Bound, Line, crate_line, struct_line, trait_line, impl_line, prove_line, refute_line, later_line, supers_line}
+use Rattle.text_language.specs.Promised.Declarations.{Declarations, NamedCrate, NamedStruct, NamedTrait, NamedImpl, LaterImpl, Known, a_crate, a_struct, a_trait, kinds_of}
+use Rattle.text_language.specs.Declarations.{nothing_declared}
+use Rattle.text_language.specs.Uses.{uses, params_of}
+use Rattle.text_language.specs.Faults.{fault_of, takes_names, is_loaded_auto}
+use Rattle.text_language.specs.Promised.Faults.{with_own, repeats}
+use Rattle.text_language.specs.Adding.{added, with_impl, struct_of, trait_of, impl_of, item_meanings}
+use Rattle.text_language.specs.Written.{IsWritten}
+use Rattle.text_language.specs.Text.{LineGives, other_byte, blank, unwritten, faulty, adds, LinesGive, ends, fails, goes_on, TextGives, too_long, fits}
 use Rattle.declarations.specs.Promised.Elaboration.{Each}
-use Rattle.line_reader.proofs.NoFault.{passes-tests}
-use Rattle.line_reader.proofs.FittingUses.{faultless-uses}
+use Rattle.text_lines.proofs.NoFault.{passes-tests}
+use Rattle.text_lines.proofs.FittingUses.{faultless-uses}
 use Rattle.view_lowering.proofs.Tests.{is_good_struct, is_good_trait, is_good_impl}
 use Rattle.view_lowering.proofs.Trees.{and-left, and-right, or-left, or-right}
 use Rattle.view_lowering.proofs.ScalarTokens.{struct-scalars, trait-scalars, impl-scalars}

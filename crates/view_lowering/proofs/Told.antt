@@ -6,7 +6,7 @@ use Rattle.std.specs.Prelude.{if◌then◌else◌, ◌==◌, slice_get}
 use Rattle.type_terms.specs.Promised.Label.{Label, Sort, of_lifetime, of_type, of_const, param}
 use Rattle.type_terms.specs.Promised.Trees.{Trees, some_node, is_sort}
 use Rattle.infer_table.specs.declared.canonical.CanonicalVarKind.TheVariants.{Ty, Const, Region}
-use Rattle.assembly_laws.specs.Candidates.{is_param, kind_of_param, kinds_of_params}
+use Rattle.candidate_model.specs.Candidates.{is_param, kind_of_param, kinds_of_params}
 use Rattle.view_lowering.specs.Promised.SeenWorlds.{plain, all_kept}
 use Rattle.view_lowering.specs.Ready.{kind_of_sort}
 use Rattle.view_lowering.proofs.Sorts.{is_bad}

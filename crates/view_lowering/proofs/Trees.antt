@@ -5,7 +5,7 @@ use Rattle.type_terms.specs.Promised.Label.{Label, Sort, of_lifetime, of_type, o
 use Rattle.type_terms.specs.Promised.Trees.{Trees, none, tree, leaf, some_node, ◌+++◌}
 use Rattle.type_terms.specs.Trees.{is_no_tree}
 use Rattle.type_terms.specs.Made.{terms, bounds, traits, is_made}
-use Rattle.assembly_laws.specs.Declared.{is_declared}
+use Rattle.candidate_model.specs.Declared.{is_declared}
 use Rattle.view_lowering.specs.Promised.SeenWorlds.{plain_label, plain}
 use Rattle.view_lowering.proofs.Sorts.{has_sort, is_bad}
 use Rattle.type_terms.proofs.BooleanBasics.{and-end}

@@ -6,19 +6,19 @@ use Rattle.std.specs.Option.{option_map_or}
 use Rattle.std.specs.Str.{bytes_eq}
 use Rattle.type_terms.specs.Promised.Label.{Label, Sort, of_lifetime, of_type, of_const, bool, char, str, never, array, slice, tuple, dynamic, static, int, uint, adt, fn_ptr, auto_trait, value, ref, raw_pointer, principal, param, placeholder, infer, canonical, bound, predicate}
 use Rattle.type_terms.specs.Promised.Trees.{Trees, none, tree, leaf, ◌+++◌}
-use Rattle.text_definitions.specs.Promised.Syntax.{TypeTree, of_primitive, never_type, variable_type, named, reference_to, pointer_to, slice_of, array_of, tuple_of, fn_of, fn_to, dyn_of, Types, no_types, and_type, Args, no_args, and_arg, Arg, lifetime_arg, number_arg, type_arg, Item, bound_item, lifetime_item, Items, no_items, and_item, Length, number_length, name_length, variable_length, Params, Line}
-use Rattle.text_definitions.specs.Promised.Declarations.{Declarations, Known, a_crate, a_struct, a_trait, known}
-use Rattle.text_definitions.specs.Uses.{Use, name_use, trait_use, variable_use, dyn_use, items_use, item_shape, item_shapes, args_count, types_count, kinds_of_struct, kinds_of_trait, next_kind, other_kinds, length_uses, lifetime_uses, binder_uses, type_uses, types_uses, args_uses, arg_uses, item_uses, items_uses, params_of}
-use Rattle.text_definitions.specs.Promised.Faults.{with_own, is_among, is_auto_name}
-use Rattle.text_definitions.specs.Faults.{is_param, is_param_of, is_type_of, is_in_scope, static_name, is_late}
-use Rattle.text_definitions.specs.Lowering.{Meanings, place_among, type_label, const_label, lifetime_under, lifetime_label, optional_lifetime, length_label, struct_label, trait_number, auto_leaves, autos, with_auto, item_lifetime, last_lifetime, type_tree, types_trees, args_trees, arg_tree, item_tree, items_trees}
-use Rattle.text_definitions.specs.Adding.{item_meanings}
-use Rattle.line_reader.specs.Faultless.{UseFits}
+use Rattle.text_language.specs.Promised.Syntax.{TypeTree, of_primitive, never_type, variable_type, named, reference_to, pointer_to, slice_of, array_of, tuple_of, fn_of, fn_to, dyn_of, Types, no_types, and_type, Args, no_args, and_arg, Arg, lifetime_arg, number_arg, type_arg, Item, bound_item, lifetime_item, Items, no_items, and_item, Length, number_length, name_length, variable_length, Params, Line}
+use Rattle.text_language.specs.Promised.Declarations.{Declarations, Known, a_crate, a_struct, a_trait, known}
+use Rattle.text_language.specs.Uses.{Use, name_use, trait_use, variable_use, dyn_use, items_use, item_shape, item_shapes, args_count, types_count, kinds_of_struct, kinds_of_trait, next_kind, other_kinds, length_uses, lifetime_uses, binder_uses, type_uses, types_uses, args_uses, arg_uses, item_uses, items_uses, params_of}
+use Rattle.text_language.specs.Promised.Faults.{with_own, is_among, is_auto_name}
+use Rattle.text_language.specs.Faults.{is_param, is_param_of, is_type_of, is_in_scope, static_name, is_late}
+use Rattle.text_language.specs.Lowering.{Meanings, place_among, type_label, const_label, lifetime_under, lifetime_label, optional_lifetime, length_label, struct_label, trait_number, auto_leaves, autos, with_auto, item_lifetime, last_lifetime, type_tree, types_trees, args_trees, arg_tree, item_tree, items_trees}
+use Rattle.text_language.specs.Adding.{item_meanings}
+use Rattle.text_lines.specs.Faultless.{UseFits}
 use Rattle.view_lowering.proofs.Sorts.{has_sort}
 use Rattle.view_lowering.proofs.Begins.{is_scalar}
 use Rattle.view_lowering.proofs.Scalars.{Scalars, ScalarTypes, ScalarArgs, ScalarArg, ScalarItem}
 use Rattle.view_lowering.proofs.Trees.{Good, Ends, good-none, good-append, good-node, good-value, good-static, good-param, good-bound, ends-static, ends-bound, ends-param, ends-auto, good-dyn, good-bare-dyn, and-left, and-right, or-left, or-right}
-use Rattle.text_definitions.proofs.Basics.{among-first, no-count}
+use Rattle.text_language.proofs.Basics.{among-first, no-count}
 
 -- ---- uses, each of which fits, and none a variable
 abbrev pub IsFixed : Use → Type 0

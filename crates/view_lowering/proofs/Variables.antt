@@ -7,8 +7,8 @@ use Rattle.std.specs.Str.{bytes_eq}
 use Rattle.type_terms.specs.Promised.Label.{Sort}
 use Rattle.type_terms.specs.Promised.Trees.{is_sort}
 use Rattle.infer_table.proofs.SolutionLaws.{is_sort-equal}
-use Rattle.text_definitions.specs.Faults.{once, is_of_other_kind}
-use Rattle.text_definitions.specs.Lowering.{place_among}
+use Rattle.text_language.specs.Faults.{once, is_of_other_kind}
+use Rattle.text_language.specs.Lowering.{place_among}
 use Rattle.view_lowering.specs.QuestionVariables.{number_of}
 use Rattle.type_terms.proofs.TermBasics.{is_sort-self}
 use Rattle.type_terms.proofs.BooleanBasics.{true-apart as no-clash, implied as agrees}

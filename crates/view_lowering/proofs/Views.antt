@@ -8,8 +8,8 @@ use Rattle.type_terms.specs.Promised.Label.{of_type}
 use Rattle.type_terms.proofs.TermRules.{erased-views, filter-map}
 use Rattle.type_terms.specs.Promised.Erased.{erased_struct, erased_trait, erased_world}
 use Rattle.type_terms.specs.Promised.Worlds.{World, StructDecl, TraitDecl, ImplDecl, structs_named, traits_named}
-use Rattle.text_definitions.specs.Promised.Declarations as text
-use Rattle.text_definitions.specs.Promised.Declarations.{world_of}
+use Rattle.text_language.specs.Promised.Declarations as text
+use Rattle.text_language.specs.Promised.Declarations.{world_of}
 use Rattle.type_terms.specs.Promised.Handles.{Entry, Keeps}
 use Rattle.type_terms.specs.declared.AdtId.{AdtId}
 use Rattle.type_terms.specs.declared.CrateId.{CrateId}

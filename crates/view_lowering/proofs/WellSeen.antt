@@ -8,10 +8,10 @@ use Rattle.std.specs.List.{list_any, list_all}
 use Rattle.type_terms.specs.Promised.Label.{of_type}
 use Rattle.type_terms.specs.Promised.Trees.{some_node}
 use Rattle.type_terms.specs.Promised.Worlds.{Reference, StructDecl, TraitDecl, ImplDecl, sees}
-use Rattle.text_definitions.specs.Promised.Declarations.{Declarations, NamedStruct, NamedTrait, NamedImpl, world_of}
-use Rattle.text_definitions.specs.Text.{TextGives}
-use Rattle.assembly_laws.specs.Declared.{are_terms, are_references, is_lifetime_parameter, is_unsorted}
-use Rattle.assembly_laws.specs.DeclaredWell.{is_declared_well, is_loose, is_single, are_distinct}
+use Rattle.text_language.specs.Promised.Declarations.{Declarations, NamedStruct, NamedTrait, NamedImpl, world_of}
+use Rattle.text_language.specs.Text.{TextGives}
+use Rattle.candidate_model.specs.Declared.{are_terms, are_references, is_lifetime_parameter, is_unsorted}
+use Rattle.candidate_model.specs.DeclaredWell.{is_declared_well, is_loose, is_single, are_distinct}
 use Rattle.view_lowering.specs.Promised.SeenWorlds.{plain_reference, plain_struct, plain_trait, plain_impl, none_kept, plainly_seen_from}
 use Rattle.view_lowering.proofs.Tests.{is_good, is_good_struct, is_good_trait, is_good_impl}
 use Rattle.view_lowering.proofs.Trees.{and, and-left, and-right, or}

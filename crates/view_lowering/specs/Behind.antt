@@ -3,8 +3,8 @@ use Rattle.std.specs.Prelude.{◌≡◌, ℕ, Bool, true, false, ◌<◌, ◌+�
 use Rattle.type_terms.specs.Promised.Label.{Sort, of_type}
 use Rattle.type_terms.specs.Promised.Worlds.{StructDecl, TraitDecl, ImplDecl, sees}
 use Rattle.type_terms.specs.declared.CrateId.{CrateId}
-use Rattle.text_definitions.specs.Promised.Declarations as text
-use Rattle.text_definitions.specs.Promised.Declarations.{world_of}
+use Rattle.text_language.specs.Promised.Declarations as text
+use Rattle.text_language.specs.Promised.Declarations.{world_of}
 use Rattle.declarations.specs.Promised.Elaboration.{Each}
 use Rattle.workspace.specs.Numbered.{EachNumbered}
 use Rattle.view_lowering.specs.MostTerms.{struct_terms, trait_terms, impl_terms}

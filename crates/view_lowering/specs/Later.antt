@@ -2,7 +2,7 @@
 use Rattle.std.specs.Prelude.{ℕ, zero, List, map, length}
 use Rattle.type_terms.specs.Promised.Label.{Sort}
 use Rattle.type_terms.specs.Promised.Worlds.{ImplDecl}
-use Rattle.text_definitions.specs.Promised.Declarations.{Declarations, section_impls}
+use Rattle.text_language.specs.Promised.Declarations.{Declarations, section_impls}
 use Rattle.type_terms.specs.Promised.Handles.{Entry}
 use Rattle.declarations.specs.declared.items.ImplDef.{ImplDef}
 use Rattle.declarations.specs.Applied.{sort_of_param}

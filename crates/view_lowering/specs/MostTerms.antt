@@ -1,8 +1,8 @@
 -- How many terms are made at most of the declarations that a crate sees.
 use Rattle.std.specs.Prelude.{ℕ, ◌+◌, ◌*◌, sum_by, if◌then◌else◌}
 use Rattle.type_terms.specs.Promised.Worlds.{StructDecl, TraitDecl, ImplDecl, sees}
-use Rattle.text_definitions.specs.Promised.Declarations as text
-use Rattle.text_definitions.specs.Promised.Declarations.{world_of}
+use Rattle.text_language.specs.Promised.Declarations as text
+use Rattle.text_language.specs.Promised.Declarations.{world_of}
 use Rattle.workspace.specs.TermCounts.{parts, reference_terms}
 
 abbrev pub struct_terms : StructDecl → ℕ

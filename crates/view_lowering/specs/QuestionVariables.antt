@@ -2,8 +2,8 @@
 use Rattle.std.specs.Prelude.{◌≡◌, ℕ, zero, suc, Bool, true, false, not, ltb, if◌then◌else◌, List, [], ◌∷◌, Ok, Some, slice_get}
 use Rattle.type_terms.specs.Promised.Label.{Label, Sort, of_type, of_const, of_lifetime, param, placeholder, infer, canonical, bound}
 use Rattle.type_terms.specs.Promised.Trees.{is_sort, some_node}
-use Rattle.text_definitions.specs.Promised.Declarations.{Declarations, Question}
-use Rattle.text_definitions.specs.Text.{TextGives}
+use Rattle.text_language.specs.Promised.Declarations.{Declarations, Question}
+use Rattle.text_language.specs.Text.{TextGives}
 use Rattle.view_lowering.specs.Promised.SeenWorlds.{unbound_reference}
 use Rattle.view_lowering.specs.Promised.Questions.{variable_kinds}
 

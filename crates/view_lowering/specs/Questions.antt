@@ -1,7 +1,7 @@
 -- Queries of a text, and their terms.
 use Rattle.std.specs.Prelude.{◌≡◌, List, ◌∷◌, map}
-use Rattle.text_definitions.specs.Promised.Declarations.{Question, Variable}
-use Rattle.text_definitions.specs.Names.{own_from, own_unknowns}
+use Rattle.text_language.specs.Promised.Declarations.{Question, Variable}
+use Rattle.text_language.specs.Names.{own_from, own_unknowns}
 use Rattle.type_terms.specs.Promised.Handles.{arg_trees, ArgsHeld, Entry}
 use Rattle.type_terms.specs.declared.kinds.GenericArgKind.{GenericArgKind}
 use Rattle.declarations.specs.Applied.{references_in, TraitRefsHeld}

@@ -12,9 +12,9 @@ use Rattle.declarations.specs.declared.items.AdtDef.{AdtDef}
 use Rattle.declarations.specs.Applied.{SpeaksOf}
 use Rattle.declarations.specs.Items.{Items, HeldImpl, written}
 use Rattle.declarations.specs.Promised.Elaboration.{Each}
-use Rattle.text_definitions.specs.Promised.Declarations as text
-use Rattle.text_definitions.specs.Text.{TextGives}
-use Rattle.assembly_laws.specs.Candidates.{kinds_of_params}
+use Rattle.text_language.specs.Promised.Declarations as text
+use Rattle.text_language.specs.Text.{TextGives}
+use Rattle.candidate_model.specs.Candidates.{kinds_of_params}
 use Rattle.view_lowering.specs.Promised.SeenWorlds.{plainly_seen_from}
 use Rattle.view_lowering.specs.Seen.{struct_sorts, trait_sorts, impl_sorts, struct_sorts_seen, trait_sorts_seen, impl_sorts_seen}
 

@@ -3,8 +3,8 @@ use Rattle.std.specs.Prelude.{◌≡◌, ℕ, true, List, [], ◌∷◌, map, fi
 use Rattle.type_terms.specs.Promised.Label.{Sort, of_type}
 use Rattle.type_terms.specs.Promised.Erased.{erased_world}
 use Rattle.type_terms.specs.Promised.Worlds.{World, sees, view_of}
-use Rattle.text_definitions.specs.Promised.Declarations as text
-use Rattle.text_definitions.specs.Promised.Declarations.{world_of}
+use Rattle.text_language.specs.Promised.Declarations as text
+use Rattle.text_language.specs.Promised.Declarations.{world_of}
 use Rattle.type_terms.specs.declared.AdtId.{AdtId}
 use Rattle.type_terms.specs.declared.TraitId.{TraitId}
 use Rattle.declarations.specs.declared.items.AdtDef.{AdtDef}

@@ -1,7 +1,7 @@
 //! Laws of texts.
 ghost use Rattle.std.specs.Prelude.{ℕ, List, Ok};
-ghost use Rattle.text_definitions.specs.Promised.Declarations.{Declarations};
-ghost use Rattle.text_definitions.specs.Text.{TextGives};
+ghost use Rattle.text_language.specs.Promised.Declarations.{Declarations};
+ghost use Rattle.text_language.specs.Text.{TextGives};
 ghost use Rattle.view_lowering.specs.Seen.{BeginDeclared, LaterBeginDeclared};
 
 /// In a text without a fault, the self type of each impl is a parameter, or begins with no variable or placeholder. So each of its views

@@ -1,7 +1,7 @@
 //! Queries, with their types as terms.
 ghost use Rattle.std.specs.Prelude.{◌≡◌, map, IfOk};
-ghost use Rattle.text_definitions.specs.Promised.Declarations.{Question};
-ghost use Rattle.text_definitions.specs.Names.{own_from};
+ghost use Rattle.text_language.specs.Promised.Declarations.{Question};
+ghost use Rattle.text_language.specs.Names.{own_from};
 ghost use Rattle.type_terms.specs.Promised.Handles.{arg_trees, ArgsHeld, ArgHeld};
 ghost use Rattle.type_terms.specs.Growth.{GrewOrFull};
 ghost use Rattle.workspace.specs.Made.{ReferenceMade, ReferencesMade};

@@ -3,7 +3,7 @@
 ghost use Rattle.std.specs.Prelude.{◌≡◌, ◌+◌, ◌<◌, ◌≤◌, ◌++◌, true, Some, length, map, sum_by, OnOk, IfOk, IfErr, IfSome, IfNone};
 ghost use Rattle.type_terms.specs.Promised.Worlds.{sees};
 ghost use Rattle.type_terms.specs.declared.Fault.TheVariants.{Memory};
-ghost use Rattle.text_definitions.specs.Promised.Declarations.{world_of};
+ghost use Rattle.text_language.specs.Promised.Declarations.{world_of};
 ghost use Rattle.type_terms.specs.Growth.{GrewOrFull};
 ghost use Rattle.declarations.specs.Held.{AreHeld};
 ghost use Rattle.declarations.specs.Items.{written, declared, struct_in, trait_in, impl_in};

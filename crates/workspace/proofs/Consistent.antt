@@ -15,8 +15,8 @@ use Rattle.std.specs.declared.hash.FoldHasher.{FoldHasher}
 use Rattle.std.specs.declared.hash.BuildHasherDefault.{BuildHasherDefault}
 use Rattle.std.specs.Map.{lookup}
 use Rattle.type_terms.specs.Promised.Worlds.{World, core, sees}
-use Rattle.text_definitions.specs.Promised.Declarations.{Declarations, NamedCrate, NamedStruct, NamedTrait, NamedImpl, Check, of_later, of_supers, Question, known, world_of, last_crate, last_later}
-use Rattle.text_definitions.specs.Promised.Faults.{last_items}
+use Rattle.text_language.specs.Promised.Declarations.{Declarations, NamedCrate, NamedStruct, NamedTrait, NamedImpl, Check, of_later, of_supers, Question, known, world_of, last_crate, last_later}
+use Rattle.text_language.specs.Promised.Faults.{last_items}
 use Rattle.type_terms.specs.declared.CrateId.{CrateId}
 use Rattle.workspace.specs.Numbered.{EachNumbered, IsNumbered, IsCheckIn}
 use Rattle.workspace.specs.Made.{AreMade, ReferenceMade, ReferencesMade, is_type}

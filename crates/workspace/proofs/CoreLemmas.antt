@@ -7,8 +7,8 @@ use Rattle.type_terms.specs.Promised.Trees.{Trees}
 use Rattle.type_terms.specs.Promised.Worlds.{Reference, ImplDecl, core}
 use Rattle.type_terms.specs.Promised.Core.{impls_for, scalars}
 use Rattle.type_terms.specs.Promised.Rules.{asked}
-use Rattle.text_definitions.specs.Promised.Declarations.{Declarations, NamedImpl, last_crate}
-use Rattle.text_definitions.specs.Declarations.{nothing_declared, bare_impl, copied}
+use Rattle.text_language.specs.Promised.Declarations.{Declarations, NamedImpl, last_crate}
+use Rattle.text_language.specs.Declarations.{nothing_declared, bare_impl, copied}
 use Rattle.workspace.specs.declared.cell.TermCell.{TermCell}
 use Rattle.workspace.specs.declared.cell.TermCell.TheVariants as cells
 use Rattle.type_terms.specs.declared.kinds.IntTy.TheVariants as ints

@@ -5,11 +5,11 @@ use Rattle.std.specs.Prelude.{map}
 use Rattle.type_terms.specs.Promised.Label.{Sort, of_type, of_const, of_lifetime}
 use Rattle.type_terms.specs.Promised.Trees.{Trees}
 use Rattle.type_terms.specs.Promised.Worlds.{Reference}
-use Rattle.text_definitions.specs.Promised.Syntax.{Params, Clause, Line, struct_line, trait_line, impl_line}
-use Rattle.text_definitions.specs.Promised.Declarations.{Declarations, NamedImpl, kinds_of, last_crate, last_changed, last_later}
-use Rattle.text_definitions.specs.Declarations.{with_sort, sorted_names}
-use Rattle.text_definitions.specs.Adding.{added, item_meanings}
-use Rattle.text_definitions.specs.Lowering.{clause_reference}
+use Rattle.text_language.specs.Promised.Syntax.{Params, Clause, Line, struct_line, trait_line, impl_line}
+use Rattle.text_language.specs.Promised.Declarations.{Declarations, NamedImpl, kinds_of, last_crate, last_changed, last_later}
+use Rattle.text_language.specs.Declarations.{with_sort, sorted_names}
+use Rattle.text_language.specs.Adding.{added, item_meanings}
+use Rattle.text_language.specs.Lowering.{clause_reference}
 use Rattle.workspace.specs.Tables.{with_struct, with_trait, with_impl, with_later}
 use Rattle.workspace.specs.Parts.{IsStructLine, IsTraitLine, IsImplLine, new_struct, new_trait, new_impl}
 

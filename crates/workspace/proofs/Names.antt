@@ -10,7 +10,7 @@ use Rattle.std.specs.Cmp.Lexicographic.{bytes_decides, nat_list_eq_equiv}
 use Rattle.std.specs.HashMap.{HashMap, get_by, UpdatesBy}
 use Rattle.std.specs.Map.{update, lookup, IsKeyTest, AreApart, KeepsOthers}
 use Rattle.std.specs.declared.vec.Vec.{Vec}
-use Rattle.text_definitions.specs.Promised.Declarations.{Declarations, NamedCrate, NamedStruct, NamedTrait, a_crate, a_struct, a_trait, known}
+use Rattle.text_language.specs.Promised.Declarations.{Declarations, NamedCrate, NamedStruct, NamedTrait, a_crate, a_struct, a_trait, known}
 use Rattle.workspace.specs.Numbered.{IsNumbered}
 use Rattle.workspace.specs.Tables.{NamedItem, crate_item, struct_item, trait_item, crate_named, struct_named, trait_named, item_named, with_crate, with_struct, with_trait}
 use Rattle.workspace.proofs.Each.{find-some}

@@ -7,8 +7,8 @@ use Rattle.std.proofs.lemmas.Option.{slice_get_within}
 use Rattle.std.specs.Prelude.{◌==◌, slice_get, map, unwrap_or}
 use Rattle.std.specs.List.Sorted.{IsNonDecreasingBy}
 use Rattle.type_terms.specs.Promised.Worlds.{core}
-use Rattle.text_definitions.specs.Promised.Declarations.{Declarations, LaterImpl, Check, of_later, of_supers, last_changed, last_later}
-use Rattle.text_definitions.specs.Adding.{with_section, with_supers}
+use Rattle.text_language.specs.Promised.Declarations.{Declarations, LaterImpl, Check, of_later, of_supers, last_changed, last_later}
+use Rattle.text_language.specs.Adding.{with_section, with_supers}
 use Rattle.type_terms.specs.declared.CrateId.{CrateId}
 use Rattle.workspace.specs.Numbered.{EachNumbered, IsNumbered, IsCheckIn}
 use Rattle.workspace.specs.Made.{ReferenceMade, ReferencesMade}

@@ -3,7 +3,7 @@ use Rattle.std.proofs.Common.{◌≡◌, ℕ, zero, suc, ◌-◌, ◌<◌, List,
 use Rattle.std.specs.Prelude.{map, slice_get}
 use Rattle.std.proofs.Math.Seq.{take-length, take-append_seam}
 use Rattle.std.proofs.lemmas.List.{length-map, take-map}
-use Rattle.text_definitions.specs.Promised.Declarations.{Question}
+use Rattle.text_language.specs.Promised.Declarations.{Question}
 use Rattle.workspace.specs.Made.{ReferenceMade, ReferencesMade}
 use Rattle.workspace.specs.Numbered.{EachNumbered}
 use Rattle.workspace.specs.Tables.{IsConsistent, declared}

@@ -5,8 +5,8 @@ use Rattle.type_terms.specs.Promised.Trees.{Trees, none, tree, leaf}
 use Rattle.type_terms.specs.Promised.Worlds.{Reference, core}
 use Rattle.type_terms.specs.Promised.Core.{type_param, box, box_impl, impls_for, scalars}
 use Rattle.type_terms.specs.Promised.Rules.{asked, clone}
-use Rattle.text_definitions.specs.Promised.Declarations.{Declarations, NamedTrait, NamedImpl, last_crate}
-use Rattle.text_definitions.specs.Declarations.{bare_impl, nothing_declared, copied, lifetime_a, type_T, const_N}
+use Rattle.text_language.specs.Promised.Declarations.{Declarations, NamedTrait, NamedImpl, last_crate}
+use Rattle.text_language.specs.Declarations.{bare_impl, nothing_declared, copied, lifetime_a, type_T, const_N}
 use Rattle.type_terms.specs.declared.TraitId.{TraitId}
 use Rattle.workspace.specs.declared.cell.TermCell.{TermCell}
 use Rattle.workspace.specs.TermCells.{trees_of, joined}

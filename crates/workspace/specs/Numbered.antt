@@ -1,6 +1,6 @@
 -- How the declarations of a text are numbered, and how many there are: laws of every text's declarations.
 use Rattle.std.specs.Prelude.{◌≡◌, ℕ, ◌<◌, true, List, length, Some, slice_get, All}
-use Rattle.text_definitions.specs.Promised.Declarations.{Declarations, Check, of_later, of_supers}
+use Rattle.text_language.specs.Promised.Declarations.{Declarations, Check, of_later, of_supers}
 
 -- P holds for each element with its index.
 abbrev pub EachNumbered : {A : Type 0} → (ℕ → A → Type 0) → List A → Type 0

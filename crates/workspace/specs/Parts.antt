@@ -3,11 +3,11 @@ use Rattle.std.specs.Prelude.{◌≡◌, ℕ, ◌-◌, Bool, true, false, List, 
 use Rattle.type_terms.specs.Promised.Label.{Sort, of_type, param}
 use Rattle.type_terms.specs.Promised.Trees.{Trees, leaf}
 use Rattle.type_terms.specs.Promised.Worlds.{Reference}
-use Rattle.text_definitions.specs.Promised.Syntax.{Line, struct_line, trait_line, impl_line, prove_line, refute_line}
-use Rattle.text_definitions.specs.Promised.Declarations.{Declarations, NamedStruct, NamedTrait, NamedImpl, LaterImpl, Question, kinds_of, last_crate, last_changed, last_later}
-use Rattle.text_definitions.specs.Declarations.{sorted_names}
-use Rattle.text_definitions.specs.Lowering.{field_trees, with_self, clause_reference}
-use Rattle.text_definitions.specs.Adding.{item_meanings, question_meanings, question_of, added}
+use Rattle.text_language.specs.Promised.Syntax.{Line, struct_line, trait_line, impl_line, prove_line, refute_line}
+use Rattle.text_language.specs.Promised.Declarations.{Declarations, NamedStruct, NamedTrait, NamedImpl, LaterImpl, Question, kinds_of, last_crate, last_changed, last_later}
+use Rattle.text_language.specs.Declarations.{sorted_names}
+use Rattle.text_language.specs.Lowering.{field_trees, with_self, clause_reference}
+use Rattle.text_language.specs.Adding.{item_meanings, question_meanings, question_of, added}
 use Rattle.workspace.specs.declared.cell.ParamKind.{ParamKind}
 use Rattle.workspace.specs.declared.cell.TermCell.{TermCell}
 use Rattle.workspace.specs.declared.declared.Param.{Param}

@@ -5,7 +5,7 @@ use Rattle.type_terms.specs.Promised.Label.{Sort, of_type, of_const, of_lifetime
 use Rattle.type_terms.specs.Promised.Trees.{Trees}
 use Rattle.type_terms.specs.Codes.{trees_code, sort_number, sort_at}
 use Rattle.type_terms.specs.Promised.Worlds.{Reference}
-use Rattle.text_definitions.specs.Promised.Declarations.{Declarations, NamedCrate, NamedStruct, NamedTrait, NamedImpl, LaterImpl, Check, of_later, of_supers, Variable, Question}
+use Rattle.text_language.specs.Promised.Declarations.{Declarations, NamedCrate, NamedStruct, NamedTrait, NamedImpl, LaterImpl, Check, of_later, of_supers, Variable, Question}
 
 pub sort_again : (s : Sort) → sort_at (sort_number s) ≡ s
 sort_again of_type = refl

@@ -6,8 +6,8 @@ use Rattle.std.specs.Option.{option_map, option_or}
 use Rattle.std.specs.Str.{bytes_eq}
 use Rattle.std.specs.HashMap.{get_by}
 use Rattle.type_terms.specs.Promised.Worlds.{World, core, sees}
-use Rattle.text_definitions.specs.Promised.Declarations.{Declarations, NamedCrate, NamedStruct, NamedTrait, NamedImpl, LaterImpl, Question, Known, a_crate, world_of, last_crate, last_later}
-use Rattle.text_definitions.specs.Promised.Faults.{last_items}
+use Rattle.text_language.specs.Promised.Declarations.{Declarations, NamedCrate, NamedStruct, NamedTrait, NamedImpl, LaterImpl, Question, Known, a_crate, world_of, last_crate, last_later}
+use Rattle.text_language.specs.Promised.Faults.{last_items}
 use Rattle.type_terms.specs.declared.CrateId.{CrateId}
 use Rattle.workspace.specs.declared.tables.Tables.{Tables}
 use Rattle.workspace.specs.declared.declared.ImplEntry.{ImplEntry}

@@ -6,7 +6,7 @@ use Rattle.type_terms.specs.Promised.Worlds.{Reference}
 use Rattle.type_terms.specs.Kinds.{int_number, uint_number, is_mut, const_label}
 use Rattle.type_terms.specs.Promised.Handles.{region_label}
 use Rattle.type_terms.specs.declared.CrateId.{CrateId}
-use Rattle.text_definitions.specs.Promised.Declarations as text
+use Rattle.text_language.specs.Promised.Declarations as text
 use Rattle.workspace.specs.TermCells as cell
 use Rattle.workspace.specs.TermCells.{trees_of, joined}
 use Rattle.workspace.specs.declared.cell.ParamKind.{ParamKind}

@@ -1,8 +1,8 @@
 //! The items of `core`. They are added by calls and not read from lines, so a program begins without reading.
 ghost use Rattle.std.specs.Prelude.{◌≡◌, ◌∷◌, [], ◌++◌, None, false, map, length, OnOk, IfOk};
 ghost use Rattle.type_terms.specs.Promised.Worlds.{core};
-ghost use Rattle.text_definitions.specs.Promised.Declarations.{known, last_crate};
-ghost use Rattle.text_definitions.specs.Declarations.{nothing_declared, bare_impl, copied};
+ghost use Rattle.text_language.specs.Promised.Declarations.{known, last_crate};
+ghost use Rattle.text_language.specs.Declarations.{nothing_declared, bare_impl, copied};
 ghost use Rattle.type_terms.specs.Promised.Core.{impls_for, scalars};
 ghost use Rattle.workspace.specs.Numbered.{IsFew};
 ghost use Rattle.workspace.specs.Tables.{declared, core_alone, with_struct, with_trait, with_impl, IsConsistent};

@@ -3,11 +3,11 @@ ghost use Rattle.std.specs.Prelude.{◌≡◌, ◌<◌, ◌++◌, ◌∷◌, [],
 ghost use Rattle.std.specs.List.{list_any};
 ghost use Rattle.std.specs.Option.{option_map, option_and_then};
 ghost use Rattle.type_terms.specs.Promised.Worlds.{sees};
-ghost use Rattle.text_definitions.specs.Promised.Syntax.{Line, crate_line, later_line, supers_line};
-ghost use Rattle.text_definitions.specs.Promised.Declarations.{known, world_of, last_crate, last_changed, last_later, impl_owner};
-ghost use Rattle.text_definitions.specs.Promised.Faults.{last_items};
-ghost use Rattle.text_definitions.specs.Lowering.{crate_number};
-ghost use Rattle.text_definitions.specs.Adding.{added};
+ghost use Rattle.text_language.specs.Promised.Syntax.{Line, crate_line, later_line, supers_line};
+ghost use Rattle.text_language.specs.Promised.Declarations.{known, world_of, last_crate, last_changed, last_later, impl_owner};
+ghost use Rattle.text_language.specs.Promised.Faults.{last_items};
+ghost use Rattle.text_language.specs.Lowering.{crate_number};
+ghost use Rattle.text_language.specs.Adding.{added};
 ghost use Rattle.workspace.specs.Numbered.{IsFew};
 ghost use Rattle.workspace.specs.Tables.{declared, with_crate, with_question, new_crate, will_see, item_of, item_named, core_alone, number_of_crate, IsConsistent, MarksSeen};
 ghost use Rattle.workspace.specs.Unasked.{without_last_question};

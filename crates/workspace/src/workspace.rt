@@ -3,7 +3,7 @@ ghost use Rattle.std.specs.Prelude.{◌≡◌, ◌<◌, ◌+◌, Some, length, m
 ghost use Rattle.std.specs.List.Sorted.{IsNonDecreasingBy};
 ghost use Rattle.std.specs.Option.{option_map};
 ghost use Rattle.type_terms.specs.Promised.Worlds.{sees, view_of};
-ghost use Rattle.text_definitions.specs.Promised.Declarations.{known, world_of};
+ghost use Rattle.text_language.specs.Promised.Declarations.{known, world_of};
 ghost use Rattle.workspace.specs.Numbered.{EachNumbered, IsNumbered, IsFew};
 ghost use Rattle.workspace.specs.Made.{AreMade, ReferenceMade, ReferencesMade, is_type};
 ghost use Rattle.workspace.specs.Views.{known_of, struct_of, trait_of, impl_of, question_of, numbers_of, asked_of, asker_of, later_of, check_of};
@@ -36,7 +36,7 @@ pub struct Workspace {
 }
 
 impl Model for Workspace {
-    ghost use Rattle.text_definitions.specs.Promised.Declarations.{Declarations};
+    ghost use Rattle.text_language.specs.Promised.Declarations.{Declarations};
     ghost use Rattle.workspace.specs.Numbered.{IsFew};
     ghost use Rattle.workspace.specs.Stored.{declarations_code};
     ghost use Rattle.workspace.specs.Tables.{declared, IsConsistent};

@@ -11,7 +11,7 @@ use Rattle.type_terms.specs.Promised.Supers.{opaque_reference, SupersHold, IsHel
 use Rattle.type_terms.specs.Promised.Trees.{Trees, none, tree, erase_label}
 use Rattle.type_terms.specs.Promised.Versions.{Added, is_addable}
 use Rattle.type_terms.specs.Promised.Worlds.{World, Reference, ImplDecl}
-use Rattle.text_definitions.specs.Promised.Declarations.{Declarations, NamedImpl, Check, of_later, of_supers, section_impls}
+use Rattle.text_language.specs.Promised.Declarations.{Declarations, NamedImpl, Check, of_later, of_supers, section_impls}
 use Rattle.sessions.specs.Promised.Promises.{view_in}
 use Rattle.coherence.specs.Promised.CrateAnswers.{crate_text, number_in_crate}
 

@@ -13,8 +13,8 @@ use Rattle.type_terms.specs.Promised.Trees.{Trees, none, tree}
 use Rattle.type_terms.specs.Promised.Versions.{is_open_place}
 use Rattle.type_terms.specs.Promised.Walks.{Met, struct_is, visited, ends_local, keeps_orphan_rule}
 use Rattle.type_terms.specs.Promised.Worlds.{World, Reference, ImplDecl, with_args, core}
-use Rattle.text_definitions.specs.Promised.Declarations.{Declarations}
-use Rattle.language_definitions.specs.Promised.PrintedTypes.{final_text, printed_trees}
+use Rattle.text_language.specs.Promised.Declarations.{Declarations}
+use Rattle.text_language.specs.Promised.PrintedTypes.{final_text, printed_trees}
 use Rattle.type_terms.specs.Promised.Verdicts.{ClausesNeverMeet, InEverySetWith}
 use Rattle.sessions.specs.Promised.Promises.{view_in}
 

@@ -11,8 +11,8 @@ use Rattle.type_terms.specs.Promised.Erased.{erased_reference}
 use Rattle.type_terms.specs.Promised.Answers.{is_closed, is_bounded, is_possible, IsUnambiguous, IsDeterminate}
 use Rattle.type_terms.specs.Promised.Renumbering.{renumbered_reference}
 use Rattle.sessions.specs.Verdicts.{InEverySetWith}
-use Rattle.text_definitions.specs.Promised.Declarations.{Declarations, Question}
-use Rattle.language_definitions.specs.Promised.PrintedTypes.{yes_values_text}
+use Rattle.text_language.specs.Promised.Declarations.{Declarations, Question}
+use Rattle.text_language.specs.Promised.PrintedTypes.{yes_values_text}
 use Rattle.sessions.specs.QuestionAnswers.{HoldUnknownsAlone}
 use Rattle.sessions.specs.Promised.CoherentTexts.{text_world}
 use Rattle.sessions.specs.Promised.OwnValues.{HasNoParameter, SpeakOfOwn}

@@ -6,7 +6,7 @@ use Rattle.type_terms.specs.Promised.Core.{core_world}
 use Rattle.type_terms.specs.Promised.Renumbering.{View, asker_in_set, HoldsView}
 use Rattle.type_terms.specs.Promised.Supers.{IsHeld}
 use Rattle.type_terms.specs.Promised.LinkedSet.{LinkedSet, DynsInOneOrder}
-use Rattle.text_definitions.specs.Promised.Declarations.{Declarations}
+use Rattle.text_language.specs.Promised.Declarations.{Declarations}
 use Rattle.type_terms.specs.Promised.Verdicts.{IsAccepted}
 use Rattle.type_terms.specs.Promised.SetLaws.{Headline, AnswersHold}
 use Rattle.sessions.specs.Promised.Promises.{view_in}

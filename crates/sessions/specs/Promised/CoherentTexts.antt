@@ -6,7 +6,7 @@ use Rattle.type_terms.specs.Promised.Worlds.{Reference, core, World}
 use Rattle.type_terms.specs.Promised.Proofs.{HasProof, HasProofByImpl}
 use Rattle.type_terms.specs.Promised.Answers.{is_closed}
 use Rattle.type_terms.specs.Promised.Supers.{IsHeld}
-use Rattle.text_definitions.specs.Promised.Declarations.{Declarations, world_of}
+use Rattle.text_language.specs.Promised.Declarations.{Declarations, world_of}
 use Rattle.type_terms.specs.Promised.Verdicts.{IsAccepted}
 use Rattle.type_terms.specs.Promised.Questions.{filled_reference, Solution, yes, IsProveAnswer, no, IsRefuteAnswer}
 use Rattle.sessions.specs.Promised.OwnValues.{HasNoParameter, SpeakOfOwn}

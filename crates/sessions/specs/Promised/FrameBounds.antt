@@ -1,10 +1,10 @@
 -- How many frames the queries of a session start at most. The numbers depend on what the crate sees, on the query and on the depth.
 use Rattle.std.specs.Prelude.{◌≤◌, ◌+◌, ◌*◌, ℕ, max, List, [], ◌∷◌}
 use Rattle.type_terms.specs.Promised.Worlds.{World, Reference}
-use Rattle.evaluation.specs.declared.TheConstants.{FIXPOINT_STEP_LIMIT}
+use Rattle.goal_evaluator.specs.declared.TheConstants.{FIXPOINT_STEP_LIMIT}
 use Rattle.search_graph.specs.Promised.FrameBound.{frame_bound}
-use Rattle.assembly_laws.specs.Promised.Widths.{declared_width, greatest, number_at, width_of}
-use Rattle.text_definitions.specs.Promised.Declarations.{Question}
+use Rattle.candidate_model.specs.Promised.Widths.{declared_width, greatest, number_at, width_of}
+use Rattle.text_language.specs.Promised.Declarations.{Question}
 use Rattle.sessions.specs.Promised.Promises.{view_in}
 use Rattle.sessions.specs.Promised.Subjects.{Subject}
 use Rattle.sessions.specs.declared.settling.TheConstants.{MAX_ASKINGS}

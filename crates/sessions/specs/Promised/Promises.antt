@@ -2,7 +2,7 @@
 use Rattle.std.specs.Prelude.{ℕ, map}
 use Rattle.type_terms.specs.Promised.Erased.{erased_world, erased_reference}
 use Rattle.type_terms.specs.Promised.Worlds.{World, view_of}
-use Rattle.text_definitions.specs.Promised.Declarations.{Declarations, Question, world_of}
+use Rattle.text_language.specs.Promised.Declarations.{Declarations, Question, world_of}
 use Rattle.type_terms.specs.Promised.Questions.{ProveAnswer, IsProveAnswer, RefuteAnswer, IsRefuteAnswer}
 use Rattle.type_terms.specs.Promised.Verdicts.{Verdict, IsVerdict}
 use Rattle.view_lowering.specs.Promised.Questions.{variable_kinds}

@@ -9,7 +9,7 @@ use Rattle.type_terms.specs.Promised.Proofs.{In, Every, HasProof}
 use Rattle.type_terms.specs.Promised.Supers.{opaque_reference, SupersHold, IsHeld}
 use Rattle.type_terms.specs.Promised.Renumbering.{View, HoldsView, asker_in_set, renumbered_impl}
 use Rattle.type_terms.specs.Promised.Versions.{Added, is_addable, in_scope}
-use Rattle.text_definitions.specs.Promised.Declarations.{Declarations, NamedImpl, section_impls, world_of}
+use Rattle.text_language.specs.Promised.Declarations.{Declarations, NamedImpl, section_impls, world_of}
 use Rattle.declarations.specs.Promised.Elaboration.{supertraits}
 use Rattle.view_lowering.specs.Promised.SeenWorlds.{plainly_seen_from, unbound_reference}
 use Rattle.sessions.specs.Promised.Promises.{view_in}

@@ -1,8 +1,8 @@
 -- What a session is about.
 use Rattle.std.specs.Prelude.{◌≡◌, ℕ, true, false, List, Ok}
 use Rattle.type_terms.specs.Promised.Handles.{Entry, Keeps}
-use Rattle.text_definitions.specs.Promised.Declarations.{Declarations, Question}
-use Rattle.language_definitions.specs.Promised.TextSays.{TextSays}
+use Rattle.text_language.specs.Promised.Declarations.{Declarations, Question}
+use Rattle.text_language.specs.Promised.TextSays.{TextSays}
 use Rattle.view_lowering.specs.Promised.Questions.{IsQuestion}
 
 -- The declarations, one of their crates by its number, and the limits: the depth, and how many terms of a kind, goals and answers there are

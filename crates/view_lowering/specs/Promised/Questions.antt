@@ -1,7 +1,7 @@
 -- Queries of a text, and their terms.
 use Rattle.std.specs.Prelude.{◌≡◌, ℕ, List, map, Some, slice_get, ◌≤◌, ◌-◌}
 use Rattle.type_terms.specs.Promised.Label.{Sort}
-use Rattle.text_definitions.specs.Promised.Declarations.{Declarations, Question}
+use Rattle.text_language.specs.Promised.Declarations.{Declarations, Question}
 
 -- The kinds of a query's variables, in their order.
 abbrev pub variable_kinds : Question → List Sort

@@ -5,8 +5,8 @@ use Rattle.std.specs.Prelude.{ℕ, zero, Bool, true, false, ◌==◌, map, if◌
 use Rattle.type_terms.specs.Promised.Label.{Label, of_lifetime, static, fn_ptr, principal, param, bound}
 use Rattle.type_terms.specs.Promised.Trees.{Trees, none, tree, some_node}
 use Rattle.type_terms.specs.Promised.Worlds.{World, Reference, StructDecl, TraitDecl, ImplDecl, view_of}
-use Rattle.text_definitions.specs.Promised.Declarations as text
-use Rattle.text_definitions.specs.Promised.Declarations.{world_of}
+use Rattle.text_language.specs.Promised.Declarations as text
+use Rattle.text_language.specs.Promised.Declarations.{world_of}
 
 -- ---- labels and terms, with the lifetime parameters that are kept
 abbrev pub plain_label : (ℕ → Bool) → Label → Label

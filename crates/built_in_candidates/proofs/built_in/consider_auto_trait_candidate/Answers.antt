@@ -5,8 +5,8 @@ use Rattle.type_terms.specs.Kept.{trees-is}
 use Rattle.infer_table.proofs.Numbers.{goal-held-later}
 use Rattle.declarations.specs.Items.{written}
 use Rattle.declarations.specs.Relevant.{next_above}
-use Rattle.assembly_laws.specs.Asking.{with_plain_head}
-use Rattle.assembly_laws.specs.Candidates.{as_written, misc}
+use Rattle.candidate_model.specs.Asking.{with_plain_head}
+use Rattle.candidate_model.specs.Candidates.{as_written, misc}
 use Rattle.built_in_candidates.specs.Goals.{asked_of}
 use Rattle.built_in_candidates.specs.Constituents.{AreConstituents}
 use Rattle.built_in_candidates.proofs.Asking.{asked-later}

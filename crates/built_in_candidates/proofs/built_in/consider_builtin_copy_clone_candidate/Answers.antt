@@ -2,7 +2,7 @@ use Rattle.std.proofs.Common.{subst}
 use Rattle.type_terms.specs.Promised.Rules.{copy_rules}
 use Rattle.type_terms.specs.Promised.Handles.{types, trees_at}
 use Rattle.type_terms.specs.Kept.{trees-is}
-use Rattle.assembly_laws.specs.Asking.{with_plain_head}
+use Rattle.candidate_model.specs.Asking.{with_plain_head}
 use Rattle.built_in_candidates.specs.Constituents.{AreConstituents}
 use Rattle.built_in_candidates.proofs.Heads.{copy-first}
 use Rattle.built_in_candidates.proofs.built_in.consider_builtin_copy_clone_candidate.Goals as goal

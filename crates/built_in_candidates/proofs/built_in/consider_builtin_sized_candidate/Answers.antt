@@ -3,11 +3,11 @@ use Rattle.type_terms.specs.Promised.Rules.{sized, sized_rules}
 use Rattle.type_terms.specs.Promised.Handles.{types, trees_at}
 use Rattle.type_terms.specs.Kept.{trees-is}
 use Rattle.infer_table.proofs.Numbers.{goal-held-later}
-use Rattle.evaluation.specs.declared.candidate.CandidateSource.TheVariants.{BuiltinImpl}
-use Rattle.evaluation.specs.declared.candidate.BuiltinImplSource.TheVariants.{Trivial}
+use Rattle.goal_evaluator.specs.declared.candidate.CandidateSource.TheVariants.{BuiltinImpl}
+use Rattle.goal_evaluator.specs.declared.candidate.BuiltinImplSource.TheVariants.{Trivial}
 use Rattle.declarations.specs.Items.{written}
-use Rattle.assembly_laws.specs.Asking.{with_plain_head}
-use Rattle.assembly_laws.specs.Candidates.{as_written}
+use Rattle.candidate_model.specs.Asking.{with_plain_head}
+use Rattle.candidate_model.specs.Candidates.{as_written}
 use Rattle.built_in_candidates.specs.Constituents.{AreConstituents}
 use Rattle.built_in_candidates.proofs.Asking.{asked-later}
 use Rattle.built_in_candidates.proofs.Heads.{sized-first}

@@ -1,10 +1,10 @@
 use Rattle.std.proofs.Common.{[], ◌∷◌, map, ap, sym, ◌∙◌, subst}
-use Rattle.evaluation.specs.Lists.{Every}
-use Rattle.evaluation.specs.Readings.{EquationHeld}
-use Rattle.evaluation.specs.StepReadings.{equation_read}
+use Rattle.goal_evaluator.specs.Lists.{Every}
+use Rattle.goal_evaluator.specs.Readings.{EquationHeld}
+use Rattle.goal_evaluator.specs.StepReadings.{equation_read}
 use Rattle.infer_table.proofs.Numbers.{goal-held-later}
 use Rattle.declarations.specs.Applied.{references_in, TraitRefsHeld}
-use Rattle.assembly_laws.specs.Candidates.{by_rule}
+use Rattle.candidate_model.specs.Candidates.{by_rule}
 use Rattle.built_in_candidates.specs.Goals.{asked_of}
 use Rattle.built_in_candidates.specs.Constituents.{AreConstituents, types_asked}
 use Rattle.built_in_candidates.proofs.Asking.{asked-later, none-written, one-written}

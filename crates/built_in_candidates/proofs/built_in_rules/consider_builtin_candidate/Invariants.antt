@@ -2,7 +2,7 @@ use Rattle.std.proofs.Common.{◌≡◌, length}
 use Rattle.std.specs.List.{slice_get}
 use Rattle.type_terms.specs.Growth.{Grew}
 use Rattle.declarations.specs.Items.{written}
-use Rattle.assembly_laws.specs.Candidates.{built_in}
+use Rattle.candidate_model.specs.Candidates.{built_in}
 use Rattle.built_in_candidates.specs.Goals.{asked_of}
 use Rattle.built_in_candidates.specs.BuiltInRules.{by_rules}
 use Rattle.built_in_candidates.proofs.built_in_rules.consider_builtin_candidate.Given as goal

@@ -1,6 +1,6 @@
 use Rattle.std.proofs.Common.{ap, sym, ◌∙◌}
 use Rattle.declarations.specs.Items.{written}
-use Rattle.assembly_laws.specs.Candidates.{if_so}
+use Rattle.candidate_model.specs.Candidates.{if_so}
 use Rattle.built_in_candidates.specs.Goals.{asked_of}
 use Rattle.built_in_candidates.specs.BuiltInRules.{of_rule}
 use Rattle.built_in_candidates.proofs.built_in_rules.consider_rule.Goals as goal

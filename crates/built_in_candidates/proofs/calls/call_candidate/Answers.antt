@@ -8,11 +8,11 @@ use Rattle.type_terms.specs.Promised.Handles.{arg_trees}
 use Rattle.type_terms.specs.Kept.{has-later, trees-later, arg-held-later, arg-trees-later}
 use Rattle.infer_table.specs.Values.{sort_of_arg}
 use Rattle.infer_table.proofs.Numbers.{goal-held-later}
-use Rattle.evaluation.specs.Lists.{Every}
-use Rattle.evaluation.specs.Readings.{EquationHeld}
-use Rattle.evaluation.specs.StepReadings.{equation_read}
+use Rattle.goal_evaluator.specs.Lists.{Every}
+use Rattle.goal_evaluator.specs.Readings.{EquationHeld}
+use Rattle.goal_evaluator.specs.StepReadings.{equation_read}
 use Rattle.declarations.specs.Applied.{references_in, TraitRefsHeld}
-use Rattle.assembly_laws.specs.Candidates.{by_rule, misc, all_equal}
+use Rattle.candidate_model.specs.Candidates.{by_rule, misc, all_equal}
 use Rattle.built_in_candidates.specs.Goals.{asked_of}
 use Rattle.built_in_candidates.proofs.Asking.{asked-later}
 use Rattle.built_in_candidates.proofs.Pairs.{arg-tree}

@@ -3,7 +3,7 @@ use Rattle.type_terms.specs.Terms.{args_lists}
 use Rattle.type_terms.specs.Kinds.{args_trees}
 use Rattle.type_terms.specs.Kept.{trees-is}
 use Rattle.term_folds.proofs.ParamFacts.{copied-get}
-use Rattle.assembly_laws.specs.Asking.{next_of}
+use Rattle.candidate_model.specs.Asking.{next_of}
 use Rattle.built_in_candidates.specs.FnPointers.{IsFirst}
 use Rattle.built_in_candidates.proofs.FnPointers.{second-first}
 use Rattle.built_in_candidates.proofs.calls.second_argument.Goals as goal

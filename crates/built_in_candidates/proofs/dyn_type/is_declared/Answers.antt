@@ -1,6 +1,6 @@
 use Rattle.std.proofs.Common.{sym, ap, ◌∙◌}
 use Rattle.type_terms.specs.Promised.Rules.{are_declared}
-use Rattle.evaluation.specs.Merge.{if_there}
+use Rattle.goal_evaluator.specs.Merge.{if_there}
 use Rattle.declarations.specs.Items.{reference_in, written}
 use Rattle.declarations.specs.Applied.{references_in}
 use Rattle.built_in_candidates.proofs.Objects.{declared-one, declared-none}

@@ -3,7 +3,7 @@ use Rattle.std.specs.Prelude.{◌==◌}
 use Rattle.std.specs.List.{list_any}
 use Rattle.type_terms.specs.Promised.Rules.{sized}
 use Rattle.term_folds.specs.declared.predicate.TraitRef.{TraitRef}
-use Rattle.evaluation.specs.Merge.{if_there}
+use Rattle.goal_evaluator.specs.Merge.{if_there}
 use Rattle.declarations.specs.Applied.{references_in}
 use Rattle.built_in_candidates.proofs.Objects.{compatible-is}
 use Rattle.built_in_candidates.proofs.dyn_type.is_dyn_compatible.Goals as goal

@@ -4,11 +4,11 @@ use Rattle.type_terms.specs.Terms.{args_lists}
 use Rattle.type_terms.specs.Kept.{trees-later}
 use Rattle.infer_table.proofs.Numbers.{goal-held-later}
 use Rattle.infer_table.proofs.StepFacts.{keeps-trans}
-use Rattle.evaluation.specs.declared.candidate.CandidateSource.TheVariants.{BuiltinImpl}
-use Rattle.evaluation.specs.StepReadings.{equation_read}
+use Rattle.goal_evaluator.specs.declared.candidate.CandidateSource.TheVariants.{BuiltinImpl}
+use Rattle.goal_evaluator.specs.StepReadings.{equation_read}
 use Rattle.declarations.specs.Items.{written}
 use Rattle.declarations.specs.Applied.{references_in, TraitRefsHeld}
-use Rattle.assembly_laws.specs.Candidates.{by_rule, all_equal}
+use Rattle.candidate_model.specs.Candidates.{by_rule, all_equal}
 use Rattle.built_in_candidates.specs.Goals.{asked_of}
 use Rattle.built_in_candidates.proofs.Asking.{asked-later}
 use Rattle.declarations.proofs.Bounded.{all-same}

@@ -5,7 +5,7 @@ use Rattle.type_terms.specs.Promised.Trees.{leaf, ◌+++◌}
 use Rattle.type_terms.specs.Promised.Rules.{sized}
 use Rattle.type_terms.specs.Promised.Worlds.{Reference}
 use Rattle.type_terms.specs.Promised.Handles.{trees_at}
-use Rattle.evaluation.specs.declared.candidate.BuiltinImplSource.TheVariants.{Misc, Object}
+use Rattle.goal_evaluator.specs.declared.candidate.BuiltinImplSource.TheVariants.{Misc, Object}
 use Rattle.declarations.specs.Applied.{references_in}
 use Rattle.built_in_candidates.specs.Objects.{BoundRule, bounds_to}
 use Rattle.built_in_candidates.proofs.Objects.{bound-at, numbered-held, differ, auto-found, sized-left-out, level-found}

@@ -5,13 +5,13 @@ use Rattle.type_terms.specs.Promised.Worlds.{World}
 use Rattle.type_terms.specs.Promised.Handles.{types, trees_at}
 use Rattle.type_terms.specs.Kept.{trees-is}
 use Rattle.infer_table.proofs.Numbers.{goal-held-later}
-use Rattle.evaluation.specs.declared.candidate.CandidateSource.TheVariants.{BuiltinImpl}
+use Rattle.goal_evaluator.specs.declared.candidate.CandidateSource.TheVariants.{BuiltinImpl}
 use Rattle.declarations.specs.Items.{reference_in, written}
 use Rattle.declarations.specs.Promised.Elaboration.{Each}
 use Rattle.declarations.specs.Promised.Elaboration.{supertraits}
 use Rattle.declarations.proofs.Growth.{all-held, all-written}
 use Rattle.declarations.proofs.Elaborating.{have-bounds-later}
-use Rattle.assembly_laws.specs.Candidates.{by_rule, all_equal}
+use Rattle.candidate_model.specs.Candidates.{by_rule, all_equal}
 use Rattle.built_in_candidates.specs.Goals.{asked_of, candidate_of}
 use Rattle.built_in_candidates.specs.Objects.{AreArgumentsOf, bound_in}
 use Rattle.built_in_candidates.proofs.Asking.{asked-later}

@@ -7,7 +7,7 @@ use Rattle.type_terms.specs.Kept.{trees-later}
 use Rattle.declarations.specs.Items.{written}
 use Rattle.declarations.specs.Applied.{references_in}
 use Rattle.declarations.specs.Promised.Elaboration.{elaborate}
-use Rattle.assembly_laws.specs.Candidates.{if_so}
+use Rattle.candidate_model.specs.Candidates.{if_so}
 use Rattle.built_in_candidates.specs.Objects.{written_and_elaborated}
 use Rattle.built_in_candidates.proofs.object.object_bound_at.Goals as goal
 use Rattle.type_terms.proofs.TypeBasics.{if-ok}

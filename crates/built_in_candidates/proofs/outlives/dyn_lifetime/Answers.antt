@@ -2,7 +2,7 @@ use Rattle.std.proofs.Common.{Some, ap, sym, ◌∙◌}
 use Rattle.type_terms.specs.Promised.Handles.{types, trees_at}
 use Rattle.type_terms.specs.Promised.Handles.{region_label}
 use Rattle.type_terms.specs.Kept.{trees-is}
-use Rattle.assembly_laws.specs.Candidates.{lifetime_of}
+use Rattle.candidate_model.specs.Candidates.{lifetime_of}
 use Rattle.built_in_candidates.proofs.Lifetimes.{last-is}
 use Rattle.built_in_candidates.proofs.outlives.dyn_lifetime.Goals as goal
 

@@ -3,7 +3,7 @@ use Rattle.infer_table.specs.Constraints.{constraints_trees}
 use Rattle.infer_table.specs.Content.{AllConstraintsHeld}
 use Rattle.infer_table.proofs.ConstraintLists.{constraints-append, constraints-held-push}
 use Rattle.built_in_candidates.specs.Goals.{candidate_of}
-use Rattle.assembly_laws.proofs.CandidateKinds.{with_regions}
+use Rattle.candidate_model.proofs.CandidateKinds.{with_regions}
 use Rattle.built_in_candidates.proofs.outlives.recording.Goals as goal
 
 pub returns-clause-is : goal.returns-clause-is

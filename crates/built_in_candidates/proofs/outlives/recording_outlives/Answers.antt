@@ -1,7 +1,7 @@
 use Rattle.std.proofs.Common.{Some, sym, ◌∙◌, ap, subst, IfSome, option_map}
 use Rattle.type_terms.specs.Promised.Handles.{trees_at}
-use Rattle.evaluation.specs.Readings.{SpecHeld}
-use Rattle.assembly_laws.specs.Candidates.{recording, lifetime_of, outlives}
+use Rattle.goal_evaluator.specs.Readings.{SpecHeld}
+use Rattle.candidate_model.specs.Candidates.{recording, lifetime_of, outlives}
 use Rattle.built_in_candidates.specs.Goals.{candidate_of}
 use Rattle.built_in_candidates.proofs.Lifetimes.{recording-none}
 use Rattle.built_in_candidates.proofs.outlives.recording_outlives.Goals as goal

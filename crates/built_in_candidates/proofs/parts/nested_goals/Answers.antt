@@ -1,12 +1,12 @@
 use Rattle.std.proofs.Common.{◌≡◌, ◌++◌, ◌∷◌, sym, ap, ◌∙◌, subst, map}
 use Rattle.infer_table.specs.Goals.{GoalHeld}
 use Rattle.infer_table.specs.declared.goal.Goal.{Goal}
-use Rattle.evaluation.specs.declared.goal.GoalSource.{GoalSource}
-use Rattle.evaluation.specs.Readings.{is_coinductive_step}
-use Rattle.evaluation.specs.StepReadings.{nested_read}
+use Rattle.goal_evaluator.specs.declared.goal.GoalSource.{GoalSource}
+use Rattle.goal_evaluator.specs.Readings.{is_coinductive_step}
+use Rattle.goal_evaluator.specs.StepReadings.{nested_read}
 use Rattle.declarations.specs.Applied.{references_in, TraitRefsHeld}
-use Rattle.assembly_laws.specs.Candidates.{premise}
-use Rattle.evaluation.proofs.Contexts.{every-more}
+use Rattle.candidate_model.specs.Candidates.{premise}
+use Rattle.goal_evaluator.proofs.Contexts.{every-more}
 use Rattle.built_in_candidates.specs.Goals.{asked_of, nested_of, NestedGoalsHeld}
 use Rattle.built_in_candidates.proofs.Lists.{map-push}
 use Rattle.built_in_candidates.proofs.parts.nested_goals.Goals as goal

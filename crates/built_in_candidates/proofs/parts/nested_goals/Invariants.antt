@@ -1,9 +1,9 @@
 use Rattle.std.proofs.Common.{◌≡◌, ◌++◌, Bool, List, length, map}
 use Rattle.type_terms.specs.Promised.Handles.{Entry}
 use Rattle.infer_table.specs.Goals.{GoalHeld}
-use Rattle.evaluation.specs.Readings.{is_coinductive_step}
+use Rattle.goal_evaluator.specs.Readings.{is_coinductive_step}
 use Rattle.declarations.specs.Applied.{references_in, TraitRefsHeld}
-use Rattle.assembly_laws.specs.Candidates.{premise}
+use Rattle.candidate_model.specs.Candidates.{premise}
 use Rattle.built_in_candidates.specs.Goals.{asked_of, nested_of, NestedGoalsHeld}
 use Rattle.built_in_candidates.proofs.parts.nested_goals.Given as goal
 

@@ -4,7 +4,7 @@ use Rattle.type_terms.specs.Promised.Trees.{Trees, leaf}
 use Rattle.type_terms.specs.Promised.Handles.{types, trees_at}
 use Rattle.type_terms.specs.Kept.{trees-is, has-later}
 use Rattle.type_terms.proofs.FailFacts.{refused-term, at-limit}
-use Rattle.evaluation.specs.FrameTables.{Equation}
+use Rattle.goal_evaluator.specs.FrameTables.{Equation}
 use Rattle.type_terms.proofs.Grown.{grew-on}
 use Rattle.built_in_candidates.proofs.relate.never_met.Goals as goal
 

@@ -3,11 +3,11 @@ use Rattle.type_terms.specs.Terms.{args_lists}
 use Rattle.type_terms.specs.Promised.Handles.{trees_at}
 use Rattle.type_terms.specs.Kinds.{args_trees}
 use Rattle.type_terms.specs.Kept.{trees-is}
-use Rattle.evaluation.specs.Lists.{Every}
-use Rattle.evaluation.specs.Readings.{EquationHeld}
-use Rattle.evaluation.specs.StepReadings.{equation_read}
-use Rattle.assembly_laws.specs.Candidates.{all_equal}
-use Rattle.evaluation.proofs.Contexts.{every-more}
+use Rattle.goal_evaluator.specs.Lists.{Every}
+use Rattle.goal_evaluator.specs.Readings.{EquationHeld}
+use Rattle.goal_evaluator.specs.StepReadings.{equation_read}
+use Rattle.candidate_model.specs.Candidates.{all_equal}
+use Rattle.goal_evaluator.proofs.Contexts.{every-more}
 use Rattle.built_in_candidates.specs.Equations.{never_if}
 use Rattle.built_in_candidates.proofs.Lists.{map-push}
 use Rattle.built_in_candidates.proofs.Pairs.{equations-later, equations-held-later}

@@ -4,7 +4,7 @@ use Rattle.type_terms.specs.Promised.Handles.{types, trees_at}
 use Rattle.type_terms.specs.Terms.{type_lists}
 use Rattle.type_terms.specs.Kept.{trees-is}
 use Rattle.declarations.specs.Items.{written}
-use Rattle.assembly_laws.specs.Asking.{with_plain_head}
+use Rattle.candidate_model.specs.Asking.{with_plain_head}
 use Rattle.infer_table.proofs.BindFacts.{type-is}
 use Rattle.built_in_candidates.specs.Constituents.{AreConstituents, premises_of, types_asked, TypesHeld}
 use Rattle.built_in_candidates.proofs.Trees.{tys-asked, held-types}

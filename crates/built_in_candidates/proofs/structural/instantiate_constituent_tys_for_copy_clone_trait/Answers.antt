@@ -3,7 +3,7 @@ use Rattle.type_terms.specs.Promised.Rules.{copy_rules, each_asked}
 use Rattle.type_terms.specs.Promised.Handles.{types}
 use Rattle.type_terms.specs.Terms.{type_lists}
 use Rattle.type_terms.specs.Kept.{trees-is}
-use Rattle.assembly_laws.specs.Asking.{with_plain_head}
+use Rattle.candidate_model.specs.Asking.{with_plain_head}
 use Rattle.built_in_candidates.specs.Constituents.{premises_of, types_asked, TypesHeld}
 use Rattle.built_in_candidates.proofs.Trees.{tys-asked, held-types}
 use Rattle.built_in_candidates.proofs.structural.instantiate_constituent_tys_for_copy_clone_trait.Goals as goal

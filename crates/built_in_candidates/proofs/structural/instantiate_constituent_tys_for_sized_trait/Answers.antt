@@ -4,7 +4,7 @@ use Rattle.type_terms.specs.Promised.Handles.{types}
 use Rattle.type_terms.specs.Terms.{type_lists}
 use Rattle.type_terms.specs.Kept.{trees-is}
 use Rattle.declarations.specs.Items.{written}
-use Rattle.assembly_laws.specs.Asking.{with_plain_head}
+use Rattle.candidate_model.specs.Asking.{with_plain_head}
 use Rattle.built_in_candidates.specs.Constituents.{premises_of, types_asked, TypesHeld}
 use Rattle.built_in_candidates.proofs.Trees.{tys-last, held-last}
 use Rattle.built_in_candidates.proofs.structural.instantiate_constituent_tys_for_sized_trait.Goals as goal

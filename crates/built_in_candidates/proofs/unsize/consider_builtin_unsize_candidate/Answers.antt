@@ -6,8 +6,8 @@ use Rattle.type_terms.specs.Promised.Handles.{types, trees_at}
 use Rattle.type_terms.specs.Kept.{trees-is, trees-later}
 use Rattle.term_folds.specs.Signatures.{StartsWithType}
 use Rattle.declarations.specs.Items.{written}
-use Rattle.assembly_laws.specs.Asking.{begins_unknown, self_of}
-use Rattle.assembly_laws.specs.Candidates.{recording, lifetime_of, outlives, unsizing_outlives, unsize_known}
+use Rattle.candidate_model.specs.Asking.{begins_unknown, self_of}
+use Rattle.candidate_model.specs.Candidates.{recording, lifetime_of, outlives, unsizing_outlives, unsize_known}
 use Rattle.infer_table.proofs.BindFacts.{type-is}
 use Rattle.built_in_candidates.specs.Goals.{asked_of, candidate_of}
 use Rattle.built_in_candidates.proofs.Heads.{applied-first}

@@ -3,7 +3,7 @@ use Rattle.std.specs.List.{slice_get}
 use Rattle.type_terms.specs.Promised.Trees.{◌+++◌}
 use Rattle.type_terms.specs.Promised.Handles.{trees_at}
 use Rattle.declarations.specs.Items.{written}
-use Rattle.assembly_laws.specs.Candidates.{unsize_array_of}
+use Rattle.candidate_model.specs.Candidates.{unsize_array_of}
 use Rattle.infer_table.proofs.BindFacts.{type-is}
 use Rattle.built_in_candidates.specs.Goals.{asked_of}
 use Rattle.built_in_candidates.specs.Constituents.{candidates_of}

@@ -2,7 +2,7 @@ use Rattle.std.proofs.Common.{ap}
 use Rattle.type_terms.specs.Promised.Handles.{trees_at}
 use Rattle.type_terms.specs.Promised.Handles.{arg_trees}
 use Rattle.infer_table.specs.Values.{sort_of_arg}
-use Rattle.assembly_laws.specs.Asking.{next_of}
+use Rattle.candidate_model.specs.Asking.{next_of}
 use Rattle.built_in_candidates.proofs.Pairs.{arg-tree}
 use Rattle.built_in_candidates.proofs.UnsizeRows.{starts-type}
 use Rattle.built_in_candidates.proofs.unsize.unsizing_target.Goals as goal

@@ -6,10 +6,10 @@ use Rattle.type_terms.specs.Terms.{args_lists}
 use Rattle.term_folds.specs.Arguments.{first_misfit}
 use Rattle.type_terms.specs.Kept.{has-later, trees-later}
 use Rattle.infer_table.proofs.Numbers.{goal-held-later}
-use Rattle.evaluation.specs.StepReadings.{equation_read}
+use Rattle.goal_evaluator.specs.StepReadings.{equation_read}
 use Rattle.declarations.specs.Applied.{references_in}
 use Rattle.declarations.specs.Unsizing.{field_trees}
-use Rattle.assembly_laws.specs.Candidates.{by_rule, misc, all_equal}
+use Rattle.candidate_model.specs.Candidates.{by_rule, misc, all_equal}
 use Rattle.built_in_candidates.specs.Goals.{asked_of}
 use Rattle.built_in_candidates.specs.Unsizing.{tail_asked}
 use Rattle.built_in_candidates.proofs.Asking.{asked-later}

@@ -2,7 +2,7 @@ use Rattle.std.proofs.Common.{ap, sym, ◌∙◌, refl}
 use Rattle.std.specs.List.{flat_map}
 use Rattle.type_terms.specs.Promised.Handles.{trees_at}
 use Rattle.declarations.specs.Items.{struct_in, written}
-use Rattle.assembly_laws.specs.Candidates.{unsize_by_struct}
+use Rattle.candidate_model.specs.Candidates.{unsize_by_struct}
 use Rattle.built_in_candidates.specs.Goals.{asked_of}
 use Rattle.built_in_candidates.proofs.Structs.{fields-fit}
 use Rattle.built_in_candidates.proofs.StructRows.{fits-struct, one-struct}

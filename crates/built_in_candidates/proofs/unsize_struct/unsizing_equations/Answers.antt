@@ -9,7 +9,7 @@ use Rattle.type_terms.specs.Kept.{trees-is, has-later, trees-later}
 use Rattle.type_terms.proofs.FailFacts.{refused-term, at-limit}
 use Rattle.declarations.specs.Applied.{sort_of_param}
 use Rattle.declarations.specs.Unsizing.{field_trees}
-use Rattle.assembly_laws.specs.Candidates.{all_equal}
+use Rattle.candidate_model.specs.Candidates.{all_equal}
 use Rattle.built_in_candidates.proofs.StructRows.{replaced-are, replaced-held}
 use Rattle.built_in_candidates.proofs.unsize_struct.unsizing_equations.Goals as goal
 use Rattle.type_terms.proofs.TypeBasics.{if-ok}

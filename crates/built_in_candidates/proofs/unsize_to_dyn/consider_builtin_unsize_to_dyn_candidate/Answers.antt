@@ -8,7 +8,7 @@ use Rattle.declarations.specs.Items.{written}
 use Rattle.declarations.specs.Promised.Elaboration.{Each}
 use Rattle.declarations.proofs.Growth.{all-held, all-written}
 use Rattle.declarations.proofs.Elaborating.{have-bounds-later}
-use Rattle.assembly_laws.specs.Asking.{with_plain_head}
+use Rattle.candidate_model.specs.Asking.{with_plain_head}
 use Rattle.infer_table.proofs.BindFacts.{type-is}
 use Rattle.built_in_candidates.specs.Goals.{asked_of}
 use Rattle.built_in_candidates.specs.Constituents.{candidates_of}

@@ -3,14 +3,14 @@ use Rattle.type_terms.specs.Promised.Rules.{asked, sized, autos_with, are_dyn_co
 use Rattle.type_terms.specs.Promised.Handles.{Keeps, types, bounds_lists, trees_at}
 use Rattle.type_terms.specs.Kept.{has-later, trees-later}
 use Rattle.infer_table.proofs.Numbers.{goal-held-later}
-use Rattle.evaluation.specs.Lists.{Every}
-use Rattle.evaluation.specs.Merge.{if_there}
-use Rattle.evaluation.specs.Readings.{EquationHeld}
-use Rattle.evaluation.specs.StepReadings.{equation_read}
+use Rattle.goal_evaluator.specs.Lists.{Every}
+use Rattle.goal_evaluator.specs.Merge.{if_there}
+use Rattle.goal_evaluator.specs.Readings.{EquationHeld}
+use Rattle.goal_evaluator.specs.StepReadings.{equation_read}
 use Rattle.declarations.specs.Items.{written}
 use Rattle.declarations.specs.Applied.{references_in, TraitRefsHeld}
 use Rattle.declarations.specs.Promised.Elaboration.{elaborate}
-use Rattle.assembly_laws.specs.Candidates.{by_rule, misc}
+use Rattle.candidate_model.specs.Candidates.{by_rule, misc}
 use Rattle.type_terms.specs.Promised.Trees.{◌+++◌, leaf}
 use Rattle.built_in_candidates.specs.Goals.{asked_of}
 use Rattle.built_in_candidates.proofs.Asking.{asked-later}

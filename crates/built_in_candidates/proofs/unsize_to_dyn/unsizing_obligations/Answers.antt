@@ -3,7 +3,7 @@ use Rattle.type_terms.specs.Promised.Trees.{◌+++◌, leaf}
 use Rattle.type_terms.specs.Promised.Rules.{asked, sized, autos_with}
 use Rattle.type_terms.specs.Promised.Handles.{types, bounds_lists, trees_at}
 use Rattle.type_terms.specs.Kept.{trees-is, has-later, trees-later}
-use Rattle.evaluation.specs.Merge.{if_there}
+use Rattle.goal_evaluator.specs.Merge.{if_there}
 use Rattle.declarations.specs.Items.{reference_in}
 use Rattle.declarations.specs.Applied.{references_in, TraitRefsHeld}
 use Rattle.declarations.proofs.Bounded.{held-more, all-same}

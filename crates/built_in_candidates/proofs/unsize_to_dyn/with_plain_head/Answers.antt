@@ -2,7 +2,7 @@ use Rattle.std.proofs.Common.{ap, arith, sym, ◌∙◌, Err}
 use Rattle.type_terms.specs.Promised.Handles.{types}
 use Rattle.type_terms.specs.Kept.{trees-is}
 use Rattle.type_terms.proofs.FailFacts.{refused-term, at-limit}
-use Rattle.assembly_laws.specs.Asking.{with_plain_head}
+use Rattle.candidate_model.specs.Asking.{with_plain_head}
 use Rattle.built_in_candidates.proofs.unsize_to_dyn.with_plain_head.Goals as goal
 
 pub returns-in_err-plain-in-FnPtr-clause-terms : goal.returns-in_err-plain-in-FnPtr-clause-terms

@@ -2,7 +2,7 @@ use Rattle.std.proofs.Common.{◌≡◌, ◌++◌, ap, sym, ◌∙◌, subst}
 use Rattle.type_terms.specs.Promised.Rules.{asked}
 use Rattle.type_terms.specs.Promised.Handles.{types, trees_at}
 use Rattle.type_terms.specs.Kept.{trees-later}
-use Rattle.evaluation.specs.Merge.{if_there}
+use Rattle.goal_evaluator.specs.Merge.{if_there}
 use Rattle.declarations.specs.Applied.{references_in, TraitRefsHeld}
 use Rattle.declarations.proofs.Bounded.{held-more, one-more}
 use Rattle.type_terms.proofs.Grown.{grew-on}

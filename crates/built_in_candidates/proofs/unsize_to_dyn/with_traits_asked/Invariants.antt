@@ -1,7 +1,7 @@
 use Rattle.std.proofs.Common.{◌≡◌, ◌++◌, length}
 use Rattle.type_terms.specs.Promised.Handles.{trees_at}
 use Rattle.type_terms.specs.Growth.{Grew}
-use Rattle.evaluation.specs.Merge.{if_there}
+use Rattle.goal_evaluator.specs.Merge.{if_there}
 use Rattle.declarations.specs.Applied.{references_in, TraitRefsHeld}
 use Rattle.built_in_candidates.specs.Unsizing.{traits_asked}
 use Rattle.built_in_candidates.proofs.unsize_to_dyn.with_traits_asked.Given as goal

@@ -2,7 +2,7 @@ use Rattle.std.proofs.Common.{◌&&◌, ap, sym, ◌∙◌}
 use Rattle.type_terms.specs.Promised.Trees.{leaf, ◌+++◌}
 use Rattle.type_terms.specs.Promised.Rules.{autos_with, upcasts_autos}
 use Rattle.type_terms.specs.Promised.Handles.{trees_at}
-use Rattle.evaluation.specs.Merge.{if_there}
+use Rattle.goal_evaluator.specs.Merge.{if_there}
 use Rattle.declarations.specs.Items.{written}
 use Rattle.declarations.specs.Applied.{references_in}
 use Rattle.built_in_candidates.proofs.Objects.{all_found, autos_asked, autos-at, autos-are}

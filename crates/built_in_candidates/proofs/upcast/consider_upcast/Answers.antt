@@ -6,11 +6,11 @@ use Rattle.type_terms.specs.Promised.Rules.{principal_with, autos_with, are_decl
 use Rattle.type_terms.specs.Promised.Handles.{bounds_lists, trees_at}
 use Rattle.type_terms.specs.Kept.{trees-later}
 use Rattle.infer_table.proofs.Numbers.{goal-held-later}
-use Rattle.evaluation.specs.Merge.{if_there}
+use Rattle.goal_evaluator.specs.Merge.{if_there}
 use Rattle.declarations.specs.Items.{written}
 use Rattle.declarations.specs.Applied.{references_in}
 use Rattle.declarations.specs.Promised.Elaboration.{elaborate}
-use Rattle.assembly_laws.specs.Candidates.{if_so, upcasts_to}
+use Rattle.candidate_model.specs.Candidates.{if_so, upcasts_to}
 use Rattle.built_in_candidates.specs.Goals.{asked_of}
 use Rattle.built_in_candidates.proofs.Asking.{asked-later}
 use Rattle.built_in_candidates.proofs.upcast.consider_upcast.Goals as goal

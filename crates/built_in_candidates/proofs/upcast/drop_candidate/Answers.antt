@@ -1,9 +1,9 @@
 use Rattle.std.proofs.Common.{[], ◌∷◌, map, sym, ap, ◌∙◌, subst, Some}
 use Rattle.std.specs.List.{slice_get}
-use Rattle.evaluation.specs.Lists.{Every}
-use Rattle.evaluation.specs.Readings.{EquationHeld}
-use Rattle.evaluation.specs.StepReadings.{equation_read}
-use Rattle.assembly_laws.specs.Candidates.{by_rule, misc}
+use Rattle.goal_evaluator.specs.Lists.{Every}
+use Rattle.goal_evaluator.specs.Readings.{EquationHeld}
+use Rattle.goal_evaluator.specs.StepReadings.{equation_read}
+use Rattle.candidate_model.specs.Candidates.{by_rule, misc}
 use Rattle.built_in_candidates.specs.Goals.{asked_of}
 use Rattle.built_in_candidates.proofs.upcast.drop_candidate.Goals as goal
 

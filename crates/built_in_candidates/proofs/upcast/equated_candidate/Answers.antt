@@ -1,8 +1,8 @@
 use Rattle.std.proofs.Common.{[], map, ap, ◌∙◌}
 use Rattle.infer_table.proofs.Numbers.{goal-held-later}
-use Rattle.evaluation.specs.declared.candidate.CandidateSource.TheVariants.{BuiltinImpl}
-use Rattle.evaluation.specs.StepReadings.{equation_read}
-use Rattle.assembly_laws.specs.Candidates.{by_rule}
+use Rattle.goal_evaluator.specs.declared.candidate.CandidateSource.TheVariants.{BuiltinImpl}
+use Rattle.goal_evaluator.specs.StepReadings.{equation_read}
+use Rattle.candidate_model.specs.Candidates.{by_rule}
 use Rattle.built_in_candidates.specs.Goals.{asked_of}
 use Rattle.built_in_candidates.proofs.Asking.{asked-later}
 use Rattle.built_in_candidates.proofs.upcast.equated_candidate.Goals as goal

@@ -1,10 +1,10 @@
 use Rattle.std.proofs.Common.{[], sym, ap, ◌∙◌, Some}
 use Rattle.std.specs.Prelude.{option_map}
 use Rattle.std.specs.List.{slice_get}
-use Rattle.evaluation.specs.Merge.{if_there}
+use Rattle.goal_evaluator.specs.Merge.{if_there}
 use Rattle.declarations.specs.Items.{reference_in}
 use Rattle.declarations.specs.Applied.{references_in}
-use Rattle.assembly_laws.specs.Candidates.{upcasts_to}
+use Rattle.candidate_model.specs.Candidates.{upcasts_to}
 use Rattle.built_in_candidates.specs.Goals.{asked_of}
 use Rattle.built_in_candidates.proofs.Objects.{by_upcast, upcast-at}
 use Rattle.built_in_candidates.proofs.upcast.upcast_candidate.Goals as goal

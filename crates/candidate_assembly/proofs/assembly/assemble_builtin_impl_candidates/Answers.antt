@@ -1,8 +1,8 @@
 use Rattle.std.proofs.Common.{◌≡◌, ◌∙◌, ap, Option, option_map}
 use Rattle.std.specs.List.{slice_get}
-use Rattle.evaluation.specs.declared.candidate.CandidateSpec.{CandidateSpec}
+use Rattle.goal_evaluator.specs.declared.candidate.CandidateSpec.{CandidateSpec}
 use Rattle.declarations.specs.Items.{written}
-use Rattle.assembly_laws.specs.Candidates.{built_in}
+use Rattle.candidate_model.specs.Candidates.{built_in}
 use Rattle.candidate_assembly.specs.Counted.{ForEachPast, count_from}
 use Rattle.built_in_candidates.specs.Goals.{asked_of, candidate_of}
 use Rattle.candidate_assembly.specs.Sections.{considered_from, is_built_in, misc_is_bound}

@@ -1,10 +1,10 @@
 use Rattle.std.proofs.Common.{◌≡◌, ◌∙◌, ap, Option, option_map}
 use Rattle.std.specs.List.{slice_get}
 use Rattle.type_terms.specs.Promised.Worlds.{World}
-use Rattle.evaluation.specs.declared.candidate.CandidateSpec.{CandidateSpec}
-use Rattle.assembly_laws.specs.Asking.{clauses}
-use Rattle.assembly_laws.specs.Candidates.{by_clauses}
-use Rattle.assembly_laws.specs.Solver.{is_clause}
+use Rattle.goal_evaluator.specs.declared.candidate.CandidateSpec.{CandidateSpec}
+use Rattle.candidate_model.specs.Asking.{clauses}
+use Rattle.candidate_model.specs.Candidates.{by_clauses}
+use Rattle.candidate_model.specs.Solver.{is_clause}
 use Rattle.candidate_assembly.specs.Counted.{ForEachPast}
 use Rattle.built_in_candidates.specs.Goals.{asked_of, candidate_of}
 use Rattle.candidate_assembly.specs.Sections.{considered_from}

@@ -1,9 +1,9 @@
 use Rattle.std.proofs.Common.{◌≡◌, ◌⊎◌, inl, inr, sym, ◌∙◌, ap, Option, None}
 use Rattle.type_terms.specs.declared.ImplId.{ImplId}
-use Rattle.evaluation.specs.declared.candidate.BuiltinImplSource.{BuiltinImplSource}
-use Rattle.evaluation.specs.declared.candidate.CandidateSource.{CandidateSource}
-use Rattle.evaluation.specs.declared.candidate.CandidateSource.TheVariants.{BuiltinImpl, ParamEnv, CoherenceUnknowable}
-use Rattle.evaluation.specs.declared.candidate.ParamEnvSource.{ParamEnvSource}
+use Rattle.goal_evaluator.specs.declared.candidate.BuiltinImplSource.{BuiltinImplSource}
+use Rattle.goal_evaluator.specs.declared.candidate.CandidateSource.{CandidateSource}
+use Rattle.goal_evaluator.specs.declared.candidate.CandidateSource.TheVariants.{BuiltinImpl, ParamEnv, CoherenceUnknowable}
+use Rattle.goal_evaluator.specs.declared.candidate.ParamEnvSource.{ParamEnvSource}
 use Rattle.candidate_assembly.specs.Counted.{last_from}
 use Rattle.candidate_assembly.specs.Sections.{impl_or}
 use Rattle.candidate_assembly.proofs.Counted.{last-behind}

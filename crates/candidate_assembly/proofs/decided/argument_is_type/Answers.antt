@@ -1,6 +1,6 @@
 use Rattle.std.proofs.Common.{◌∙◌, false}
 use Rattle.type_terms.specs.declared.kinds.GenericArgKind.TheVariants.{Lifetime, Ty, Const}
-use Rattle.assembly_laws.specs.Asking.{begins_with_type}
+use Rattle.candidate_model.specs.Asking.{begins_with_type}
 use Rattle.candidate_assembly.proofs.Firsts.{first-is, first-type, first-region, first-const, begins-alone, begins-other}
 use Rattle.candidate_assembly.proofs.decided.argument_is_type.Goals as goal
 

@@ -3,7 +3,7 @@ use Rattle.type_terms.specs.Promised.Handles.{trees_at}
 use Rattle.type_terms.specs.Promised.Handles.{region_trees}
 use Rattle.type_terms.specs.Made.{terms, is_made}
 use Rattle.infer_table.specs.Goals.{clause_terms}
-use Rattle.evaluation.specs.Variables.{is_variable_over}
+use Rattle.goal_evaluator.specs.Variables.{is_variable_over}
 use Rattle.candidate_assembly.proofs.Finding.{made-then, region-made}
 use Rattle.candidate_assembly.proofs.decided.clause_is_over.Goals as goal
 

@@ -1,6 +1,6 @@
 use Rattle.std.proofs.Common.{◌≡◌, length}
 use Rattle.infer_table.specs.Goals.{ClausesHeld, environment_trees}
-use Rattle.assembly_laws.specs.Asking.{are_clauses}
+use Rattle.candidate_model.specs.Asking.{are_clauses}
 use Rattle.candidate_assembly.proofs.decided.clauses_are_over.Given as goal
 
 abbrev pub invariant-clauses : goal.invariant-clauses

@@ -2,8 +2,8 @@ use Rattle.std.proofs.Common.{sym, ap, ◌∙◌, false}
 use Rattle.type_terms.specs.Promised.Handles.{trees_at}
 use Rattle.type_terms.specs.Made.{terms, is_made}
 use Rattle.infer_table.specs.Goals.{environment_trees}
-use Rattle.evaluation.specs.Variables.{is_variable_over}
-use Rattle.assembly_laws.specs.Asking.{are_clauses}
+use Rattle.goal_evaluator.specs.Variables.{is_variable_over}
+use Rattle.candidate_model.specs.Asking.{are_clauses}
 use Rattle.candidate_assembly.proofs.Deciding.{asked-by, not-over, all-over}
 use Rattle.candidate_assembly.proofs.decided.is_asked.Goals as goal
 

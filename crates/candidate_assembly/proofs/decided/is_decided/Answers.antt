@@ -1,6 +1,6 @@
 use Rattle.std.proofs.Common.{sym, ap, ◌∙◌, Some, None, if◌then◌else◌}
 use Rattle.type_terms.specs.Promised.Handles.{trees_at}
-use Rattle.assembly_laws.specs.Asking.{begins_unknown, with_plain_head}
+use Rattle.candidate_model.specs.Asking.{begins_unknown, with_plain_head}
 use Rattle.built_in_candidates.specs.Goals.{asked_of}
 use Rattle.candidate_assembly.proofs.Deciding.{decided-fits, decided-is}
 use Rattle.candidate_assembly.proofs.decided.is_decided.Goals as goal

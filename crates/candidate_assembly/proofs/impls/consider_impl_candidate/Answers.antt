@@ -12,12 +12,12 @@ use Rattle.infer_table.specs.declared.canonical.CanonicalVarKind.{CanonicalVarKi
 use Rattle.infer_table.specs.declared.certainty.Certainty.TheVariants.{Yes}
 use Rattle.infer_table.proofs.Numbers.{goal-held-later}
 use Rattle.infer_table.proofs.StepFacts.{keeps-trans}
-use Rattle.evaluation.specs.declared.candidate.CandidateSource.{CandidateSource}
-use Rattle.evaluation.specs.declared.candidate.CandidateSource.TheVariants.{Impl}
-use Rattle.evaluation.specs.FrameTables.{Nested, Equation}
+use Rattle.goal_evaluator.specs.declared.candidate.CandidateSource.{CandidateSource}
+use Rattle.goal_evaluator.specs.declared.candidate.CandidateSource.TheVariants.{Impl}
+use Rattle.goal_evaluator.specs.FrameTables.{Nested, Equation}
 use Rattle.declarations.specs.Items.{reference_in}
 use Rattle.declarations.specs.Applied.{references_in, TraitRefsHeld}
-use Rattle.assembly_laws.specs.Candidates.{Candidate, all_equal, rules_behind, premise}
+use Rattle.candidate_model.specs.Candidates.{Candidate, all_equal, rules_behind, premise}
 use Rattle.built_in_candidates.specs.Goals.{asked_of}
 use Rattle.built_in_candidates.proofs.Asking.{asked-later}
 use Rattle.declarations.proofs.Bounded.{all-same}

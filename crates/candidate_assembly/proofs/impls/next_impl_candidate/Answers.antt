@@ -1,6 +1,6 @@
 use Rattle.std.proofs.Common.{◌≡◌, sym, ap, ◌∙◌, Some}
 use Rattle.declarations.specs.Items.{written, impl_in}
-use Rattle.assembly_laws.specs.Candidates.{by_the_impl}
+use Rattle.candidate_model.specs.Candidates.{by_the_impl}
 use Rattle.built_in_candidates.specs.Goals.{asked_of}
 use Rattle.candidate_assembly.specs.Headers.{CanBeCandidate}
 use Rattle.candidate_assembly.proofs.Walking.{no-next, one-next, none-of-number, one-of-number, at-number}

@@ -4,7 +4,7 @@ use Rattle.infer_table.specs.declared.canonical.CanonicalVarKind.TheVariants.{Ty
 use Rattle.infer_table.specs.Values.{values_of, values-later}
 use Rattle.infer_table.proofs.Values.{values-push}
 use Rattle.type_terms.proofs.FailFacts.{at-limit}
-use Rattle.evaluation.proofs.Shortages.{some-kind}
+use Rattle.goal_evaluator.proofs.Shortages.{some-kind}
 use Rattle.type_terms.proofs.Grown.{grew-on}
 use Rattle.candidate_assembly.proofs.Variables.{one-more-behind}
 use Rattle.candidate_assembly.proofs.instances.variables_behind.Goals as goal

@@ -1,7 +1,7 @@
 use Rattle.std.proofs.Common.{◌≡◌, ℕ, suc, ◌+◌, arith, ap, ◌∙◌}
 use Rattle.std.specs.List.{slice_get}
 use Rattle.declarations.specs.Items.{written}
-use Rattle.assembly_laws.specs.Candidates.{by_impls}
+use Rattle.candidate_model.specs.Candidates.{by_impls}
 use Rattle.candidate_assembly.proofs.InOrder.{goes-on, begins}
 use Rattle.candidate_assembly.proofs.laws.walks_meet_all_impls.Goals as goal
 

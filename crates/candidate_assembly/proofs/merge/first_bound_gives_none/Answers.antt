@@ -1,7 +1,7 @@
 use Rattle.std.proofs.Common.{false, map, sym, ◌∙◌, ap}
 use Rattle.infer_table.specs.Values.{values_of}
-use Rattle.evaluation.specs.Responses.{is_identity_modulo_regions}
-use Rattle.evaluation.specs.StepReadings.{shown_by}
+use Rattle.goal_evaluator.specs.Responses.{is_identity_modulo_regions}
+use Rattle.goal_evaluator.specs.StepReadings.{shown_by}
 use Rattle.candidate_assembly.specs.Shown.{first_bound_gives_none}
 use Rattle.candidate_assembly.proofs.Ends.{bound-here}
 use Rattle.candidate_assembly.proofs.merge.first_bound_gives_none.Goals as goal

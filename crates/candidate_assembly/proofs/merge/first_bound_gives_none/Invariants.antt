@@ -1,7 +1,7 @@
 use Rattle.std.proofs.Common.{◌≡◌, false, map, drop}
-use Rattle.evaluation.specs.Readings.{ConsideredHeld}
+use Rattle.goal_evaluator.specs.Readings.{ConsideredHeld}
 use Rattle.goal_frames.specs.Fitting.{ConsideredFits}
-use Rattle.evaluation.specs.StepReadings.{shown_by}
+use Rattle.goal_evaluator.specs.StepReadings.{shown_by}
 use Rattle.candidate_assembly.specs.Shown.{first_bound_gives_none}
 use Rattle.candidate_assembly.proofs.merge.first_bound_gives_none.Given as goal
 

@@ -1,6 +1,6 @@
 use Rattle.std.proofs.Common.{◌&&◌, sym, ◌∙◌, ap}
 use Rattle.infer_table.specs.Certainties.{is_certain}
-use Rattle.evaluation.specs.Responses.{says_nothing}
+use Rattle.goal_evaluator.specs.Responses.{says_nothing}
 use Rattle.goal_frames.proofs.Merging.{always-is}
 use Rattle.candidate_assembly.proofs.merge.is_always_applicable.Goals as goal
 

@@ -1,13 +1,13 @@
 use Rattle.std.proofs.Common.{◌≡◌, sym, ◌∙◌, ap, subst, Some}
 use Rattle.std.specs.Prelude.{IfSome}
 use Rattle.infer_table.specs.Responses.{answer_trees}
-use Rattle.evaluation.specs.Merge.{merge_or_flounder}
-use Rattle.evaluation.specs.TableAnswers.{IsWellFormed}
-use Rattle.evaluation.specs.TableOperations.{begin}
-use Rattle.evaluation.specs.Tables.{frame_tables}
+use Rattle.goal_evaluator.specs.Merge.{merge_or_flounder}
+use Rattle.goal_evaluator.specs.TableAnswers.{IsWellFormed}
+use Rattle.goal_evaluator.specs.TableOperations.{begin}
+use Rattle.goal_evaluator.specs.Tables.{frame_tables}
 use Rattle.goal_frames.specs.Handlers.{same_answer, applies_always}
 use Rattle.goal_frames.specs.Merges.{responses_of, merge_of}
-use Rattle.evaluation.specs.StepReadings.{result_read}
+use Rattle.goal_evaluator.specs.StepReadings.{result_read}
 use Rattle.goal_frames.proofs.Collecting.{collected-held, collected-fit, collected-trees, one-end}
 use Rattle.goal_frames.proofs.Merging.{answer-fits}
 use Rattle.candidate_assembly.specs.Merging.{from_sources}

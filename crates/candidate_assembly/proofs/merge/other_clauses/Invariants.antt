@@ -1,6 +1,6 @@
 use Rattle.std.proofs.Common.{◌≡◌, ◌++◌, List, map, drop}
 use Rattle.type_terms.specs.Promised.Handles.{Entry}
-use Rattle.evaluation.specs.StepReadings.{shown_by}
+use Rattle.goal_evaluator.specs.StepReadings.{shown_by}
 use Rattle.candidate_assembly.specs.Shown.{other_clauses}
 use Rattle.candidate_assembly.proofs.merge.other_clauses.Given as goal
 

@@ -1,5 +1,5 @@
 use Rattle.std.proofs.Common.{◌≡◌, ◌++◌, map, drop}
-use Rattle.evaluation.specs.Responses.{content}
+use Rattle.goal_evaluator.specs.Responses.{content}
 use Rattle.goal_frames.specs.Merges.{responses_of}
 use Rattle.candidate_assembly.specs.Merging.{from_sources}
 use Rattle.candidate_assembly.proofs.merge.responses_from.Given as goal

@@ -1,5 +1,5 @@
 use Rattle.std.proofs.Common.{ap, ◌∙◌, sym, if◌then◌else◌}
-use Rattle.evaluation.specs.declared.candidate.ParamEnvSource.TheVariants.{Global, NonGlobal}
+use Rattle.goal_evaluator.specs.declared.candidate.ParamEnvSource.TheVariants.{Global, NonGlobal}
 use Rattle.candidate_assembly.proofs.param_env.clause_source.Goals as goal
 
 pub returns-then-has_open_places : goal.returns-then-has_open_places

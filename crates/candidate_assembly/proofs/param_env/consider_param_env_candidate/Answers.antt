@@ -2,10 +2,10 @@ use Rattle.std.proofs.Common.{[], map, ap, sym, ◌∙◌, subst, Some}
 use Rattle.std.specs.Prelude.{option_map}
 use Rattle.std.specs.List.{slice_get}
 use Rattle.infer_table.proofs.Numbers.{goal-held-later}
-use Rattle.evaluation.specs.declared.candidate.CandidateSource.TheVariants.{ParamEnv}
-use Rattle.evaluation.specs.StepReadings.{equation_read}
+use Rattle.goal_evaluator.specs.declared.candidate.CandidateSource.TheVariants.{ParamEnv}
+use Rattle.goal_evaluator.specs.StepReadings.{equation_read}
 use Rattle.declarations.specs.Applied.{TraitRefsHeld}
-use Rattle.assembly_laws.specs.Candidates.{by_rule, all_equal}
+use Rattle.candidate_model.specs.Candidates.{by_rule, all_equal}
 use Rattle.type_terms.specs.Promised.Handles.{trees_at}
 use Rattle.built_in_candidates.specs.Goals.{asked_of}
 use Rattle.candidate_assembly.specs.Clauses.{references_to}

@@ -2,7 +2,7 @@ use Rattle.std.proofs.Common.{ap, ◌∙◌}
 use Rattle.std.specs.List.{slice_get}
 use Rattle.std.proofs.lemmas.Result.{IfOk-weaker}
 use Rattle.declarations.specs.Items.{written}
-use Rattle.assembly_laws.specs.Candidates.{by_objects}
+use Rattle.candidate_model.specs.Candidates.{by_objects}
 use Rattle.candidate_assembly.specs.Counted.{is_of, count_from}
 use Rattle.built_in_candidates.specs.Goals.{asked_of}
 use Rattle.candidate_assembly.specs.Sections.{is_bound, misc_is_bound}

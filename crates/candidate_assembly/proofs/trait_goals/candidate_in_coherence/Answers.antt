@@ -1,9 +1,9 @@
 use Rattle.std.proofs.Common.{not, ◌&&◌, false, sym, ◌∙◌, Some}
 use Rattle.std.proofs.lemmas.Result.{IfOk-weaker}
 use Rattle.declarations.specs.Items.{written}
-use Rattle.assembly_laws.specs.Candidates.{unknowable}
-use Rattle.assembly_laws.specs.Knowing.{is_knowable}
-use Rattle.assembly_laws.specs.Solver.{holds_from}
+use Rattle.candidate_model.specs.Candidates.{unknowable}
+use Rattle.candidate_model.specs.Knowing.{is_knowable}
+use Rattle.candidate_model.specs.Solver.{holds_from}
 use Rattle.built_in_candidates.specs.Goals.{asked_of}
 use Rattle.candidate_assembly.specs.Nexts.{until}
 use Rattle.candidate_assembly.specs.Sections.{is_first, is_unknowable}

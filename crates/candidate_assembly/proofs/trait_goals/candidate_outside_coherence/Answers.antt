@@ -1,6 +1,6 @@
 use Rattle.std.proofs.Common.{if◌then◌else◌, ◌∙◌, ap, None}
 use Rattle.std.proofs.lemmas.Result.{IfOk-weaker}
-use Rattle.evaluation.specs.Merge.{or_else}
+use Rattle.goal_evaluator.specs.Merge.{or_else}
 use Rattle.candidate_assembly.specs.Nexts.{early_in, late_in}
 use Rattle.candidate_assembly.proofs.Settled.{settled-is}
 use Rattle.candidate_assembly.proofs.trait_goals.candidate_outside_coherence.Goals as goal

@@ -1,7 +1,7 @@
 use Rattle.std.proofs.Common.{sym, ◌∙◌, ap, option_map}
 use Rattle.std.proofs.lemmas.Result.{IfOk-weaker}
-use Rattle.evaluation.specs.Plans.{wanted}
-use Rattle.evaluation.specs.Tables.{frame_tables}
+use Rattle.goal_evaluator.specs.Plans.{wanted}
+use Rattle.goal_evaluator.specs.Tables.{frame_tables}
 use Rattle.goal_frames.proofs.Later.{shown-later, considered-later, considered-fits-later}
 use Rattle.declarations.specs.Items.{written}
 use Rattle.built_in_candidates.specs.Goals.{candidate_of}

@@ -3,9 +3,9 @@ use Rattle.std.specs.List.{slice_get}
 use Rattle.std.proofs.lemmas.Result.{IfOk-weaker}
 use Rattle.type_terms.proofs.Grown.{grew-on}
 use Rattle.declarations.specs.Items.{written}
-use Rattle.assembly_laws.specs.Asking.{clauses}
-use Rattle.assembly_laws.specs.Candidates.{by_clauses, built_in}
-use Rattle.assembly_laws.specs.Solver.{is_clause}
+use Rattle.candidate_model.specs.Asking.{clauses}
+use Rattle.candidate_model.specs.Candidates.{by_clauses, built_in}
+use Rattle.candidate_model.specs.Solver.{is_clause}
 use Rattle.built_in_candidates.specs.Goals.{asked_of, candidate_of}
 use Rattle.candidate_assembly.specs.Sections.{considered_from, is_built_in, misc_is_bound}
 use Rattle.candidate_assembly.proofs.DecidedGoals.{can-be, object, unsizing, decided-later, past-later, first-of, second-of}

@@ -1,8 +1,8 @@
 use Rattle.std.proofs.Common.{◌≡◌, map, drop}
 use Rattle.std.specs.List.{list_any}
-use Rattle.evaluation.specs.Readings.{ConsideredHeld}
+use Rattle.goal_evaluator.specs.Readings.{ConsideredHeld}
 use Rattle.goal_frames.specs.Fitting.{ConsideredFits}
-use Rattle.evaluation.specs.StepReadings.{shown_by}
+use Rattle.goal_evaluator.specs.StepReadings.{shown_by}
 use Rattle.candidate_assembly.proofs.Settled.{settles_at}
 use Rattle.candidate_assembly.proofs.trait_goals.is_settled.Given as goal
 

@@ -1,6 +1,6 @@
 use Rattle.std.proofs.Common.{true, false, ◌==◌, length, refl, sym, ◌∙◌, ap}
 use Rattle.infer_table.specs.Values.{values_of}
-use Rattle.evaluation.specs.Responses.{is_identity_modulo_regions}
+use Rattle.goal_evaluator.specs.Responses.{is_identity_modulo_regions}
 use Rattle.candidate_assembly.proofs.Settled.{says-is}
 use Rattle.candidate_assembly.proofs.trait_goals.says_nothing.Goals as goal
 

@@ -1,5 +1,5 @@
 use Rattle.std.proofs.Common.{if◌then◌else◌, sym, ◌∙◌, ap, Some, None}
-use Rattle.assembly_laws.specs.Candidates.{unsure}
+use Rattle.candidate_model.specs.Candidates.{unsure}
 use Rattle.candidate_assembly.proofs.DecidedGoals.{first-is}
 use Rattle.candidate_assembly.proofs.trait_goals.undecided_candidate.Goals as goal
 

@@ -6,15 +6,15 @@ use Rattle.infer_table.specs.declared.certainty.MaybeCause.TheVariants.{Ambiguit
 use Rattle.infer_table.specs.Constraints.{constraints_trees}
 use Rattle.infer_table.specs.Content.{AllConstraintsHeld}
 use Rattle.infer_table.proofs.Numbers.{goal-held-later}
-use Rattle.evaluation.specs.Lists.{Every}
-use Rattle.evaluation.specs.Readings.{EquationHeld}
-use Rattle.evaluation.specs.declared.candidate.CandidateSource.TheVariants.{CoherenceUnknowable}
-use Rattle.evaluation.specs.FrameTables.{Nested, Equation}
-use Rattle.evaluation.specs.StepReadings.{equation_read}
+use Rattle.goal_evaluator.specs.Lists.{Every}
+use Rattle.goal_evaluator.specs.Readings.{EquationHeld}
+use Rattle.goal_evaluator.specs.declared.candidate.CandidateSource.TheVariants.{CoherenceUnknowable}
+use Rattle.goal_evaluator.specs.FrameTables.{Nested, Equation}
+use Rattle.goal_evaluator.specs.StepReadings.{equation_read}
 use Rattle.type_terms.specs.Promised.Rules.{is_coinductive}
 use Rattle.declarations.specs.Items.{written}
 use Rattle.declarations.specs.Applied.{references_in, TraitRefsHeld}
-use Rattle.assembly_laws.specs.Candidates.{Candidate, premise}
+use Rattle.candidate_model.specs.Candidates.{Candidate, premise}
 use Rattle.built_in_candidates.specs.Goals.{asked_of}
 use Rattle.built_in_candidates.proofs.Asking.{asked-later}
 use Rattle.candidate_assembly.proofs.unknowable.consider_coherence_unknowable_candidate.Goals as goal

@@ -3,8 +3,8 @@ use Rattle.std.specs.Prelude.{IfSome}
 use Rattle.proof_checker.specs.Steps.{term_of}
 use Rattle.proof_checker.proofs.Later.{term-same}
 use Rattle.sessions.specs.Promised.Promises.{view_in}
-use Rattle.session_walks.specs.Rules.{HasRulesByBoth}
-use Rattle.session_walks.specs.Walked.{PairWalkHeld}
+use Rattle.explain_sessions.specs.Rules.{HasRulesByBoth}
+use Rattle.explain_sessions.specs.Walked.{PairWalkHeld}
 use Rattle.celtisdarts_explain.proofs.Staying.{same-view}
 use Rattle.celtisdarts_explain.proofs.overlaps.overlap.Goals as goal
 

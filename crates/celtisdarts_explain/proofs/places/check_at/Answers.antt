@@ -1,4 +1,4 @@
-use Rattle.text_definitions.specs.Promised.Declarations.{of_later}
+use Rattle.text_language.specs.Promised.Declarations.{of_later}
 use Rattle.workspace.specs.declared.declared.Check.TheVariants.{Later}
 use Rattle.celtisdarts_explain.proofs.TextPlaces.{check-at}
 use Rattle.celtisdarts_explain.proofs.places.check_at.Goals as goal

@@ -1,6 +1,6 @@
 use Rattle.std.proofs.Common.{◌∙◌, ◌<◌, ap, arith, length, subst, sym}
 use Rattle.std.specs.Prelude.{IfSome}
-use Rattle.text_definitions.specs.Promised.Declarations.{Declarations}
+use Rattle.text_language.specs.Promised.Declarations.{Declarations}
 use Rattle.workspace.specs.Numbered.{IsFew}
 use Rattle.workspace.specs.Tables.{with_question}
 use Rattle.workspace.specs.Unasked.{without_last_question}

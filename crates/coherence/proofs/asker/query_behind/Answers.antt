@@ -1,5 +1,5 @@
 use Rattle.std.proofs.Common.{◌≡◌, true, arith, rules, subst, sym}
-use Rattle.text_definitions.specs.Promised.Declarations.{Declarations}
+use Rattle.text_language.specs.Promised.Declarations.{Declarations}
 use Rattle.workspace.specs.Numbered.{IsFew}
 use Rattle.coherence.specs.declared.ask_fault.AskFault.TheVariants.{Memory}
 use Rattle.coherence.proofs.Asking.{handed-shortage, query-at, shortages-are}

@@ -1,6 +1,6 @@
 use Rattle.std.proofs.Common.{ap, length, sym, ◌∙◌, ℕ, Bool, arith}
 use Rattle.std.proofs.lemmas.List.{length-map}
-use Rattle.text_definitions.specs.Promised.Declarations.{Question}
+use Rattle.text_language.specs.Promised.Declarations.{Question}
 use Rattle.workspace.specs.Views.{asked_of, check_of}
 use Rattle.coherence.proofs.kept.no_lines.Goals as goal
 

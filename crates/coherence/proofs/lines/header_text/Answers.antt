@@ -4,9 +4,9 @@ use Rattle.std.proofs.lemmas.Option.{slice_get_read}
 use Rattle.std.specs.List.{slice_get}
 use Rattle.std.specs.Option.{option_map_or}
 use Rattle.type_terms.specs.Promised.Label.{Sort}
-use Rattle.text_definitions.specs.Promised.Declarations.{NamedImpl}
-use Rattle.text_definitions.specs.Names.{header_names}
-use Rattle.text_definitions.specs.Output.{type_text}
+use Rattle.text_language.specs.Promised.Declarations.{NamedImpl}
+use Rattle.text_language.specs.Names.{header_names}
+use Rattle.text_language.specs.Output.{type_text}
 use Rattle.type_terms.specs.Promised.Handles.{trees_at}
 use Rattle.workspace.specs.declared.declared.ImplEntry.{ImplEntry}
 use Rattle.workspace.specs.Views.{impl_of, sorted_params}

@@ -1,10 +1,10 @@
 use Rattle.std.proofs.Common.{◌≡◌, List, length, map, refl, sym, ap, ◌∙◌, arith}
 use Rattle.std.proofs.lemmas.List.{length-map}
 use Rattle.std.proofs.lemmas.Option.{same_Some, slice_get_read, slice_get_within}
-use Rattle.answer_lines.specs.Answers.{value_of}
-use Rattle.text_definitions.specs.Promised.Declarations.{Question}
-use Rattle.text_definitions.specs.Names.{answer_values}
-use Rattle.text_definitions.specs.Output as output
+use Rattle.text_printer.specs.Answers.{value_of}
+use Rattle.text_language.specs.Promised.Declarations.{Question}
+use Rattle.text_language.specs.Names.{answer_values}
+use Rattle.text_language.specs.Output as output
 use Rattle.type_terms.specs.Promised.Handles.{arg_trees}
 use Rattle.workspace.specs.Views.{question_of}
 use Rattle.coherence.proofs.ErasedValues.{values-same}

@@ -1,6 +1,6 @@
-use Rattle.evaluation.specs.Tables.{frame_tables}
-use Rattle.evaluation.proofs.FrameTableLaws.{tables_are_lawful}
-use Rattle.evaluation.proofs.Ends.{yes_follows, covers_goal, is_bounded, keeps_number, ignores_finished}
+use Rattle.goal_evaluator.specs.Tables.{frame_tables}
+use Rattle.goal_evaluator.proofs.FrameTableLaws.{tables_are_lawful}
+use Rattle.goal_evaluator.proofs.Ends.{yes_follows, covers_goal, is_bounded, keeps_number, ignores_finished}
 use Rattle.goal_frames.proofs.Falling.{steps_fall}
 use Rattle.goal_frames.proofs.handler.frames_keep_promises.Goals as goal
 

@@ -1,12 +1,12 @@
 use Rattle.std.proofs.Common.{map, sym, ◌∙◌, ap, option_map}
 use Rattle.infer_table.specs.Responses.{answer_trees}
-use Rattle.evaluation.specs.Merge.{merge_by, flounder}
-use Rattle.evaluation.specs.Responses.{content}
-use Rattle.evaluation.proofs.Shortages.{kind-at-limit}
-use Rattle.evaluation.specs.TableOperations.{begin}
-use Rattle.evaluation.specs.Tables.{frame_tables}
+use Rattle.goal_evaluator.specs.Merge.{merge_by, flounder}
+use Rattle.goal_evaluator.specs.Responses.{content}
+use Rattle.goal_evaluator.proofs.Shortages.{kind-at-limit}
+use Rattle.goal_evaluator.specs.TableOperations.{begin}
+use Rattle.goal_evaluator.specs.Tables.{frame_tables}
 use Rattle.goal_frames.specs.Handlers.{same_answer, applies_always}
-use Rattle.evaluation.specs.StepReadings.{result_read}
+use Rattle.goal_evaluator.specs.StepReadings.{result_read}
 use Rattle.goal_frames.proofs.Merging.{response_of, response-content, merged-held, merged-trees, taken, floundered-result}
 use Rattle.goal_frames.proofs.merge.merged.Goals as goal
 

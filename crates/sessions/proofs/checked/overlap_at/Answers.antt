@@ -3,7 +3,7 @@ use Rattle.std.specs.Prelude.{IfSome}
 use Rattle.sessions.specs.Checking.{IsFoundAt, IsJudgedAt, solving_in}
 use Rattle.sessions.specs.Promised.Promises.{view_in}
 use Rattle.sessions.proofs.PairChecks.{apart-passes, judged}
-use Rattle.solver_context.proofs.Growing.{limits-further}
+use Rattle.solver_graph.proofs.Growing.{limits-further}
 use Rattle.sessions.proofs.Keeping.{limits-searched}
 use Rattle.sessions.proofs.ShortCalls.{handed-by-terms}
 use Rattle.sessions.proofs.checked.overlap_at.Goals as goal

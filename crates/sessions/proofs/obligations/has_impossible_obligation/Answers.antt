@@ -6,7 +6,7 @@ use Rattle.declarations.specs.Held.{ReferenceHeld}
 use Rattle.declarations.specs.Promised.Elaboration.{Each}
 use Rattle.declarations.proofs.Growth.{references-kept}
 use Rattle.search_graph.proofs.Graphs.{Keeps-trans}
-use Rattle.solver_context.specs.Searching.{solver_meaning}
+use Rattle.solver_graph.specs.Searching.{solver_meaning}
 use Rattle.sessions.specs.Impossible.{IsImpossible, SearchLeavesOpen}
 use Rattle.sessions.proofs.ImpossibleAlone.{open-before, impossible-before}
 use Rattle.sessions.proofs.Lists.{each-then, in-list, of-first, of-second}

@@ -5,7 +5,7 @@ use Rattle.infer_table.specs.Content.{Ready}
 use Rattle.infer_table.specs.Kept.{ready-later}
 use Rattle.declarations.specs.Held.{ReferenceHeld}
 use Rattle.search_graph.proofs.Graphs.{Keeps-trans}
-use Rattle.solver_context.specs.Searching.{solver_meaning}
+use Rattle.solver_graph.specs.Searching.{solver_meaning}
 use Rattle.sessions.specs.Impossible.{SearchLeavesOpen}
 use Rattle.sessions.proofs.ImpossibleAlone.{open-before, impossible-before}
 use Rattle.sessions.proofs.Lists.{each-here, in-here, each-more}

@@ -3,8 +3,8 @@ use Rattle.type_terms.specs.Promised.Handles.{Keeps}
 use Rattle.declarations.specs.Promised.Elaboration.{Each}
 use Rattle.search_graph.specs.Cache.{AreJustified, AreConsistent, KeepsResults}
 use Rattle.search_graph.specs.Meaning as Search
-use Rattle.solver_context.specs.Contexts.{IsReady}
-use Rattle.solver_context.specs.Searching.{solver_meaning}
+use Rattle.solver_graph.specs.Contexts.{IsReady}
+use Rattle.solver_graph.specs.Searching.{solver_meaning}
 use Rattle.sessions.specs.Impossible.{SearchLeavesOpen}
 use Rattle.sessions.proofs.obligations.some_is_impossible.Given as goal
 

@@ -1,7 +1,7 @@
 use Rattle.std.proofs.Common.{ap, Err, arith}
 use Rattle.type_terms.specs.Promised.Handles.{types, consts}
 use Rattle.type_terms.proofs.FailFacts.{refused-term}
-use Rattle.solver_context.proofs.Shortages.{handed}
+use Rattle.solver_graph.proofs.Shortages.{handed}
 use Rattle.sessions.proofs.placeholders.placeholder_for_param.Goals as goal
 
 pub returns-in_err-ty-in-Type-clause-terms : goal.returns-in_err-ty-in-Type-clause-terms

@@ -13,7 +13,7 @@ use Rattle.sessions.specs.Placeholders.{placeholders_from}
 use Rattle.sessions.proofs.OpaqueTerms.{one-more-placeholder}
 use Rattle.type_terms.specs.Terms.{args_lists}
 use Rattle.type_terms.proofs.FailFacts.{refused-term}
-use Rattle.solver_context.proofs.Shortages.{at-error}
+use Rattle.solver_graph.proofs.Shortages.{at-error}
 use Rattle.sessions.proofs.ShortCalls.{when-err}
 use Rattle.sessions.proofs.placeholders.placeholders_for_item.Goals as goal
 use Rattle.type_terms.proofs.Items.{args-held-push}

@@ -7,7 +7,7 @@ use Rattle.sessions.proofs.Posing.{over-ok}
 use Rattle.infer_table.specs.Content.{Table}
 use Rattle.sessions.specs.Frames.{AskingsOf}
 use Rattle.sessions.specs.declared.settling.TheConstants.{MAX_ASKINGS}
-use Rattle.solver_context.proofs.Growing.{limits-further}
+use Rattle.solver_graph.proofs.Growing.{limits-further}
 use Rattle.sessions.proofs.Keeping.{limits-searched}
 use Rattle.std.proofs.lemmas.Result.{IfErr-weaker}
 use Rattle.sessions.proofs.ShortCalls.{full-of-terms}

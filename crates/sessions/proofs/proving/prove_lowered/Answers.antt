@@ -14,7 +14,7 @@ use Rattle.sessions.proofs.Posing.{over-ok, args-later, answer-is, same-asked}
 use Rattle.sessions.proofs.VariableKinds.{kinds-are}
 use Rattle.candidate_assembly.specs.SolverMeaning.{solver_by_view}
 use Rattle.sessions.proofs.FramesStarted.{asked-none, settles-same}
-use Rattle.solver_context.proofs.Growing.{limits-further}
+use Rattle.solver_graph.proofs.Growing.{limits-further}
 use Rattle.sessions.proofs.ShortCalls.{handed-by-terms}
 use Rattle.sessions.proofs.proving.prove_lowered.Goals as goal
 

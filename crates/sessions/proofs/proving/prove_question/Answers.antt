@@ -12,7 +12,7 @@ use Rattle.sessions.proofs.HandedOn.{handed-on, own-held, reference-later, refer
 use Rattle.candidate_assembly.specs.SolverMeaning.{solver_by_view}
 use Rattle.sessions.specs.Frames.{QuestionInFrames}
 use Rattle.sessions.proofs.FramesStarted.{asked-none}
-use Rattle.solver_context.proofs.Growing.{limits-further}
+use Rattle.solver_graph.proofs.Growing.{limits-further}
 use Rattle.sessions.proofs.ShortCalls.{handed-by-terms}
 use Rattle.sessions.proofs.proving.prove_question.Goals as goal
 

@@ -15,7 +15,7 @@ use Rattle.sessions.specs.Goals.{goal_of}
 use Rattle.sessions.proofs.Posing.{over-ok, args-later, goal-answered, goal-held, same-asked}
 use Rattle.candidate_assembly.specs.SolverMeaning.{solver_by_view}
 use Rattle.sessions.proofs.FramesStarted.{asked-none, settles-same}
-use Rattle.solver_context.proofs.Growing.{limits-further}
+use Rattle.solver_graph.proofs.Growing.{limits-further}
 use Rattle.sessions.proofs.ShortCalls.{handed-by-terms}
 use Rattle.sessions.proofs.proving.prove_under.Goals as goal
 

@@ -3,9 +3,9 @@ use Rattle.declarations.specs.Items.{reference_in}
 use Rattle.infer_table.specs.Responses.{AnswerTrees}
 use Rattle.infer_table.specs.declared.goal.Goal.{Goal}
 use Rattle.search_graph.specs.Plain.{IsNotPlain}
-use Rattle.solver_context.specs.Contexts.{Asked}
-use Rattle.solver_context.specs.Evaluations.{IsFoundBySearch}
-use Rattle.solver_context.specs.Searching.{solver_meaning}
+use Rattle.solver_graph.specs.Contexts.{Asked}
+use Rattle.solver_graph.specs.Evaluations.{IsFoundBySearch}
+use Rattle.solver_graph.specs.Searching.{solver_meaning}
 use Rattle.sessions.specs.Asking.{goal_alone}
 use Rattle.sessions.specs.Frames.{frames_for}
 use Rattle.sessions.proofs.Alone.{alone-is, asked-is, no-proof}

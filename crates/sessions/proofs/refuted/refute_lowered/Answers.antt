@@ -8,7 +8,7 @@ use Rattle.sessions.specs.Asking.{IsLeftOpen, IsRefusedAlone}
 use Rattle.sessions.specs.Frames.{StartsFramesOfOne}
 use Rattle.sessions.specs.Tables.{table_of}
 use Rattle.sessions.proofs.Alone.{clean-there, known-there, refused-there, reference-is, moved}
-use Rattle.solver_context.proofs.Growing.{limits-further}
+use Rattle.solver_graph.proofs.Growing.{limits-further}
 use Rattle.sessions.proofs.ShortCalls.{handed-by-terms}
 use Rattle.sessions.proofs.refuted.refute_lowered.Goals as goal
 

@@ -7,7 +7,7 @@ use Rattle.view_lowering.specs.Promised.SeenWorlds.{unbound_reference}
 use Rattle.sessions.specs.Asking.{HasNoProof, IsLeftOpen, IsRefusedAlone, goal_alone}
 use Rattle.sessions.specs.Frames.{StartsFramesOfOne}
 use Rattle.sessions.proofs.Alone.{on-ok}
-use Rattle.solver_context.proofs.Growing.{limits-further}
+use Rattle.solver_graph.proofs.Growing.{limits-further}
 use Rattle.sessions.proofs.ShortCalls.{handed-by-terms}
 use Rattle.sessions.proofs.refuted.refute_question.Goals as goal
 

@@ -2,9 +2,9 @@ use Rattle.std.proofs.Common.{◌∙◌, sym, inr, ap}
 use Rattle.infer_table.specs.Unification.{table_trees}
 use Rattle.infer_table.proofs.Numbers.{goal-held-later}
 use Rattle.std.proofs.Math.Nat.{le_refl}
-use Rattle.solver_context.proofs.WithoutCanonical.{evaluations-keep-out}
-use Rattle.solver_context.specs.Roots.{goal_in}
-use Rattle.solver_context.specs.declared.outcome.RootError.TheVariants as Root
+use Rattle.solver_graph.proofs.WithoutCanonical.{evaluations-keep-out}
+use Rattle.solver_graph.specs.Roots.{goal_in}
+use Rattle.solver_graph.specs.declared.outcome.RootError.TheVariants as Root
 use Rattle.sessions.proofs.Settled.{not-definite-changed, not-definite-unsure, ok-same, narrows-refused, clean-refused, proved-once}
 use Rattle.sessions.proofs.FrameBounds.{older-are-terms}
 use Rattle.sessions.proofs.settling.ask_once.Goals as goal

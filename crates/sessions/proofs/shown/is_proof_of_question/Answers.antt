@@ -9,7 +9,7 @@ use Rattle.proof_checker.specs.Steps.{terms_of}
 use Rattle.proof_checker.proofs.Impls.{terms-map}
 use Rattle.proof_checker.proofs.Later.{steps-kept}
 use Rattle.proof_checker.proofs.Results.{mapped}
-use Rattle.solver_context.proofs.Growing.{further}
+use Rattle.solver_graph.proofs.Growing.{further}
 use Rattle.candidate_assembly.specs.Ready.{AreReadyDeclarations}
 use Rattle.candidate_assembly.specs.declared.solver.Solver.{Solver}
 use Rattle.view_lowering.specs.Promised.SeenWorlds.{unbound_reference}

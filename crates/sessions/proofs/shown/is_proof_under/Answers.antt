@@ -4,7 +4,7 @@ use Rattle.type_terms.specs.Promised.Handles.{Entry}
 use Rattle.declarations.proofs.Growth.{reference-kept, references-kept}
 use Rattle.proof_checker.proofs.Later.{steps-kept}
 use Rattle.proof_checker.proofs.Results.{mapped}
-use Rattle.solver_context.proofs.Growing.{further}
+use Rattle.solver_graph.proofs.Growing.{further}
 use Rattle.candidate_assembly.specs.Ready.{AreReadyDeclarations}
 use Rattle.candidate_assembly.specs.declared.solver.Solver.{Solver}
 use Rattle.sessions.proofs.ShownProofs.{shown-under}

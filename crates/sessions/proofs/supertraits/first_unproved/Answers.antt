@@ -10,7 +10,7 @@ use Rattle.sessions.specs.Supertraits.{IsFirstTold, SolverTells}
 use Rattle.sessions.specs.declared.settling.Outcome.TheVariants.{Proved, Unproved, Maybe}
 use Rattle.sessions.proofs.HeaderChecks.{first-told, more-told, told-of}
 use Rattle.sessions.proofs.Lists.{each-here}
-use Rattle.solver_context.proofs.Growing.{limits-further}
+use Rattle.solver_graph.proofs.Growing.{limits-further}
 use Rattle.sessions.proofs.supertraits.first_unproved.Goals as goal
 
 pub ask_under-requires-clause-clauses : goal.ask_under-requires-clause-clauses

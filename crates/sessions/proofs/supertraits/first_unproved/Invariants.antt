@@ -3,7 +3,7 @@ use Rattle.type_terms.specs.Promised.Proofs.{Every}
 use Rattle.type_terms.specs.Promised.Handles.{Keeps}
 use Rattle.declarations.specs.Applied.{references_in}
 use Rattle.candidate_assembly.specs.Fitting.{solving_of}
-use Rattle.solver_context.specs.Contexts.{KeepsLimits}
+use Rattle.solver_graph.specs.Contexts.{KeepsLimits}
 use Rattle.sessions.specs.Proving.{SolvesTheSame}
 use Rattle.sessions.specs.Sessions.{SolverRests}
 use Rattle.sessions.specs.Supertraits.{SolverTells}

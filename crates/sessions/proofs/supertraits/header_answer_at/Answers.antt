@@ -4,7 +4,7 @@ use Rattle.candidate_assembly.specs.Fitting.{solving_of}
 use Rattle.sessions.specs.Supertraits.{AreOfOwn}
 use Rattle.sessions.proofs.HeaderChecks.{goals-checked, none-checked}
 use Rattle.sessions.proofs.Posing.{over-ok}
-use Rattle.solver_context.proofs.Growing.{limits-further}
+use Rattle.solver_graph.proofs.Growing.{limits-further}
 use Rattle.sessions.proofs.ShortCalls.{handed-by-terms}
 use Rattle.sessions.proofs.supertraits.header_answer_at.Goals as goal
 

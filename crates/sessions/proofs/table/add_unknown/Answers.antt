@@ -3,7 +3,7 @@ use Rattle.type_terms.specs.Promised.Handles.{types, consts}
 use Rattle.type_terms.specs.declared.kinds.GenericArgKind.{GenericArgKind}
 use Rattle.term_folds.specs.Arguments.{arg_sort}
 use Rattle.type_terms.proofs.FailFacts.{refused-term}
-use Rattle.solver_context.proofs.Shortages.{handed}
+use Rattle.solver_graph.proofs.Shortages.{handed}
 use Rattle.sessions.specs.Tables.{table_of}
 use Rattle.sessions.proofs.Counts.{one-more-type, one-more-const, one-more-lifetime}
 use Rattle.sessions.proofs.table.add_unknown.Goals as goal

@@ -3,7 +3,7 @@ use Rattle.std.proofs.lemmas.List.{length-map}
 use Rattle.std.proofs.lemmas.Option.{slice_get_read, slice_get-map}
 use Rattle.std.specs.Prelude.{◌==◌, slice_get}
 use Rattle.std.specs.Option.{option_map}
-use Rattle.text_definitions.specs.Promised.Declarations.{LaterImpl}
+use Rattle.text_language.specs.Promised.Declarations.{LaterImpl}
 use Rattle.declarations.specs.Heads.{begins_declared}
 use Rattle.workspace.specs.Views.{later_of}
 use Rattle.view_lowering.proofs.LaterImpls.{LaterAdded, each-kept, later-all, later-sorted, later-taken}

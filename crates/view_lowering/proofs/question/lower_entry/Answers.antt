@@ -1,5 +1,5 @@
 use Rattle.std.proofs.Common.{◌∙◌, ap, sym, subst, map}
-use Rattle.text_definitions.specs.Names.{own_from}
+use Rattle.text_language.specs.Names.{own_from}
 use Rattle.type_terms.specs.Promised.Handles.{Keeps}
 use Rattle.declarations.proofs.Growth.{reference-same, reference-kept, references-kept}
 use Rattle.declarations.proofs.Bounded.{all-same}

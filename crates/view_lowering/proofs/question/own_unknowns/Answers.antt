@@ -1,5 +1,5 @@
 use Rattle.std.proofs.Common.{◌∙◌, ◌+◌, ◌++◌, ◌∷◌, ap, sym, subst, map, drop, ◌≡◌, refl}
-use Rattle.text_definitions.specs.Names.{own_from}
+use Rattle.text_language.specs.Names.{own_from}
 use Rattle.type_terms.specs.Promised.Handles.{arg_trees, ArgsHeld}
 use Rattle.type_terms.proofs.Grown.{grew-on}
 use Rattle.workspace.specs.Views.{variable_of}

@@ -1,5 +1,5 @@
 use Rattle.std.proofs.Common.{◌≡◌, ◌++◌, map, drop}
-use Rattle.text_definitions.specs.Names.{own_from}
+use Rattle.text_language.specs.Names.{own_from}
 use Rattle.type_terms.specs.Promised.Handles.{arg_trees, ArgsHeld}
 use Rattle.workspace.specs.Views.{variable_of}
 use Rattle.type_terms.specs.Growth.{Grew}

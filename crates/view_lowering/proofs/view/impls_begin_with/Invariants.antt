@@ -1,5 +1,5 @@
 use Rattle.type_terms.specs.Promised.Worlds.{sees}
-use Rattle.text_definitions.specs.Promised.Declarations.{world_of}
+use Rattle.text_language.specs.Promised.Declarations.{world_of}
 use Rattle.view_lowering.proofs.Rows.{Walked}
 use Rattle.view_lowering.proofs.view.impls_begin_with.Given as goal
 

@@ -1,7 +1,7 @@
 use Rattle.std.proofs.Common.{sym, ◌∙◌, ap}
-use Rattle.evaluation.specs.Content.{trait_of}
+use Rattle.goal_evaluator.specs.Content.{trait_of}
 use Rattle.declarations.specs.Items.{written}
-use Rattle.assembly_laws.specs.Facts.{is_coinductive_trait}
+use Rattle.candidate_model.specs.Facts.{is_coinductive_trait}
 use Rattle.candidate_assembly.proofs.solver.SolverGoalHandler.trait_is_coinductive.Goals as goal
 
 pub returns : goal.returns

@@ -1,7 +1,7 @@
 use Rattle.std.proofs.Common.{◌≡◌, ◌∙◌, ap, subst}
 use Rattle.std.specs.Option.{option_map, option_and_then}
 use Rattle.type_terms.specs.declared.CrateId.{CrateId}
-use Rattle.text_definitions.specs.Promised.Declarations.{Declarations, known}
+use Rattle.text_language.specs.Promised.Declarations.{Declarations, known}
 use Rattle.workspace.specs.Tables.{declared, number_of_crate}
 use Rattle.coherence.specs.Asking.{AskedText}
 use Rattle.coherence.proofs.Asking.{named-there}

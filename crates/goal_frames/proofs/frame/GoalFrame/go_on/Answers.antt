@@ -1,7 +1,7 @@
 use Rattle.std.proofs.Common.{map, subst, sym, None}
 use Rattle.infer_table.specs.Inputs.{form_of}
-use Rattle.evaluation.specs.Readings.{HandlerStepHeld}
-use Rattle.evaluation.specs.StepReadings.{shown_by}
+use Rattle.goal_evaluator.specs.Readings.{HandlerStepHeld}
+use Rattle.goal_evaluator.specs.StepReadings.{shown_by}
 use Rattle.goal_frames.specs.Fitting.{StepFits}
 use Rattle.goal_frames.specs.Places.{IsIgnoring}
 use Rattle.goal_frames.specs.declared.frame.Place.TheVariants.{Entering}

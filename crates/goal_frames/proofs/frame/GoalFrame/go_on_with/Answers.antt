@@ -5,10 +5,10 @@ use Rattle.type_terms.specs.Promised.Trees.{tree, none}
 use Rattle.type_terms.specs.Promised.Handles.{trees_at}
 use Rattle.type_terms.specs.declared.TraitId.{TraitId}
 use Rattle.infer_table.specs.Inputs.{form_of}
-use Rattle.evaluation.specs.Readings.{is_coinductive_step}
-use Rattle.evaluation.specs.declared.error.EvalError.TheVariants.{NoSolution}
-use Rattle.evaluation.specs.OpenCandidates.{CandidateHeld}
-use Rattle.evaluation.specs.StepReadings.{shown_by}
+use Rattle.goal_evaluator.specs.Readings.{is_coinductive_step}
+use Rattle.goal_evaluator.specs.declared.error.EvalError.TheVariants.{NoSolution}
+use Rattle.goal_evaluator.specs.OpenCandidates.{CandidateHeld}
+use Rattle.goal_evaluator.specs.StepReadings.{shown_by}
 use Rattle.infer_table.specs.declared.input.CanonicalInput.{CanonicalInput}
 use Rattle.infer_table.specs.declared.response.CanonicalResponse.{CanonicalResponse}
 use Rattle.search_graph.specs.declared.delegate.Request.{Request}

@@ -1,10 +1,10 @@
 use Rattle.std.proofs.Common.{◌∙◌, ◌∷◌, map, drop, ap, sym, subst}
 use Rattle.infer_table.specs.Inputs.{form_of}
-use Rattle.evaluation.specs.History.{begin, entered, ignored, evaluated, finished, position, request, CameInOrder}
-use Rattle.evaluation.specs.Promises.{frame_of_goal, Anything}
-use Rattle.evaluation.specs.declared.candidate.Considered.{Considered}
-use Rattle.evaluation.specs.Tables.{frame_tables}
-use Rattle.evaluation.specs.StepReadings.{shown_by, result_read}
+use Rattle.goal_evaluator.specs.History.{begin, entered, ignored, evaluated, finished, position, request, CameInOrder}
+use Rattle.goal_evaluator.specs.Promises.{frame_of_goal, Anything}
+use Rattle.goal_evaluator.specs.declared.candidate.Considered.{Considered}
+use Rattle.goal_evaluator.specs.Tables.{frame_tables}
+use Rattle.goal_evaluator.specs.StepReadings.{shown_by, result_read}
 use Rattle.goal_frames.specs.Places.{FrameStanding, PositionStands, IsBetween, IsIgnoring}
 use Rattle.goal_frames.specs.Frames.{FrameHistory, FrameHeld, HasHeard, PlaceHeld, RequestHeld, ReplyIsMade, IsRequestOf, ReplyIsDue, FrameSteps, reply_read}
 use Rattle.goal_frames.specs.Steps.{AsksFewer}

@@ -3,7 +3,7 @@ use Rattle.type_terms.specs.Promised.Handles.{SomeKindIsFull}
 use Rattle.type_terms.specs.Growth.{FullAtLimit}
 use Rattle.view_lowering.specs.MostTerms.{most_terms}
 use Rattle.view_lowering.specs.Ready.{AreSeen}
-use Rattle.solver_context.proofs.Shortages.{handed}
+use Rattle.solver_graph.proofs.Shortages.{handed}
 use Rattle.sessions.proofs.SeenViews.{new-are-fewer}
 use Rattle.sessions.proofs.ShortCalls.{at-err, many-terms}
 use Rattle.sessions.proofs.GivenTexts.{text-given}

@@ -1,7 +1,7 @@
 use Rattle.std.proofs.Common.{rules, ◌≡◌, Some, None, subst, length, sym, ap, ◌∙◌}
 use Rattle.std.specs.Prelude.{IfSome}
 use Rattle.orphan_check.specs.Promised.Errors.{ErrorHeld}
-use Rattle.text_definitions.specs.Promised.Declarations.{Declarations}
+use Rattle.text_language.specs.Promised.Declarations.{Declarations}
 use Rattle.type_terms.specs.Promised.Verdicts.{KeepsOrphanRule}
 use Rattle.sessions.specs.Checking.{HasOrphan, HasOverlap}
 use Rattle.sessions.specs.Promised.Promises.{view_in}

@@ -4,7 +4,7 @@ use Rattle.std.specs.Prelude.{IfOk}
 use Rattle.sessions.specs.Promised.Given.{answer_in}
 use Rattle.sessions.specs.Promised.Promises.{IsProved, view_in}
 use Rattle.sessions.specs.Promised.Subjects.{Subject, AsksProof, StaysOn}
-use Rattle.text_definitions.specs.Promised.Declarations.{Question}
+use Rattle.text_language.specs.Promised.Declarations.{Question}
 use Rattle.sessions.proofs.Keeping.{session-kept, session-rests, limits-stay}
 use Rattle.sessions.proofs.RightAnswers.{is-asked, clauses-apply, answered-rightly}
 use Rattle.candidate_assembly.specs.Fitting.{solving_of}

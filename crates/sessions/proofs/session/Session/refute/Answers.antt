@@ -11,7 +11,7 @@ use Rattle.sessions.proofs.FrameBounds.{seen-erased-world, refutation-within}
 use Rattle.sessions.specs.Promised.Given.{refutation_of}
 use Rattle.sessions.specs.Promised.Promises.{IsRefutation, view_in}
 use Rattle.sessions.specs.Promised.Subjects.{Subject, AsksRefutation}
-use Rattle.text_definitions.specs.Promised.Declarations.{Question}
+use Rattle.text_language.specs.Promised.Declarations.{Question}
 use Rattle.sessions.proofs.Alone.{on-map}
 use Rattle.sessions.proofs.Keeping.{answered-exactly, limits-stay}
 use Rattle.sessions.proofs.ShortCalls.{at-limit}

@@ -1,7 +1,7 @@
 use Rattle.std.proofs.Common.{◌≡◌, ◌<◌, length, map, take}
 use Rattle.std.specs.Prelude.{All}
-use Rattle.text_definitions.specs.Promised.Declarations.{known}
-use Rattle.text_definitions.specs.Lowering.{crate_number}
+use Rattle.text_language.specs.Promised.Declarations.{known}
+use Rattle.text_language.specs.Lowering.{crate_number}
 use Rattle.workspace.specs.Tables.{declared}
 use Rattle.workspace.specs.Views.{numbers_of, name_texts}
 use Rattle.workspace.proofs.tables.Tables.crate_ids.Given as goal

@@ -2,7 +2,7 @@ use Rattle.std.proofs.Common.{◌≡◌, Some, refl, ap, sym, ◌∙◌, arith}
 use Rattle.std.proofs.lemmas.List.{length-map}
 use Rattle.std.proofs.lemmas.Option.{slice_get_within, slice_get_read, slice_get-map, same_Some}
 use Rattle.std.specs.Option.{option_map}
-use Rattle.text_definitions.specs.Promised.Declarations.{a_struct, a_trait}
+use Rattle.text_language.specs.Promised.Declarations.{a_struct, a_trait}
 use Rattle.workspace.specs.Tables.{declared, item_of}
 use Rattle.workspace.specs.Views.{struct_of, trait_of, sorts_of}
 use Rattle.workspace.proofs.Names.{struct-known, trait-known}

@@ -2,7 +2,7 @@
 use Rattle.std.proofs.Common.{◌≡◌, ℕ, ◌+◌, ◌<◌, Bool, List, [], ◌∷◌, ◌++◌, length, map, take, get_or, sym, subst, ap, ◌∙◌}
 use Rattle.std.proofs.lemmas.List.{map_more}
 use Rattle.type_terms.specs.declared.CrateId.{CrateId}
-use Rattle.text_definitions.specs.Promised.Declarations.{world_of}
+use Rattle.text_language.specs.Promised.Declarations.{world_of}
 use Rattle.workspace.specs.Tables.{declared, will_see}
 use Rattle.workspace.proofs.tables.Tables.seen_by.Goals as goal
 

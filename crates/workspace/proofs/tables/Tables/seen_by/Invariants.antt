@@ -1,5 +1,5 @@
 use Rattle.std.proofs.Common.{◌≡◌, map, take}
-use Rattle.text_definitions.specs.Promised.Declarations.{world_of}
+use Rattle.text_language.specs.Promised.Declarations.{world_of}
 use Rattle.workspace.specs.Tables.{declared, will_see}
 use Rattle.workspace.proofs.tables.Tables.seen_by.Given as goal
 

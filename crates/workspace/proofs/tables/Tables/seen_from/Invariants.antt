@@ -1,7 +1,7 @@
 use Rattle.std.proofs.Common.{◌≡◌, take}
 use Rattle.std.specs.Prelude.{filter}
 use Rattle.type_terms.specs.Promised.Worlds.{sees}
-use Rattle.text_definitions.specs.Promised.Declarations.{world_of}
+use Rattle.text_language.specs.Promised.Declarations.{world_of}
 use Rattle.workspace.specs.Tables.{declared}
 use Rattle.workspace.proofs.tables.Tables.seen_from.Given as goal
 

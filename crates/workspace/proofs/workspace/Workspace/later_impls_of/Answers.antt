@@ -1,6 +1,6 @@
 use Rattle.std.proofs.Common.{map, subst, sym, ap, ◌∙◌}
 use Rattle.std.specs.Prelude.{◌==◌, filter}
-use Rattle.text_definitions.specs.Promised.Declarations.{LaterImpl}
+use Rattle.text_language.specs.Promised.Declarations.{LaterImpl}
 use Rattle.workspace.specs.declared.declared.LaterEntry.{LaterEntry}
 use Rattle.workspace.specs.Numbered.{EachNumbered}
 use Rattle.workspace.specs.Made.{ReferenceMade, ReferencesMade}

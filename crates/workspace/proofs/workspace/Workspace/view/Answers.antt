@@ -1,7 +1,7 @@
 use Rattle.std.proofs.Common.{ap, sym, ◌∙◌}
 use Rattle.std.specs.Prelude.{map, filter}
 use Rattle.type_terms.specs.Promised.Worlds.{sees}
-use Rattle.text_definitions.specs.Promised.Declarations.{world_of}
+use Rattle.text_language.specs.Promised.Declarations.{world_of}
 use Rattle.workspace.specs.Tables.{declared}
 use Rattle.workspace.specs.Views.{numbers_of, crate_of}
 use Rattle.workspace.proofs.Each.{filter-map, map-map}

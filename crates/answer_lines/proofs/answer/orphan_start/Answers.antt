@@ -1,8 +1,0 @@
-use Rattle.std.specs.Fmt.{decimal}
-use Rattle.std.proofs.Common.{◌++◌, ap, ◌∙◌, codes}
-use Rattle.answer_lines.proofs.answer.orphan_start.Goals as goal
-
-pub returns : goal.returns
-returns c =
-    c.in_ok-push_number.ensures ∙ ap (λ k. c.extend_from_slice.new.self.items ++ decimal k) c.from.ensures
-    ∙ ap (λ y. y ++ decimal c.args.number) (c.in_ok-extend_from_slice.ensures.items ∙ ap (λ y. y ++ codes "orphan impl ") c.in_ok-text.ensures)

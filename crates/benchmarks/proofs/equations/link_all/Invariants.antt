@@ -1,6 +1,0 @@
-use Rattle.infer_table.specs.Content.{Ready}
-use Rattle.benchmarks.proofs.equations.link_all.Given as goal
-
--- the table is over this interner's terms
-abbrev pub invariant-loop-i : goal.invariant-loop-i
-invariant-loop-i l = Ready l.cx.entries l.table

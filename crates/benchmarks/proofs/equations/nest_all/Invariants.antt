@@ -1,6 +1,0 @@
-use Rattle.infer_table.specs.Content.{Ready}
-use Rattle.benchmarks.proofs.equations.nest_all.Given as goal
-
--- the table is over this interner's terms
-abbrev pub invariant-loop-index : goal.invariant-loop-index
-invariant-loop-index l = Ready l.cx.entries l.table

@@ -1,0 +1,40 @@
+-- What is proved in a linked set, by a crate's view.
+use Rattle.std.proofs.Common.{◌≡◌, false, List, [], ◌∷◌, ◌⊎◌, inl, inr, subst}
+use Rattle.type_terms.specs.Promised.Worlds.{World, view_of}
+use Rattle.type_terms.specs.Promised.Rules.{Rule, rules, strict_supertraits}
+use Rattle.type_terms.specs.Promised.Proofs.{In, Every, HasProof}
+use Rattle.type_terms.specs.Promised.Walks.{is_known_in}
+use Rattle.type_terms.specs.LinkedSet.{Unknown}
+use Rattle.type_terms.proofs.Members.{here, there, in-nothing, in-cases, not-both}
+use Rattle.type_terms.proofs.WorkedProofs.{needs-rule}
+use Rattle.type_terms.proofs.OpenWorld.{open-world}
+use Rattle.type_terms.proofs.ViewKnown.{unknown-by-view}
+use Rattle.type_terms.proofs.NoHolds.{supers-of-view}
+use Rattle.candidate_model.specs.Knowing.{WhatIsKnownFollowsByTheView, SupertraitsByTheViewStand}
+
+member : {A : Type 0} (P : A → Type 0) (xs : List A) (x : A) → Every P xs → In x xs → P x
+member P [] x e i = absurd (in-nothing x i)
+member P (y ∷ xs) x e i = by (in-cases x y xs i) (λ j. member P xs x e.1 j)
+  where
+    by : (y ≡ x) ⊎ In x xs → (In x xs → P x) → P x
+    by (inl q) go = subst P q e.0
+    by (inr j) go = go j
+
+each : {A : Type 0} (P : A → Type 0) (xs : List A) → ((x : A) → In x xs → P x) → Every P xs
+each P [] f = tt
+each P (x ∷ xs) f = (f x (here x xs), each P xs (λ y i. f y (there y x xs i)))
+
+pub known-by-view-rule : WhatIsKnownFollowsByTheView
+known-by-view-rule W vs rank l c V e r z known p = by (open-world W vs rank l c r z u.0 u.1 u.2)
+  where
+    u : (u : Rule) × In u (rules W [] r) × Every (HasProof W []) u.premises
+    u = needs-rule W [] r p
+
+    by : In u.0 (rules (view_of W c) [] r) ⊎ Unknown W c r → (u : Rule) × In u (rules V [] r) × Every (HasProof W []) u.premises
+    by (inl i) = (u.0, subst (λ (X : World). In u.0 (rules X [] r)) e i, u.2)
+    by (inr g) = absurd (not-both (is_known_in V c r) known (subst (λ (X : World). is_known_in X c r ≡ false) e (unknown-by-view W (l.joined.one_struct, l.joined.one_trait) c r g.unknown)))
+
+pub supers-by-view : SupertraitsByTheViewStand
+supers-by-view W stand c V e r z p =
+    subst (λ (X : World). Every (HasProof W []) (strict_supertraits X r)) e
+    (each (HasProof W []) (strict_supertraits (view_of W c) r) (λ s i. member (HasProof W []) (strict_supertraits W r) s (stand r z p) (supers-of-view W c r s i)))

@@ -1,5 +1,0 @@
-use Rattle.std.proofs.Common.{◌<◌, IfSome}
-use Rattle.diagnostics.proofs.excerpt.next_line.Given as goal
-
-abbrev pub invariant-loop-label : goal.invariant-loop-label
-invariant-loop-label l = IfSome l.found (λ line. l.last < line)

@@ -1,9 +1,0 @@
-use Rattle.std.proofs.Common.{◌≡◌, ◌≤◌, ◌+◌, ◌++◌, map, take, false, string_bytes, string_len}
-use Rattle.diagnostics.specs.Shown.{shown}
-use Rattle.diagnostics.proofs.writer.TextWriter.push_shown.Given as goal
-
-abbrev pub invariant-loop-byte : goal.invariant-loop-byte
-invariant-loop-byte l = record {
-  bytes : l.self.is_refused ≡ false → string_bytes l.self.text ≡ string_bytes l.fn.self.text ++ map shown (take l.byte-index l.text);
-  len : string_len l.self.text ≤ string_len l.fn.self.text + l.byte-index;
-}

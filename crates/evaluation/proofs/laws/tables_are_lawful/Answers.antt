@@ -1,5 +1,0 @@
-use Rattle.evaluation.proofs.FrameTableLaws.{tables_are_lawful}
-use Rattle.evaluation.proofs.laws.tables_are_lawful.Goals as goal
-
-pub returns : goal.returns
-returns c = tables_are_lawful

@@ -1,5 +1,0 @@
-use Rattle.evaluation.proofs.ByRules.{proofs_are_proofs}
-use Rattle.evaluation.proofs.promises.proofs_by_rules_are_proofs.Goals as goal
-
-pub returns : goal.returns
-returns c = proofs_are_proofs

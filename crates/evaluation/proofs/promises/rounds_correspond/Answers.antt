@@ -1,5 +1,0 @@
-use Rattle.evaluation.proofs.Correspondences.{rounds_correspond}
-use Rattle.evaluation.proofs.promises.rounds_correspond.Goals as goal
-
-pub returns : goal.returns
-returns g c = rounds_correspond g.C.CorrespondingOperations.one g.C.CorrespondingOperations.other g.C.CorrespondingOperations.correspondence c.requires

@@ -1,5 +1,0 @@
-use Rattle.evaluation.proofs.Systems.{yes_follows_from}
-use Rattle.evaluation.proofs.promises.yes_follows_from_questions.Goals as goal
-
-pub returns : goal.returns
-returns g c = yes_follows_from g.S.GoalSystem.tables c.requires.tables g.S.GoalSystem.system c.requires.handlers

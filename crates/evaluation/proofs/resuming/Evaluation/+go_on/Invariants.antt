@@ -1,5 +1,0 @@
-use Rattle.evaluation.proofs.resuming.Evaluation.+go_on.Given as goal
-
--- fewer rounds may come
-abbrev pub decreases-go_on : goal.decreases-go_on
-decreases-go_on l = l.rounds_left

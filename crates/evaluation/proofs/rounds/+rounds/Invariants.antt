@@ -1,4 +1,0 @@
-use Rattle.evaluation.proofs.rounds.+rounds.Given as goal
-
-abbrev pub decreases-rounds : goal.decreases-rounds
-decreases-rounds l = l.limit

@@ -1,0 +1,45 @@
+use Rattle.std.proofs.Common.{◌≡◌, true, sym, subst}
+use Rattle.std.specs.Prelude.{IfOk}
+use Rattle.type_terms.specs.Promised.Worlds.{World}
+use Rattle.proof_checker.proofs.Results.{mapped}
+use Rattle.explain_traces.proofs.Walks.{references-later}
+use Rattle.sessions.specs.Promised.Promises.{view_in}
+use Rattle.sessions.specs.Promised.Subjects.{Subject}
+use Rattle.sessions.proofs.Keeping.{session-rests}
+use Rattle.explain_sessions.specs.Rules.{HasNoImplAt}
+use Rattle.explain_sessions.specs.Walked.{WalkHeld}
+use Rattle.explain_sessions.proofs.Rests.{rests-advanced}
+use Rattle.explain_sessions.proofs.Staying.{kept-within, stays}
+use Rattle.explain_sessions.proofs.fitting.no_impl_fits.Goals as goal
+
+pub has_no_impl_at-requires-clause-ready : goal.has_no_impl_at-requires-clause-ready
+has_no_impl_at-requires-clause-ready c = c.session.invariant.session.rest.ready
+
+pub has_no_impl_at-requires-clause-walked : goal.has_no_impl_at-requires-clause-walked
+has_no_impl_at-requires-clause-walked c = subst (λ (s : Subject). WalkHeld s.terms c.args.walk.now) (sym c.session.view_is) c.requires
+
+pub invariant_of-session : goal.invariant_of-session
+invariant_of-session c =
+    let i = c.session.inside in
+    let new = c.has_no_impl_at.new.cx in
+    kept-within i.workspace.now i.crate_id.index i.limits.depth i.limits.handles i.cx new i.graph i.graph i.cache i.cache c.session.invariant
+    (rests-advanced i.graph.root_depth i.cx new i.graph i.cache (session-rests i.workspace.now i.crate_id.index i.limits.depth i.cx i.graph i.cache c.session.invariant.session) c.has_no_impl_at.ensures.advances)
+
+pub returns-clause-none : goal.returns-clause-none
+returns-clause-none c =
+    let i = c.session.inside in
+    let es = i.cx.interner.entries in
+    let rs = c.args.walk.now.references.items in
+    let p = c.args.place in
+    subst (λ (s : Subject). IfOk c.has_no_impl_at.result (λ b. b ≡ true → HasNoImplAt s.terms (view_in s.declarations s.of_crate) rs p)) c.session.view_is
+    (mapped _ _ c.has_no_impl_at.result (λ b f q. subst (λ (V : World). HasNoImplAt es V rs p) c.session.invariant.session.view.rules (f q)) c.has_no_impl_at.ensures.none)
+
+pub returns-clause-held : goal.returns-clause-held
+returns-clause-held c =
+    references-later c.session.inside.cx.interner.entries c.has_no_impl_at.new.cx.interner.entries c.has_no_impl_at.ensures.advances.entries c.args.walk.now.references.items
+    (subst (λ (s : Subject). WalkHeld s.terms c.args.walk.now) (sym c.session.view_is) c.requires)
+
+pub returns-clause-stays : goal.returns-clause-stays
+returns-clause-stays c =
+    let i = c.session.inside in
+    stays i.workspace.now i.crate_id.index i.limits.depth i.limits.handles i.cx c.has_no_impl_at.new.cx i.graph i.graph _ c.session.view_is c.has_no_impl_at.ensures.advances.entries

@@ -1,0 +1,29 @@
+use Rattle.std.proofs.Common.{refl, sym, subst}
+use Rattle.declarations.specs.Promised.Elaboration.{Each}
+use Rattle.sessions.specs.Promised.Promises.{view_in}
+use Rattle.explain_sessions.specs.Refusals.{IsRefusedAt}
+use Rattle.explain_sessions.proofs.RefusedGoals.{at-staying}
+use Rattle.explain_sessions.proofs.RuleCandidates.{put-if}
+use Rattle.explain_sessions.proofs.Staying.{stays-further}
+use Rattle.explain_sessions.proofs.refusals.refused_goals.Goals as goal
+
+pub loop-place-init : goal.loop-place-init
+loop-place-init c = record {
+  stays = record { declarations = refl; of_crate = refl; depth = refl; handles = refl; terms = λ i e h. h };
+  held = c.requires;
+  refused = subst (Each (IsRefusedAt c.args.session.now.terms (view_in c.args.session.now.declarations c.args.session.now.of_crate) c.args.session.now.of_crate c.args.walk.now.references.items)) (sym c.new-found.ensures.items) tt;
+}
+
+pub loop-place-preserved : goal.loop-place-preserved
+loop-place-preserved c =
+    let s = c.args.session.now in
+    let now = c.loop-place.session in
+    let P = IsRefusedAt c.args.session.now.terms (view_in c.args.session.now.declarations c.args.session.now.of_crate) c.args.session.now.of_crate c.args.walk.now.references.items in
+    record {
+      stays = stays-further s now c.is_refused_at.new.session c.loop-place.invariant.stays c.is_refused_at.ensures.stays;
+      held = c.is_refused_at.ensures.held;
+      refused =
+          subst (Each P) (sym c.in_ok-push_if.ensures)
+          (put-if P c.loop-place.found.items _ _ c.loop-place.invariant.refused
+          (λ q. at-staying s now c.loop-place.invariant.stays c.args.walk.now.references.items c.requires _ (c.in_ok-is_refused.ensures.refused q)));
+    }

@@ -1,0 +1,15 @@
+use Rattle.std.proofs.Common.{take}
+use Rattle.declarations.specs.Promised.Elaboration.{Each}
+use Rattle.infer_table.specs.Content.{Ready}
+use Rattle.proof_checker.specs.Steps.{StepHeld}
+use Rattle.type_terms.specs.Growth.{Grew}
+use Rattle.explain_sessions.specs.Shown.{StepsAreShown}
+use Rattle.explain_sessions.proofs.steps.steps_of.Given as goal
+
+abbrev pub invariant-loop-next : goal.invariant-loop-next
+invariant-loop-next l = record {
+  grew : Grew l.fn.cx l.cx;
+  table : Ready l.cx.entries l.table;
+  held : Each (StepHeld l.cx.entries) l.steps.items;
+  shown : StepsAreShown l.walk.references.items l.steps.items (take l.next-index l.shown);
+}

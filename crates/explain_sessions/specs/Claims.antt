@@ -1,0 +1,48 @@
+-- What is claimed of a trace: all that is stated of its goals and candidates as checked.
+use Rattle.std.specs.Prelude.{◌≡◌, ℕ, true, List, Option, Some}
+use Rattle.std.specs.List.{slice_get}
+use Rattle.type_terms.specs.Promised.Handles.{Entry}
+use Rattle.type_terms.specs.Promised.Worlds.{World}
+use Rattle.term_folds.specs.declared.predicate.TraitRef.{TraitRef}
+use Rattle.declarations.specs.Items.{reference_in}
+use Rattle.declarations.specs.Promised.Elaboration.{Each}
+use Rattle.orphan_check.specs.declared.errors.Conflict.{Conflict}
+use Rattle.explain_traces.specs.declared.nodes.GoalWalk.{GoalWalk}
+use Rattle.sessions.specs.Promised.Promises.{view_in}
+use Rattle.sessions.specs.Promised.Subjects.{Subject}
+use Rattle.explain_sessions.specs.Adding.{MayAdd}
+use Rattle.explain_sessions.specs.Refusals.{HoldsAt, IsRefusedAt}
+use Rattle.explain_sessions.specs.Rules.{AreChecked, HasNoImplAt, HasNoRowAt}
+use Rattle.explain_sessions.specs.Unseen.{IsUnseen}
+use Rattle.explain_sessions.specs.declared.adding.Adder.{Adder}
+use Rattle.explain_sessions.specs.declared.claims.Claims.{Claims}
+
+-- Which crates outside the view may have an impl for the goal at an index of rs.
+abbrev pub IsUnseenAt : List Entry → World → ℕ → List TraitRef → ℕ × Option Conflict → Type 0
+IsUnseenAt es V c rs x = (r : TraitRef) × (slice_get rs x.0 ≡ Some r) × IsUnseen V c (reference_in es r) x.1
+
+-- Who may write an impl for the goal at a place of rs.
+abbrev pub MayAddAt : List Entry → World → ℕ → List TraitRef → ℕ × Adder → Type 0
+MayAddAt es V c rs x = (r : TraitRef) × (slice_get rs x.0 ≡ Some r) × MayAdd V c (reference_in es r) x.1
+
+-- Each claim is true by what crate c sees, V.
+pub record AreClaims (es : List Entry) (V : World) (c : ℕ) (w : GoalWalk) (x : Claims) : Type 0 where
+  pub candidates : AreChecked es V w x.candidates
+  pub refused : Each (IsRefusedAt es V c w.references.items) x.refused.items
+  pub held : Each (HoldsAt es V w.references.items) x.held.items
+  pub unseen : Each (IsUnseenAt es V c w.references.items) x.unseen.items
+  pub adders : Each (MayAddAt es V c w.references.items) x.adders.items
+  pub no_impl : x.no_impl ≡ true → HasNoImplAt es V w.references.items 0
+  pub no_built_in_rule : x.no_built_in_rule ≡ true → HasNoRowAt es V w.references.items 0
+
+-- Each claim is true for the crate of a session.
+abbrev pub ClaimsHold : Subject → GoalWalk → Claims → Type 0
+ClaimsHold s w x = AreClaims s.terms (view_in s.declarations s.of_crate) s.of_crate w x
+
+-- The same for which crates outside the view may have impls for goals.
+abbrev pub UnseenHold : Subject → GoalWalk → List (ℕ × Option Conflict) → Type 0
+UnseenHold s w xs = Each (IsUnseenAt s.terms (view_in s.declarations s.of_crate) s.of_crate w.references.items) xs
+
+-- And so who may write impls for them.
+abbrev pub AddersHold : Subject → GoalWalk → List (ℕ × Adder) → Type 0
+AddersHold s w xs = Each (MayAddAt s.terms (view_in s.declarations s.of_crate) s.of_crate w.references.items) xs

@@ -1,0 +1,108 @@
+//! Which goals of a walk hold, asked alone outside coherence.
+
+ghost use Rattle.std.specs.Prelude.{◌≡◌, [], true, IfOk, IfSome};
+ghost use Rattle.type_terms.specs.Promised.Proofs.{HasProof};
+ghost use Rattle.declarations.specs.Held.{ReferenceHeld};
+ghost use Rattle.proof_checker.specs.Steps.{term_of};
+ghost use Rattle.sessions.specs.Checking.{rules_in};
+ghost use Rattle.sessions.specs.Promised.Promises.{view_in};
+ghost use Rattle.sessions.specs.Sessions.{SolverRests};
+ghost use Rattle.sessions.specs.Promised.Subjects.{StaysOn};
+ghost use Rattle.explain_sessions.specs.Refusals.{HoldsAt};
+ghost use Rattle.explain_sessions.specs.Walked.{ProofWalkHeld, RestsAfter, WalkHeld};
+
+use crate::holding::is_proved_by;
+use crate::places::reference_at;
+use crate::refusals::goal_table_in;
+use crate::steps::with_steps;
+use crate::unknowns::is_of_table;
+use crate::walking::{bare_goal, walk_alone};
+use crate::walks::ProofWalk;
+use candidate_assembly::solver::Solver;
+use goal_evaluator::TypingMode;
+use explain_traces::GoalWalk;
+use search_graph::{GlobalCache, SearchGraph};
+use sessions::Session;
+use solver_graph::{SolverCx, SolverGraph};
+use term_folds::predicate::TraitRef;
+use type_terms::Fault;
+
+/// Walks a reference outside coherence, without where-clauses, and finds the steps of its proof. They are not checked. Of one with other
+/// open places than unknowns, or with too many of these, that is not done.
+///
+/// All stays at rest, after a fault too. The fault is a refusal of memory, or `Full`.
+fn walk_reference(
+    graph: &mut SearchGraph<SolverGraph<Solver>>,
+    cache: &mut GlobalCache<SolverGraph<Solver>>,
+    cx: &mut SolverCx<Solver>,
+    reference: TraitRef,
+    depth: u32,
+) -> Result<Option<ProofWalk>, Fault>
+    requires rest { SolverRests graph.old.root_depth cx.old graph.old cache.old }
+    requires held { ReferenceHeld cx.old.interner.entries reference }
+    ensures rests { RestsAfter graph.old.root_depth cx.old cx.new graph.new cache.new }
+    ensures held { IfOk result (λ o. IfSome o (ProofWalkHeld cx.new.interner.entries)) }
+{
+    let mut table = goal_table_in(cx)?;
+    if !is_of_table(&cx.interner, &table, reference.args) {
+        return Ok(None);
+    }
+    let goal = bare_goal(cx.alloc, reference);
+    let walk = walk_alone(
+        graph,
+        cache,
+        cx,
+        &mut table,
+        TypingMode::PostAnalysis,
+        &goal,
+        depth,
+    )?;
+    let proof = with_steps(cx, &mut table, &[], walk)?;
+    Ok(Some(proof))
+}
+
+/// Whether a reference has a proof, by steps that a walk finds and the checker lets through.
+///
+/// All stays at rest, after a fault too. The fault is a refusal of memory, or `Full`.
+fn holds_alone(
+    graph: &mut SearchGraph<SolverGraph<Solver>>,
+    cache: &mut GlobalCache<SolverGraph<Solver>>,
+    cx: &mut SolverCx<Solver>,
+    reference: TraitRef,
+    depth: u32,
+) -> Result<bool, Fault>
+    requires rest { SolverRests graph.old.root_depth cx.old graph.old cache.old }
+    requires held { ReferenceHeld cx.old.interner.entries reference }
+    ensures rests { RestsAfter graph.old.root_depth cx.old cx.new graph.new cache.new }
+    ensures holds { IfOk result (λ b. b ≡ true → HasProof (rules_in cx.old) [] (term_of cx.old.interner.entries reference)) }
+{
+    let found = walk_reference(graph, cache, cx, reference, depth)?;
+    let Some(proof) = found else {
+        return Ok(false);
+    };
+    is_proved_by(cx, reference, &proof.steps)
+}
+
+/// Whether the goal at a place of a walk has a proof without where-clauses by what the session's crate sees: it is asked alone.
+pub(crate) fn is_held_alone_at(
+    session: &mut Session<'_>,
+    walk: &GoalWalk,
+    place: usize,
+) -> Result<bool, Fault>
+    requires { WalkHeld session.old.terms walk.now }
+    ensures holds { IfOk result (λ b. b ≡ true
+        → HoldsAt session.old.terms (view_in session.old.declarations session.old.of_crate) walk.now.references.items place) }
+    ensures held { WalkHeld session.new.terms walk.now }
+    ensures stays { StaysOn session.old session.new }
+{
+    let Some(reference) = reference_at(&walk.references, place) else {
+        return Ok(false);
+    };
+    holds_alone(
+        &mut session.graph,
+        &mut session.cache,
+        &mut session.cx,
+        reference,
+        session.limits.depth,
+    )
+}

@@ -1,0 +1,278 @@
+//! The where-clauses of two impls, traced where their headers are equal.
+
+ghost use Rattle.std.specs.Prelude.{◌≡◌, true, IfOk, IfSome};
+ghost use Rattle.type_terms.specs.Growth.{Grew};
+ghost use Rattle.declarations.specs.Applied.{TraitRefsHeld};
+ghost use Rattle.declarations.specs.Held.{ImplHeld, ReferenceHeld};
+ghost use Rattle.declarations.specs.Items.{declared};
+ghost use Rattle.infer_table.specs.Content.{Ready};
+ghost use Rattle.candidate_assembly.specs.Ready.{AreReadyDeclarations};
+ghost use Rattle.overlap_check.specs.Written.{IsWrittenWell};
+ghost use Rattle.proof_checker.specs.Steps.{term_of};
+ghost use Rattle.explain_traces.specs.Walking.{ReferencesHeld};
+ghost use Rattle.sessions.specs.Checking.{HaveOwnNumbers, rules_in};
+ghost use Rattle.sessions.specs.Proving.{SolverAdvances, SolverIsReady};
+ghost use Rattle.sessions.specs.Sessions.{SolverRests};
+ghost use Rattle.explain_sessions.specs.Rules.{HasRulesByBoth};
+ghost use Rattle.explain_sessions.specs.Walked.{CommonHeld, PairWalkHeld, RestsAfter};
+
+use crate::headers::args_where_equal;
+use crate::walks::PairWalk;
+use candidate_assembly::solver::Solver;
+use declarations::declarations::Declarations;
+use declarations::items::ImplDef;
+use declarations::laws::declarations_are_kept;
+use goal_evaluator::TypingMode;
+use explain_traces::{GoalWalk, walk_goal};
+use infer_table::infer_ctxt::InferCtxt;
+use overlap_check::header::fresh_impl_header;
+use overlap_check::intersection::ImplIntersection;
+use overlap_check::partners::pair_at;
+use proof_checker::links::follows_by_impl;
+use search_graph::{GlobalCache, SearchGraph};
+use sessions::{goal_under, intersection_at, ready_impls_are_written_well};
+use solver_graph::{SolverCx, SolverGraph};
+use std::alloc::Global;
+use term_folds::predicate::TraitRef;
+use type_terms::interner::Interner;
+use type_terms::kinds::GenericArgs;
+use type_terms::{Fault, ImplId};
+
+/// The common instance of the headers of two impls, and the arguments with which each is that.
+#[derive(Clone, Copy)]
+struct CommonHeader {
+    reference: TraitRef,
+    left: GenericArgs,
+    right: GenericArgs,
+}
+
+/// The common instance of the headers of two impls. `None` if there is none.
+fn common_header(
+    alloc: Global,
+    cx: &mut Interner,
+    left: &ImplDef,
+    right: &ImplDef,
+) -> Result<Option<CommonHeader>, Fault>
+    requires left_held { ImplHeld cx.old.entries left.now }
+    requires right_held { ImplHeld cx.old.entries right.now }
+    requires left_written { IsWrittenWell cx.old.entries left.now }
+    requires right_written { IsWrittenWell cx.old.entries right.now }
+    ensures grew { Grew cx.old cx.new }
+    ensures held { IfOk result (λ o. IfSome o (CommonHeld cx.new.entries)) }
+{
+    cx.lawful();
+    let mut table = InferCtxt::new(alloc);
+    let first = fresh_impl_header(alloc, cx, &mut table, left)?;
+    let second = fresh_impl_header(alloc, cx, &mut table, right)?;
+    let header = first.trait_ref;
+    let Some(args) = args_where_equal(alloc, cx, &mut table, first, second, header.args)? else {
+        return Ok(None);
+    };
+    let left = table.eager_resolve_vars(cx, first.impl_args)?;
+    let right = table.eager_resolve_vars(cx, second.impl_args)?;
+    let reference = TraitRef {
+        def_id: header.def_id,
+        args,
+    };
+    Ok(Some(CommonHeader {
+        reference,
+        left,
+        right,
+    }))
+}
+
+/// Whether each of two impls concludes the common instance, whatever its where-clauses are.
+fn both_conclude(
+    alloc: Global,
+    cx: &mut Interner,
+    declarations: &Declarations,
+    common: CommonHeader,
+    later: ImplId,
+    earlier: ImplId,
+) -> Result<bool, Fault>
+    requires ready { AreReadyDeclarations cx.old.entries declarations.now }
+    requires common { CommonHeld cx.old.entries common }
+    ensures grew { Grew cx.old cx.new }
+    ensures rules { IfOk result (λ b. b ≡ true → HasRulesByBoth (declared cx.old.entries declarations.now)
+        (term_of cx.old.entries common.reference) later.index earlier.index) }
+{
+    ready_impls_are_written_well();
+    declarations_are_kept();
+    let reference = common.reference;
+    if !follows_by_impl(alloc, cx, declarations, reference, later, common.left, &[])? {
+        return Ok(false);
+    }
+    follows_by_impl(
+        alloc,
+        cx,
+        declarations,
+        reference,
+        earlier,
+        common.right,
+        &[],
+    )
+}
+
+/// The common instance of the headers of the impls with these numbers, if the local crate has to compare them, and whether it was checked
+/// that each impl concludes it.
+fn checked_common(
+    alloc: Global,
+    cx: &mut Interner,
+    declarations: &Declarations,
+    later: ImplId,
+    earlier: ImplId,
+) -> Result<Option<(TraitRef, bool)>, Fault>
+    requires ready { AreReadyDeclarations cx.old.entries declarations.now }
+    ensures grew { Grew cx.old cx.new }
+    ensures held { IfOk result (λ o. IfSome o (λ x. ReferenceHeld cx.new.entries x.0)) }
+    ensures rules { IfOk result (λ o. IfSome o (λ x. x.1 ≡ true → HasRulesByBoth (declared cx.old.entries declarations.now)
+        (term_of cx.new.entries x.0) later.index earlier.index)) }
+{
+    ready_impls_are_written_well();
+    declarations_are_kept();
+    let Some((left, right)) = pair_at(declarations, later, earlier) else {
+        return Ok(None);
+    };
+    let Some(common) = common_header(alloc, cx, left, right)? else {
+        return Ok(None);
+    };
+    let is_checked = both_conclude(alloc, cx, declarations, common, later, earlier)?;
+    Ok(Some((common.reference, is_checked)))
+}
+
+/// The same over the interner of a context.
+fn common_header_at(
+    cx: &mut SolverCx<Solver>,
+    later: ImplId,
+    earlier: ImplId,
+) -> Result<Option<(TraitRef, bool)>, Fault>
+    requires ready { SolverIsReady cx.old }
+    ensures advances { SolverAdvances cx.old cx.new }
+    ensures held { IfOk result (λ o. IfSome o (λ x. ReferenceHeld cx.new.interner.entries x.0)) }
+    ensures rules { IfOk result (λ o. IfSome o (λ x. x.1 ≡ true
+        → HasRulesByBoth (rules_in cx.old) (term_of cx.new.interner.entries x.0) later.index earlier.index)) }
+{
+    let declarations = &cx.handler.declarations;
+    let common = checked_common(cx.alloc, &mut cx.interner, declarations, later, earlier);
+    cx.interner.lawful();
+    common
+}
+
+/// Traces a where-clause in coherence, alone over the table, and returns its index.
+fn walk_clause(
+    graph: &mut SearchGraph<SolverGraph<Solver>>,
+    cache: &mut GlobalCache<SolverGraph<Solver>>,
+    cx: &mut SolverCx<Solver>,
+    table: &mut InferCtxt,
+    walk: &mut GoalWalk,
+    clause: TraitRef,
+    depth: u32,
+) -> Result<usize, Fault>
+    requires rest { SolverRests graph.old.root_depth cx.old graph.old cache.old }
+    requires table { Ready cx.old.interner.entries table.old }
+    requires walked { ReferencesHeld cx.old.interner.entries walk.old.references.items }
+    requires clause { ReferenceHeld cx.old.interner.entries clause }
+    ensures rests { RestsAfter graph.old.root_depth cx.old cx.new graph.new cache.new }
+    ensures table { Ready cx.new.interner.entries table.new }
+    ensures walked { ReferencesHeld cx.new.interner.entries walk.new.references.items }
+{
+    let goal = goal_under(cx.alloc, &[], clause)?;
+    walk_goal(
+        graph,
+        cache,
+        cx,
+        table,
+        walk,
+        TypingMode::Coherence,
+        &goal,
+        depth,
+    )
+}
+
+/// Traces where-clauses in coherence, each alone over the table, and returns their indices.
+fn walk_clauses(
+    graph: &mut SearchGraph<SolverGraph<Solver>>,
+    cache: &mut GlobalCache<SolverGraph<Solver>>,
+    cx: &mut SolverCx<Solver>,
+    table: &mut InferCtxt,
+    walk: &mut GoalWalk,
+    clauses: &[TraitRef],
+    depth: u32,
+) -> Result<Vec<usize>, Fault>
+    requires rest { SolverRests graph.old.root_depth cx.old graph.old cache.old }
+    requires table { Ready cx.old.interner.entries table.old }
+    requires walked { ReferencesHeld cx.old.interner.entries walk.old.references.items }
+    requires clauses { TraitRefsHeld cx.old.interner.entries clauses.now }
+    ensures rests { RestsAfter graph.old.root_depth cx.old cx.new graph.new cache.new }
+    ensures table { Ready cx.new.interner.entries table.new }
+    ensures walked { ReferencesHeld cx.new.interner.entries walk.new.references.items }
+{
+    let mut places = Vec::new(cx.alloc);
+    let mut left = clauses;
+    'clauses: while let Some((clause, others)) = left.split_first() {
+        let place = walk_clause(graph, cache, cx, table, walk, *clause, depth)?;
+        places.push(place)?;
+        left = others;
+    }
+    Ok(places)
+}
+
+/// Traces the where-clauses of two impls over the table in which their headers are equal.
+fn walk_intersection(
+    graph: &mut SearchGraph<SolverGraph<Solver>>,
+    cache: &mut GlobalCache<SolverGraph<Solver>>,
+    cx: &mut SolverCx<Solver>,
+    found: &mut ImplIntersection,
+    common: (TraitRef, bool),
+    depth: u32,
+) -> Result<PairWalk, Fault>
+    requires rest { SolverRests graph.old.root_depth cx.old graph.old cache.old }
+    requires table { Ready cx.old.interner.entries found.old.table }
+    requires left { TraitRefsHeld cx.old.interner.entries found.old.left.items }
+    requires right { TraitRefsHeld cx.old.interner.entries found.old.right.items }
+    requires common { ReferenceHeld cx.old.interner.entries common.0 }
+    ensures rests { RestsAfter graph.old.root_depth cx.old cx.new graph.new cache.new }
+    ensures held { IfOk result (PairWalkHeld cx.new.interner.entries) }
+    ensures common { IfOk result (λ p. (p.common ≡ common.0) × (p.is_checked ≡ common.1)) }
+{
+    let mut walk = GoalWalk::new(cx.alloc);
+    let table = &mut found.table;
+    let left = walk_clauses(graph, cache, cx, table, &mut walk, &found.left, depth)?;
+    let right = walk_clauses(graph, cache, cx, table, &mut walk, &found.right, depth)?;
+    Ok(PairWalk {
+        common: common.0,
+        is_checked: common.1,
+        walk,
+        left,
+        right,
+    })
+}
+
+/// Traces the where-clauses of two impls where their headers are equal, as the local crate compares them. `None` if it does not, or if
+/// their headers have no common instance.
+///
+/// Everything stays at rest, after a fault too. Fails with `Memory` if memory is refused, or with `Full` if a table is full.
+pub(crate) fn walk_pair(
+    graph: &mut SearchGraph<SolverGraph<Solver>>,
+    cache: &mut GlobalCache<SolverGraph<Solver>>,
+    cx: &mut SolverCx<Solver>,
+    later: ImplId,
+    earlier: ImplId,
+    depth: u32,
+) -> Result<Option<PairWalk>, Fault>
+    requires rest { SolverRests graph.old.root_depth cx.old graph.old cache.old }
+    requires numbers { HaveOwnNumbers (rules_in cx.old) }
+    ensures rests { RestsAfter graph.old.root_depth cx.old cx.new graph.new cache.new }
+    ensures held { IfOk result (λ o. IfSome o (PairWalkHeld cx.new.interner.entries)) }
+    ensures rules { IfOk result (λ o. IfSome o (λ p. p.is_checked ≡ true
+        → HasRulesByBoth (rules_in cx.old) (term_of cx.new.interner.entries p.common) later.index earlier.index)) }
+{
+    let Some(common) = common_header_at(cx, later, earlier)? else {
+        return Ok(None);
+    };
+    let Some(mut found) = intersection_at(cx, later, earlier)? else {
+        return Ok(None);
+    };
+    let pair = walk_intersection(graph, cache, cx, &mut found, common, depth)?;
+    Ok(Some(pair))
+}

@@ -1,0 +1,126 @@
+//! The goals of queries, traced as a session evaluates them.
+
+ghost use Rattle.std.specs.Prelude.{◌≡◌, IfOk};
+ghost use Rattle.text_language.specs.Promised.Declarations.{Question};
+ghost use Rattle.declarations.specs.Applied.{AreApplied};
+ghost use Rattle.infer_table.specs.Content.{Ready};
+ghost use Rattle.infer_table.specs.Goals.{GoalHeld};
+ghost use Rattle.view_lowering.specs.Questions.{IsLowered};
+ghost use Rattle.view_lowering.specs.Promised.Questions.{IsQuestion};
+ghost use Rattle.explain_traces.specs.Walking.{ReferencesHeld};
+ghost use Rattle.sessions.specs.Proving.{ClausesApply, SolverAdvances, SolverIsReady};
+ghost use Rattle.sessions.specs.Sessions.{SolverRests};
+ghost use Rattle.explain_sessions.specs.Shown.{ShowsItsSteps};
+ghost use Rattle.explain_sessions.specs.Walked.{ProofWalkHeld, RestsAfter};
+
+use crate::steps::with_steps;
+use crate::walking::{bare_goal, elaborated_goal, walk_alone, walk_settled};
+use crate::walks::ProofWalk;
+use candidate_assembly::solver::Solver;
+use goal_evaluator::{Goal, TypingMode};
+use explain_traces::GoalWalk;
+use infer_table::infer_ctxt::InferCtxt;
+use search_graph::{GlobalCache, SearchGraph};
+use sessions::{lower_in, question_table_in};
+use solver_graph::{SolverCx, SolverGraph};
+use type_terms::Fault;
+use view_lowering::LoweredQuestion;
+use workspace::Workspace;
+
+/// The goal of a query of the context's terms, under its where-clauses with all their supertraits, and a table for its variables.
+fn pose(cx: &mut SolverCx<Solver>, lowered: &LoweredQuestion) -> Result<(Goal, InferCtxt), Fault>
+    requires ready { SolverIsReady cx.old }
+    requires lowered { (q : Question) × IsLowered cx.old.interner.entries q lowered.now }
+    requires applied { AreApplied cx.old.interner.entries cx.old.handler.declarations lowered.now.clauses.items }
+    ensures advances { SolverAdvances cx.old cx.new }
+    ensures goal { IfOk result (λ posed. GoalHeld cx.new.interner.entries posed.0) }
+    ensures table { IfOk result (λ posed. Ready cx.new.interner.entries posed.1) }
+{
+    let goal = elaborated_goal(cx, &lowered.clauses, lowered.asked)?;
+    let table = question_table_in(cx, &lowered.unknowns)?;
+    Ok((goal, table))
+}
+
+/// Traces the goal of a `prove` query as it is evaluated first, at most this deep.
+///
+/// Everything stays at rest, after a fault too. Fails with `Memory` if memory is refused, or with `Full` if a table is full.
+pub(crate) fn walk_question(
+    graph: &mut SearchGraph<SolverGraph<Solver>>,
+    cache: &mut GlobalCache<SolverGraph<Solver>>,
+    cx: &mut SolverCx<Solver>,
+    workspace: &Workspace,
+    number: u32,
+    depth: u32,
+) -> Result<GoalWalk, Fault>
+    requires rest { SolverRests graph.old.root_depth cx.old graph.old cache.old }
+    requires question { (q : Question) × IsQuestion workspace.now number q }
+    requires applied { (q : Question) → IsQuestion workspace.now number q → ClausesApply cx.old.handler.declarations q }
+    ensures rests { RestsAfter graph.old.root_depth cx.old cx.new graph.new cache.new }
+    ensures held { IfOk result (λ w. ReferencesHeld cx.new.interner.entries w.references.items) }
+{
+    let lowered = lower_in(cx, workspace, number)?;
+    let (goal, mut table) = pose(cx, &lowered)?;
+    walk_alone(
+        graph,
+        cache,
+        cx,
+        &mut table,
+        TypingMode::PostAnalysis,
+        &goal,
+        depth,
+    )
+}
+
+/// Traces the goal of a `prove` query that was proved, at most this deep, and finds the steps of its proof. They are not checked.
+///
+/// Everything stays at rest, after a fault too. Fails with `Memory` if memory is refused, or with `Full` if a table is full.
+pub(crate) fn walk_proof(
+    graph: &mut SearchGraph<SolverGraph<Solver>>,
+    cache: &mut GlobalCache<SolverGraph<Solver>>,
+    cx: &mut SolverCx<Solver>,
+    workspace: &Workspace,
+    number: u32,
+    depth: u32,
+) -> Result<ProofWalk, Fault>
+    requires rest { SolverRests graph.old.root_depth cx.old graph.old cache.old }
+    requires question { (q : Question) × IsQuestion workspace.now number q }
+    requires applied { (q : Question) → IsQuestion workspace.now number q → ClausesApply cx.old.handler.declarations q }
+    ensures rests { RestsAfter graph.old.root_depth cx.old cx.new graph.new cache.new }
+    ensures held { IfOk result (ProofWalkHeld cx.new.interner.entries) }
+    ensures shown { IfOk result ShowsItsSteps }
+{
+    let lowered = lower_in(cx, workspace, number)?;
+    let (goal, mut table) = pose(cx, &lowered)?;
+    let walk = walk_settled(graph, cache, cx, &mut table, &goal, depth)?;
+    with_steps(cx, &mut table, &lowered.clauses, walk)
+}
+
+/// Traces the goal of a `refute` query in coherence, at most this deep.
+///
+/// Everything stays at rest, after a fault too. Fails with `Memory` if memory is refused, or with `Full` if a table is full.
+pub(crate) fn walk_refutation(
+    graph: &mut SearchGraph<SolverGraph<Solver>>,
+    cache: &mut GlobalCache<SolverGraph<Solver>>,
+    cx: &mut SolverCx<Solver>,
+    workspace: &Workspace,
+    number: u32,
+    depth: u32,
+) -> Result<GoalWalk, Fault>
+    requires rest { SolverRests graph.old.root_depth cx.old graph.old cache.old }
+    requires question { (q : Question) × IsQuestion workspace.now number q }
+    ensures rests { RestsAfter graph.old.root_depth cx.old cx.new graph.new cache.new }
+    ensures held { IfOk result (λ w. ReferencesHeld cx.new.interner.entries w.references.items) }
+{
+    let lowered = lower_in(cx, workspace, number)?;
+    let goal = bare_goal(cx.alloc, lowered.asked);
+    let mut table = question_table_in(cx, &lowered.unknowns)?;
+    walk_alone(
+        graph,
+        cache,
+        cx,
+        &mut table,
+        TypingMode::Coherence,
+        &goal,
+        depth,
+    )
+}

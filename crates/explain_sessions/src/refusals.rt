@@ -1,0 +1,104 @@
+//! The goals that have no proof in any linked set with the session's crate.
+
+ghost use Rattle.std.specs.Prelude.{◌≡◌, ℕ, true, [], IfOk};
+ghost use Rattle.declarations.specs.Held.{ReferenceHeld};
+ghost use Rattle.declarations.specs.Promised.Elaboration.{Each};
+ghost use Rattle.infer_table.specs.Content.{Ready};
+ghost use Rattle.proof_checker.specs.Steps.{term_of};
+ghost use Rattle.sessions.specs.Promised.Promises.{view_in};
+ghost use Rattle.sessions.specs.Proving.{SolverAdvances, SolverIsReady};
+ghost use Rattle.sessions.specs.Sessions.{SolverRests, SolvesView};
+ghost use Rattle.sessions.specs.Promised.Subjects.{StaysOn};
+ghost use Rattle.explain_sessions.specs.Refusals.{IsRefusedAt, IsRefusedGoal};
+ghost use Rattle.explain_sessions.specs.Walked.{RestsAfter, WalkHeld};
+ghost use Rattle.text_language.specs.Promised.Declarations.{Declarations};
+
+use crate::instances::table_for_goals;
+use crate::places::{is_answered, push_if, reference_at};
+use crate::unknowns::is_of_table;
+use candidate_assembly::solver::Solver;
+use explain_traces::{Answer, GoalWalk};
+use infer_table::infer_ctxt::InferCtxt;
+use search_graph::{GlobalCache, SearchGraph};
+use sessions::{Session, is_impossible};
+use solver_graph::{SolverCx, SolverGraph};
+use term_folds::predicate::TraitRef;
+use type_terms::Fault;
+
+/// A table in which the numbers of a goal's variables are taken, over the interner of a context.
+pub(crate) fn goal_table_in(cx: &mut SolverCx<Solver>) -> Result<InferCtxt, Fault>
+    requires { SolverIsReady cx.old }
+    ensures advances { SolverAdvances cx.old cx.new }
+    ensures ready { IfOk result (Ready cx.new.interner.entries) }
+    ensures no_values { IfOk result (λ table. table.values ≡ []) }
+{
+    let table = table_for_goals(cx.alloc, &mut cx.interner);
+    cx.interner.lawful();
+    table
+}
+
+/// Whether a trait reference is refused in coherence, evaluated alone. It is not evaluated if it has parameters or placeholders, or too
+/// many variables.
+///
+/// Everything stays at rest, after a fault too. Fails with `Memory` if memory is refused, or with `Full` if a table is full.
+fn is_refused(
+    graph: &mut SearchGraph<SolverGraph<Solver>>,
+    cache: &mut GlobalCache<SolverGraph<Solver>>,
+    cx: &mut SolverCx<Solver>,
+    reference: TraitRef,
+) -> Result<bool, Fault>
+    requires rest { SolverRests graph.old.root_depth cx.old graph.old cache.old }
+    requires held { ReferenceHeld cx.old.interner.entries reference }
+    ensures rests { RestsAfter graph.old.root_depth cx.old cx.new graph.new cache.new }
+    ensures refused { IfOk result (λ b. b ≡ true → (d : Declarations) (c : ℕ) → SolvesView d c cx.old
+        → IsRefusedGoal (view_in d c) c (term_of cx.old.interner.entries reference)) }
+{
+    let mut table = goal_table_in(cx)?;
+    if !is_of_table(&cx.interner, &table, reference.args) {
+        return Ok(false);
+    }
+    is_impossible(graph, cache, cx, &mut table, reference)
+}
+
+/// The same for the goal at this index of a trace, if the trace has it as refused.
+fn is_refused_at(session: &mut Session<'_>, walk: &GoalWalk, place: usize) -> Result<bool, Fault>
+    requires { WalkHeld session.old.terms walk.now }
+    ensures refused { IfOk result (λ b. b ≡ true
+        → IsRefusedAt session.old.terms (view_in session.old.declarations session.old.of_crate) session.old.of_crate walk.now.references.items place) }
+    ensures held { WalkHeld session.new.terms walk.now }
+    ensures stays { StaysOn session.old session.new }
+{
+    if !is_answered(walk, place, Answer::Refused) {
+        return Ok(false);
+    }
+    let Some(reference) = reference_at(&walk.references, place) else {
+        return Ok(false);
+    };
+    is_refused(
+        &mut session.graph,
+        &mut session.cache,
+        &mut session.cx,
+        reference,
+    )
+}
+
+/// The indices of goals of a trace that are refused like a `refute` query with the answer `No`: they have no proof in any linked set with
+/// the session's crate, whatever types and constants their variables stand for.
+///
+/// Each goal that the trace has as refused is evaluated once more in coherence, without where-clauses. A goal that is not named may be
+/// refused too, for example if it has a parameter or too many variables. Fails with `Memory` if memory is refused, or with `Full` if a
+/// table of the session is full.
+pub fn refused_goals(session: &mut Session<'_>, walk: &GoalWalk) -> Result<Vec<usize>, Fault>
+    requires { WalkHeld session.old.terms walk.now }
+    ensures refused { IfOk result (λ ps. Each
+        (IsRefusedAt session.old.terms (view_in session.old.declarations session.old.of_crate) session.old.of_crate walk.now.references.items) ps.items) }
+    ensures held { WalkHeld session.new.terms walk.now }
+    ensures stays { StaysOn session.old session.new }
+{
+    let mut found = Vec::new(session.cx.alloc);
+    for place in 0..walk.nodes.len() {
+        let is_refused = is_refused_at(session, walk, place)?;
+        push_if(&mut found, place, is_refused)?;
+    }
+    Ok(found)
+}

@@ -1,0 +1,93 @@
+//! Which crates outside the view of a session's crate may have impls. The reasons are those of rustc's `Conflict`.
+//!
+//! - Downstream: for `&?x: Local`, a crate that uses this one may have `impl Local for &Theirs`.
+//! - Upstream: for `Vec<u8>: Foreign`, a later version of the crate of `Foreign` may add the impl.
+
+ghost use Rattle.std.specs.Prelude.{◌≡◌, IfOk, IfSome};
+ghost use Rattle.declarations.specs.Held.{ReferenceHeld};
+ghost use Rattle.declarations.specs.Items.{declared, reference_in};
+ghost use Rattle.sessions.specs.Promised.Promises.{view_in};
+ghost use Rattle.explain_sessions.specs.Unseen.{IsUnseen};
+ghost use Rattle.explain_sessions.specs.Walked.{WalkHeld};
+
+use crate::places::reference_at;
+use declarations::declarations::Declarations;
+use explain_traces::GoalWalk;
+use infer_table::infer_ctxt::InferCtxt;
+use orphan_check::errors::{Conflict, WalkError};
+use orphan_check::knowable::trait_ref_is_knowable;
+use orphan_check::normalize::AlreadyNormal;
+use sessions::Session;
+use std::alloc::Global;
+use term_folds::predicate::TraitRef;
+use type_terms::interner::Interner;
+use type_terms::{Fault, ImplId};
+
+/// Which crates outside the view may have an impl for a trait reference, if any may. Fails only with `Memory`.
+fn conflict_of(
+    alloc: Global,
+    cx: &Interner,
+    declarations: &Declarations,
+    reference: TraitRef,
+) -> Result<Option<Conflict>, Fault>
+    requires { ReferenceHeld cx.now.entries reference }
+    ensures { IfOk result (IsUnseen (declared cx.now.entries declarations.now) declarations.now.local (reference_in cx.now.entries reference)) }
+{
+    // No variable has a value, nothing has to be normalized, and no walk goes deeper than the arguments are.
+    let table = InferCtxt::new(alloc);
+    let limit = cx.depth(reference.args);
+    match trait_ref_is_knowable(
+        alloc,
+        cx,
+        &table,
+        declarations,
+        reference,
+        limit,
+        &AlreadyNormal,
+    ) {
+        Ok(Ok(())) => Ok(None),
+        Ok(Err(conflict)) => Ok(Some(conflict)),
+        Err(WalkError::Memory) => Err(Fault::Memory),
+        Err(WalkError::Deep) => unreachable!(),
+        Err(WalkError::Normalize(_)) => unreachable!(),
+    }
+}
+
+/// Which crates that the session's crate does not see may have an impl for a trait reference: a later version of the crate of its trait or
+/// of a type, or a crate that uses the session's crate. `None` if the trait reference is knowable. Variables stand for any terms. Fails
+/// only with `Memory`.
+pub fn unseen_crates(session: &Session<'_>, reference: TraitRef) -> Result<Option<Conflict>, Fault>
+    requires { ReferenceHeld session.now.terms reference }
+    ensures { IfOk result (IsUnseen (view_in session.now.declarations session.now.of_crate) session.now.of_crate (reference_in session.now.terms reference)) }
+{
+    conflict_of(
+        session.cx.alloc,
+        &session.cx.interner,
+        &session.cx.handler.declarations,
+        reference,
+    )
+}
+
+/// The same for the trait reference at this index of a trace. `None` if the trace has no such index.
+pub fn unseen_at(
+    session: &Session<'_>,
+    walk: &GoalWalk,
+    place: usize,
+) -> Result<Option<Conflict>, Fault>
+    requires { WalkHeld session.now.terms walk.now }
+{
+    match reference_at(&walk.references, place) {
+        Some(reference) => unseen_crates(session, reference),
+        None => Ok(None),
+    }
+}
+
+/// The header of an impl, over the impl's own parameters. `None` if the session's crate does not see the impl.
+pub fn impl_header(session: &Session<'_>, id: ImplId) -> Option<TraitRef>
+    ensures { IfSome result (ReferenceHeld session.now.terms) }
+{
+    match session.cx.handler.declarations.impl_def(id) {
+        Some(def) => Some(def.header),
+        None => None,
+    }
+}

@@ -1,0 +1,105 @@
+//! Traces of the solver's goals that begin without any goal.
+
+ghost use Rattle.std.specs.Prelude.{◌≡◌, [], IfOk};
+ghost use Rattle.declarations.specs.Applied.{TraitRefsHeld, AreApplied};
+ghost use Rattle.declarations.specs.Held.{ReferenceHeld};
+ghost use Rattle.infer_table.specs.Content.{Ready};
+ghost use Rattle.infer_table.specs.Goals.{GoalHeld};
+ghost use Rattle.explain_traces.specs.Walking.{ReferencesHeld};
+ghost use Rattle.sessions.specs.Proving.{SolverAdvances, SolverIsReady};
+ghost use Rattle.sessions.specs.Sessions.{SolverRests};
+ghost use Rattle.explain_sessions.specs.Walked.{RestsAfter};
+
+use candidate_assembly::solver::Solver;
+use goal_evaluator::{Goal, TypingMode};
+use explain_traces::{GoalWalk, settle, walk_goal};
+use infer_table::infer_ctxt::InferCtxt;
+use search_graph::{GlobalCache, SearchGraph};
+use sessions::{elaborate_in, goal_under};
+use solver_graph::{SolverCx, SolverGraph};
+use std::alloc::Global;
+use term_folds::predicate::{TraitPredicate, TraitRef};
+use type_terms::Fault;
+
+/// The goal for a trait reference under where-clauses with all their supertraits.
+pub(crate) fn elaborated_goal(
+    cx: &mut SolverCx<Solver>,
+    clauses: &[TraitRef],
+    asked: TraitRef,
+) -> Result<Goal, Fault>
+    requires ready { SolverIsReady cx.old }
+    requires clauses { TraitRefsHeld cx.old.interner.entries clauses.now }
+    requires applied { AreApplied cx.old.interner.entries cx.old.handler.declarations clauses.now }
+    requires asked { ReferenceHeld cx.old.interner.entries asked }
+    ensures advances { SolverAdvances cx.old cx.new }
+    ensures held { IfOk result (GoalHeld cx.new.interner.entries) }
+{
+    let elaborated = elaborate_in(cx, clauses)?;
+    let goal = goal_under(cx.alloc, &elaborated, asked)?;
+    Ok(goal)
+}
+
+/// The goal for a trait reference without where-clauses.
+pub(crate) fn bare_goal(alloc: Global, asked: TraitRef) -> Goal
+    ensures clauses { result.param_env.items ≡ [] }
+    ensures asked { result.predicate.trait_ref ≡ asked }
+{
+    Goal {
+        param_env: Vec::new(alloc),
+        predicate: TraitPredicate { trait_ref: asked },
+    }
+}
+
+/// Traces a goal over a table, at most this deep.
+///
+/// Everything stays at rest, after a fault too. Fails with `Memory` if memory is refused, or with `Full` if a table is full.
+pub(crate) fn walk_alone(
+    graph: &mut SearchGraph<SolverGraph<Solver>>,
+    cache: &mut GlobalCache<SolverGraph<Solver>>,
+    cx: &mut SolverCx<Solver>,
+    table: &mut InferCtxt,
+    mode: TypingMode,
+    goal: &Goal,
+    depth: u32,
+) -> Result<GoalWalk, Fault>
+    requires rest { SolverRests graph.old.root_depth cx.old graph.old cache.old }
+    requires table { Ready cx.old.interner.entries table.old }
+    requires goal { GoalHeld cx.old.interner.entries goal.now }
+    ensures rests { RestsAfter graph.old.root_depth cx.old cx.new graph.new cache.new }
+    ensures table { Ready cx.new.interner.entries table.new }
+    ensures held { IfOk result (λ w. ReferencesHeld cx.new.interner.entries w.references.items) }
+{
+    let mut walk = GoalWalk::new(cx.alloc);
+    let _root = walk_goal(graph, cache, cx, table, &mut walk, mode, goal, depth)?;
+    Ok(walk)
+}
+
+/// Traces a goal over a table, after the values that the search gives its variables are put in.
+///
+/// Everything stays at rest, after a fault too. Fails with `Memory` if memory is refused, or with `Full` if a table is full.
+pub(crate) fn walk_settled(
+    graph: &mut SearchGraph<SolverGraph<Solver>>,
+    cache: &mut GlobalCache<SolverGraph<Solver>>,
+    cx: &mut SolverCx<Solver>,
+    table: &mut InferCtxt,
+    goal: &Goal,
+    depth: u32,
+) -> Result<GoalWalk, Fault>
+    requires rest { SolverRests graph.old.root_depth cx.old graph.old cache.old }
+    requires table { Ready cx.old.interner.entries table.old }
+    requires goal { GoalHeld cx.old.interner.entries goal.now }
+    ensures rests { RestsAfter graph.old.root_depth cx.old cx.new graph.new cache.new }
+    ensures table { Ready cx.new.interner.entries table.new }
+    ensures held { IfOk result (λ w. ReferencesHeld cx.new.interner.entries w.references.items) }
+{
+    settle(graph, cache, cx, table, TypingMode::PostAnalysis, goal)?;
+    walk_alone(
+        graph,
+        cache,
+        cx,
+        table,
+        TypingMode::PostAnalysis,
+        goal,
+        depth,
+    )
+}

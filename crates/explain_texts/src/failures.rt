@@ -1,0 +1,211 @@
+//! The text for a goal without a proof that was found: the deepest goal that failed, and what requires it.
+
+use crate::items::{Texts, has_rules, impl_line, trait_name, written};
+use crate::lines::ImplLine;
+use crate::links::{last_of, tell_links, tell_supertrait};
+use crate::refused::{Refusal, tell_refused};
+use crate::sentences::{Piece, Sentence, plain, with_one, with_two};
+use crate::spoken::Spoken;
+use crate::story::{Story, refused_premise};
+use crate::telling::Telling;
+use explain_diagnostics::{Diagnostic, ErrCode, LIST_LIMIT, Level, Span};
+use explain_traces::Standing;
+use std::alloc::{AllocError, Global};
+use type_terms::{ImplId, TraitId};
+
+/// What requires a goal: a query, or the header of an impl.
+#[derive(Clone, Copy)]
+pub struct Asking<'s> {
+    /// Where it is in the text.
+    pub span: Span,
+    /// The depth limit of the run.
+    pub depth: u32,
+    /// The impls that its crate sees.
+    pub seen: &'s [ImplId],
+    /// The number of the supertrait, counted from 1, if a header requires it. `None` for a query.
+    pub supertrait: Option<u32>,
+}
+
+/// The nested goal that makes a goal fail: that of its one candidate, if it is refused.
+fn failing_premise(story: &Story<'_>, place: usize) -> Option<usize> {
+    refused_premise(story, story.only_candidate(place)?)
+}
+
+/// The goals from index 0 to the first that fails for a reason of its own, and not because the nested goal of its one candidate is refused.
+fn failing_path(alloc: Global, story: &Story<'_>) -> Result<Vec<usize>, AllocError> {
+    let mut path = Vec::new(alloc);
+    let mut at = 0usize;
+    for _goal in 0..story.len() {
+        path.push(at)?;
+        match failing_premise(story, at) {
+            Some(premise) => at = premise,
+            None => return Ok(path),
+        }
+    }
+    Ok(path)
+}
+
+/// Whether an impl is of a trait.
+pub(crate) fn is_of_trait(texts: Texts<'_>, id: ImplId, of_trait: TraitId) -> bool {
+    match texts.workspace.impls().get(id.index as usize) {
+        Some(entry) => entry.header.trait_id == of_trait,
+        None => false,
+    }
+}
+
+/// Whether a trait has parameters.
+pub(crate) fn has_params(texts: Texts<'_>, id: TraitId) -> bool {
+    match texts.workspace.traits().get(id.index as usize) {
+        Some(entry) => !entry.params.is_empty(),
+        None => false,
+    }
+}
+
+/// An impl as it is written, with its line: its type, and its whole header if the trait has parameters.
+fn written_impl<'w>(
+    texts: Texts<'w>,
+    found: &ImplLine,
+    has_params: bool,
+    is_first: bool,
+) -> Sentence<'w> {
+    let place = if has_params {
+        found.parts.header
+    } else {
+        found.parts.subject
+    };
+    let header = Piece::Name(written(texts, found.line, place));
+    let template = if is_first {
+        "`{}` (line {})"
+    } else {
+        ", `{}` (line {})"
+    };
+    with_two(template, header, Piece::Number(found.line as usize))
+}
+
+/// The sentence that a trait has no impl.
+fn without_impls(texts: Texts<'_>, id: TraitId) -> Sentence<'_> {
+    let template = if has_rules(texts, id) {
+        "`{}` has built-in rules alone here"
+    } else {
+        "no crate that is seen has an impl of `{}`"
+    };
+    with_one(template, Piece::Name(trait_name(texts, id)))
+}
+
+/// Begins the help about how a trait is implemented.
+fn begin_impls(texts: Texts<'_>, id: TraitId, telling: &mut Telling) {
+    let how = if has_params(texts, id) { "as" } else { "for" };
+    let name = Piece::Name(trait_name(texts, id));
+    telling.help(with_two("`{}` is implemented {} ", name, Piece::Text(how)));
+}
+
+/// Adds an impl of a trait to the help. If more impls than are displayed come before it, nothing is added.
+fn tell_impl(
+    texts: Texts<'_>,
+    id: TraitId,
+    found: &ImplLine,
+    before: usize,
+    telling: &mut Telling,
+) {
+    if before == 0 {
+        begin_impls(texts, id, telling);
+    }
+    if before < LIST_LIMIT {
+        let has_params = has_params(texts, id);
+        telling.extend_child(written_impl(texts, found, has_params, before == 0));
+    } else if before == LIST_LIMIT {
+        telling.extend_child(plain(", .."));
+    }
+}
+
+/// Adds the help about how a trait is implemented, with the impls that the crate sees. Those of `core` are left out.
+fn tell_implemented(texts: Texts<'_>, id: TraitId, seen: &[ImplId], telling: &mut Telling) {
+    let mut is_implemented = false;
+    let mut count = 0usize;
+    for other in seen {
+        if is_of_trait(texts, *other, id) {
+            is_implemented = true;
+            if let Some(found) = impl_line(texts, *other) {
+                tell_impl(texts, id, found, count, telling);
+                count = count.saturating_add(1);
+            }
+        }
+    }
+    if !is_implemented {
+        telling.help(without_impls(texts, id));
+    }
+}
+
+/// Adds the help to use a where-clause, if a parameter fails.
+fn tell_where(spoken: &Spoken, is_impl: bool, telling: &mut Telling) {
+    let template = if is_impl {
+        "consider a where-clause of the impl: `where {}`"
+    } else {
+        "consider asking under a where-clause: `where {}`"
+    };
+    if spoken.is_param {
+        telling.help(with_one(template, spoken.reference_piece()));
+    }
+}
+
+/// The sentence if the nested goals of the failed goal are not displayed, or if it needs itself.
+fn standing_said<'s>(story: &'s Story<'_>, leaf: usize) -> Option<Sentence<'s>> {
+    match story.standing(leaf) {
+        Standing::Cut | Standing::Unwalked => {
+            Some(plain("the goals that this one asks are not shown"))
+        }
+        Standing::Cycle(_) => Some(with_one(
+            "`{}` needs itself: such a cycle proves nothing",
+            story.reference(leaf),
+        )),
+        Standing::Opened | Standing::Same(_) => None,
+    }
+}
+
+/// Adds why the goal failed: its nested goals are not displayed, or its candidates are refused.
+fn tell_leaf(story: &Story<'_>, leaf: usize, telling: &mut Telling) {
+    if let Some(said) = standing_said(story, leaf) {
+        telling.note(said);
+    }
+    tell_refused(story, leaf, Refusal::NotProved, telling);
+}
+
+/// Adds what may help.
+fn tell_helps(story: &Story<'_>, leaf: usize, asking: Asking<'_>, telling: &mut Telling) {
+    if let Some(spoken) = story.spoken(leaf) {
+        tell_where(spoken, asking.supertrait.is_some(), telling);
+        tell_implemented(story.texts, spoken.trait_id, asking.seen, telling);
+    }
+}
+
+/// The message that no proof of a goal was found.
+fn message_of<'s>(story: &'s Story<'_>, leaf: usize) -> Sentence<'s> {
+    with_one("the trait bound `{}` was not proved", story.reference(leaf))
+}
+
+/// The label at the bound that is queried.
+fn said_at<'s>(story: &'s Story<'_>, leaf: usize) -> Sentence<'s> {
+    with_two(
+        "no proof was found that `{}` implements `{}`",
+        story.subject(leaf),
+        story.bound(leaf),
+    )
+}
+
+/// The diagnostic for a goal without a proof that was found.
+pub fn unproved(
+    alloc: Global,
+    story: &Story<'_>,
+    asking: Asking<'_>,
+) -> Result<Diagnostic, AllocError> {
+    let path = failing_path(alloc, story)?;
+    let leaf = last_of(&path);
+    let message = message_of(story, leaf);
+    let mut telling = Telling::begin(alloc, Level::Error, Some(ErrCode::E0277), message);
+    telling.mark(asking.span, said_at(story, leaf));
+    tell_links(story, &path, &mut telling);
+    tell_supertrait(story, asking.supertrait, &mut telling);
+    tell_leaf(story, leaf, &mut telling);
+    tell_helps(story, leaf, asking, &mut telling);
+    telling.finish()
+}

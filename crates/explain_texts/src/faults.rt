@@ -1,0 +1,88 @@
+//! The text for a fault of a text.
+
+use crate::offending::tell_offence;
+use crate::sentences::{Piece, plain, with_one};
+use crate::telling::Telling;
+use explain_diagnostics::{Diagnostic, ErrCode, Level, SourceFile};
+use text_names::FaultKind;
+use std::alloc::{AllocError, Global};
+use text_parser::TextFault;
+
+/// The message for a fault.
+fn message(kind: FaultKind) -> &'static str {
+    match kind {
+        FaultKind::OtherByte => "a byte that is not ASCII",
+        FaultKind::Syntax => "this line is not in the grammar",
+        FaultKind::Misplaced =>
+            "an item stands before any `crate` line, or a struct or a trait in a section",
+        FaultKind::Taken => "a name is declared twice",
+        FaultKind::Unknown => "a name is not known",
+        FaultKind::Hidden => "a struct or trait is used that the crate does not see",
+        FaultKind::OtherSort =>
+            "a name stands for something of another kind, or has other arguments",
+        FaultKind::FreeParam => "a type or const parameter of the impl is not in its header",
+        FaultKind::OwnBound => "the bounds of a trait use its own name",
+        FaultKind::LoadedAuto => "an auto trait has no parameters and no bounds",
+        FaultKind::ForeignAuto =>
+            "an auto trait is implemented for structs of the impl's crate alone",
+        FaultKind::BuiltIn => "this trait has built-in rules alone",
+        FaultKind::StrayVariable => "a variable stands outside what is asked, or for two kinds",
+        FaultKind::RefutesParams => "a `refute` has no parameters",
+        FaultKind::BadDyn => "the items of a `dyn` do not fit one another",
+        FaultKind::Limit => "a limit is passed",
+    }
+}
+
+/// The code of rustc for the same error, if there is one.
+fn code(kind: FaultKind) -> Option<ErrCode> {
+    match kind {
+        FaultKind::FreeParam => Some(ErrCode::E0207),
+        FaultKind::OwnBound => Some(ErrCode::E0391),
+        _ => None,
+    }
+}
+
+/// What to do about it, where that is the same for all lines with the fault.
+fn advice(kind: FaultKind) -> Option<&'static str> {
+    match kind {
+        FaultKind::OtherByte => Some("write the text in ASCII, its comments too"),
+        FaultKind::FreeParam => Some(
+            "leave the parameter out, or use it in the trait's arguments or in the self type",
+        ),
+        FaultKind::LoadedAuto => Some("leave them out, or leave `auto` out"),
+        FaultKind::RefutesParams => Some("ask with a variable, as `?x`"),
+        _ => None,
+    }
+}
+
+/// Under which heading of docs/FORMAT.md the rule stands.
+fn heading(kind: FaultKind) -> &'static str {
+    match kind {
+        FaultKind::OtherByte => "Bytes, lines and tokens",
+        FaultKind::Syntax => "Rust and how it is written here",
+        FaultKind::Misplaced | FaultKind::Taken | FaultKind::Unknown | FaultKind::Hidden => {
+            "Statements"
+        }
+        FaultKind::BuiltIn => "Built-in rules",
+        FaultKind::Limit => "Limits",
+        _ => "Faults",
+    }
+}
+
+/// The diagnostic for a text with a fault.
+pub fn fault_diagnostic(
+    alloc: Global,
+    text: &[u8],
+    file: &SourceFile<'_>,
+    fault: TextFault,
+) -> Result<Diagnostic, AllocError> {
+    let message = plain(message(fault.kind));
+    let mut telling = Telling::begin(alloc, Level::Error, code(fault.kind), message);
+    tell_offence(text, file, fault, &mut telling);
+    if let Some(advice) = advice(fault.kind) {
+        telling.help(plain(advice));
+    }
+    let heading = Piece::Text(heading(fault.kind));
+    telling.help(with_one("the rule: docs/FORMAT.md, `{}`", heading));
+    telling.finish()
+}

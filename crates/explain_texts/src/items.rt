@@ -1,0 +1,103 @@
+//! The names of items, and where they are in the text.
+
+use crate::lines::{ImplLine, ItemLines};
+use crate::sentences::Piece;
+use crate::telling::Telling;
+use explain_diagnostics::{Place, SourceFile, on_line, text_of};
+use type_terms::{CrateId, ImplId, TraitId};
+use workspace::Workspace;
+
+/// A text, with what it declares and where that is.
+#[derive(Clone, Copy)]
+pub struct Texts<'w> {
+    pub workspace: &'w Workspace,
+    pub file: &'w SourceFile<'w>,
+    pub lines: &'w ItemLines,
+}
+
+/// The line of an impl. `None` for an impl of `core`.
+pub fn impl_line<'w>(texts: Texts<'w>, id: ImplId) -> Option<&'w ImplLine> {
+    let all = texts.workspace.impls().len();
+    let of_core = all.checked_sub(texts.lines.impls.len())?;
+    let place = (id.index as usize).checked_sub(of_core)?;
+    texts.lines.impls.get(place)
+}
+
+/// A part of a line as it is written.
+pub(crate) fn written<'w>(texts: Texts<'w>, line: u32, place: Place) -> Name<'w> {
+    name_of(text_of(texts.file.line(line), place))
+}
+
+/// What an impl is called: by its line, or by its number in `core`.
+pub fn impl_piece(texts: Texts<'_>, id: ImplId) -> Piece<'static> {
+    if let Some(found) = impl_line(texts, id) {
+        return Piece::ImplAtLine(found.line);
+    }
+    match texts.workspace.impls().get(id.index as usize) {
+        Some(entry) => Piece::ImplOfCore(entry.number_in_crate),
+        None => Piece::Text("impl"),
+    }
+}
+
+/// A name. It is displayed as `cut_text` displays a text.
+#[derive(Clone, Copy)]
+pub struct Name<'w> {
+    pub(crate) bytes: &'w [u8],
+}
+
+/// A name of a text.
+pub(crate) fn name_of(bytes: &[u8]) -> Name<'_> {
+    Name { bytes }
+}
+
+/// The name of a trait.
+pub fn trait_name<'w>(texts: Texts<'w>, id: TraitId) -> Name<'w> {
+    match texts.workspace.traits().get(id.index as usize) {
+        Some(entry) => name_of(&entry.name),
+        None => name_of(&[]),
+    }
+}
+
+/// The name of a crate of a workspace.
+pub(crate) fn name_in(workspace: &Workspace, id: CrateId) -> Name<'_> {
+    if (id.index as usize) < workspace.crates().len() {
+        name_of(workspace.crate_name(id))
+    } else {
+        name_of(&[])
+    }
+}
+
+/// The name of a crate.
+pub fn crate_name<'w>(texts: Texts<'w>, id: CrateId) -> Name<'w> {
+    name_in(texts.workspace, id)
+}
+
+/// The name of the crate of a trait.
+pub(crate) fn trait_home<'w>(texts: Texts<'w>, id: TraitId) -> Name<'w> {
+    match texts.workspace.traits().get(id.index as usize) {
+        Some(entry) => crate_name(texts, entry.owner),
+        None => name_of(&[]),
+    }
+}
+
+/// Whether a trait has built-in rules: it is of `core`, or auto.
+pub(crate) fn has_rules(texts: Texts<'_>, id: TraitId) -> bool {
+    match texts.workspace.traits().get(id.index as usize) {
+        Some(entry) => entry.is_auto || entry.owner.index == 0,
+        None => false,
+    }
+}
+
+/// Whether a trait is fundamental.
+pub fn is_fundamental(texts: Texts<'_>, id: TraitId) -> bool {
+    match texts.workspace.traits().get(id.index as usize) {
+        Some(entry) => entry.is_fundamental,
+        None => false,
+    }
+}
+
+/// Marks the trait and the type of an impl in the last child, without labels.
+pub(crate) fn mark_parts(found: &ImplLine, telling: &mut Telling) {
+    telling.mark_child(on_line(found.line, found.parts.bound));
+    telling.mark_child(on_line(found.line, found.parts.subject));
+}

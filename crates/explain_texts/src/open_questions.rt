@@ -1,0 +1,83 @@
+//! The text for a query that was answered `open`.
+
+use crate::failures::Asking;
+use crate::reasons::{Reason, is_left, open_path, reason_of, tell_limit, tell_path};
+use crate::sentences::{Sentence, plain, with_one};
+use crate::sources::source_piece;
+use crate::story::Story;
+use crate::telling::Telling;
+use explain_diagnostics::{Diagnostic, LIST_LIMIT, Level};
+use goal_evaluator::Certainty;
+use explain_traces::{Answer, CandidateNode};
+use std::alloc::{AllocError, Global};
+
+/// The sentence for a candidate that may apply, which says so if that was not checked.
+pub(crate) fn chance(may_apply: bool) -> &'static str {
+    if may_apply {
+        "the {} may apply"
+    } else {
+        "the {} may apply, not checked"
+    }
+}
+
+/// The sentence for the candidate with this number, which is left: it applies, if the goal holds by it, or it may apply. It says so if that
+/// was not checked.
+fn way_said(
+    story: &Story<'_>,
+    candidate: &CandidateNode,
+    holds: bool,
+    number: usize,
+) -> Sentence<'static> {
+    let template = if !holds || candidate.certainty != Some(Certainty::Yes) {
+        chance(story.may_apply(0, number))
+    } else if story.is_rule(0, number) {
+        "the {} applies"
+    } else {
+        "the {} applies, not checked"
+    };
+    with_one(template, source_piece(story.texts, candidate.source))
+}
+
+/// Adds the notes for the candidates that apply, or may apply. If the self type is a variable, none is added, because the one candidate
+/// stands for all impls.
+fn tell_ways(story: &Story<'_>, telling: &mut Telling) {
+    if story.is_unknown(0) {
+        return;
+    }
+    let holds = story.answer(0) == Answer::Yes;
+    let mut count = 0usize;
+    for (number, candidate) in story.candidates(0).iter().enumerate() {
+        if is_left(candidate) {
+            if count == LIST_LIMIT {
+                telling.note(plain("others may apply too"));
+                return;
+            }
+            count = count.saturating_add(1);
+            telling.note(way_said(story, candidate, holds, number));
+        }
+    }
+}
+
+/// What is said of a question that was answered open.
+pub fn left_open(
+    alloc: Global,
+    story: &Story<'_>,
+    asking: Asking<'_>,
+) -> Result<Diagnostic, AllocError> {
+    let message = with_one(
+        "`{}` holds, or some crate could make it hold",
+        story.reference(0),
+    );
+    let path = open_path(alloc, story, 0)?;
+    let mut telling = Telling::begin(alloc, Level::Note, None, message);
+    telling.mark(asking.span, plain(""));
+    let mut reason = reason_of(story, 0);
+    if path.len() > 1 || !matches!(reason, Reason::Open) {
+        reason = tell_path(story, &path, asking, &mut telling);
+    }
+    if !story.is_held(0) {
+        tell_ways(story, &mut telling);
+    }
+    tell_limit(reason, asking.depth, &mut telling);
+    telling.finish()
+}

@@ -1,0 +1,100 @@
+//! The text for a query that was answered `no`.
+
+use crate::items::{Texts, has_rules, is_fundamental, trait_name};
+use crate::refused::{Refusal, tell_refused};
+use crate::sentences::{Piece, Sentence, plain, with_one, with_three, with_two};
+use crate::spoken::Spoken;
+use crate::story::Story;
+use crate::telling::Telling;
+use explain_diagnostics::{Diagnostic, Level, Span};
+use orphan_check::errors::Conflict;
+use explain_sessions::Adder;
+use std::alloc::{AllocError, Global};
+
+/// The sentence that nothing fits. It says so if that was not checked.
+fn nothing_fits<'s>(story: &Story<'s>, spoken: &Spoken) -> Sentence<'s> {
+    let texts = story.texts;
+    let template = if !has_rules(texts, spoken.trait_id) {
+        if story.has_no_impl() {
+            "no impl of `{}` fits"
+        } else {
+            "no impl of `{}` fits, not checked"
+        }
+    } else if story.has_no_impl() && story.has_no_built_in_rule() {
+        "no impl and no built-in rule of `{}` fits"
+    } else {
+        "no impl and no built-in rule of `{}` fits, not checked"
+    };
+    with_one(template, Piece::Name(trait_name(texts, spoken.trait_id)))
+}
+
+/// Why no crate outside the view may add an impl.
+fn known_said<'s>(texts: Texts<'s>, spoken: &'s Spoken) -> Sentence<'s> {
+    let name = Piece::Name(trait_name(texts, spoken.trait_id));
+    let reference = spoken.reference_piece();
+    if is_fundamental(texts, spoken.trait_id) {
+        with_two(
+            "no other crate may add an impl: `{}` is fundamental, and the orphan rule lets no other crate write one for `{}`",
+            name,
+            reference,
+        )
+    } else {
+        with_one(
+            "no other crate may add an impl: the orphan rule lets none write one for `{}`",
+            reference,
+        )
+    }
+}
+
+/// Why an impl that a crate outside the view may add changes nothing.
+fn unseen_said<'s>(texts: Texts<'s>, spoken: &'s Spoken, adder: Option<Adder>) -> Sentence<'s> {
+    let template = match adder {
+        Some(Adder::Owner(_)) =>
+            "upstream crates may add a new impl of trait `{}` for type `{}` in future versions, but such an impl would need the supertraits of `{}`, of which one is refused",
+        Some(Adder::User) =>
+            "downstream crates may implement trait `{}` for type `{}`, but such an impl would need the supertraits of `{}`, of which one is refused",
+        None =>
+            "an impl of trait `{}` for type `{}` that is not seen would need the supertraits of `{}`, of which one is refused",
+    };
+    let name = Piece::Name(trait_name(texts, spoken.trait_id));
+    with_three(template, spoken.bound_piece(), spoken.subject_piece(), name)
+}
+
+/// Why nothing outside the view proves the trait reference.
+fn unseen_why<'s>(
+    texts: Texts<'s>,
+    spoken: &'s Spoken,
+    unseen: Option<Conflict>,
+    adder: Option<Adder>,
+) -> Sentence<'s> {
+    match unseen {
+        None => known_said(texts, spoken),
+        Some(_) => unseen_said(texts, spoken, adder),
+    }
+}
+
+/// Adds why nothing in the view, and nothing outside it, proves the trait reference.
+fn tell_whys(story: &Story<'_>, telling: &mut Telling) {
+    tell_refused(story, 0, Refusal::NoCrate, telling);
+    let Some(spoken) = story.spoken(0) else {
+        return;
+    };
+    if story.candidates(0).is_empty() && story.is_whole(0) {
+        telling.note(nothing_fits(story, spoken));
+    }
+    if let Some(unseen) = story.unseen(0) {
+        telling.note(unseen_why(story.texts, spoken, unseen, story.adder(0)));
+    }
+}
+
+/// The diagnostic for a query that was answered `no`, at this span.
+pub fn refuted(alloc: Global, story: &Story<'_>, span: Span) -> Result<Diagnostic, AllocError> {
+    let message = with_one(
+        "no crate that may be linked with this one can make `{}` hold",
+        story.reference(0),
+    );
+    let mut telling = Telling::begin(alloc, Level::Note, None, message);
+    telling.mark(span, plain(""));
+    tell_whys(story, &mut telling);
+    telling.finish()
+}

@@ -1,0 +1,288 @@
+//! A trace with its trait references rendered.
+
+ghost use Rattle.explain_traces.specs.Walking.{ReferencesHeld};
+ghost use Rattle.explain_sessions.specs.Claims.{ClaimsHold};
+ghost use Rattle.explain_sessions.specs.Walked.{WalkHeld};
+
+use crate::items::Texts;
+use crate::sentences::{NONE, Piece};
+use crate::spoken::{Spoken, speak};
+use text_printer::ShownNames;
+use explain_traces::{Answer, CandidateNode, GoalWalk, Standing};
+use orphan_check::errors::Conflict;
+use explain_sessions::{Adder, Claims};
+use sessions::Session;
+use std::alloc::{AllocError, Global};
+use term_folds::predicate::TraitRef;
+use type_terms::interner::Interner;
+
+/// A trace of a text's goal, with its trait references rendered, and what is claimed of it. Goals are named by their indices.
+pub struct Story<'w> {
+    pub texts: Texts<'w>,
+    spoken: Vec<Spoken>,
+    walk: &'w GoalWalk,
+    claims: &'w Claims,
+}
+
+// Hand-written so that the prover sees one drop call: docs/PROVING.md#drop.
+impl Drop for Story<'_> {
+    fn drop(self) {
+        let Story {
+            texts: _,
+            spoken: _,
+            walk: _,
+            claims: _,
+        } = self;
+    }
+}
+
+/// Renders all trait references.
+fn speak_all(
+    alloc: Global,
+    cx: &Interner,
+    names: &ShownNames<'_>,
+    references: &[TraitRef],
+) -> Result<Vec<Spoken>, AllocError>
+    requires { ReferencesHeld cx.now.entries references.now }
+{
+    let mut spoken = Vec::new(alloc);
+    for reference in references {
+        let next = speak(alloc, cx, names, *reference)?;
+        spoken.push(next)?;
+    }
+    Ok(spoken)
+}
+
+/// Renders a trace of a session, with what is claimed of it. The caller must prove the claims, so what the crate's view does not make true
+/// cannot be stated as checked.
+pub fn tell<'w>(
+    alloc: Global,
+    texts: Texts<'w>,
+    session: &Session<'_>,
+    names: &ShownNames<'_>,
+    walk: &'w GoalWalk,
+    claims: &'w Claims,
+) -> Result<Story<'w>, AllocError>
+    requires walked { WalkHeld session.now.terms walk.now }
+    requires claims { ClaimsHold session.now walk.now claims.now }
+{
+    let spoken = speak_all(alloc, session.interner(), names, &walk.references)?;
+    Ok(Story {
+        texts,
+        spoken,
+        walk,
+        claims,
+    })
+}
+
+/// Whether the candidate with this number, of this goal, is among these.
+fn is_among(candidates: &[(usize, usize)], place: usize, number: usize) -> bool {
+    for candidate in candidates {
+        if candidate.0 == place && candidate.1 == number {
+            return true;
+        }
+    }
+    false
+}
+
+impl Story<'_> {
+    /// How many goals there are.
+    pub(crate) fn len(&self) -> usize {
+        self.walk.nodes.len()
+    }
+
+    /// The rendered trait reference of a goal.
+    pub fn spoken(&self, place: usize) -> Option<&Spoken> {
+        self.spoken.get(place)
+    }
+
+    /// The trait reference of a goal, for a sentence.
+    pub fn reference(&self, place: usize) -> Piece<'_> {
+        match self.spoken(place) {
+            Some(spoken) => spoken.reference_piece(),
+            None => NONE,
+        }
+    }
+
+    /// The self type of a goal, for a sentence.
+    pub(crate) fn subject(&self, place: usize) -> Piece<'_> {
+        match self.spoken(place) {
+            Some(spoken) => spoken.subject_piece(),
+            None => NONE,
+        }
+    }
+
+    /// The bound of a goal, for a sentence.
+    pub(crate) fn bound(&self, place: usize) -> Piece<'_> {
+        match self.spoken(place) {
+            Some(spoken) => spoken.bound_piece(),
+            None => NONE,
+        }
+    }
+
+    /// Whether the self type of a goal is a variable.
+    pub(crate) fn is_unknown(&self, place: usize) -> bool {
+        match self.spoken(place) {
+            Some(spoken) => spoken.is_unknown,
+            None => false,
+        }
+    }
+
+    /// The first argument of a goal that is a variable. Empty if there is none.
+    pub(crate) fn unknown(&self, place: usize) -> &str {
+        match self.spoken(place) {
+            Some(spoken) => spoken.unknown.as_str(),
+            None => "",
+        }
+    }
+
+    /// How a goal is answered.
+    pub fn answer(&self, place: usize) -> Answer {
+        match self.walk.node(place) {
+            Some(node) => node.answer,
+            None => Answer::Nothing,
+        }
+    }
+
+    /// Whether a goal is refused.
+    pub(crate) fn is_refused(&self, place: usize) -> bool {
+        self.answer(place) == Answer::Refused
+    }
+
+    /// Whether a goal is ambiguous.
+    pub(crate) fn is_unsure(&self, place: usize) -> bool {
+        matches!(self.answer(place), Answer::Maybe(_))
+    }
+
+    /// Whether the candidates of a goal are displayed, and where.
+    pub(crate) fn standing(&self, place: usize) -> Standing {
+        match self.walk.node(place) {
+            Some(node) => node.standing,
+            None => Standing::Cut,
+        }
+    }
+
+    /// Whether a goal is a nested goal of itself.
+    pub(crate) fn is_cycle(&self, place: usize) -> bool {
+        matches!(self.standing(place), Standing::Cycle(_))
+    }
+
+    /// Whether a goal is as deep as goals are looked at, or the walk ended there though it took no more than it may: then it is in a chain
+    /// that is longer than is shown.
+    pub(crate) fn is_cut(&self, place: usize) -> bool {
+        match self.standing(place) {
+            Standing::Cut => true,
+            Standing::Unwalked => !self.walk.is_spent(),
+            Standing::Opened | Standing::Same(_) | Standing::Cycle(_) => false,
+        }
+    }
+
+    /// Whether the walk took what it may before the candidates of a goal.
+    pub(crate) fn is_left_out(&self, place: usize) -> bool {
+        self.standing(place) == Standing::Unwalked && self.walk.is_spent()
+    }
+
+    /// Whether all candidates of a goal were looked at.
+    pub(crate) fn is_whole(&self, place: usize) -> bool {
+        match self.walk.node(self.shown_at(place)) {
+            Some(node) => node.is_whole,
+            None => false,
+        }
+    }
+
+    /// The index that has the candidates of a goal. It is another one if the same goal is displayed already.
+    pub(crate) fn shown_at(&self, place: usize) -> usize {
+        match self.standing(place) {
+            Standing::Same(earlier) => earlier,
+            _ => place,
+        }
+    }
+
+    /// The candidates of a goal that explain its answer.
+    pub fn candidates(&self, place: usize) -> &[CandidateNode] {
+        match self.walk.node(self.shown_at(place)) {
+            Some(node) => &node.candidates,
+            None => &[],
+        }
+    }
+
+    /// Whether it is claimed that the candidate with this number, of this goal, is a rule.
+    pub(crate) fn is_rule(&self, place: usize, number: usize) -> bool {
+        is_among(&self.claims.candidates.rules, self.shown_at(place), number)
+    }
+
+    /// Whether it is claimed that the candidate with this number, of this goal, may apply.
+    pub(crate) fn may_apply(&self, place: usize, number: usize) -> bool {
+        is_among(
+            &self.claims.candidates.chances,
+            self.shown_at(place),
+            number,
+        )
+    }
+
+    /// Whether it is claimed that a goal has no proof in any linked set with the crate.
+    pub(crate) fn is_refused_everywhere(&self, place: usize) -> bool {
+        self.claims.refused.contains(&place)
+    }
+
+    /// Whether it is claimed that a goal has a proof.
+    pub fn is_held(&self, place: usize) -> bool {
+        self.claims.held.contains(&place)
+    }
+
+    /// Which crates outside the view may have an impl for a goal, if that is claimed. The inner `None` says that the goal is knowable.
+    pub fn unseen(&self, place: usize) -> Option<Option<Conflict>> {
+        for found in &self.claims.unseen {
+            if found.0 == place {
+                return Some(found.1);
+            }
+        }
+        None
+    }
+
+    /// Who may write an impl for a goal that is not seen, where that is claimed.
+    pub(crate) fn adder(&self, place: usize) -> Option<Adder> {
+        for found in &self.claims.adders {
+            if found.0 == place {
+                return Some(found.1);
+            }
+        }
+        None
+    }
+
+    /// Whether it is claimed that no impl fits the goal at index 0.
+    pub(crate) fn has_no_impl(&self) -> bool {
+        self.claims.no_impl
+    }
+
+    /// Whether it is claimed that no built-in rule fits the goal at index 0.
+    pub(crate) fn has_no_built_in_rule(&self) -> bool {
+        self.claims.no_built_in_rule
+    }
+
+    /// The candidate of a goal, if there is exactly one.
+    pub(crate) fn only_candidate(&self, place: usize) -> Option<&CandidateNode> {
+        match self.candidates(place) {
+            [candidate] => Some(candidate),
+            _ => None,
+        }
+    }
+}
+
+/// The last nested goal of a candidate, if it is refused.
+pub(crate) fn refused_premise(story: &Story<'_>, candidate: &CandidateNode) -> Option<usize> {
+    match candidate.premises.last() {
+        Some(premise) if story.is_refused(*premise) => Some(*premise),
+        _ => None,
+    }
+}
+
+/// The first nested goal of a candidate that is ambiguous.
+pub(crate) fn unsure_premise(story: &Story<'_>, candidate: &CandidateNode) -> Option<usize> {
+    for premise in &candidate.premises {
+        if story.is_unsure(*premise) {
+            return Some(*premise);
+        }
+    }
+    None
+}

@@ -1,0 +1,185 @@
+//! The candidates of a goal, one after the other.
+
+ghost use Rattle.std.specs.Prelude.{◌≡◌, List, IfOk, IfSome};
+ghost use Rattle.type_terms.specs.Promised.Handles.{ArgsHeld};
+ghost use Rattle.type_terms.specs.Promised.Handles.{Entry};
+ghost use Rattle.infer_table.specs.Content.{Ready, Grows};
+ghost use Rattle.solver_graph.specs.Contexts.{IsReady, Advances};
+ghost use Rattle.explain_traces.specs.Frames.{IsWalked};
+ghost use Rattle.explain_traces.specs.Walking.{GoalsHeld, WalkIsAskable, WalkHasAsked};
+
+use crate::asking::{answer_in, result_of};
+use crate::effort::Effort;
+use crate::frames::{FrameWalk, Turn};
+use crate::nodes::GoalWalk;
+use crate::opening::open_candidate;
+use goal_evaluator::{CandidateSource, Certainty, Goal};
+use goal_frames::GoalHandler;
+use infer_table::infer_ctxt::InferCtxt;
+use search_graph::{GlobalCache, SearchGraph};
+use solver_graph::{SolverCx, SolverGraph, context_laws};
+use type_terms::Fault;
+use type_terms::kinds::GenericArgKind;
+
+/// Goes on with the open candidate of a frame, up to its end: each goal that it asks has the answer of the search. `None` where the
+/// search gives no answer, or more frames were started than may be.
+fn run_candidate<H: GoalHandler>(
+    graph: &mut SearchGraph<SolverGraph<H>>,
+    cache: &mut GlobalCache<SolverGraph<H>>,
+    cx: &mut SolverCx<H>,
+    frame: FrameWalk,
+    effort: &mut Effort,
+) -> Result<Option<FrameWalk>, Fault>
+    requires askable { WalkIsAskable H.meaning graph.old cache.old cx.old }
+    requires walked { IsWalked H.meaning cx.old frame }
+    ensures again { WalkIsAskable H.meaning graph.new cache.new cx.new }
+    ensures asked { WalkHasAsked H.meaning graph.old cx.old graph.new cx.new }
+    ensures walked { IfOk result (λ o. IfSome o (IsWalked H.meaning cx.new)) }
+{
+    let mut walk = frame;
+    while let Turn::Ask(input) = walk.turn() {
+        if graph.frames() > effort.last_frame() {
+            return Ok(None);
+        }
+        let Some(answer) = result_of(graph, cache, cx, input)? else {
+            return Ok(None);
+        };
+        let told = answer_in(cx, Some(answer))?;
+        effort.note_answer(input, told)?;
+        walk = walk.hear(cx, input, answer)?;
+    }
+    Ok(Some(walk))
+}
+
+/// Enters the next candidate of a frame, and goes on up to its end.
+fn try_candidate<H: GoalHandler>(
+    graph: &mut SearchGraph<SolverGraph<H>>,
+    cache: &mut GlobalCache<SolverGraph<H>>,
+    cx: &mut SolverCx<H>,
+    frame: FrameWalk,
+    effort: &mut Effort,
+) -> Result<Option<FrameWalk>, Fault>
+    requires askable { WalkIsAskable H.meaning graph.old cache.old cx.old }
+    requires walked { IsWalked H.meaning cx.old frame }
+    ensures again { WalkIsAskable H.meaning graph.new cache.new cx.new }
+    ensures asked { WalkHasAsked H.meaning graph.old cx.old graph.new cx.new }
+    ensures walked { IfOk result (λ o. IfSome o (IsWalked H.meaning cx.new)) }
+{
+    match frame.enter(cx)? {
+        Some(entered) => run_candidate(graph, cache, cx, entered, effort),
+        None => Ok(None),
+    }
+}
+
+/// Opens the candidate that a frame is to enter over the table of the parent goal, and returns its nested goals. `None` if it does not fit.
+fn open_next<H: GoalHandler>(
+    cx: &mut SolverCx<H>,
+    table: &mut InferCtxt,
+    values: &[GenericArgKind],
+    frame: &FrameWalk,
+) -> Result<Option<Vec<Goal>>, Fault>
+    requires ready { IsReady H.meaning.IsReady cx.old }
+    requires walked { IsWalked H.meaning cx.old frame.now }
+    requires table { Ready cx.old.interner.entries table.old }
+    requires values { ArgsHeld cx.old.interner.entries values.now }
+    ensures advances { Advances H.meaning.IsReady cx.old cx.new }
+    ensures table { Ready cx.new.interner.entries table.new }
+    ensures grows { Grows table.old table.new }
+    ensures held { IfOk result (λ o. IfSome o (λ gs. GoalsHeld cx.new.interner.entries gs.items)) }
+{
+    context_laws::<H>();
+    let Some(spec) = frame.candidate(cx) else {
+        return Ok(None);
+    };
+    let opened = open_candidate(cx.alloc, &mut cx.interner, table, values, spec);
+    cx.interner.lawful();
+    opened
+}
+
+/// A candidate that was tried.
+pub(crate) struct Tried {
+    /// The frame in which the candidate is to be finished.
+    pub(crate) frame: FrameWalk,
+    /// Its nested goals. `None` if it does not fit.
+    pub(crate) opened: Option<Vec<Goal>>,
+}
+
+/// Tries the next candidate of a frame, and opens it over the table of the one who asks. `None` where the search gives no answer, or more
+/// frames were started than may be.
+pub(crate) fn try_next<H: GoalHandler>(
+    graph: &mut SearchGraph<SolverGraph<H>>,
+    cache: &mut GlobalCache<SolverGraph<H>>,
+    cx: &mut SolverCx<H>,
+    table: &mut InferCtxt,
+    values: &[GenericArgKind],
+    frame: FrameWalk,
+    effort: &mut Effort,
+) -> Result<Option<Tried>, Fault>
+    requires askable { WalkIsAskable H.meaning graph.old cache.old cx.old }
+    requires walked { IsWalked H.meaning cx.old frame }
+    requires table { Ready cx.old.interner.entries table.old }
+    requires values { ArgsHeld cx.old.interner.entries values.now }
+    ensures again { WalkIsAskable H.meaning graph.new cache.new cx.new }
+    ensures asked { WalkHasAsked H.meaning graph.old cx.old graph.new cx.new }
+    ensures table { Ready cx.new.interner.entries table.new }
+    ensures grows { Grows table.old table.new }
+    ensures walked { IfOk result (λ o. IfSome o (λ t. IsWalked H.meaning cx.new t.frame)) }
+    ensures held { IfOk result (λ o. IfSome o (λ t. IfSome t.opened (λ gs. GoalsHeld cx.new.interner.entries gs.items))) }
+{
+    context_laws::<H>();
+    let opened = open_next(cx, table, values, &frame)?;
+    let tried = try_candidate(graph, cache, cx, frame, effort)?;
+    match tried {
+        Some(frame) => Ok(Some(Tried { frame, opened })),
+        None => Ok(None),
+    }
+}
+
+/// A candidate that explains the answer of its goal.
+pub(crate) struct Telling {
+    pub(crate) source: CandidateSource,
+    pub(crate) certainty: Option<Certainty>,
+    /// Its nested goals.
+    pub(crate) goals: Vec<Goal>,
+}
+
+/// The candidate with its nested goals, if it explains the answer of the goal at this index. `None` if it does not fit.
+pub(crate) fn told_candidate(
+    walk: &GoalWalk,
+    frame: &FrameWalk,
+    opened: Option<Vec<Goal>>,
+    place: usize,
+) -> Option<Telling>
+    ensures { (es : List Entry) → IfSome opened (λ gs. GoalsHeld es gs.items) → IfSome result (λ t. GoalsHeld es t.goals.items) }
+{
+    let goals = opened?;
+    let (source, certainty) = frame.outcome()?;
+    if !walk.tells(place, certainty) {
+        return None;
+    }
+    Some(Telling {
+        source,
+        certainty,
+        goals,
+    })
+}
+
+/// Whether no more candidates of the goal at a place are walked, when its frame wants this, and the searches have started so many frames. If
+/// all were looked at, it is noted.
+pub(crate) fn is_over(walk: &mut GoalWalk, place: usize, turn: Turn, frames: u64) -> bool
+    ensures { walk.new.references ≡ walk.old.references }
+{
+    walk.count(frames);
+    if walk.is_told(place) {
+        return true;
+    }
+    match turn {
+        Turn::Enter => false,
+        Turn::End => {
+            walk.note_whole(place);
+            true
+        }
+        Turn::Ask(_) => true,
+        Turn::Finish => true,
+    }
+}

@@ -1,0 +1,214 @@
+//! Traces of goals and of their nested goals.
+
+ghost use Rattle.std.specs.Prelude.{◌≡◌, IfOk, IfSome};
+ghost use Rattle.type_terms.specs.Promised.Handles.{ArgsHeld};
+ghost use Rattle.infer_table.specs.Content.{Table, Grows, place_in};
+ghost use Rattle.infer_table.specs.Goals.{GoalHeld};
+ghost use Rattle.solver_graph.specs.Contexts.{IsInput};
+ghost use Rattle.explain_traces.specs.Frames.{IsWalked};
+ghost use Rattle.explain_traces.specs.Walking.{GoalsHeld, IsWalkable, HasWalked};
+
+use crate::asking::{Met, meet_goal};
+use crate::candidates::{Telling, Tried, is_over, told_candidate, try_next};
+use crate::frames::FrameWalk;
+use crate::nodes::{CANDIDATE_LIMIT, CandidateNode, GoalWalk};
+use crate::settling::settle;
+use goal_evaluator::{Goal, TypingMode};
+use goal_frames::GoalHandler;
+use goal_frames::store::InputId;
+use infer_table::infer_ctxt::InferCtxt;
+use infer_table::terms::Snapshot;
+use search_graph::{GlobalCache, SearchGraph};
+use solver_graph::{SolverCx, SolverGraph};
+use type_terms::Fault;
+use type_terms::kinds::GenericArgKind;
+
+/// Rolls the table back to the snapshot: no value of an opened candidate stays.
+fn take_back(table: &mut InferCtxt, place: Snapshot)
+    ensures { (before : Table) → place ≡ place_in before → Grows before table.old → table.new ≡ before }
+{
+    table.roll_back(place);
+}
+
+/// Traces a goal over a table, at most this deep, and returns its index: the answer of the search, the candidates that explain it, and
+/// their nested goals.
+///
+/// What the search reads of the table is as before. The interner, the cache, and the context's goals and answers may grow. No answer
+/// changes: the search can be used after it, also after a fault. Fails with `Memory` if memory is refused, or with `Full` if a table is
+/// full.
+#[cycle(walk)]
+pub fn walk_goal<H: GoalHandler>(
+    graph: &mut SearchGraph<SolverGraph<H>>,
+    cache: &mut GlobalCache<SolverGraph<H>>,
+    cx: &mut SolverCx<H>,
+    table: &mut InferCtxt,
+    walk: &mut GoalWalk,
+    mode: TypingMode,
+    goal: &Goal,
+    depth: u32,
+) -> Result<usize, Fault>
+    requires walkable { IsWalkable H.meaning graph.old cache.old cx.old table.old walk.old.references.items }
+    requires goal { GoalHeld cx.old.interner.entries goal.now }
+    ensures again { IsWalkable H.meaning graph.new cache.new cx.new table.new walk.new.references.items }
+    ensures walked { HasWalked H.meaning graph.old cx.old table.old graph.new cx.new table.new }
+{
+    let met = meet_goal(graph, cache, cx, table, walk, mode, goal, depth)?;
+    let Met {
+        place,
+        input,
+        values,
+    } = met;
+    if depth == 0 {
+        return Ok(place);
+    }
+    if !walk.is_opened(place) {
+        return Ok(place);
+    }
+    let below = depth - 1;
+    walk_candidates(
+        graph, cache, cx, table, walk, mode, input, &values, place, below,
+    )?;
+    walk.close(place, graph.frames());
+    Ok(place)
+}
+
+/// Traces the candidates of a goal, as many as are looked at.
+#[cycle(walk)]
+fn walk_candidates<H: GoalHandler>(
+    graph: &mut SearchGraph<SolverGraph<H>>,
+    cache: &mut GlobalCache<SolverGraph<H>>,
+    cx: &mut SolverCx<H>,
+    table: &mut InferCtxt,
+    walk: &mut GoalWalk,
+    mode: TypingMode,
+    input: InputId,
+    values: &[GenericArgKind],
+    place: usize,
+    depth: u32,
+) -> Result<(), Fault>
+    requires walkable { IsWalkable H.meaning graph.old cache.old cx.old table.old walk.old.references.items }
+    requires input { IsInput H.meaning.IsReady cx.old input }
+    requires values { ArgsHeld cx.old.interner.entries values.now }
+    ensures again { IsWalkable H.meaning graph.new cache.new cx.new table.new walk.new.references.items }
+    ensures walked { HasWalked H.meaning graph.old cx.old table.old graph.new cx.new table.new }
+{
+    let mut frame = FrameWalk::begin(cx, input)?;
+    for _candidate in 0..CANDIDATE_LIMIT {
+        let turn = frame.turn();
+        if is_over(walk, place, turn, graph.frames()) {
+            return Ok(());
+        }
+        let visited = visit_candidate(
+            graph, cache, cx, table, walk, mode, frame, values, place, depth,
+        )?;
+        let Some(next) = visited else {
+            return Ok(());
+        };
+        frame = next;
+    }
+    Ok(())
+}
+
+/// Traces the next candidate of a goal, if it explains the goal's answer. `None` if the search gives no answer.
+#[cycle(walk)]
+fn visit_candidate<H: GoalHandler>(
+    graph: &mut SearchGraph<SolverGraph<H>>,
+    cache: &mut GlobalCache<SolverGraph<H>>,
+    cx: &mut SolverCx<H>,
+    table: &mut InferCtxt,
+    walk: &mut GoalWalk,
+    mode: TypingMode,
+    frame: FrameWalk,
+    values: &[GenericArgKind],
+    place: usize,
+    depth: u32,
+) -> Result<Option<FrameWalk>, Fault>
+    requires walkable { IsWalkable H.meaning graph.old cache.old cx.old table.old walk.old.references.items }
+    requires values { ArgsHeld cx.old.interner.entries values.now }
+    requires frame { IsWalked H.meaning cx.old frame }
+    ensures again { IsWalkable H.meaning graph.new cache.new cx.new table.new walk.new.references.items }
+    ensures walked { HasWalked H.meaning graph.old cx.old table.old graph.new cx.new table.new }
+    ensures frame { IfOk result (λ o. IfSome o (IsWalked H.meaning cx.new)) }
+{
+    let before = table.snapshot();
+    let tried = try_next(graph, cache, cx, table, values, frame, &mut walk.effort)?;
+    let Some(tried) = tried else {
+        take_back(table, before);
+        return Ok(None);
+    };
+    let Tried { frame, opened } = tried;
+    let told = told_candidate(walk, &frame, opened, place);
+    walk_telling(graph, cache, cx, table, walk, mode, told, place, depth)?;
+    take_back(table, before);
+    frame.finish(cx)
+}
+
+/// Traces the nested goals of a candidate, and notes the candidate if it explains the goal's answer.
+#[cycle(walk)]
+fn walk_telling<H: GoalHandler>(
+    graph: &mut SearchGraph<SolverGraph<H>>,
+    cache: &mut GlobalCache<SolverGraph<H>>,
+    cx: &mut SolverCx<H>,
+    table: &mut InferCtxt,
+    walk: &mut GoalWalk,
+    mode: TypingMode,
+    told: Option<Telling>,
+    place: usize,
+    depth: u32,
+) -> Result<(), Fault>
+    requires walkable { IsWalkable H.meaning graph.old cache.old cx.old table.old walk.old.references.items }
+    requires goals { IfSome told (λ t. GoalsHeld cx.old.interner.entries t.goals.items) }
+    ensures again { IsWalkable H.meaning graph.new cache.new cx.new table.new walk.new.references.items }
+    ensures walked { HasWalked H.meaning graph.old cx.old table.old graph.new cx.new table.new }
+{
+    let Some(told) = told else {
+        return Ok(());
+    };
+    let Telling {
+        source,
+        certainty,
+        goals,
+    } = told;
+    let premises = walk_premises(graph, cache, cx, table, walk, mode, &goals, depth)?;
+    let Some(premises) = premises else {
+        return Ok(());
+    };
+    let candidate = CandidateNode {
+        source,
+        certainty,
+        premises,
+    };
+    walk.note_candidate(place, candidate)
+}
+
+/// Walks the goals that a candidate asks, up to the first that is refused. `None` where the walk took what it may before the last of them.
+#[cycle(walk)]
+fn walk_premises<H: GoalHandler>(
+    graph: &mut SearchGraph<SolverGraph<H>>,
+    cache: &mut GlobalCache<SolverGraph<H>>,
+    cx: &mut SolverCx<H>,
+    table: &mut InferCtxt,
+    walk: &mut GoalWalk,
+    mode: TypingMode,
+    goals: &[Goal],
+    depth: u32,
+) -> Result<Option<Vec<usize>>, Fault>
+    requires walkable { IsWalkable H.meaning graph.old cache.old cx.old table.old walk.old.references.items }
+    requires goals { GoalsHeld cx.old.interner.entries goals.now }
+    ensures again { IsWalkable H.meaning graph.new cache.new cx.new table.new walk.new.references.items }
+    ensures walked { HasWalked H.meaning graph.old cx.old table.old graph.new cx.new table.new }
+{
+    let mut premises = Vec::new(cx.alloc);
+    for goal in goals {
+        if graph.frames() > walk.last_frame() {
+            return Ok(None);
+        }
+        settle(graph, cache, cx, table, mode, goal)?;
+        let premise = walk_goal(graph, cache, cx, table, walk, mode, goal, depth)?;
+        premises.push(premise)?;
+        if walk.is_refused(premise) {
+            return Ok(Some(premises));
+        }
+    }
+    Ok(Some(premises))
+}

@@ -1,0 +1,49 @@
+-- What an evaluation has so far.
+use Rattle.std.specs.Prelude.{List, Option}
+use Rattle.type_terms.specs.Promised.Handles.{Entry}
+use Rattle.type_terms.specs.Promised.Handles.{ArgsHeld}
+use Rattle.type_terms.specs.declared.kinds.GenericArgKind.{GenericArgKind}
+use Rattle.infer_table.specs.Content.{Table, Ready}
+use Rattle.infer_table.specs.declared.canonical.CanonicalVarKind.{CanonicalVarKind}
+use Rattle.infer_table.specs.declared.certainty.TypingMode.{TypingMode}
+use Rattle.infer_table.specs.declared.goal.Goal.{Goal}
+use Rattle.infer_table.specs.declared.response.CanonicalResponse.{CanonicalResponse}
+use Rattle.infer_table.specs.Goals.{ClausesHeld, PredicateHeld}
+use Rattle.term_folds.specs.declared.predicate.Clause.{Clause}
+use Rattle.term_folds.specs.declared.predicate.TraitPredicate.{TraitPredicate}
+use Rattle.goal_evaluator.specs.declared.goal.GoalSource.{GoalSource}
+use Rattle.goal_evaluator.specs.Lists.{Every}
+use Rattle.goal_evaluator.specs.Readings.{ResultHeld}
+
+-- a goal that is still to be asked
+pub record NestedGoal : Type 0 where
+  pub source : GoalSource
+  pub clauses : List Clause
+  pub predicate : TraitPredicate
+
+abbrev pub nested_goal : GoalSource × Goal → NestedGoal
+nested_goal n = record { source = n.0; clauses = n.1.param_env.items; predicate = n.1.predicate }
+
+-- how goals are read, the table, the kinds and the values of the input's variables, the nested goals with their sources, the
+-- oldest first, and the replies so far, the oldest first
+pub record Context : Type 0 where
+  pub mode : TypingMode
+  pub table : Table
+  pub variables : List CanonicalVarKind
+  pub values : List GenericArgKind
+  pub nested : List NestedGoal
+  pub replies : List (Option CanonicalResponse)
+
+pub record GoalIsHeld (es : List Entry) (n : NestedGoal) : Type 0 where
+  pub clauses : ClausesHeld es n.clauses
+  pub predicate : PredicateHeld es n.predicate
+
+abbrev pub NestedHeld : List Entry → List NestedGoal → Type 0
+NestedHeld es ns = Every (GoalIsHeld es) ns
+
+-- the handles are an interner's, and the table is one that was made from an empty one
+pub record IsReadyContext (es : List Entry) (c : Context) : Type 0 where
+  pub table : Ready es c.table
+  pub values : ArgsHeld es c.values
+  pub nested : NestedHeld es c.nested
+  pub replies : Every (ResultHeld es) c.replies

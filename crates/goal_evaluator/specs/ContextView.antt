@@ -1,0 +1,15 @@
+-- What the fields of a context say.
+use Rattle.std.specs.Prelude.{map}
+use Rattle.goal_evaluator.specs.Context.{Context, nested_goal}
+use Rattle.goal_evaluator.specs.declared.context.EvalCtxt.TheInside.{Inside}
+
+abbrev pub context_of : Inside → Context
+context_of a =
+    record {
+      mode = a.mode;
+      table = a.table;
+      variables = a.variables.items;
+      values = a.values.items;
+      nested = map nested_goal a.nested_goals.items;
+      replies = a.replies.items;
+    }

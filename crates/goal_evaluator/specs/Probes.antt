@@ -1,0 +1,32 @@
+-- What a probe asks of its closure.
+use Rattle.std.specs.Prelude.{◌≡◌}
+use Rattle.std.specs.Fn.{Once}
+use Rattle.std.proofs.Common.{MutBor}
+use Rattle.infer_table.specs.Content.{Grows}
+use Rattle.goal_evaluator.specs.Context.{Context}
+
+-- the second context has all that the first one has, and more in its table at most; its nested goals may be any
+pub record ContextContinues (old new : Context) : Type 0 where
+  pub mode : new.mode ≡ old.mode
+  pub table : Grows old.table new.table
+  pub variables : new.variables ≡ old.variables
+  pub values : new.values ≡ old.values
+  pub replies : new.replies ≡ old.replies
+
+module _ {F I T : Type 0} (g : Once F (MutBor Context × (MutBor I × Unit {0})) (T × (MutBor Context × (MutBor I × Unit {0})))) (f : F) where
+  -- f may be called with this context and this interner
+  abbrev pub TakesBoth : Context → I → Type 0
+  TakesBoth c i = (p : MutBor Context) (q : MutBor I) → p.now ≡ c → q.now ≡ i → g.pre f (p, (q, tt))
+
+  -- such a call may give r, and leave the other two
+  pub record Returns (c : Context) (i : I) (r : T) (d : Context) (j : I) : Type 0 where
+    pub context : MutBor Context
+    pub interner : MutBor I
+    pub shows : (context.now ≡ c) × (interner.now ≡ i)
+    pub left : MutBor Context × (MutBor I × Unit {0})
+    pub met : g.post f (context, (interner, tt)) (r, left)
+    pub leaves : (left.0.now ≡ d) × (left.1.0.now ≡ j)
+
+  -- whatever such a call leaves can be undone
+  abbrev pub IsUndoable : Context → I → Type 0
+  IsUndoable c i = (r : T) (d : Context) (j : I) → Returns c i r d j → ContextContinues c d

@@ -1,0 +1,55 @@
+//! Why an evaluation ended without an answer.
+ghost use Rattle.std.specs.Prelude.{◌≡◌};
+ghost use Rattle.goal_evaluator.specs.declared.error.EvalError.TheVariants as error;
+ghost use Rattle.goal_evaluator.specs.Errors.{eval_error};
+ghost use Rattle.type_terms.specs.declared.Fault.TheVariants.{Memory};
+
+use infer_table::certainty::EqError;
+use std::alloc::{AllocError, AllocFailed};
+use type_terms::Fault;
+
+/// Why an evaluation was refused.
+#[derive(Clone, Copy, Debug, PartialEq, Eq, thiserror::Error)]
+pub enum EvalError {
+    /// What is evaluated does not hold.
+    #[error("there is no solution")]
+    NoSolution,
+    /// There is no answer.
+    #[error("{0}")]
+    Fault(Fault),
+}
+
+impl From<Fault> for EvalError {
+    ghost from_gives = { λ fault e. e ≡ error.Fault fault };
+
+    fn from(fault: Fault) -> EvalError {
+        EvalError::Fault(fault)
+    }
+}
+
+impl From<EqError> for EvalError {
+    ghost from_gives = { λ error e. e ≡ eval_error error };
+
+    fn from(error: EqError) -> EvalError {
+        match error {
+            EqError::NoSolution => EvalError::NoSolution,
+            EqError::Fault(fault) => EvalError::Fault(fault),
+        }
+    }
+}
+
+impl From<AllocError> for EvalError {
+    ghost from_gives = { λ _ e. e ≡ error.Fault Memory };
+
+    fn from(_error: AllocError) -> EvalError {
+        EvalError::Fault(Fault::Memory)
+    }
+}
+
+impl<T: Drop> From<AllocFailed<T>> for EvalError {
+    ghost from_gives = { λ _ e. e ≡ error.Fault Memory };
+
+    fn from(_error: AllocFailed<T>) -> EvalError {
+        EvalError::Fault(Fault::Memory)
+    }
+}

@@ -1,0 +1,303 @@
+//! Candidates whose evaluation goes on where it stopped.
+ghost use Rattle.std.specs.Prelude.{◌≡◌, ℕ, ◌+◌, ◌*◌, length, ◌∷◌, ◌++◌, [], ◌||◌, true, false, map, option_map, IfOk, IfErr, Some, Err};
+ghost use Rattle.type_terms.specs.Promised.Handles.{ArgsHeld};
+ghost use Rattle.infer_table.specs.Certainties.{joined};
+ghost use Rattle.infer_table.specs.Responses.{answer_trees};
+ghost use Rattle.goal_evaluator.specs.Context.{NestedHeld, GoalIsHeld, nested_goal};
+ghost use Rattle.goal_evaluator.specs.Evaluating.{certainty_with};
+ghost use Rattle.goal_evaluator.specs.declared.TheConstants.{FIXPOINT_STEP_LIMIT};
+ghost use Rattle.goal_evaluator.specs.Readings.{ResultHeld};
+ghost use Rattle.goal_evaluator.specs.Shortages.{EvalGrewOrFull};
+ghost use Rattle.goal_evaluator.specs.Script.{done};
+ghost use Rattle.goal_evaluator.specs.OpenCandidates.{answer_with, rest_script, rounds_script, after_reply, StandsAt, EvaluationHeld, OpenHeld, CandidateHeld, CandidateIsOver, brings_values, is_definite, most_questions, questions_left, AsksAtMost};
+ghost use Rattle.goal_evaluator.specs.Replayed.{BeginningReplays, ResumingReplays};
+
+use crate::FIXPOINT_STEP_LIMIT;
+use crate::context::EvalCtxt;
+use crate::error::EvalError;
+use crate::goal::GoalSource;
+use crate::rounds::{apply_response, has_values, is_certain, question_for};
+use infer_table::canonical::CanonicalVarKind;
+use infer_table::certainty::{Certainty, MaybeCause, TypingMode};
+use infer_table::goal::Goal;
+use infer_table::infer_ctxt::InferCtxt;
+use infer_table::input::{CanonicalInput, Canonicalized};
+use infer_table::response::CanonicalResponse;
+use std::alloc::Global;
+use std::collections::VecDeque;
+use type_terms::Fault;
+use type_terms::interner::Interner;
+use type_terms::kinds::GenericArgKind;
+
+/// What a candidate is evaluated in: its table, the kinds of the goal's variables with what stands for these, and how sure the
+/// candidate can be.
+pub(crate) struct Evaluation {
+    pub(crate) mode: TypingMode,
+    pub(crate) table: InferCtxt,
+    pub(crate) variables: Vec<CanonicalVarKind>,
+    pub(crate) own: Vec<GenericArgKind>,
+    pub(crate) certainty: Certainty,
+}
+
+// Written, so that what owns one drops it by one call at each way out, and not field by field.
+impl Drop for Evaluation {
+    fn drop(self) {
+        let Evaluation {
+            mode: _,
+            table: _,
+            variables: _,
+            own: _,
+            certainty: _,
+        } = self;
+    }
+}
+
+/// A round so far: the goals that stay, the oldest first, whether values came, and how sure the answers of those that stay are.
+#[derive(Drop)]
+pub(crate) struct OpenRound {
+    left: VecDeque<(GoalSource, Goal)>,
+    changed: bool,
+    certainty: Certainty,
+}
+
+/// A candidate that waits for the answer to a question: its table, its round, and the goals that are still to be asked.
+pub struct OpenCandidate {
+    evaluation: Evaluation,
+    /// How many rounds there may be after this one.
+    rounds_left: usize,
+    round: OpenRound,
+    /// The goal that is asked, and the values of its question's variables.
+    goal: (GoalSource, Goal),
+    values: Vec<GenericArgKind>,
+    /// The goals that are to be asked after it in this round.
+    goals: VecDeque<(GoalSource, Goal)>,
+}
+
+// Written, so that what owns one drops it by one call at each way out, and not field by field.
+impl Drop for OpenCandidate {
+    fn drop(self) {
+        let OpenCandidate {
+            evaluation: _,
+            rounds_left: _,
+            round: _,
+            goal: _,
+            values: _,
+            goals: _,
+        } = self;
+    }
+}
+
+/// What a call that evaluates a candidate comes to.
+#[derive(Drop)]
+pub enum CandidateStep {
+    /// The candidate's answer.
+    Ready(CanonicalResponse),
+    /// The candidate waits for the answer to this question: `OpenCandidate::resume` goes on with it.
+    Ask(OpenCandidate, CanonicalInput, GoalSource),
+}
+
+impl OpenRound {
+    /// A round in which nothing was asked yet.
+    fn new(alloc: Global) -> OpenRound
+        ensures left { result.left.items ≡ [] }
+        ensures changed { result.changed ≡ false }
+        ensures certainty { result.certainty ≡ Certainty.Yes }
+    {
+        OpenRound {
+            left: VecDeque::new(alloc),
+            changed: false,
+            certainty: Certainty::Yes,
+        }
+    }
+
+    /// How sure it is that all goals hold, where the round is the last.
+    fn certainty_of_goals(&self) -> Certainty
+        ensures { result ≡ certainty_with (map nested_goal self.now.left.items) self.now.certainty }
+    {
+        if self.left.is_empty() {
+            Certainty::Yes
+        } else {
+            Certainty::Maybe(MaybeCause::Ambiguity).and(self.certainty)
+        }
+    }
+
+    /// The round after this answer to the goal: a definite yes drops the goal, and any other answer keeps it.
+    fn judge(
+        self,
+        cx: &Interner,
+        goal: (GoalSource, Goal),
+        response: &CanonicalResponse,
+    ) -> Result<OpenRound, Fault>
+        requires { ArgsHeld cx.now.entries response.now.var_values.items }
+        ensures dropped { is_definite cx.now.entries response.now ≡ true → IfOk result (λ r. r ≡ self) }
+        ensures left { is_definite cx.now.entries response.now ≡ false → IfOk result (λ r. r.left.items ≡ self.left.items ++ goal ∷ []) }
+        ensures changed { is_definite cx.now.entries response.now ≡ false
+            → IfOk result (λ r. r.changed ≡ self.changed || brings_values cx.now.entries response.now) }
+        ensures certainty { is_definite cx.now.entries response.now ≡ false → IfOk result (λ r. r.certainty ≡ joined self.certainty response.now.certainty) }
+        ensures fault { IfErr result (λ e. e ≡ Fault.Memory) }
+    {
+        let came = has_values(cx, response);
+        if is_certain(response.certainty) && !came {
+            return Ok(self);
+        }
+        let OpenRound {
+            mut left,
+            changed,
+            certainty,
+        } = self;
+        left.push_back(goal)?;
+        Ok(OpenRound {
+            left,
+            changed: changed || came,
+            certainty: certainty.and(response.certainty),
+        })
+    }
+}
+
+impl Evaluation {
+    /// Asks the goal, in this round; then these goals are to be asked.
+    fn ask(
+        self,
+        alloc: Global,
+        cx: &mut Interner,
+        rounds_left: usize,
+        round: OpenRound,
+        goal: (GoalSource, Goal),
+        goals: VecDeque<(GoalSource, Goal)>,
+    ) -> Result<CandidateStep, EvalError>
+        requires evaluation { EvaluationHeld cx.old.entries self }
+        requires left { NestedHeld cx.old.entries (map nested_goal round.left.items) }
+        requires goal { GoalIsHeld cx.old.entries (nested_goal goal) }
+        requires goals { NestedHeld cx.old.entries (map nested_goal goals.items) }
+        ensures terms { EvalGrewOrFull cx.old cx.new result }
+        ensures held { IfOk result (λ s. CandidateHeld cx.new.entries s) }
+        ensures stands { StandsAt cx.new.entries (rest_script cx.old.entries self rounds_left round (goal ∷ goals.items)) result }
+        ensures most { IfOk result (AsksAtMost (most_questions rounds_left (length round.left.items) (length goals.items + 1))) }
+    {
+        let asked = question_for(alloc, cx, self.mode, &self.table, &goal)?;
+        let Canonicalized { input, values } = asked;
+        let source = goal.0;
+        let waiting = OpenCandidate {
+            evaluation: self,
+            rounds_left,
+            round,
+            goal,
+            values,
+            goals,
+        };
+        Ok(CandidateStep::Ask(waiting, input, source))
+    }
+
+    /// The answer, as sure as the candidate and its goals together.
+    fn answer(self, cx: &mut Interner, of_goals: Certainty) -> Result<CandidateStep, EvalError>
+        requires evaluation { EvaluationHeld cx.old.entries self }
+        ensures terms { EvalGrewOrFull cx.old cx.new result }
+        ensures held { IfOk result (λ s. CandidateHeld cx.new.entries s) }
+        ensures stands { StandsAt cx.new.entries (done (Some (answer_with cx.old.entries self of_goals))) result }
+        ensures over { IfOk result CandidateIsOver }
+    {
+        let Evaluation {
+            mode,
+            table,
+            variables,
+            own,
+            certainty,
+        } = self;
+        let context = EvalCtxt::new(table, mode, variables, own);
+        let answer = context.answer(cx, certainty.and(of_goals))?;
+        Ok(CandidateStep::Ready(answer))
+    }
+
+    /// Asks the goal that is next, or ends the round: then the next one begins, or the candidate answers.
+    fn go_on(
+        self,
+        alloc: Global,
+        cx: &mut Interner,
+        rounds_left: usize,
+        round: OpenRound,
+        mut goals: VecDeque<(GoalSource, Goal)>,
+    ) -> Result<CandidateStep, EvalError>
+        requires evaluation { EvaluationHeld cx.old.entries self }
+        requires left { NestedHeld cx.old.entries (map nested_goal round.left.items) }
+        requires goals { NestedHeld cx.old.entries (map nested_goal goals.items) }
+        ensures terms { EvalGrewOrFull cx.old cx.new result }
+        ensures held { IfOk result (λ s. CandidateHeld cx.new.entries s) }
+        ensures stands { StandsAt cx.new.entries (rest_script cx.old.entries self rounds_left round goals.items) result }
+        ensures most { IfOk result (AsksAtMost (most_questions rounds_left (length round.left.items) (length goals.items))) }
+    {
+        if let Some(goal) = goals.pop_front() {
+            return self.ask(alloc, cx, rounds_left, round, goal, goals);
+        }
+        if !round.changed {
+            let certainty = round.certainty_of_goals();
+            return self.answer(cx, certainty);
+        }
+        if rounds_left == 0 {
+            return self.answer(cx, Certainty::Maybe(MaybeCause::Overflow));
+        }
+        let next = OpenRound::new(alloc);
+        self.go_on(alloc, cx, rounds_left - 1, next, round.left)
+    }
+
+    /// Begins the rounds in which these goals are asked.
+    pub(crate) fn begin_rounds(
+        self,
+        alloc: Global,
+        cx: &mut Interner,
+        goals: VecDeque<(GoalSource, Goal)>,
+    ) -> Result<CandidateStep, EvalError>
+        requires evaluation { EvaluationHeld cx.old.entries self }
+        requires goals { NestedHeld cx.old.entries (map nested_goal goals.items) }
+        ensures terms { EvalGrewOrFull cx.old cx.new result }
+        ensures held { IfOk result (λ s. CandidateHeld cx.new.entries s) }
+        ensures stands { StandsAt cx.new.entries (rounds_script cx.old.entries self goals.items) result }
+        ensures most { IfOk result (AsksAtMost (FIXPOINT_STEP_LIMIT * length goals.items)) }
+    {
+        let round = OpenRound::new(alloc);
+        self.go_on(alloc, cx, FIXPOINT_STEP_LIMIT - 1, round, goals)
+    }
+}
+
+impl OpenCandidate {
+    /// Goes on with the answer to the question that the candidate waits for; none says that the goal has no solution.
+    ///
+    /// The candidate goes on in its table, as evaluating it anew over all replies so far would (`resuming_replays`), and no reply is
+    /// put in twice. `NoSolution` says that the goal was refused, or that the answer cannot be put into the table. `Full` comes only
+    /// where some kind of term has reached the interner's limit, `Memory` also where variables get no numbers.
+    pub fn resume(
+        self,
+        alloc: Global,
+        cx: &mut Interner,
+        reply: Option<CanonicalResponse>,
+    ) -> Result<CandidateStep, EvalError>
+        requires held { OpenHeld cx.old.entries self }
+        requires reply { ResultHeld cx.old.entries reply }
+        ensures terms { EvalGrewOrFull cx.old cx.new result }
+        ensures held { IfOk result (λ s. CandidateHeld cx.new.entries s) }
+        ensures stands { StandsAt cx.new.entries (after_reply cx.old.entries self (option_map (answer_trees cx.old.entries) reply)) result }
+
+        // It asks fewer questions than it could before.
+        ensures fewer { IfOk result (λ s. (n : ℕ) → n + 1 ≡ questions_left self → AsksAtMost n s) }
+    {
+        let OpenCandidate {
+            mut evaluation,
+            rounds_left,
+            round,
+            goal,
+            values,
+            goals,
+        } = self;
+        let Some(response) = reply else {
+            return Err(EvalError::NoSolution);
+        };
+        apply_response(alloc, cx, &mut evaluation.table, &values, &response)?;
+        let round = round.judge(cx, goal, &response)?;
+        evaluation.go_on(alloc, cx, rounds_left, round, goals)
+    }
+}
+
+/// A candidate that goes on ends, or waits, as evaluating it anew over all its replies does.
+pub fn resuming_replays()
+    ensures begins { BeginningReplays }
+    ensures goes_on { ResumingReplays }
+{}

@@ -1,0 +1,460 @@
+//! Candidates: how their evaluation begins, and evaluated anew over the replies that are there.
+ghost use Rattle.type_terms.specs.Growth.{GrewOrFull};
+ghost use Rattle.std.specs.Prelude.{◌≡◌, ◌*◌, length, map, List, [], ◌∷◌, ◌++◌, OnOk, IfOk, IfErr, Option, Some, None, option_map, Err};
+ghost use Rattle.type_terms.specs.Promised.Handles.{Entry};
+ghost use Rattle.type_terms.specs.Promised.Handles.{ArgHeld, ArgsHeld, arg_trees};
+ghost use Rattle.infer_table.specs.Content.{Ready, IsHeldConstraint, AllConstraintsHeld};
+ghost use Rattle.infer_table.specs.Unification.{table_trees, unified};
+ghost use Rattle.infer_table.specs.Goals.{GoalHeld};
+ghost use Rattle.infer_table.specs.Values.{value_of, values_of, filled};
+ghost use Rattle.infer_table.specs.Applied.{with_constraints};
+ghost use Rattle.infer_table.specs.Applying.{next_unknown, with_unknown};
+ghost use Rattle.infer_table.specs.Responses.{answer_trees};
+ghost use Rattle.goal_evaluator.specs.Lists.{Every};
+ghost use Rattle.goal_evaluator.specs.Readings.{EquationHeld, SpecHeld, ResultHeld};
+ghost use Rattle.goal_evaluator.specs.Context.{IsReadyContext};
+ghost use Rattle.goal_evaluator.specs.Ends.{AnswerHeld};
+ghost use Rattle.goal_evaluator.specs.Evaluating.{goals_trees, replies_trees};
+ghost use Rattle.goal_evaluator.specs.Frames.{begun, fresh, equate, unknowns, with_unknowns, solved};
+ghost use Rattle.goal_evaluator.specs.Shortages.{EvalGrewOrFull};
+ghost use Rattle.goal_evaluator.specs.Runs.{candidate_of, nested_of, equations_filled, equation_filled, constraints_filled, premises_filled};
+ghost use Rattle.goal_evaluator.specs.Trial.{asked, candidate, equations_trees, premises_trees, spec_trees};
+ghost use Rattle.goal_evaluator.specs.TrialEnds.{trial_trees, IsTried, CandidateEnds};
+ghost use Rattle.goal_evaluator.specs.Context.{NestedHeld, nested_goal};
+ghost use Rattle.goal_evaluator.specs.OpenCandidates.{StandsAt, CandidateHeld, AsksAtMost};
+ghost use Rattle.goal_evaluator.specs.declared.TheConstants.{FIXPOINT_STEP_LIMIT};
+
+use crate::candidate::CandidateSpec;
+use crate::context::{EvalCtxt, EvalStep};
+use crate::error::EvalError;
+use crate::goal::GoalSource;
+use crate::resuming::{CandidateStep, Evaluation};
+use infer_table::canonical::CanonicalVarKind;
+use infer_table::goal::Goal;
+use infer_table::infer_ctxt::InferCtxt;
+use infer_table::input::CanonicalInput;
+use infer_table::instantiate::{CanonicalInstantiator, instantiate_with_values};
+use infer_table::response::CanonicalResponse;
+use infer_table::terms::{Equation, RegionConstraint};
+use infer_table::unknowns::next_values;
+use std::alloc::Global;
+use std::collections::VecDeque;
+use term_folds::foldable::TypeFoldable;
+use type_terms::Fault;
+use type_terms::interner::Interner;
+use type_terms::kinds::GenericArgKind;
+
+/// A candidate that is being tried.
+#[derive(Drop)]
+struct Trial {
+    table: InferCtxt,
+    /// What stands for the goal's variables.
+    own: Vec<GenericArgKind>,
+    /// What stands for the variables of the candidate's terms: for the goal's, and then for the candidate's own.
+    values: Vec<GenericArgKind>,
+}
+
+/// Evaluates a candidate of a goal, over the replies to its questions so far: it begins anew, and where no reply is left it
+/// answers with the question that is next.
+///
+/// In an empty table the goal's variables become new unknowns, and those that stand for any term become placeholders; then the
+/// candidate's own variables become new unknowns. Its equations are to hold, one after the other, its constraints on lifetimes
+/// are recorded, and its nested goals are asked in rounds. `NoSolution` says that an equation or a goal was refused: want of
+/// room or memory is a fault, and refuses no candidate. `Full` comes only where some kind of term has reached the interner's
+/// limit, `Memory` also where variables get no numbers. The answer is no surer than the candidate can be.
+///
+/// What comes of it is a function of trees: no handle decides anything. `EvalCtxt::probe_trait_candidate` of the original.
+pub fn evaluate_candidate(
+    alloc: Global,
+    cx: &mut Interner,
+    input: &CanonicalInput,
+    spec: &CandidateSpec,
+    replies: &[Option<CanonicalResponse>],
+) -> Result<EvalStep<CanonicalResponse>, EvalError>
+    requires spec { SpecHeld cx.old.entries spec.now }
+    requires replies { Every (ResultHeld cx.old.entries) replies.now }
+    ensures terms { EvalGrewOrFull cx.old cx.new result }
+    ensures held { IfOk result (λ s. AnswerHeld cx.new.entries s) }
+    ensures runs { CandidateEnds cx.new.entries (candidate_of cx.old.entries input.now spec.now replies.now) result }
+{
+    let trial = try_candidate(alloc, cx, input, spec)?;
+    evaluate_nested(alloc, cx, trial, input, spec, replies)
+}
+
+/// A trial of the candidate, in which its equations hold and its constraints are recorded.
+fn try_candidate(
+    alloc: Global,
+    cx: &mut Interner,
+    input: &CanonicalInput,
+    spec: &CandidateSpec,
+) -> Result<Trial, EvalError>
+    requires spec { SpecHeld cx.old.entries spec.now }
+    ensures terms { EvalGrewOrFull cx.old cx.new result }
+    ensures ready { IfOk result (λ t. Ready cx.new.entries t.table) }
+    ensures own { IfOk result (λ t. ArgsHeld cx.new.entries t.own.items) }
+    ensures values { IfOk result (λ t. ArgsHeld cx.new.entries t.values.items) }
+    ensures tried { IfOk result
+        (λ t. IsTried input.now.variables.items (spec_trees cx.old.entries spec.now) (trial_trees cx.new.entries input.now.variables.items t)) }
+    ensures refused { result ≡ Err EvalError.NoSolution →
+        equate (fresh (begun input.now.variables.items) spec.now.variables.items) (equations_trees cx.old.entries spec.now.equations.items) ≡ None }
+{
+    let mut trial = begin(alloc, cx, input, &spec.variables)?;
+    equate_all(alloc, cx, &mut trial.table, &trial.values, &spec.equations)?;
+    record_constraints(
+        alloc,
+        cx,
+        &mut trial.table,
+        &trial.values,
+        &spec.region_constraints,
+    )?;
+    Ok(trial)
+}
+
+/// An empty table, with what stands in it for the variables of the goal and for these of the candidate.
+fn begin(
+    alloc: Global,
+    cx: &mut Interner,
+    input: &CanonicalInput,
+    variables: &[CanonicalVarKind],
+) -> Result<Trial, Fault>
+    ensures terms { GrewOrFull cx.old cx.new result }
+    ensures ready { IfOk result (λ t. Ready cx.new.entries t.table) }
+    ensures own { IfOk result (λ t. ArgsHeld cx.new.entries t.own.items) }
+    ensures values { IfOk result (λ t. ArgsHeld cx.new.entries t.values.items) }
+    ensures is { IfOk result (λ t. trial_trees cx.new.entries input.now.variables.items t ≡ fresh (begun input.now.variables.items) variables.now) }
+{
+    let mut table = InferCtxt::new(alloc);
+    let own = next_values(alloc, cx, &mut table, &input.variables)?;
+    cx.lawful();
+    let mut values = Vec::from_slice(alloc, &own)?;
+    add_unknowns(cx, &mut table, variables, &mut values)?;
+    Ok(Trial { table, own, values })
+}
+
+/// Puts a new unknown of each kind behind these values.
+fn add_unknowns(
+    cx: &mut Interner,
+    table: &mut InferCtxt,
+    kinds: &[CanonicalVarKind],
+    values: &mut Vec<GenericArgKind>,
+) -> Result<(), Fault>
+    requires ready { Ready cx.old.entries table.old }
+    requires held { ArgsHeld cx.old.entries values.old.items }
+    ensures ready { Ready cx.new.entries table.new }
+    ensures terms { GrewOrFull cx.old cx.new result }
+    ensures held { OnOk result (ArgsHeld cx.new.entries values.new.items) }
+    ensures values { OnOk result (values_of cx.new.entries values.new.items
+        ≡ values_of cx.old.entries values.old.items ++ unknowns (table_trees cx.old.entries table.old) kinds.now) }
+    ensures made { OnOk result (table_trees cx.new.entries table.new ≡ with_unknowns (table_trees cx.old.entries table.old) kinds.now) }
+{
+    for kind in kinds {
+        let unknown = new_unknown(cx, table, *kind)?;
+        values.push(unknown)?;
+    }
+    Ok(())
+}
+
+/// A new unknown of this kind; for a kind of placeholders, one of their sort.
+fn new_unknown(
+    cx: &mut Interner,
+    table: &mut InferCtxt,
+    kind: CanonicalVarKind,
+) -> Result<GenericArgKind, Fault>
+    requires ready { Ready cx.old.entries table.old }
+    ensures ready { Ready cx.new.entries table.new }
+    ensures terms { GrewOrFull cx.old cx.new result }
+    ensures is { IfOk result (λ a. (es : List Entry) → value_of cx.new.entries a ≡ next_unknown (table_trees es table.old) kind) }
+    ensures held { IfOk result (λ a. ArgHeld cx.new.entries a) }
+    ensures made { OnOk result ((es : List Entry) → table_trees es table.new ≡ with_unknown (table_trees es table.old) kind) }
+{
+    match kind {
+        CanonicalVarKind::Ty | CanonicalVarKind::PlaceholderTy => {
+            let ty = table.next_ty_var(cx)?;
+            Ok(GenericArgKind::Ty(ty))
+        }
+        CanonicalVarKind::Const | CanonicalVarKind::PlaceholderConst => {
+            let ct = table.next_const_var(cx)?;
+            Ok(GenericArgKind::Const(ct))
+        }
+        CanonicalVarKind::Region => {
+            let region = table.next_region_var()?;
+            Ok(GenericArgKind::Lifetime(region))
+        }
+    }
+}
+
+/// Makes the sides of each equation equal, in order, with the values in the place of variables.
+fn equate_all(
+    alloc: Global,
+    cx: &mut Interner,
+    table: &mut InferCtxt,
+    values: &[GenericArgKind],
+    equations: &[Equation],
+) -> Result<(), EvalError>
+    requires ready { Ready cx.old.entries table.old }
+    requires values { ArgsHeld cx.old.entries values.now }
+    requires equations { Every (EquationHeld cx.old.entries) equations.now }
+    ensures ready { Ready cx.new.entries table.new }
+    ensures terms { EvalGrewOrFull cx.old cx.new result }
+    ensures solved { OnOk result (solved (table_trees cx.old.entries table.old) (equations_filled cx.old.entries values.now equations.now)
+        ≡ Some (table_trees cx.new.entries table.new)) }
+    ensures refused { result ≡ Err EvalError.NoSolution
+        → solved (table_trees cx.old.entries table.old) (equations_filled cx.old.entries values.now equations.now) ≡ None }
+{
+    for equation in equations {
+        equate(alloc, cx, table, values, equation)?;
+    }
+    Ok(())
+}
+
+/// Makes the sides of an equation equal, with the values in the place of variables.
+fn equate(
+    alloc: Global,
+    cx: &mut Interner,
+    table: &mut InferCtxt,
+    values: &[GenericArgKind],
+    equation: &Equation,
+) -> Result<(), EvalError>
+    requires ready { Ready cx.old.entries table.old }
+    requires values { ArgsHeld cx.old.entries values.now }
+    requires equation { EquationHeld cx.old.entries equation.now }
+    ensures ready { Ready cx.new.entries table.new }
+    ensures terms { EvalGrewOrFull cx.old cx.new result }
+    ensures solved { OnOk result (unified (table_trees cx.old.entries table.old) (equation_filled cx.old.entries values.now equation.now)
+        ≡ Some (table_trees cx.new.entries table.new)) }
+    ensures refused { result ≡ Err EvalError.NoSolution
+        → unified (table_trees cx.old.entries table.old) (equation_filled cx.old.entries values.now equation.now) ≡ None }
+{
+    let left = fill(alloc, cx, values, equation.left)?;
+    let right = fill(alloc, cx, values, equation.right)?;
+    match table.eq(cx, left, right) {
+        Ok(()) => Ok(()),
+        Err(error) => Err(EvalError::from(error)),
+    }
+}
+
+/// The term with the values in the place of variables.
+fn fill(
+    alloc: Global,
+    cx: &mut Interner,
+    values: &[GenericArgKind],
+    term: GenericArgKind,
+) -> Result<GenericArgKind, Fault>
+    requires values { ArgsHeld cx.old.entries values.now }
+    requires term { ArgHeld cx.old.entries term }
+    ensures terms { GrewOrFull cx.old cx.new result }
+    ensures held { IfOk result (λ a. ArgHeld cx.new.entries a) }
+    ensures filled { IfOk result (λ a. arg_trees cx.new.entries a ≡ filled (values_of cx.old.entries values.now) (arg_trees cx.old.entries term)) }
+{
+    term.fold_with(alloc, cx, &CanonicalInstantiator { values })
+}
+
+/// Records each constraint, in order and once, with the values in the place of variables.
+fn record_constraints(
+    alloc: Global,
+    cx: &mut Interner,
+    table: &mut InferCtxt,
+    values: &[GenericArgKind],
+    constraints: &[RegionConstraint],
+) -> Result<(), Fault>
+    requires ready { Ready cx.old.entries table.old }
+    requires values { ArgsHeld cx.old.entries values.now }
+    requires constraints { AllConstraintsHeld cx.old.entries constraints.now }
+    ensures ready { Ready cx.new.entries table.new }
+    ensures terms { GrewOrFull cx.old cx.new result }
+    ensures recorded { OnOk result (table_trees cx.new.entries table.new
+        ≡ with_constraints (constraints_filled cx.old.entries values.now constraints.now) (table_trees cx.old.entries table.old)) }
+{
+    for constraint in constraints {
+        record_constraint(alloc, cx, table, values, *constraint)?;
+    }
+    Ok(())
+}
+
+/// Records a constraint, with the values in the place of variables.
+fn record_constraint(
+    alloc: Global,
+    cx: &mut Interner,
+    table: &mut InferCtxt,
+    values: &[GenericArgKind],
+    constraint: RegionConstraint,
+) -> Result<(), Fault>
+    requires ready { Ready cx.old.entries table.old }
+    requires values { ArgsHeld cx.old.entries values.now }
+    requires constraint { IsHeldConstraint cx.old.entries constraint }
+    ensures ready { Ready cx.new.entries table.new }
+    ensures terms { GrewOrFull cx.old cx.new result }
+    ensures recorded { OnOk result (table_trees cx.new.entries table.new
+        ≡ with_constraints (constraints_filled cx.old.entries values.now (constraint ∷ [])) (table_trees cx.old.entries table.old)) }
+{
+    let constraint = constraint.fold_with(alloc, cx, &CanonicalInstantiator { values })?;
+    cx.lawful();
+    table.register_region_constraint(constraint)
+}
+
+/// Evaluates the nested goals in the trial's table.
+fn evaluate_nested(
+    alloc: Global,
+    cx: &mut Interner,
+    trial: Trial,
+    input: &CanonicalInput,
+    spec: &CandidateSpec,
+    replies: &[Option<CanonicalResponse>],
+) -> Result<EvalStep<CanonicalResponse>, EvalError>
+    requires ready { Ready cx.old.entries trial.table }
+    requires own { ArgsHeld cx.old.entries trial.own.items }
+    requires values { ArgsHeld cx.old.entries trial.values.items }
+    requires goals { Every (λ n. GoalHeld cx.old.entries n.1) spec.now.nested_goals.items }
+    requires replies { Every (ResultHeld cx.old.entries) replies.now }
+    ensures terms { EvalGrewOrFull cx.old cx.new result }
+    ensures held { IfOk result (λ s. AnswerHeld cx.new.entries s) }
+    ensures runs { CandidateEnds cx.new.entries (nested_of cx.old.entries input.now spec.now trial replies.now) result }
+{
+    let Trial { table, own, values } = trial;
+    let variables = Vec::from_slice(alloc, &input.variables)?;
+    let mut context = EvalCtxt::new(table, input.mode, variables, own);
+    add_goals(alloc, cx, &mut context, &values, &spec.nested_goals)?;
+    add_replies(alloc, &mut context, replies)?;
+    context.evaluate_added_goals_and_make_canonical_response(cx, spec.certainty)
+}
+
+/// Puts each goal behind those that are still to be asked, with the values in the place of variables.
+fn add_goals(
+    alloc: Global,
+    cx: &mut Interner,
+    context: &mut EvalCtxt,
+    values: &[GenericArgKind],
+    goals: &[(GoalSource, Goal)],
+) -> Result<(), Fault>
+    requires ready { IsReadyContext cx.old.entries context.old }
+    requires values { ArgsHeld cx.old.entries values.now }
+    requires goals { Every (λ n. GoalHeld cx.old.entries n.1) goals.now }
+    ensures terms { GrewOrFull cx.old cx.new result }
+    ensures ready { OnOk result (IsReadyContext cx.new.entries context.new) }
+    ensures rest { OnOk result (context.new ≡ record context.old { nested = context.new.nested }) }
+    ensures added { OnOk result (goals_trees cx.new.entries context.new.nested
+        ≡ goals_trees cx.old.entries context.old.nested ++ premises_filled cx.old.entries values.now goals.now) }
+{
+    for nested in goals {
+        let goal = instantiate_with_values(alloc, cx, &nested.1, values)?;
+        context.add_goal(nested.0, goal)?;
+    }
+    Ok(())
+}
+
+/// Puts copies of the replies behind those that the context has.
+fn add_replies(
+    alloc: Global,
+    context: &mut EvalCtxt,
+    replies: &[Option<CanonicalResponse>],
+) -> Result<(), Fault>
+    ensures rest { OnOk result (context.new ≡ record context.old { replies = context.new.replies }) }
+    ensures added { OnOk result ((es : List Entry)
+        → replies_trees es context.new.replies ≡ replies_trees es context.old.replies ++ replies_trees es replies.now) }
+    ensures held { OnOk result ((es : List Entry) → Every (ResultHeld es) context.old.replies → Every (ResultHeld es) replies.now
+        → Every (ResultHeld es) context.new.replies) }
+    ensures fault { IfErr result (λ e. e ≡ Fault.Memory) }
+{
+    for reply in replies {
+        let copy = copy_of(alloc, reply)?;
+        context.reply(copy)?;
+    }
+    Ok(())
+}
+
+fn copy_of(
+    alloc: Global,
+    reply: &Option<CanonicalResponse>,
+) -> Result<Option<CanonicalResponse>, Fault>
+    ensures same { IfOk result (λ r. (es : List Entry) → option_map (answer_trees es) r ≡ option_map (answer_trees es) reply.now) }
+    ensures held { IfOk result (λ r. (es : List Entry) → ResultHeld es reply.now → ResultHeld es r) }
+    ensures fault { IfErr result (λ e. e ≡ Fault.Memory) }
+{
+    match reply {
+        Some(response) => {
+            let variables = Vec::from_slice(alloc, &response.variables)?;
+            let var_values = Vec::from_slice(alloc, &response.var_values)?;
+            let region_constraints = Vec::from_slice(alloc, &response.region_constraints)?;
+            Ok(Some(CanonicalResponse {
+                variables,
+                certainty: response.certainty,
+                var_values,
+                region_constraints,
+            }))
+        }
+        None => Ok(None),
+    }
+}
+
+/// Begins to evaluate a candidate of a goal: up to its first question, or to its end. Then `OpenCandidate::resume` goes on with each
+/// answer.
+///
+/// What is done, and what `NoSolution` and `Full` say, is as with `evaluate_candidate` over no replies. It asks at most
+/// `FIXPOINT_STEP_LIMIT` questions for each of its nested goals.
+pub fn begin_candidate(
+    alloc: Global,
+    cx: &mut Interner,
+    input: &CanonicalInput,
+    spec: &CandidateSpec,
+) -> Result<CandidateStep, EvalError>
+    requires spec { SpecHeld cx.old.entries spec.now }
+    ensures terms { EvalGrewOrFull cx.old cx.new result }
+    ensures held { IfOk result (λ s. CandidateHeld cx.new.entries s) }
+    ensures stands { StandsAt cx.new.entries (candidate input.now.mode (begun input.now.variables.items) (spec_trees cx.old.entries spec.now)) result }
+    ensures most { IfOk result (AsksAtMost (FIXPOINT_STEP_LIMIT * length spec.now.nested_goals.items)) }
+{
+    let trial = try_candidate(alloc, cx, input, spec)?;
+    open_nested(alloc, cx, trial, input, spec)
+}
+
+/// Begins to ask the nested goals in the trial's table.
+fn open_nested(
+    alloc: Global,
+    cx: &mut Interner,
+    trial: Trial,
+    input: &CanonicalInput,
+    spec: &CandidateSpec,
+) -> Result<CandidateStep, EvalError>
+    requires ready { Ready cx.old.entries trial.table }
+    requires own { ArgsHeld cx.old.entries trial.own.items }
+    requires values { ArgsHeld cx.old.entries trial.values.items }
+    requires goals { Every (λ n. GoalHeld cx.old.entries n.1) spec.now.nested_goals.items }
+    ensures terms { EvalGrewOrFull cx.old cx.new result }
+    ensures held { IfOk result (λ s. CandidateHeld cx.new.entries s) }
+    ensures stands { StandsAt cx.new.entries (asked input.now.mode (premises_trees cx.old.entries spec.now.nested_goals.items) spec.now.certainty
+        (trial_trees cx.old.entries input.now.variables.items trial)) result }
+    ensures most { IfOk result (AsksAtMost (FIXPOINT_STEP_LIMIT * length spec.now.nested_goals.items)) }
+{
+    let Trial { table, own, values } = trial;
+    let variables = Vec::from_slice(alloc, &input.variables)?;
+    let goals = fill_goals(alloc, cx, &values, &spec.nested_goals)?;
+    let evaluation = Evaluation {
+        mode: input.mode,
+        table,
+        variables,
+        own,
+        certainty: spec.certainty,
+    };
+    evaluation.begin_rounds(alloc, cx, goals)
+}
+
+/// The goals, with the values in the place of variables.
+fn fill_goals(
+    alloc: Global,
+    cx: &mut Interner,
+    values: &[GenericArgKind],
+    goals: &[(GoalSource, Goal)],
+) -> Result<VecDeque<(GoalSource, Goal)>, Fault>
+    requires values { ArgsHeld cx.old.entries values.now }
+    requires goals { Every (λ n. GoalHeld cx.old.entries n.1) goals.now }
+    ensures terms { GrewOrFull cx.old cx.new result }
+    ensures held { IfOk result (λ gs. NestedHeld cx.new.entries (map nested_goal gs.items)) }
+    ensures filled { IfOk result (λ gs. premises_trees cx.new.entries gs.items ≡ premises_filled cx.old.entries values.now goals.now) }
+{
+    let mut filled = VecDeque::new(alloc);
+    for premise in goals {
+        let goal = instantiate_with_values(alloc, cx, &premise.1, values)?;
+        filled.push_back((premise.0, goal))?;
+    }
+    Ok(filled)
+}

@@ -1,5 +1,0 @@
-use Rattle.goal_walk.proofs.Walks.{asked-none}
-use Rattle.goal_walk.proofs.asking.answer_once.Goals as goal
-
-pub returns-in-Some-clause-asked : goal.returns-in-Some-clause-asked
-returns-in-Some-clause-asked g c = asked-none g.H.GoalHandler.meaning c.args.graph.now c.args.cx.now

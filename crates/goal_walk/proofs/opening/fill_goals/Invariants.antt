@@ -1,9 +1,0 @@
-use Rattle.type_terms.specs.Growth.{Grew}
-use Rattle.goal_walk.specs.Walking.{GoalsHeld}
-use Rattle.goal_walk.proofs.opening.fill_goals.Given as goal
-
-abbrev pub invariant-loop-nested : goal.invariant-loop-nested
-invariant-loop-nested l = record {
-  grew : Grew l.fn.cx l.cx;
-  held : GoalsHeld l.cx.entries l.filled.items;
-}

@@ -1,6 +1,0 @@
-use Rattle.search_graph.specs.Cache.{AreJustified}
-use Rattle.scripted_goals.specs.Toy.{toy_meaning}
-use Rattle.layer_tests.proofs.searches.first_that_differs.Given as goal
-
-abbrev pub invariant-loop-depth : goal.invariant-loop-depth
-invariant-loop-depth l = AreJustified toy_meaning l.scripts l.cache

@@ -1,7 +1,0 @@
-use Rattle.std.proofs.Common.{ℕ, List}
-use Rattle.name_resolution.specs.UsedNames.{Holds}
-use Rattle.name_resolution.proofs.Firsts.{Firsts}
-use Rattle.name_resolution.proofs.found_variables.each_once.Given as goal
-
-abbrev pub invariant-loop-variable : goal.invariant-loop-variable
-invariant-loop-variable l = (seen : List (List ℕ)) × Holds l.met seen × Firsts l.variables l.variable-index l.firsts.items seen

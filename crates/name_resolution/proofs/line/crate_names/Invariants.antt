@@ -1,8 +1,0 @@
-use Rattle.std.proofs.Common.{◌≡◌, take, map}
-use Rattle.line_reader.specs.TokenViews.{text_of}
-use Rattle.text_definitions.specs.Uses.{crate_use}
-use Rattle.name_resolution.specs.Machine.{findings}
-use Rattle.name_resolution.proofs.line.crate_names.Given as goal
-
-abbrev pub invariant-loop-name : goal.invariant-loop-name
-invariant-loop-name g l = l.faults ≡ findings (g.N.Names.sight l.names) (map crate_use (map text_of (take l.name-index l.crates)))

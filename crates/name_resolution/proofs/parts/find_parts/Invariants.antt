@@ -1,9 +1,0 @@
-use Rattle.std.proofs.Common.{List, drop}
-use Rattle.line_reader.specs.TypeViews.{cells_in}
-use Rattle.line_reader.specs.LineParts.{LinePart, PartStands}
-use Rattle.line_reader.specs.Places.{EachOf}
-use Rattle.name_resolution.proofs.Finding.{Going}
-use Rattle.name_resolution.proofs.parts.find_parts.Given as goal
-
-abbrev pub invariant-loop-part : goal.invariant-loop-part
-invariant-loop-part g l = (ps : List LinePart) → EachOf (PartStands (cells_in l.cells)) ps l.parts → Going (g.N.Names.sight l.names) (cells_in l.cells) ps (drop l.part-index l.parts) l.found

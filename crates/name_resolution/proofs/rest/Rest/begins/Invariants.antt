@@ -1,9 +1,0 @@
-use Rattle.std.proofs.Common.{◌≡◌, length}
-use Rattle.name_resolution.specs.Back.{begins}
-use Rattle.name_resolution.proofs.rest.Rest.begins.Given as goal
-
-abbrev pub invariant-loop-cell : goal.invariant-loop-cell
-invariant-loop-cell l = begins l.self ≡ begins l.rest
-
-abbrev pub decreases-loop-cell : goal.decreases-loop-cell
-decreases-loop-cell l = length l.rest

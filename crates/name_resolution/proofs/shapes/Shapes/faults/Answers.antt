@@ -1,6 +1,0 @@
-use Rattle.std.proofs.Common.{ap}
-use Rattle.name_resolution.proofs.Summed.{one_dyn}
-use Rattle.name_resolution.proofs.shapes.Shapes.faults.Goals as goal
-
-pub returns : goal.returns
-returns c v is e = one_dyn v is c.args.self.now c.is_bad.result c.self.inside.bounds e c.is_bad.ensures (ap (λ z. z.bounds) c.self.view_is)

@@ -1,5 +1,0 @@
-use Rattle.name_resolution.proofs.UsedLaws.{types_use_names, args_use_names}
-use Rattle.name_resolution.proofs.used_names.Goals as goal
-
-pub returns : goal.returns
-returns c = record { types = types_use_names; args = args_use_names }

@@ -1,6 +1,0 @@
-use Rattle.std.proofs.Common.{map}
-use Rattle.name_resolution.specs.Views.{variable_in}
-use Rattle.name_resolution.proofs.variables.are_of_two_kinds.Goals as goal
-
-pub returns : goal.returns
-returns c = c.any_in.ensures (map variable_in c.args.variables.now) c.in_ok-others.ensures

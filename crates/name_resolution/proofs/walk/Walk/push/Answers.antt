@@ -1,7 +1,0 @@
-use Rattle.std.proofs.Common.{ap, ◌∙◌, []}
-use Rattle.name_resolution.specs.WalkViews.{frames_in}
-use Rattle.name_resolution.proofs.Walking.{frames-push}
-use Rattle.name_resolution.proofs.walk.Walk.push.Goals as goal
-
-pub returns-clause-frames : goal.returns-clause-frames
-returns-clause-frames c = ap frames_in c.in_ok-push.ensures.items ∙ frames-push c.args.self.now.frames.items c.args.frame []

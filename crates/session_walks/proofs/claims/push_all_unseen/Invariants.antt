@@ -1,8 +1,0 @@
-use Rattle.session_walks.specs.Claims.{AddersHold, UnseenHold}
-use Rattle.session_walks.proofs.claims.push_all_unseen.Given as goal
-
-abbrev pub invariant-loop-place : goal.invariant-loop-place
-invariant-loop-place l = record {
-  unseen : UnseenHold l.session l.walk l.unseen.items;
-  adders : AddersHold l.session l.walk l.adders.items;
-}

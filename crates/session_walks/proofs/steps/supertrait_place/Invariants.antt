@@ -1,7 +1,0 @@
-use Rattle.type_terms.specs.Growth.{Grew}
-use Rattle.session_walks.proofs.steps.supertrait_place.Given as goal
-
-abbrev pub invariant-loop-place : goal.invariant-loop-place
-invariant-loop-place l = record {
-  grew : Grew l.fn.cx l.cx;
-}

@@ -1,0 +1,48 @@
+-- What plain recursion over the frames of a list of rules answers to goals without unknowns.
+use Rattle.std.specs.Prelude.{ℕ, Option}
+use Rattle.infer_table.specs.declared.certainty.TypingMode.{TypingMode}
+use Rattle.infer_table.specs.Responses.{AnswerTrees}
+use Rattle.search_graph.specs.Plain.{IsPlain}
+use Rattle.goal_evaluator.specs.Content.{Values, NestedQuestion, Fact, fact_of}
+use Rattle.goal_evaluator.specs.Tables.{frame_tables}
+use Rattle.goal_frames.specs.Searches.{Handles, GoalInMode, meaning}
+use Rattle.goal_frames.specs.Programs.{Programs}
+use Rattle.goal_frames.specs.HandlerPrograms.{programs_of}
+use Rattle.goal_frames.specs.RulePrograms.{DeclaredRules, rule_goals}
+use Rattle.solver_completeness.specs.ClosedTables.{AreClosed, ArePlaces}
+use Rattle.solver_completeness.specs.Ways.{HasShortChains, HasOneWayWithin, HoldsByWays, IsExactFor, IsRightFor}
+use Rattle.solver_completeness.specs.RuleWays.{rule_ways, IsAskedForm}
+
+-- a context declares the list of rules
+abbrev pub rule_programs : Programs frame_tables
+rule_programs = programs_of rule_goals
+
+module _ {C I R F : Type 0} (handles : Handles C I R F DeclaredRules (GoalInMode frame_tables rule_programs) (Option AnswerTrees)) where
+  -- plain recursion answers the question so, in chains of fewer than n questions
+  abbrev pub IsPlainFor : DeclaredRules → TypingMode → ℕ → NestedQuestion → Option AnswerTrees → Type 0
+  IsPlainFor w mode n q a = IsPlain (meaning frame_tables rule_programs handles) w n (mode, q.form) a
+
+  -- a canonical goal without where-clauses and unknowns, and places for its placeholders
+  pub record IsClosedGoal (q : NestedQuestion) (v : Values) : Type 0 where
+    pub asked : IsAskedForm q
+    pub closed : AreClosed q.form.kinds
+    pub places : ArePlaces q.form.kinds v
+
+  -- it is refused exactly if no way by the rules is possible
+  abbrev pub RulesAreExact : Type 0
+  RulesAreExact =
+      (w : DeclaredRules) (mode : TypingMode) (n : ℕ) (q : NestedQuestion) (v : Values) (a : Option AnswerTrees) → IsClosedGoal q v
+      → IsPlainFor w mode n q a → IsExactFor (rule_ways w.rules) n (fact_of q v) a
+
+  -- and where each reference has one rule at most whose premises hold, it is answered a definite yes if it holds, and refused if not
+  abbrev pub RulesAreRight : (Fact → Type 0) → Type 0
+  RulesAreRight Holds =
+      (w : DeclaredRules) → HoldsByWays (rule_ways w.rules) Holds
+      → (mode : TypingMode) (n : ℕ) (q : NestedQuestion) (v : Values) (a : Option AnswerTrees) → IsClosedGoal q v
+      → HasOneWayWithin (rule_ways w.rules) Holds n (fact_of q v) → IsPlainFor w mode n q a → IsRightFor frame_tables Holds (fact_of q v) a
+
+  -- and there is such an answer where chains of premises are short
+  abbrev pub RulesAnswer : Type 0
+  RulesAnswer =
+      (w : DeclaredRules) (mode : TypingMode) (n : ℕ) (q : NestedQuestion) (v : Values) → IsClosedGoal q v
+      → HasShortChains (rule_ways w.rules) n (fact_of q v) → (a : Option AnswerTrees) × IsPlainFor w mode n q a

@@ -1,5 +1,0 @@
-use Rattle.solver_context.proofs.WithoutCanonical.{evaluations-keep-out}
-use Rattle.solver_context.proofs.laws.canonical_variable_laws.Goals as goal
-
-pub returns : goal.returns
-returns c = evaluations-keep-out

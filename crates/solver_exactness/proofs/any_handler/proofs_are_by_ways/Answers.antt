@@ -1,5 +1,0 @@
-use Rattle.solver_exactness.proofs.ModelWays.{proofs_are_by_ways}
-use Rattle.solver_exactness.proofs.any_handler.proofs_are_by_ways.Goals as goal
-
-pub returns : goal.returns
-returns c = proofs_are_by_ways

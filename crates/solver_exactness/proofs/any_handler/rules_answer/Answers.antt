@@ -1,5 +1,0 @@
-use Rattle.solver_exactness.proofs.RuleAnswers as Lemmas
-use Rattle.solver_exactness.proofs.any_handler.rules_answer.Goals as goal
-
-pub returns : goal.returns
-returns g c = Lemmas.rules_answer g.S.RuleSearching.handles

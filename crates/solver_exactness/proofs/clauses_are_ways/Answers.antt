@@ -1,5 +1,0 @@
-use Rattle.solver_exactness.proofs.Clauses as Lemmas
-use Rattle.solver_exactness.proofs.clauses_are_ways.Goals as goal
-
-pub returns : goal.returns
-returns g m = Lemmas.clauses-are-ways m

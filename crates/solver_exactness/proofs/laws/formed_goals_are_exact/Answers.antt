@@ -1,5 +1,0 @@
-use Rattle.solver_exactness.proofs.FormedAnswers as Lemmas
-use Rattle.solver_exactness.proofs.laws.formed_goals_are_exact.Goals as goal
-
-pub returns : goal.returns
-returns g c = let x = g.S.SolverSearching in Lemmas.formed-is-exact x.applicable x.same x.meaning_of x.fits_in x.handles

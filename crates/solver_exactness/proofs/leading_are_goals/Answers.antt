@@ -1,5 +1,0 @@
-use Rattle.solver_exactness.proofs.LeadingGoals as Lemmas
-use Rattle.solver_exactness.proofs.leading_are_goals.Goals as goal
-
-pub returns : goal.returns
-returns c = Lemmas.leading-are-goals

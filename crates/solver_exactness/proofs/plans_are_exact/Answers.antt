@@ -1,5 +1,0 @@
-use Rattle.solver_exactness.proofs.SolverPlans as Lemmas
-use Rattle.solver_exactness.proofs.plans_are_exact.Goals as goal
-
-pub returns : goal.returns
-returns g applicable = Lemmas.plans-are-exact applicable

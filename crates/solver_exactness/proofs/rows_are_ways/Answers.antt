@@ -1,5 +1,0 @@
-use Rattle.solver_exactness.proofs.Rows as Lemmas
-use Rattle.solver_exactness.proofs.rows_are_ways.Goals as goal
-
-pub returns : goal.returns
-returns g m = Lemmas.rows-are-ways m

@@ -1,5 +1,0 @@
-use Rattle.solver_exactness.proofs.SolverAnswers as Lemmas
-use Rattle.solver_exactness.proofs.solver_is_exact.Goals as goal
-
-pub returns : goal.returns
-returns g c = let x = g.S.SolverSearching in Lemmas.solver-is-exact x.applicable x.same x.meaning_of x.fits_in x.handles x.IsAsked

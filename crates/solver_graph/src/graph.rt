@@ -1,0 +1,199 @@
+//! The delegate of a search for the goals of a handler.
+
+ghost use Rattle.std.specs.Prelude.{◌≡◌, ◌↔◌, ◌<◌, Err, IfOk, IfSome, IsSome, IsTrue, Some, true, false};
+ghost use Rattle.infer_table.specs.declared.certainty.Certainty.TheVariants.{Maybe};
+ghost use Rattle.search_graph.specs.Meaning.{Keeps, IsFair, IsDue, IsReply, Steps};
+ghost use Rattle.goal_evaluator.specs.Tables.{frame_tables};
+ghost use Rattle.goal_frames.specs.Searches.{is_ambiguous_answer, is_yes_answer};
+ghost use Rattle.goal_frames.specs.HandlerPrograms.{silent, cycle_answer};
+ghost use Rattle.solver_graph.specs.Answers.{certainty_of};
+ghost use Rattle.solver_graph.specs.Contexts.{goal_of, answer_of, IsInput, ResponseIsMade};
+ghost use Rattle.solver_graph.specs.Searching.{solver_meaning, steps_left};
+ghost use Rattle.solver_graph.specs.Shortages.{ContextIsFull};
+
+use crate::context::SolverCx;
+use crate::requests::{keep_request, read_reply};
+use crate::silent::{cycle_certainty, holds_nothing, is_silent, silent_answer};
+use goal_frames::store::{InputId, ResponseId};
+use goal_frames::{GoalFrame, GoalHandler};
+use infer_table::certainty::{Certainty, MaybeCause};
+use search_graph::{Delegate, PathKind, Reply, Request};
+use std::marker::PhantomData;
+use type_terms::Fault;
+
+/// A question of a goal whose types have fewer levels counts once. It counts once more for each so many levels.
+const LEVELS_OF_A_SMALL_GOAL: usize = 32;
+
+/// Evaluates goals by the rules of a handler.
+///
+/// What it means to a search is what the handler means for goals: the questions of a frame are those of the goal's frame over
+/// trees, a definite yes follows by the handler's rules, and an answer covers its goal. So all that is proved of searches
+/// holds of the answers to a handler's goals. A call answers `Full` only where the context is at a limit (`ContextIsFull`): that of
+/// the interner, or of the store of goals and answers.
+///
+/// `SearchGraphDelegate` of `rustc_next_trait_solver`.
+pub struct SolverGraph<H> {
+    of: PhantomData<H>,
+}
+
+impl<H: GoalHandler> Delegate for SolverGraph<H> {
+    type Cx = SolverCx<H>;
+
+    type Frame = GoalFrame;
+
+    const FIXPOINT_STEP_LIMIT: usize = goal_evaluator::FIXPOINT_STEP_LIMIT;
+
+    const DIVIDE_AVAILABLE_DEPTH_ON_OVERFLOW: usize = 4;
+
+    ghost FIXPOINT_STEP_LIMIT = { 8 };
+
+    ghost DIVIDE_AVAILABLE_DEPTH_ON_OVERFLOW = { 4 };
+
+    ghost meaning = { solver_meaning H.meaning };
+
+    ghost steps_left = { steps_left H.meaning };
+
+    /// A coinductive cycle holds, and one whose steps are not decided is an overflow. An inductive cycle is refused, but in
+    /// coherence it is an overflow too. The answer says nothing of the goal's variables.
+    fn initial_provisional_result(
+        cx: &mut SolverCx<H>,
+        kind: PathKind,
+        input: &InputId,
+    ) -> Result<Option<ResponseId>, Fault> {
+        match cycle_certainty(cx.store.input(*input).mode, kind) {
+            Some(certainty) => silent_answer(cx, *input, certainty),
+            None => Ok(None),
+        }
+    }
+
+    /// Whether the result is the goal's initial one: neither more nor less.
+    fn is_initial_provisional_result(
+        cx: &SolverCx<H>,
+        kind: PathKind,
+        input: &InputId,
+        of: &Option<ResponseId>,
+    ) -> bool
+        requires input { IsInput H.meaning.IsReady cx.now input.now }
+        requires known { ResponseIsMade H.meaning.IsReady cx.now of.now }
+        ensures { IsTrue result ↔ (answer_of cx.now of.now ≡ cycle_answer (goal_of cx.now input.now).0 (goal_of cx.now input.now).1 kind) }
+    {
+        let goal = cx.store.input(*input);
+        match (cycle_certainty(goal.mode, kind), of) {
+            (Some(certainty), Some(id)) => {
+                let response = cx.store.response(*id);
+                is_silent(&cx.interner, response, &goal.variables, certainty)
+            }
+            (None, None) => true,
+            (Some(_), None) | (None, Some(_)) => false,
+        }
+    }
+
+    /// An overflow that says nothing of the goal's variables.
+    fn stack_overflow_result(
+        cx: &mut SolverCx<H>,
+        input: &InputId,
+    ) -> Result<Option<ResponseId>, Fault> {
+        let too_deep = Certainty::Maybe(MaybeCause::Overflow);
+        silent_answer(cx, *input, too_deep)
+    }
+
+    /// An overflow that says nothing of the goal's variables.
+    fn fixpoint_overflow_result(
+        cx: &mut SolverCx<H>,
+        input: &InputId,
+    ) -> Result<Option<ResponseId>, Fault> {
+        let too_often = Certainty::Maybe(MaybeCause::Overflow);
+        silent_answer(cx, *input, too_often)
+    }
+
+    /// The cause of an answer that is not sure and says nothing: it gives no type or const a value, and constrains no lifetime.
+    fn is_ambiguous_result(cx: &SolverCx<H>, of: &Option<ResponseId>) -> Option<MaybeCause>
+        requires { ResponseIsMade H.meaning.IsReady cx.now of.now }
+        ensures is { IsSome result ↔ (is_ambiguous_answer frame_tables (answer_of cx.now of.now) ≡ true) }
+
+        // It is the answer's own.
+        ensures cause { IfSome result (λ cause. certainty_of (answer_of cx.now of.now) ≡ Some (Maybe cause)) }
+    {
+        let Some(id) = of else {
+            return None;
+        };
+        let response = cx.store.response(*id);
+        match response.certainty {
+            Certainty::Yes => None,
+            Certainty::Maybe(cause) => {
+                if holds_nothing(&cx.interner, response) {
+                    Some(cause)
+                } else {
+                    None
+                }
+            }
+        }
+    }
+
+    /// The answer to the goal that is unsure for this cause, and says nothing of the goal's variables.
+    fn propagate_ambiguity(
+        cx: &mut SolverCx<H>,
+        for_input: &InputId,
+        ambiguity_info: MaybeCause,
+    ) -> Result<Option<ResponseId>, Fault>
+        requires { IsInput H.meaning.IsReady cx.old for_input.now }
+        ensures keeps { Keeps (solver_meaning H.meaning) cx.old cx.new }
+        ensures full { result ≡ Err Fault.Full → ContextIsFull cx.new }
+        ensures known { IfOk result (ResponseIsMade H.meaning.IsReady cx.new) }
+        ensures fair { IfOk result (λ r. let m = solver_meaning H.meaning in
+            IsFair m (m.world cx.old) (goal_of cx.old for_input.now) (answer_of cx.new r)) }
+        ensures no_yes { IfOk result (λ r. is_yes_answer frame_tables (answer_of cx.new r) ≡ false) }
+        ensures is { IfOk result (λ r. answer_of cx.new r ≡ silent (goal_of cx.old for_input.now).1 (Maybe ambiguity_info)) }
+    {
+        silent_answer(cx, *for_input, Certainty::Maybe(ambiguity_info))
+    }
+
+    /// A goal's terms are walked several times as it is evaluated: so it costs one more for each 16 levels of its predicate's types.
+    fn cost_of(cx: &SolverCx<H>, input: &InputId) -> usize {
+        let goal = cx.store.input(*input);
+        let levels = cx.interner.depth(goal.goal.predicate.trait_ref.args);
+        levels as usize / LEVELS_OF_A_SMALL_GOAL
+    }
+
+    /// The frame of the goal that is kept under this number, in its mode.
+    fn start(cx: &mut SolverCx<H>, input: &InputId) -> Result<GoalFrame, Fault> {
+        let goal = cx.store.copy_input(*input)?;
+        Ok(GoalFrame::new::<H>(cx.alloc, goal))
+    }
+
+    /// Gives the frame the reply, and keeps the goal that it asks or the answer that it gives.
+    ///
+    /// `Full` comes where a table of the interner is full, or as many goals or answers are kept as the limit allows; `Memory`
+    /// where memory is refused, or the frame needs more variables than there are numbers.
+    fn step(
+        frame: &mut GoalFrame,
+        cx: &mut SolverCx<H>,
+        reply: Reply<Option<ResponseId>>,
+    ) -> Result<Request<InputId, Option<ResponseId>>, Fault>
+        requires due { IsDue (solver_meaning H.meaning) cx.old frame.old reply }
+        requires reply { IsReply (solver_meaning H.meaning) cx.old reply }
+        ensures keeps { Keeps (solver_meaning H.meaning) cx.old cx.new }
+        ensures full { result ≡ Err Fault.Full → ContextIsFull cx.new }
+        ensures steps { IfOk result (λ q. Steps (solver_meaning H.meaning) cx.old frame.old reply cx.new frame.new q) }
+        ensures falls { IfOk result (λ q. steps_left H.meaning cx.new frame.new < steps_left H.meaning cx.old frame.old) }
+    {
+        let reply = read_reply(cx, reply)?;
+        let asked = frame.step(cx.alloc, &mut cx.interner, &cx.handler, reply);
+        cx.interner.lawful();
+        keep_request(cx, asked?)
+    }
+
+    ghost use Rattle.goal_frames.proofs.HandlerPrograms.{handlers-are-programs};
+    ghost use Rattle.solver_graph.specs.Lawful.{solver-lawful, steps-kept, same-answer};
+
+    ghost lawful = { solver-lawful H.meaning
+        (handlers-are-programs H.meaning.goals H.lawful.goals) };
+
+    ghost steps_kept = { steps-kept H.meaning };
+
+    ghost same_answer = { same-answer H.meaning.IsReady };
+
+    ghost use Rattle.std.proofs.Common.{lit≤};
+
+    ghost divides = { lit≤ tt };
+}

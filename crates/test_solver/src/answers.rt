@@ -1,0 +1,207 @@
+//! What the solver answers to the first question of a text, asked twice, and the frames that it takes.
+ghost use Rattle.std.specs.Prelude.{◌≡◌, ℕ, List, Ok, IfOk};
+ghost use Rattle.type_terms.specs.Promised.Handles.{Keeps};
+ghost use Rattle.infer_table.specs.Content.{Ready};
+ghost use Rattle.infer_table.specs.Goals.{GoalHeld};
+ghost use Rattle.search_graph.specs.Cache.{AreJustified};
+ghost use Rattle.solver_graph.specs.Contexts.{IsReady};
+ghost use Rattle.solver_graph.specs.Searching.{solver_meaning};
+ghost use Rattle.text_language.specs.Text.{TextGives};
+ghost use Rattle.candidate_assembly.specs.Ready as solver;
+
+use crate::handlers::HandsOn;
+use crate::solver::{Evaluated, Solving, begin, evaluate};
+use crate::texts::{add_question, goal_at, read, view};
+use candidate_assembly::solver::Solver;
+use goal_evaluator::TypingMode;
+use goal_frames::GoalHandler;
+use infer_table::goal::Goal;
+use infer_table::infer_ctxt::InferCtxt;
+use std::alloc::Global;
+use type_terms::Fault;
+use type_terms::interner::Interner;
+use type_terms::kinds::GenericArgs;
+use workspace::Workspace;
+
+/// What is found of a goal that is asked twice: what is there after each time, and whether the goal is as it is wanted, with
+/// the values that its unknowns have got.
+pub(crate) type Found = (Evaluated, Evaluated, bool);
+
+/// A goal of a table, and the arguments that its reference is to have once it is evaluated.
+#[derive(Drop)]
+struct Posed {
+    table: InferCtxt,
+    goal: Goal,
+    wanted: GenericArgs,
+}
+
+/// Two unknown types and a constant. No question here has more unknowns.
+fn add_unknowns(cx: &mut Interner, table: &mut InferCtxt) -> Result<(), Fault>
+    requires { Ready cx.old.entries table.old }
+    ensures ready { IfOk result (λ _. Ready cx.new.entries table.new) }
+    ensures keeps { IfOk result (λ _. Keeps cx.old.entries cx.new.entries) }
+{
+    let _ = table.next_ty_var(cx)?;
+    let _ = table.next_ty_var(cx)?;
+    let _ = table.next_const_var(cx)?;
+    Ok(())
+}
+
+fn table_of_unknowns(alloc: Global, cx: &mut Interner) -> Result<InferCtxt, Fault>
+    ensures ready { IfOk result (λ table. Ready cx.new.entries table) }
+    ensures keeps { IfOk result (λ _. Keeps cx.old.entries cx.new.entries) }
+{
+    let mut table = InferCtxt::new(alloc);
+    add_unknowns(cx, &mut table)?;
+    Ok(table)
+}
+
+/// The arguments of the question at a place.
+fn arguments_at(
+    alloc: Global,
+    cx: &mut Interner,
+    workspace: &Workspace,
+    place: u32,
+) -> Result<GenericArgs, Fault>
+    ensures { IfOk result (λ _. Keeps cx.old.entries cx.new.entries) }
+{
+    let goal = goal_at(alloc, cx, workspace, place)?;
+    Ok(goal.predicate.trait_ref.args)
+}
+
+/// The first question as a goal, which is to become the second one.
+fn pose(alloc: Global, cx: &mut Interner, workspace: &Workspace) -> Result<Posed, Fault>
+    ensures table { IfOk result (λ posed. Ready cx.new.entries posed.table) }
+    ensures goal { IfOk result (λ posed. GoalHeld cx.new.entries posed.goal) }
+    ensures keeps { IfOk result (λ _. Keeps cx.old.entries cx.new.entries) }
+{
+    let wanted = arguments_at(alloc, cx, workspace, 1)?;
+    let goal = goal_at(alloc, cx, workspace, 0)?;
+    let table = table_of_unknowns(alloc, cx)?;
+    Ok(Posed {
+        table,
+        goal,
+        wanted,
+    })
+}
+
+/// What is asked, and by which rules.
+#[derive(Drop)]
+struct Case {
+    solver: Solver,
+    posed: Posed,
+}
+
+/// What the text asks.
+fn case_of(alloc: Global, cx: &mut Interner, workspace: &Workspace) -> Result<Case, Fault>
+    requires { (bytes : List ℕ) × TextGives bytes (Ok workspace.now) }
+    ensures ready { IfOk result (λ case. solver.AreReadyDeclarations cx.new.entries case.solver.declarations) }
+    ensures table { IfOk result (λ case. Ready cx.new.entries case.posed.table) }
+    ensures goal { IfOk result (λ case. GoalHeld cx.new.entries case.posed.goal) }
+{
+    let decls = view(alloc, cx, workspace)?;
+    let posed = pose(alloc, cx, workspace)?;
+    Ok(Case {
+        solver: Solver::new(decls),
+        posed,
+    })
+}
+
+/// What the text asks, read.
+fn read_case(alloc: Global, cx: &mut Interner, text: &[u8]) -> Result<Case, Fault>
+    ensures ready { IfOk result (λ case. solver.AreReadyDeclarations cx.new.entries case.solver.declarations) }
+    ensures table { IfOk result (λ case. Ready cx.new.entries case.posed.table) }
+    ensures goal { IfOk result (λ case. GoalHeld cx.new.entries case.posed.goal) }
+{
+    let workspace = read(alloc, text)?;
+    case_of(alloc, cx, &workspace)
+}
+
+/// Whether the goal, with the values of its table, has the arguments that are wanted.
+fn is_as_wanted(cx: &mut Interner, posed: &Posed) -> Result<bool, Fault>
+    requires table { Ready cx.old.entries posed.now.table }
+    requires goal { GoalHeld cx.old.entries posed.now.goal }
+{
+    let args = posed.goal.predicate.trait_ref.args;
+    let resolved = posed.table.eager_resolve_vars(cx, args)?;
+    Ok(resolved == posed.wanted)
+}
+
+fn evaluate_twice<H: GoalHandler>(
+    solving: &mut Solving<H>,
+    mode: TypingMode,
+    posed: &mut Posed,
+) -> Result<Found, Fault>
+    requires ready { IsReady H.meaning.IsReady solving.old.cx }
+    requires empty { solving.old.graph.current_depth ≡ 0 }
+    requires cache { AreJustified (solver_meaning H.meaning) solving.old.cx solving.old.cache }
+    requires table { Ready solving.old.cx.interner.entries posed.old.table }
+    requires goal { GoalHeld solving.old.cx.interner.entries posed.old.goal }
+{
+    let first = evaluate(solving, mode, &mut posed.table, &posed.goal)?;
+    let second = evaluate(solving, mode, &mut posed.table, &posed.goal)?;
+    let is_wanted = is_as_wanted(&mut solving.cx.interner, posed)?;
+    Ok((first, second, is_wanted))
+}
+
+/// Evaluates the goal twice by a handler that has met none yet.
+fn evaluate_first<H: GoalHandler + Drop>(
+    alloc: Global,
+    interner: Interner,
+    handler: H,
+    posed: Posed,
+    mode: TypingMode,
+) -> Result<Found, Fault>
+    requires ready { H.meaning.IsReady handler interner.entries }
+    requires table { Ready interner.entries posed.table }
+    requires goal { GoalHeld interner.entries posed.goal }
+{
+    let mut solving = begin(alloc, interner, handler, 8)?;
+    let mut posed = posed;
+    evaluate_twice(&mut solving, mode, &mut posed)
+}
+
+/// What is found of the first question of a text, which is to become the second one, in this mode.
+fn found_in(alloc: Global, text: &[u8], mode: TypingMode) -> Result<Found, Fault> {
+    let mut interner = Interner::new(alloc, 10000);
+    let Case { solver, posed } = read_case(alloc, &mut interner, text)?;
+    evaluate_first(alloc, interner, solver, posed, mode)
+}
+
+/// What another handler finds of the first question of a text.
+fn found_in_by_another(alloc: Global, text: &[u8], mode: TypingMode) -> Result<Found, Fault> {
+    let mut interner = Interner::new(alloc, 10000);
+    let Case { solver, posed } = read_case(alloc, &mut interner, text)?;
+    evaluate_first(alloc, interner, HandsOn { solver }, posed, mode)
+}
+
+/// What is declared, and behind it the two questions.
+fn text_of(alloc: Global, declared: &[u8], asked: &[u8], becomes: &[u8]) -> Result<Vec<u8>, Fault> {
+    let mut text = Vec::from_slice(alloc, declared)?;
+    add_question(&mut text, asked)?;
+    add_question(&mut text, becomes)?;
+    Ok(text)
+}
+
+/// What is found of a goal in this mode, over what is declared; it is to become another one.
+pub(crate) fn found(
+    alloc: Global,
+    declared: &[u8],
+    mode: TypingMode,
+    asked: &[u8],
+    becomes: &[u8],
+) -> Result<Found, Fault> {
+    let text = text_of(alloc, declared, asked, becomes)?;
+    found_in(alloc, &text, mode)
+}
+
+/// What another handler finds of a goal, which is to stay as it is.
+pub(crate) fn found_by_another(
+    alloc: Global,
+    declared: &[u8],
+    mode: TypingMode,
+    asked: &[u8],
+) -> Result<Found, Fault> {
+    let text = text_of(alloc, declared, asked, asked)?;
+    found_in_by_another(alloc, &text, mode)
+}

@@ -1,0 +1,162 @@
+//! The first step of a goal whose self type is unknown, and what is made of candidates that were considered.
+ghost use Rattle.std.specs.Prelude.{ℕ, List, Ok, Some, IfOk};
+ghost use Rattle.type_terms.specs.Promised.Handles.{Entry};
+ghost use Rattle.infer_table.specs.Goals.{GoalHeld};
+ghost use Rattle.goal_evaluator.specs.Readings.{ConsideredHeld, ResultHeld};
+ghost use Rattle.goal_frames.specs.Fitting.{ConsideredFits, ResultFits};
+ghost use Rattle.text_language.specs.Text.{TextGives};
+ghost use Rattle.candidate_assembly.specs.Ready.{AreReadyDeclarations};
+
+use crate::candidates::question;
+use crate::texts::{read, view};
+use candidate_assembly::decided::is_decided;
+use candidate_assembly::merge::merge_trait_candidates;
+use candidate_assembly::trait_goals::{assemble_and_evaluate_candidates, compute_trait_goal};
+use declarations::declarations::Declarations;
+use goal_evaluator::{CandidateSource, Certainty, Considered, HandlerStep, ParamEnvSource, TypingMode};
+use infer_table::certainty::MaybeCause;
+use infer_table::input::CanonicalInput;
+use infer_table::response::CanonicalResponse;
+use std::alloc::{AllocError, Global};
+use type_terms::interner::Interner;
+use type_terms::{Fault, ImplId};
+use workspace::Workspace;
+
+/// A goal whose self type is unknown.
+const UNKNOWN: &[u8] = b"crate here
+trait Show
+impl Show for u8
+prove in here ?x: Show";
+
+/// A call that tells the first candidate of a goal.
+#[derive(Clone, Copy)]
+enum Call {
+    Assemble,
+    Compute,
+}
+
+/// How sure the first candidate of the goal can make it, where a first one is told.
+fn first_certainty(
+    alloc: Global,
+    cx: &mut Interner,
+    decls: &Declarations,
+    goal: &CanonicalInput,
+    call: Call,
+) -> Result<Option<Certainty>, Fault>
+    requires ready { AreReadyDeclarations cx.old.entries decls.now }
+    requires goal { GoalHeld cx.old.entries goal.now.goal }
+{
+    match call {
+        Call::Assemble => {
+            let decided = is_decided(cx, decls, goal);
+            match assemble_and_evaluate_candidates(alloc, cx, decls, goal, decided, &[])? {
+                Some(spec) => Ok(Some(spec.certainty)),
+                None => Ok(None),
+            }
+        }
+        Call::Compute => match compute_trait_goal(alloc, cx, decls, goal, &[])? {
+            HandlerStep::Consider(spec) => Ok(Some(spec.certainty)),
+            HandlerStep::Answer(_, _) => Ok(None),
+            HandlerStep::NoSolution => Ok(None),
+        },
+    }
+}
+
+/// The same of the first question of a text, by what the crate sees that asks it.
+fn first_in_workspace(
+    alloc: Global,
+    cx: &mut Interner,
+    workspace: &Workspace,
+    call: Call,
+) -> Result<Option<Certainty>, Fault>
+    requires { (bytes : List ℕ) × TextGives bytes (Ok workspace.now) }
+{
+    let decls = view(alloc, cx, workspace)?;
+    let (goal, _clauses) = question(alloc, cx, workspace, 0)?;
+    first_certainty(alloc, cx, &decls, &goal, call)
+}
+
+/// The same of the goal whose self type is unknown.
+fn first_of_unknown(alloc: Global, call: Call) -> Result<Option<Certainty>, Fault> {
+    let workspace = read(alloc, UNKNOWN)?;
+    let mut cx = Interner::new(alloc, 10000);
+    first_in_workspace(alloc, &mut cx, &workspace, call)
+}
+
+#[test]
+fn a_goal_of_an_unknown_type_begins_with_a_forced_ambiguity(rt: HostRuntime) -> Result<(), Fault> {
+    let doubt = Some(Certainty::Maybe(MaybeCause::Ambiguity));
+    for call in [Call::Assemble, Call::Compute] {
+        assert!(rt; first_of_unknown(rt.alloc(), call)? == doubt);
+    }
+    Ok(())
+}
+
+/// That a goal without variables holds.
+fn yes(alloc: Global) -> CanonicalResponse
+    ensures { (es : List Entry) → ResultHeld es (Some result) × ResultFits es (Some result) }
+{
+    CanonicalResponse {
+        variables: Vec::new(alloc),
+        certainty: Certainty::Yes,
+        var_values: Vec::new(alloc),
+        region_constraints: Vec::new(alloc),
+    }
+}
+
+/// An impl that holds, a where-clause that holds and is not global, and one that is refused, under the numbers 0 to 2.
+fn considered(alloc: Global) -> Result<Vec<Considered>, AllocError>
+    ensures { IfOk result (λ done. (es : List Entry) → ConsideredHeld es done.items × ConsideredFits es done.items) }
+{
+    let clause = CandidateSource::ParamEnv(ParamEnvSource::NonGlobal);
+    Ok(vec![in alloc;
+        Considered {
+            source: CandidateSource::Impl(ImplId { index: 0 }),
+            result: Some(yes(alloc)),
+            head_usages: 0,
+        },
+        Considered {
+            source: clause,
+            result: Some(yes(alloc)),
+            head_usages: 1,
+        },
+        Considered {
+            source: clause,
+            result: None,
+            head_usages: 2,
+        },
+    ]?)
+}
+
+/// How sure the merge outside coherence is, and how many candidates it ignores with the number of the first; none where it refuses.
+type Merged = Option<(Certainty, usize, Option<usize>)>;
+
+/// The merge outside coherence of these candidates for a goal without variables.
+fn merged(alloc: Global, cx: &mut Interner, done: &[Considered]) -> Result<Merged, Fault>
+    requires held { ConsideredHeld cx.old.entries done.now }
+    requires fits { ConsideredFits cx.old.entries done.now }
+{
+    match merge_trait_candidates(alloc, cx, TypingMode::PostAnalysis, &[], done)? {
+        HandlerStep::Answer(answer, ignored) => {
+            Ok(Some((answer.certainty, ignored.len(), ignored.first().copied())))
+        }
+        HandlerStep::Consider(_) => Ok(None),
+        HandlerStep::NoSolution => Ok(None),
+    }
+}
+
+/// The merge of no candidates, and that of the three.
+fn merges(alloc: Global) -> Result<[Merged; 2], Fault> {
+    let done = considered(alloc)?;
+    let mut cx = Interner::new(alloc, 100);
+    let none = merged(alloc, &mut cx, &[])?;
+    Ok([none, merged(alloc, &mut cx, &done)?])
+}
+
+// The where-clause wins over the impl, and the other where-clause is ignored, though it was refused.
+#[test]
+fn a_where_clause_that_holds_is_preferred(rt: HostRuntime) -> Result<(), Fault> {
+    let preferred = Some((Certainty::Yes, 1, Some(2)));
+    assert!(rt; merges(rt.alloc())? == [None, preferred]);
+    Ok(())
+}

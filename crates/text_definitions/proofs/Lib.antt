@@ -1,2 +1,0 @@
-pub mod TypeBasics
-pub mod Basics

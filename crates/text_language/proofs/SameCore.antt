@@ -1,0 +1,7 @@
+-- `core` alone is what the long form says.
+use Rattle.std.proofs.Common.{◌≡◌, refl}
+use Rattle.text_language.specs.Declarations.{nothing_declared}
+use Rattle.text_language.specs.Promised.CoreText.{core_declared}
+
+pub core-declared-is : core_declared ≡ nothing_declared
+core-declared-is = refl

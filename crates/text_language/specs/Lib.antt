@@ -1,0 +1,15 @@
+pub mod Promised
+pub mod Words
+pub mod Tokens
+pub mod Syntax
+pub mod Written
+pub mod Declarations
+pub mod Uses
+pub mod Faults
+pub mod Lowering
+pub mod Adding
+pub mod Text
+pub mod Output
+pub mod Names
+pub mod Worked
+pub mod Agreement

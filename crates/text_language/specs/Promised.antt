@@ -1,0 +1,13 @@
+-- What the promises of the calls rest on.
+pub mod Declarations
+pub mod Faults
+pub mod Syntax
+pub mod Text
+pub mod Written
+pub mod CoreText
+pub mod Grammar
+pub mod LineFaults
+pub mod LineMeanings
+pub mod Mentions
+pub mod PrintedTypes
+pub mod TextSays

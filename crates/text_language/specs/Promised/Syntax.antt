@@ -1,0 +1,84 @@
+-- What a line says, and the one way to write it: the grammar.
+use Rattle.std.specs.Prelude.{ℕ, Bool, List, Option}
+use Rattle.type_terms.specs.Promised.Label.{Label}
+use Rattle.text_language.specs.Tokens.{name}
+
+-- ---- types
+
+-- the length of an array: a number, a parameter's name, or a variable
+pub data Length : Type 0 where
+  number_length : ℕ → Length
+  name_length variable_length : List ℕ → Length
+
+-- A type as it is written. Names are their bytes, and nothing is looked up here. What may be omitted is omitted in the tree too:
+-- a lifetime, the output of a fn. A binder is the names between `for<` and `>`, or none. A name alone at an argument's place is
+-- a type here, and so is a variable; they stand for a const where the declared parameter is one.
+mutual
+  pub data TypeTree : Type 0 where
+    of_primitive : Label → TypeTree
+    never_type : TypeTree
+    variable_type : List ℕ → TypeTree
+    named : List ℕ → Args → TypeTree
+    reference_to : (life : Option (List ℕ)) (is_mut : Bool) → TypeTree → TypeTree
+    pointer_to : (is_mut : Bool) → TypeTree → TypeTree
+    slice_of : TypeTree → TypeTree
+    array_of : TypeTree → Length → TypeTree
+    tuple_of : Types → TypeTree
+    fn_of : (binder : List (List ℕ)) → Types → TypeTree
+    fn_to : (binder : List (List ℕ)) → Types → TypeTree → TypeTree
+    dyn_of : Item → Items → TypeTree
+
+  -- A list of types.
+  pub data Types : Type 0 where
+    no_types : Types
+    and_type : TypeTree → Types → Types
+
+  -- the arguments between `<` and `>`; none: there are no such signs
+  pub data Args : Type 0 where
+    no_args : Args
+    and_arg : Arg → Args → Args
+
+  -- An argument: a lifetime, a number, or a type.
+  pub data Arg : Type 0 where
+    lifetime_arg : List ℕ → Arg
+    number_arg : ℕ → Arg
+    type_arg : TypeTree → Arg
+
+  -- A bound of a `dyn`: a trait with its arguments, perhaps under `for<..>`, or a lifetime.
+  pub data Item : Type 0 where
+    bound_item : (binder : List (List ℕ)) (name : List ℕ) → Args → Item
+    lifetime_item : List ℕ → Item
+
+  -- The bounds of a `dyn` after its first.
+  pub data Items : Type 0 where
+    no_items : Items
+    and_item : Item → Items → Items
+
+-- ---- parts of lines
+
+-- parameters in their order; another order has no tree
+pub record Params : Type 0 where
+  pub lifetimes : List (List ℕ)
+  pub types : List (List ℕ)
+  pub consts : List (List ℕ)
+
+-- A trait with its arguments.
+pub record Bound : Type 0 where
+  pub trait : List ℕ
+  pub args : Args
+
+-- `type: bound`
+pub record Clause : Type 0 where
+  pub subject : TypeTree
+  pub bound : Bound
+
+-- A line that declares or asks something, with its parts as they are written.
+pub data Line : Type 0 where
+  crate_line : (name : List ℕ) (uses : List (List ℕ)) → Line
+  struct_line : (is_fundamental : Bool) (name : List ℕ) (params : Params) (fields : Types) → Line
+  trait_line : (is_fundamental is_auto : Bool) (name : List ℕ) (params : Params) (bounds : List Bound) → Line
+  impl_line : (params : Params) (header : Clause) (clauses : List Clause) → Line
+  prove_line : (asker : List ℕ) (params : Params) (asked : Clause) (clauses : List Clause) → Line
+  refute_line : (asker : List ℕ) (params : Params) (asked : Clause) → Line
+  later_line : (changed : List ℕ) → Line
+  supers_line : (asked : List ℕ) → Line

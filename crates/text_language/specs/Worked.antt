@@ -1,0 +1,570 @@
+-- Worked texts: what the definitions compute of them. Each stands on the contract of a function of src/.
+use Rattle.std.specs.Prelude.{map, filter, not, take, ◌++◌, ◌≡◌, ℕ, zero, suc, Bool, true, false, List, [], ◌∷◌, drop, length, Option, Some, None, Result, Ok, Err, codes}
+use Rattle.type_terms.specs.Promised.Label.{Label, of_type, of_const, of_lifetime, bool, uint, adt, array, slice, dynamic, principal, auto_trait, static, value, fn_ptr, tuple, ref, param, infer, bound, str}
+use Rattle.type_terms.specs.Promised.Trees.{Trees, none, tree, leaf}
+use Rattle.type_terms.specs.Promised.Worlds.{Reference, StructDecl, TraitDecl, ImplDecl}
+use Rattle.text_language.specs.Promised.Syntax.{TypeTree, of_primitive, variable_type, named, reference_to, pointer_to, slice_of, array_of, fn_of, fn_to, dyn_of, no_types, and_type, Args, no_args, and_arg, lifetime_arg, number_arg, type_arg, bound_item, lifetime_item, no_items, and_item, number_length, name_length, never_type, Params, Bound, Clause, Line, crate_line, struct_line, trait_line, impl_line, prove_line, refute_line, later_line, supers_line}
+use Rattle.text_language.specs.Syntax.{no_params}
+use Rattle.text_language.specs.Written.{IsWritten}
+use Rattle.text_language.specs.Promised.Declarations.{Declarations, Check, of_later, of_supers, Question, world_of}
+use Rattle.text_language.specs.Declarations.{nothing_declared}
+use Rattle.text_language.specs.Faults.{fault_of}
+use Rattle.text_language.specs.Adding.{added}
+use Rattle.text_language.specs.Text.{TextGives}
+use Rattle.type_terms.specs.Promised.Walks.{keeps_orphan_rule}
+use Rattle.type_terms.specs.Promised.Erased.{erased_world}
+use Rattle.type_terms.specs.Promised.Core.{core_world}
+use Rattle.text_language.specs.Words.{primitives}
+use Rattle.text_language.specs.Output.{Names, type_text, values_text}
+use Rattle.text_language.specs.Names.{answer_values, with_free}
+
+-- a line's bytes and what they say
+abbrev pub Said : Type 0
+Said = List ℕ × Line
+
+abbrev pub IsSaid : Said → Type 0
+IsSaid s = IsWritten s.0 s.1
+
+abbrev pub AllSaid : List Said → Type 0
+AllSaid [] = Unit {0}
+AllSaid (s ∷ ss) = IsSaid s × AllSaid ss
+
+-- what lines give one after the other, the first of them number k: declarations, or the first faulty line with its number
+abbrev pub after_fault : Declarations → ℕ → Option ℕ → Result Declarations (ℕ × ℕ) → Result Declarations (ℕ × ℕ)
+after_fault d k None r = r
+after_fault d k (Some n) r = Err (k, n)
+
+abbrev pub outcome : List Said → Declarations → ℕ → Result Declarations (ℕ × ℕ)
+outcome [] d k = Ok d
+outcome (s ∷ ss) d k = after_fault d k (fault_of d s.1) (outcome ss (added d s.1) (suc k))
+
+-- the lines are written so, and the text is faulty
+abbrev pub IsFaulty : List Said → ℕ → ℕ → Type 0
+IsFaulty ss k n = AllSaid ss × (outcome ss nothing_declared 1 ≡ Err (k, n))
+
+-- the lines are written so, and this is what they declare and ask beside `core`
+pub record Declared : Type 0 where
+  pub structs : List StructDecl
+  pub traits : List TraitDecl
+  pub impls : List ImplDecl
+  pub questions : List Question
+
+abbrev pub beside_core : Declarations → Declared
+beside_core d = record {
+  structs = drop 1 (world_of d).structs;
+  traits = drop 9 (world_of d).traits;
+  impls = drop 39 (world_of d).impls;
+  questions = d.questions;
+}
+
+abbrev pub declared_in : Result Declarations (ℕ × ℕ) → Option Declared
+declared_in (Ok d) = Some (beside_core d)
+declared_in (Err e) = None
+
+abbrev pub Declares : List Said → Declared → Type 0
+Declares ss r = AllSaid ss × (declared_in (outcome ss nothing_declared 1) ≡ Some r)
+
+-- ---- words of the cases
+abbrev u8 : TypeTree
+u8 = of_primitive (uint 0)
+
+abbrev plain : List ℕ → TypeTree
+plain n = named n no_args
+
+abbrev one : TypeTree → Args
+one t = and_arg (type_arg t) no_args
+
+abbrev of_types : List (List ℕ) → Params
+of_types ns = record { lifetimes = []; types = ns; consts = [] }
+
+abbrev bare : List ℕ → Bound
+bare n = record { trait = n; args = no_args }
+
+abbrev is : TypeTree → Bound → Clause
+is t b = record { subject = t; bound = b }
+
+abbrev base : Said
+base = (codes "crate base", crate_line (codes "base") [])
+
+abbrev show : Said
+show = (codes "trait Show", trait_line false false (codes "Show") no_params [])
+
+abbrev num : Said
+num = (codes "trait Num", trait_line false false (codes "Num") no_params [])
+
+abbrev safe : Said
+safe = (codes "auto trait Safe", trait_line false true (codes "Safe") no_params [])
+
+abbrev v : Said
+v = (codes "struct V<T>", struct_line false (codes "V") (of_types (codes "T" ∷ [])) no_types)
+
+abbrev show_for : List ℕ → TypeTree → Said
+show_for bytes t = (bytes, impl_line no_params (is t (bare (codes "Show"))) [])
+
+-- ---- one text for each fault from 3 on
+abbrev pub before_any_crate : List Said
+before_any_crate = show ∷ []
+
+abbrev pub taken : List Said
+taken = base ∷ (codes "struct Clone", struct_line false (codes "Clone") no_params no_types) ∷ []
+
+abbrev pub not_known : List Said
+not_known = base ∷ show_for (codes "impl Show for u8") u8 ∷ []
+
+abbrev pub not_seen : List Said
+not_seen = (codes "crate a", crate_line (codes "a") []) ∷ show ∷ (codes "crate b", crate_line (codes "b") []) ∷ show_for (codes "impl Show for u8") u8 ∷ []
+
+abbrev pub without_arguments : List Said
+without_arguments = base ∷ v ∷ show ∷ show_for (codes "impl Show for V") (plain (codes "V")) ∷ []
+
+abbrev pub free_parameter : List Said
+free_parameter = base ∷ show ∷ (codes "impl<T> Show for u8", impl_line (of_types (codes "T" ∷ [])) (is u8 (bare (codes "Show"))) []) ∷ []
+
+abbrev pub own_bound : List Said
+own_bound = base ∷ (codes "trait Show: Show", trait_line false false (codes "Show") no_params (bare (codes "Show") ∷ [])) ∷ []
+
+abbrev pub loaded_auto : List Said
+loaded_auto = base ∷ (codes "auto trait Safe<T>", trait_line false true (codes "Safe") (of_types (codes "T" ∷ [])) []) ∷ []
+
+abbrev pub foreign_auto : List Said
+foreign_auto = base ∷ safe ∷ (codes "impl Safe for u8", impl_line no_params (is u8 (bare (codes "Safe"))) []) ∷ []
+
+abbrev pub built_in : List Said
+built_in = base ∷ (codes "impl Tuple for u8", impl_line no_params (is u8 (bare (codes "Tuple"))) []) ∷ []
+
+abbrev pub stray_variable : List Said
+stray_variable = base ∷ show ∷ show_for (codes "impl Show for ?x") (variable_type (codes "x")) ∷ []
+
+abbrev pub refuted_parameter : List Said
+refuted_parameter =
+    base ∷ show
+    ∷ (codes "refute in base <T> T: Show", refute_line (codes "base") (of_types (codes "T" ∷ [])) (is (plain (codes "T")) (bare (codes "Show")))) ∷ []
+
+abbrev pub two_principals : List Said
+two_principals =
+    base ∷ show ∷ num
+    ∷ show_for (codes "impl Show for dyn Show + Num") (dyn_of (bound_item [] (codes "Show") no_args) (and_item (bound_item [] (codes "Num") no_args) no_items)) ∷ []
+
+abbrev pub long_number : List Said
+long_number =
+    base ∷ show
+    ∷ show_for (codes "impl Show for [u8; 18446744073709551615]") (array_of u8 (number_length 18446744073709551615))
+    ∷ show_for (codes "impl Show for [u8; 18446744073709551616]") (array_of u8 (number_length 18446744073709551616)) ∷ []
+
+abbrev pub EachFault : Type 0
+EachFault =
+    IsFaulty before_any_crate 1 3 × IsFaulty taken 2 4 × IsFaulty not_known 2 5 × IsFaulty not_seen 4 6 × IsFaulty without_arguments 4 7
+    × IsFaulty free_parameter 3 8 × IsFaulty own_bound 2 9 × IsFaulty loaded_auto 2 10 × IsFaulty foreign_auto 3 11 × IsFaulty built_in 2 12
+    × IsFaulty stray_variable 3 13 × IsFaulty refuted_parameter 3 14 × IsFaulty two_principals 4 15 × IsFaulty long_number 4 16
+
+-- ---- sections of later versions
+abbrev later_base : Said
+later_base = (codes "later base", later_line (codes "base"))
+
+abbrev later_core : Said
+later_core = (codes "later core", later_line (codes "core"))
+
+abbrev struct_a : Said
+struct_a = (codes "struct A", struct_line false (codes "A") no_params no_types)
+
+-- a struct in a section is 3; and so it is behind a question, which doesn't end the section
+abbrev pub struct_in_section : List Said
+struct_in_section = base ∷ num ∷ later_base ∷ struct_a ∷ []
+
+abbrev pub struct_behind_question : List Said
+struct_behind_question =
+    base ∷ num ∷ later_base ∷ (codes "refute in base u8: Num", refute_line (codes "base") no_params (is u8 (bare (codes "Num")))) ∷ struct_a ∷ []
+
+abbrev supers_base : Said
+supers_base = (codes "supers in base", supers_line (codes "base"))
+
+-- so it is behind `supers in`, which ends no section either
+abbrev pub struct_behind_supers : List Said
+struct_behind_supers = base ∷ num ∷ later_base ∷ supers_base ∷ struct_a ∷ []
+
+-- of an unknown crate 5, of a trait 7
+abbrev pub later_unknown : List Said
+later_unknown = base ∷ (codes "later other", later_line (codes "other")) ∷ []
+
+abbrev pub later_trait : List Said
+later_trait = base ∷ num ∷ (codes "later Num", later_line (codes "Num")) ∷ []
+
+abbrev pub supers_unknown : List Said
+supers_unknown = base ∷ (codes "supers in other", supers_line (codes "other")) ∷ []
+
+abbrev pub supers_trait : List Said
+supers_trait = base ∷ num ∷ (codes "supers in Num", supers_line (codes "Num")) ∷ []
+
+-- an added impl sees what its crate sees, and not what the last crate sees
+abbrev pub later_unseen : List Said
+later_unseen = base ∷ (codes "crate first", crate_line (codes "first") []) ∷ show ∷ later_base ∷ show_for (codes "impl Show for u8") u8 ∷ []
+
+-- of an auto trait for a struct of another crate 11, of a built-in trait 12
+abbrev pub later_foreign_auto : List Said
+later_foreign_auto =
+    base ∷ safe ∷ (codes "crate first uses base", crate_line (codes "first") (codes "base" ∷ [])) ∷ struct_a ∷ (codes "later first", later_line (codes "first"))
+    ∷ (codes "impl Safe for Box<A>", impl_line no_params (is (named (codes "Box") (one (plain (codes "A")))) (bare (codes "Safe"))) []) ∷ []
+
+abbrev pub later_built_in : List Said
+later_built_in = later_core ∷ (codes "impl Tuple for u8", impl_line no_params (is u8 (bare (codes "Tuple"))) []) ∷ []
+
+abbrev pub SectionFaults : Type 0
+SectionFaults =
+    IsFaulty struct_in_section 4 3 × IsFaulty struct_behind_question 5 3 × IsFaulty struct_behind_supers 5 3 × IsFaulty later_unknown 2 5 × IsFaulty later_trait 3 7
+    × IsFaulty supers_unknown 2 5 × IsFaulty supers_trait 3 7 × IsFaulty later_unseen 5 6
+    × IsFaulty later_foreign_auto 6 11 × IsFaulty later_built_in 2 12
+
+-- what is checked, and the headers that the sections add; and how many impls the crates have beside core's
+pub record AddedHeaders : Type 0 where
+  pub checks : List Check
+  pub headers : List (ℕ × (ℕ × Reference))
+  pub impls : ℕ
+
+abbrev pub added_in : Result Declarations (ℕ × ℕ) → Option AddedHeaders
+added_in (Ok d) = Some (record {
+  checks = d.checks;
+  headers = map (λ i. (i.section, (i.added.item.home, i.added.item.header))) d.later_impls;
+  impls = length (drop 39 d.impls);
+})
+added_in (Err e) = None
+
+-- `crate base; trait Num; struct V<T>; crate first uses base; later base; impl<T> Num for V<T>; refute in base u8: Num; supers in base;
+-- impl<T> Num for &T; later core; impl Clone for str; crate second uses base; struct A; impl Num for A`: two impls are added to base, behind its user, and one
+-- to core; the last one is second's own.
+abbrev pub TwoSections : Type 0
+TwoSections =
+    let ss =
+    base ∷ num ∷ v ∷ (codes "crate first uses base", crate_line (codes "first") (codes "base" ∷ [])) ∷ later_base
+    ∷ (codes "impl<T> Num for V<T>", impl_line (of_types (codes "T" ∷ [])) (is (named (codes "V") (one (plain (codes "T")))) (bare (codes "Num"))) [])
+    ∷ (codes "refute in base u8: Num", refute_line (codes "base") no_params (is u8 (bare (codes "Num"))))
+    ∷ supers_base
+    ∷ (codes "impl<T> Num for &T", impl_line (of_types (codes "T" ∷ [])) (is (reference_to None false (plain (codes "T"))) (bare (codes "Num"))) [])
+    ∷ later_core
+    ∷ (codes "impl Clone for str", impl_line no_params (is (of_primitive str) (bare (codes "Clone"))) [])
+    ∷ (codes "crate second uses base", crate_line (codes "second") (codes "base" ∷ []))
+    ∷ struct_a
+    ∷ (codes "impl Num for A", impl_line no_params (is (plain (codes "A")) (bare (codes "Num"))) [])
+    ∷ []
+    in
+    let T = leaf (param of_type 0) in
+    AllSaid ss
+    × (added_in (outcome ss nothing_declared 1)
+    ≡ Some (record {
+      checks = of_later 0 1 ∷ of_supers 1 ∷ of_later 1 0 ∷ [];
+      headers = (0, (1, record { trait = 9; args = tree (adt 1) T none })) ∷ (0, (1, record { trait = 9; args = tree (ref false) (tree static none T) none })) ∷ (1, (0, record { trait = 1; args = leaf str })) ∷ [];
+      impls = 1;
+    }))
+
+-- ---- fine points of the faults
+abbrev pub is_good : Result Declarations (ℕ × ℕ) → Bool
+is_good (Ok d) = true
+is_good (Err e) = false
+
+-- the lines are written so, and the text has no fault
+abbrev pub IsGood : List Said → Type 0
+IsGood ss = AllSaid ss × (is_good (outcome ss nothing_declared 1) ≡ true)
+
+-- names of lifetimes are apart from all others
+abbrev pub apart : List Said
+apart = base ∷ (codes "struct Z<'a, a>", struct_line false (codes "Z") (record { lifetimes = codes "a" ∷ []; types = codes "a" ∷ []; consts = [] }) no_types) ∷ []
+
+-- a struct's own name is taken for its parameters
+abbrev pub own_parameter : List Said
+own_parameter = base ∷ (codes "struct V<V>", struct_line false (codes "V") (of_types (codes "V" ∷ [])) no_types) ∷ []
+
+-- `core` may be asked
+abbrev pub asked_in_core : List Said
+asked_in_core = (codes "prove in core u8: Clone", prove_line (codes "core") no_params (is u8 (bare (codes "Clone"))) []) ∷ []
+
+-- a trait where a crate has to stand is 7
+abbrev pub asked_in_trait : List Said
+asked_in_trait = base ∷ show ∷ (codes "prove in Show u8: Show", prove_line (codes "Show") no_params (is u8 (bare (codes "Show"))) []) ∷ []
+
+-- the own name in a bound is 9, before 10, and also inside a type
+abbrev pub own_bound_of_auto : List Said
+own_bound_of_auto = base ∷ (codes "auto trait A: A", trait_line false true (codes "A") no_params (bare (codes "A") ∷ [])) ∷ []
+
+abbrev pub own_name_inside : List Said
+own_name_inside =
+    base ∷ (codes "trait Sup<T>", trait_line false false (codes "Sup") (of_types (codes "T" ∷ [])) [])
+    ∷ (codes "trait S: Sup<dyn S>", trait_line false false (codes "S") no_params (record { trait = codes "Sup"; args = one (dyn_of (bound_item [] (codes "S") no_args) no_items) } ∷ [])) ∷ []
+
+-- a parameter is no struct of the impl's crate
+abbrev pub auto_for_parameter : List Said
+auto_for_parameter = base ∷ safe ∷ (codes "impl<T> Safe for T", impl_line (of_types (codes "T" ∷ [])) (is (plain (codes "T")) (bare (codes "Safe"))) []) ∷ []
+
+-- a used name that is too long is unknown
+abbrev long_text : List ℕ
+long_text = codes "aaaaaaaaaaaaaaaaaaaaaaaaaaaaaaaaaaaaaaaaaaaaaaaaaaaaaaaaaaaaaaaaa"
+
+abbrev pub long_used : List Said
+long_used = base ∷ show ∷ show_for (codes "impl Show for " ++ long_text) (plain long_text) ∷ []
+
+-- a variable can't stand for a lifetime, nor for a type and a const
+abbrev pub variable_lifetime : List Said
+variable_lifetime =
+    base ∷ show ∷ (codes "struct W<'a>", struct_line false (codes "W") (record { lifetimes = codes "a" ∷ []; types = []; consts = [] }) no_types)
+    ∷ (codes "prove in base W<?x>: Show", prove_line (codes "base") no_params (is (named (codes "W") (one (variable_type (codes "x")))) (bare (codes "Show"))) []) ∷ []
+
+abbrev pub variable_twice : List Said
+variable_twice =
+    base ∷ (codes "trait Conv<U, const N>", trait_line false false (codes "Conv") (record { lifetimes = []; types = codes "U" ∷ []; consts = codes "N" ∷ [] }) [])
+    ∷ (
+      codes "prove in base u8: Conv<?x, ?x>",
+      prove_line (codes "base") no_params (is u8 (record { trait = codes "Conv"; args = and_arg (type_arg (variable_type (codes "x"))) (and_arg (type_arg (variable_type (codes "x"))) no_args) })) [],
+    ) ∷ []
+
+-- So many `&` before the type. An omitted output adds no depth, so 63 and `fn()` are 64 deep; nor does a named const argument.
+abbrev ampersands : ℕ → List ℕ → List ℕ
+ampersands zero bytes = bytes
+ampersands (suc n) bytes = 38 ∷ ampersands n bytes
+
+abbrev references : ℕ → TypeTree → TypeTree
+references zero t = t
+references (suc n) t = reference_to None false (references n t)
+
+abbrev pub deep_fn : ℕ → List Said
+deep_fn n = base ∷ show ∷ show_for (codes "impl Show for " ++ ampersands n (codes "fn()")) (references n (fn_of [] no_types)) ∷ []
+
+abbrev pub deep_const : ℕ → List Said
+deep_const n =
+    base ∷ show ∷ (codes "struct C<const N>", struct_line false (codes "C") (record { lifetimes = []; types = []; consts = codes "N" ∷ [] }) no_types)
+    ∷ (
+      codes "impl<const M> Show for " ++ ampersands n (codes "C<M>"),
+      impl_line (record { lifetimes = []; types = []; consts = codes "M" ∷ [] }) (is (references n (named (codes "C") (one (plain (codes "M"))))) (bare (codes "Show"))) [],
+    ) ∷ []
+
+abbrev pub FinePoints : Type 0
+FinePoints =
+    IsGood apart × IsFaulty own_parameter 2 4 × IsGood asked_in_core × IsFaulty asked_in_trait 3 7 × IsFaulty own_bound_of_auto 2 9 × IsFaulty own_name_inside 3 9
+    × IsFaulty auto_for_parameter 3 11 × IsFaulty long_used 3 5 × IsFaulty variable_lifetime 4 7 × IsFaulty variable_twice 3 13
+
+abbrev pub Depths : Type 0
+Depths = IsGood (deep_fn 63) × IsFaulty (deep_fn 64) 3 16 × IsGood (deep_const 63) × IsFaulty (deep_const 64) 4 16
+
+-- ---- what is declared
+-- `impl<T> Show for V<T> where T: Show`: parameter 0 stands in header and clause; structs are numbered behind `Box`, traits and impls
+-- behind those of `core`
+abbrev pub generic_impl : List Said
+generic_impl =
+    base ∷ show ∷ v
+    ∷ (
+      codes "impl<T> Show for V<T> where T: Show",
+      impl_line (of_types (codes "T" ∷ [])) (is (named (codes "V") (one (plain (codes "T")))) (bare (codes "Show"))) (is (plain (codes "T")) (bare (codes "Show")) ∷ []),
+    )
+    ∷ (codes "prove in base V<V<u8>>: Show", prove_line (codes "base") no_params (is (named (codes "V") (one (named (codes "V") (one u8)))) (bare (codes "Show"))) []) ∷ []
+
+abbrev pub GenericImpl : Type 0
+GenericImpl = Declares generic_impl (record {
+  structs = record { name = 1; home = 1; is_fundamental = false; fields = [] } ∷ [];
+  traits = record { name = 9; home = 1; is_fundamental = false; is_auto = false; bounds = [] } ∷ [];
+  impls = record {
+    name = 39;
+    home = 1;
+    params = 1;
+    header = record { trait = 9; args = tree (adt 1) (leaf (param of_type 0)) none };
+    clauses = record { trait = 9; args = leaf (param of_type 0) } ∷ [];
+  } ∷ [];
+  questions = record {
+    is_refute = false;
+    asker = 1;
+    params = [];
+    asked = record { trait = 9; args = tree (adt 1) (tree (adt 1) (leaf (uint 0)) none) none };
+    clauses = [];
+    variables = [];
+  } ∷ [];
+})
+
+-- the kinds of the parameters of `Conv<U, const N>` tell that `?n` is a const
+abbrev pub two_kinds : List Said
+two_kinds =
+    base
+    ∷ (codes "trait Conv<U, const N>", trait_line false false (codes "Conv") (record { lifetimes = []; types = codes "U" ∷ []; consts = codes "N" ∷ [] }) [])
+    ∷ (codes "impl Conv<bool, 4> for u8", impl_line no_params (is u8 (record { trait = codes "Conv"; args = and_arg (type_arg (of_primitive bool)) (and_arg (number_arg 4) no_args) })) [])
+    ∷ (
+      codes "prove in base u8: Conv<?x, ?n>",
+      prove_line (codes "base") no_params (is u8 (record { trait = codes "Conv"; args = and_arg (type_arg (variable_type (codes "x"))) (and_arg (type_arg (variable_type (codes "n"))) no_args) })) [],
+    ) ∷ []
+
+abbrev pub TwoKinds : Type 0
+TwoKinds = Declares two_kinds (record {
+  structs = [];
+  traits = record { name = 9; home = 1; is_fundamental = false; is_auto = false; bounds = [] } ∷ [];
+  impls = record { name = 39; home = 1; params = 0; header = record { trait = 9; args = tree (uint 0) none (tree bool none (leaf (value 4))) }; clauses = [] } ∷ [];
+  questions = record {
+    is_refute = false;
+    asker = 1;
+    params = [];
+    asked = record { trait = 9; args = tree (uint 0) none (tree (infer of_type 0) none (leaf (infer of_const 0))) };
+    clauses = [];
+    variables = record { text = codes "x"; kind = of_type } ∷ record { text = codes "n"; kind = of_const } ∷ [];
+  } ∷ [];
+})
+
+-- Binders count from the innermost; a `dyn` has its principal, its auto traits sorted and once, and its lifetime; what is omitted is
+-- `'static` and `()`; supertraits have Self as parameter 0.
+abbrev pub bound_lifetimes : List Said
+bound_lifetimes =
+    base
+    ∷ (codes "auto trait Safe", trait_line false true (codes "Safe") no_params [])
+    ∷ (codes "auto trait Sync", trait_line false true (codes "Sync") no_params [])
+    ∷ (codes "trait Tr<'a, T>", trait_line false false (codes "Tr") (record { lifetimes = codes "a" ∷ []; types = codes "T" ∷ []; consts = [] }) [])
+    ∷ (
+      codes "fundamental trait Sub<T>: Tr<'static, T> + Safe",
+      trait_line true false (codes "Sub") (of_types (codes "T" ∷ []))
+          (record { trait = codes "Tr"; args = and_arg (lifetime_arg (codes "static")) (one (plain (codes "T"))) } ∷ bare (codes "Safe") ∷ []),
+    )
+    ∷ (
+      codes "struct S<'p>(for<'a> fn(&'a u8), dyn Sync + Safe + Sync + 'p, dyn for<'b> Tr<'b, for<'c> fn(&'b u8, &'c mut u8) -> [u8]>)",
+      struct_line false (codes "S") (record { lifetimes = codes "p" ∷ []; types = []; consts = [] })
+          (and_type (fn_of (codes "a" ∷ []) (and_type (reference_to (Some (codes "a")) false u8) no_types))
+          (and_type (dyn_of (bound_item [] (codes "Sync") no_args) (and_item (bound_item [] (codes "Safe") no_args) (and_item (bound_item [] (codes "Sync") no_args) (and_item (lifetime_item (codes "p")) no_items))))
+          (and_type (dyn_of (bound_item (codes "b" ∷ []) (codes "Tr") (and_arg (lifetime_arg (codes "b")) (one
+          (fn_to (codes "c" ∷ []) (and_type (reference_to (Some (codes "b")) false u8) (and_type (reference_to (Some (codes "c")) true u8) no_types)) (slice_of u8))))) no_items) no_types))),
+    ) ∷ []
+
+-- a reference to u8, and what comes after it
+abbrev to_u8 : Bool → Label → Trees → Trees
+to_u8 m l o = tree (ref m) (tree l none (leaf (uint 0))) o
+
+abbrev pub BoundLifetimes : Type 0
+BoundLifetimes = Declares bound_lifetimes (record {
+  structs = record {
+    name = 1;
+    home = 1;
+    is_fundamental = false;
+    fields =
+        tree (fn_ptr 1) (to_u8 false (bound of_lifetime 0 0) (leaf tuple)) none
+        ∷ tree dynamic (tree (auto_trait 9) none (tree (auto_trait 10) none (leaf (param of_lifetime 0)))) none
+        ∷ tree dynamic (tree (principal 1 11)
+        (tree (bound of_lifetime 0 0) none (tree (fn_ptr 1) (to_u8 false (bound of_lifetime 1 0) (to_u8 true (bound of_lifetime 0 0) (tree slice (leaf (uint 0)) none))) none)) (leaf static)) none ∷ [];
+  } ∷ [];
+  traits =
+      record { name = 9; home = 1; is_fundamental = false; is_auto = true; bounds = [] }
+      ∷ record { name = 10; home = 1; is_fundamental = false; is_auto = true; bounds = [] }
+      ∷ record { name = 11; home = 1; is_fundamental = false; is_auto = false; bounds = [] }
+      ∷ record {
+        name = 12;
+        home = 1;
+        is_fundamental = true;
+        is_auto = false;
+        bounds = record { trait = 11; args = tree (param of_type 0) none (tree static none (leaf (param of_type 1))) } ∷ record { trait = 9; args = leaf (param of_type 0) } ∷ [];
+      } ∷ [];
+  impls = [];
+  questions = [];
+})
+
+-- ---- `core`: its lines, read by the grammar, declare the crate as the definitions have it
+abbrev core_line : List ℕ → Bool → List ℕ → Params → List Bound → Said
+core_line bytes f n ps bs = (bytes, trait_line f false n ps bs)
+
+abbrev to_A : List ℕ → Bound
+to_A n = record { trait = n; args = one (plain (codes "A")) }
+
+abbrev pub core_text : List Said
+core_text =
+    core_line (codes "fundamental trait Sized") true (codes "Sized") no_params []
+    ∷ core_line (codes "trait Clone: Sized") false (codes "Clone") no_params (bare (codes "Sized") ∷ [])
+    ∷ core_line (codes "trait Copy: Clone") false (codes "Copy") no_params (bare (codes "Clone") ∷ [])
+    ∷ core_line (codes "trait Tuple") false (codes "Tuple") no_params []
+    ∷ core_line (codes "trait FnPtr") false (codes "FnPtr") no_params []
+    ∷ core_line (codes "fundamental trait FnOnce<A>") true (codes "FnOnce") (of_types (codes "A" ∷ [])) []
+    ∷ core_line (codes "fundamental trait FnMut<A>: FnOnce<A>") true (codes "FnMut") (of_types (codes "A" ∷ [])) (to_A (codes "FnOnce") ∷ [])
+    ∷ core_line (codes "fundamental trait Fn<A>: FnMut<A>") true (codes "Fn") (of_types (codes "A" ∷ [])) (to_A (codes "FnMut") ∷ [])
+    ∷ core_line (codes "trait Unsize<T>") false (codes "Unsize") (of_types (codes "T" ∷ [])) []
+    ∷ (codes "fundamental struct Box<T>(*const T)", struct_line true (codes "Box") (of_types (codes "T" ∷ [])) (and_type (pointer_to false (plain (codes "T"))) no_types))
+    ∷ []
+
+-- `impl Clone for bool` and so on, with the words before `for`
+abbrev for_scalars : List ℕ → List ℕ → List (List ℕ × TypeTree) → List Said
+for_scalars start t [] = []
+for_scalars start t (s ∷ ss) = (start ++ s.0, impl_line no_params (is s.1 (bare t)) []) ∷ for_scalars start t ss
+
+abbrev scalar_types : List (List ℕ × TypeTree)
+scalar_types = map (λ p. (p.0, of_primitive p.1)) (take 2 primitives) ++ (codes "!", never_type) ∷ map (λ p. (p.0, of_primitive p.1)) (drop 3 primitives)
+
+abbrev T : TypeTree
+T = plain (codes "T")
+
+-- `impl<T> Clone for ..` and so on: the line behind its first words
+abbrev for_pointers : List ℕ → List ℕ → List Said
+for_pointers t start =
+    (codes "impl<'a, T>" ++ start ++ codes "&'a T", impl_line (record { lifetimes = codes "a" ∷ []; types = codes "T" ∷ []; consts = [] }) (is (reference_to (Some (codes "a")) false T) (bare t)) [])
+    ∷ (codes "impl<T>" ++ start ++ codes "*const T", impl_line (of_types (codes "T" ∷ [])) (is (pointer_to false T) (bare t)) [])
+    ∷ (codes "impl<T>" ++ start ++ codes "*mut T", impl_line (of_types (codes "T" ∷ [])) (is (pointer_to true T) (bare t)) [])
+    ∷ (
+      codes "impl<T, const N>" ++ start ++ codes "[T; N] where T: " ++ t,
+      impl_line (record { lifetimes = []; types = codes "T" ∷ []; consts = codes "N" ∷ [] }) (is (array_of T (name_length (codes "N"))) (bare t)) (is T (bare t) ∷ []),
+    )
+    ∷ []
+
+-- impls 1 to 39
+abbrev pub core_impls : List Said
+core_impls =
+    for_scalars (codes "impl Clone for ") (codes "Clone") scalar_types ++ for_pointers (codes "Clone") (codes " Clone for ")
+    ++ (codes "impl<T> Clone for Box<T> where T: Clone", impl_line (of_types (codes "T" ∷ [])) (is (named (codes "Box") (one T)) (bare (codes "Clone"))) (is T (bare (codes "Clone")) ∷ []))
+    ∷ (for_scalars (codes "impl Copy for ") (codes "Copy") scalar_types ++ for_pointers (codes "Copy") (codes " Copy for "))
+
+-- the crate alone
+abbrev empty_core : Declarations
+empty_core = record { crates = nothing_declared.crates; structs = []; traits = []; impls = []; questions = []; sections = []; later_impls = []; checks = []; in_section = false }
+
+-- put in without their faults, for `core` stands before every crate line
+abbrev with_lines : List Said → Declarations → Declarations
+with_lines [] d = d
+with_lines (s ∷ ss) d = with_lines ss (added d s.1)
+
+abbrev pub CoreIsRead : Type 0
+CoreIsRead = AllSaid (core_text ++ core_impls) × (with_lines core_impls (with_lines core_text empty_core) ≡ nothing_declared)
+
+-- Without lifetimes it is the crate of the definitions, which rules read.
+abbrev pub CoreIsCore : Type 0
+CoreIsCore = erased_world (world_of nothing_declared) ≡ core_world
+
+-- ---- printing: `(T,)`, `-> ()` left out, no lifetimes
+abbrev names : Names
+names = record { of_struct = λ _. codes "V"; of_trait = λ _. codes "Tr"; of_param = λ _ _. codes "T"; of_placeholder = λ _ _. codes "P"; of_unknown = λ _ _. codes "?1" }
+
+abbrev pub Printed : Type 0
+Printed =
+    (type_text names (tree tuple (leaf (uint 0)) none) ≡ codes "(u8,)")
+    × (type_text names (tree (fn_ptr 1) (to_u8 true (bound of_lifetime 0 0) (tree (uint 1) none (leaf tuple))) none) ≡ codes "fn(&mut u8, u16)")
+    × (type_text names (tree (fn_ptr 0) (leaf bool) none) ≡ codes "fn() -> bool")
+    × (type_text names (tree dynamic (tree (principal 1 3) (tree static none (leaf bool)) (tree (auto_trait 9) none (leaf static))) none) ≡ codes "dyn Tr<bool> + Tr")
+    × (type_text names (tree (adt 1) (leaf static) none) ≡ codes "V")
+    × (type_text names (tree array (tree (infer of_type 0) none (leaf (infer of_const 0))) none) ≡ codes "[?1; ?1]")
+    × (values_text (record { variable = codes "x"; term = codes "bool" } ∷ record { variable = codes "n"; term = codes "4" } ∷ []) ≡ codes " ?x = bool, ?n = 4")
+
+-- `?x` is given `(?y, Box<u8>)`, `?y` stays, and `?z` is equated with it: `?x = (?y, Box<u8>)`, `?z = ?y`. An unknown that the
+-- question doesn't hold is numbered by its first place
+abbrev asking : Question
+asking = record {
+  is_refute = false;
+  asker = 1;
+  params = [];
+  asked = record { trait = 9; args = none };
+  clauses = [];
+  variables = record { text = codes "x"; kind = of_type } ∷ record { text = codes "y"; kind = of_type } ∷ record { text = codes "z"; kind = of_type } ∷ [];
+}
+
+abbrev pub ValuesPrinted : Type 0
+ValuesPrinted =
+    (answer_values nothing_declared asking
+    (tree tuple (tree (infer of_type 1) none (tree (adt 0) (leaf (uint 0)) none)) none ∷ leaf (infer of_type 1) ∷ leaf (infer of_type 1) ∷ [])
+    ≡ record { variable = codes "x"; term = codes "(?y, Box<u8>)" } ∷ record { variable = codes "z"; term = codes "?y" } ∷ [])
+    × (with_free asking (tree tuple (tree (infer of_type 7) none (tree (infer of_type 1) none (tree slice (leaf (infer of_type 5)) (leaf (infer of_type 7))))) none) [] ≡ (of_type, 7) ∷ (of_type, 5) ∷ [])
+
+-- ---- a text without a line gives `core` alone
+abbrev pub EmptyText : Type 0
+EmptyText = TextGives [] (Ok nothing_declared)
+
+-- ---- an impl of a used crate's trait for a type of nobody: the text is good, and the header breaks the rule
+abbrev pub orphan : List Said
+orphan = base ∷ show ∷ (codes "crate b uses base", crate_line (codes "b") (codes "base" ∷ [])) ∷ show_for (codes "impl Show for u8") u8 ∷ []
+
+abbrev pub broken_headers : Result Declarations (ℕ × ℕ) → List ℕ
+broken_headers (Err e) = []
+broken_headers (Ok d) = map (λ i. i.name) (filter (λ i. not (keeps_orphan_rule (world_of d) i.home i.header)) (world_of d).impls)
+
+abbrev pub OrphanHeader : Type 0
+OrphanHeader = AllSaid orphan × (broken_headers (outcome orphan nothing_declared 1) ≡ 39 ∷ [])

@@ -1,0 +1,9 @@
+-- How a line of bytes is written.
+use Rattle.std.specs.Prelude.{◌≡◌, ℕ, List, Some}
+use Rattle.text_language.specs.Tokens.{tokens_of}
+use Rattle.text_language.specs.Promised.Syntax.{Line}
+use Rattle.text_language.specs.Syntax.{spelling}
+
+-- the bytes say l: their tokens are those of its spelling
+abbrev pub IsWritten : List ℕ → Line → Type 0
+IsWritten line l = tokens_of line ≡ Some (spelling l)

@@ -1,0 +1,51 @@
+-- A line says at most one thing; and worked lines that say nothing.
+use Rattle.std.specs.Prelude.{◌≡◌, ℕ, List, [], ◌∷◌, ◌++◌, Result, Err, codes}
+use Rattle.text_language.specs.Promised.Syntax.{Line}
+use Rattle.text_language.specs.Syntax.{spelling}
+use Rattle.text_language.specs.Promised.Declarations.{Declarations}
+use Rattle.text_language.specs.Written.{IsWritten}
+use Rattle.text_language.specs.Text.{TextGives}
+
+-- No two lines are spelled alike. So bytes are written as one line at most.
+abbrev pub OneLine : Type 0
+OneLine = (l m : Line) → spelling l ≡ spelling m → l ≡ m
+
+-- A text gives one thing: the same declarations, or the same fault, however it is read.
+abbrev pub OneOutcome : Type 0
+OneOutcome = (bytes : List ℕ) (r s : Result Declarations (ℕ × ℕ)) → TextGives bytes r → TextGives bytes s → r ≡ s
+
+-- The bytes say nothing.
+abbrev pub IsUnwritten : List ℕ → Type 0
+IsUnwritten bytes = (l : Line) → IsWritten bytes l → ⊥
+
+-- None of these says anything.
+abbrev pub AllUnwritten : List (List ℕ) → Type 0
+AllUnwritten [] = Unit {0}
+AllUnwritten (b ∷ bs) = IsUnwritten b × AllUnwritten bs
+
+-- Lines that are cut off, brackets around nothing or around a single type, parameters in another order, what may not stand there.
+abbrev pub cut_off : List (List ℕ)
+cut_off =
+    codes "crate" ∷ codes "crate b uses" ∷ codes "struct" ∷ codes "impl Show for" ∷ codes "impl Show for &'static" ∷ codes "impl Show for fn(u8" ∷ codes "impl Show for dyn"
+    ∷ codes "prove in base u8" ∷ codes "trait Show:" ∷ codes "impl Show for u8 where" ∷ []
+
+abbrev pub bracketed : List (List ℕ)
+bracketed = codes "struct V()" ∷ codes "struct V<>" ∷ codes "impl Show for (u8)" ∷ codes "impl Show for [u8; ]" ∷ codes "impl Show for for<> fn()" ∷ []
+
+abbrev pub out_of_order : List (List ℕ)
+out_of_order = codes "struct V<T, 'a>" ∷ codes "struct V<const N, T>" ∷ codes "auto fundamental trait Show" ∷ codes "impl Show for mut &u8" ∷ []
+
+abbrev pub out_of_place : List (List ℕ)
+out_of_place = codes "refute in base u8: Show where u8: Show" ∷ codes "trait Show: 'a" ∷ codes "struct V(u8) -> u8" ∷ codes "impl Show for ?u8" ∷ codes "impl Show for &'1 u8" ∷ []
+
+abbrev pub UnwrittenLines : Type 0
+UnwrittenLines = AllUnwritten cut_off × AllUnwritten bracketed × AllUnwritten out_of_order × AllUnwritten out_of_place
+
+-- A struct line before any crate is 2 and not 3 where it is not written; a byte of 128 or more is 1, in a comment too, and in a line
+-- that is not written.
+abbrev pub SyntaxFaults : Type 0
+SyntaxFaults =
+    TextGives (codes "struct") (Err (1, 2))
+    × TextGives (200 ∷ []) (Err (1, 1))
+    × TextGives (codes "// " ++ 200 ∷ []) (Err (1, 1))
+    × TextGives (codes "struct" ++ 200 ∷ []) (Err (1, 1))

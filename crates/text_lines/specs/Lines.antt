@@ -1,0 +1,16 @@
+-- What the reader of lines promises.
+use Rattle.std.specs.Prelude.{◌≡◌, ℕ, List}
+use Rattle.text_language.specs.Promised.Syntax.{Line}
+use Rattle.text_language.specs.Written.{IsWritten}
+use Rattle.text_lines.specs.TypeViews.{cells_in}
+use Rattle.text_lines.specs.Statement.{line_statement, line_cells}
+use Rattle.text_lines.specs.Views.{statement_of}
+use Rattle.text_lines.specs.declared.statement.LineRead.{LineRead}
+
+-- This line was read: its statement, and the cells of its types one behind the other.
+abbrev pub ReadsLine : Line → LineRead → Type 0
+ReadsLine l r = (statement_of r.statement ≡ line_statement l) × (cells_in r.cells.items ≡ line_cells l)
+
+-- what was read is what the bytes say
+abbrev pub SaysLine : List ℕ → LineRead → Type 0
+SaysLine bytes r = (l : Line) × IsWritten bytes l × ReadsLine l r

@@ -1,0 +1,47 @@
+//! Clauses, and the clauses behind `where`.
+ghost use Rattle.text_lines.specs.Marks.{after_comma};
+ghost use Rattle.text_lines.specs.Parts.{clause_at, where_at, parts_between};
+ghost use Rattle.text_lines.specs.Steps.{Reads};
+
+use crate::line_error::LineError;
+use crate::reader::Reader;
+use crate::statement::ClauseSpans;
+
+impl<'t, 'a> Reader<'t, 'a> {
+    /// `type: bound`
+    #[tactic(auto, unfolding(crate::specs::Parts::clause_at))]
+    pub(crate) fn clause(&mut self) -> Result<ClauseSpans, LineError>
+        ensures { Reads (λ k. k) result clause_at self.old self.new }
+    {
+        let subject = self.read_type()?;
+        self.cursor.expect_colon()?;
+        let bound = self.bound()?;
+        Ok(ClauseSpans { subject, bound })
+    }
+
+    /// Clauses with commas between them.
+    fn clauses(&mut self) -> Result<Vec<ClauseSpans>, LineError>
+        ensures { Reads (λ v. v.items) result (parts_between clause_at after_comma) self.old self.new }
+    {
+        let mut clauses = Vec::new(self.alloc);
+        'clauses: loop {
+            let clause = self.clause()?;
+            clauses.push(clause)?;
+            if !self.cursor.take_comma() {
+                return Ok(clauses);
+            }
+        }
+    }
+
+    /// The clauses behind `where`, or none.
+    #[tactic(auto, unfolding(crate::specs::Parts::where_at))]
+    pub(crate) fn where_clauses(&mut self) -> Result<Vec<ClauseSpans>, LineError>
+        ensures { Reads (λ v. v.items) result where_at self.old self.new }
+    {
+        if self.cursor.take_where() {
+            self.clauses()
+        } else {
+            Ok(Vec::new(self.alloc))
+        }
+    }
+}

@@ -1,0 +1,297 @@
+//! The tokens of a line that are not read yet.
+ghost use Rattle.std.specs.Prelude.{◌≡◌, [], ◌∷◌, MatchOption};
+ghost use Rattle.std.specs.Option.{option_map};
+ghost use Rattle.text_language.specs.Words.{open_angle, close_round, plus, mut_word};
+ghost use Rattle.text_language.specs.Tokens.{keyword, sign, arrow};
+ghost use Rattle.text_lines.specs.TokenViews.{text_of};
+ghost use Rattle.text_lines.specs.Marks.{Passed, PassesMark, Takes, after_comma, after_colon, after_open_round, after_close_round, after_close_angle, after_uses, after_where, after_for, after_in, name_front, is_name, is_nil};
+ghost use Rattle.text_lines.specs.TokenSteps.{Took, TookLifetime, NoAngle, NoRound, NoPlus, NoArrow, NoMut};
+
+use crate::line_error::LineError;
+use crate::token::{Keyword, Sign, Token};
+use std::marker::Model;
+
+/// The tokens of a line that are not read yet. Contracts see it as the list of these.
+#[derive(Drop)]
+pub struct Cursor<'t, 'a> {
+    tokens: &'t [Token<'a>],
+    at: usize,
+}
+
+impl<'t, 'a> Model for Cursor<'t, 'a> {
+    ghost use Rattle.std.specs.Prelude.{List, drop};
+    ghost use Rattle.text_language.specs.Tokens.{Token};
+    ghost use Rattle.text_lines.specs.TokenViews.{tokens_in};
+
+    ghost Value = { List Token };
+
+    ghost view = { λ c. tokens_in (drop c.at c.tokens.now) };
+}
+
+impl<'t, 'a> Cursor<'t, 'a> {
+    ghost use Rattle.text_lines.specs.TokenViews.{token_of, tokens_in};
+
+    /// Nothing of the line is read.
+    pub fn new(tokens: &'t [Token<'a>]) -> Self
+        ensures { result ≡ tokens_in tokens.now }
+    {
+        Cursor { tokens, at: 0 }
+    }
+
+    /// Reads the next token; none is left behind the last one.
+    pub fn next(&mut self) -> Option<Token<'a>>
+        ensures { MatchOption result (self.old ≡ []) (λ t. self.old ≡ token_of t ∷ self.new) }
+    {
+        if self.at < self.tokens.len() {
+            let token = self.tokens[self.at];
+            self.at += 1;
+            Some(token)
+        } else {
+            None
+        }
+    }
+
+    /// Reads `<`, if it is next.
+    pub fn take_open_angle(&mut self) -> bool
+        ensures { Took result (sign open_angle) NoAngle self.old self.new }
+    {
+        if self.at < self.tokens.len() {
+            let token = self.tokens[self.at];
+            if let Token::Sign(Sign::OpenAngle) = token {
+                self.at += 1;
+                return true;
+            }
+        }
+        false
+    }
+
+    /// Reads `)`, if it is next.
+    pub fn take_close_round(&mut self) -> bool
+        ensures { Took result (sign close_round) NoRound self.old self.new }
+    {
+        if self.at < self.tokens.len() {
+            let token = self.tokens[self.at];
+            if let Token::Sign(Sign::CloseRound) = token {
+                self.at += 1;
+                return true;
+            }
+        }
+        false
+    }
+
+    /// Reads `+`, if it is next.
+    pub fn take_plus(&mut self) -> bool
+        ensures { Took result (sign plus) NoPlus self.old self.new }
+    {
+        if self.at < self.tokens.len() {
+            let token = self.tokens[self.at];
+            if let Token::Sign(Sign::Plus) = token {
+                self.at += 1;
+                return true;
+            }
+        }
+        false
+    }
+
+    /// Reads `->`, if it is next.
+    pub fn take_arrow(&mut self) -> bool
+        ensures { Took result arrow NoArrow self.old self.new }
+    {
+        if self.at < self.tokens.len() {
+            let token = self.tokens[self.at];
+            if let Token::Arrow = token {
+                self.at += 1;
+                return true;
+            }
+        }
+        false
+    }
+
+    /// Reads `mut`, if it is next.
+    pub fn take_mut(&mut self) -> bool
+        ensures { Took result (keyword mut_word) NoMut self.old self.new }
+    {
+        if self.at < self.tokens.len() {
+            let token = self.tokens[self.at];
+            if let Token::Keyword(Keyword::Mut) = token {
+                self.at += 1;
+                return true;
+            }
+        }
+        false
+    }
+
+    /// Reads a lifetime, if one is next.
+    pub fn take_lifetime(&mut self) -> Option<&'a [u8]>
+        ensures { TookLifetime (option_map text_of result) self.old self.new }
+    {
+        if self.at < self.tokens.len() {
+            let token = self.tokens[self.at];
+            if let Token::Lifetime(name) = token {
+                self.at += 1;
+                return Some(name);
+            }
+        }
+        None
+    }
+
+    /// A cursor of its own over the tokens that are left.
+    pub fn rest(&self) -> Self
+        ensures { result ≡ self.now }
+    {
+        Cursor {
+            tokens: self.tokens,
+            at: self.at,
+        }
+    }
+
+    /// Whether all tokens are read.
+    pub fn is_empty(&self) -> bool
+        ensures { result ≡ is_nil self.now }
+    {
+        self.at >= self.tokens.len()
+    }
+
+    /// Whether a name is next, which is not read.
+    pub fn is_name(&self) -> bool
+        ensures { result ≡ is_name self.now }
+    {
+        if self.at < self.tokens.len() {
+            let token = self.tokens[self.at];
+            if let Token::Name(_) = token {
+                return true;
+            }
+        }
+        false
+    }
+
+    /// Reads `,`, if it is next.
+    pub fn take_comma(&mut self) -> bool
+        ensures { Passed result (after_comma self.old) self.old self.new }
+    {
+        if self.at < self.tokens.len() {
+            let token = self.tokens[self.at];
+            if let Token::Sign(Sign::Comma) = token {
+                self.at += 1;
+                return true;
+            }
+        }
+        false
+    }
+
+    /// Reads `:`, if it is next.
+    pub fn take_colon(&mut self) -> bool
+        ensures { Passed result (after_colon self.old) self.old self.new }
+    {
+        if self.at < self.tokens.len() {
+            let token = self.tokens[self.at];
+            if let Token::Sign(Sign::Colon) = token {
+                self.at += 1;
+                return true;
+            }
+        }
+        false
+    }
+
+    /// Reads `(`, if it is next.
+    pub fn take_open_round(&mut self) -> bool
+        ensures { Passed result (after_open_round self.old) self.old self.new }
+    {
+        if self.at < self.tokens.len() {
+            let token = self.tokens[self.at];
+            if let Token::Sign(Sign::OpenRound) = token {
+                self.at += 1;
+                return true;
+            }
+        }
+        false
+    }
+
+    /// Reads `uses`, if it is next.
+    pub fn take_uses(&mut self) -> bool
+        ensures { Passed result (after_uses self.old) self.old self.new }
+    {
+        if self.at < self.tokens.len() {
+            let token = self.tokens[self.at];
+            if let Token::Keyword(Keyword::Uses) = token {
+                self.at += 1;
+                return true;
+            }
+        }
+        false
+    }
+
+    /// Reads `where`, if it is next.
+    pub fn take_where(&mut self) -> bool
+        ensures { Passed result (after_where self.old) self.old self.new }
+    {
+        if self.at < self.tokens.len() {
+            let token = self.tokens[self.at];
+            if let Token::Keyword(Keyword::Where) = token {
+                self.at += 1;
+                return true;
+            }
+        }
+        false
+    }
+
+    /// Reads a name, which has to stand there.
+    pub fn name(&mut self) -> Result<&'a [u8], LineError>
+        ensures { Takes text_of result (name_front self.old) self.new }
+    {
+        match self.next() {
+            Some(Token::Name(name)) => Ok(name),
+            _ => Err(LineError::Syntax),
+        }
+    }
+
+    /// Reads `:`, which has to stand there.
+    pub fn expect_colon(&mut self) -> Result<(), LineError>
+        ensures { PassesMark result (after_colon self.old) self.new }
+    {
+        match self.next() {
+            Some(Token::Sign(Sign::Colon)) => Ok(()),
+            _ => Err(LineError::Syntax),
+        }
+    }
+
+    /// Reads `)`, which has to stand there.
+    pub fn expect_close_round(&mut self) -> Result<(), LineError>
+        ensures { PassesMark result (after_close_round self.old) self.new }
+    {
+        match self.next() {
+            Some(Token::Sign(Sign::CloseRound)) => Ok(()),
+            _ => Err(LineError::Syntax),
+        }
+    }
+
+    /// Reads `>`, which has to stand there.
+    pub fn expect_close_angle(&mut self) -> Result<(), LineError>
+        ensures { PassesMark result (after_close_angle self.old) self.new }
+    {
+        match self.next() {
+            Some(Token::Sign(Sign::CloseAngle)) => Ok(()),
+            _ => Err(LineError::Syntax),
+        }
+    }
+
+    /// Reads `for`, which has to stand there.
+    pub fn expect_for(&mut self) -> Result<(), LineError>
+        ensures { PassesMark result (after_for self.old) self.new }
+    {
+        match self.next() {
+            Some(Token::Keyword(Keyword::For)) => Ok(()),
+            _ => Err(LineError::Syntax),
+        }
+    }
+
+    /// Reads `in`, which has to stand there.
+    pub fn expect_in(&mut self) -> Result<(), LineError>
+        ensures { PassesMark result (after_in self.old) self.new }
+    {
+        match self.next() {
+            Some(Token::Keyword(Keyword::In)) => Ok(()),
+            _ => Err(LineError::Syntax),
+        }
+    }
+}

@@ -1,0 +1,70 @@
+//! Sets of names.
+ghost use Rattle.std.specs.Prelude.{◌≡◌, ℕ, List, [], ◌∷◌, ◌++◌, OnOk};
+ghost use Rattle.text_language.specs.Promised.Faults.{is_among};
+ghost use Rattle.text_lines.specs.TypeViews.{cell_of, cells_in};
+ghost use Rattle.text_names.specs.UsedNames.{Holds, name_of, names_with};
+
+use text_lines::{Cell, Length};
+use std::alloc::{AllocError, Global};
+use std::collections::HashSet;
+
+/// The names that types use where a type or a constant is expected. With it, a parameter of an impl is looked for in its header.
+pub struct NameSet<'a> {
+    names: HashSet<&'a [u8]>,
+}
+
+// Hand-written so that the prover sees one drop call: docs/PROVING.md#drop.
+impl Drop for NameSet<'_> {
+    fn drop(self) {
+        let NameSet { names: _ } = self;
+    }
+}
+
+impl<'a> NameSet<'a> {
+    /// The empty set.
+    pub fn new(alloc: Global) -> Self
+        ensures { Holds result [] }
+    {
+        NameSet {
+            names: HashSet::new(alloc),
+        }
+    }
+
+    /// Adds a name. Fails only if memory is refused, and then the name was not added.
+    pub fn insert(&mut self, name: &'a [u8]) -> Result<(), AllocError>
+        ensures { OnOk result ((ns : List (List ℕ)) → Holds self.old ns → Holds self.new (name.now ∷ ns)) }
+    {
+        let _ = self.names.insert(name)?;
+        Ok(())
+    }
+
+    fn add_cell(&mut self, cell: Cell<'a>) -> Result<(), AllocError>
+        ensures { OnOk result ((ns : List (List ℕ)) → Holds self.old ns → Holds self.new (name_of (cell_of cell.entry) ++ ns)) }
+    {
+        match cell {
+            Cell::Named { name, .. } => self.insert(name),
+            Cell::Array(Length::Name(name)) => self.insert(name),
+            _ => Ok(()),
+        }
+    }
+
+    /// Adds the names in these cells where a type or a constant is expected. The cells of a bound are those of its arguments, because its
+    /// own name is a trait's.
+    ///
+    /// Fails only if memory is refused, and then only some of them were added.
+    pub fn add_used(&mut self, cells: &[Cell<'a>]) -> Result<(), AllocError>
+        ensures { OnOk result ((ns : List (List ℕ)) → Holds self.old ns → Holds self.new (names_with (cells_in cells.now) ns)) }
+    {
+        for cell in cells {
+            self.add_cell(*cell)?;
+        }
+        Ok(())
+    }
+
+    /// Whether the name is in the set. It takes no memory and one hash.
+    pub fn contains(&self, name: &[u8]) -> bool
+        ensures { (ns : List (List ℕ)) → Holds self.now ns → result ≡ is_among name.now ns }
+    {
+        self.names.contains(name)
+    }
+}

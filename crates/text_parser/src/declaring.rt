@@ -1,0 +1,178 @@
+//! What a line declares or queries is added to the tables. All parts of a line are made before the tables change, so a line's own item is
+//! never found while its parts are made.
+ghost use Rattle.std.specs.Prelude.{◌≡◌, ◌<◌, ◌≤◌, length, OnOk};
+ghost use Rattle.text_lines.specs.Views.{params_in, statement_of};
+ghost use Rattle.text_parser.specs.Declaring.{IsFaultless, IsFoundOf, AddsLine};
+ghost use Rattle.workspace.specs.Numbered.{IsFew};
+ghost use Rattle.workspace.specs.Tables.{declared, IsConsistent};
+ghost use Rattle.workspace.specs.Views.{asker_of};
+ghost use Rattle.text_parser.specs.Entries.{SaysStruct, SaysTrait, SaysImpl, IsAsking};
+
+use crate::entries::{
+    ImplReferences, impl_references, question_entry, struct_fields, trait_bounds,
+};
+use crate::lines::TEXT_LIMIT;
+use crate::params::{kinds_of, named_params};
+use crate::so_far::SoFar;
+use text_lines::{LineRead, Param, Statement};
+use text_names::LineFound;
+use std::alloc::{AllocError, Global};
+use workspace::{Asked, ENTRY_LIMIT, Tables};
+
+fn declare_struct<'a>(
+    tables: &mut Tables,
+    alloc: Global,
+    read: &LineRead<'a>,
+    found: &LineFound<'a>,
+    is_fundamental: bool,
+    name: &[u8],
+    params: &[Param<'_>],
+) -> Result<(), AllocError>
+    requires agrees { IsConsistent tables.old }
+    requires few { IsFew (declared tables.old) ENTRY_LIMIT }
+    requires faultless { IsFaultless (declared tables.old) read.now }
+    requires short { length read.now.cells.items ≤ TEXT_LIMIT }
+    requires found { IsFoundOf (declared tables.old) read.now found.now }
+    requires line { SaysStruct (statement_of read.now.statement) is_fundamental name.now (params_in params.now) }
+    ensures added { OnOk result (AddsLine (declared tables.old) read.now (declared tables.new)) }
+    ensures agrees { OnOk result (IsConsistent tables.new) }
+{
+    let kinds = kinds_of(alloc, params)?;
+    let cells = struct_fields(tables, alloc, read, found)?;
+    tables.add_struct(name, is_fundamental, kinds, cells)
+}
+
+fn declare_trait<'a>(
+    tables: &mut Tables,
+    alloc: Global,
+    read: &LineRead<'a>,
+    found: &LineFound<'a>,
+    is_fundamental: bool,
+    is_auto: bool,
+    name: &[u8],
+    params: &[Param<'_>],
+) -> Result<(), AllocError>
+    requires agrees { IsConsistent tables.old }
+    requires few { IsFew (declared tables.old) ENTRY_LIMIT }
+    requires faultless { IsFaultless (declared tables.old) read.now }
+    requires short { length read.now.cells.items ≤ TEXT_LIMIT }
+    requires found { IsFoundOf (declared tables.old) read.now found.now }
+    requires line { SaysTrait (statement_of read.now.statement) is_fundamental is_auto name.now (params_in params.now) }
+    ensures added { OnOk result (AddsLine (declared tables.old) read.now (declared tables.new)) }
+    ensures agrees { OnOk result (IsConsistent tables.new) }
+{
+    let kinds = kinds_of(alloc, params)?;
+    let references = trait_bounds(tables, alloc, read, found)?;
+    tables.add_trait(name, is_fundamental, is_auto, kinds, references)
+}
+
+fn declare_impl<'a>(
+    tables: &mut Tables,
+    alloc: Global,
+    read: &LineRead<'a>,
+    found: &LineFound<'a>,
+    params: &[Param<'_>],
+) -> Result<(), AllocError>
+    requires agrees { IsConsistent tables.old }
+    requires few { IsFew (declared tables.old) ENTRY_LIMIT }
+    requires faultless { IsFaultless (declared tables.old) read.now }
+    requires short { length read.now.cells.items ≤ TEXT_LIMIT }
+    requires found { IsFoundOf (declared tables.old) read.now found.now }
+    requires line { SaysImpl (statement_of read.now.statement) (params_in params.now) }
+    ensures added { OnOk result (AddsLine (declared tables.old) read.now (declared tables.new)) }
+    ensures agrees { OnOk result (IsConsistent tables.new) }
+{
+    let named = named_params(alloc, params)?;
+    let made = impl_references(tables, alloc, read, found)?;
+    let ImplReferences {
+        header: reference,
+        clauses: references,
+    } = made;
+    tables.add_impl(named, reference, references)
+}
+
+fn declare_question<'a>(
+    tables: &mut Tables,
+    alloc: Global,
+    read: &LineRead<'a>,
+    found: &LineFound<'a>,
+    asked_how: Asked,
+    params: &[Param<'_>],
+) -> Result<(), AllocError>
+    requires agrees { IsConsistent tables.old }
+    requires few { IsFew (declared tables.old) ENTRY_LIMIT }
+    requires faultless { IsFaultless (declared tables.old) read.now }
+    requires short { length read.now.cells.items ≤ TEXT_LIMIT }
+    requires found { IsFoundOf (declared tables.old) read.now found.now }
+    requires line { IsAsking (declared tables.old) (statement_of read.now.statement) asked_how (params_in params.now) }
+    requires asker { asker_of asked_how < length (declared tables.old).crates }
+    ensures added { OnOk result (AddsLine (declared tables.old) read.now (declared tables.new)) }
+    ensures agrees { OnOk result (IsConsistent tables.new) }
+{
+    let entry = question_entry(tables, alloc, read, found, asked_how, params)?;
+    tables.add_question(entry)
+}
+
+/// Adds a line without a fault, of which this was found, to the tables. They then hold what they held, and what this line declares, checks
+/// or queries. No name is looked up again.
+///
+/// Fails only if memory is refused, and then the tables must not be used any more.
+pub fn declare<'a>(
+    tables: &mut Tables,
+    alloc: Global,
+    read: &LineRead<'a>,
+    found: &LineFound<'a>,
+) -> Result<(), AllocError>
+    requires agrees { IsConsistent tables.old }
+    requires few { IsFew (declared tables.old) ENTRY_LIMIT }
+    requires faultless { IsFaultless (declared tables.old) read.now }
+    requires short { length read.now.cells.items ≤ TEXT_LIMIT }
+    requires found { IsFoundOf (declared tables.old) read.now found.now }
+    ensures added { OnOk result (AddsLine (declared tables.old) read.now (declared tables.new)) }
+    ensures agrees { OnOk result (IsConsistent tables.new) }
+{
+    match &read.statement {
+        Statement::Crate { name, uses } => tables.add_crate(name, uses),
+        Statement::Struct {
+            is_fundamental,
+            name,
+            params,
+            ..
+        } => declare_struct(tables, alloc, read, found, *is_fundamental, name, params),
+        Statement::Trait {
+            is_fundamental,
+            is_auto,
+            name,
+            params,
+            ..
+        } => declare_trait(
+            tables,
+            alloc,
+            read,
+            found,
+            *is_fundamental,
+            *is_auto,
+            name,
+            params,
+        ),
+        Statement::Impl { params, .. } => declare_impl(tables, alloc, read, found, params),
+        Statement::Prove {
+            crate_name,
+            params,
+            ..
+        } => {
+            let asker = SoFar::new(tables).asking_crate(crate_name);
+            declare_question(tables, alloc, read, found, Asked::Prove(asker), params)
+        }
+        Statement::Refute {
+            crate_name,
+            params,
+            ..
+        } => {
+            let asker = SoFar::new(tables).asking_crate(crate_name);
+            declare_question(tables, alloc, read, found, Asked::Refute(asker), params)
+        }
+        Statement::Later { crate_name } => tables.add_section(crate_name),
+        Statement::Supers { crate_name } => tables.add_supers(crate_name),
+    }
+}

@@ -1,0 +1,10 @@
+use Rattle.std.proofs.Common.{◌≡◌, drop}
+use Rattle.text_language.specs.Output.{is_in}
+use Rattle.text_printer.specs.Kinds.{sort_of_kind}
+use Rattle.text_printer.specs.Called.{unknowns_of}
+use Rattle.text_printer.proofs.free.is_listed.Given as goal
+
+abbrev pub invariant-loop-unknown : goal.invariant-loop-unknown
+invariant-loop-unknown l = record {
+  left : is_in (sort_of_kind l.kind) l.index (unknowns_of l.free) ≡ is_in (sort_of_kind l.kind) l.index (unknowns_of (drop l.unknown-index l.free));
+}
