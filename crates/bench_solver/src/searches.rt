@@ -4,10 +4,10 @@ ghost use Rattle.std.specs.Prelude.{◌≤◌, ◌<◌, IfOk};
 ghost use Rattle.search_graph.specs.Cache.{AreJustified};
 ghost use Rattle.test_delegate.specs.Toy.{toy_meaning};
 
-use test_delegate::{Rule, Script, Scripts, Step, Toy, YES};
 use search_graph::{GlobalCache, GraphFault, PathKind, SearchGraph};
 use std::alloc::{AllocError, Global};
 use std::ops::Range;
+use test_delegate::{Rule, Script, Scripts, Step, Toy, YES};
 
 /// What a search came to.
 #[derive(Clone, Copy)]

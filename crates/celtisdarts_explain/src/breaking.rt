@@ -1,10 +1,10 @@
 //! The text for a section that is breaking.
 
 use explain_diagnostics::{Diagnostic, Level};
+use explain_sessions::BreakingCause;
 use explain_texts::{
     Piece, Sentence, Telling, Texts, crate_name, is_fundamental, plain, trait_name, with_one,
 };
-use explain_sessions::BreakingCause;
 use std::alloc::{AllocError, Global};
 use type_terms::{CrateId, TraitId};
 

@@ -16,8 +16,8 @@ use crate::places::{
 use crate::questions::{Questioned, explain_asked};
 use crate::spending::Spending;
 use explain_diagnostics::{Diagnostic, SourceFile};
-use explain_texts::{Texts, fault_diagnostic, item_lines, orphan};
 use explain_sessions::impl_header;
+use explain_texts::{Texts, fault_diagnostic, item_lines, orphan};
 use sessions::{Limits, SeenView, Session, Verdict};
 use std::alloc::{AllocError, Global};
 use text_parser::{TextError, parse};

@@ -7,15 +7,15 @@ ghost use Rattle.explain_sessions.specs.Claims.{ClaimsHold};
 ghost use Rattle.explain_sessions.specs.Walked.{PairWalkHeld};
 
 use crate::explaining::seen_impls;
-use text_printer::ShownNames;
 use explain_diagnostics::{Diagnostic, ErrCode, Level, Span};
+use explain_sessions::{Claims, PairWalk, explain_overlap, impl_header, pair_claims};
 use explain_texts::{
     Asking, Piece, Sentence, Spoken, Story, Telling, Texts, impl_line, plain, speak, tell,
     tell_clause, with_four, with_one, with_three, with_two,
 };
-use explain_sessions::{Claims, PairWalk, explain_overlap, impl_header, pair_claims};
 use sessions::Session;
 use std::alloc::{AllocError, Global};
+use text_printer::ShownNames;
 use type_terms::{Fault, ImplId};
 
 /// A where-clause of one of the impls.

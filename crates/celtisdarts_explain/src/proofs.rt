@@ -5,15 +5,15 @@ ghost use Rattle.celtisdarts_explain.specs.Told.{ShowsProofOf};
 ghost use Rattle.explain_sessions.specs.Claims.{ClaimsHold};
 ghost use Rattle.explain_sessions.specs.Walked.{AllStepsHeld, ProofWalkHeld};
 
-use text_printer::ShownNames;
 use explain_diagnostics::{Diagnostic, Level, Span};
+use explain_sessions::{Claims, ProofWalk, Step, Way};
 use explain_texts::{
     Piece, Sentence, Spoken, Story, Telling, Texts, impl_piece, plain, source_piece, speak, tell,
     with_one,
 };
-use explain_sessions::{Claims, ProofWalk, Step, Way};
 use sessions::Session;
 use std::alloc::{AllocError, Global};
+use text_printer::ShownNames;
 use type_terms::ImplId;
 use type_terms::interner::Interner;
 

@@ -11,15 +11,15 @@ ghost use Rattle.type_terms.specs.Promised.Handles.{ArgsHeld};
 
 use crate::proofs::{proved, tell_proof};
 use crate::spending::{Next, Spending, too_long};
-use text_printer::ShownNames;
 use explain_diagnostics::{Diagnostic, Span};
-use explain_texts::{Asking, Texts, left_open, refuted, tell, unproved, unsettled};
 use explain_sessions::{
     Claims, GoalWalk, ProofWalk, explain_proof, explain_question, explain_refutation, no_claims,
     question_claims, refutation_claims,
 };
+use explain_texts::{Asking, Texts, left_open, refuted, tell, unproved, unsettled};
 use sessions::{ProveAnswer, RefuteAnswer, Session};
 use std::alloc::{AllocError, Global};
+use text_printer::ShownNames;
 use type_terms::kinds::GenericArgKind;
 use type_terms::{Fault, ImplId};
 use workspace::{Asked, Param};

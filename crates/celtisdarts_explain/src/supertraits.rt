@@ -5,12 +5,12 @@ ghost use Rattle.explain_sessions.specs.Claims.{ClaimsHold};
 ghost use Rattle.explain_sessions.specs.Walked.{WalkHeld};
 ghost use Rattle.sessions.specs.Promised.Subjects.{StaysOn};
 
-use text_printer::ShownNames;
 use explain_diagnostics::{Diagnostic, Place, Span, on_line};
-use explain_texts::{Asking, Texts, impl_line, tell, unproved, unsettled};
 use explain_sessions::{Claims, GoalWalk, explain_supertrait, question_claims};
+use explain_texts::{Asking, Texts, impl_line, tell, unproved, unsettled};
 use sessions::{Session, SupersAnswer};
 use std::alloc::{AllocError, Global};
+use text_printer::ShownNames;
 use type_terms::{Fault, ImplId};
 use workspace::Param;
 

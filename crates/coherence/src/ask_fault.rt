@@ -4,8 +4,8 @@ ghost use Rattle.std.specs.Prelude.{◌≡◌};
 ghost use Rattle.coherence.specs.declared.ask_fault.AskFault.TheVariants.{Memory};
 
 use crate::status::RunFault;
-use text_names::FaultKind;
 use std::alloc::AllocError;
+use text_names::FaultKind;
 
 /// Why a line that is asked behind a text has no answer.
 #[derive(Clone, Copy, Debug, PartialEq, Eq, thiserror::Error)]

@@ -16,12 +16,10 @@ mod status;
 mod streams;
 mod text_run;
 
-pub use text_printer::print_type;
 pub use ask_fault::AskFault;
 pub use asker::Asker;
 pub use coherent::{accepted_lines_tell, held_lines_tell};
 pub use depths::parse_depth;
-pub use text_names::FaultKind;
 pub use output_lines::OutputLines;
 pub use outputs::{Output, answer};
 pub use sessions::{
@@ -29,7 +27,9 @@ pub use sessions::{
     SupersAnswer, UncoveredTyParams, Verdict,
 };
 pub use status::{RunFault, Status};
+pub use text_names::FaultKind;
 pub use text_parser::{TextError, TextFault, parse};
+pub use text_printer::print_type;
 pub use text_run::run;
 pub use type_terms::{CrateId, Fault, ImplId};
 pub use workspace::Workspace;

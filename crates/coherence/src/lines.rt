@@ -23,12 +23,12 @@ ghost use Rattle.coherence.specs.Lines.{header_text, orphan_line, verdict_line};
 ghost use Rattle.coherence.specs.KeptLines.{NamesImpls, HasCheckLine, IsCheckLineOf, HasLine, IsLineOf};
 
 use crate::status::RunFault;
-use text_printer::{Answer, HeaderNames, answer_values, print_line, print_type};
 use sessions::{
     LaterAnswer, OrphanCheckErr, ProveAnswer, RefuteAnswer, Session, SupersAnswer,
     UncoveredTyParams, Verdict,
 };
 use std::alloc::{AllocError, Global};
+use text_printer::{Answer, HeaderNames, answer_values, print_line, print_type};
 use type_terms::interner::Interner;
 use type_terms::kinds::{GenericArgKind, Ty};
 use type_terms::{CrateId, ImplId};

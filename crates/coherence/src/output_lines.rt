@@ -19,11 +19,11 @@ use crate::groups::{Group, groups_by_crate};
 use crate::kept::{KeptLines, keep_answers, next_line, no_lines};
 use crate::lines::verdict_line;
 use crate::status::{RunFault, Status};
-use text_printer::{Answer, print_line};
 use sessions::{Limits, SeenView, Session};
 use std::alloc::{AllocError, Global};
 use std::marker::Model;
 use text_parser::{TextError, TextFault, parse};
+use text_printer::{Answer, print_line};
 use type_terms::{CrateId, Fault};
 use workspace::{ENTRY_LIMIT, Workspace};
 

@@ -11,8 +11,8 @@ ghost use Rattle.sessions.specs.Sessions.{SolverRests};
 ghost use Rattle.explain_sessions.specs.Walked.{RestsAfter};
 
 use candidate_assembly::solver::Solver;
-use goal_evaluator::{Goal, TypingMode};
 use explain_traces::{GoalWalk, settle, walk_goal};
+use goal_evaluator::{Goal, TypingMode};
 use infer_table::infer_ctxt::InferCtxt;
 use search_graph::{GlobalCache, SearchGraph};
 use sessions::{elaborate_in, goal_under};

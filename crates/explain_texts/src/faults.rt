@@ -4,8 +4,8 @@ use crate::offending::tell_offence;
 use crate::sentences::{Piece, plain, with_one};
 use crate::telling::Telling;
 use explain_diagnostics::{Diagnostic, ErrCode, Level, SourceFile};
-use text_names::FaultKind;
 use std::alloc::{AllocError, Global};
+use text_names::FaultKind;
 use text_parser::TextFault;
 
 /// The message for a fault.

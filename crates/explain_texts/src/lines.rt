@@ -1,8 +1,10 @@
 //! Where the impls and the queries of a text are.
 
-use explain_diagnostics::{LineParts, Place, SourceFile, Span, on_line, parts_of_impl, parts_of_question};
-use text_lines::Statement;
+use explain_diagnostics::{
+    LineParts, Place, SourceFile, Span, on_line, parts_of_impl, parts_of_question,
+};
 use std::alloc::{AllocError, Global};
+use text_lines::Statement;
 use text_parser::{LineForm, line_form};
 
 /// The line of an impl, counted from 1, with its parts.

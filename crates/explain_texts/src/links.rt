@@ -5,8 +5,8 @@ use crate::sentences::{Piece, Sentence, plain, with_one, with_three, with_two};
 use crate::sources::source_piece;
 use crate::story::Story;
 use crate::telling::Telling;
-use goal_evaluator::CandidateSource;
 use explain_traces::CandidateNode;
+use goal_evaluator::CandidateSource;
 use type_terms::ImplId;
 
 /// The last goal of a path.

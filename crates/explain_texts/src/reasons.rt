@@ -9,10 +9,10 @@ use crate::sources::source_piece;
 use crate::spoken::Spoken;
 use crate::story::Story;
 use crate::telling::Telling;
-use goal_evaluator::{CandidateSource, MaybeCause};
-use explain_traces::{Answer, CandidateNode};
-use orphan_check::errors::Conflict;
 use explain_sessions::Adder;
+use explain_traces::{Answer, CandidateNode};
+use goal_evaluator::{CandidateSource, MaybeCause};
+use orphan_check::errors::Conflict;
 use std::alloc::{AllocError, Global};
 use type_terms::ImplId;
 

@@ -7,8 +7,8 @@ use crate::spoken::Spoken;
 use crate::story::Story;
 use crate::telling::Telling;
 use explain_diagnostics::{Diagnostic, Level, Span};
-use orphan_check::errors::Conflict;
 use explain_sessions::Adder;
+use orphan_check::errors::Conflict;
 use std::alloc::{AllocError, Global};
 
 /// The sentence that nothing fits. It says so if that was not checked.

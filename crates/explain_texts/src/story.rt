@@ -7,13 +7,13 @@ ghost use Rattle.explain_sessions.specs.Walked.{WalkHeld};
 use crate::items::Texts;
 use crate::sentences::{NONE, Piece};
 use crate::spoken::{Spoken, speak};
-use text_printer::ShownNames;
+use explain_sessions::{Adder, Claims};
 use explain_traces::{Answer, CandidateNode, GoalWalk, Standing};
 use orphan_check::errors::Conflict;
-use explain_sessions::{Adder, Claims};
 use sessions::Session;
 use std::alloc::{AllocError, Global};
 use term_folds::predicate::TraitRef;
+use text_printer::ShownNames;
 use type_terms::interner::Interner;
 
 /// A trace of a text's goal, with its trait references rendered, and what is claimed of it. Goals are named by their indices.

@@ -2,9 +2,9 @@
 
 ghost use Rattle.type_terms.specs.Promised.Handles.{Has, types};
 
-use text_printer::{PrintNames, print_type_within};
 use explain_diagnostics::{TYPE_LIMIT, cut_text};
 use std::alloc::{AllocError, Global};
+use text_printer::{PrintNames, print_type_within};
 use type_terms::interner::Interner;
 use type_terms::kinds::Ty;
 

@@ -13,7 +13,9 @@ use candidate_assembly::decided::is_decided;
 use candidate_assembly::merge::merge_trait_candidates;
 use candidate_assembly::trait_goals::{assemble_and_evaluate_candidates, compute_trait_goal};
 use declarations::declarations::Declarations;
-use goal_evaluator::{CandidateSource, Certainty, Considered, HandlerStep, ParamEnvSource, TypingMode};
+use goal_evaluator::{
+    CandidateSource, Certainty, Considered, HandlerStep, ParamEnvSource, TypingMode,
+};
 use infer_table::certainty::MaybeCause;
 use infer_table::input::CanonicalInput;
 use infer_table::response::CanonicalResponse;

@@ -4,9 +4,9 @@ ghost use Rattle.std.specs.Prelude.{◌≡◌, ◌≤◌};
 ghost use Rattle.search_graph.specs.Cache.{AreJustified};
 ghost use Rattle.test_delegate.specs.Toy.{toy_meaning};
 
-use test_delegate::{AMBIGUOUS, NO, OVERFLOW, Rule, Script, Scripts, Step, Toy, YES};
 use search_graph::{GlobalCache, GraphFault, PathKind, SearchGraph};
 use std::alloc::{AllocError, Global};
+use test_delegate::{AMBIGUOUS, NO, OVERFLOW, Rule, Script, Scripts, Step, Toy, YES};
 
 /// Goals 0 to 20: each asks the one before by an unknown step, and the first is a yes.
 const CHAIN: usize = 21;

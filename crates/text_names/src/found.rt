@@ -10,9 +10,9 @@ use crate::findings::Findings;
 use crate::resolve::Resolved;
 use crate::resolved::{ResolvedCell, Variable};
 use crate::walk::Place;
-use text_lines::Length;
 use std::alloc::{AllocError, Global};
 use std::marker::Model;
+use text_lines::Length;
 use workspace::ParamKind;
 
 /// What is found so far. What was met last comes first. The variables and the resolved cells are reversed at the end.

@@ -21,8 +21,8 @@ use crate::name_set::NameSet;
 use crate::names::LineNames;
 use crate::params::ParamNames;
 use crate::parts::cells_to;
-use text_lines::{Cell, ClauseSpans, LineRead, Statement};
 use std::alloc::{AllocError, Global};
+use text_lines::{Cell, ClauseSpans, LineRead, Statement};
 use workspace::Known;
 
 /// Traits of `core` that have built-in rules alone: `Sized`, `Tuple`, `FnPtr`, `FnOnce`, `FnMut`, `Fn`, `Unsize`.

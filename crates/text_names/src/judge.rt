@@ -25,8 +25,8 @@ use crate::line::{LineFound, find_line};
 use crate::names::LineNames;
 use crate::params::is_taken_param;
 use crate::variables::are_of_two_kinds;
-use text_lines::{LineRead, Statement};
 use std::alloc::{AllocError, Global};
+use text_lines::{LineRead, Statement};
 
 /// A line that was judged.
 #[derive(Drop)]

@@ -21,8 +21,8 @@ use crate::findings::Findings;
 use crate::looked_up::Names;
 use crate::name_set::NameSet;
 use crate::resolved::Region;
-use text_lines::Length;
 use std::alloc::{AllocError, Global};
+use text_lines::Length;
 use type_terms::CrateId;
 use workspace::{Known, ParamKind};
 

@@ -12,8 +12,8 @@ ghost use Rattle.text_names.specs.Speaks.{Speaks};
 use crate::found_variables::each_once;
 use crate::line::LineFound;
 use crate::names::LineNames;
-use text_lines::{LineRead, Statement};
 use std::alloc::{AllocError, Global};
+use text_lines::{LineRead, Statement};
 
 /// The crates of a text, with `core`.
 const CRATE_LIMIT: usize = 256;

@@ -11,8 +11,8 @@ use crate::findings::Findings;
 use crate::judge_use::crate_name;
 use crate::looked_up::Names;
 use crate::parts::{PartsFound, find_parts};
-use text_lines::{LineRead, Statement};
 use std::alloc::{AllocError, Global};
+use text_lines::{LineRead, Statement};
 
 /// What was found of a line.
 #[derive(Drop)]

@@ -4,9 +4,9 @@ ghost use Rattle.text_language.specs.Promised.Faults.{is_among};
 ghost use Rattle.text_lines.specs.TypeViews.{cell_of, cells_in};
 ghost use Rattle.text_names.specs.UsedNames.{Holds, name_of, names_with};
 
-use text_lines::{Cell, Length};
 use std::alloc::{AllocError, Global};
 use std::collections::HashSet;
+use text_lines::{Cell, Length};
 
 /// The names that types use where a type or a constant is expected. With it, a parameter of an impl is looked for in its header.
 pub struct NameSet<'a> {

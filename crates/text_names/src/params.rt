@@ -9,8 +9,8 @@ ghost use Rattle.text_names.specs.Params.{lifetimes_said, others_said, lifetime_
 
 use crate::judge_use::{has_static, repeats};
 use crate::looked_up::Names;
-use text_lines::Param;
 use std::alloc::{AllocError, Global};
+use text_lines::Param;
 
 /// The names of parameters, those of lifetimes separate from all others.
 #[derive(Drop)]

@@ -11,8 +11,8 @@ use crate::findings::Findings;
 use crate::looked_up::Names;
 use crate::resolve::{Resolved, ResolvedBound, resolve_bound, resolve_type};
 use crate::resolved::{ResolvedCell, Variable};
-use text_lines::{Cell, LinePart};
 use std::alloc::{AllocError, Global};
+use text_lines::{Cell, LinePart};
 
 /// A type or a bound of a line, with numbers for names.
 #[derive(Drop)]

@@ -15,8 +15,8 @@ use crate::looked_up::Names;
 use crate::resolved::{ResolvedCell, Variable};
 use crate::walk::{Frame, Inside, Next, Place, Walk};
 use crate::{heads, judge_use};
-use text_lines::Cell;
 use std::alloc::{AllocError, Global};
+use text_lines::Cell;
 use workspace::ParamKind;
 
 /// How many types may be nested.

@@ -5,9 +5,9 @@ ghost use Rattle.text_lines.specs.TokenViews.{text_of};
 ghost use Rattle.text_lines.specs.TypeViews.{cell_of};
 ghost use Rattle.text_names.specs.Back.{begins};
 
-use text_lines::Cell;
 use std::alloc::{AllocError, Global};
 use std::marker::Model;
+use text_lines::Cell;
 
 /// The cells of a line that are not visited yet. In contracts they go from the last to the first.
 #[derive(Drop)]

@@ -16,9 +16,9 @@ use crate::looked_up::Names;
 use crate::resolved::{NodeLabel, Region, ResolvedCell};
 use crate::walk::{Frame, Inside, Next, Place, Walk, deeper};
 use crate::{heads, judge_use};
-use text_lines::Cell;
 use std::alloc::{AllocError, Global};
 use std::marker::Model;
+use text_lines::Cell;
 
 /// How many bounds a `dyn` may have.
 const PART_LIMIT: usize = 64;

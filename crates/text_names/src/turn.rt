@@ -8,8 +8,8 @@ ghost use Rattle.text_names.specs.WalkViews.{frame_of, frames_in, inside_of, pla
 use crate::looked_up::Names;
 use crate::resolved::NodeLabel;
 use crate::walk::{Frame, Inside, Next, Place, Walk};
-use text_lines::Cell;
 use std::alloc::{AllocError, Global};
+use text_lines::Cell;
 use workspace::ParamKind;
 
 /// The position of an argument for a parameter of this kind. Only types count as nested.

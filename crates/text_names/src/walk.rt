@@ -21,8 +21,8 @@ use crate::looked_up::Names;
 use crate::resolved::{NodeLabel, ResolvedCell};
 use crate::rest::Rest;
 use crate::{heads, judge_use};
-use text_lines::{Cell, Length};
 use std::alloc::{AllocError, Global};
+use text_lines::{Cell, Length};
 use workspace::ParamKind;
 
 /// The position of an argument or a type.

@@ -8,9 +8,9 @@ ghost use Rattle.text_names.specs.Judged.{fault_in};
 ghost use Rattle.workspace.specs.Numbered.{IsFew};
 
 use crate::lines::TEXT_LIMIT;
+use std::alloc::{AllocError, Global};
 use text_lines::LineRead;
 use text_names::{JudgedLine, LineFound};
-use std::alloc::{AllocError, Global};
 use workspace::ENTRY_LIMIT;
 
 /// What the lines of a text are declared in. It knows what is declared so far, judges the next line by that, and declares the line if it

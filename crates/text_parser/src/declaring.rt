@@ -14,9 +14,9 @@ use crate::entries::{
 use crate::lines::TEXT_LIMIT;
 use crate::params::{kinds_of, named_params};
 use crate::so_far::SoFar;
+use std::alloc::{AllocError, Global};
 use text_lines::{LineRead, Param, Statement};
 use text_names::LineFound;
-use std::alloc::{AllocError, Global};
 use workspace::{Asked, ENTRY_LIMIT, Tables};
 
 fn declare_struct<'a>(

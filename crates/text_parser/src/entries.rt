@@ -16,9 +16,9 @@ use crate::numbering::Numbering;
 use crate::params::{named_params, named_variables};
 use crate::parts::{bound_cells, clause_cells, clauses_cells, field_cells};
 use crate::so_far::SoFar;
+use std::alloc::{AllocError, Global};
 use text_lines::{LineRead, Param};
 use text_names::{LineFound, each_once};
-use std::alloc::{AllocError, Global};
 use workspace::{Asked, ENTRY_LIMIT, QuestionEntry, ReferenceCells, Tables, TermCell};
 
 /// The header and the where-clauses of an impl's line, as the tables store them.

@@ -1,7 +1,7 @@
 //! Why a text gives no declarations.
 
-use text_names::FaultKind;
 use std::alloc::AllocError;
+use text_names::FaultKind;
 
 /// The first faulty line, counted from 1, with the fault of the smallest number in it.
 #[derive(Clone, Copy, Debug, PartialEq, Eq)]

@@ -13,9 +13,9 @@ ghost use Rattle.text_parser.specs.Sights.{HasReadLine};
 
 use crate::line_tables::LineTables;
 use crate::so_far::SoFar;
+use std::alloc::{AllocError, Global};
 use text_lines::LineRead;
 use text_names::JudgedLine;
-use std::alloc::{AllocError, Global};
 use workspace::{ENTRY_LIMIT, Tables};
 
 /// The fault of a line that was read, after the lines that the tables hold: of all faults that apply, the one with the smallest number. For

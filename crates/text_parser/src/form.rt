@@ -2,8 +2,8 @@
 ghost use Rattle.std.specs.Prelude.{IfOk};
 ghost use Rattle.text_parser.specs.Forms.{IsForm};
 
-use text_lines::{LineError, LineRead, is_ascii, is_blank, read_line};
 use std::alloc::{AllocError, Global};
+use text_lines::{LineError, LineRead, is_ascii, is_blank, read_line};
 
 /// What a line of a text is, before any name is looked up.
 #[derive(Drop)]

@@ -7,8 +7,8 @@ ghost use Rattle.text_parser.specs.Numbering.{IsNumbersOf};
 
 use crate::cell::next_autos;
 use crate::numbering::Numbers;
-use text_names::ResolvedCell;
 use std::alloc::AllocError;
+use text_names::ResolvedCell;
 use workspace::TermCell;
 
 /// Appends the cells that are stored for these.

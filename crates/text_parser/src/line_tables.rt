@@ -14,9 +14,9 @@ ghost use Rattle.text_parser.specs.BareLines.{bare_line, params_from};
 use crate::own_items::{with_struct, with_trait};
 use crate::params::{count_of, kinds_of, place_of};
 use crate::so_far::SoFar;
+use std::alloc::{AllocError, Global};
 use text_lines::Statement;
 use text_names::{LineNames, Names};
-use std::alloc::{AllocError, Global};
 use type_terms::CrateId;
 use workspace::{Known, ParamKind};
 

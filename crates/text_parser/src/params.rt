@@ -6,9 +6,9 @@ ghost use Rattle.text_names.specs.Views.{variable_in};
 ghost use Rattle.workspace.specs.Views.{sort_of_kind, sorts_of, sorted_params};
 ghost use Rattle.text_parser.specs.BareLines.{sort_of_param, sorted_param, name_of_sort, names_of_sort};
 
+use std::alloc::{AllocError, Global};
 use text_lines::Param;
 use text_names::Variable;
-use std::alloc::{AllocError, Global};
 use workspace::ParamKind;
 
 /// The kind of a parameter.

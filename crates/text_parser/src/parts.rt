@@ -12,8 +12,8 @@ ghost use Rattle.text_parser.specs.Numbering.{IsNumbersOf};
 use crate::keep::push_cells;
 use crate::numbering::{Numbering, Numbers};
 use crate::small::trait_id;
-use text_names::{Names, ResolvedPart};
 use std::alloc::{AllocError, Global};
+use text_names::{Names, ResolvedPart};
 use workspace::{ReferenceCells, TermCell};
 
 /// Self of a trait, which is its parameter 0.

@@ -13,9 +13,9 @@ use crate::faults::judge_line;
 use crate::form::{LineForm, line_form};
 use crate::lines::TEXT_LIMIT;
 use crate::so_far::SoFar;
+use std::alloc::{AllocError, Global};
 use text_lines::{LineRead, Param, Statement};
 use text_names::{FaultKind, JudgedLine, LineFound};
-use std::alloc::{AllocError, Global};
 use workspace::{Asked, ENTRY_LIMIT, QuestionEntry, Tables};
 
 /// What a line is that is asked behind the lines of a text.

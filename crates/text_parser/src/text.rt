@@ -9,9 +9,9 @@ use crate::declares::Declares;
 use crate::fault::{TextError, TextFault};
 use crate::form::{LineForm, line_form};
 use crate::lines::{TEXT_LIMIT, long_line, split_line};
+use std::alloc::{AllocError, Global};
 use text_lines::LineRead;
 use text_names::{FaultKind, JudgedLine};
-use std::alloc::{AllocError, Global};
 use workspace::ENTRY_LIMIT;
 
 /// `core` has fewer of anything.

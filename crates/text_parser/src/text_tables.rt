@@ -4,9 +4,9 @@ ghost use Rattle.workspace.specs.Tables.{declared, IsConsistent};
 use crate::declares::Declares;
 use crate::declaring::declare;
 use crate::faults::judge_line;
+use std::alloc::{AllocError, Global};
 use text_lines::LineRead;
 use text_names::{JudgedLine, LineFound};
-use std::alloc::{AllocError, Global};
 use workspace::Tables;
 
 /// The tables that a text fills.
