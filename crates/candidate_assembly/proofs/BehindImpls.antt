@@ -34,7 +34,7 @@ use Rattle.goal_evaluator.specs.declared.candidate.CandidateSource.{CandidateSou
 use Rattle.candidate_assembly.specs.Fitting.{fits_declared, solving_of}
 use Rattle.candidate_assembly.specs.Nexts.{handled_in, ForEachHistory, late_in, next_decided}
 use Rattle.candidate_assembly.specs.Ready.{AreReadyDeclarations, IsWellPosedGoal, Decides}
-use Rattle.candidate_assembly.specs.Sections.{misc_is_bound, is_unknowable, is_built_in, sources_tell, considered_from, early, late, is_first, next_in, decided, next_candidate, end_of, or_end}
+use Rattle.candidate_assembly.specs.Sections.{misc_is_bound, is_unknowable, is_built_in, sources_tell, considered_from, early, late, is_first_step, next_in, decided, next_candidate, end_of, or_end}
 use Rattle.candidate_assembly.specs.Solving.{meaning_for}
 use Rattle.candidate_assembly.proofs.Along.{Answers}
 use Rattle.candidate_assembly.proofs.Counted.{ends-is}
@@ -72,7 +72,7 @@ module _ (m : ViewMeaning) (a : GoalOverKinds) (tell : sources_tell a ≡ true) 
   late-next Coherence e =
       ap (λ b. if b then None else or_else (early V a (c ∷ seen)) rest) same-held
       ∙ ap (λ o. if holds_from is_unknowable seen then None else or_else o rest) same-early
-      ∙ by (is_first seen && not (is_knowable V m.crate a.reference)) (holds_from is_unknowable seen) (early V a seen) (no-early m a tell seen) e
+      ∙ by (is_first_step seen && not (is_knowable V m.crate a.reference)) (holds_from is_unknowable seen) (early V a seen) (no-early m a tell seen) e
     where
       by : (b u : Bool) (o : Option Candidate) → NoImpl o → (if b then Some (unknowable V a) else if u then None else or_else o (late V a seen)) ≡ Some c.spec → (if u then None else or_else o rest) ≡ rest
       by true u o n g = absurd (not-both (is_impl c.spec.source) t (sym (ap (λ (x : Candidate). is_impl x.source) (some-is (unknowable V a) c.spec g))))
@@ -115,7 +115,7 @@ module _ (m : ViewMeaning) (mode : TypingMode) (f : CanonicalForm) (c : Consider
       not-alone false g = none-is c.spec g
 
       by : (o : Option GoalOverKinds) → decided m (goal_over_kinds m.view f) ≡ o → (a : GoalOverKinds) × (decided m (goal_over_kinds m.view f) ≡ Some a)
-      by None is = absurd (not-alone (is_first seen) (was-next None is tt h))
+      by None is = absurd (not-alone (is_first_step seen) (was-next None is tt h))
       by (Some a) is = (a, is)
 
   pub late-behind : (a : GoalOverKinds) → decided m (goal_over_kinds m.view f) ≡ Some a → sources_tell a ≡ true → IsHistory (workings frame_tables) next (c ∷ seen) → is_impl c.spec.source ≡ true

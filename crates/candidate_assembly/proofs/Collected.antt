@@ -6,11 +6,11 @@ use Rattle.goal_evaluator.specs.Lists.{Every}
 use Rattle.goal_evaluator.specs.Readings.{ResultHeld, ConsideredHeld}
 use Rattle.goal_frames.specs.Fitting.{ResultFits, ConsideredFits}
 use Rattle.candidate_assembly.specs.declared.merge.Sources.{Sources}
-use Rattle.candidate_assembly.specs.Merging.{is_among, from_sources}
+use Rattle.candidate_assembly.specs.Merging.{is_source_among, from_sources}
 
 every-from : (P : Considered → Type 0) (sources : Sources) (done : List Considered) → Every P done → Every P (from_sources sources done)
 every-from P sources [] h = tt
-every-from P sources (d ∷ done) h = by (is_among sources d.source) (every-from P sources done h.1)
+every-from P sources (d ∷ done) h = by (is_source_among sources d.source) (every-from P sources done h.1)
   where
     by : (b : Bool) → Every P (from_sources sources done) → Every P (if b then d ∷ from_sources sources done else from_sources sources done)
     by true g = (h.0, g)

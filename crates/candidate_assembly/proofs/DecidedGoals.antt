@@ -35,7 +35,7 @@ use Rattle.candidate_assembly.specs.Kept.{ready-kept, solving-kept}
 use Rattle.candidate_assembly.specs.Nexts.{handled_in, ForEachHistory}
 use Rattle.built_in_candidates.specs.Objects.{ObjectIsApplied}
 use Rattle.candidate_assembly.specs.Ready.{IsWellPosedGoal}
-use Rattle.candidate_assembly.specs.Sections.{sources_tell, decided, considered_from, is_bound, is_first, misc_is_bound, last_impl}
+use Rattle.candidate_assembly.specs.Sections.{sources_tell, decided, considered_from, is_bound, is_first_step, misc_is_bound, last_impl}
 use Rattle.candidate_assembly.specs.Solving.{Solving, meaning_for, solver_for}
 use Rattle.built_in_candidates.specs.Unsizing.{CanUnsize}
 use Rattle.built_in_candidates.proofs.Asking.{asked-later}
@@ -144,7 +144,7 @@ no-end : (xs : List ShownCandidate) (x : ShownCandidate) → [] ≡ xs ++ x ∷ 
 no-end [] x e = cc
 no-end (y ∷ xs) x e = cc
 
-pub first-is : (es : List Entry) (done : List InCode.Considered) (seen : SolverPast) → Shows (map (shown_by es) done) seen → (length done == 0) ≡ is_first seen
+pub first-is : (es : List Entry) (done : List InCode.Considered) (seen : SolverPast) → Shows (map (shown_by es) done) seen → (length done == 0) ≡ is_first_step seen
 first-is es [] [] h = refl
 first-is es [] (c ∷ seen) h = absurd (no-end (reverse (map shown seen)) (shown c) (h ∙ shown-next c seen))
 first-is es (x ∷ done) [] h = absurd cc

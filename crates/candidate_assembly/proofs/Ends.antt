@@ -29,7 +29,7 @@ use Rattle.goal_evaluator.specs.StepReadings.{Shows, shown_by, result_read}
 use Rattle.candidate_model.specs.Solver.{SolverPast, from, is_clause, is_global, is_impl, is_non_global, is_object, is_trivial, gives_none, holds_from, oldest_gives_none, remain, remains}
 use Rattle.candidate_assembly.specs.declared.merge.Sources.{Sources}
 use Rattle.candidate_assembly.specs.declared.merge.Sources.TheVariants.{All, Trivial, NonGlobalClauses, Clauses, Remaining}
-use Rattle.candidate_assembly.specs.Merging.{is_among, from_sources, end_in, clause_taken, IsEnd, MergesFrom, AreRemaining}
+use Rattle.candidate_assembly.specs.Merging.{is_source_among, from_sources, end_in, clause_taken, IsEnd, MergesFrom, AreRemaining}
 use Rattle.candidate_assembly.specs.Shown.{first_yes, other_clauses, first_bound_gives_none}
 use Rattle.candidate_assembly.proofs.Shown.{holds, answers, same-filter, all-kept, bound, as_taken, taken_of, clauses_of, yes-shown, others-shown}
 use Rattle.type_terms.proofs.TypeBasics.{some-is}
@@ -43,17 +43,17 @@ ok-map P Q f (Err e) h = tt
 abbrev ends : Option AnswerTrees → Next (workings frame_tables)
 ends a = answer a []
 
-merge-kept : (sources : Sources) (es : List Entry) (ks : List CanonicalVarKind) (done : List InCode.Considered) (seen : SolverPast) → Shows (map (shown_by es) done) seen → (Q : CandidateSource → Bool) → ((s : CandidateSource) → is_among sources s ≡ Q s)
+merge-kept : (sources : Sources) (es : List Entry) (ks : List CanonicalVarKind) (done : List InCode.Considered) (seen : SolverPast) → Shows (map (shown_by es) done) seen → (Q : CandidateSource → Bool) → ((s : CandidateSource) → is_source_among sources s ≡ Q s)
     → merge_of es ks (responses_of (from_sources sources done)) ≡ merge_or_flounder frame_tables applies_always same_answer (begin ks) (responses frame_tables (filter (from Q) seen))
 merge-kept sources es ks done seen h Q same =
     ap (merge_or_flounder frame_tables applies_always same_answer (begin ks))
-    (answers (is_among sources) es done seen h ∙ ap (responses frame_tables) (same-filter (from (is_among sources)) (from Q) (λ c. same c.spec.source) seen))
+    (answers (is_source_among sources) es done seen h ∙ ap (responses frame_tables) (same-filter (from (is_source_among sources)) (from Q) (λ c. same c.spec.source) seen))
 
 abbrev kept_end : List CanonicalVarKind → (SolverPast → CandidateSource → Bool) → SolverPast → Plan frame_tables
 kept_end ks Q seen = kept_merged frame_tables applies_always same_answer (begin ks) (from (Q seen)) seen
 
 pub end-kept : (sources : Sources) (es new : List Entry) (ks : List CanonicalVarKind) (done : List InCode.Considered) (Q : SolverPast → CandidateSource → Bool)
-    → ((seen : SolverPast) → Shows (map (shown_by es) done) seen → (s : CandidateSource) → is_among sources s ≡ Q seen s) → (step : HandlerStep) → MergesFrom sources ks es done new step → IsEnd (kept_end ks Q) es done new step
+    → ((seen : SolverPast) → Shows (map (shown_by es) done) seen → (s : CandidateSource) → is_source_among sources s ≡ Q seen s) → (step : HandlerStep) → MergesFrom sources ks es done new step → IsEnd (kept_end ks Q) es done new step
 end-kept sources es new ks done Q same step m = λ seen h kind. m kind ∙ ap ends (merge-kept sources es ks done seen h (Q seen) (same seen h))
 
 pub end-all : (es new : List Entry) (ks : List CanonicalVarKind) (done : List InCode.Considered) (step : HandlerStep) → MergesFrom All ks es done new step → IsEnd (end_in Coherence ks) es done new step
@@ -116,19 +116,19 @@ holds-same P Q same [] = refl
 holds-same P Q same (c ∷ seen) = ap (λ b. (b && is_some c.response) || holds_from P seen) (same c.spec.source) ∙ ap (λ b. (Q c.spec.source && is_some c.response) || b) (holds-same P Q same seen)
 
 pub remaining-are : (es : List Entry) (done : List InCode.Considered) (f g : Bool) → f ≡ first_bound_gives_none false (map (shown_by es) done)
-    → g ≡ list_any (λ (d : InCode.Considered). is_among (Remaining (not f) false) d.source && is_some d.result) done → AreRemaining (Remaining (not f) (not g)) es done
+    → g ≡ list_any (λ (d : InCode.Considered). is_source_among (Remaining (not f) false) d.source && is_some d.result) done → AreRemaining (Remaining (not f) (not g)) es done
 remaining-are es done f g first others = λ seen h s.
     let oldest : f ≡ oldest_gives_none is_object false seen = first ∙ bound es done seen h in
     let stays = λ (r : CandidateSource). apart (is_impl r) f ∙ ap (λ b. not (is_impl r && b)) oldest in
     let rest : g ≡ holds_from (λ r. remain seen r && not (is_global r)) seen =
-    others ∙ holds (is_among (Remaining (not f) false)) es done seen h
-    ∙ holds-same (is_among (Remaining (not f) false)) (λ r. remain seen r && not (is_global r)) (λ r. ap (λ b. b && not (is_global r)) (stays r)) seen in
+    others ∙ holds (is_source_among (Remaining (not f) false)) es done seen h
+    ∙ holds-same (is_source_among (Remaining (not f) false)) (λ r. remain seen r && not (is_global r)) (λ r. ap (λ b. b && not (is_global r)) (stays r)) seen in
     ap (λ b. b && (not g || not (is_global s))) (stays s) ∙ ap (λ b. remain seen s && b) (around (is_global s) g ∙ ap (λ b. not (is_global s) || not b) rest)
 
 -- ---- the merge outside coherence
 module _ (es new : List Entry) (ks : List CanonicalVarKind) (done : List InCode.Considered) where
   abbrev some_from : Sources → Bool
-  some_from sources = list_any (λ (d : InCode.Considered). is_among sources d.source && is_some d.result) done
+  some_from sources = list_any (λ (d : InCode.Considered). is_source_among sources d.source && is_some d.result) done
 
   pub trivial-end : some_from Trivial ≡ true → (step : HandlerStep) → MergesFrom Trivial ks es done new step → IsEnd (end_in PostAnalysis ks) es done new step
   trivial-end e step m = λ seen h kind.

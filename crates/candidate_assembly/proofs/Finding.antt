@@ -25,7 +25,7 @@ use Rattle.type_terms.specs.declared.visit.Seen.TheVariants.{Break, Enter, Pass}
 use Rattle.infer_table.specs.declared.canonical.CanonicalVarKind.{CanonicalVarKind}
 use Rattle.type_terms.proofs.Made.{false-true, left, right, no-tree, made-ordinary, last-bound, last-trait, never-dynamic, never-dynamic-bound, never-principal}
 use Rattle.goal_evaluator.specs.Variables.{is_variable_over}
-use Rattle.candidate_assembly.specs.Finding.{BreaksAt, at_root, some_root, is_foreign, names_undeclared}
+use Rattle.candidate_assembly.specs.Finding.{BreaksAt, at_root, some_root, is_foreign_tree, names_undeclared}
 use Rattle.type_terms.proofs.BooleanBasics.{behind-test, below-test, here-test, and-true, de-morgan}
 
 -- ---- a visit that breaks at some trees
@@ -129,7 +129,7 @@ module _ (kinds : List CanonicalVarKind) where
       (right (is_in_range l) _ h) (none-found foreign_label c x.children) (none-found foreign_label o x.rest)
 
   -- a visit of what is made
-  pub own-terms : (t : Trees) → is_made is_in_range terms t ≡ true → is_made (is_variable_over kinds) terms t ≡ not (some_tree (is_foreign kinds) t)
+  pub own-terms : (t : Trees) → is_made is_in_range terms t ≡ true → is_made (is_variable_over kinds) terms t ≡ not (some_tree (is_foreign_tree kinds) t)
   own-terms t h = made-over terms t h ∙ ap not (sym (some-at-root foreign_label t))
 
 -- ---- terms of an interner

@@ -18,7 +18,7 @@ use Rattle.declarations.specs.Items.{Items, struct_at, struct_in, written}
 use Rattle.declarations.specs.Promised.Elaboration.{Each}
 use Rattle.declarations.proofs.Lookups.{turned}
 use Rattle.candidate_model.specs.Asking.{next_of, with_plain_head}
-use Rattle.candidate_model.specs.Declared.{is_declared, are_terms}
+use Rattle.candidate_model.specs.Declared.{is_declared_leaf, are_terms}
 use Rattle.candidate_model.specs.DeclaredWell.{IsDeclaredWell}
 use Rattle.candidate_model.specs.Lifetimes.{lacks_lifetime, are_given, gives_lifetimes}
 use Rattle.candidate_assembly.proofs.Fitting.{second-part}
@@ -67,49 +67,49 @@ module _ (good : Label → Bool) where
     nothing-below c e = ap (some_node lacks) e
 
     -- what fits lacks no lifetime
-    pub none-lacks : (m : Standing) (t : Trees) → is_made is_declared m t ≡ true → first_misfit A t ≡ None → some_node lacks t ≡ false
+    pub none-lacks : (m : Standing) (t : Trees) → is_made is_declared_leaf m t ≡ true → first_misfit A t ≡ None → some_node lacks t ≡ false
     none-lacks m none h e = refl
     none-lacks terms (tree dynamic c o) h e =
         neither false (some_node lacks c) (some_node lacks o) refl
-        (none-lacks bounds c (left (is_made is_declared bounds c) _ h) (left-none (first_misfit A c) (first_misfit A o) e))
-        (none-lacks terms o (right (is_made is_declared bounds c) _ h) (right-none (first_misfit A c) (first_misfit A o) e))
+        (none-lacks bounds c (left (is_made is_declared_leaf bounds c) _ h) (left-none (first_misfit A c) (first_misfit A o) e))
+        (none-lacks terms o (right (is_made is_declared_leaf bounds c) _ h) (right-none (first_misfit A c) (first_misfit A o) e))
     none-lacks terms (tree (principal n t) c o) h e = absurd (false-true h)
     none-lacks terms (tree (auto_trait n) c o) h e = absurd (false-true h)
     none-lacks terms (tree (predicate k) c o) h e = absurd (false-true h)
     none-lacks terms (tree (param s i) c o) h e =
-        let x = made-ordinary is_declared (param s i) c o refl h in
+        let x = made-ordinary is_declared_leaf (param s i) c o refl h in
         neither (lacks (param s i)) (some_node lacks c) (some_node lacks o) (param-given s i (left-none (misfit s (sort_at A i)) (first_misfit A o) e))
         (nothing-below c (no-tree c x.1)) (none-lacks terms o x.3 (right-none (misfit s (sort_at A i)) (first_misfit A o) e))
     none-lacks terms (tree l c o) h e =
-        let x = made-ordinary is_declared l c o refl h in
+        let x = made-ordinary is_declared_leaf l c o refl h in
         neither (lacks l) (some_node lacks c) (some_node lacks o) refl
         (none-lacks terms c x.2 (left-none (first_misfit A c) (first_misfit A o) e))
         (none-lacks terms o x.3 (right-none (first_misfit A c) (first_misfit A o) e))
     none-lacks bounds (tree (principal n t) c o) h e =
         neither false (some_node lacks c) (some_node lacks o) refl
-        (none-lacks terms c (left (is_made is_declared terms c) _ h) (left-none (first_misfit A c) (first_misfit A o) e))
-        (none-lacks traits o (right (is_made is_declared terms c) _ h) (right-none (first_misfit A c) (first_misfit A o) e))
+        (none-lacks terms c (left (is_made is_declared_leaf terms c) _ h) (left-none (first_misfit A c) (first_misfit A o) e))
+        (none-lacks traits o (right (is_made is_declared_leaf terms c) _ h) (right-none (first_misfit A c) (first_misfit A o) e))
     none-lacks bounds (tree (auto_trait n) c o) h e =
         neither false (some_node lacks c) (some_node lacks o) refl (nothing-below c (no-tree c (left (is_no_tree c) _ h)))
         (none-lacks traits o (right (is_no_tree c) _ h) (right-none (first_misfit A c) (first_misfit A o) e))
     none-lacks bounds (tree (predicate k) c o) h e = absurd (false-true h)
-    none-lacks bounds (tree dynamic c o) h e = absurd (never-dynamic-bound is_declared c o h)
+    none-lacks bounds (tree dynamic c o) h e = absurd (never-dynamic-bound is_declared_leaf c o h)
     none-lacks bounds (tree (param s i) c o) h e =
-        let x = last-bound is_declared (param s i) c o refl h in
+        let x = last-bound is_declared_leaf (param s i) c o refl h in
         neither (lacks (param s i)) (some_node lacks c) (some_node lacks o) (param-given s i (left-none (misfit s (sort_at A i)) (first_misfit A o) e)) (nothing-below c x.children) (nothing-below o x.rest)
     none-lacks bounds (tree l c o) h e =
-        let x = last-bound is_declared l c o refl h in neither (lacks l) (some_node lacks c) (some_node lacks o) refl (nothing-below c x.children) (nothing-below o x.rest)
+        let x = last-bound is_declared_leaf l c o refl h in neither (lacks l) (some_node lacks c) (some_node lacks o) refl (nothing-below c x.children) (nothing-below o x.rest)
     none-lacks traits (tree (auto_trait n) c o) h e =
         neither false (some_node lacks c) (some_node lacks o) refl (nothing-below c (no-tree c (left (is_no_tree c) _ h)))
         (none-lacks traits o (right (is_no_tree c) _ h) (right-none (first_misfit A c) (first_misfit A o) e))
     none-lacks traits (tree (predicate k) c o) h e = absurd (false-true h)
-    none-lacks traits (tree (principal n t) c o) h e = absurd (never-principal is_declared n t c o h)
-    none-lacks traits (tree dynamic c o) h e = absurd (never-dynamic is_declared c o h)
+    none-lacks traits (tree (principal n t) c o) h e = absurd (never-principal is_declared_leaf n t c o h)
+    none-lacks traits (tree dynamic c o) h e = absurd (never-dynamic is_declared_leaf c o h)
     none-lacks traits (tree (param s i) c o) h e =
-        let x = last-trait is_declared (param s i) c o refl h in
+        let x = last-trait is_declared_leaf (param s i) c o refl h in
         neither (lacks (param s i)) (some_node lacks c) (some_node lacks o) (param-given s i (left-none (misfit s (sort_at A i)) (first_misfit A o) e)) (nothing-below c x.children) (nothing-below o x.rest)
     none-lacks traits (tree l c o) h e =
-        let x = last-trait is_declared l c o refl h in neither (lacks l) (some_node lacks c) (some_node lacks o) refl (nothing-below c x.children) (nothing-below o x.rest)
+        let x = last-trait is_declared_leaf l c o refl h in neither (lacks l) (some_node lacks c) (some_node lacks o) refl (nothing-below c x.children) (nothing-below o x.rest)
 
 -- ---- structs
 module _ (es : List Entry) (good : Label → Bool) (A : Trees) (made : is_made good terms A ≡ true) (s : ℕ) where
@@ -122,7 +122,7 @@ module _ (es : List Entry) (good : Label → Bool) (A : Trees) (made : is_made g
   fields-given def e (f ∷ fs) h t =
       let x = trees_at es f.0 in
       both (not (some_node (lacks_lifetime A) x)) _
-      (ap not (none-lacks good A made terms x (left (is_made is_declared terms x) _ (left (are_terms x) _ t)) (h.0 A e)))
+      (ap not (none-lacks good A made terms x (left (is_made is_declared_leaf terms x) _ (left (are_terms x) _ t)) (h.0 A e)))
       (fields-given def e fs h.1 (right (are_terms x) _ t))
 
   no-other : (ys : List StructDecl) → length ys + 1 ≤ 1 → list_all (are_given A) ys ≡ true

@@ -26,7 +26,7 @@ use Rattle.candidate_model.specs.Candidates.{Candidate, unknowable, by_clauses, 
 use Rattle.candidate_model.specs.Solver.{SolverPast, from, is_clause, is_impl, is_settled, holds_from, solver_handled}
 use Rattle.type_terms.proofs.Members.{not-both}
 use Rattle.candidate_assembly.specs.Headers.{impls_above}
-use Rattle.candidate_assembly.specs.Sections.{misc_is_bound, is_unknowable, is_built_in, is_bound, sources_tell, considered_from, early, late, is_first, next_in, decided, next_candidate, end_of, or_end, impl_or, last_impl, WalksGoOn}
+use Rattle.candidate_assembly.specs.Sections.{misc_is_bound, is_unknowable, is_built_in, is_bound, sources_tell, considered_from, early, late, is_first_step, next_in, decided, next_candidate, end_of, or_end, impl_or, last_impl, WalksGoOn}
 use Rattle.candidate_assembly.proofs.Along.{Answers}
 use Rattle.candidate_assembly.proofs.SourcesOf.{clause-impl, built-impl, bound-impl, clauses-are, built-in-are, objects-are}
 use Rattle.candidate_assembly.proofs.Histories.{Plans, ends-answer, histories-tell}
@@ -77,7 +77,7 @@ module _ (m : ViewMeaning) (a : GoalOverKinds) (tell : sources_tell a ≡ true) 
   next_impl seen = slice_get (by_impls V a V.impls) (considered_from is_impl seen)
 
   impl-next : (mode : TypingMode) (seen : SolverPast) (s : Candidate) → next_in m mode a seen ≡ Some s → is_impl s.source ≡ true → next_impl seen ≡ Some s
-  impl-next Coherence seen s e t = by (is_first seen && not (is_knowable V m.crate a.reference)) (holds_from is_unknowable seen) e
+  impl-next Coherence seen s e t = by (is_first_step seen && not (is_knowable V m.crate a.reference)) (holds_from is_unknowable seen) e
     where
       by : (b c : Bool) → (if b then Some (unknowable V a) else if c then None else or_else (early V a seen) (late V a seen)) ≡ Some s → next_impl seen ≡ Some s
       by true c g = absurd (not-both (is_impl s.source) t (sym (ap (λ (x : Candidate). is_impl x.source) (some-is (unknowable V a) s g))))

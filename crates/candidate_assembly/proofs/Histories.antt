@@ -21,7 +21,7 @@ use Rattle.candidate_model.specs.Asking.{GoalOverKinds, goal_over_kinds, clauses
 use Rattle.candidate_model.specs.Candidates.{Candidate, unsure, unknowable, by_clauses, built_in, by_impls, by_objects}
 use Rattle.candidate_model.specs.Solver.{SolverPast, from, is_clause, is_non_global, is_impl, is_trivial, says_nothing, is_settled, holds_from, remains, by_mode, plan_for}
 use Rattle.candidate_assembly.specs.Merging.{end_in}
-use Rattle.candidate_assembly.specs.Sections.{misc_is_bound, is_unknowable, is_built_in, is_bound, sources_tell, early, late, is_first, next_outside, next_in, decided, next_candidate, end_of, or_end, HistoriesTell}
+use Rattle.candidate_assembly.specs.Sections.{misc_is_bound, is_unknowable, is_built_in, is_bound, sources_tell, early, late, is_first_step, next_outside, next_in, decided, next_candidate, end_of, or_end, HistoriesTell}
 use Rattle.candidate_assembly.proofs.Along.{Follows, Answers, same-considered, chosen, outside-next, known-next, unknown-next}
 use Rattle.candidate_assembly.proofs.SourcesOf.{built-clause, impl-clause, bound-clause, impl-built, bound-built, bound-impl, clause-impl, clause-bound, built-impl, built-bound, clause-known, built-known, impl-known, bound-known, impl-quiet, bound-quiet, clauses-are, impls-are, built-in-are, objects-are}
 
@@ -64,7 +64,7 @@ module _ (end : SolverPast → Plans) (ends : (seen : SolverPast) → Answers fr
   over c (d ∷ seen) = let a = over d seen in record { response = a.response; ignored = a.ignored; is = ap (told frame_tables c) a.is }
 
   abbrev next_alone : SolverPast → Option Candidate
-  next_alone seen = if is_first seen then Some unsure else None
+  next_alone seen = if is_first_step seen then Some unsure else None
 
   abbrev spec-in : Candidate → Next (workings frame_tables) → Candidate
   spec-in s (consider c) = c
@@ -154,7 +154,7 @@ module _ (V : World) (crate : ℕ) (a : GoalOverKinds) (tell : sources_tell a �
   next-both seen = if holds_from is_unknowable seen then None else or_else (early V a seen) (late V a seen)
 
   abbrev next-if : Bool → SolverPast → Option Candidate
-  next-if known seen = if is_first seen && not known then Some (unknowable V a) else next-both seen
+  next-if known seen = if is_first_step seen && not known then Some (unknowable V a) else next-both seen
 
   -- where the goal is knowable, no crate that is not seen is asked of
   never-first : (seen : SolverPast) → next-if true seen ≡ next-both seen
@@ -194,7 +194,7 @@ module _ (m : ViewMeaning) (kinds : List CanonicalVarKind) where
   Tells o = IfSome o (λ a. sources_tell a ≡ true)
 
   undecided-next : (seen : SolverPast) → Follows frame_tables (alone (end_in Coherence kinds) (ends-answer kinds Coherence)) seen
-      → wanted frame_tables (after frame_tables (alone (end_in Coherence kinds) (ends-answer kinds Coherence)) seen) ≡ or_end (if is_first seen then Some unsure else None) (end_in Coherence kinds seen)
+      → wanted frame_tables (after frame_tables (alone (end_in Coherence kinds) (ends-answer kinds Coherence)) seen) ≡ or_end (if is_first_step seen then Some unsure else None) (end_in Coherence kinds seen)
   undecided-next seen f = alone-next (end_in Coherence kinds) (ends-answer kinds Coherence) seen f
 
   decided-next : (mode : TypingMode) (a : GoalOverKinds) → sources_tell a ≡ true → (seen : SolverPast) → Follows frame_tables (by_mode applies_always same_answer (begin kinds) m mode a) seen

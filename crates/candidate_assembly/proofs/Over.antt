@@ -18,8 +18,8 @@ use Rattle.goal_evaluator.specs.Variables.{is_variable_over}
 use Rattle.goal_evaluator.proofs.Readings.{HasLeaves, made-leaves}
 use Rattle.goal_frames.specs.RuleFitting.{slots_of}
 use Rattle.candidate_model.specs.Asking.{with_plain_head, next_of}
-use Rattle.candidate_model.specs.Candidates.{all_equal, moved, is_param, last_of, lifetime_of, outlives, unsizing_outlives}
-use Rattle.candidate_model.specs.Declared.{is_declared, are_terms}
+use Rattle.candidate_model.specs.Candidates.{all_equal, moved, is_this_param, last_of, lifetime_of, outlives, unsizing_outlives}
+use Rattle.candidate_model.specs.Declared.{is_declared_leaf, are_terms}
 use Rattle.candidate_model.specs.Facts.{tree_of_reference}
 use Rattle.candidate_model.proofs.Headers.{child-some, next-some}
 use Rattle.goal_frames.proofs.RuleFitting.{goal-slots, over-labels}
@@ -32,10 +32,10 @@ goal-over kinds own t h = over-labels kinds (slots_of kinds own) (goal-slots kin
 -- ---- what is declared
 -- of open places but bound ones only parameters stand in it, and nothing below a leaf
 abbrev pub ArePlain : Trees → Type 0
-ArePlain t = EachLabel (IsGoodLabel is_declared) t × HasLeaves t
+ArePlain t = EachLabel (IsGoodLabel is_declared_leaf) t × HasLeaves t
 
 pub declared-plain : (t : Trees) → are_terms t ≡ true → ArePlain t
-declared-plain t h = let made = left (is_made is_declared terms t) _ h in (made-labels is_declared terms t made, made-leaves is_declared terms t made)
+declared-plain t h = let made = left (is_made is_declared_leaf terms t) _ h in (made-labels is_declared_leaf terms t made, made-leaves is_declared_leaf terms t made)
 
 module _ (ls : List Label) where
   pub over-head : (l : Label) (c o : Trees) → AreOver ls (tree l c o) → AreOver ls (tree l c none)
@@ -63,7 +63,7 @@ module _ (ls : List Label) where
   over-shift d a (tree l c o) h = (shift-slot d a l ∙ h.0, λ e. ap (shift (inside l d) a) (h.1 (sym (shift-leaf d a l) ∙ e)), over-shift (inside l d) a c h.2, over-shift d a o h.3)
 
   -- with arguments in the place of parameters
-  over-put : (A : Trees) → AreOver ls A → (d : ℕ) (t : Trees) → EachLabel (IsGoodLabel is_declared) t → HasLeaves t → AreOver ls (instantiate d A t)
+  over-put : (A : Trees) → AreOver ls A → (d : ℕ) (t : Trees) → EachLabel (IsGoodLabel is_declared_leaf) t → HasLeaves t → AreOver ls (instantiate d A t)
   over-put A h d none e g = tt
   over-put A h d (tree (param s i) c o) e g = over-append (shift zero d (nth A i)) (instantiate d A o) (over-shift zero d (nth A i) (over-nth A i h)) (over-put A h d o e.2 g.2)
   over-put A h d (tree (infer k v) c o) e g = absurd (false-true (e.0 refl))
@@ -75,16 +75,16 @@ module _ (ls : List Label) where
   over-instance A t h p = over-put A h zero t p.0 p.1
 
   -- with variables in the place of parameters, each of its parameter's sort
-  over-moved : (n : ℕ) (t : Trees) → ((s : Sort) (j : ℕ) → some_node (is_param s j) t ≡ true → is_of_sort s (slice_get ls (n + j)) ≡ true) → EachLabel (IsGoodLabel is_declared) t → HasLeaves t → AreOver ls (put_in (moved n) t)
+  over-moved : (n : ℕ) (t : Trees) → ((s : Sort) (j : ℕ) → some_node (is_this_param s j) t ≡ true → is_of_sort s (slice_get ls (n + j)) ≡ true) → EachLabel (IsGoodLabel is_declared_leaf) t → HasLeaves t → AreOver ls (put_in (moved n) t)
   over-moved n none f e g = tt
-  over-moved n (tree (param s i) c o) f e g = (f s i (ap (λ b. b || some_node (is_param s i) c || some_node (is_param s i) o) (itself s i)), λ x. refl, tt, over-moved n o (λ r j h. f r j (next-some (is_param r j) (param s i) c o h)) e.2 g.2)
+  over-moved n (tree (param s i) c o) f e g = (f s i (ap (λ b. b || some_node (is_this_param s i) c || some_node (is_this_param s i) o) (itself s i)), λ x. refl, tt, over-moved n o (λ r j h. f r j (next-some (is_this_param r j) (param s i) c o h)) e.2 g.2)
   over-moved n (tree (infer k v) c o) f e g = absurd (false-true (e.0 refl))
   over-moved n (tree (placeholder k v) c o) f e g = absurd (false-true (e.0 refl))
   over-moved n (tree (canonical k v) c o) f e g = absurd (false-true (e.0 refl))
   over-moved n (tree l c o) f e g =
-      (refl, λ x. ap (put_in (moved n)) (g.0 x), over-moved n c (λ r j h. f r j (child-some (is_param r j) l c o h)) e.1 g.1, over-moved n o (λ r j h. f r j (next-some (is_param r j) l c o h)) e.2 g.2)
+      (refl, λ x. ap (put_in (moved n)) (g.0 x), over-moved n c (λ r j h. f r j (child-some (is_this_param r j) l c o h)) e.1 g.1, over-moved n o (λ r j h. f r j (next-some (is_this_param r j) l c o h)) e.2 g.2)
 
-  pub over-behind : (n : ℕ) (t : Trees) → ((s : Sort) (j : ℕ) → some_node (is_param s j) t ≡ true → is_of_sort s (slice_get ls (n + j)) ≡ true) → ArePlain t → AreOver ls (put_in (moved n) t)
+  pub over-behind : (n : ℕ) (t : Trees) → ((s : Sort) (j : ℕ) → some_node (is_this_param s j) t ≡ true → is_of_sort s (slice_get ls (n + j)) ≡ true) → ArePlain t → AreOver ls (put_in (moved n) t)
   over-behind n t f p = over-moved n t f p.0 p.1
 
   -- up to lifetimes

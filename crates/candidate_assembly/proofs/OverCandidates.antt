@@ -29,7 +29,7 @@ use Rattle.goal_evaluator.specs.Variables.{is_variable_over}
 use Rattle.goal_frames.specs.RuleFitting.{slots_of, IsOverSlots}
 use Rattle.declarations.specs.Promised.Elaboration.{elaborate, supertraits}
 use Rattle.candidate_model.specs.Asking.{GoalOverKinds, clauses, self_of, next_of, begins_unknown, all_known, are_clauses, goal_over_kinds}
-use Rattle.candidate_model.specs.Candidates.{Candidate, all_equal, premise, by_rule, unsure, unknowable, clause_source, by_clauses, rules_behind, is_param, kind_of_param, kinds_of_params, by_the_impl, can_match, by_impls, as_written, misc, if_so, by_sized, by_copy, by_auto, by_tuple, by_fn_ptr, call_of, by_call, unsize_array_of, upcast_source, upcasts_from, upcasts_to, upcasts_of, unsize_by_struct, unsize_struct_of, unsize_known, recording, unsizing_outlives, unsize_recording, by_unsize, built_in, bounds_from, object_source, written_source, objects_of, by_objects}
+use Rattle.candidate_model.specs.Candidates.{Candidate, all_equal, premise, by_rule, unsure, unknowable, clause_source, by_clauses, rules_behind, is_this_param, kind_of_param, kinds_of_params, by_the_impl, can_match, by_impls, as_written, misc, if_so, by_sized, by_copy, by_auto, by_tuple, by_fn_ptr, call_of, by_call, unsize_array_of, upcast_source, upcasts_from, upcasts_to, upcasts_of, unsize_by_struct, unsize_struct_of, unsize_known, recording, unsizing_outlives, unsize_recording, by_unsize, built_in, bounds_from, object_source, written_source, objects_of, by_objects}
 use Rattle.candidate_model.specs.Cover.{AreTermsOf, all_candidates}
 use Rattle.candidate_model.specs.Declared.{are_terms, is_unsorted, is_otherwise}
 use Rattle.candidate_model.specs.DeclaredWell.{IsDeclaredWell}
@@ -254,9 +254,9 @@ either true c h = absurd (false-true (sym h))
 either false c h = (refl, h)
 
 -- a parameter of the header is one of the impl's, of its sort
-param-kind : (h : Trees) (n : ℕ) → some_node (is_unsorted n h) h ≡ false → (s : Sort) (j : ℕ) → some_node (is_param s j) h ≡ true → is_kind_of s (kind_at (kinds_of_params h 0 n) j) ≡ true
+param-kind : (h : Trees) (n : ℕ) → some_node (is_unsorted n h) h ≡ false → (s : Sort) (j : ℕ) → some_node (is_this_param s j) h ≡ true → is_kind_of s (kind_at (kinds_of_params h 0 n) j) ≡ true
 param-kind h n sorted s j e =
-    let x = found (is_param s j) (is_unsorted n h) h e sorted in
+    let x = found (is_this_param s j) (is_unsorted n h) h e sorted in
     let own = either (not (nat_lt j n)) (some_node (is_otherwise s j) h) (sym (ap (is_unsorted n h) (label-of s j x.0 x.1)) ∙ x.2) in
     ap (is_kind_of s) (kind-get (kinds_of_params h 0 n) j ∙ kinds-at h 0 n j (below (nat_lt j n) refl own.0) ∙ ap (λ k. Some (kind_of_param h k)) (zero-plus j) ∙ ap (λ z. Some z) (kind-is h s j e own.1)) ∙ kind-for s
   where
@@ -294,7 +294,7 @@ module _ (V : World) (well : IsDeclaredWell V) (a : GoalOverKinds) (over : is_ma
       ls : List Label
       ls = slots_of a.kinds own
 
-      at : (s : Sort) (j : ℕ) → some_node (is_param s j) i.header.args ≡ true → is_of_sort s (slice_get ls (length a.kinds + j)) ≡ true
+      at : (s : Sort) (j : ℕ) → some_node (is_this_param s j) i.header.args ≡ true → is_of_sort s (slice_get ls (length a.kinds + j)) ≡ true
       at s j e =
           rule-slots a.kinds own s j
           (param-kind i.header.args i.params (is-false (some_node (is_unsorted i.params i.header.args) i.header.args) (member-each (λ (x : ImplDecl). not (some_node (is_unsorted x.params x.header.args) x.header.args)) V.impls i well.sorted m)) s j e)

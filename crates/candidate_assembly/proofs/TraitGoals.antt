@@ -42,7 +42,7 @@ use Rattle.built_in_candidates.specs.Goals.{asked_of, candidate_of}
 use Rattle.candidate_assembly.specs.Merging.{end_in}
 use Rattle.candidate_assembly.specs.Nexts.{handled_in, next_for, mode_at_end}
 use Rattle.candidate_assembly.specs.Ready.{AreReadyDeclarations, Decides}
-use Rattle.candidate_assembly.specs.Sections.{misc_is_bound, is_unknowable, is_built_in, is_bound, sources_tell, considered_from, early, late, is_first, next_in, decided, next_candidate, end_of, or_end}
+use Rattle.candidate_assembly.specs.Sections.{misc_is_bound, is_unknowable, is_built_in, is_bound, sources_tell, considered_from, early, late, is_first_step, next_in, decided, next_candidate, end_of, or_end}
 use Rattle.candidate_assembly.specs.Solving.{meaning_for}
 use Rattle.candidate_assembly.proofs.Histories.{histories-tell}
 use Rattle.candidate_assembly.proofs.Over.{goal-over}
@@ -156,7 +156,7 @@ module _ (P : Candidate → Type 0) (n : ViewMeaning) (a : GoalOverKinds) (all :
       (at-place P (by_objects V a) (considered_from (is_bound (misc_is_bound a)) seen) (every-split P (by_impls V a V.impls) (by_objects V a) lasts).1)
 
   next-so : (mode : TypingMode) (seen : SolverPast) → IfSome (next_in n mode a seen) P
-  next-so Coherence seen = by (is_first seen && not (is_knowable V n.crate a.reference)) (holds_from is_unknowable seen)
+  next-so Coherence seen = by (is_first_step seen && not (is_knowable V n.crate a.reference)) (holds_from is_unknowable seen)
     where
       by : (b c : Bool) → IfSome (if b then Some (unknowable V a) else if c then None else or_else (early V a seen) (late V a seen)) P
       by true c = first
@@ -193,7 +193,7 @@ module _ (es : List Entry) (d : Items) (g : CanonicalInput) (ready : AreReadyDec
 
       by : (c : Bool) → decided n (goal_over_kinds (written es d) (form_of es g)) ≡ (if c then Some (asked_of es g) else None) → IfSome (next_for es d g seen) Fits
       by true e = subst (λ o. IfSome (next_candidate n g.mode o seen) Fits) (sym e) (decided-fit e seen)
-      by false e = subst (λ o. IfSome (next_candidate n g.mode o seen) Fits) (sym e) (one (is_first seen))
+      by false e = subst (λ o. IfSome (next_candidate n g.mode o seen) Fits) (sym e) (one (is_first_step seen))
 
   pub candidate-fits : (new : List Entry) (s : CandidateSpec) (seen : SolverPast) → Some (candidate_of (written es d) g.goal.predicate.trait_ref.def_id.index new s) ≡ next_for es d g seen → IsOver g.variables.items new s
   candidate-fits new s seen e = is-over g.variables.items new _ s (subst (λ o. IfSome o Fits) (sym e) (next-fit seen))

@@ -24,8 +24,8 @@ use Rattle.declarations.specs.Promised.Elaboration.{Each}
 use Rattle.infer_table.specs.declared.canonical.CanonicalVarKind.{CanonicalVarKind}
 use Rattle.infer_table.specs.declared.canonical.CanonicalVarKind.TheVariants.{Ty, Const as ConstVar, Region}
 use Rattle.candidate_model.specs.Asking.{with_plain_head}
-use Rattle.candidate_model.specs.Candidates.{is_param, kind_of_param, kinds_of_params}
-use Rattle.candidate_model.specs.Declared.{is_declared, is_counted, are_terms, are_references, is_otherwise, is_unsorted}
+use Rattle.candidate_model.specs.Candidates.{is_this_param, kind_of_param, kinds_of_params}
+use Rattle.candidate_model.specs.Declared.{is_declared_leaf, is_counted, are_terms, are_references, is_otherwise, is_unsorted}
 use Rattle.candidate_model.specs.Determined.{ImplsAreDetermined}
 use Rattle.infer_table.proofs.SolutionLaws.{is_sort-equal}
 use Rattle.type_terms.proofs.Made.{left, right}
@@ -80,14 +80,14 @@ none-passes p q f t h = by (some_node p t) refl
     by false e = refl
 
 -- ---- parameters
-pub label-of : (s : Sort) (i : ℕ) (l : Label) → is_param s i l ≡ true → l ≡ param s i
+pub label-of : (s : Sort) (i : ℕ) (l : Label) → is_this_param s i l ≡ true → l ≡ param s i
 label-of s i (param r j) h =
     let first = is_sort-equal s r (left (is_sort s r) (i == j) h) in
     let second = same-number i j (right (is_sort s r) (i == j) h) in
     sym (ap (λ z. param z i) first ∙ ap (λ n. param r n) second)
 label-of s i l h = absurd cc
 
-pub itself : (s : Sort) (i : ℕ) → is_param s i (param s i) ≡ true
+pub itself : (s : Sort) (i : ℕ) → is_this_param s i (param s i) ≡ true
 itself s i = ap (λ b. b && (i == i)) (one-sort s) ∙ same-itself i
 
 -- the kind of a parameter of this sort
@@ -109,28 +109,28 @@ sort-back Const of_type h = absurd cc
 
 module _ (H : Trees) where
   -- a parameter that stands in the header with one sort has its kind
-  pub kind-is : (s : Sort) (i : ℕ) → some_node (is_param s i) H ≡ true → some_node (is_otherwise s i) H ≡ false → kind_of_param H i ≡ kind_for s
-  kind-is of_type i h g = ap (λ b. if b then Ty else if some_node (is_param of_const i) H then ConstVar else Region) h
+  pub kind-is : (s : Sort) (i : ℕ) → some_node (is_this_param s i) H ≡ true → some_node (is_otherwise s i) H ≡ false → kind_of_param H i ≡ kind_for s
+  kind-is of_type i h g = ap (λ b. if b then Ty else if some_node (is_this_param of_const i) H then ConstVar else Region) h
   kind-is of_const i h g =
-      ap (λ b. if b then Ty else if some_node (is_param of_const i) H then ConstVar else Region) (none-passes (is_param of_type i) (is_otherwise of_const i) types-are-other H g)
+      ap (λ b. if b then Ty else if some_node (is_this_param of_const i) H then ConstVar else Region) (none-passes (is_this_param of_type i) (is_otherwise of_const i) types-are-other H g)
       ∙ ap (λ b. if b then ConstVar else Region) h
     where
-      types-are-other : (l : Label) → is_param of_type i l ≡ true → is_otherwise of_const i l ≡ true
+      types-are-other : (l : Label) → is_this_param of_type i l ≡ true → is_otherwise of_const i l ≡ true
       types-are-other (param of_type j) k = k
       types-are-other (param of_const j) k = absurd cc
       types-are-other (param of_lifetime j) k = absurd cc
       types-are-other l k = absurd cc
   kind-is of_lifetime i h g =
-      ap (λ b. if b then Ty else if some_node (is_param of_const i) H then ConstVar else Region) (none-passes (is_param of_type i) (is_otherwise of_lifetime i) types-are-other H g)
-      ∙ ap (λ b. if b then ConstVar else Region) (none-passes (is_param of_const i) (is_otherwise of_lifetime i) consts-are-other H g)
+      ap (λ b. if b then Ty else if some_node (is_this_param of_const i) H then ConstVar else Region) (none-passes (is_this_param of_type i) (is_otherwise of_lifetime i) types-are-other H g)
+      ∙ ap (λ b. if b then ConstVar else Region) (none-passes (is_this_param of_const i) (is_otherwise of_lifetime i) consts-are-other H g)
     where
-      types-are-other : (l : Label) → is_param of_type i l ≡ true → is_otherwise of_lifetime i l ≡ true
+      types-are-other : (l : Label) → is_this_param of_type i l ≡ true → is_otherwise of_lifetime i l ≡ true
       types-are-other (param of_type j) k = k
       types-are-other (param of_const j) k = absurd cc
       types-are-other (param of_lifetime j) k = absurd cc
       types-are-other l k = absurd cc
 
-      consts-are-other : (l : Label) → is_param of_const i l ≡ true → is_otherwise of_lifetime i l ≡ true
+      consts-are-other : (l : Label) → is_this_param of_const i l ≡ true → is_otherwise of_lifetime i l ≡ true
       consts-are-other (param of_const j) k = k
       consts-are-other (param of_type j) k = absurd cc
       consts-are-other (param of_lifetime j) k = absurd cc
@@ -162,9 +162,9 @@ module _ (H : Trees) where
 
   module _ (ps : List GenericParamKind) (stand : map var_kind ps ≡ kinds_of_params H 0 (length ps)) (sorted : some_node (is_unsorted (length ps) H) H ≡ false) where
     -- what a parameter of the header stands for
-    sort-of-param : (s : Sort) (i : ℕ) → some_node (is_param s i) H ≡ true → slice_get (map sort_of_param ps) i ≡ Some s
+    sort-of-param : (s : Sort) (i : ℕ) → some_node (is_this_param s i) H ≡ true → slice_get (map sort_of_param ps) i ≡ Some s
     sort-of-param s i h =
-        let m = found (is_param s i) (is_unsorted (length ps) H) H h sorted in
+        let m = found (is_this_param s i) (is_unsorted (length ps) H) H h sorted in
         let other : is_unsorted (length ps) H (param s i) ≡ false = sym (ap (is_unsorted (length ps) H) (label-of s i m.0 m.1)) ∙ m.2 in
         let below : i < length ps = is-less i (length ps) (was-true (nat_lt i (length ps)) (left-false (not (nat_lt i (length ps))) (some_node (is_otherwise s i) H) other)) in
         let one : some_node (is_otherwise s i) H ≡ false = right-false (not (nat_lt i (length ps))) (some_node (is_otherwise s i) H) other in
@@ -174,17 +174,17 @@ module _ (H : Trees) where
         plain i = omega arith
 
     -- trees whose parameters all stand in the header
-    fits : (A : Trees) → sorts_of A ≡ map sort_of_param ps → (t : Trees) → ((s : Sort) (i : ℕ) → some_node (is_param s i) t ≡ true → some_node (is_param s i) H ≡ true) → first_misfit A t ≡ None
+    fits : (A : Trees) → sorts_of A ≡ map sort_of_param ps → (t : Trees) → ((s : Sort) (i : ℕ) → some_node (is_this_param s i) t ≡ true → some_node (is_this_param s i) H ≡ true) → first_misfit A t ≡ None
     fits A e none f = refl
     fits A e (tree (param s i) c o) f =
-        let here : sort_at A i ≡ Some s = at-sorts A i ∙ ap (λ l. slice_get l i) e ∙ sort-of-param s i (f s i (ap (λ b. b || some_node (is_param s i) c || some_node (is_param s i) o) (itself s i))) in
+        let here : sort_at A i ≡ Some s = at-sorts A i ∙ ap (λ l. slice_get l i) e ∙ sort-of-param s i (f s i (ap (λ b. b || some_node (is_this_param s i) c || some_node (is_this_param s i) o) (itself s i))) in
         ap (λ z. option_or (misfit s z) (first_misfit A o)) here ∙ ap (λ b. option_or (cond b None (Some ParamKind)) (first_misfit A o)) (one-sort s)
-        ∙ fits A e o (λ r j h. f r j (next-some (is_param r j) (param s i) c o h))
+        ∙ fits A e o (λ r j h. f r j (next-some (is_this_param r j) (param s i) c o h))
     fits A e (tree l c o) f =
-        ap (λ z. option_or z (first_misfit A o)) (fits A e c (λ r j h. f r j (child-some (is_param r j) l c o h)))
-        ∙ fits A e o (λ r j h. f r j (next-some (is_param r j) l c o h))
+        ap (λ z. option_or z (first_misfit A o)) (fits A e c (λ r j h. f r j (child-some (is_this_param r j) l c o h)))
+        ∙ fits A e o (λ r j h. f r j (next-some (is_this_param r j) l c o h))
 
-    speaks : (t : Trees) → ((s : Sort) (i : ℕ) → some_node (is_param s i) t ≡ true → some_node (is_param s i) H ≡ true) → SpeaksOf (map sort_of_param ps) t
+    speaks : (t : Trees) → ((s : Sort) (i : ℕ) → some_node (is_this_param s i) t ≡ true → some_node (is_this_param s i) H ≡ true) → SpeaksOf (map sort_of_param ps) t
     speaks t f A e = fits A e t f
 
 -- ---- heads
@@ -211,7 +211,7 @@ plain-head (tree l c o) h g = absurd cc
 -- ---- impls
 module _ (es : List Entry) (V : World) (determined : ImplsAreDetermined V) where
   clauses-speak : (ps : List GenericParamKind) (H : Trees) → map var_kind ps ≡ kinds_of_params H 0 (length ps) → some_node (is_unsorted (length ps) H) H ≡ false
-      → (rs : List TraitRef) → ((r : Reference) → In r (map (reference_in es) rs) → (s : Sort) (j : ℕ) → some_node (is_param s j) r.args ≡ true → some_node (is_param s j) H ≡ true)
+      → (rs : List TraitRef) → ((r : Reference) → In r (map (reference_in es) rs) → (s : Sort) (j : ℕ) → some_node (is_this_param s j) r.args ≡ true → some_node (is_this_param s j) H ≡ true)
       → Each (λ (r : TraitRef). SpeaksOf (map sort_of_param ps) (trees_at es r.args.0)) rs
   clauses-speak ps H stand sorted [] f = tt
   clauses-speak ps H stand sorted (r ∷ rs) f = (
@@ -230,7 +230,7 @@ module _ (es : List Entry) (V : World) (determined : ImplsAreDetermined V) where
           header = speaks H ps stand sorted H (λ s j h. h);
           clauses = clauses-speak ps H stand sorted i.def.clauses.items (λ r m s j h. determined (impl_in es i.id i.def) r k m s j h);
         };
-        plain = plain-head H held.begins (was-false (some_node is_counted H) (right (is_made is_declared terms H) (not (some_node is_counted H)) made));
+        plain = plain-head H held.begins (was-false (some_node is_counted H) (right (is_made is_declared_leaf terms H) (not (some_node is_counted H)) made));
       }
 
   abbrev decls : List HeldImpl → List ImplDecl

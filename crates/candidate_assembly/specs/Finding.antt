@@ -27,8 +27,8 @@ some_root p none = false
 some_root p (tree l c o) = p l || some_root p o
 
 -- A parameter, placeholder or variable that is no variable of these kinds.
-abbrev pub is_foreign : List CanonicalVarKind → Trees → Bool
-is_foreign kinds t = at_root (λ l. not (is_variable_over kinds l)) t
+abbrev pub is_foreign_tree : List CanonicalVarKind → Trees → Bool
+is_foreign_tree kinds t = at_root (λ l. not (is_variable_over kinds l)) t
 
 -- The first type names a struct, or among its bounds a trait, that is not declared.
 abbrev pub names_undeclared : World → Trees → Bool
@@ -37,7 +37,7 @@ names_undeclared V (tree dynamic b o) = some_root (is_undeclared V) b
 names_undeclared V t = false
 
 -- The bounds of a `dyn` are no variables.
-pub bounds-are-own : (B : Type 0) (kinds : List CanonicalVarKind) (t : Trees) → IsBound t → BreaksAt {B = B} (is_foreign kinds t) Enter
+pub bounds-are-own : (B : Type 0) (kinds : List CanonicalVarKind) (t : Trees) → IsBound t → BreaksAt {B = B} (is_foreign_tree kinds t) Enter
 bounds-are-own B kinds (tree (principal m i) c o) h = tt
 bounds-are-own B kinds (tree (auto_trait i) c o) h = tt
 bounds-are-own B kinds none h = tt

@@ -20,17 +20,17 @@ use Rattle.candidate_assembly.specs.declared.merge.Sources.{Sources}
 use Rattle.candidate_assembly.specs.declared.merge.Sources.TheVariants.{All, Trivial, NonGlobalClauses, Clauses, Bounds, Remaining}
 
 -- ---- sources
-abbrev pub is_among : Sources → CandidateSource → Bool
-is_among All s = true
-is_among Trivial s = is_trivial s
-is_among NonGlobalClauses s = is_non_global s
-is_among Clauses s = is_clause s
-is_among Bounds s = is_object s
-is_among (Remaining impls global_clauses) s = (impls || not (is_impl s)) && (global_clauses || not (is_global s))
+abbrev pub is_source_among : Sources → CandidateSource → Bool
+is_source_among All s = true
+is_source_among Trivial s = is_trivial s
+is_source_among NonGlobalClauses s = is_non_global s
+is_source_among Clauses s = is_clause s
+is_source_among Bounds s = is_object s
+is_source_among (Remaining impls global_clauses) s = (impls || not (is_impl s)) && (global_clauses || not (is_global s))
 
 -- The candidates with these sources.
 abbrev pub from_sources : Sources → List Considered → List Considered
-from_sources sources done = filter (λ (d : Considered). is_among sources d.source) done
+from_sources sources done = filter (λ (d : Considered). is_source_among sources d.source) done
 
 -- ---- the answer
 -- The end of the plan for a goal of this mode, over variables of these kinds, when no candidate is left.
@@ -52,4 +52,4 @@ MergesFrom sources kinds old done new step = (coinductive : Bool) → next_read 
 
 -- The sources that remain, for each past that shows these candidates.
 abbrev pub AreRemaining : Sources → List Entry → List Considered → Type 0
-AreRemaining sources es done = (seen : SolverPast) → Shows (map (shown_by es) done) seen → (s : CandidateSource) → is_among sources s ≡ remains seen s
+AreRemaining sources es done = (seen : SolverPast) → Shows (map (shown_by es) done) seen → (s : CandidateSource) → is_source_among sources s ≡ remains seen s

@@ -19,7 +19,7 @@ use Rattle.candidate_model.specs.Candidates.{Candidate, unsure}
 use Rattle.candidate_model.specs.Solver.{SolverPast}
 use Rattle.candidate_assembly.specs.Fitting.{solving_of}
 use Rattle.built_in_candidates.specs.Goals.{asked_of, candidate_of}
-use Rattle.candidate_assembly.specs.Sections.{early, late, is_first, next_inside, next_outside, next_in, decided, next_candidate}
+use Rattle.candidate_assembly.specs.Sections.{early, late, is_first_step, next_inside, next_outside, next_in, decided, next_candidate}
 use Rattle.candidate_assembly.specs.Solving.{meaning_for, solver_for}
 
 -- What is meant for the goal.
@@ -58,7 +58,7 @@ abbrev pub next_decided : List Entry → Items → CanonicalInput → SolverPast
 next_decided es d g seen = next_in (meaning_for (solving_of es d) (form_of es g)) g.mode (asked_of es g) seen
 
 abbrev pub next_undecided : SolverPast → Option Candidate
-next_undecided seen = if is_first seen then Some unsure else None
+next_undecided seen = if is_first_step seen then Some unsure else None
 
 abbrev pub next_for : List Entry → Items → CanonicalInput → SolverPast → Option Candidate
 next_for es d g seen =

@@ -80,14 +80,14 @@ early V a seen = or_else (slice_get (by_clauses V a (clauses a)) (considered_fro
 abbrev pub late : World → GoalOverKinds → SolverPast → Option Candidate
 late V a seen = or_else (slice_get (by_impls V a V.impls) (considered_from is_impl seen)) (slice_get (by_objects V a) (considered_from (is_bound (misc_is_bound a)) seen))
 
-abbrev pub is_first : SolverPast → Bool
-is_first [] = true
-is_first (c ∷ seen) = false
+abbrev pub is_first_step : SolverPast → Bool
+is_first_step [] = true
+is_first_step (c ∷ seen) = false
 
 -- In coherence it is first that other crates may have an impl, if the goal is not knowable. If that holds, nothing else comes.
 abbrev pub next_inside : World → ℕ → GoalOverKinds → SolverPast → Option Candidate
 next_inside V crate a seen =
-    if is_first seen && not (is_knowable V crate a.reference) then Some (unknowable V a)
+    if is_first_step seen && not (is_knowable V crate a.reference) then Some (unknowable V a)
     else if holds_from is_unknowable seen then None else or_else (early V a seen) (late V a seen)
 
 -- Outside coherence no impls and object bounds come if a where-clause has settled the goal.
@@ -105,7 +105,7 @@ decided m (Some a) = if not m.is_sound || begins_unknown a.kinds (self_of a) the
 
 -- A goal that is not decided has one candidate, which is ambiguous.
 abbrev pub next_candidate : ViewMeaning → TypingMode → Option GoalOverKinds → SolverPast → Option Candidate
-next_candidate m mode None seen = if is_first seen then Some unsure else None
+next_candidate m mode None seen = if is_first_step seen then Some unsure else None
 next_candidate m mode (Some a) seen = next_in m mode a seen
 
 -- The answer when no candidate is left. A goal that is not decided is merged as in coherence.

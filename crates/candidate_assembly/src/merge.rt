@@ -21,7 +21,7 @@ ghost use Rattle.goal_frames.specs.Fitting.{ConsideredFits, StepFits};
 ghost use Rattle.goal_frames.specs.Handlers.{applies_always};
 ghost use Rattle.goal_frames.specs.Merges.{responses_of};
 ghost use Rattle.goal_evaluator.specs.StepReadings.{shown_by};
-ghost use Rattle.candidate_assembly.specs.Merging.{is_among, from_sources, end_in, clause_taken, IsEnd, MergesFrom, AreRemaining};
+ghost use Rattle.candidate_assembly.specs.Merging.{is_source_among, from_sources, end_in, clause_taken, IsEnd, MergesFrom, AreRemaining};
 ghost use Rattle.candidate_assembly.specs.Shown.{first_yes, other_clauses, first_bound_gives_none};
 
 use goal_evaluator::{
@@ -53,7 +53,7 @@ enum Sources {
 impl Sources {
     /// Whether the source is in this set.
     fn has(self, source: CandidateSource) -> bool
-        ensures { result ≡ is_among self source }
+        ensures { result ≡ is_source_among self source }
     {
         match self {
             Sources::All => true,
@@ -83,7 +83,7 @@ impl Sources {
 
 /// Whether some candidate of these sources was not refused.
 fn holds_from(done: &[Considered], sources: Sources) -> bool
-    ensures { result ≡ list_any (λ d. is_among sources d.source && is_some d.result) done.now }
+    ensures { result ≡ list_any (λ d. is_source_among sources d.source && is_some d.result) done.now }
 {
     done.iter().any(|considered| sources.has(considered.source) && considered.result.is_some())
 }

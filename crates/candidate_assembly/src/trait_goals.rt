@@ -26,7 +26,7 @@ ghost use Rattle.candidate_assembly.specs.Counted.{ForEachPast};
 ghost use Rattle.built_in_candidates.specs.Goals.{asked_of, candidate_of};
 ghost use Rattle.candidate_assembly.specs.Nexts.{handled_in, IsNextBy, early_in, late_in, late_unless, until, next_inside_in, next_outside_in, next_decided, next_undecided, next_for, mode_at_end};
 ghost use Rattle.candidate_assembly.specs.Ready.{AreReadyDeclarations, Decides, IsWellPosedGoal};
-ghost use Rattle.candidate_assembly.specs.Sections.{is_unknowable, is_bound, is_first, misc_is_bound, considered_from};
+ghost use Rattle.candidate_assembly.specs.Sections.{is_unknowable, is_bound, is_first_step, misc_is_bound, considered_from};
 
 use crate::assembly::{
     Section, assemble_builtin_impl_candidates, assemble_impl_candidates,
@@ -117,7 +117,7 @@ fn begins_unknowable(
 ) -> Result<bool, Fault>
     requires { IsWellPosedGoal cx.now.entries declarations.now goal.now }
     ensures is { let V = written cx.now.entries declarations.now in let r = (asked_of cx.now.entries goal.now).reference in
-        IfOk result (λ b. ForEachPast cx.now.entries done.now (λ seen. b ≡ (is_first seen && not (is_knowable V declarations.now.local r)))) }
+        IfOk result (λ b. ForEachPast cx.now.entries done.now (λ seen. b ≡ (is_first_step seen && not (is_knowable V declarations.now.local r)))) }
     ensures memory { IfErr result (λ fault. fault ≡ Memory) }
 {
     if done.is_empty() {

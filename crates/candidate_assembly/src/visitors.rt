@@ -98,11 +98,11 @@ impl TypeVisitor for FindsForeign<'_> {
     type Break = ();
 
     ghost use Rattle.std.proofs.Common.{refl};
-    ghost use Rattle.candidate_assembly.specs.Finding.{BreaksAt, is_foreign, bounds-are-own};
+    ghost use Rattle.candidate_assembly.specs.Finding.{BreaksAt, is_foreign_tree, bounds-are-own};
 
     ghost ready = { λ _ _. Unit {0} };
 
-    ghost sees = { λ es bs t v w a. (w ≡ v) × BreaksAt (is_foreign v.kinds.now t) a };
+    ghost sees = { λ es bs t v w a. (w ≡ v) × BreaksAt (is_foreign_tree v.kinds.now t) a };
 
     ghost enters_bounds = { λ v es bs t h. (refl, bounds-are-own _ v.kinds.now t h) };
 

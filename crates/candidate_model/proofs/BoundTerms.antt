@@ -18,7 +18,7 @@ use Rattle.candidate_model.specs.Facts.{clauses_of}
 use Rattle.candidate_model.specs.Meaning.{ViewMeaning}
 use Rattle.candidate_model.specs.Asking.{GoalOverKinds, all_known, are_clauses}
 use Rattle.goal_evaluator.specs.Variables.{is_variable_over}
-use Rattle.candidate_model.specs.Declared.{is_declared, are_terms, are_references, is_declared_view, is_counted, is_lifetime_parameter, BoundsAreErased}
+use Rattle.candidate_model.specs.Declared.{is_declared_leaf, are_terms, are_references, is_declared_view, is_counted, is_lifetime_parameter, BoundsAreErased}
 use Rattle.candidate_model.specs.Cover.{BoundsAreTerms}
 use Rattle.candidate_model.proofs.Premises.{EquationsAreTerms}
 use Rattle.candidate_model.specs.CoverLaw.{ErasedBoundsAreLeft}
@@ -90,7 +90,7 @@ no-parts l c o h = or-false (is_lifetime_parameter l) (some_node is_lifetime_par
 
 module _ (A : Trees) (made : IsOpenTerms A) where
   -- the lifetime at the end of the bounds is `'static`
-  lasts : (d : ℕ) (l : Label) (c o : Trees) → is_declared l ≡ true → is_sort (sort_of l) of_lifetime ≡ true → is_lifetime_parameter l ≡ false → c ≡ none → o ≡ none
+  lasts : (d : ℕ) (l : Label) (c o : Trees) → is_declared_leaf l ≡ true → is_sort (sort_of l) of_lifetime ≡ true → is_lifetime_parameter l ≡ false → c ≡ none → o ≡ none
       → (is_made is_open_label traits (instantiate d A (tree l c o)) ≡ true) × (is_made is_open_label bounds (instantiate d A (tree l c o)) ≡ true)
   lasts d static c o g s e p q = let x = last-is static (instantiate d A c) (instantiate d A o) refl refl (gone (instantiate d A) refl c p) (gone (instantiate d A) refl o q) in (x, x)
   lasts d (param of_lifetime i) c o g s e p q = absurd (false-true (sym e))
@@ -102,43 +102,43 @@ module _ (A : Trees) (made : IsOpenTerms A) where
   lasts d (bound k j i) c o g s e p q = absurd (false-true g)
   lasts d l c o g s e p q = absurd (false-true s)
 
-  instance-made : (d : ℕ) (m : Standing) (t : Trees) → is_made is_declared m t ≡ true → NoLifetimes t → is_made is_open_label m (instantiate d A t) ≡ true
+  instance-made : (d : ℕ) (m : Standing) (t : Trees) → is_made is_declared_leaf m t ≡ true → NoLifetimes t → is_made is_open_label m (instantiate d A t) ≡ true
   instance-made d terms none h e = refl
   instance-made d terms (tree dynamic c o) h e =
       let p = no-parts dynamic c o e in
-      both (is_made is_open_label bounds (instantiate d A c)) _ (instance-made d bounds c (left (is_made is_declared bounds c) (is_made is_declared terms o) h) p.1) (instance-made d terms o (right (is_made is_declared bounds c) (is_made is_declared terms o) h) p.2)
+      both (is_made is_open_label bounds (instantiate d A c)) _ (instance-made d bounds c (left (is_made is_declared_leaf bounds c) (is_made is_declared_leaf terms o) h) p.1) (instance-made d terms o (right (is_made is_declared_leaf bounds c) (is_made is_declared_leaf terms o) h) p.2)
   instance-made d terms (tree (principal k t) c o) h e = absurd (false-true h)
   instance-made d terms (tree (auto_trait t) c o) h e = absurd (false-true h)
   instance-made d terms (tree (predicate k) c o) h e = absurd (false-true h)
   instance-made d terms (tree (param s i) c o) h e =
-      made-append is_open_label (shift zero d (nth A i)) (instantiate d A o) (shift-made zero d terms (nth A i) (nth-made i A made)) (instance-made d terms o (made-rest is_declared (param s i) c o h) (no-parts (param s i) c o e).2)
+      made-append is_open_label (shift zero d (nth A i)) (instantiate d A o) (shift-made zero d terms (nth A i) (nth-made i A made)) (instance-made d terms o (made-rest is_declared_leaf (param s i) c o h) (no-parts (param s i) c o e).2)
   instance-made d terms (tree (infer s i) c o) h e = absurd (false-true h)
   instance-made d terms (tree (canonical s i) c o) h e = absurd (false-true h)
   instance-made d terms (tree (placeholder s i) c o) h e = absurd (false-true h)
   instance-made d terms (tree (bound s k i) c o) h e = absurd (false-true h)
   instance-made d terms (tree l c o) h e =
-      let x = made-ordinary is_declared l c o refl h in
+      let x = made-ordinary is_declared_leaf l c o refl h in
       let p = no-parts l c o e in
       makes-ordinary is_open_label l (instantiate (inside l d) A c) (instantiate d A o) refl refl (no-children (is_leaf_label l) (instantiate (inside l d) A) refl c x.1) (instance-made (inside l d) terms c x.2 p.1) (instance-made d terms o x.3 p.2)
   instance-made d bounds none h e = absurd (false-true h)
   instance-made d bounds (tree (predicate k) c o) h e = absurd (false-true h)
-  instance-made d bounds (tree dynamic c o) h e = absurd (never-dynamic-bound is_declared c o h)
+  instance-made d bounds (tree dynamic c o) h e = absurd (never-dynamic-bound is_declared_leaf c o h)
   instance-made d bounds (tree (principal k t) c o) h e =
       let p = no-parts (principal k t) c o e in
-      both (is_made is_open_label terms (instantiate (inside (principal k t) d) A c)) _ (instance-made (inside (principal k t) d) terms c (left (is_made is_declared terms c) (is_made is_declared traits o) h) p.1)
-      (instance-made d traits o (right (is_made is_declared terms c) (is_made is_declared traits o) h) p.2)
+      both (is_made is_open_label terms (instantiate (inside (principal k t) d) A c)) _ (instance-made (inside (principal k t) d) terms c (left (is_made is_declared_leaf terms c) (is_made is_declared_leaf traits o) h) p.1)
+      (instance-made d traits o (right (is_made is_declared_leaf terms c) (is_made is_declared_leaf traits o) h) p.2)
   instance-made d bounds (tree (auto_trait t) c o) h e =
-      both (is_no_tree (instantiate d A c)) _ (gone (instantiate d A) refl c (no-tree c (left (is_no_tree c) (is_made is_declared traits o) h)))
-      (instance-made d traits o (right (is_no_tree c) (is_made is_declared traits o) h) (no-parts (auto_trait t) c o e).2)
-  instance-made d bounds (tree l c o) h e = let x = last-bound is_declared l c o refl h in (lasts d l c o x.good_label x.lifetime (no-parts l c o e).0 x.children x.rest).1
+      both (is_no_tree (instantiate d A c)) _ (gone (instantiate d A) refl c (no-tree c (left (is_no_tree c) (is_made is_declared_leaf traits o) h)))
+      (instance-made d traits o (right (is_no_tree c) (is_made is_declared_leaf traits o) h) (no-parts (auto_trait t) c o e).2)
+  instance-made d bounds (tree l c o) h e = let x = last-bound is_declared_leaf l c o refl h in (lasts d l c o x.good_label x.lifetime (no-parts l c o e).0 x.children x.rest).1
   instance-made d traits none h e = absurd (false-true h)
   instance-made d traits (tree (predicate k) c o) h e = absurd (false-true h)
-  instance-made d traits (tree dynamic c o) h e = absurd (never-dynamic is_declared c o h)
-  instance-made d traits (tree (principal k t) c o) h e = absurd (never-principal is_declared k t c o h)
+  instance-made d traits (tree dynamic c o) h e = absurd (never-dynamic is_declared_leaf c o h)
+  instance-made d traits (tree (principal k t) c o) h e = absurd (never-principal is_declared_leaf k t c o h)
   instance-made d traits (tree (auto_trait t) c o) h e =
-      both (is_no_tree (instantiate d A c)) _ (gone (instantiate d A) refl c (no-tree c (left (is_no_tree c) (is_made is_declared traits o) h)))
-      (instance-made d traits o (right (is_no_tree c) (is_made is_declared traits o) h) (no-parts (auto_trait t) c o e).2)
-  instance-made d traits (tree l c o) h e = let x = last-trait is_declared l c o refl h in (lasts d l c o x.good_label x.lifetime (no-parts l c o e).0 x.children x.rest).0
+      both (is_no_tree (instantiate d A c)) _ (gone (instantiate d A) refl c (no-tree c (left (is_no_tree c) (is_made is_declared_leaf traits o) h)))
+      (instance-made d traits o (right (is_no_tree c) (is_made is_declared_leaf traits o) h) (no-parts (auto_trait t) c o e).2)
+  instance-made d traits (tree l c o) h e = let x = last-trait is_declared_leaf l c o refl h in (lasts d l c o x.good_label x.lifetime (no-parts l c o e).0 x.children x.rest).0
 
 -- ---- the goals that are decided
 parts : (kinds : List CanonicalVarKind) (l : Label) (c o : Trees) → are_clauses kinds (tree l c o) ≡ true → (is_made (is_variable_over kinds) terms c ≡ true) × (are_clauses kinds o ≡ true)
@@ -152,12 +152,12 @@ clauses-open kinds (tree (predicate (of_trait t)) c o) h = let x = parts kinds (
 clauses-open kinds (tree l c o) h = clauses-open kinds o (parts kinds l c o h).1
 
 module _ (V : World) (declared : is_declared_view V ≡ true) (erased : BoundsAreErased V) where
-  bound-declared : (x : TraitDecl) → In x V.traits → (b : Reference) → In b x.bounds → is_made is_declared terms b.args ≡ true
+  bound-declared : (x : TraitDecl) → In x V.traits → (b : Reference) → In b x.bounds → is_made is_declared_leaf terms b.args ≡ true
   bound-declared x i b j =
       let later = right (list_all (λ (y : StructDecl). list_all are_terms y.fields) V.structs) (list_all (λ (y : TraitDecl). are_references y.bounds) V.traits && list_all (λ (y : ImplDecl). are_terms y.header.args && are_references y.clauses) V.impls) declared in
       let all = left (list_all (λ (y : TraitDecl). are_references y.bounds) V.traits) (list_all (λ (y : ImplDecl). are_terms y.header.args && are_references y.clauses) V.impls) later in
       let own = member-each (λ (y : TraitDecl). are_references y.bounds) V.traits x all i in
-      left (is_made is_declared terms b.args) (not (some_node is_counted b.args)) (member-each (λ (r : Reference). are_terms r.args) x.bounds b own j)
+      left (is_made is_declared_leaf terms b.args) (not (some_node is_counted b.args)) (member-each (λ (r : Reference). are_terms r.args) x.bounds b own j)
 
   bounds-are-terms : (a : GoalOverKinds) → is_made (is_variable_over a.kinds) terms a.reference.args ≡ true → BoundsAreTerms V a
   bounds-are-terms a over bs others e =

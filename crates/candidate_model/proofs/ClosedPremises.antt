@@ -22,7 +22,7 @@ use Rattle.type_terms.proofs.Walking.{left, right}
 use Rattle.type_terms.specs.Made.{terms, is_made, is_leaf_label}
 use Rattle.type_terms.specs.Made.{bounds}
 use Rattle.type_terms.specs.Made.{traits}
-use Rattle.candidate_model.specs.Declared.{is_declared, is_counted, are_terms, is_declared_view}
+use Rattle.candidate_model.specs.Declared.{is_declared_leaf, is_counted, are_terms, is_declared_view}
 use Rattle.candidate_model.proofs.Instances.{Shut}
 use Rattle.candidate_model.proofs.Supers.{plain-shut, open-none, none-open}
 use Rattle.candidate_model.proofs.DeclaredParts.{clause-declared, bound-declared}
@@ -40,18 +40,18 @@ no-tree : (t : Trees) → is_no_tree t ≡ true → some_node is_stray t ≡ fal
 no-tree none e = refl
 no-tree (tree l c o) e = absurd (true-false (sym e))
 
-last-so : (l : Label) (c o : Trees) → is_stray l ≡ false → is_declared l && (is_sort (sort_of l) of_lifetime && (is_no_tree c && is_no_tree o)) ≡ true → some_node is_stray (tree l c o) ≡ false
+last-so : (l : Label) (c o : Trees) → is_stray l ≡ false → is_declared_leaf l && (is_sort (sort_of l) of_lifetime && (is_no_tree c && is_no_tree o)) ≡ true → some_node is_stray (tree l c o) ≡ false
 last-so l c o e m =
-    let x = right (is_sort (sort_of l) of_lifetime) (is_no_tree c && is_no_tree o) (right (is_declared l) (is_sort (sort_of l) of_lifetime && (is_no_tree c && is_no_tree o)) m) in
+    let x = right (is_sort (sort_of l) of_lifetime) (is_no_tree c && is_no_tree o) (right (is_declared_leaf l) (is_sort (sort_of l) of_lifetime && (is_no_tree c && is_no_tree o)) m) in
     node-none is_stray l c o e (no-tree c (left (is_no_tree c) (is_no_tree o) x)) (no-tree o (right (is_no_tree c) (is_no_tree o) x))
 
 parts : (x y z w : Bool) → x && (y && (z && w)) ≡ true → (z ≡ true) × (w ≡ true)
 parts x y z w m = let q = right y (z && w) (right x (y && (z && w)) m) in (left z w q, right z w q)
 
 mutual
-  plain-terms : (t : Trees) → is_made is_declared terms t ≡ true → some_node is_stray t ≡ false
+  plain-terms : (t : Trees) → is_made is_declared_leaf terms t ≡ true → some_node is_stray t ≡ false
   plain-terms none m = refl
-  plain-terms (tree dynamic c o) m = node-none is_stray dynamic c o refl (plain-bounds c (left (is_made is_declared bounds c) (is_made is_declared terms o) m)) (plain-terms o (right (is_made is_declared bounds c) (is_made is_declared terms o) m))
+  plain-terms (tree dynamic c o) m = node-none is_stray dynamic c o refl (plain-bounds c (left (is_made is_declared_leaf bounds c) (is_made is_declared_leaf terms o) m)) (plain-terms o (right (is_made is_declared_leaf bounds c) (is_made is_declared_leaf terms o) m))
   plain-terms (tree (principal n i) c o) m = absurd (true-false (sym m))
   plain-terms (tree (auto_trait i) c o) m = absurd (true-false (sym m))
   plain-terms (tree (predicate k) c o) m = absurd (true-false (sym m))
@@ -59,13 +59,13 @@ mutual
   plain-terms (tree (infer k i) c o) m = absurd (true-false (sym m))
   plain-terms (tree (canonical k i) c o) m = absurd (true-false (sym m))
   plain-terms (tree (bound k j i) c o) m = absurd (true-false (sym m))
-  plain-terms (tree l c o) m = let x = parts (is_declared l) (not (is_leaf_label l) || is_no_tree c) (is_made is_declared terms c) (is_made is_declared terms o) m in node-none is_stray l c o refl (plain-terms c x.0) (plain-terms o x.1)
+  plain-terms (tree l c o) m = let x = parts (is_declared_leaf l) (not (is_leaf_label l) || is_no_tree c) (is_made is_declared_leaf terms c) (is_made is_declared_leaf terms o) m in node-none is_stray l c o refl (plain-terms c x.0) (plain-terms o x.1)
 
-  plain-bounds : (t : Trees) → is_made is_declared bounds t ≡ true → some_node is_stray t ≡ false
+  plain-bounds : (t : Trees) → is_made is_declared_leaf bounds t ≡ true → some_node is_stray t ≡ false
   plain-bounds none m = refl
   plain-bounds (tree (principal n i) c o) m =
-      node-none is_stray (principal n i) c o refl (plain-terms c (left (is_made is_declared terms c) (is_made is_declared traits o) m)) (plain-traits o (right (is_made is_declared terms c) (is_made is_declared traits o) m))
-  plain-bounds (tree (auto_trait i) c o) m = node-none is_stray (auto_trait i) c o refl (no-tree c (left (is_no_tree c) (is_made is_declared traits o) m)) (plain-traits o (right (is_no_tree c) (is_made is_declared traits o) m))
+      node-none is_stray (principal n i) c o refl (plain-terms c (left (is_made is_declared_leaf terms c) (is_made is_declared_leaf traits o) m)) (plain-traits o (right (is_made is_declared_leaf terms c) (is_made is_declared_leaf traits o) m))
+  plain-bounds (tree (auto_trait i) c o) m = node-none is_stray (auto_trait i) c o refl (no-tree c (left (is_no_tree c) (is_made is_declared_leaf traits o) m)) (plain-traits o (right (is_no_tree c) (is_made is_declared_leaf traits o) m))
   plain-bounds (tree (predicate k) c o) m = absurd (true-false (sym m))
   plain-bounds (tree (placeholder k i) c o) m = absurd (true-false (sym m))
   plain-bounds (tree (infer k i) c o) m = absurd (true-false (sym m))
@@ -73,9 +73,9 @@ mutual
   plain-bounds (tree (bound k j i) c o) m = absurd (true-false (sym m))
   plain-bounds (tree l c o) m = last-so l c o refl m
 
-  plain-traits : (t : Trees) → is_made is_declared traits t ≡ true → some_node is_stray t ≡ false
+  plain-traits : (t : Trees) → is_made is_declared_leaf traits t ≡ true → some_node is_stray t ≡ false
   plain-traits none m = refl
-  plain-traits (tree (auto_trait i) c o) m = node-none is_stray (auto_trait i) c o refl (no-tree c (left (is_no_tree c) (is_made is_declared traits o) m)) (plain-traits o (right (is_no_tree c) (is_made is_declared traits o) m))
+  plain-traits (tree (auto_trait i) c o) m = node-none is_stray (auto_trait i) c o refl (no-tree c (left (is_no_tree c) (is_made is_declared_leaf traits o) m)) (plain-traits o (right (is_no_tree c) (is_made is_declared_leaf traits o) m))
   plain-traits (tree (predicate k) c o) m = absurd (true-false (sym m))
   plain-traits (tree (placeholder k i) c o) m = absurd (true-false (sym m))
   plain-traits (tree (infer k i) c o) m = absurd (true-false (sym m))
@@ -84,7 +84,7 @@ mutual
   plain-traits (tree l c o) m = last-so l c o refl m
 
 pub plain : (t : Trees) → are_terms t ≡ true → some_node is_stray t ≡ false
-plain t e = plain-terms t (left (is_made is_declared terms t) (not (some_node is_counted t)) e)
+plain t e = plain-terms t (left (is_made is_declared_leaf terms t) (not (some_node is_counted t)) e)
 
 -- ---- lists of references and of rules
 abbrev AreShut : List Reference → Type 0

@@ -10,7 +10,7 @@ use Rattle.type_terms.proofs.Members.{same-number}
 use Rattle.type_terms.proofs.NoHolds.{member-each}
 use Rattle.type_terms.proofs.Fitting.{not-true}
 use Rattle.type_terms.proofs.Walking.{left, right}
-use Rattle.candidate_model.specs.Candidates.{is_param}
+use Rattle.candidate_model.specs.Candidates.{is_this_param}
 use Rattle.candidate_model.specs.Declared.{is_declared_view, BoundsAreErased, is_lifetime_parameter, parameters_are_sorted, LeadDown}
 use Rattle.candidate_model.specs.Determined.{ImplsAreDetermined}
 use Rattle.candidate_model.specs.DeclaredWell.{is_loose, impls_are_determined, bounds_are_erased, height_in, bounds_lead_down, are_distinct, is_single, TestsTell, CoreIsDeclaredWell}
@@ -20,7 +20,7 @@ use Rattle.candidate_model.proofs.ErasedReading.{not-no as not-not}
 
 pub determined-told : (V : World) → impls_are_determined V ≡ true → ImplsAreDetermined V
 determined-told V e i r j k s n st =
-    not-not (some_node (is_param s n) i.header.args)
+    not-not (some_node (is_this_param s n) i.header.args)
     (none-passes (is_loose i.header.args) s n r.args st
     (not-true (some_node (is_loose i.header.args) r.args)
     (member-each (λ (c : Reference). not (some_node (is_loose i.header.args) c.args)) i.clauses r

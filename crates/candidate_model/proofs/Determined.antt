@@ -21,8 +21,8 @@ use Rattle.goal_evaluator.specs.FrameTables.{labels_from}
 use Rattle.goal_evaluator.specs.TableOperations.{fresh}
 use Rattle.candidate_model.specs.Asking.{GoalOverKinds, are_clauses}
 use Rattle.goal_evaluator.specs.Variables.{is_variable_over}
-use Rattle.candidate_model.specs.Declared.{is_declared}
-use Rattle.candidate_model.specs.Candidates.{premise, rules_behind, is_param, moved, all_equal}
+use Rattle.candidate_model.specs.Declared.{is_declared_leaf}
+use Rattle.candidate_model.specs.Candidates.{premise, rules_behind, is_this_param, moved, all_equal}
 use Rattle.goal_evaluator.proofs.Readings.{Agree, AgreeIn, made-leaves, reads-agree, reads-determine}
 use Rattle.goal_evaluator.proofs.Slots.{own_slot, slot-is, slots-agree, each-stands}
 use Rattle.candidate_model.proofs.Moving.{made-moved, stands-back, stands-on, met-reads, Came}
@@ -91,26 +91,26 @@ module _ (a : GoalOverKinds) (over : is_made (is_variable_over a.kinds) terms a.
   clauses-agree s r l k e (tree m c o) h sort i v (inr (inr st)) = clauses-agree s r l k e o (right (is_made (is_variable_over a.kinds) terms c) (are_clauses a.kinds o) (right (not (is_open m)) _ h)) sort i v st
 
   -- the goal's arguments are the header's
-  pub heads : (s : ChosenTerms) (header : Trees) → is_made is_declared terms header ≡ true → Every (λ e. EquationIsMet e s) (all_equal a.reference.args (put_in (moved n) header))
+  pub heads : (s : ChosenTerms) (header : Trees) → is_made is_declared_leaf terms header ≡ true → Every (λ e. EquationIsMet e s) (all_equal a.reference.args (put_in (moved n) header))
       → read_with (given s.slots) a.reference.args ≡ read_with (given s.slots) (put_in (moved n) header)
   heads s header d m = met-reads s.slots a.reference.args (put_in (moved n) header) open-over (made-moved n header d) m
 
-  module _ (header : Trees) (declared : is_made is_declared terms header ≡ true) (s r : ChosenTerms) (l : Allows table s) (k : Allows table r)
+  module _ (header : Trees) (declared : is_made is_declared_leaf terms header ≡ true) (s r : ChosenTerms) (l : Allows table s) (k : Allows table r)
       (meets : Every (λ e. EquationIsMet e s) (all_equal a.reference.args (put_in (moved n) header))) (too : Every (λ e. EquationIsMet e r) (all_equal a.reference.args (put_in (moved n) header))) (e : s.own ≡ r.own) where
     header-agrees : AgreeIn s.slots r.slots (put_in (moved n) header)
     header-agrees =
         reads-determine s.slots r.slots (put_in (moved n) header) (made-leaves is_open_label terms (put_in (moved n) header) (made-moved n header declared))
         (sym (heads s header declared meets) ∙ reads-agree s.slots r.slots a.reference.args (slots-agree table s r l k e a.reference.args over) ∙ heads r header declared too)
 
-    clause-agrees : (t : Trees) → is_made is_declared terms t ≡ true → ((q : Sort) (j : ℕ) → some_node (is_param q j) t ≡ true → some_node (is_param q j) header ≡ true) → AgreeIn s.slots r.slots (put_in (moved n) t)
+    clause-agrees : (t : Trees) → is_made is_declared_leaf terms t ≡ true → ((q : Sort) (j : ℕ) → some_node (is_this_param q j) t ≡ true → some_node (is_this_param q j) header ≡ true) → AgreeIn s.slots r.slots (put_in (moved n) t)
     clause-agrees t d stands sort i v st = by (stands-back n sort i t st)
       where
         by : Came n sort i t → Agree s.slots r.slots sort i
-        by (inl x) = absurd (false-true (each-stands (IsGoodLabel is_declared) (canonical sort i) t (made-labels is_declared terms t d) x refl))
-        by (inr x) = subst (λ z. Agree s.slots r.slots sort z) x.1 (header-agrees sort (n + x.0) v (stands-on n sort x.0 header (made-leaves is_declared terms header declared) (stands sort x.0 x.2)))
+        by (inl x) = absurd (false-true (each-stands (IsGoodLabel is_declared_leaf) (canonical sort i) t (made-labels is_declared_leaf terms t d) x refl))
+        by (inr x) = subst (λ z. Agree s.slots r.slots sort z) x.1 (header-agrees sort (n + x.0) v (stands-on n sort x.0 header (made-leaves is_declared_leaf terms header declared) (stands sort x.0 x.2)))
 
     -- each clause whose parameters stand in the header has one fact
-    pub clause-fact : (kind : Bool) (c : Reference) → is_made is_declared terms c.args ≡ true → ((q : Sort) (j : ℕ) → some_node (is_param q j) c.args ≡ true → some_node (is_param q j) header ≡ true)
+    pub clause-fact : (kind : Bool) (c : Reference) → is_made is_declared_leaf terms c.args ≡ true → ((q : Sort) (j : ℕ) → some_node (is_this_param q j) c.args ≡ true → some_node (is_this_param q j) header ≡ true)
         → fact (premise a kind (rules_behind n c)) s ≡ fact (premise a kind (rules_behind n c)) r
     clause-fact kind c d stands =
         same-fact (Some c.trait) _ _ s.proper r.proper

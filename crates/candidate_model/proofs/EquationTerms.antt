@@ -22,7 +22,7 @@ use Rattle.type_terms.proofs.Walking.{left, right}
 use Rattle.type_terms.proofs.Made.{is_ordinary, made-append}
 use Rattle.goal_evaluator.proofs.Labels.{IsLeafFor, PutsLeaves, made-put-in, made-more}
 use Rattle.declarations.specs.Promised.Elaboration.{elaborate, supertraits, rest_of}
-use Rattle.candidate_model.specs.Declared.{is_declared, is_counted, are_terms, are_references, is_declared_view}
+use Rattle.candidate_model.specs.Declared.{is_declared_leaf, is_counted, are_terms, are_references, is_declared_view}
 use Rattle.candidate_model.specs.Asking.{GoalOverKinds, clauses, self_of, with_plain_head}
 use Rattle.goal_evaluator.specs.Variables.{is_variable_over}
 use Rattle.candidate_model.specs.Candidates.{first_value, all_equal, moved}
@@ -166,10 +166,10 @@ every-rest Q [] h = tt
 every-rest Q (x ∷ xs) h = h.1
 
 -- ---- headers behind the goal's variables
-open-behind : (n : ℕ) → PutsLeaves is_declared is_open_label (moved n)
+open-behind : (n : ℕ) → PutsLeaves is_declared_leaf is_open_label (moved n)
 open-behind n = record { leaf_or_stays = λ l i g. by l g; others = λ l i. stays l i }
   where
-    by : (l : Label) → is_declared l ≡ true → IsLeafFor is_open_label (moved n) l ⊎ ((moved n l ≡ None) × (is_open_label l ≡ true))
+    by : (l : Label) → is_declared_leaf l ≡ true → IsLeafFor is_open_label (moved n) l ⊎ ((moved n l ≡ None) × (is_open_label l ≡ true))
     by (param k i) g = inl (record { label = canonical k (n + i); is = refl; sort = refl; made = refl })
     by (infer k v) g = absurd (false-true g)
     by (canonical k v) g = absurd (false-true g)
@@ -181,8 +181,8 @@ open-behind n = record { leaf_or_stays = λ l i g. by l g; others = λ l i. stay
     stays (param k i) e = absurd (false-true (sym e))
     stays l e = refl
 
-pub made-behind : (n : ℕ) (t : Trees) → is_made is_declared terms t ≡ true → IsOpenTerms (put_in (moved n) t)
-made-behind n t h = made-put-in is_declared is_open_label (moved n) (open-behind n) terms t h
+pub made-behind : (n : ℕ) (t : Trees) → is_made is_declared_leaf terms t ≡ true → IsOpenTerms (put_in (moved n) t)
+made-behind n t h = made-put-in is_declared_leaf is_open_label (moved n) (open-behind n) terms t h
 
 -- ---- the candidates
 autos-terms : (self x : Trees) (args : Trees) → IsOpenTerms args → IsOpenTerms self → Every (λ (r : Reference). AreTerms (all_equal args r.args)) (autos_with self x)
@@ -197,12 +197,12 @@ module _ (V : World) (declared : is_declared_view V ≡ true) (a : GoalOverKinds
   self_made : IsOpenTerms (self_of a)
   self_made = plain-made a.reference.args args_made
 
-  header-declared : (i : ImplDecl) → In i V.impls → is_made is_declared terms i.header.args ≡ true
+  header-declared : (i : ImplDecl) → In i V.impls → is_made is_declared_leaf terms i.header.args ≡ true
   header-declared i j =
       let later = right (list_all (λ (x : StructDecl). list_all are_terms x.fields) V.structs) (list_all (λ (x : TraitDecl). are_references x.bounds) V.traits && list_all (λ (x : ImplDecl). are_terms x.header.args && are_references x.clauses) V.impls) declared in
       let impls = right (list_all (λ (x : TraitDecl). are_references x.bounds) V.traits) (list_all (λ (x : ImplDecl). are_terms x.header.args && are_references x.clauses) V.impls) later in
       let one = member-each (λ (x : ImplDecl). are_terms x.header.args && are_references x.clauses) V.impls i impls j in
-      left (is_made is_declared terms i.header.args) (not (some_node is_counted i.header.args)) (left (are_terms i.header.args) (are_references i.clauses) one)
+      left (is_made is_declared_leaf terms i.header.args) (not (some_node is_counted i.header.args)) (left (are_terms i.header.args) (are_references i.clauses) one)
 
   call-terms : (n : ℕ) (l : Label) (types c others : Trees) → self_of a ≡ tree (fn_ptr n) types (tree l c others) → AreTerms (all_equal (tree tuple (but_last types) none) (tree l c none))
   call-terms n l types c others e =

@@ -19,7 +19,7 @@ use Rattle.goal_evaluator.specs.FrameTables.{Equation}
 use Rattle.candidate_model.specs.Facts.{tree_of_reference}
 use Rattle.candidate_model.specs.Lifetimes.{lacks_lifetime, are_given}
 use Rattle.candidate_model.specs.Asking.{GoalOverKinds}
-use Rattle.candidate_model.specs.Candidates.{Candidate, premise, clause_source, by_rule, by_clauses, as_written, misc, if_so, all_equal, kinds_of_params, kind_of_param, is_param, call_of, unsize_array_of, upcasts_of, upcasts_to, upcasts_from, upcast_source, unsize_by_struct, bounds_from, object_source, written_source, objects_of, unknowable}
+use Rattle.candidate_model.specs.Candidates.{Candidate, premise, clause_source, by_rule, by_clauses, as_written, misc, if_so, all_equal, kinds_of_params, kind_of_param, is_this_param, call_of, unsize_array_of, upcasts_of, upcasts_to, upcasts_from, upcast_source, unsize_by_struct, bounds_from, object_source, written_source, objects_of, unknowable}
 use Rattle.candidate_model.specs.Solver.{IsSolution}
 use Rattle.candidate_model.specs.Cover.{slots, nested_at, SolvesEquations}
 use Rattle.candidate_model.proofs.Reading.{read_reference, read-append}
@@ -42,7 +42,7 @@ some-map P (x ∷ xs) ys zs ws f g (inl p) = left-part zs (f (inl p))
 some-map P (x ∷ xs) ys zs ws f g (inr s) = some-map P xs ys zs ws (λ t. f (inr t)) g s
 
 -- ---- labels of parameters stay
-param-same : (i : ℕ) (l : Label) → (is_param of_type i (erase_label l) ≡ is_param of_type i l) × (is_param of_const i (erase_label l) ≡ is_param of_const i l)
+param-same : (i : ℕ) (l : Label) → (is_this_param of_type i (erase_label l) ≡ is_this_param of_type i l) × (is_this_param of_const i (erase_label l) ≡ is_this_param of_const i l)
 param-same i (param of_type j) = (refl, refl)
 param-same i (param of_const j) = (refl, refl)
 param-same i (param of_lifetime j) = (refl, refl)
@@ -64,11 +64,11 @@ pub nodes-same : (p : Label → Bool) → ((l : Label) → p (erase_label l) ≡
 nodes-same p h none = refl
 nodes-same p h (tree l c o) = ap (λ b. b || some_node p (erase c) || some_node p (erase o)) (h l) ∙ ap (λ b. p l || b || some_node p (erase o)) (nodes-same p h c) ∙ ap (λ b. p l || some_node p c || b) (nodes-same p h o)
 
-pub types-same : (i : ℕ) (t : Trees) → some_node (is_param of_type i) (erase t) ≡ some_node (is_param of_type i) t
-types-same i t = nodes-same (is_param of_type i) (λ l. (param-same i l).0) t
+pub types-same : (i : ℕ) (t : Trees) → some_node (is_this_param of_type i) (erase t) ≡ some_node (is_this_param of_type i) t
+types-same i t = nodes-same (is_this_param of_type i) (λ l. (param-same i l).0) t
 
-pub consts-same : (i : ℕ) (t : Trees) → some_node (is_param of_const i) (erase t) ≡ some_node (is_param of_const i) t
-consts-same i t = nodes-same (is_param of_const i) (λ l. (param-same i l).1) t
+pub consts-same : (i : ℕ) (t : Trees) → some_node (is_this_param of_const i) (erase t) ≡ some_node (is_this_param of_const i) t
+consts-same i t = nodes-same (is_this_param of_const i) (λ l. (param-same i l).1) t
 
 kind-same : (h : Trees) (i : ℕ) → kind_of_param (erase h) i ≡ kind_of_param h i
 kind-same h i = rw (types-same i h, consts-same i h) refl

@@ -34,7 +34,7 @@ use Rattle.candidate_model.specs.Knowing.{is_knowable}
 use Rattle.candidate_model.specs.Lifetimes.{goal_gives_lifetimes}
 use Rattle.candidate_model.specs.Solver.{has_placeholder, IsSolution}
 use Rattle.candidate_model.specs.Asking.{GoalOverKinds, goal_over_kinds, asked_if, asked_with, all_known, are_clauses, begins_with_type, next_of, self_of, begins_unknown}
-use Rattle.candidate_model.specs.Candidates.{is_param, unknowable}
+use Rattle.candidate_model.specs.Candidates.{is_this_param, unknowable}
 use Rattle.candidate_model.specs.Cover.{SolutionsAreByCandidates, SolvesEquations, all_candidates, goal_fact}
 use Rattle.candidate_model.proofs.DeclaredParts.{header-declared, bound-declared}
 use Rattle.candidate_model.proofs.Instances.{none-either}
@@ -205,22 +205,22 @@ module _ (V : World) (cs : List CrateDecl) where
     headers-so : list_all (λ (i : ImplDecl). are_terms i.header.args) V.impls ≡ true
     headers-so = each-member (λ (i : ImplDecl). are_terms i.header.args) V.impls (λ i j. header-declared V declared i j)
 
-  lifetime-param : (j : ℕ) (l : Label) → is_lifetime_parameter l ≡ false → is_param of_lifetime j l ≡ false
+  lifetime-param : (j : ℕ) (l : Label) → is_lifetime_parameter l ≡ false → is_this_param of_lifetime j l ≡ false
   lifetime-param j (param of_lifetime i) e = absurd (true-false e)
   lifetime-param j (param of_type i) e = refl
   lifetime-param j (param of_const i) e = refl
   lifetime-param j l e = refl
 
-  no-lifetime : (j : ℕ) (t : Trees) → some_node is_lifetime_parameter t ≡ false → some_node (is_param of_lifetime j) t ≡ false
-  no-lifetime j t e = none-either is_lifetime_parameter (is_param of_lifetime j) (lifetime-param j) t e
+  no-lifetime : (j : ℕ) (t : Trees) → some_node is_lifetime_parameter t ≡ false → some_node (is_this_param of_lifetime j) t ≡ false
+  no-lifetime j t e = none-either is_lifetime_parameter (is_this_param of_lifetime j) (lifetime-param j) t e
 
   determined-so : ImplsAreDetermined V → ImplsAreDetermined U
   determined-so determined i' r' j' k' s n e =
       let i = map-in erased_impl V.impls i' j' in
       let r = map-in erased_reference i.0.clauses r' (subst (λ (z : ImplDecl). In r' z.clauses) (sym i.2) k') in
-      subst (λ (z : ImplDecl). some_node (is_param s n) z.header.args ≡ true) i.2 (one i.0 r.0 i.1 r.1 s (subst (λ (z : Reference). some_node (is_param s n) z.args ≡ true) (sym r.2) e))
+      subst (λ (z : ImplDecl). some_node (is_this_param s n) z.header.args ≡ true) i.2 (one i.0 r.0 i.1 r.1 s (subst (λ (z : Reference). some_node (is_this_param s n) z.args ≡ true) (sym r.2) e))
     where
-      one : (i : ImplDecl) (r : Reference) → In i V.impls → In r i.clauses → (s : Sort) → some_node (is_param s n) (erase r.args) ≡ true → some_node (is_param s n) (erase i.header.args) ≡ true
+      one : (i : ImplDecl) (r : Reference) → In i V.impls → In r i.clauses → (s : Sort) → some_node (is_this_param s n) (erase r.args) ≡ true → some_node (is_this_param s n) (erase i.header.args) ≡ true
       one i r j k of_type f = types-same n i.header.args ∙ determined i r j k of_type n (sym (types-same n r.args) ∙ f)
       one i r j k of_const f = consts-same n i.header.args ∙ determined i r j k of_const n (sym (consts-same n r.args) ∙ f)
       one i r j k of_lifetime f = absurd (true-false (sym f ∙ no-lifetime n (erase r.args) (erased-lifetimes r.args)))

@@ -15,8 +15,8 @@ use Rattle.type_terms.specs.Made.{is_leaf_label, is_made}
 use Rattle.infer_table.specs.declared.canonical.CanonicalVarKind.{CanonicalVarKind}
 use Rattle.goal_evaluator.specs.Instances.{read_with, put_in, of_sort, term_at, other_terms}
 use Rattle.goal_evaluator.specs.Content.{given}
-use Rattle.candidate_model.specs.Declared.{is_declared, is_counted, IsDeclared}
-use Rattle.candidate_model.specs.Candidates.{is_param, moved}
+use Rattle.candidate_model.specs.Declared.{is_declared_leaf, is_counted, IsDeclared}
+use Rattle.candidate_model.specs.Candidates.{is_this_param, moved}
 use Rattle.candidate_model.specs.Cover.{padded}
 use Rattle.candidate_model.proofs.Instances.{Shut, shift-shut, nth-shut}
 use Rattle.type_terms.proofs.BooleanBasics.{true-false}
@@ -128,8 +128,8 @@ next-some p l c o e = by (p l) (some_node p c) (some_node p o) e
 eqb-self : (i : ℕ) → (i == i) ≡ true
 eqb-self i = self-number i
 
-pub here-some : (s : Sort) (j : ℕ) (c o : Trees) → (is_sort s s ≡ true) → some_node (is_param s j) (tree (param s j) c o) ≡ true
-here-some s j c o e = by (is_sort s s && (j == j)) (some_node (is_param s j) c) (some_node (is_param s j) o) (both (is_sort s s) (j == j) e (eqb-self j))
+pub here-some : (s : Sort) (j : ℕ) (c o : Trees) → (is_sort s s ≡ true) → some_node (is_this_param s j) (tree (param s j) c o) ≡ true
+here-some s j c o e = by (is_sort s s && (j == j)) (some_node (is_this_param s j) c) (some_node (is_this_param s j) o) (both (is_sort s s) (j == j) e (eqb-self j))
   where
     both : (x y : Bool) → x ≡ true → y ≡ true → x && y ≡ true
     both x y p q = rw (p, q) refl
@@ -150,13 +150,13 @@ module _ (ks : List CanonicalVarKind) (ts : List Trees) (A : Trees) (closed : Sh
 
   -- the arguments are of the sorts with which the parameters stand there
   abbrev pub Sorted : Trees → Type 0
-  Sorted t = (s : Sort) (j : ℕ) → some_node (is_param s j) t ≡ true → IsA s (nth A j)
+  Sorted t = (s : Sort) (j : ℕ) → some_node (is_this_param s j) t ≡ true → IsA s (nth A j)
 
   in-child : (l : Label) (c o : Trees) → Sorted (tree l c o) → Sorted c
-  in-child l c o h s j e = h s j (child-some (is_param s j) l c o e)
+  in-child l c o h s j e = h s j (child-some (is_this_param s j) l c o e)
 
   in-next : (l : Label) (c o : Trees) → Sorted (tree l c o) → Sorted o
-  in-next l c o h s j e = h s j (next-some (is_param s j) l c o e)
+  in-next l c o h s j e = h s j (next-some (is_this_param s j) l c o e)
 
   type-read : (i : ℕ) → IsA of_type (nth A i) → of_sort of_type (term_at ys (length ks + i)) ≡ nth A i
   type-read i a = ap (of_sort of_type) (behind-at ks ts (as_list A) i) ∙ type-at A i a
@@ -180,45 +180,45 @@ module _ (ks : List CanonicalVarKind) (ts : List Trees) (A : Trees) (closed : Sh
   leaf-static d (tree l c p) o n e = absurd (true-false (sym n))
 
   mutual
-    behind-terms : (d : ℕ) (t : Trees) → is_made is_declared terms t ≡ true → some_node is_counted t ≡ false → Sorted t → read t ≡ instantiate d A t
+    behind-terms : (d : ℕ) (t : Trees) → is_made is_declared_leaf terms t ≡ true → some_node is_counted t ≡ false → Sorted t → read t ≡ instantiate d A t
     behind-terms d none m e h = refl
     behind-terms d (tree (param of_type i) c o) m e h =
         ap (λ z. z +++ read o) (type-read i (h of_type i (here-some of_type i c o refl)) ∙ sym (unmoved d i))
-        ∙ ap (λ z. shift zero d (nth A i) +++ z) (behind-terms d o (parts true (not true || is_no_tree c) (is_made is_declared terms c) (is_made is_declared terms o) m).2 (next-shut is_counted (param of_type i) c o e) (in-next (param of_type i) c o h))
+        ∙ ap (λ z. shift zero d (nth A i) +++ z) (behind-terms d o (parts true (not true || is_no_tree c) (is_made is_declared_leaf terms c) (is_made is_declared_leaf terms o) m).2 (next-shut is_counted (param of_type i) c o e) (in-next (param of_type i) c o h))
     behind-terms d (tree (param of_const i) c o) m e h =
         ap (λ z. z +++ read o) (const-read i (h of_const i (here-some of_const i c o refl)) ∙ sym (unmoved d i))
-        ∙ ap (λ z. shift zero d (nth A i) +++ z) (behind-terms d o (parts true (not true || is_no_tree c) (is_made is_declared terms c) (is_made is_declared terms o) m).2 (next-shut is_counted (param of_const i) c o e) (in-next (param of_const i) c o h))
+        ∙ ap (λ z. shift zero d (nth A i) +++ z) (behind-terms d o (parts true (not true || is_no_tree c) (is_made is_declared_leaf terms c) (is_made is_declared_leaf terms o) m).2 (next-shut is_counted (param of_const i) c o e) (in-next (param of_const i) c o h))
     behind-terms d (tree (param of_lifetime i) c o) m e h =
         ap (λ z. z +++ read o) (lifetime-read i (h of_lifetime i (here-some of_lifetime i c o refl)) ∙ sym (unmoved d i))
-        ∙ ap (λ z. shift zero d (nth A i) +++ z) (behind-terms d o (parts true (not true || is_no_tree c) (is_made is_declared terms c) (is_made is_declared terms o) m).2 (next-shut is_counted (param of_lifetime i) c o e) (in-next (param of_lifetime i) c o h))
+        ∙ ap (λ z. shift zero d (nth A i) +++ z) (behind-terms d o (parts true (not true || is_no_tree c) (is_made is_declared_leaf terms c) (is_made is_declared_leaf terms o) m).2 (next-shut is_counted (param of_lifetime i) c o e) (in-next (param of_lifetime i) c o h))
     behind-terms d (tree (placeholder k i) c o) m e h = absurd (true-false (sym m))
     behind-terms d (tree (infer k i) c o) m e h = absurd (true-false (sym m))
     behind-terms d (tree (canonical k i) c o) m e h = absurd (true-false (sym m))
     behind-terms d (tree (bound k j i) c o) m e h = absurd (true-false (sym m))
     behind-terms d (tree static c o) m e h =
-        let p = parts true (is_no_tree c) (is_made is_declared terms c) (is_made is_declared terms o) m in leaf-static d c o p.0 (behind-terms d o p.2 (next-shut is_counted static c o e) (in-next static c o h))
+        let p = parts true (is_no_tree c) (is_made is_declared_leaf terms c) (is_made is_declared_leaf terms o) m in leaf-static d c o p.0 (behind-terms d o p.2 (next-shut is_counted static c o e) (in-next static c o h))
     behind-terms d (tree dynamic c o) m e h =
-        ap (λ z. tree dynamic z (read o)) (behind-bounds d c (left (is_made is_declared bounds c) (is_made is_declared terms o) m) (child-shut is_counted dynamic c o e) (in-child dynamic c o h))
-        ∙ ap (λ z. tree dynamic (instantiate d A c) z) (behind-terms d o (right (is_made is_declared bounds c) (is_made is_declared terms o) m) (next-shut is_counted dynamic c o e) (in-next dynamic c o h))
+        ap (λ z. tree dynamic z (read o)) (behind-bounds d c (left (is_made is_declared_leaf bounds c) (is_made is_declared_leaf terms o) m) (child-shut is_counted dynamic c o e) (in-child dynamic c o h))
+        ∙ ap (λ z. tree dynamic (instantiate d A c) z) (behind-terms d o (right (is_made is_declared_leaf bounds c) (is_made is_declared_leaf terms o) m) (next-shut is_counted dynamic c o e) (in-next dynamic c o h))
     behind-terms d (tree (principal n i) c o) m e h = absurd (true-false (sym m))
     behind-terms d (tree (auto_trait i) c o) m e h = absurd (true-false (sym m))
     behind-terms d (tree (predicate i) c o) m e h = absurd (true-false (sym m))
     behind-terms d (tree (fn_ptr (suc n)) c o) m e h = absurd (true-false e)
     behind-terms d (tree (fn_ptr zero) c o) m e h =
-        let p = parts true true (is_made is_declared terms c) (is_made is_declared terms o) m in
+        let p = parts true true (is_made is_declared_leaf terms c) (is_made is_declared_leaf terms o) m in
         ap (λ z. tree (fn_ptr zero) z (read o)) (behind-terms (suc d) c p.1 (child-shut is_counted (fn_ptr zero) c o e) (in-child (fn_ptr zero) c o h))
         ∙ ap (λ z. tree (fn_ptr zero) (instantiate (suc d) A c) z) (behind-terms d o p.2 (next-shut is_counted (fn_ptr zero) c o e) (in-next (fn_ptr zero) c o h))
     behind-terms d (tree l c o) m e h =
-        let p = parts (is_declared l) (not (is_leaf_label l) || is_no_tree c) (is_made is_declared terms c) (is_made is_declared terms o) m in
+        let p = parts (is_declared_leaf l) (not (is_leaf_label l) || is_no_tree c) (is_made is_declared_leaf terms c) (is_made is_declared_leaf terms o) m in
         ap (λ z. tree l z (read o)) (behind-terms d c p.1 (child-shut is_counted l c o e) (in-child l c o h))
         ∙ ap (λ z. tree l (instantiate d A c) z) (behind-terms d o p.2 (next-shut is_counted l c o e) (in-next l c o h))
 
-    behind-bounds : (d : ℕ) (t : Trees) → is_made is_declared bounds t ≡ true → some_node is_counted t ≡ false → Sorted t → read t ≡ instantiate d A t
+    behind-bounds : (d : ℕ) (t : Trees) → is_made is_declared_leaf bounds t ≡ true → some_node is_counted t ≡ false → Sorted t → read t ≡ instantiate d A t
     behind-bounds d none m e h = absurd (true-false (sym m))
     behind-bounds d (tree (principal (suc n) i) c o) m e h = absurd (true-false e)
     behind-bounds d (tree (principal zero i) c o) m e h =
-        ap (λ z. tree (principal zero i) z (read o)) (behind-terms (suc d) c (left (is_made is_declared terms c) (is_made is_declared traits o) m) (child-shut is_counted (principal zero i) c o e) (in-child (principal zero i) c o h))
-        ∙ ap (λ z. tree (principal zero i) (instantiate (suc d) A c) z) (behind-traits d o (right (is_made is_declared terms c) (is_made is_declared traits o) m) (next-shut is_counted (principal zero i) c o e) (in-next (principal zero i) c o h))
+        ap (λ z. tree (principal zero i) z (read o)) (behind-terms (suc d) c (left (is_made is_declared_leaf terms c) (is_made is_declared_leaf traits o) m) (child-shut is_counted (principal zero i) c o e) (in-child (principal zero i) c o h))
+        ∙ ap (λ z. tree (principal zero i) (instantiate (suc d) A c) z) (behind-traits d o (right (is_made is_declared_leaf terms c) (is_made is_declared_leaf traits o) m) (next-shut is_counted (principal zero i) c o e) (in-next (principal zero i) c o h))
     behind-bounds d (tree (auto_trait i) none o) m e h = ap (λ z. tree (auto_trait i) none z) (behind-traits d o m (next-shut is_counted (auto_trait i) none o e) (in-next (auto_trait i) none o h))
     behind-bounds d (tree (auto_trait i) (tree l c p) o) m e h = absurd (true-false (sym m))
     behind-bounds d (tree (predicate k) c o) m e h = absurd (true-false (sym m))
@@ -232,9 +232,9 @@ module _ (ks : List CanonicalVarKind) (ts : List Trees) (A : Trees) (closed : Sh
     behind-bounds d (tree (infer k i) c o) m e h = absurd (true-false (sym m))
     behind-bounds d (tree (canonical k i) c o) m e h = absurd (true-false (sym m))
     behind-bounds d (tree (bound k j i) c o) m e h = absurd (true-false (sym m))
-    behind-bounds d (tree l c o) m e h = absurd (true-false (sym (left (is_sort (sort_of l) of_lifetime) (is_no_tree c && is_no_tree o) (right (is_declared l) (is_sort (sort_of l) of_lifetime && (is_no_tree c && is_no_tree o)) m))))
+    behind-bounds d (tree l c o) m e h = absurd (true-false (sym (left (is_sort (sort_of l) of_lifetime) (is_no_tree c && is_no_tree o) (right (is_declared_leaf l) (is_sort (sort_of l) of_lifetime && (is_no_tree c && is_no_tree o)) m))))
 
-    behind-traits : (d : ℕ) (t : Trees) → is_made is_declared traits t ≡ true → some_node is_counted t ≡ false → Sorted t → read t ≡ instantiate d A t
+    behind-traits : (d : ℕ) (t : Trees) → is_made is_declared_leaf traits t ≡ true → some_node is_counted t ≡ false → Sorted t → read t ≡ instantiate d A t
     behind-traits d none m e h = absurd (true-false (sym m))
     behind-traits d (tree (auto_trait i) none o) m e h = ap (λ z. tree (auto_trait i) none z) (behind-traits d o m (next-shut is_counted (auto_trait i) none o e) (in-next (auto_trait i) none o h))
     behind-traits d (tree (auto_trait i) (tree l c p) o) m e h = absurd (true-false (sym m))
@@ -249,8 +249,8 @@ module _ (ks : List CanonicalVarKind) (ts : List Trees) (A : Trees) (closed : Sh
     behind-traits d (tree (infer k i) c o) m e h = absurd (true-false (sym m))
     behind-traits d (tree (canonical k i) c o) m e h = absurd (true-false (sym m))
     behind-traits d (tree (bound k j i) c o) m e h = absurd (true-false (sym m))
-    behind-traits d (tree l c o) m e h = absurd (true-false (sym (left (is_sort (sort_of l) of_lifetime) (is_no_tree c && is_no_tree o) (right (is_declared l) (is_sort (sort_of l) of_lifetime && (is_no_tree c && is_no_tree o)) m))))
+    behind-traits d (tree l c o) m e h = absurd (true-false (sym (left (is_sort (sort_of l) of_lifetime) (is_no_tree c && is_no_tree o) (right (is_declared_leaf l) (is_sort (sort_of l) of_lifetime && (is_no_tree c && is_no_tree o)) m))))
 
   pub behind-read : (t : Trees) → IsDeclared t → Sorted t → read t ≡ instantiate zero A t
   behind-read t e h =
-      behind-terms zero t (left (is_made is_declared terms t) (not (some_node is_counted t)) e) (not-false (some_node is_counted t) (right (is_made is_declared terms t) (not (some_node is_counted t)) e)) h
+      behind-terms zero t (left (is_made is_declared_leaf terms t) (not (some_node is_counted t)) e) (not-false (some_node is_counted t) (right (is_made is_declared_leaf terms t) (not (some_node is_counted t)) e)) h

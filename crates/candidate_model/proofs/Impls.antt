@@ -21,14 +21,14 @@ use Rattle.goal_evaluator.specs.Lists.{Every, SomeOf}
 use Rattle.goal_evaluator.specs.Instances.{read_with, put_in}
 use Rattle.goal_evaluator.specs.Content.{Values, given, fits, fits_kind}
 use Rattle.goal_evaluator.specs.FrameTables.{Equation}
-use Rattle.candidate_model.specs.Declared.{is_declared, is_counted, IsDeclared, are_terms, are_references, is_declared_view}
+use Rattle.candidate_model.specs.Declared.{is_declared_leaf, is_counted, IsDeclared, are_terms, are_references, is_declared_view}
 use Rattle.candidate_model.specs.Slots.{as_slots}
 use Rattle.candidate_model.specs.Determined.{ImplsAreDetermined}
 use Rattle.candidate_model.specs.Asking.{GoalOverKinds, self_of}
 use Rattle.declarations.specs.Apart.{are_apart}
 use Rattle.candidate_model.proofs.Apart.{instances-meet}
 use Rattle.goal_evaluator.specs.Variables.{is_variable_over}
-use Rattle.candidate_model.specs.Candidates.{Candidate, premise, all_equal, is_param, kind_of_param, kinds_of_params, moved, rules_behind, by_the_impl, is_relevant_to, can_match, by_impls}
+use Rattle.candidate_model.specs.Candidates.{Candidate, premise, all_equal, is_this_param, kind_of_param, kinds_of_params, moved, rules_behind, by_the_impl, is_relevant_to, can_match, by_impls}
 use Rattle.candidate_model.specs.Solver.{IsSolution}
 use Rattle.candidate_model.specs.Cover.{slots, nested_at, SolvesEquations}
 use Rattle.candidate_model.proofs.Reading.{IsOne, begins, read_reference}
@@ -55,21 +55,21 @@ number-is : (x y : ℕ) → (x == y) ≡ true → x ≡ y
 number-is x y e = same-number x y e
 
 -- what fits is of the sorts that stand there
-pub fits-sorted : (A t : Trees) → Fits A t → (s : Sort) (j : ℕ) → some_node (is_param s j) t ≡ true → IsA s (nth A j)
+pub fits-sorted : (A t : Trees) → Fits A t → (s : Sort) (j : ℕ) → some_node (is_this_param s j) t ≡ true → IsA s (nth A j)
 fits-sorted A none f s j e = absurd (true-false (sym e))
-fits-sorted A (tree (param k i) c o) f s j e = by (or-cases ((is_sort s k && (j == i)) || some_node (is_param s j) c) (some_node (is_param s j) o) e) (λ g. fits-sorted A o f.2 s j g)
+fits-sorted A (tree (param k i) c o) f s j e = by (or-cases ((is_sort s k && (j == i)) || some_node (is_this_param s j) c) (some_node (is_this_param s j) o) e) (λ g. fits-sorted A o f.2 s j g)
   where
-    child : some_node (is_param s j) c ≡ true → ⊥
-    child g = true-false (sym (sym (ap (some_node (is_param s j)) f.1) ∙ g))
+    child : some_node (is_this_param s j) c ≡ true → ⊥
+    child g = true-false (sym (sym (ap (some_node (is_this_param s j)) f.1) ∙ g))
 
     at : (is_sort s k && (j == i)) ≡ true → IsA s (nth A j)
     at g = subst (λ z. IsA z (nth A j)) (sym (same-sort s k (left (is_sort s k) (j == i) g))) (subst (λ z. IsA k (nth A z)) (sym (number-is j i (right (is_sort s k) (j == i) g))) f.0)
 
-    by : (((is_sort s k && (j == i)) || some_node (is_param s j) c) ≡ true) ⊎ (some_node (is_param s j) o ≡ true) → (some_node (is_param s j) o ≡ true → IsA s (nth A j)) → IsA s (nth A j)
-    by (inl g) go = elim (or-cases (is_sort s k && (j == i)) (some_node (is_param s j) c) g) [ inl x ↦ at x | inr y ↦ absurd (child y) ]
+    by : (((is_sort s k && (j == i)) || some_node (is_this_param s j) c) ≡ true) ⊎ (some_node (is_this_param s j) o ≡ true) → (some_node (is_this_param s j) o ≡ true → IsA s (nth A j)) → IsA s (nth A j)
+    by (inl g) go = elim (or-cases (is_sort s k && (j == i)) (some_node (is_this_param s j) c) g) [ inl x ↦ at x | inr y ↦ absurd (child y) ]
     by (inr g) go = go g
 fits-sorted A (tree l c o) f s j e =
-    elim (or-cases (some_node (is_param s j) c) (some_node (is_param s j) o) e) [ inl x ↦ fits-sorted A c f.0 s j x | inr y ↦ fits-sorted A o f.1 s j y ]
+    elim (or-cases (some_node (is_this_param s j) c) (some_node (is_this_param s j) o) e) [ inl x ↦ fits-sorted A c f.0 s j x | inr y ↦ fits-sorted A o f.1 s j y ]
 
 -- ---- the arguments that are read off
 standing-one : (i : ℕ) (p t : Trees) → (standing_at i p t ≡ none) ⊎ IsOne (standing_at i p t)
@@ -113,15 +113,15 @@ const-test (tree l c (tree m d o)) a = absurd (no a.1)
     no : tree m d o ≡ none → ⊥
     no e = cc
 
-kind-fits : (h : Trees) (i : ℕ) (x : Trees) → ((s : Sort) → some_node (is_param s i) h ≡ true → IsA s x) → fits_kind (Some (kind_of_param h i)) x ≡ true
-kind-fits h i x f = by (some_node (is_param of_type i) h) refl (some_node (is_param of_const i) h) refl
+kind-fits : (h : Trees) (i : ℕ) (x : Trees) → ((s : Sort) → some_node (is_this_param s i) h ≡ true → IsA s x) → fits_kind (Some (kind_of_param h i)) x ≡ true
+kind-fits h i x f = by (some_node (is_this_param of_type i) h) refl (some_node (is_this_param of_const i) h) refl
   where
-    by : (a : Bool) → some_node (is_param of_type i) h ≡ a → (b : Bool) → some_node (is_param of_const i) h ≡ b → fits_kind (Some (if a then Ty else if b then Const else Region)) x ≡ true
+    by : (a : Bool) → some_node (is_this_param of_type i) h ≡ a → (b : Bool) → some_node (is_this_param of_const i) h ≡ b → fits_kind (Some (if a then Ty else if b then Const else Region)) x ≡ true
     by true p b q = type-test x (f of_type p)
     by false p true q = const-test x (f of_const q)
     by false p false q = refl
 
-arguments-fit : (h t : Trees) (k n : ℕ) → ((s : Sort) (j : ℕ) → some_node (is_param s (k + j)) h ≡ true → IsA s (nth (arguments_from k n h t) j)) → fits (map Some (kinds_of_params h k n)) (as_list (arguments_from k n h t)) ≡ true
+arguments-fit : (h t : Trees) (k n : ℕ) → ((s : Sort) (j : ℕ) → some_node (is_this_param s (k + j)) h ≡ true → IsA s (nth (arguments_from k n h t) j)) → fits (map Some (kinds_of_params h k n)) (as_list (arguments_from k n h t)) ≡ true
 arguments-fit h t k zero f = refl
 arguments-fit h t k (suc n) f = by (first_of (standing_at k h t) (leaf never)) (argument-one k h t) f (λ g. arguments-fit h t (suc k) n g)
   where
@@ -134,16 +134,16 @@ arguments-fit h t k (suc n) f = by (first_of (standing_at k h t) (leaf never)) (
     both : (a b : Bool) → a ≡ true → b ≡ true → a && b ≡ true
     both a b p q = rw (p, q) refl
 
-    by-one : (l : Label) (c : Trees) → ((s : Sort) (j : ℕ) → some_node (is_param s (k + j)) h ≡ true → IsA s (nth (tree l c none +++ arguments_from (suc k) n h t) j))
-        → (((s : Sort) (j : ℕ) → some_node (is_param s (suc k + j)) h ≡ true → IsA s (nth (arguments_from (suc k) n h t) j)) → fits (map Some (kinds_of_params h (suc k) n)) (as_list (arguments_from (suc k) n h t)) ≡ true)
+    by-one : (l : Label) (c : Trees) → ((s : Sort) (j : ℕ) → some_node (is_this_param s (k + j)) h ≡ true → IsA s (nth (tree l c none +++ arguments_from (suc k) n h t) j))
+        → (((s : Sort) (j : ℕ) → some_node (is_this_param s (suc k + j)) h ≡ true → IsA s (nth (arguments_from (suc k) n h t) j)) → fits (map Some (kinds_of_params h (suc k) n)) (as_list (arguments_from (suc k) n h t)) ≡ true)
         → fits (map Some (kinds_of_params h k (suc n))) (as_list (tree l c none +++ arguments_from (suc k) n h t)) ≡ true
     by-one l c g go =
         both (fits_kind (Some (kind_of_param h k)) (tree l c none)) (fits (map Some (kinds_of_params h (suc k) n)) (as_list (arguments_from (suc k) n h t)))
-        (kind-fits h k (tree l c none) (λ s e. g s zero (ap (λ z. some_node (is_param s z) h) (zero-on k) ∙ e)))
-        (go (λ s j e. g s (suc j) (ap (λ z. some_node (is_param s z) h) (sym (suc-on k j)) ∙ e)))
+        (kind-fits h k (tree l c none) (λ s e. g s zero (ap (λ z. some_node (is_this_param s z) h) (zero-on k) ∙ e)))
+        (go (λ s j e. g s (suc j) (ap (λ z. some_node (is_this_param s z) h) (sym (suc-on k j)) ∙ e)))
 
-    by : (x : Trees) → IsOne x → ((s : Sort) (j : ℕ) → some_node (is_param s (k + j)) h ≡ true → IsA s (nth (x +++ arguments_from (suc k) n h t) j))
-        → (((s : Sort) (j : ℕ) → some_node (is_param s (suc k + j)) h ≡ true → IsA s (nth (arguments_from (suc k) n h t) j)) → fits (map Some (kinds_of_params h (suc k) n)) (as_list (arguments_from (suc k) n h t)) ≡ true)
+    by : (x : Trees) → IsOne x → ((s : Sort) (j : ℕ) → some_node (is_this_param s (k + j)) h ≡ true → IsA s (nth (x +++ arguments_from (suc k) n h t) j))
+        → (((s : Sort) (j : ℕ) → some_node (is_this_param s (suc k + j)) h ≡ true → IsA s (nth (arguments_from (suc k) n h t) j)) → fits (map Some (kinds_of_params h (suc k) n)) (as_list (arguments_from (suc k) n h t)) ≡ true)
         → fits (map Some (kinds_of_params h k (suc n))) (as_list (x +++ arguments_from (suc k) n h t)) ≡ true
     by x one g go =
         subst (λ z. fits (map Some (kinds_of_params h k (suc n))) (as_list (z +++ arguments_from (suc k) n h t)) ≡ true) (sym one.is)
@@ -215,16 +215,16 @@ module _ (H : Reference → Type 0) (V : World) (declared : is_declared_view V �
       shut : some_node is_open A ≡ false
       shut = open-none A (closed-arguments i.params i.header.args rx.args closed)
 
-      sorted : (s : Sort) (k : ℕ) → some_node (is_param s k) i.header.args ≡ true → IsA s (nth A k)
+      sorted : (s : Sort) (k : ℕ) → some_node (is_this_param s k) i.header.args ≡ true → IsA s (nth A k)
       sorted s k e = fits-sorted A i.header.args b.fitting s k e
 
       fitting : fits (map Some (kinds_of_params i.header.args zero i.params)) (as_list A) ≡ true
-      fitting = arguments-fit i.header.args rx.args zero i.params (λ s k e. sorted s k (ap (λ z. some_node (is_param s z) i.header.args) (sym (zero-plus k)) ∙ e))
+      fitting = arguments-fit i.header.args rx.args zero i.params (λ s k e. sorted s k (ap (λ z. some_node (is_this_param s z) i.header.args) (sym (zero-plus k)) ∙ e))
 
-      read-as : (t : Trees) → IsDeclared t → ((s : Sort) (k : ℕ) → some_node (is_param s k) t ≡ true → some_node (is_param s k) i.header.args ≡ true)
+      read-as : (t : Trees) → IsDeclared t → ((s : Sort) (k : ℕ) → some_node (is_this_param s k) t ≡ true → some_node (is_this_param s k) i.header.args ≡ true)
           → read_with (given (slots a.kinds v own)) (put_in (moved (length a.kinds)) t) ≡ instantiate zero A t
       read-as t d st =
-          own-slots-read a.kinds v.terms (as_list A) i.header.args i.params (arguments-counted i.header.args rx.args zero i.params) fitting t (left (is_made is_declared terms t) (not (some_node is_counted t)) d) st
+          own-slots-read a.kinds v.terms (as_list A) i.header.args i.params (arguments-counted i.header.args rx.args zero i.params) fitting t (left (is_made is_declared_leaf terms t) (not (some_node is_counted t)) d) st
           ∙ behind-read a.kinds v.terms A shut t d (λ s k e. sorted s k (st s k e))
 
       same_args : read_with (given (slots a.kinds v own)) a.reference.args ≡ read_with (given (slots a.kinds v own)) (put_in (moved (length a.kinds)) i.header.args)

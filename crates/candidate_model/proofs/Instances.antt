@@ -12,7 +12,7 @@ use Rattle.type_terms.specs.Made.{traits}
 use Rattle.type_terms.specs.Made.{is_leaf_label, is_made}
 use Rattle.goal_evaluator.specs.Instances.{read_with, default_label, of_sort, term_at}
 use Rattle.goal_evaluator.specs.Content.{given}
-use Rattle.candidate_model.specs.Declared.{is_declared, is_counted, IsDeclared}
+use Rattle.candidate_model.specs.Declared.{is_declared_leaf, is_counted, IsDeclared}
 use Rattle.candidate_model.proofs.Reading.{begins, read-append, read-nth}
 use Rattle.type_terms.proofs.Matching.{or-false-left as no-left}
 use Rattle.type_terms.proofs.BooleanBasics.{true-false}
@@ -110,42 +110,42 @@ module _ (ts : List Trees) where
 
     mutual
       -- an instance with terms put in is the instance by arguments with terms put in
-      read-terms : (d : ℕ) (t : Trees) → is_made is_declared terms t ≡ true → some_node is_counted t ≡ false → read (instantiate d A t) ≡ instantiate d (read A) t
+      read-terms : (d : ℕ) (t : Trees) → is_made is_declared_leaf terms t ≡ true → some_node is_counted t ≡ false → read (instantiate d A t) ≡ instantiate d (read A) t
       read-terms d none m e = refl
       read-terms d (tree (param of_type i) c o) m e =
-          for-argument d i of_type c o (read-terms d o (parts true (not true || is_no_tree c) (is_made is_declared terms c) (is_made is_declared terms o) m).2 (next-shut is_counted (param of_type i) c o e))
+          for-argument d i of_type c o (read-terms d o (parts true (not true || is_no_tree c) (is_made is_declared_leaf terms c) (is_made is_declared_leaf terms o) m).2 (next-shut is_counted (param of_type i) c o e))
       read-terms d (tree (param of_const i) c o) m e =
-          for-argument d i of_const c o (read-terms d o (parts true (not true || is_no_tree c) (is_made is_declared terms c) (is_made is_declared terms o) m).2 (next-shut is_counted (param of_const i) c o e))
+          for-argument d i of_const c o (read-terms d o (parts true (not true || is_no_tree c) (is_made is_declared_leaf terms c) (is_made is_declared_leaf terms o) m).2 (next-shut is_counted (param of_const i) c o e))
       read-terms d (tree (param of_lifetime i) c o) m e =
-          for-argument d i of_lifetime c o (read-terms d o (parts true (not true || is_no_tree c) (is_made is_declared terms c) (is_made is_declared terms o) m).2 (next-shut is_counted (param of_lifetime i) c o e))
+          for-argument d i of_lifetime c o (read-terms d o (parts true (not true || is_no_tree c) (is_made is_declared_leaf terms c) (is_made is_declared_leaf terms o) m).2 (next-shut is_counted (param of_lifetime i) c o e))
       read-terms d (tree (placeholder k i) c o) m e = absurd (true-false (sym m))
       read-terms d (tree (infer k i) c o) m e = absurd (true-false (sym m))
       read-terms d (tree (canonical k i) c o) m e = absurd (true-false (sym m))
       read-terms d (tree (bound k j i) c o) m e = absurd (true-false (sym m))
       read-terms d (tree static c o) m e =
-          let p = parts true (is_no_tree c) (is_made is_declared terms c) (is_made is_declared terms o) m in leaf-static d c o p.0 (read-terms d o p.2 (next-shut is_counted static c o e))
+          let p = parts true (is_no_tree c) (is_made is_declared_leaf terms c) (is_made is_declared_leaf terms o) m in leaf-static d c o p.0 (read-terms d o p.2 (next-shut is_counted static c o e))
       read-terms d (tree dynamic c o) m e =
-          ap (λ z. tree dynamic z (read (instantiate d A o))) (read-bounds d c (left (is_made is_declared bounds c) (is_made is_declared terms o) m) (child-shut is_counted dynamic c o e))
-          ∙ ap (λ z. tree dynamic (instantiate d (read A) c) z) (read-terms d o (right (is_made is_declared bounds c) (is_made is_declared terms o) m) (next-shut is_counted dynamic c o e))
+          ap (λ z. tree dynamic z (read (instantiate d A o))) (read-bounds d c (left (is_made is_declared_leaf bounds c) (is_made is_declared_leaf terms o) m) (child-shut is_counted dynamic c o e))
+          ∙ ap (λ z. tree dynamic (instantiate d (read A) c) z) (read-terms d o (right (is_made is_declared_leaf bounds c) (is_made is_declared_leaf terms o) m) (next-shut is_counted dynamic c o e))
       read-terms d (tree (principal n i) c o) m e = absurd (true-false (sym m))
       read-terms d (tree (auto_trait i) c o) m e = absurd (true-false (sym m))
       read-terms d (tree (predicate i) c o) m e = absurd (true-false (sym m))
       read-terms d (tree (fn_ptr (suc n)) c o) m e = absurd (true-false e)
       read-terms d (tree (fn_ptr zero) c o) m e =
-          let p = parts true true (is_made is_declared terms c) (is_made is_declared terms o) m in
+          let p = parts true true (is_made is_declared_leaf terms c) (is_made is_declared_leaf terms o) m in
           ap (λ z. tree (fn_ptr zero) z (read (instantiate d A o))) (read-terms (suc d) c p.1 (child-shut is_counted (fn_ptr zero) c o e))
           ∙ ap (λ z. tree (fn_ptr zero) (instantiate (suc d) (read A) c) z) (read-terms d o p.2 (next-shut is_counted (fn_ptr zero) c o e))
       read-terms d (tree l c o) m e =
-          let p = parts (is_declared l) (not (is_leaf_label l) || is_no_tree c) (is_made is_declared terms c) (is_made is_declared terms o) m in
+          let p = parts (is_declared_leaf l) (not (is_leaf_label l) || is_no_tree c) (is_made is_declared_leaf terms c) (is_made is_declared_leaf terms o) m in
           ap (λ z. tree l z (read (instantiate d A o))) (read-terms d c p.1 (child-shut is_counted l c o e))
           ∙ ap (λ z. tree l (instantiate d (read A) c) z) (read-terms d o p.2 (next-shut is_counted l c o e))
 
-      read-bounds : (d : ℕ) (t : Trees) → is_made is_declared bounds t ≡ true → some_node is_counted t ≡ false → read (instantiate d A t) ≡ instantiate d (read A) t
+      read-bounds : (d : ℕ) (t : Trees) → is_made is_declared_leaf bounds t ≡ true → some_node is_counted t ≡ false → read (instantiate d A t) ≡ instantiate d (read A) t
       read-bounds d none m e = absurd (true-false (sym m))
       read-bounds d (tree (principal (suc n) i) c o) m e = absurd (true-false e)
       read-bounds d (tree (principal zero i) c o) m e =
-          ap (λ z. tree (principal zero i) z (read (instantiate d A o))) (read-terms (suc d) c (left (is_made is_declared terms c) (is_made is_declared traits o) m) (child-shut is_counted (principal zero i) c o e))
-          ∙ ap (λ z. tree (principal zero i) (instantiate (suc d) (read A) c) z) (read-traits d o (right (is_made is_declared terms c) (is_made is_declared traits o) m) (next-shut is_counted (principal zero i) c o e))
+          ap (λ z. tree (principal zero i) z (read (instantiate d A o))) (read-terms (suc d) c (left (is_made is_declared_leaf terms c) (is_made is_declared_leaf traits o) m) (child-shut is_counted (principal zero i) c o e))
+          ∙ ap (λ z. tree (principal zero i) (instantiate (suc d) (read A) c) z) (read-traits d o (right (is_made is_declared_leaf terms c) (is_made is_declared_leaf traits o) m) (next-shut is_counted (principal zero i) c o e))
       read-bounds d (tree (auto_trait i) none o) m e = ap (λ z. tree (auto_trait i) none z) (read-traits d o m (next-shut is_counted (auto_trait i) none o e))
       read-bounds d (tree (auto_trait i) (tree l c p) o) m e = absurd (true-false (sym m))
       read-bounds d (tree (predicate k) c o) m e = absurd (true-false (sym m))
@@ -159,9 +159,9 @@ module _ (ts : List Trees) where
       read-bounds d (tree (infer k i) c o) m e = absurd (true-false (sym m))
       read-bounds d (tree (canonical k i) c o) m e = absurd (true-false (sym m))
       read-bounds d (tree (bound k j i) c o) m e = absurd (true-false (sym m))
-      read-bounds d (tree l c o) m e = absurd (true-false (sym (left (is_sort (sort_of l) of_lifetime) (is_no_tree c && is_no_tree o) (right (is_declared l) (is_sort (sort_of l) of_lifetime && (is_no_tree c && is_no_tree o)) m))))
+      read-bounds d (tree l c o) m e = absurd (true-false (sym (left (is_sort (sort_of l) of_lifetime) (is_no_tree c && is_no_tree o) (right (is_declared_leaf l) (is_sort (sort_of l) of_lifetime && (is_no_tree c && is_no_tree o)) m))))
 
-      read-traits : (d : ℕ) (t : Trees) → is_made is_declared traits t ≡ true → some_node is_counted t ≡ false → read (instantiate d A t) ≡ instantiate d (read A) t
+      read-traits : (d : ℕ) (t : Trees) → is_made is_declared_leaf traits t ≡ true → some_node is_counted t ≡ false → read (instantiate d A t) ≡ instantiate d (read A) t
       read-traits d none m e = absurd (true-false (sym m))
       read-traits d (tree (auto_trait i) none o) m e = ap (λ z. tree (auto_trait i) none z) (read-traits d o m (next-shut is_counted (auto_trait i) none o e))
       read-traits d (tree (auto_trait i) (tree l c p) o) m e = absurd (true-false (sym m))
@@ -176,11 +176,11 @@ module _ (ts : List Trees) where
       read-traits d (tree (infer k i) c o) m e = absurd (true-false (sym m))
       read-traits d (tree (canonical k i) c o) m e = absurd (true-false (sym m))
       read-traits d (tree (bound k j i) c o) m e = absurd (true-false (sym m))
-      read-traits d (tree l c o) m e = absurd (true-false (sym (left (is_sort (sort_of l) of_lifetime) (is_no_tree c && is_no_tree o) (right (is_declared l) (is_sort (sort_of l) of_lifetime && (is_no_tree c && is_no_tree o)) m))))
+      read-traits d (tree l c o) m e = absurd (true-false (sym (left (is_sort (sort_of l) of_lifetime) (is_no_tree c && is_no_tree o) (right (is_declared_leaf l) (is_sort (sort_of l) of_lifetime && (is_no_tree c && is_no_tree o)) m))))
 
     pub read-unbound : (t : Trees) → IsDeclared t → read (instantiate zero A t) ≡ instantiate zero (read A) t
     read-unbound t e =
-        read-terms zero t (left (is_made is_declared terms t) (not (some_node is_counted t)) e) (not-false (some_node is_counted t) (right (is_made is_declared terms t) (not (some_node is_counted t)) e))
+        read-terms zero t (left (is_made is_declared_leaf terms t) (not (some_node is_counted t)) e) (not-false (some_node is_counted t) (right (is_made is_declared_leaf terms t) (not (some_node is_counted t)) e))
 
 -- ---- where no place is open
 pub shift-shut : (d a : ℕ) (t : Trees) → Shut t → shift d a t ≡ t

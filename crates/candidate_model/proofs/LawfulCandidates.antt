@@ -34,7 +34,7 @@ use Rattle.candidate_model.specs.Meaning.{ViewMeaning}
 use Rattle.candidate_model.specs.Asking.{GoalOverKinds, goal_over_kinds, asked_with, all_known, are_clauses, begins_with_type, next_of, clauses}
 use Rattle.goal_evaluator.specs.Variables.{is_variable_over}
 use Rattle.candidate_model.specs.Candidates.{Candidate, premise, by_rule, by_the_impl, unknowable, by_clauses, rules_behind, clause_source, all_equal}
-use Rattle.candidate_model.specs.Declared.{are_terms, are_references, is_declared_view, is_declared, is_counted}
+use Rattle.candidate_model.specs.Declared.{are_terms, are_references, is_declared_view, is_declared_leaf, is_counted}
 use Rattle.candidate_model.specs.Determined.{ImplsAreDetermined}
 use Rattle.candidate_model.specs.Solver.{solver_handled}
 use Rattle.candidate_model.specs.Promised.Widths.{declared_width}
@@ -90,8 +90,8 @@ module _ (applicable : AnswerTrees → Bool) (same : AnswerTrees → AnswerTrees
       let one = member-each (λ (x : ImplDecl). are_terms x.header.args && are_references x.clauses) V.impls i impls j in
       (left (are_terms i.header.args) (are_references i.clauses) one, right (are_terms i.header.args) (are_references i.clauses) one)
 
-  made : (t : Trees) → are_terms t ≡ true → is_made is_declared terms t ≡ true
-  made t e = left (is_made is_declared terms t) (not (some_node is_counted t)) e
+  made : (t : Trees) → are_terms t ≡ true → is_made is_declared_leaf terms t ≡ true
+  made t e = left (is_made is_declared_leaf terms t) (not (some_node is_counted t)) e
 
   -- ---- steps and unknowns
   abbrev Steps : Candidate → Type 0

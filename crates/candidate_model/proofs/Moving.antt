@@ -17,8 +17,8 @@ use Rattle.type_terms.proofs.Made.{is_ordinary}
 use Rattle.type_terms.proofs.Walking.{left, right}
 use Rattle.goal_evaluator.proofs.Labels.{IsLeafFor, PutsLeaves, made-put-in}
 use Rattle.candidate_model.proofs.Plain.{is-sort}
-use Rattle.candidate_model.specs.Declared.{is_declared}
-use Rattle.candidate_model.specs.Candidates.{moved, first_value, all_equal, is_param}
+use Rattle.candidate_model.specs.Declared.{is_declared_leaf}
+use Rattle.candidate_model.specs.Candidates.{moved, first_value, all_equal, is_this_param}
 use Rattle.candidate_model.proofs.Reading.{begins}
 use Rattle.goal_evaluator.proofs.Readings.{HasLeaves}
 use Rattle.goal_evaluator.specs.Variables.{LabelStandsIn}
@@ -26,10 +26,10 @@ use Rattle.type_terms.proofs.TermBasics.{is_sort-self as sort-self}
 use Rattle.type_terms.proofs.NumberBasics.{number-self}
 
 -- ---- how they are made
-open-behind : (n : ℕ) → PutsLeaves is_declared is_open_label (moved n)
+open-behind : (n : ℕ) → PutsLeaves is_declared_leaf is_open_label (moved n)
 open-behind n = record { leaf_or_stays = λ l i g. by l g; others = λ l i. stays l i }
   where
-    by : (l : Label) → is_declared l ≡ true → IsLeafFor is_open_label (moved n) l ⊎ ((moved n l ≡ None) × (is_open_label l ≡ true))
+    by : (l : Label) → is_declared_leaf l ≡ true → IsLeafFor is_open_label (moved n) l ⊎ ((moved n l ≡ None) × (is_open_label l ≡ true))
     by (param k i) g = inl (record { label = canonical k (n + i); is = refl; sort = refl; made = refl })
     by (infer k v) g = absurd (false-true g)
     by (canonical k v) g = absurd (false-true g)
@@ -41,8 +41,8 @@ open-behind n = record { leaf_or_stays = λ l i g. by l g; others = λ l i. stay
     stays (param k i) e = absurd (false-true (sym e))
     stays l e = refl
 
-pub made-moved : (n : ℕ) (t : Trees) → is_made is_declared terms t ≡ true → is_made is_open_label terms (put_in (moved n) t) ≡ true
-made-moved n t h = made-put-in is_declared is_open_label (moved n) (open-behind n) terms t h
+pub made-moved : (n : ℕ) (t : Trees) → is_made is_declared_leaf terms t ≡ true → is_made is_open_label terms (put_in (moved n) t) ≡ true
+made-moved n t h = made-put-in is_declared_leaf is_open_label (moved n) (open-behind n) terms t h
 
 -- ---- which variables stand there
 same-sort : (s k : Sort) (x i : ℕ) → canonical s x ≡ canonical k i → (s ≡ k) × (x ≡ i)
@@ -73,15 +73,15 @@ or-third x y false e = absurd (false-true e)
 
 -- the variable is one that stood there, or stands for a parameter
 abbrev pub Came : ℕ → Sort → ℕ → Trees → Type 0
-Came n k i t = LabelStandsIn (canonical k i) t ⊎ ((j : ℕ) × (n + j ≡ i) × (some_node (is_param k j) t ≡ true))
+Came n k i t = LabelStandsIn (canonical k i) t ⊎ ((j : ℕ) × (n + j ≡ i) × (some_node (is_this_param k j) t ≡ true))
 
 from-child : (n : ℕ) (k : Sort) (i : ℕ) (l : Label) (c o : Trees) → Came n k i c → Came n k i (tree l c o)
 from-child n k i l c o (inl s) = inl (inr (inl s))
-from-child n k i l c o (inr x) = inr (x.0, x.1, or-second (is_param k x.0 l) (some_node (is_param k x.0) c) (some_node (is_param k x.0) o) x.2)
+from-child n k i l c o (inr x) = inr (x.0, x.1, or-second (is_this_param k x.0 l) (some_node (is_this_param k x.0) c) (some_node (is_this_param k x.0) o) x.2)
 
 from-next : (n : ℕ) (k : Sort) (i : ℕ) (l : Label) (c o : Trees) → Came n k i o → Came n k i (tree l c o)
 from-next n k i l c o (inl s) = inl (inr (inr s))
-from-next n k i l c o (inr x) = inr (x.0, x.1, or-third (is_param k x.0 l) (some_node (is_param k x.0) c) (some_node (is_param k x.0) o) x.2)
+from-next n k i l c o (inr x) = inr (x.0, x.1, or-third (is_this_param k x.0 l) (some_node (is_this_param k x.0) c) (some_node (is_this_param k x.0) o) x.2)
 
 node-back : (n : ℕ) (k : Sort) (i : ℕ) (l : Label) (c o : Trees) → (LabelStandsIn (canonical k i) (put_in (moved n) c) → Came n k i c) → (LabelStandsIn (canonical k i) (put_in (moved n) o) → Came n k i o)
     → LabelStandsIn (canonical k i) (tree l (put_in (moved n) c) (put_in (moved n) o)) → Came n k i (tree l c o)
@@ -92,7 +92,7 @@ node-back n k i l c o f g (inr (inr x)) = from-next n k i l c o (g x)
 param-back : (n : ℕ) (k : Sort) (i : ℕ) (s : Sort) (j : ℕ) (c o : Trees) → (LabelStandsIn (canonical k i) (put_in (moved n) o) → Came n k i o) → LabelStandsIn (canonical k i) (tree (canonical s (n + j)) none (put_in (moved n) o)) → Came n k i (tree (param s j) c o)
 param-back n k i s j c o g (inl e) =
     let x = same-sort s k (n + j) i e in
-    inr (j, x.1, or-first (is_sort k s && (j == j)) (some_node (is_param k j) c) (some_node (is_param k j) o) (and-true (is_sort k s) (j == j) (ap (is_sort k) x.0 ∙ sort-self k) (number-self j)))
+    inr (j, x.1, or-first (is_sort k s && (j == j)) (some_node (is_this_param k j) c) (some_node (is_this_param k j) o) (and-true (is_sort k s) (j == j) (ap (is_sort k) x.0 ∙ sort-self k) (number-self j)))
 param-back n k i s j c o g (inr (inl x)) = absurd x
 param-back n k i s j c o g (inr (inr x)) = from-next n k i (param s j) c o (g x)
 
@@ -106,25 +106,25 @@ or-cases true y z e = inl refl
 or-cases false true z e = inr (inl refl)
 or-cases false false z e = inr (inr e)
 
-param-on : (n : ℕ) (k : Sort) (j : ℕ) (s : Sort) (m : ℕ) (c o : Trees) → c ≡ none → (some_node (is_param k j) o ≡ true → LabelStandsIn (canonical k (n + j)) (put_in (moved n) o))
-    → ((is_sort k s && (j == m)) ≡ true) ⊎ ((some_node (is_param k j) c ≡ true) ⊎ (some_node (is_param k j) o ≡ true)) → LabelStandsIn (canonical k (n + j)) (tree (canonical s (n + m)) none (put_in (moved n) o))
+param-on : (n : ℕ) (k : Sort) (j : ℕ) (s : Sort) (m : ℕ) (c o : Trees) → c ≡ none → (some_node (is_this_param k j) o ≡ true → LabelStandsIn (canonical k (n + j)) (put_in (moved n) o))
+    → ((is_sort k s && (j == m)) ≡ true) ⊎ ((some_node (is_this_param k j) c ≡ true) ⊎ (some_node (is_this_param k j) o ≡ true)) → LabelStandsIn (canonical k (n + j)) (tree (canonical s (n + m)) none (put_in (moved n) o))
 param-on n k j s m c o h go (inl x) =
     let p : k ≡ s = is-sort k s (left (is_sort k s) (j == m) x) in
     let q = number-is j m (right (is_sort k s) (j == m) x) in
     inl (ap (λ z. canonical z (n + m)) (sym p) ∙ ap (λ z. canonical k (n + z)) (sym q))
-param-on n k j s m c o h go (inr (inl x)) = absurd (false-true (subst (λ z. some_node (is_param k j) z ≡ true) h x))
+param-on n k j s m c o h go (inr (inl x)) = absurd (false-true (subst (λ z. some_node (is_this_param k j) z ≡ true) h x))
 param-on n k j s m c o h go (inr (inr x)) = inr (inr (go x))
 
-node-on : (n : ℕ) (k : Sort) (j : ℕ) (l : Label) (c o : Trees) → (some_node (is_param k j) c ≡ true → LabelStandsIn (canonical k (n + j)) (put_in (moved n) c)) → (some_node (is_param k j) o ≡ true → LabelStandsIn (canonical k (n + j)) (put_in (moved n) o))
-    → (false ≡ true) ⊎ ((some_node (is_param k j) c ≡ true) ⊎ (some_node (is_param k j) o ≡ true)) → LabelStandsIn (canonical k (n + j)) (tree l (put_in (moved n) c) (put_in (moved n) o))
+node-on : (n : ℕ) (k : Sort) (j : ℕ) (l : Label) (c o : Trees) → (some_node (is_this_param k j) c ≡ true → LabelStandsIn (canonical k (n + j)) (put_in (moved n) c)) → (some_node (is_this_param k j) o ≡ true → LabelStandsIn (canonical k (n + j)) (put_in (moved n) o))
+    → (false ≡ true) ⊎ ((some_node (is_this_param k j) c ≡ true) ⊎ (some_node (is_this_param k j) o ≡ true)) → LabelStandsIn (canonical k (n + j)) (tree l (put_in (moved n) c) (put_in (moved n) o))
 node-on n k j l c o f g (inl x) = absurd (false-true x)
 node-on n k j l c o f g (inr (inl x)) = inr (inl (f x))
 node-on n k j l c o f g (inr (inr x)) = inr (inr (g x))
 
-pub stands-on : (n : ℕ) (k : Sort) (j : ℕ) (t : Trees) → HasLeaves t → some_node (is_param k j) t ≡ true → LabelStandsIn (canonical k (n + j)) (put_in (moved n) t)
+pub stands-on : (n : ℕ) (k : Sort) (j : ℕ) (t : Trees) → HasLeaves t → some_node (is_this_param k j) t ≡ true → LabelStandsIn (canonical k (n + j)) (put_in (moved n) t)
 stands-on n k j none h e = absurd (false-true e)
-stands-on n k j (tree (param s m) c o) h e = param-on n k j s m c o (h.0 refl) (λ x. stands-on n k j o h.2 x) (or-cases (is_sort k s && (j == m)) (some_node (is_param k j) c) (some_node (is_param k j) o) e)
-stands-on n k j (tree l c o) h e = node-on n k j l c o (λ x. stands-on n k j c h.1 x) (λ x. stands-on n k j o h.2 x) (or-cases false (some_node (is_param k j) c) (some_node (is_param k j) o) e)
+stands-on n k j (tree (param s m) c o) h e = param-on n k j s m c o (h.0 refl) (λ x. stands-on n k j o h.2 x) (or-cases (is_sort k s && (j == m)) (some_node (is_this_param k j) c) (some_node (is_this_param k j) o) e)
+stands-on n k j (tree l c o) h e = node-on n k j l c o (λ x. stands-on n k j c h.1 x) (λ x. stands-on n k j o h.2 x) (or-cases false (some_node (is_this_param k j) c) (some_node (is_this_param k j) o) e)
 
 -- ---- equations of made terms
 one-made : (l : Label) (c : Trees) → is_a (sort_of l) (tree l c none) ≡ true → is_made is_open_label terms (tree l c none) ≡ true → term_of (first_value l c) ≡ tree l c none

@@ -17,7 +17,7 @@ use Rattle.type_terms.specs.Made.{traits}
 use Rattle.type_terms.specs.Made.{is_leaf_label, is_made}
 use Rattle.goal_evaluator.specs.Lists.{Every}
 use Rattle.candidate_model.specs.Facts.{is_unerased}
-use Rattle.candidate_model.specs.Declared.{is_declared, is_counted, are_terms, is_declared_view}
+use Rattle.candidate_model.specs.Declared.{is_declared_leaf, is_counted, are_terms, is_declared_view}
 use Rattle.candidate_model.proofs.Instances.{Unbound, is_bound, none-either, shift-unbound}
 use Rattle.candidate_model.proofs.Rows.{fields-declared}
 use Rattle.type_terms.proofs.Matching.{or-false-left as no-left}
@@ -51,15 +51,15 @@ no-tree (tree l c o) e = absurd (true-false (sym e))
 ended : (s t : Trees) → is_no_tree s && is_no_tree t ≡ true → (some_node is_wild s ≡ false) × (some_node is_wild t ≡ false)
 ended s t e = (no-tree s (left (is_no_tree s) (is_no_tree t) e), no-tree t (right (is_no_tree s) (is_no_tree t) e))
 
-last-place : (l : Label) (c o : Trees) → is_declared l && (is_sort (sort_of l) of_lifetime && (is_no_tree c && is_no_tree o)) ≡ true → is_no_tree c && is_no_tree o ≡ true
-last-place l c o m = right (is_sort (sort_of l) of_lifetime) (is_no_tree c && is_no_tree o) (right (is_declared l) (is_sort (sort_of l) of_lifetime && (is_no_tree c && is_no_tree o)) m)
+last-place : (l : Label) (c o : Trees) → is_declared_leaf l && (is_sort (sort_of l) of_lifetime && (is_no_tree c && is_no_tree o)) ≡ true → is_no_tree c && is_no_tree o ≡ true
+last-place l c o m = right (is_sort (sort_of l) of_lifetime) (is_no_tree c && is_no_tree o) (right (is_declared_leaf l) (is_sort (sort_of l) of_lifetime && (is_no_tree c && is_no_tree o)) m)
 
 mutual
-  tame-terms : (t : Trees) → is_made is_declared terms t ≡ true → some_node is_counted t ≡ false → some_node is_wild t ≡ false
+  tame-terms : (t : Trees) → is_made is_declared_leaf terms t ≡ true → some_node is_counted t ≡ false → some_node is_wild t ≡ false
   tame-terms none m e = refl
   tame-terms (tree dynamic c o) m e =
-      node-none is_wild dynamic c o refl (tame-bounds c (left (is_made is_declared bounds c) (is_made is_declared terms o) m) (child-shut is_counted dynamic c o e))
-      (tame-terms o (right (is_made is_declared bounds c) (is_made is_declared terms o) m) (next-shut is_counted dynamic c o e))
+      node-none is_wild dynamic c o refl (tame-bounds c (left (is_made is_declared_leaf bounds c) (is_made is_declared_leaf terms o) m) (child-shut is_counted dynamic c o e))
+      (tame-terms o (right (is_made is_declared_leaf bounds c) (is_made is_declared_leaf terms o) m) (next-shut is_counted dynamic c o e))
   tame-terms (tree (principal n i) c o) m e = absurd (true-false (sym m))
   tame-terms (tree (auto_trait i) c o) m e = absurd (true-false (sym m))
   tame-terms (tree (predicate k) c o) m e = absurd (true-false (sym m))
@@ -69,23 +69,23 @@ mutual
   tame-terms (tree (bound k j i) c o) m e = absurd (true-false (sym m))
   tame-terms (tree (fn_ptr (suc n)) c o) m e = absurd (true-false e)
   tame-terms (tree (fn_ptr zero) c o) m e =
-      let q = right (not false || is_no_tree c) (is_made is_declared terms c && is_made is_declared terms o) m in
-      node-none is_wild (fn_ptr zero) c o refl (tame-terms c (left (is_made is_declared terms c) (is_made is_declared terms o) q) (child-shut is_counted (fn_ptr zero) c o e))
-      (tame-terms o (right (is_made is_declared terms c) (is_made is_declared terms o) q) (next-shut is_counted (fn_ptr zero) c o e))
+      let q = right (not false || is_no_tree c) (is_made is_declared_leaf terms c && is_made is_declared_leaf terms o) m in
+      node-none is_wild (fn_ptr zero) c o refl (tame-terms c (left (is_made is_declared_leaf terms c) (is_made is_declared_leaf terms o) q) (child-shut is_counted (fn_ptr zero) c o e))
+      (tame-terms o (right (is_made is_declared_leaf terms c) (is_made is_declared_leaf terms o) q) (next-shut is_counted (fn_ptr zero) c o e))
   tame-terms (tree l c o) m e =
-      let q = right (not (is_leaf_label l) || is_no_tree c) (is_made is_declared terms c && is_made is_declared terms o) (right (is_declared l) ((not (is_leaf_label l) || is_no_tree c) && (is_made is_declared terms c && is_made is_declared terms o)) m) in
-      node-none is_wild l c o refl (tame-terms c (left (is_made is_declared terms c) (is_made is_declared terms o) q) (child-shut is_counted l c o e))
-      (tame-terms o (right (is_made is_declared terms c) (is_made is_declared terms o) q) (next-shut is_counted l c o e))
+      let q = right (not (is_leaf_label l) || is_no_tree c) (is_made is_declared_leaf terms c && is_made is_declared_leaf terms o) (right (is_declared_leaf l) ((not (is_leaf_label l) || is_no_tree c) && (is_made is_declared_leaf terms c && is_made is_declared_leaf terms o)) m) in
+      node-none is_wild l c o refl (tame-terms c (left (is_made is_declared_leaf terms c) (is_made is_declared_leaf terms o) q) (child-shut is_counted l c o e))
+      (tame-terms o (right (is_made is_declared_leaf terms c) (is_made is_declared_leaf terms o) q) (next-shut is_counted l c o e))
 
-  tame-bounds : (t : Trees) → is_made is_declared bounds t ≡ true → some_node is_counted t ≡ false → some_node is_wild t ≡ false
+  tame-bounds : (t : Trees) → is_made is_declared_leaf bounds t ≡ true → some_node is_counted t ≡ false → some_node is_wild t ≡ false
   tame-bounds none m e = absurd (true-false (sym m))
   tame-bounds (tree (predicate k) c o) m e = absurd (true-false (sym m))
   tame-bounds (tree (principal (suc n) i) c o) m e = absurd (true-false e)
   tame-bounds (tree (principal zero i) c o) m e =
-      node-none is_wild (principal zero i) c o refl (tame-terms c (left (is_made is_declared terms c) (is_made is_declared traits o) m) (child-shut is_counted (principal zero i) c o e))
-      (tame-traits o (right (is_made is_declared terms c) (is_made is_declared traits o) m) (next-shut is_counted (principal zero i) c o e))
+      node-none is_wild (principal zero i) c o refl (tame-terms c (left (is_made is_declared_leaf terms c) (is_made is_declared_leaf traits o) m) (child-shut is_counted (principal zero i) c o e))
+      (tame-traits o (right (is_made is_declared_leaf terms c) (is_made is_declared_leaf traits o) m) (next-shut is_counted (principal zero i) c o e))
   tame-bounds (tree (auto_trait i) c o) m e =
-      node-none is_wild (auto_trait i) c o refl (no-tree c (left (is_no_tree c) (is_made is_declared traits o) m)) (tame-traits o (right (is_no_tree c) (is_made is_declared traits o) m) (next-shut is_counted (auto_trait i) c o e))
+      node-none is_wild (auto_trait i) c o refl (no-tree c (left (is_no_tree c) (is_made is_declared_leaf traits o) m)) (tame-traits o (right (is_no_tree c) (is_made is_declared_leaf traits o) m) (next-shut is_counted (auto_trait i) c o e))
   tame-bounds (tree (placeholder k i) c o) m e = absurd (true-false (sym m))
   tame-bounds (tree (infer k i) c o) m e = absurd (true-false (sym m))
   tame-bounds (tree (canonical k i) c o) m e = absurd (true-false (sym m))
@@ -94,11 +94,11 @@ mutual
   tame-bounds (tree (fn_ptr zero) c o) m e = absurd (true-false (sym m))
   tame-bounds (tree l c o) m e = let x = ended c o (last-place l c o m) in node-none is_wild l c o refl x.0 x.1
 
-  tame-traits : (t : Trees) → is_made is_declared traits t ≡ true → some_node is_counted t ≡ false → some_node is_wild t ≡ false
+  tame-traits : (t : Trees) → is_made is_declared_leaf traits t ≡ true → some_node is_counted t ≡ false → some_node is_wild t ≡ false
   tame-traits none m e = absurd (true-false (sym m))
   tame-traits (tree (predicate k) c o) m e = absurd (true-false (sym m))
   tame-traits (tree (auto_trait i) c o) m e =
-      node-none is_wild (auto_trait i) c o refl (no-tree c (left (is_no_tree c) (is_made is_declared traits o) m)) (tame-traits o (right (is_no_tree c) (is_made is_declared traits o) m) (next-shut is_counted (auto_trait i) c o e))
+      node-none is_wild (auto_trait i) c o refl (no-tree c (left (is_no_tree c) (is_made is_declared_leaf traits o) m)) (tame-traits o (right (is_no_tree c) (is_made is_declared_leaf traits o) m) (next-shut is_counted (auto_trait i) c o e))
   tame-traits (tree (placeholder k i) c o) m e = absurd (true-false (sym m))
   tame-traits (tree (infer k i) c o) m e = absurd (true-false (sym m))
   tame-traits (tree (canonical k i) c o) m e = absurd (true-false (sym m))
@@ -108,7 +108,7 @@ mutual
   tame-traits (tree l c o) m e = let x = ended c o (last-place l c o m) in node-none is_wild l c o refl x.0 x.1
 
 pub tame : (t : Trees) → are_terms t ≡ true → some_node is_wild t ≡ false
-tame t e = tame-terms t (left (is_made is_declared terms t) (not (some_node is_counted t)) e) (not-false (some_node is_counted t) (right (is_made is_declared terms t) (not (some_node is_counted t)) e))
+tame t e = tame-terms t (left (is_made is_declared_leaf terms t) (not (some_node is_counted t)) e) (not-false (some_node is_counted t) (right (is_made is_declared_leaf terms t) (not (some_node is_counted t)) e))
 
 pub nth-plain : (t : Trees) (i : ℕ) → Plain t → Plain (nth t i)
 nth-plain none i h = refl

@@ -14,9 +14,9 @@ use Rattle.goal_evaluator.specs.Content.{given}
 use Rattle.goal_evaluator.proofs.Reading.{EachLabel}
 use Rattle.goal_evaluator.proofs.Labels.{IsGoodLabel, made-labels}
 use Rattle.candidate_model.specs.Facts.{is_unerased}
-use Rattle.candidate_model.specs.Declared.{is_declared, is_counted, are_terms, is_otherwise, is_unsorted}
+use Rattle.candidate_model.specs.Declared.{is_declared_leaf, is_counted, are_terms, is_otherwise, is_unsorted}
 use Rattle.type_terms.specs.Made.{terms, is_made}
-use Rattle.candidate_model.specs.Candidates.{is_param, moved}
+use Rattle.candidate_model.specs.Candidates.{is_this_param, moved}
 use Rattle.candidate_model.proofs.Plain.{is-sort}
 use Rattle.candidate_model.proofs.Reading.{begins}
 use Rattle.candidate_model.proofs.Instances.{Unbound, shift-unbound, nth-unbound}
@@ -42,7 +42,7 @@ is_kept l = true
 
 module _ (P : Trees → Type 0) (nothing : P none) (at_param : (s : Sort) (i : ℕ) (o : Trees) → P o → P (tree (param s i) none o)) (at_static : (o : Trees) → P o → P (tree static none o))
     (at_kept : (l : Label) (c o : Trees) → is_kept l ≡ true → P c → P o → P (tree l c o)) where
-  by-labels : (t : Trees) → EachLabel (IsGoodLabel is_declared) t → HasLeaves t → some_node is_counted t ≡ false → P t
+  by-labels : (t : Trees) → EachLabel (IsGoodLabel is_declared_leaf) t → HasLeaves t → some_node is_counted t ≡ false → P t
   by-labels none g h e = nothing
   by-labels (tree (param s i) c o) g h e = subst (λ z. P (tree (param s i) z o)) (sym (h.0 refl)) (at_param s i o (by-labels o g.2 h.2 (next-shut is_counted (param s i) c o e)))
   by-labels (tree (placeholder k i) c o) g h e = absurd (true-false (sym (g.0 refl)))
@@ -56,10 +56,10 @@ module _ (P : Trees → Type 0) (nothing : P none) (at_param : (s : Sort) (i : �
 
   pub by-declared : (t : Trees) → are_terms t ≡ true → P t
   by-declared t e =
-      let m = left (is_made is_declared terms t) (not (some_node is_counted t)) e in
-      by-labels t (made-labels is_declared terms t m) (made-leaves is_declared terms t m) (not-true (some_node is_counted t) (right (is_made is_declared terms t) (not (some_node is_counted t)) e))
+      let m = left (is_made is_declared_leaf terms t) (not (some_node is_counted t)) e in
+      by-labels t (made-labels is_declared_leaf terms t m) (made-leaves is_declared_leaf terms t m) (not-true (some_node is_counted t) (right (is_made is_declared_leaf terms t) (not (some_node is_counted t)) e))
 
-kept-no-param : (s : Sort) (i : ℕ) (l : Label) → is_kept l ≡ true → is_param s i l ≡ false
+kept-no-param : (s : Sort) (i : ℕ) (l : Label) → is_kept l ≡ true → is_this_param s i l ≡ false
 kept-no-param s i (param k j) e = absurd (true-false (sym e))
 kept-no-param s i l e = refl
 
@@ -122,13 +122,13 @@ module _ (n : ℕ) (ys : List Trees) where
   -- ---- arguments that are what stands for the parameters
   module _ (A : Trees) where
     abbrev pub AreValues : Trees → Type 0
-    AreValues t = (s : Sort) (i : ℕ) → some_node (is_param s i) t ≡ true → nth A i ≡ for_param s i
+    AreValues t = (s : Sort) (i : ℕ) → some_node (is_this_param s i) t ≡ true → nth A i ≡ for_param s i
 
     values-child : (l : Label) (c o : Trees) → AreValues (tree l c o) → AreValues c
-    values-child l c o h s i e = h s i (child-some (is_param s i) l c o e)
+    values-child l c o h s i e = h s i (child-some (is_this_param s i) l c o e)
 
     values-next : (l : Label) (c o : Trees) → AreValues (tree l c o) → AreValues o
-    values-next l c o h s i e = h s i (next-some (is_param s i) l c o e)
+    values-next l c o h s i e = h s i (next-some (is_this_param s i) l c o e)
 
     -- a term with these arguments is the reading
     pub instance-is : Unbound A → (t : Trees) → are_terms t ≡ true → (d : ℕ) → AreValues t → instantiate d A t ≡ read_behind t
@@ -161,11 +161,11 @@ module _ (n : ℕ) (ys : List Trees) where
   -- ---- what stands at a parameter's place in the reading
   module _ (i : ℕ) (v : Trees) (there : v ≡ none → ⊥) where
     abbrev Means : Trees → Type 0
-    Means t = (s : Sort) → some_node (is_param s i) t ≡ true → for_param s i ≡ v
+    Means t = (s : Sort) → some_node (is_this_param s i) t ≡ true → for_param s i ≡ v
 
     -- it is v, or there is no such place
     abbrev Split : Trees → Trees → Type 0
-    Split x t = (x ≡ v) ⊎ ((x ≡ none) × ((s : Sort) → some_node (is_param s i) t ≡ false))
+    Split x t = (x ≡ v) ⊎ ((x ≡ none) × ((s : Sort) → some_node (is_this_param s i) t ≡ false))
 
     abbrev Found : Trees → Type 0
     Found t = Means t → Split (standing_at i t (read_behind t)) t
@@ -173,9 +173,9 @@ module _ (n : ℕ) (ys : List Trees) where
     at-place : (s : Sort) (j : ℕ) (o : Trees) (b : Bool) → (i == j) ≡ b → (m : Label) (c : Trees) → for_param s j ≡ tree m c none → Means (tree (param s j) none o) → Split (standing_at i o (read_behind o)) o
         → Split (if b then tree m c none else standing_at i o (read_behind o)) (tree (param s j) none o)
     at-place s j o true q m c e h x =
-        inl (sym e ∙ ap (for_param s) (sym (same-number i j q)) ∙ h s (subst (λ z. some_node (is_param s i) (tree (param s z) none o) ≡ true) (same-number i j q) (here-some s i none o (sort-self s))))
+        inl (sym e ∙ ap (for_param s) (sym (same-number i j q)) ∙ h s (subst (λ z. some_node (is_this_param s i) (tree (param s z) none o) ≡ true) (same-number i j q) (here-some s i none o (sort-self s))))
     at-place s j o false q m c e h (inl x) = inl x
-    at-place s j o false q m c e h (inr x) = inr (x.0, λ k. or-no-three (is_sort k s && (i == j)) false (some_node (is_param k i) o) (no-other (is_sort k s) (i == j) q) refl (x.1 k))
+    at-place s j o false q m c e h (inr x) = inr (x.0, λ k. or-no-three (is_sort k s && (i == j)) false (some_node (is_this_param k i) o) (no-other (is_sort k s) (i == j) q) refl (x.1 k))
       where
         no-other : (x y : Bool) → y ≡ false → x && y ≡ false
         no-other true y r = r
@@ -185,10 +185,10 @@ module _ (n : ℕ) (ys : List Trees) where
     at-param s j o go h =
         let b = begins ys (canonical s (n + j)) none (put_in (moved n) o) in
         subst (λ z. Split (standing_at i (tree (param s j) none o) z) (tree (param s j) none o)) (sym b.before)
-        (at-place s j o (i == j) refl b.label b.children b.alone h (go (λ k e. h k (next-some (is_param k i) (param s j) none o e))))
+        (at-place s j o (i == j) refl b.label b.children b.alone h (go (λ k e. h k (next-some (is_this_param k i) (param s j) none o e))))
 
     at-static : (o : Trees) → Found o → Found (tree static none o)
-    at-static o go h = by (go (λ k e. h k (next-some (is_param k i) static none o e)))
+    at-static o go h = by (go (λ k e. h k (next-some (is_this_param k i) static none o e)))
       where
         by : Split (standing_at i o (read_behind o)) o → Split (standing_at i o (read_behind o)) (tree static none o)
         by (inl x) = inl x
@@ -198,18 +198,18 @@ module _ (n : ℕ) (ys : List Trees) where
     join l c o x y k (inl p) q = inl (ap (λ z. first_of z y) p ∙ first-left v y there)
     join l c o x y k (inr p) (inl q) = inl (ap (λ z. first_of z y) p.0 ∙ q)
     join l c o x y k (inr p) (inr q) =
-        inr (ap (λ z. first_of z y) p.0 ∙ q.0, λ s. or-no-three (is_param s i l) (some_node (is_param s i) c) (some_node (is_param s i) o) (kept-no-param s i l k) (p.1 s) (q.1 s))
+        inr (ap (λ z. first_of z y) p.0 ∙ q.0, λ s. or-no-three (is_this_param s i l) (some_node (is_this_param s i) c) (some_node (is_this_param s i) o) (kept-no-param s i l k) (p.1 s) (q.1 s))
 
     at-kept : (l : Label) (c o : Trees) → is_kept l ≡ true → Found c → Found o → Found (tree l c o)
     at-kept l c o k go on h =
         subst (λ z. Split z (tree l c o)) (sym (ap (standing_at i (tree l c o)) (kept-read l c o k) ∙ kept-standing i l c o (read_behind c) (read_behind o) k))
-        (join l c o (standing_at i c (read_behind c)) (standing_at i o (read_behind o)) k (go (λ s e. h s (child-some (is_param s i) l c o e))) (on (λ s e. h s (next-some (is_param s i) l c o e))))
+        (join l c o (standing_at i c (read_behind c)) (standing_at i o (read_behind o)) k (go (λ s e. h s (child-some (is_this_param s i) l c o e))) (on (λ s e. h s (next-some (is_this_param s i) l c o e))))
 
     found : (t : Trees) → are_terms t ≡ true → Found t
     found t e = by-declared Found (λ h. inr (refl, λ s. refl)) at-param at-static at-kept t e
 
     -- where the parameter stands, v is read off
-    pub read-off : (t : Trees) → are_terms t ≡ true → Means t → (s : Sort) → some_node (is_param s i) t ≡ true → standing_at i t (read_behind t) ≡ v
+    pub read-off : (t : Trees) → are_terms t ≡ true → Means t → (s : Sort) → some_node (is_this_param s i) t ≡ true → standing_at i t (read_behind t) ≡ v
     read-off t e h s p = by (found t e h)
       where
         by : Split (standing_at i t (read_behind t)) t → standing_at i t (read_behind t) ≡ v
@@ -217,25 +217,25 @@ module _ (n : ℕ) (ys : List Trees) where
         by (inr x) = absurd (true-false (sym p ∙ x.1 s))
 
 -- ---- parameters of one sort
-param-is : (s : Sort) (i : ℕ) (l : Label) → is_param s i l ≡ true → l ≡ param s i
+param-is : (s : Sort) (i : ℕ) (l : Label) → is_this_param s i l ≡ true → l ≡ param s i
 param-is s i (param k j) e = ap (λ z. param z j) (sym (is-sort s k (left (is_sort s k) (i == j) e))) ∙ ap (param s) (sym (same-number i j (right (is_sort s k) (i == j) e)))
 param-is s i l e = absurd (true-false (sym e))
 
 -- a test that no label passes is passed by no parameter that stands there
-pub none-passes : (q : Label → Bool) (s : Sort) (i : ℕ) (t : Trees) → some_node (is_param s i) t ≡ true → some_node q t ≡ false → q (param s i) ≡ false
+pub none-passes : (q : Label → Bool) (s : Sort) (i : ℕ) (t : Trees) → some_node (is_this_param s i) t ≡ true → some_node q t ≡ false → q (param s i) ≡ false
 none-passes q s i none e f = absurd (true-false (sym e))
-none-passes q s i (tree l c o) e f = by (or-cases (is_param s i l || some_node (is_param s i) c) (some_node (is_param s i) o) e) (λ g. none-passes q s i c g (child-shut q l c o f)) (λ g. none-passes q s i o g (next-shut q l c o f))
+none-passes q s i (tree l c o) e f = by (or-cases (is_this_param s i l || some_node (is_this_param s i) c) (some_node (is_this_param s i) o) e) (λ g. none-passes q s i c g (child-shut q l c o f)) (λ g. none-passes q s i o g (next-shut q l c o f))
   where
-    own : is_param s i l ≡ true → q (param s i) ≡ false
+    own : is_this_param s i l ≡ true → q (param s i) ≡ false
     own g = subst (λ z. q z ≡ false) (param-is s i l g) (no-left (q l) (some_node q c) (no-left (q l || some_node q c) (some_node q o) f))
 
-    by : (is_param s i l || some_node (is_param s i) c ≡ true) ⊎ (some_node (is_param s i) o ≡ true) → (some_node (is_param s i) c ≡ true → q (param s i) ≡ false) → (some_node (is_param s i) o ≡ true → q (param s i) ≡ false)
+    by : (is_this_param s i l || some_node (is_this_param s i) c ≡ true) ⊎ (some_node (is_this_param s i) o ≡ true) → (some_node (is_this_param s i) c ≡ true → q (param s i) ≡ false) → (some_node (is_this_param s i) o ≡ true → q (param s i) ≡ false)
         → q (param s i) ≡ false
-    by (inl g) go on = elim (or-cases (is_param s i l) (some_node (is_param s i) c) g) [ inl x ↦ own x | inr y ↦ go y ]
+    by (inl g) go on = elim (or-cases (is_this_param s i l) (some_node (is_this_param s i) c) g) [ inl x ↦ own x | inr y ↦ go y ]
     by (inr g) go on = on g
 
 module _ (count : ℕ) (header : Trees) (sorted : some_node (is_unsorted count header) header ≡ false) where
-  pub below : (s : Sort) (i : ℕ) → some_node (is_param s i) header ≡ true → i < count
+  pub below : (s : Sort) (i : ℕ) → some_node (is_this_param s i) header ≡ true → i < count
   below s i e = by (nat_lt i count) refl (no-left (not (nat_lt i count)) (some_node (is_otherwise s i) header) (none-passes (is_unsorted count header) s i header e sorted))
     where
       less : nat_lt i count ≡ true → i < count
@@ -245,7 +245,7 @@ module _ (count : ℕ) (header : Trees) (sorted : some_node (is_unsorted count h
       by true p q = less p
       by false p q = absurd (true-false q)
 
-  pub one-sort : (s k : Sort) (i : ℕ) → some_node (is_param s i) header ≡ true → some_node (is_param k i) header ≡ true → k ≡ s
+  pub one-sort : (s k : Sort) (i : ℕ) → some_node (is_this_param s i) header ≡ true → some_node (is_this_param k i) header ≡ true → k ≡ s
   one-sort s k i e f =
       is-sort k s (by (is_sort k s) (i == i) (self-number i) (none-passes (is_otherwise s i) k i header f (or-right (not (nat_lt i count)) (some_node (is_otherwise s i) header) (none-passes (is_unsorted count header) s i header e sorted))))
     where

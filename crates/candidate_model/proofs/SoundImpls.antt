@@ -21,10 +21,10 @@ use Rattle.goal_evaluator.specs.TableOperations.{begin}
 use Rattle.goal_evaluator.specs.TableOperations.{fresh}
 use Rattle.candidate_model.specs.Facts.{FactFollows, is_plain, is_unerased, clauses_of}
 use Rattle.candidate_model.specs.Meaning.{ViewMeaning}
-use Rattle.candidate_model.specs.Declared.{is_declared, is_counted, are_terms, is_declared_view, is_unsorted, parameters_are_sorted}
+use Rattle.candidate_model.specs.Declared.{is_declared_leaf, is_counted, are_terms, is_declared_view, is_unsorted, parameters_are_sorted}
 use Rattle.candidate_model.specs.Determined.{ImplsAreDetermined}
 use Rattle.candidate_model.specs.Asking.{GoalOverKinds, goal_over_kinds, all_known, are_clauses}
-use Rattle.candidate_model.specs.Candidates.{premise, is_param, kinds_of_params, rules_behind, all_equal, by_the_impl, can_match, by_impls}
+use Rattle.candidate_model.specs.Candidates.{premise, is_this_param, kinds_of_params, rules_behind, all_equal, by_the_impl, can_match, by_impls}
 use Rattle.candidate_model.specs.Cover.{goal_fact, read_reference}
 use Rattle.candidate_model.specs.Lawful.{IsSoundFor, ImplsAreSound}
 use Rattle.candidate_model.proofs.Cover.{IsAsked, asked-by}
@@ -85,7 +85,7 @@ module _ (m : ViewMeaning) (declared : is_declared_view m.view ≡ true) (determ
     header = header-declared V declared i member
 
     header-is : rx.args ≡ read_with (given s.slots) (rules_behind n i.header).args
-    header-is = heads a is.over are (kinds_of_params i.header.args zero i.params) s i.header.args (left (is_made is_declared terms i.header.args) (not (some_node is_counted i.header.args)) header) meets
+    header-is = heads a is.over are (kinds_of_params i.header.args zero i.params) s i.header.args (left (is_made is_declared_leaf terms i.header.args) (not (some_node is_counted i.header.args)) header) meets
 
     goal-plain : Plain rx.args
     goal-plain =
@@ -99,7 +99,7 @@ module _ (m : ViewMeaning) (declared : is_declared_view m.view ≡ true) (determ
     header-values = subst (λ t. AreValues n s.slots (arguments i.params i.header.args t) i.header.args) (sym header-is) (arguments-are i.params i.header.args (impl-sorted i member) n s.slots header)
 
     -- what is declared over parameters of the header is read as the instance by what is read off
-    instance : (t : Trees) → are_terms t ≡ true → ((k : Sort) (j : ℕ) → some_node (is_param k j) t ≡ true → some_node (is_param k j) i.header.args ≡ true) → instantiate zero A t ≡ read_with (given s.slots) (rules_behind n (record { trait = 0; args = t })).args
+    instance : (t : Trees) → are_terms t ≡ true → ((k : Sort) (j : ℕ) → some_node (is_this_param k j) t ≡ true → some_node (is_this_param k j) i.header.args ≡ true) → instantiate zero A t ≡ read_with (given s.slots) (rules_behind n (record { trait = 0; args = t })).args
     instance t d stands = instance-is n s.slots A (plain-unbound A A-plain) t d zero (λ k j e. header-values k j (stands k j e))
 
     same-references : (t u : ℕ) (x y : Trees) → t ≡ u → x ≡ y → ◌≡◌ {A = Reference} (record { trait = t; args = x }) (record { trait = u; args = y })

@@ -98,12 +98,12 @@ by_clauses V a (r ∷ rs) =
 
 -- ---- impls
 -- the sort of an impl's parameter is that with which it stands in the header; one that stands nowhere there is a lifetime
-abbrev pub is_param : Sort → ℕ → Label → Bool
-is_param k i (param s j) = is_sort k s && (i == j)
-is_param k i l = false
+abbrev pub is_this_param : Sort → ℕ → Label → Bool
+is_this_param k i (param s j) = is_sort k s && (i == j)
+is_this_param k i l = false
 
 abbrev pub kind_of_param : Trees → ℕ → CanonicalVarKind
-kind_of_param header i = if some_node (is_param of_type i) header then Ty else if some_node (is_param of_const i) header then Const else Region
+kind_of_param header i = if some_node (is_this_param of_type i) header then Ty else if some_node (is_this_param of_const i) header then Const else Region
 
 -- the kinds of the parameters from number i on, of which there are so many
 abbrev pub kinds_of_params : Trees → ℕ → ℕ → List CanonicalVarKind

@@ -10,12 +10,12 @@ use Rattle.type_terms.specs.Made.{terms}
 use Rattle.type_terms.specs.Made.{is_made}
 
 -- of open places only parameters stand in declarations
-abbrev pub is_declared : Label → Bool
-is_declared (placeholder k i) = false
-is_declared (infer k i) = false
-is_declared (canonical k i) = false
-is_declared (bound k j i) = false
-is_declared l = true
+abbrev pub is_declared_leaf : Label → Bool
+is_declared_leaf (placeholder k i) = false
+is_declared_leaf (infer k i) = false
+is_declared_leaf (canonical k i) = false
+is_declared_leaf (bound k j i) = false
+is_declared_leaf l = true
 
 -- a binder that counts its lifetimes
 abbrev pub is_counted : Label → Bool
@@ -25,7 +25,7 @@ is_counted l = false
 
 -- terms that are made as they are to be, and bind no lifetimes
 abbrev pub are_terms : Trees → Bool
-are_terms t = is_made is_declared terms t && not (some_node is_counted t)
+are_terms t = is_made is_declared_leaf terms t && not (some_node is_counted t)
 
 abbrev pub IsDeclared : Trees → Type 0
 IsDeclared t = are_terms t ≡ true

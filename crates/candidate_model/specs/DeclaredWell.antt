@@ -6,7 +6,7 @@ use Rattle.type_terms.specs.Promised.Trees.{Trees, none, tree, some_node}
 use Rattle.type_terms.specs.Trees.{is_no_tree}
 use Rattle.type_terms.specs.Promised.Worlds.{World, Reference, StructDecl, TraitDecl, ImplDecl, traits_named}
 use Rattle.type_terms.specs.Promised.Core.{core_world}
-use Rattle.candidate_model.specs.Candidates.{is_param}
+use Rattle.candidate_model.specs.Candidates.{is_this_param}
 use Rattle.candidate_model.specs.Declared.{is_declared_view, StructsAreOne, FieldsAreOne, BoundsAreErased, is_lifetime_parameter, parameters_are_sorted, LeadDown}
 use Rattle.candidate_model.specs.Determined.{ImplsAreDetermined}
 use Rattle.candidate_model.specs.Promised.Widths.{greatest}
@@ -31,7 +31,7 @@ pub record IsDeclaredWell (V : World) : Type 0 where
 -- ---- tests
 -- a parameter that does not stand in the header, with its sort
 abbrev pub is_loose : Trees → Label → Bool
-is_loose header (param s i) = not (some_node (is_param s i) header)
+is_loose header (param s i) = not (some_node (is_this_param s i) header)
 is_loose header l = false
 
 abbrev pub impls_are_determined : World → Bool

@@ -155,9 +155,9 @@ pub record Searched (m : ViewMeaning) (f : CanonicalForm) : Type 0 where
   pub no_clauses : f.goal.environment ≡ none
   pub no_placeholders : has_placeholder (kinds_known f.kinds) ≡ false
 
-abbrev pub world_of : ViewMeaning → TypingMode → CanonicalForm → Type 0
-world_of m Coherence f = Searched m f
-world_of m PostAnalysis f = ⊥
+abbrev pub searched_world : ViewMeaning → TypingMode → CanonicalForm → Type 0
+searched_world m Coherence f = Searched m f
+searched_world m PostAnalysis f = ⊥
 
 -- of what has a proof: a proper fact of a closed reference that has one
 pub record IsSolution (H : Reference → Type 0) (f : Fact) : Type 0 where
@@ -166,7 +166,7 @@ pub record IsSolution (H : Reference → Type 0) (f : Fact) : Type 0 where
   pub closed : is_closed (reference_in f).args ≡ true
   pub proof : H (reference_in f)
 
-abbrev pub proves_in : (m : ViewMeaning) (mode : TypingMode) (f : CanonicalForm) → world_of m mode f → Fact → Type 0
+abbrev pub proves_in : (m : ViewMeaning) (mode : TypingMode) (f : CanonicalForm) → searched_world m mode f → Fact → Type 0
 proves_in m Coherence f w g = IsSolution (proved_at w.place) g
 proves_in m PostAnalysis f w g = ⊥
 
@@ -178,7 +178,7 @@ module _ (applicable : AnswerTrees → Bool) (same : AnswerTrees → AnswerTrees
     begin = begin (kinds_known f.kinds);
     plan = plan_for applicable same (begin (kinds_known f.kinds)) m mode (goal_over_kinds m.view f);
     Rule = FollowsByView m.view;
-    World = world_of m mode f;
+    World = searched_world m mode f;
     Proves = proves_in m mode f;
     coinductive = is_coinductive_trait m.view (trait_of f.goal.predicate);
     candidates = most_candidates m.view f;

@@ -13,7 +13,7 @@ use Rattle.type_terms.specs.declared.kinds.GenericArgKind.{GenericArgKind}
 use Rattle.type_terms.proofs.Made.{left, right, false-true, no-tree, made-ordinary}
 use Rattle.type_terms.proofs.MadeFacts.{arg-made}
 use Rattle.text_language.specs.Promised.Declarations.{Declarations, Question, Variable}
-use Rattle.text_language.specs.Names.{of_kind, own_from, own_unknowns, valued, with_free, free_unknowns, question_names, value_texts, answer_values}
+use Rattle.text_language.specs.Names.{variables_of_kind, own_from, own_unknowns, valued, with_free, free_unknowns, question_names, value_texts, answer_values}
 use Rattle.text_language.specs.Output.{Names, ValueText, type_text}
 use Rattle.coherence.proofs.ErasedTexts.{text-same}
 use Rattle.coherence.proofs.TermVariables.{IsTerm, AreTermVariables}
@@ -117,7 +117,7 @@ valued-made (v ∷ vs) (u ∷ us) (t ∷ ts) h = made-if (same u t) v t (valued 
 
 module _ (q : Question) where
   lifetime-leaf : (l : Label) → is_sort (sort_of l) of_lifetime ≡ true → (us : List (Sort × ℕ)) → with_free q (erase (leaf l)) us ≡ with_free q (leaf l) us
-  lifetime-leaf (infer of_lifetime i) h us = sym (same-if (nat_lt i (length (of_kind of_lifetime q.variables))) us)
+  lifetime-leaf (infer of_lifetime i) h us = sym (same-if (nat_lt i (length (variables_of_kind of_lifetime q.variables))) us)
   lifetime-leaf (infer of_type i) h us = absurd (false-true h)
   lifetime-leaf (infer of_const i) h us = absurd (false-true h)
   lifetime-leaf (param of_lifetime i) h us = refl
@@ -136,7 +136,7 @@ module _ (q : Question) where
         let x = made-ordinary is_in_range (infer of_lifetime i) c o refl m in
         let e : c ≡ none = no-tree c x.1 in
         let leaves : with_free q (erase c) us ≡ us = ap (λ (z : Trees). with_free q (erase z) us) e in
-        ap (with_free q (erase o)) (leaves ∙ sym (same-if (nat_lt i (length (of_kind of_lifetime q.variables))) us)) ∙ free-terms o x.3 _
+        ap (with_free q (erase o)) (leaves ∙ sym (same-if (nat_lt i (length (variables_of_kind of_lifetime q.variables))) us)) ∙ free-terms o x.3 _
     free-terms (tree (infer of_type i) c o) m us = free-terms o (made-ordinary is_in_range (infer of_type i) c o refl m).3 _
     free-terms (tree (infer of_const i) c o) m us = free-terms o (made-ordinary is_in_range (infer of_const i) c o refl m).3 _
     free-terms (tree dynamic c o) m us =

@@ -11,7 +11,7 @@ use Rattle.type_terms.specs.Made.{Standing, terms, bounds, traits, is_made}
 use Rattle.type_terms.proofs.Made.{left, right, false-true, no-tree, made-ordinary, last-bound, last-trait, never-dynamic, never-dynamic-bound, never-principal}
 use Rattle.type_terms.proofs.Members.{same-number, self-number}
 use Rattle.text_language.specs.Promised.Declarations.{NamedImpl}
-use Rattle.candidate_model.specs.Declared.{is_declared}
+use Rattle.candidate_model.specs.Declared.{is_declared_leaf}
 use Rattle.view_lowering.proofs.Sorts.{is_bad}
 use Rattle.view_lowering.proofs.Tests.{is_good, all_stand, is_good_impl}
 use Rattle.view_lowering.specs.Promised.SeenWorlds.{plain, plain_label, all_kept}
@@ -59,7 +59,7 @@ in-third false true c e = refl
 in-third false false c e = e
 
 -- ---- no unknown and no placeholder stands there
-label-known : (l : Label) → is_declared l ≡ true → is_stray (erase_label l) ≡ false
+label-known : (l : Label) → is_declared_leaf l ≡ true → is_stray (erase_label l) ≡ false
 label-known (placeholder s i) h = absurd (false-true h)
 label-known (infer s i) h = absurd (false-true h)
 label-known (canonical s i) h = absurd (false-true h)
@@ -74,31 +74,31 @@ label-known l h = refl
 abbrev Known : Trees → Type 0
 Known t = some_node is_stray (erase t) ≡ false
 
-node-known : (l : Label) (c o : Trees) → is_declared l ≡ true → Known c → Known o → Known (tree l c o)
+node-known : (l : Label) (c o : Trees) → is_declared_leaf l ≡ true → Known c → Known o → Known (tree l c o)
 node-known l c o g h k = or-all (is_stray (erase_label l)) _ _ (label-known l g) h k
 
 nothing-known : (c : Trees) → c ≡ none → Known c
 nothing-known c e = ap (λ z. some_node is_stray (erase z)) e
 
-made-known : (m : Standing) (t : Trees) → is_made is_declared m t ≡ true → Known t
+made-known : (m : Standing) (t : Trees) → is_made is_declared_leaf m t ≡ true → Known t
 made-known m none h = refl
 made-known terms (tree dynamic c o) h =
-    node-known dynamic c o refl (made-known bounds c (left (is_made is_declared bounds c) (is_made is_declared terms o) h)) (made-known terms o (right (is_made is_declared bounds c) (is_made is_declared terms o) h))
+    node-known dynamic c o refl (made-known bounds c (left (is_made is_declared_leaf bounds c) (is_made is_declared_leaf terms o) h)) (made-known terms o (right (is_made is_declared_leaf bounds c) (is_made is_declared_leaf terms o) h))
 made-known terms (tree (principal n t) c o) h = absurd (false-true h)
 made-known terms (tree (auto_trait n) c o) h = absurd (false-true h)
 made-known terms (tree (predicate k) c o) h = absurd (false-true h)
-made-known terms (tree l c o) h = let x = made-ordinary is_declared l c o refl h in node-known l c o x.0 (made-known terms c x.2) (made-known terms o x.3)
+made-known terms (tree l c o) h = let x = made-ordinary is_declared_leaf l c o refl h in node-known l c o x.0 (made-known terms c x.2) (made-known terms o x.3)
 made-known bounds (tree (principal n t) c o) h =
-    node-known (principal n t) c o refl (made-known terms c (left (is_made is_declared terms c) (is_made is_declared traits o) h)) (made-known traits o (right (is_made is_declared terms c) (is_made is_declared traits o) h))
-made-known bounds (tree (auto_trait n) c o) h = node-known (auto_trait n) c o refl (nothing-known c (no-tree c (left (is_no_tree c) (is_made is_declared traits o) h))) (made-known traits o (right (is_no_tree c) (is_made is_declared traits o) h))
+    node-known (principal n t) c o refl (made-known terms c (left (is_made is_declared_leaf terms c) (is_made is_declared_leaf traits o) h)) (made-known traits o (right (is_made is_declared_leaf terms c) (is_made is_declared_leaf traits o) h))
+made-known bounds (tree (auto_trait n) c o) h = node-known (auto_trait n) c o refl (nothing-known c (no-tree c (left (is_no_tree c) (is_made is_declared_leaf traits o) h))) (made-known traits o (right (is_no_tree c) (is_made is_declared_leaf traits o) h))
 made-known bounds (tree (predicate k) c o) h = absurd (false-true h)
-made-known bounds (tree dynamic c o) h = absurd (never-dynamic-bound is_declared c o h)
-made-known bounds (tree l c o) h = let x = last-bound is_declared l c o refl h in node-known l c o x.good_label (nothing-known c x.children) (nothing-known o x.rest)
-made-known traits (tree (auto_trait n) c o) h = node-known (auto_trait n) c o refl (nothing-known c (no-tree c (left (is_no_tree c) (is_made is_declared traits o) h))) (made-known traits o (right (is_no_tree c) (is_made is_declared traits o) h))
+made-known bounds (tree dynamic c o) h = absurd (never-dynamic-bound is_declared_leaf c o h)
+made-known bounds (tree l c o) h = let x = last-bound is_declared_leaf l c o refl h in node-known l c o x.good_label (nothing-known c x.children) (nothing-known o x.rest)
+made-known traits (tree (auto_trait n) c o) h = node-known (auto_trait n) c o refl (nothing-known c (no-tree c (left (is_no_tree c) (is_made is_declared_leaf traits o) h))) (made-known traits o (right (is_no_tree c) (is_made is_declared_leaf traits o) h))
 made-known traits (tree (predicate k) c o) h = absurd (false-true h)
-made-known traits (tree dynamic c o) h = absurd (never-dynamic is_declared c o h)
-made-known traits (tree (principal n t) c o) h = absurd (never-principal is_declared n t c o h)
-made-known traits (tree l c o) h = let x = last-trait is_declared l c o refl h in node-known l c o x.good_label (nothing-known c x.children) (nothing-known o x.rest)
+made-known traits (tree dynamic c o) h = absurd (never-dynamic is_declared_leaf c o h)
+made-known traits (tree (principal n t) c o) h = absurd (never-principal is_declared_leaf n t c o h)
+made-known traits (tree l c o) h = let x = last-trait is_declared_leaf l c o refl h in node-known l c o x.good_label (nothing-known c x.children) (nothing-known o x.rest)
 
 -- ---- lifetimes aside, the same parameters stand there without lifetimes
 label-kept : (s : Sort) (i : ℕ) → is_sort s of_lifetime ≡ false → (l : Label) → is_param s i (erase_label l) ≡ is_param s i l
@@ -221,7 +221,7 @@ module _ (n : NamedImpl) (well : is_good_impl n ≡ true) where
   stand = left (all_stand written 0 sorts) _ (right (n.item.params == length sorts) _ (right (is_good all_kept sorts written) _ well))
 
   fitting : some_node (is_bad sorts) (plain all_kept written) ≡ false
-  fitting = not-true (some_node (is_bad sorts) (plain all_kept written)) (right (is_made is_declared terms (plain all_kept written)) _ good)
+  fitting = not-true (some_node (is_bad sorts) (plain all_kept written)) (right (is_made is_declared_leaf terms (plain all_kept written)) _ good)
     where
       not-true : (b : Bool) → not b ≡ true → b ≡ false
       not-true true e = absurd (false-true e)
@@ -259,4 +259,4 @@ module _ (n : NamedImpl) (well : is_good_impl n ≡ true) where
   )
 
   pub header-ok : AllOk n.params header knows header
-  header-ok = all-ok header (λ s i e. e) (ap (some_node is_stray) (sym (plain-same written)) ∙ made-known terms (plain all_kept written) (left (is_made is_declared terms (plain all_kept written)) _ good))
+  header-ok = all-ok header (λ s i e. e) (ap (some_node is_stray) (sym (plain-same written)) ∙ made-known terms (plain all_kept written) (left (is_made is_declared_leaf terms (plain all_kept written)) _ good))

@@ -4,7 +4,7 @@ use Rattle.std.specs.Prelude.{slice_get, filter}
 use Rattle.std.specs.List.{flat_map}
 use Rattle.std.proofs.lemmas.Option.{same_Some}
 use Rattle.type_terms.specs.Promised.Label.{Sort, of_type, of_const, of_lifetime}
-use Rattle.text_language.specs.Promised.Syntax.{TypeTree, of_primitive, never_type, variable_type, named, reference_to, pointer_to, slice_of, array_of, tuple_of, fn_of, fn_to, dyn_of, Types, no_types, and_type, Args, no_args, and_arg, Arg, lifetime_arg, number_arg, type_arg, Item, bound_item, lifetime_item, Items, no_items, and_item, Length, number_length, name_length, variable_length, Bound, Clause, Line, crate_line, struct_line, trait_line, impl_line, prove_line, refute_line, later_line, supers_line}
+use Rattle.text_language.specs.Promised.Syntax.{TypeTree, of_primitive, never_type, variable_type, named, reference_to, pointer_to, slice_of, array_of, tuple_of, fn_of, fn_to, dyn_of, Types, no_types, and_type, Args, no_args, and_arg, Arg, lifetime_arg, number_arg, type_arg, Item, bound_item, lifetime_item, DynBounds, no_items, and_item, Length, number_length, name_length, variable_length, Bound, Clause, Line, crate_line, struct_line, trait_line, impl_line, prove_line, refute_line, later_line, supers_line}
 use Rattle.text_language.specs.Promised.Declarations.{Declarations, NamedImpl, Question, Variable, known}
 use Rattle.text_language.specs.Declarations.{nothing_declared}
 use Rattle.text_language.specs.Uses.{Use, variable_use, misfit_use, kinds_of_struct, kinds_of_trait, next_kind, other_kinds, length_uses, lifetime_uses, binder_uses, type_uses, types_uses, args_uses, arg_uses, item_uses, items_uses, bound_uses, clause_uses}
@@ -109,7 +109,7 @@ mutual
   item-fine d s (bound_item b n args) h = fine-append (binder_uses s b) _ (binder-fine s b) (λ g. (tt, args-fine d (b ∷ s) (kinds_of_trait (known d n)) args g.1)) h
   item-fine d s (lifetime_item n) h = (tt, tt)
 
-  items-fine : (d : Declarations) (s : List (List (List ℕ))) (is : Items) → AreFine (items_uses d s is)
+  items-fine : (d : Declarations) (s : List (List (List ℕ))) (is : DynBounds) → AreFine (items_uses d s is)
   items-fine d s no_items h = tt
   items-fine d s (and_item i is) h = fine-append (item_uses d s i) (items_uses d s is) (item-fine d s i) (items-fine d s is) h
 

@@ -12,7 +12,7 @@ use Rattle.declarations.specs.Items.{HeldImpl, ids_with, ids_headed}
 use Rattle.declarations.specs.Index.{ids_of}
 use Rattle.declarations.specs.Promised.Elaboration.{Each}
 use Rattle.declarations.specs.Merges.{Rises}
-use Rattle.declarations.specs.Relevant.{is_above, next_above, names_of, smaller_of}
+use Rattle.declarations.specs.Relevant.{is_above, next_above, impl_indices, smaller_of}
 use Rattle.declarations.proofs.Merging.{rises-filtered}
 use Rattle.declarations.proofs.Relevance.{rel, spread}
 
@@ -70,12 +70,12 @@ rises-headed t None is r = tt
 rises-headed t (Some l) is r = rises-with t (Some l) is r
 
 -- ---- the first of them
-pub first-kept : (last : Option ImplId) (ids : List ImplId) → option_map (λ i. i.index) (slice_get (filter (λ i. is_above last i.index) ids) 0) ≡ next_above last (names_of ids)
+pub first-kept : (last : Option ImplId) (ids : List ImplId) → option_map (λ i. i.index) (slice_get (filter (λ i. is_above last i.index) ids) 0) ≡ next_above last (impl_indices ids)
 first-kept last [] = refl
 first-kept last (i ∷ ids) = by (is_above last i.index) (first-kept last ids)
   where
-    by : (b : Bool) → option_map (λ i. i.index) (slice_get (filter (λ i. is_above last i.index) ids) 0) ≡ next_above last (names_of ids)
-        → option_map (λ i. i.index) (slice_get (cond b (i ∷ filter (λ i. is_above last i.index) ids) (filter (λ i. is_above last i.index) ids)) 0) ≡ cond b (Some i.index) (next_above last (names_of ids))
+    by : (b : Bool) → option_map (λ i. i.index) (slice_get (filter (λ i. is_above last i.index) ids) 0) ≡ next_above last (impl_indices ids)
+        → option_map (λ i. i.index) (slice_get (cond b (i ∷ filter (λ i. is_above last i.index) ids) (filter (λ i. is_above last i.index) ids)) 0) ≡ cond b (Some i.index) (next_above last (impl_indices ids))
     by true h = refl
     by false h = h
 
@@ -112,15 +112,15 @@ alone-smaller (Some m) = refl
 
 module _ (last : Option ImplId) where
   abbrev pub first : (HeldImpl → Bool) → List HeldImpl → Option ℕ
-  first t is = next_above last (names_of (ids_of t is))
+  first t is = next_above last (impl_indices (ids_of t is))
 
   pub in-front : (t : HeldImpl → Bool) (b u : Bool) (i : HeldImpl) (is : List HeldImpl) → t i ≡ b → is_above last i.id.index ≡ u
       → first t (i ∷ is) ≡ cond b (cond u (Some i.id.index) (first t is)) (first t is)
   in-front t b u i is e g =
-      ap (λ c. next_above last (names_of (map (λ (j : HeldImpl). j.id) (cond c (i ∷ filter t is) (filter t is))))) e ∙ by b
+      ap (λ c. next_above last (impl_indices (map (λ (j : HeldImpl). j.id) (cond c (i ∷ filter t is) (filter t is))))) e ∙ by b
       ∙ ap (λ v. cond b (cond v (Some i.id.index) (first t is)) (first t is)) g
     where
-      by : (c : Bool) → next_above last (names_of (map (λ (j : HeldImpl). j.id) (cond c (i ∷ filter t is) (filter t is)))) ≡ cond c (cond (is_above last i.id.index) (Some i.id.index) (first t is)) (first t is)
+      by : (c : Bool) → next_above last (impl_indices (map (λ (j : HeldImpl). j.id) (cond c (i ∷ filter t is) (filter t is)))) ≡ cond c (cond (is_above last i.id.index) (Some i.id.index) (first t is)) (first t is)
       by true = refl
       by false = refl
 
@@ -154,8 +154,8 @@ module _ (last : Option ImplId) where
 
 -- those that can match a type, by their heads
 pub next-headed : (last : Option ImplId) (t : ℕ) (h : Option Label) (is : List HeldImpl) → Rises (map (λ i. i.id) is)
-    → next_above last (names_of (ids_of (rel t h) is)) ≡ smaller_of (next_above last (names_of (ids_with t None is))) (next_above last (names_of (ids_headed t h is)))
-next-headed last t None is r = alone-smaller (next_above last (names_of (ids_with t None is)))
+    → next_above last (impl_indices (ids_of (rel t h) is)) ≡ smaller_of (next_above last (impl_indices (ids_with t None is))) (next_above last (impl_indices (ids_headed t h is)))
+next-headed last t None is r = alone-smaller (next_above last (impl_indices (ids_with t None is)))
 next-headed last t (Some l) is r =
     next-either last (λ i. (i.def.header.def_id.index == t) && same_self None i.self_head) (λ i. (i.def.header.def_id.index == t) && same_self (Some l) i.self_head) (rel t (Some l))
     (λ i. spread (i.def.header.def_id.index == t) (same_self None i.self_head) (same_self (Some l) i.self_head)) is r

@@ -23,7 +23,7 @@ use Rattle.declarations.specs.Index.{has_key, has_open_head, ids_of}
 use Rattle.declarations.specs.Items.{Items, HeldImpl, impl_in, reference_in}
 use Rattle.declarations.specs.Promised.Elaboration.{Each}
 use Rattle.declarations.specs.Merges.{IsMerge}
-use Rattle.declarations.specs.Relevant.{is_relevant_to, is_match, matches_in, names_of}
+use Rattle.declarations.specs.Relevant.{is_relevant_to, is_match, matches_in, impl_indices}
 use Rattle.declarations.proofs.Keys.{same-self-itself}
 use Rattle.declarations.proofs.Meeting.{one-handle, not-apart-itself, fixed-apart}
 use Rattle.declarations.proofs.Merging.{merge-filtered}
@@ -96,7 +96,7 @@ module _ (es : List Entry) (t : ℕ) (args : Trees) (starts : StartsWithType arg
 
 -- ---- all of them
 matched : (es : List Entry) (t : ℕ) (args : Trees) (p : HeldImpl → Bool) (is : List HeldImpl) → Each (λ (i : HeldImpl). p i ≡ is_match t args (impl_in es i.id i.def)) is
-    → names_of (ids_of p is) ≡ map (λ i. i.name) (filter (is_match t args) (map (λ i. impl_in es i.id i.def) is))
+    → impl_indices (ids_of p is) ≡ map (λ i. i.name) (filter (is_match t args) (map (λ i. impl_in es i.id i.def) is))
 matched es t args p [] h = refl
 matched es t args p (i ∷ is) h =
     one-more (p i) (is_match t args (impl_in es i.id i.def)) i (impl_in es i.id i.def) (filter p is) (filter (is_match t args) (map (λ i. impl_in es i.id i.def) is)) refl h.0 (matched es t args p is h.1)
@@ -108,7 +108,7 @@ each-open es t args s [] h e = tt
 each-open es t args s (i ∷ is) h e = (open-match es t args s i h.0 e.0, each-open es t args s is h.1 e.1)
 
 pub open-matching : (es : List Entry) (d : Items) (t : ℕ) (args : Trees) → StartsWithType args → AreHeld es d
-    → names_of (ids_of (λ i. rel t (head_of args) i && meets es args i) d.impls) ≡ matches_in es d (record { trait = t; args = args })
+    → impl_indices (ids_of (λ i. rel t (head_of args) i && meets es args i) d.impls) ≡ matches_in es d (record { trait = t; args = args })
 open-matching es d t args s h = matched es t args (λ i. rel t (head_of args) i && meets es args i) d.impls (each-open es t args s d.impls h.impls h.heads)
 
 -- ---- of a fixed reference
@@ -197,5 +197,5 @@ module _ (es : List Entry) (law : Lawful es) (r : TraitRef) (held : ReferenceHel
   each-fixed [] h e f = tt
   each-fixed (i ∷ is) h e f = (fixed-match i h.0 e.0 f.0, each-fixed is h.1 e.1 f.1)
 
-  pub fixed-matching : (d : Items) → AreHeld es d → names_of (ids_of can_meet d.impls) ≡ matches_in es d (reference_in es r)
+  pub fixed-matching : (d : Items) → AreHeld es d → impl_indices (ids_of can_meet d.impls) ≡ matches_in es d (reference_in es r)
   fixed-matching d h = matched es r.def_id.index asked can_meet d.impls (each-fixed d.impls h.impls h.heads h.fixed)

@@ -15,7 +15,7 @@ use Rattle.declarations.specs.Promised.Elaboration.{Each}
 use Rattle.declarations.specs.Merges.{IsMerge}
 use Rattle.declarations.specs.Items.{Items, HeldImpl, impl_in, declared, ids_with, ids_headed}
 use Rattle.declarations.specs.Held.{ImplHeld, AreHeld}
-use Rattle.declarations.specs.Relevant.{is_relevant_to, relevant_impls, names_of}
+use Rattle.declarations.specs.Relevant.{is_relevant_to, relevant_impls, impl_indices}
 use Rattle.declarations.proofs.Merging.{merge-alone, merge-filtered}
 
 -- an impl with this head can match a type with that one
@@ -87,14 +87,14 @@ relevant-one l c o (tree m d q) h = relevant-at l m c o d q h
 
 -- ---- lists
 pub one-more : (a b : Bool) (i : HeldImpl) (j : ImplDecl) (is : List HeldImpl) (js : List ImplDecl) → i.id.index ≡ j.name → a ≡ b
-    → names_of (map (λ i. i.id) is) ≡ map (λ j. j.name) js → names_of (map (λ i. i.id) (cond a (i ∷ is) is)) ≡ map (λ j. j.name) (cond b (j ∷ js) js)
+    → impl_indices (map (λ i. i.id) is) ≡ map (λ j. j.name) js → impl_indices (map (λ i. i.id) (cond a (i ∷ is) is)) ≡ map (λ j. j.name) (cond b (j ∷ js) js)
 one-more true true i j is js n e r = cc
 one-more true false i j is js n e r = absurd cc
 one-more false true i j is js n e r = absurd cc
 one-more false false i j is js n e r = r
 
 names-relevant : (es : List Entry) (is : List HeldImpl) (t : ℕ) (l : Label) (c o : Trees) → Each (λ i. ImplHeld es i.def) is → Each (λ (i : HeldImpl). i.self_head ≡ head_of (trees_at es i.def.header.args.0)) is
-    → names_of (map (λ i. i.id) (filter (rel t (head_of (tree l c o))) is))
+    → impl_indices (map (λ i. i.id) (filter (rel t (head_of (tree l c o))) is))
     ≡ map (λ i. i.name) (filter (λ i. (i.header.trait == t) && is_relevant_to (erase (tree l c o)) i.header.args) (map erased_impl (map (λ i. impl_in es i.id i.def) is)))
 names-relevant es [] t l c o h e = refl
 names-relevant es (i ∷ is) t l c o h e =
@@ -104,7 +104,7 @@ names-relevant es (i ∷ is) t l c o h e =
     (names-relevant es is t l c o h.1 e.1)
 
 pub all-relevant : (es : List Entry) (d : Items) (t : ℕ) (S : Trees) → IsA of_type S → AreHeld es d
-    → names_of (map (λ i. i.id) (filter (rel t (head_of S)) d.impls)) ≡ map (λ i. i.name) (relevant_impls (declared es d) t (erase S))
+    → impl_indices (map (λ i. i.id) (filter (rel t (head_of S)) d.impls)) ≡ map (λ i. i.name) (relevant_impls (declared es d) t (erase S))
 all-relevant es d t none s h = absurd s
 all-relevant es d t (tree l c o) s h = names-relevant es d.impls t l c o h.impls h.heads
 

@@ -7,13 +7,13 @@ use Rattle.type_terms.specs.Promised.Rules.{asked}
 use Rattle.type_terms.specs.Promised.Core.{type_param}
 
 -- A trait with these supertraits of parameter 0.
-abbrev pub plain_trait : ℕ → List ℕ → TraitDecl
-plain_trait t ts = record { name = t; home = core; is_fundamental = false; is_auto = false; bounds = map (λ s. asked s (type_param 0)) ts }
+abbrev pub trait_with_supers : ℕ → List ℕ → TraitDecl
+trait_with_supers t ts = record { name = t; home = core; is_fundamental = false; is_auto = false; bounds = map (λ s. asked s (type_param 0)) ts }
 
 -- `trait Top; trait Left: Top; trait Right: Top; trait Bottom: Left + Right`, with the numbers 0 to 3.
 abbrev pub diamond : World
 diamond =
-    record { crates = []; structs = []; traits = plain_trait 0 [] ∷ plain_trait 1 (0 ∷ []) ∷ plain_trait 2 (0 ∷ []) ∷ plain_trait 3 (1 ∷ 2 ∷ []) ∷ []; impls = [] }
+    record { crates = []; structs = []; traits = trait_with_supers 0 [] ∷ trait_with_supers 1 (0 ∷ []) ∷ trait_with_supers 2 (0 ∷ []) ∷ trait_with_supers 3 (1 ∷ 2 ∷ []) ∷ []; impls = [] }
 
 -- The type u8 asked for each of the traits.
 abbrev pub asked_of_u8 : List ℕ → List Reference

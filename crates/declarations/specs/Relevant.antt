@@ -23,8 +23,8 @@ abbrev pub relevant_impls : World → ℕ → Trees → List ImplDecl
 relevant_impls W t self = filter (λ i. (i.header.trait == t) && is_relevant_to self i.header.args) W.impls
 
 -- The numbers of impls.
-abbrev pub names_of : List ImplId → List ℕ
-names_of ids = map (λ i. i.index) ids
+abbrev pub impl_indices : List ImplId → List ℕ
+impl_indices ids = map (λ i. i.index) ids
 
 -- The numbers of the impls of the trait that can match the type S, over the terms of an interner.
 abbrev pub relevant_in : List Entry → Items → ℕ → Trees → List ℕ
@@ -56,4 +56,4 @@ smaller_of (Some m) (Some n) = if nat_lt m n then Some m else Some n
 
 -- Steps of a closure, one at each impl of these numbers, in their order.
 abbrev pub CallsAtEach : {F : Type 0} → (F → ImplId → F → Type 0) → F → List ℕ → Type 0
-CallsAtEach {F} step f names = (ids : List ImplId) × (last : F) × (names_of ids ≡ names) × FoldsTo step f ids last
+CallsAtEach {F} step f names = (ids : List ImplId) × (last : F) × (impl_indices ids ≡ names) × FoldsTo step f ids last

@@ -3,7 +3,7 @@ ghost use Rattle.std.specs.Prelude.{◌≡◌, ◌∷◌, [], ◌+◌, List, Mat
 ghost use Rattle.std.specs.List.{FoldsTo};
 ghost use Rattle.declarations.specs.Merges.{IsMerge, IsNext, Rises};
 ghost use Rattle.std.specs.Option.{option_map};
-ghost use Rattle.declarations.specs.Relevant.{is_above, next_above, names_of, smaller_of};
+ghost use Rattle.declarations.specs.Relevant.{is_above, next_above, impl_indices, smaller_of};
 ghost use Rattle.type_terms.specs.declared.ImplId.{ImplId};
 
 use type_terms::ImplId;
@@ -25,7 +25,7 @@ pub(crate) fn ids_above(ids: &[ImplId], last: Option<ImplId>) -> &[ImplId]
 /// The first of rising numbers that is above `last`.
 pub(crate) fn first_above(ids: &[ImplId], last: Option<ImplId>) -> Option<ImplId>
     requires { Rises ids.now }
-    ensures { option_map (λ i. i.index) result ≡ next_above last (names_of ids.now) }
+    ensures { option_map (λ i. i.index) result ≡ next_above last (impl_indices ids.now) }
 {
     match ids_above(ids, last).first() {
         Some(id) => Some(*id),

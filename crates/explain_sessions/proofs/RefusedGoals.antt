@@ -29,7 +29,7 @@ use Rattle.type_terms.specs.Promised.Questions.{IsRefuted}
 use Rattle.proof_checker.specs.Steps.{term_of}
 use Rattle.proof_checker.proofs.Later.{term-same}
 use Rattle.text_language.specs.Promised.Declarations.{Declarations}
-use Rattle.view_lowering.specs.QuestionVariables.{number_of, is_stray}
+use Rattle.view_lowering.specs.QuestionVariables.{number_of, is_undeclared_variable}
 use Rattle.sessions.specs.Checking.{solving_in}
 use Rattle.sessions.specs.Impossible.{IsImpossible, resolved_alone}
 use Rattle.sessions.specs.Promised.Promises.{view_in}
@@ -92,7 +92,7 @@ module _ (t : Table) where
   more : (i n m : ℕ) → n ≤ m → not (nat_lt i n) ≡ false → not (ltb i m) ≡ false
   more i n m e h = grind (arith, nat_tests)
 
-  label-fine : (l : Label) → is_other_place (variables_of t) l ≡ false → is_stray ks (erase_label l) ≡ false
+  label-fine : (l : Label) → is_other_place (variables_of t) l ≡ false → is_undeclared_variable ks (erase_label l) ≡ false
   label-fine (infer of_type i) h = more i t.ty_vars (number_of of_type ks) (enough-types t) h
   label-fine (infer of_const i) h = more i t.const_vars (number_of of_const ks) (enough-consts t) h
   label-fine (infer of_lifetime i) h = refl
@@ -110,10 +110,10 @@ module _ (t : Table) where
   label-fine (bound of_lifetime k i) h = refl
   label-fine l h = refl
 
-  no-stray : (x : Trees) → Own x → some_node (is_stray ks) (erase x) ≡ false
+  no-stray : (x : Trees) → Own x → some_node (is_undeclared_variable ks) (erase x) ≡ false
   no-stray none h = refl
   no-stray (tree l c o) h =
-      node (is_stray ks) (erase_label l) (erase c) (erase o) (label-fine l (here (variables_of t) l c o h)) (no-stray c (below (variables_of t) l c o h)) (no-stray o (behind (variables_of t) l c o h))
+      node (is_undeclared_variable ks) (erase_label l) (erase c) (erase o) (label-fine l (here (variables_of t) l c o h)) (no-stray c (below (variables_of t) l c o h)) (no-stray o (behind (variables_of t) l c o h))
 
 -- ---- a context that solves as before
 pub solves-later : (d : Declarations) (c : ℕ) (x y : SolverCx Solver) → SolvesTheSame x y → SolvesView d c x → SolvesView d c y

@@ -7,7 +7,7 @@ use Rattle.type_terms.specs.Promised.Proofs.{HasProof}
 use Rattle.type_terms.specs.Promised.Handles.{Entry}
 use Rattle.type_terms.specs.Promised.Worlds.{World, Reference}
 use Rattle.term_folds.specs.declared.predicate.TraitRef.{TraitRef}
-use Rattle.view_lowering.specs.QuestionVariables.{is_stray}
+use Rattle.view_lowering.specs.QuestionVariables.{is_undeclared_variable}
 use Rattle.type_terms.specs.Promised.Questions.{IsRefuted}
 use Rattle.proof_checker.specs.Steps.{term_of}
 
@@ -15,7 +15,7 @@ use Rattle.proof_checker.specs.Steps.{term_of}
 -- of these kinds. Whatever they stand for, it has no proof in a linked set with crate c, whose view is V.
 pub record IsRefusedGoal (V : World) (c : ℕ) (r : Reference) : Type 0 where
   pub kinds : List Sort
-  pub unknowns : some_node (is_stray kinds) r.args ≡ false
+  pub unknowns : some_node (is_undeclared_variable kinds) r.args ≡ false
   pub refuted : IsRefuted V c kinds r
 
 -- The goal at index p of rs is refused like this.

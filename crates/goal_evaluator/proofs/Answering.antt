@@ -8,7 +8,7 @@ use Rattle.type_terms.specs.Promised.Trees.{Trees, none, tree, leaf, ◌+++◌, 
 use Rattle.type_terms.specs.Trees.{is_a}
 use Rattle.type_terms.specs.Codes.{same_label}
 use Rattle.type_terms.proofs.Matching.{same-label-sound}
-use Rattle.infer_table.specs.Canonical.{OpenKinds, kind_of_leaf, StandsIn, HasNoCanonical, is_among, place_of, canonical_label, relabeled}
+use Rattle.infer_table.specs.Canonical.{OpenKinds, kind_of_leaf, StandsIn, HasNoCanonical, is_label_among, place_of, canonical_label, relabeled}
 use Rattle.infer_table.specs.Solutions.{Assignment, tree_of, resolved, HasValues}
 use Rattle.infer_table.proofs.CanonicalLaws.{leaves-hold}
 use Rattle.infer_table.specs.declared.canonical.CanonicalVarKind.{CanonicalVarKind}
@@ -121,11 +121,11 @@ stands-right : (kind : OpenKinds) (a b : Trees) (l : Label) → StandsIn kind b 
 stands-right kind none b l h = h
 stands-right kind (tree m c o) b l h = inr (inr (stands-right kind o b l h))
 
-term-label : (l : Label) (ls : List Label) → is_among l ls ≡ true → label_at ls (place_of l ls) ≡ l
+term-label : (l : Label) (ls : List Label) → is_label_among l ls ≡ true → label_at ls (place_of l ls) ≡ l
 term-label l [] h = absurd (false-true h)
 term-label l (m ∷ ms) h = by (same_label m l) refl h (term-label l ms)
   where
-    by : (b : Bool) → same_label m l ≡ b → (b || is_among l ms) ≡ true → (is_among l ms ≡ true → label_at ms (place_of l ms) ≡ l)
+    by : (b : Bool) → same_label m l ≡ b → (b || is_label_among l ms) ≡ true → (is_label_among l ms ≡ true → label_at ms (place_of l ms) ≡ l)
         → label_at (m ∷ ms) (if b then zero else suc (place_of l ms)) ≡ l
     by true e q r = same-label-sound m l e
     by false e q r = r q
@@ -135,14 +135,14 @@ abbrev leaf_terms : ChosenTerms → List Label → Assignment
 leaf_terms s ls k i = node_of k (of_sort k (reading_of s (label_at ls i)))
 
 module _ (s : ChosenTerms) (sorted : (k : Sort) (v : ℕ) → sort_of (s.unknowns k v).0 ≡ k) (ls : List Label) where
-  picked-leaf : (k : Sort) (l : Label) (x : Trees) → HasValues k → sort_of l ≡ k → standing s l ≡ Some x → is_among l ls ≡ true → Some (tree_of (leaf_terms s ls k (place_of l ls))) ≡ standing s l
+  picked-leaf : (k : Sort) (l : Label) (x : Trees) → HasValues k → sort_of l ≡ k → standing s l ≡ Some x → is_label_among l ls ≡ true → Some (tree_of (leaf_terms s ls k (place_of l ls))) ≡ standing s l
   picked-leaf k l x v e h a =
       let sort : is_a k (reading_of s l) ≡ true = reading-sorted s sorted k l v ∙ ap (λ z. is_sort z k) e ∙ is_sort-self k in
       ap Some ((node-is k (reading_of s (label_at ls (place_of l ls)))).whole ∙ ap (λ z. of_sort k (reading_of s z)) (term-label l ls a)
       ∙ sort-of-sort k (reading_of s l) sort ∙ read-leaf (standing s) l x h) ∙ sym h
 
   abbrev IsListed : Label → Type 0
-  IsListed l = IsSome (kind_of_leaf l) → is_among l ls ≡ true
+  IsListed l = IsSome (kind_of_leaf l) → is_label_among l ls ≡ true
 
   abbrev Picks : Label → Label → Type 0
   Picks l m = Carries (picked (leaf_terms s ls)) (standing s) l m
@@ -170,13 +170,13 @@ module _ (s : ChosenTerms) (sorted : (k : Sort) (v : ℕ) → sort_of (s.unknown
   picks (bound of_lifetime a b) c h = same-picks (bound of_lifetime a b) refl
   picks l c h = same-picks l refl
 
-  each-picks : (t : Trees) → HasNoCanonical t → ((l : Label) → StandsIn kind_of_leaf t l → is_among l ls ≡ true) → EachLabel (λ l. Picks l (if is_some (kind_of_leaf l) then canonical_label ls l else l)) t
+  each-picks : (t : Trees) → HasNoCanonical t → ((l : Label) → StandsIn kind_of_leaf t l → is_label_among l ls ≡ true) → EachLabel (λ l. Picks l (if is_some (kind_of_leaf l) then canonical_label ls l else l)) t
   each-picks none h a = tt
   each-picks (tree l c o) h a =
       let x = clean-parts l c o h in
       (picks l x.0 (λ i. a l (inl (refl, i))), each-picks c x.1 (λ m i. a m (inr (inl i))), each-picks o x.2 (λ m i. a m (inr (inr i))))
 
-  read-numbered : (t : Trees) → HasNoCanonical t → ((l : Label) → StandsIn kind_of_leaf t l → is_among l ls ≡ true) → read_with (picked (leaf_terms s ls)) (relabeled kind_of_leaf (canonical_label ls) t) ≡ read_with (standing s) t
+  read-numbered : (t : Trees) → HasNoCanonical t → ((l : Label) → StandsIn kind_of_leaf t l → is_label_among l ls ≡ true) → read_with (picked (leaf_terms s ls)) (relabeled kind_of_leaf (canonical_label ls) t) ≡ read_with (standing s) t
   read-numbered t h a = read-relabeled (picked (leaf_terms s ls)) (standing s) kind_of_leaf (canonical_label ls) t (each-picks t h a)
 
 abbrev pub Among : Trees → List Trees → Type 0

@@ -7,13 +7,13 @@ use Rattle.type_terms.specs.Promised.Label.{Label, Sort, of_type, of_const, of_l
 use Rattle.type_terms.specs.Promised.Trees.{Trees, none, tree, leaf, ◌+++◌, sort_of, is_sort}
 use Rattle.type_terms.specs.Trees.{is_a, is_no_tree, placed, Single}
 use Rattle.infer_table.specs.Canonical.{kind_of_leaf, kind_in_clause, leaves, goal_leaves}
-use Rattle.infer_table.specs.Solutions.{Assignment, IsSorted, Binding, tree_of, resolved, is_variable, HasValues, Acyclic}
+use Rattle.infer_table.specs.Solutions.{Assignment, IsSorted, Binding, tree_of, resolved, is_same_variable, HasValues, Acyclic}
 use Rattle.infer_table.specs.Unification.{TableTrees, Worklist, unified}
 use Rattle.infer_table.specs.declared.canonical.CanonicalVarKind.{CanonicalVarKind}
 use Rattle.infer_table.specs.declared.canonical.CanonicalVarKind.TheVariants.{Ty, PlaceholderTy, Const, PlaceholderConst, Region}
 use Rattle.infer_table.proofs.SolutionLaws.{is_variable-equal, is_variable-self, is_sort-equal as is-sort}
 use Rattle.infer_table.specs.Leaves.{root_label}
-use Rattle.infer_table.specs.Values.{Value, if_of_sort, value_for, filled}
+use Rattle.infer_table.specs.Values.{Value, if_of_sort, value_for, filled_values}
 use Rattle.infer_table.specs.Raw.{sort_of_kind}
 use Rattle.infer_table.specs.Responses.{AnswerTrees}
 use Rattle.infer_table.specs.Answers.{have_same_sorts, is_answer_to}
@@ -125,7 +125,7 @@ new-value t k = refl
 
 -- ---- terms for the new unknowns
 abbrev with_term : Assignment → Sort → ℕ → Label × Trees → Assignment
-with_term u k m x j n = if is_variable j n k m then x else u j n
+with_term u k m x j n = if is_same_variable j n k m then x else u j n
 
 -- a new unknown for variable i stands for what is picked for it
 abbrev with_picked : Assignment → Assignment → TableTrees → ℕ → Option Value → CanonicalVarKind → Assignment
@@ -137,9 +137,9 @@ extended u q known t i [] = u
 extended u q known t i (k ∷ ks) = extended (with_picked u q t i (known i) k) q known (table_after (known i) t k) (i + 1) ks
 
 term-sorted : (u : Assignment) (k : Sort) (m : ℕ) (x : Label × Trees) → IsSorted u → sort_of x.0 ≡ k → IsSorted (with_term u k m x)
-term-sorted u k m x h e j n = by (is_variable j n k m) refl
+term-sorted u k m x h e j n = by (is_same_variable j n k m) refl
   where
-    by : (b : Bool) → is_variable j n k m ≡ b → sort_of (if b then x else u j n).0 ≡ j
+    by : (b : Bool) → is_same_variable j n k m ≡ b → sort_of (if b then x else u j n).0 ≡ j
     by true p = e ∙ sym (is_variable-equal j k n m p).0
     by false p = h j n
 
@@ -152,12 +152,12 @@ extended-sorted u q known t i [] h g = h
 extended-sorted u q known t i (k ∷ ks) h g = extended-sorted (with_picked u q t i (known i) k) q known (table_after (known i) t k) (i + 1) ks (picked-sorted u q t i (known i) k h g) g
 
 term-other : (u : Assignment) (k : Sort) (m : ℕ) (x : Label × Trees) (count : Sort → ℕ) (j : Sort) (n : ℕ) → n < count j → m ≡ count k → with_term u k m x j n ≡ u j n
-term-other u k m x count j n h e = by (is_variable j n k m) refl
+term-other u k m x count j n h e = by (is_same_variable j n k m) refl
   where
     never : (a b c : ℕ) → a < b → a ≡ c → c ≡ b → ⊥
     never a b c p q r = omega (arith, p, q, r)
 
-    by : (b : Bool) → is_variable j n k m ≡ b → (if b then x else u j n) ≡ u j n
+    by : (b : Bool) → is_same_variable j n k m ≡ b → (if b then x else u j n) ≡ u j n
     by true p = let same = is_variable-equal j k n m p in absurd (never n (count j) m h same.1 (e ∙ ap count (sym same.0)))
     by false p = refl
 
@@ -363,22 +363,22 @@ infer-leaf kinds u of_type n h = ap (λ b. b && true) (below n u.ty_vars h)
 infer-leaf kinds u of_const n h = ap (λ b. b && true) (below n u.const_vars h)
 infer-leaf kinds u of_lifetime n h = refl
 
-pub filled-is : (vs : List Value) (t : Trees) → filled vs t ≡ put_in (value_for vs) t
+pub filled-is : (vs : List Value) (t : Trees) → filled_values vs t ≡ put_in (value_for vs) t
 filled-is vs none = refl
-filled-is vs (tree l c o) = ap (λ z. placed (value_for vs l) (tree l z none) +++ filled vs o) (filled-is vs c) ∙ ap (λ z. placed (value_for vs l) (tree l (put_in (value_for vs) c) none) +++ z) (filled-is vs o)
+filled-is vs (tree l c o) = ap (λ z. placed (value_for vs l) (tree l z none) +++ filled_values vs o) (filled-is vs c) ∙ ap (λ z. placed (value_for vs l) (tree l (put_in (value_for vs) c) none) +++ z) (filled-is vs o)
 
-filled-append : (vs : List Value) (x y : Trees) → filled vs (x +++ y) ≡ filled vs x +++ filled vs y
+filled-append : (vs : List Value) (x y : Trees) → filled_values vs (x +++ y) ≡ filled_values vs x +++ filled_values vs y
 filled-append vs none y = refl
 filled-append vs (tree l c o) y =
-    ap (λ z. placed (value_for vs l) (tree l (filled vs c) none) +++ z) (filled-append vs o y)
-    ∙ sym (append-assoc (placed (value_for vs l) (tree l (filled vs c) none)) (filled vs o) (filled vs y))
+    ap (λ z. placed (value_for vs l) (tree l (filled_values vs c) none) +++ z) (filled-append vs o y)
+    ∙ sym (append-assoc (placed (value_for vs l) (tree l (filled_values vs c) none)) (filled_values vs o) (filled_values vs y))
 
 -- ---- pairs in turn
 abbrev pairs_with : List Value → List (Value × Value) → Worklist
-pairs_with vs m = map (λ (p : Value × Value). (p.0.trees, filled vs p.1.trees)) m
+pairs_with vs m = map (λ (p : Value × Value). (p.0.trees, filled_values vs p.1.trees)) m
 
 abbrev AreSingle : List Value → Value × Value → Type 0
-AreSingle vs p = Single p.0.trees × Single (filled vs p.1.trees)
+AreSingle vs p = Single p.0.trees × Single (filled_values vs p.1.trees)
 
 turn-step : (t : TableTrees) (x y r s : Trees) (todo : Worklist) → Single x → Single y → ((u : TableTrees) → solved_in_turn u r s ≡ in_turn todo u)
     → solved_in_turn t (x +++ r) (y +++ s) ≡ and_then (in_turn todo) (unified t ((x, y) ∷ []))
@@ -395,13 +395,13 @@ turn-step t (tree l c o) (tree m d p) r s todo a b f =
     by None = refl
     by (Some u) = f u
 
-turns-are : (ws os vs : List Value) → have_same_sorts os vs ≡ true → Every (AreSingle ws) (paired os vs) → (t : TableTrees) → solved_in_turn t (trees_of os) (filled ws (trees_of vs)) ≡ in_turn (pairs_with ws (paired os vs)) t
+turns-are : (ws os vs : List Value) → have_same_sorts os vs ≡ true → Every (AreSingle ws) (paired os vs) → (t : TableTrees) → solved_in_turn t (trees_of os) (filled_values ws (trees_of vs)) ≡ in_turn (pairs_with ws (paired os vs)) t
 turns-are ws [] [] e h t = refl
 turns-are ws [] (v ∷ vs) e h t = absurd (false-true e)
 turns-are ws (o ∷ os) [] e h t = absurd (false-true e)
 turns-are ws (o ∷ os) (v ∷ vs) e h t =
     ap (solved_in_turn t (o.trees +++ trees_of os)) (filled-append ws v.trees (trees_of vs))
-    ∙ turn-step t o.trees (filled ws v.trees) (trees_of os) (filled ws (trees_of vs)) (pairs_with ws (paired os vs)) h.0.0 h.0.1
+    ∙ turn-step t o.trees (filled_values ws v.trees) (trees_of os) (filled_values ws (trees_of vs)) (pairs_with ws (paired os vs)) h.0.0 h.0.1
     (λ u. turns-are ws os vs (right (is_sort o.sort v.sort) _ e) h.1 u)
 
 -- ---- an answer to a goal with these leaves, put into a table
@@ -520,7 +520,7 @@ module _ (kinds : List CanonicalVarKind) (t : TableTrees) (ls : List Label) (the
       other l e = absurd (false-true (sym e))
 
   -- the pairs that are made equal are terms
-  fitting-made : (v : Value) → is_fitting a.kinds v ≡ true → IsTermOf better (filled values v.trees)
+  fitting-made : (v : Value) → is_fitting a.kinds v ≡ true → IsTermOf better (filled_values values v.trees)
   fitting-made v h =
       let made = right (is_a v.sort v.trees) _ h in
       subst (IsTermOf better) (sym (filled-is values v.trees))
@@ -529,7 +529,7 @@ module _ (kinds : List CanonicalVarKind) (t : TableTrees) (ls : List Label) (the
         made = made-put-in (is_variable_of a.kinds) better (value_for values) puts terms v.trees made;
       })
 
-  pair-made : (p : Value × Value) → IsMatch good a.kinds p → IsTermPair better (p.0.trees, filled values p.1.trees)
+  pair-made : (p : Value × Value) → IsMatch good a.kinds p → IsTermPair better (p.0.trees, filled_values values p.1.trees)
   pair-made p x = (
     subst (λ (v : Value). IsTermOf better v.trees) (sym x.is) (record { single = refl; made = made-more good better better-too terms (leaf x.label) x.made }),
     fitting-made p.1 x.fits,
@@ -544,9 +544,9 @@ module _ (kinds : List CanonicalVarKind) (t : TableTrees) (ls : List Label) (the
   every-of P Q g (p ∷ m) h = (g p h.0, every-of P Q g m h.1)
 
   pub pairs-made : Every (IsTermPair better) (pairs_with values pairs)
-  pairs-made = every-map (IsMatch good a.kinds) (IsTermPair better) (λ p. (p.0.trees, filled values p.1.trees)) pair-made pairs matches
+  pairs-made = every-map (IsMatch good a.kinds) (IsTermPair better) (λ p. (p.0.trees, filled_values values p.1.trees)) pair-made pairs matches
 
-  pub turns : (u : TableTrees) → solved_in_turn u (trees_of (map leaf_value ls)) (filled values (trees_of a.values)) ≡ in_turn (pairs_with values pairs) u
+  pub turns : (u : TableTrees) → solved_in_turn u (trees_of (map leaf_value ls)) (filled_values values (trees_of a.values)) ≡ in_turn (pairs_with values pairs) u
   turns u =
       turns-are values (map leaf_value ls) a.values (left (is_answer_to (map leaf_value ls) a) _ answers)
       (every-of (IsMatch good a.kinds) (AreSingle values) (λ p x. ((pair-made p x).0.single, (pair-made p x).1.single)) pairs matches) u
@@ -634,7 +634,7 @@ module _ (kinds : List CanonicalVarKind) (t : TableTrees) (ls : List Label) (the
     label-read (predicate k) g = refl
     label-read l g = open-same a.kinds r q l (not-canonical l refl) (g refl)
 
-    filled-read : (t : Trees) → is_made (is_variable_of a.kinds) terms t ≡ true → read_with (standing r) (filled values t) ≡ read_with (picked q) t
+    filled-read : (t : Trees) → is_made (is_variable_of a.kinds) terms t ≡ true → read_with (standing r) (filled_values values t) ≡ read_with (picked q) t
     filled-read t h =
         ap (read_with (standing r)) (filled-is values t)
         ∙ read-put-each (standing r) (picked q) (value_for values) t (each-label (IsGoodLabel (is_variable_of a.kinds)) (λ l. IsPutIn (standing r) (picked q) l (value_for values l)) label-read t (made-labels (is_variable_of a.kinds) terms t h))
@@ -646,7 +646,7 @@ module _ (kinds : List CanonicalVarKind) (t : TableTrees) (ls : List Label) (the
         (l, ap (λ z. tree l z o) (no-tree c (left (is_no_tree c) _ x)) ∙ ap (tree l none) (no-tree o (right (is_no_tree c) _ x)), left (is_sort (sort_of l) of_lifetime) _ h)
 
     -- each pair is read as one
-    pair-read : (k : Sort) (l : Label) (v : Trees) → sort_of l ≡ k → (is_a k v && is_made (is_variable_of a.kinds) terms v) ≡ true → IsPicked q k v (read_with (standing r) (leaf l)) → read_with (standing r) (leaf l) ≡ read_with (standing r) (filled values v)
+    pair-read : (k : Sort) (l : Label) (v : Trees) → sort_of l ≡ k → (is_a k v && is_made (is_variable_of a.kinds) terms v) ≡ true → IsPicked q k v (read_with (standing r) (leaf l)) → read_with (standing r) (leaf l) ≡ read_with (standing r) (filled_values values v)
     pair-read of_type l v s h g = sym (filled-read v (right (is_a of_type v) _ h) ∙ g ∙ leaf-read of_type tt l s)
     pair-read of_const l v s h g = sym (filled-read v (right (is_a of_const v) _ h) ∙ g ∙ leaf-read of_const tt l s)
     pair-read of_lifetime l v s h g =
@@ -654,7 +654,7 @@ module _ (kinds : List CanonicalVarKind) (t : TableTrees) (ls : List Label) (the
         read-lifetime r l none (ap (λ z. is_sort z of_lifetime) s)
         ∙ sym (filled-read v (right (is_a of_lifetime v) _ h) ∙ ap (read_with (picked q)) x.1 ∙ picked-lifetime q x.0 x.2)
 
-    pair-one : (p : Value × Value) → IsMatch good a.kinds p → AgreeAt r q p → AreOne r (p.0.trees, filled values p.1.trees)
+    pair-one : (p : Value × Value) → IsMatch good a.kinds p → AgreeAt r q p → AreOne r (p.0.trees, filled_values values p.1.trees)
     pair-one p x g =
         let sort : sort_of x.label ≡ p.1.sort = ap (λ (v : Value). v.sort) (sym x.is) ∙ x.same_sort in
         let one = pair-read p.1.sort x.label p.1.trees sort x.fits (subst (λ (v : Value). IsPicked q p.1.sort p.1.trees (read_with (standing r) v.trees)) x.is g) in
@@ -704,11 +704,11 @@ module _ (t : FrameTable) (made : IsMadeFrame t) (n : Nested) (a : AnswerTrees) 
   pub record IsLeft (u : TableTrees) : Type 0 where
     pub before : TableTrees
     pub solved : in_turn todo grown_of ≡ Some before
-    pub is : with_constraints (filled values_in a.constraints) before ≡ u
+    pub is : with_constraints (filled_values values_in a.constraints) before ≡ u
 
   pub is-left : (u : TableTrees) → applied t.content (originals_of t n) a ≡ Some u → IsLeft u
   is-left u e =
-      let x = map-some (with_constraints (filled values_in a.constraints)) (solved_in_turn grown_of (trees_of (originals_of t n)) (filled values_in (trees_of a.values))) u e in
+      let x = map-some (with_constraints (filled_values values_in a.constraints)) (solved_in_turn grown_of (trees_of (originals_of t n)) (filled_values values_in (trees_of a.values))) u e in
       record { before = x.0; solved = sym (turns t.kinds t.content (goal_leaves (goal_in t n)) theirs_of a answers grown_of) ∙ x.1; is = x.2 }
 
   pub turned : (u : TableTrees) → in_turn todo grown_of ≡ Some u → InTurn better_in opens grown_of todo u
@@ -728,7 +728,7 @@ module _ (t : FrameTable) (made : IsMadeFrame t) (n : Nested) (a : AnswerTrees) 
       ap (λ n. is_good t.kinds n grown_of.const_vars) (sym y.after.ty_vars) ∙ ap (λ n. is_good t.kinds w.ty_vars n) (sym y.after.const_vars) in
       subst (λ v. IsMadeFrame (with_content t v)) x.is
       (record {
-        table = with-constraints-made (is_good t.kinds w.ty_vars w.const_vars) (filled values_in a.constraints) w (subst (λ g. IsMadeTable g w) same y.after.made);
+        table = with-constraints-made (is_good t.kinds w.ty_vars w.const_vars) (filled_values values_in a.constraints) w (subst (λ g. IsMadeTable g w) same y.after.made);
         leaves = subst (λ g. AreTheirs g t.labels) same (labels-made t.labels made.leaves);
         own = made.own;
       })

@@ -8,7 +8,7 @@ use Rattle.infer_table.specs.Certainties.{joined}
 use Rattle.infer_table.specs.declared.canonical.CanonicalVarKind.{CanonicalVarKind}
 use Rattle.infer_table.specs.declared.certainty.Certainty.{Certainty}
 use Rattle.infer_table.specs.declared.certainty.TypingMode.{TypingMode}
-use Rattle.infer_table.specs.Values.{filled}
+use Rattle.infer_table.specs.Values.{filled_values}
 use Rattle.infer_table.specs.Responses.{AnswerTrees}
 use Rattle.infer_table.specs.Applied.{with_constraints}
 use Rattle.goal_evaluator.specs.declared.TheConstants.{FIXPOINT_STEP_LIMIT}
@@ -71,8 +71,8 @@ module _ (mode : TypingMode) (coinductive : Bool) (kinds own : List CanonicalVar
   pair-is : (e : Equation) (f : Trees × Trees) → AreOneEquation labels e f → pair_in table e ≡ pair_filled code.values f
   pair-is e f h =
       pair-same _ _ _ _
-      (sym (side-is labels e.left h.left_over) ∙ ap (filled (map leaf_value labels)) h.left_is ∙ ap (λ vs. filled vs f.0) values-are)
-      (sym (side-is labels e.right h.right_over) ∙ ap (filled (map leaf_value labels)) h.right_is ∙ ap (λ vs. filled vs f.1) values-are)
+      (sym (side-is labels e.left h.left_over) ∙ ap (filled_values (map leaf_value labels)) h.left_is ∙ ap (λ vs. filled_values vs f.0) values-are)
+      (sym (side-is labels e.right h.right_over) ∙ ap (filled_values (map leaf_value labels)) h.right_is ∙ ap (λ vs. filled_values vs f.1) values-are)
 
   pairs-next : (x y : Trees × Trees) (xs ys : Worklist) → x ≡ y → xs ≡ ys → ◌≡◌ {A = Worklist} (x ∷ xs) (y ∷ ys)
   pairs-next x y xs ys p q = cc
@@ -134,7 +134,7 @@ module _ (mode : TypingMode) (coinductive : Bool) (kinds own : List CanonicalVar
 
   -- ---- from the table that the equations leave
   module _ (x : Spec (workings frame_tables)) (y : SpecTrees) (equations : Pairwise (AreOneEquation labels) x.equations y.equations)
-      (constraints : filled (map leaf_value labels) y.constraints ≡ put_in (slot_at labels) y.constraints) (constraints_are : x.regions ≡ y.constraints)
+      (constraints : filled_values (map leaf_value labels) y.constraints ≡ put_in (slot_at labels) y.constraints) (constraints_are : x.regions ≡ y.constraints)
       (nested : Pairwise (AreOnePremise coinductive labels) x.nested y.nested) (certainty_is : x.certainty ≡ y.certainty) where
     asked-alike : (t : FrameTable) (u : TableTrees) → AreOneTable mode coinductive kinds labels t u
         → Same (Frames.equated (workings frame_tables) FIXPOINT_STEP_LIMIT x (Some t)) (equated mode y (Some (record code { table = u })))
@@ -143,9 +143,9 @@ module _ (mode : TypingMode) (coinductive : Bool) (kinds own : List CanonicalVar
         (Frames.answered (workings frame_tables) x.certainty) (answered mode (Code.recorded (record code { table = u }) y.constraints) y.certainty)
         (λ a b e. answered-alike x.certainty y.certainty certainty_is (Code.recorded (record code { table = u }) y.constraints) refl refl a b e)
         (rounds (operations frame_tables) FIXPOINT_STEP_LIMIT x.nested (recorded t x.regions))
-        (rounds (evaluation mode) FIXPOINT_STEP_LIMIT (map (nested_filled code.values) y.nested) (with_constraints (filled code.values y.constraints) u))
+        (rounds (evaluation mode) FIXPOINT_STEP_LIMIT (map (nested_filled code.values) y.nested) (with_constraints (filled_values code.values y.constraints) u))
         (rounds_alike (operations frame_tables) (evaluation mode) (in_rounds mode coinductive kinds labels) (rounds-are-one mode coinductive kinds labels) FIXPOINT_STEP_LIMIT
-        x.nested (map (nested_filled code.values) y.nested) (goals-are x.nested y.nested nested) (recorded t x.regions) (with_constraints (filled code.values y.constraints) u)
+        x.nested (map (nested_filled code.values) y.nested) (goals-are x.nested y.nested nested) (recorded t x.regions) (with_constraints (filled_values code.values y.constraints) u)
         (record {
           made = recorded-made t h.made x.regions;
           kinds_are = h.kinds_are;
@@ -154,8 +154,8 @@ module _ (mode : TypingMode) (coinductive : Bool) (kinds own : List CanonicalVar
               ap (λ c. with_constraints (put_in (slot_at t.labels) c) t.content) constraints_are
               ∙ ap (λ ls. with_constraints (put_in (slot_at ls) y.constraints) t.content) h.labels_are
               ∙ ap (λ c. with_constraints c t.content) (sym constraints)
-              ∙ ap (λ vs. with_constraints (filled vs y.constraints) t.content) values-are
-              ∙ ap (with_constraints (filled code.values y.constraints)) h.content_is;
+              ∙ ap (λ vs. with_constraints (filled_values vs y.constraints) t.content) values-are
+              ∙ ap (with_constraints (filled_values code.values y.constraints)) h.content_is;
         }))
 
     equated-alike : (o p : Option TableTrees) → ((u : TableTrees) → o ≡ Some u → IsMadeFrame (with_content table u)) → o ≡ p

@@ -5,7 +5,7 @@ use Rattle.type_terms.specs.Promised.Trees.{Trees, none, tree, leaf, sort_of}
 use Rattle.type_terms.specs.Trees.{is_a}
 use Rattle.infer_table.specs.Content.{IsProper}
 use Rattle.infer_table.specs.Canonical.{StandsInGoal, kind_of_leaf, kind_in_clause, leaves, goal_leaves}
-use Rattle.infer_table.specs.Solutions.{Assignment, Binding, tree_of, is_variable, resolved, occurs, HasValues, is_rigid}
+use Rattle.infer_table.specs.Solutions.{Assignment, Binding, tree_of, is_same_variable, resolved, occurs, HasValues, is_rigid}
 use Rattle.infer_table.specs.declared.canonical.CanonicalVarKind.{CanonicalVarKind}
 use Rattle.infer_table.specs.declared.canonical.CanonicalVarKind.TheVariants.{Ty, Const}
 use Rattle.infer_table.proofs.SolutionLaws.{is_variable-equal, is_variable-self}
@@ -80,12 +80,12 @@ leaf-proper l = (tt, tt)
 
 -- ---- one unknown, and an assignment that gives it its default
 abbrev with_default : Sort → ℕ → Assignment → Assignment
-with_default k v u j w = if is_variable j w k v then (default_label k, none) else u j w
+with_default k v u j w = if is_same_variable j w k v then (default_label k, none) else u j w
 
 with-default-sorted : (k : Sort) (v : ℕ) (u : Assignment) → ((j : Sort) (w : ℕ) → sort_of (u j w).0 ≡ j) → (j : Sort) (w : ℕ) → sort_of (with_default k v u j w).0 ≡ j
-with-default-sorted k v u h j w = by (is_variable j w k v) refl
+with-default-sorted k v u h j w = by (is_same_variable j w k v) refl
   where
-    by : (b : Bool) → is_variable j w k v ≡ b → sort_of (if b then (default_label k, none) else u j w).0 ≡ j
+    by : (b : Bool) → is_same_variable j w k v ≡ b → sort_of (if b then (default_label k, none) else u j w).0 ≡ j
     by true e = default-sort k ∙ sym (is_variable-equal j k w v e).0
     by false e = h j w
 
@@ -129,7 +129,7 @@ module _ (t : FrameTable) (s : ChosenTerms) (a : Allows t s) (k : Sort) (g : Has
   low-same : (x : Trees) → occurs k v x ≡ false → read_with (standing s) x ≡ read_with (standing low) x
   low-same x h = read-absent s low refl k v others x h
     where
-      others : (j : Sort) (w : ℕ) → is_variable j w k v ≡ false → s.unknowns j w ≡ base j w
+      others : (j : Sort) (w : ℕ) → is_same_variable j w k v ≡ false → s.unknowns j w ≡ base j w
       others j w e = sym (ap (λ (b : Bool). if b then (default_label k, none) else s.unknowns j w) e)
 
   -- a variable of the goal is this unknown, or is read as before
@@ -150,7 +150,7 @@ module _ (t : FrameTable) (s : ChosenTerms) (a : Allows t s) (k : Sort) (g : Has
 
       root : (x : Label) (d : Trees) → resolved bindings (leaf m) ≡ tree x d none → occurs k v (resolved bindings (leaf m)) ≡ true → reading_of s m ≡ reading_of s (infer k v)
       root (infer i w) d e o =
-          let y = is_variable-equal i k w v (sym (or-none (is_variable i w k v)) ∙ sym (ap (occurs k v) e) ∙ o) in
+          let y = is_variable-equal i k w v (sym (or-none (is_same_variable i w k v)) ∙ sym (ap (occurs k v) e) ∙ o) in
           as-resolved ∙ ap (read_with (standing s)) e ∙ same-unknown i w d y.0 y.1
       root l d e o = absurd (never-rigid t j m l d h can e refl)
 

@@ -4,7 +4,7 @@ use Rattle.type_terms.specs.Promised.Label.{Label, Sort, of_type, of_const, of_l
 use Rattle.type_terms.specs.Promised.Trees.{leaf, sort_of, is_sort}
 use Rattle.type_terms.specs.Codes.{same_label}
 use Rattle.type_terms.proofs.Matching.{same-label-sound}
-use Rattle.infer_table.specs.Canonical.{kind_of_leaf, is_among, with_label, leaves, place_of, canonical_label, relabeled}
+use Rattle.infer_table.specs.Canonical.{kind_of_leaf, is_label_among, with_label, leaves, place_of, canonical_label, relabeled}
 use Rattle.infer_table.specs.declared.canonical.CanonicalVarKind.{CanonicalVarKind}
 use Rattle.infer_table.specs.declared.canonical.CanonicalVarKind.TheVariants.{Ty, PlaceholderTy, Const, PlaceholderConst, Region}
 use Rattle.infer_table.specs.declared.certainty.Certainty.{Certainty}
@@ -27,7 +27,7 @@ use Rattle.type_terms.proofs.NumberBasics.{last-less, not-less, number-self}
 -- ---- labels that are open, each another than those before
 abbrev pub AreFresh : List Label → List Label → Type 0
 AreFresh seen [] = Unit {0}
-AreFresh seen (l ∷ ls) = (is_some (kind_of_leaf l) ≡ true) × (is_among l seen ≡ false) × AreFresh (seen ++ l ∷ []) ls
+AreFresh seen (l ∷ ls) = (is_some (kind_of_leaf l) ≡ true) × (is_label_among l seen ≡ false) × AreFresh (seen ++ l ∷ []) ls
 
 pub append-list : {A : Type 0} (xs : List A) (y : A) (ys : List A) → (xs ++ y ∷ []) ++ ys ≡ xs ++ y ∷ ys
 append-list [] y ys = refl
@@ -53,10 +53,10 @@ or-false : (a b : Bool) → (a || b) ≡ false → (a ≡ false) × (b ≡ false
 or-false true b h = absurd (false-true (sym h))
 or-false false b h = (refl, h)
 
-pub place-is : (seen : List Label) (l : Label) (ls : List Label) → is_among l seen ≡ false → place_of l (seen ++ l ∷ ls) ≡ length seen
+pub place-is : (seen : List Label) (l : Label) (ls : List Label) → is_label_among l seen ≡ false → place_of l (seen ++ l ∷ ls) ≡ length seen
 place-is [] l ls h = ap (λ b. if b then zero else suc (place_of l ls)) (same_label-self l)
 place-is (m ∷ ms) l ls h =
-    let x = or-false (same_label m l) (is_among l ms) h in
+    let x = or-false (same_label m l) (is_label_among l ms) h in
     ap (λ b. if b then zero else suc (place_of l (ms ++ l ∷ ls))) x.0 ∙ ap suc (place-is ms l ls x.1)
 
 abbrev pub value_by : List Label → Label → Value
@@ -113,18 +113,18 @@ below-place a b c i (infer of_lifetime v) h = h
 below-place a b c i (placeholder k v) h = less-more v i h
 below-place a b c i l h = tt
 
-pub among-has : (P : Label → Type 0) (l : Label) (ms : List Label) → Every P ms → is_among l ms ≡ true → P l
+pub among-has : (P : Label → Type 0) (l : Label) (ms : List Label) → Every P ms → is_label_among l ms ≡ true → P l
 among-has P l [] h e = absurd (false-true e)
 among-has P l (m ∷ ms) h e = by (same_label m l) refl e (among-has P l ms h.1)
   where
-    by : (b : Bool) → same_label m l ≡ b → (b || is_among l ms) ≡ true → (is_among l ms ≡ true → P l) → P l
+    by : (b : Bool) → same_label m l ≡ b → (b || is_label_among l ms) ≡ true → (is_label_among l ms ≡ true → P l) → P l
     by true q f g = subst P (same-label-sound m l q) h.0
     by false q f g = g f
 
-not-among : (P : Label → Type 0) (l : Label) (ms : List Label) → Every P ms → (P l → ⊥) → is_among l ms ≡ false
-not-among P l ms h n = by (is_among l ms) refl
+not-among : (P : Label → Type 0) (l : Label) (ms : List Label) → Every P ms → (P l → ⊥) → is_label_among l ms ≡ false
+not-among P l ms h n = by (is_label_among l ms) refl
   where
-    by : (b : Bool) → is_among l ms ≡ b → b ≡ false
+    by : (b : Bool) → is_label_among l ms ≡ b → b ≡ false
     by true e = absurd (n (among-has P l ms h e))
     by false e = refl
 

@@ -4,7 +4,7 @@ use Rattle.type_terms.specs.Promised.Label.{Label, Sort, of_type, of_const, of_l
 use Rattle.type_terms.specs.Promised.Trees.{Trees, none, tree, leaf, ◌+++◌, sort_of, is_sort, erase_label}
 use Rattle.type_terms.specs.Trees.{is_a, Single, placed}
 use Rattle.infer_table.specs.Content.{IsProper}
-use Rattle.infer_table.specs.Solutions.{Assignment, Binding, tree_of, is_variable, value_in, replace, resolved, HasValues, Acyclic, is_rigid}
+use Rattle.infer_table.specs.Solutions.{Assignment, Binding, tree_of, is_same_variable, value_in, replace, resolved, HasValues, Acyclic, is_rigid}
 use Rattle.infer_table.specs.Unification.{TableTrees, term_sort}
 use Rattle.infer_table.proofs.SolutionLaws.{is_variable-equal, is_variable-self, resolved-none, resolved-append, resolved-rigid, resolved-unbound, resolved-bound}
 use Rattle.infer_table.proofs.OccurFacts.{lifetime-unbound}
@@ -27,9 +27,9 @@ made-proper good m t h = trees-proper good (place m) t (trees-of good m t h)
 
 -- ---- a resolved term is one term of its sort
 replaced-one : (k : Sort) (v : ℕ) (r : Trees) (m : Label) (d : Trees) → IsOne k r → IsOne (sort_of m) (replace k v r (tree m d none))
-replaced-one k v r (infer j w) d i = by (is_variable j w k v) refl
+replaced-one k v r (infer j w) d i = by (is_same_variable j w k v) refl
   where
-    by : (b : Bool) → is_variable j w k v ≡ b → IsOne j (if b then r +++ none else tree (infer j w) d none)
+    by : (b : Bool) → is_same_variable j w k v ≡ b → IsOne j (if b then r +++ none else tree (infer j w) d none)
     by true e = record { label = i.label; children = i.children; is = append-none r ∙ i.is; sort = i.sort ∙ sym (is_variable-equal j k w v e).0 }
     by false e = record { label = infer j w; children = d; is = refl; sort = refl }
 replaced-one k v r m d i = record { label = m; children = replace k v r d; is = refl; sort = refl }
@@ -51,12 +51,12 @@ Member b (c ∷ cs) = (b ≡ c) ⊎ Member b cs
 value-of : (bs : List Binding) → Acyclic bs → (b : Binding) → Member b bs → value_in bs b.sort b.var ≡ Some b.value
 value-of [] a b m = absurd m
 value-of (c ∷ older) a b (inl e) = subst (λ (z : Binding). value_in (c ∷ older) z.sort z.var ≡ Some z.value) (sym e) (ap (λ (x : Bool). if x then Some c.value else value_in older c.sort c.var) (is_variable-self c.sort c.var))
-value-of (c ∷ older) a b (inr m) = by (is_variable c.sort c.var b.sort b.var) refl (value-of older a.2 b m)
+value-of (c ∷ older) a b (inr m) = by (is_same_variable c.sort c.var b.sort b.var) refl (value-of older a.2 b m)
   where
     none-some : (x : Trees) → None ≡ Some x → ⊥
     none-some x e = cc
 
-    by : (x : Bool) → is_variable c.sort c.var b.sort b.var ≡ x → value_in older b.sort b.var ≡ Some b.value → (if x then Some c.value else value_in older b.sort b.var) ≡ Some b.value
+    by : (x : Bool) → is_same_variable c.sort c.var b.sort b.var ≡ x → value_in older b.sort b.var ≡ Some b.value → (if x then Some c.value else value_in older b.sort b.var) ≡ Some b.value
     by true e q =
         let same = is_variable-equal c.sort b.sort c.var b.var e in
         let open-here : value_in older b.sort b.var ≡ None = sym (ap (λ j. value_in older j c.var) same.0 ∙ ap (λ w. value_in older b.sort w) same.1) ∙ a.0 in

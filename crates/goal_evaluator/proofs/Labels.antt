@@ -4,8 +4,8 @@ use Rattle.std.specs.Prelude.{IsSome}
 use Rattle.type_terms.specs.Promised.Label.{Label, Sort, of_lifetime, infer, static, dynamic, principal, auto_trait, predicate}
 use Rattle.type_terms.specs.Promised.Trees.{Trees, none, tree, leaf, ◌+++◌, sort_of, is_sort}
 use Rattle.type_terms.specs.Trees.{is_no_tree, placed, Single}
-use Rattle.infer_table.specs.Canonical.{OpenKinds, kind_of_leaf, kind_in_clause, is_among, with_label, leaves}
-use Rattle.infer_table.specs.Solutions.{Binding, replace, is_variable, resolved}
+use Rattle.infer_table.specs.Canonical.{OpenKinds, kind_of_leaf, kind_in_clause, is_label_among, with_label, leaves}
+use Rattle.infer_table.specs.Solutions.{Binding, replace, is_same_variable, resolved}
 use Rattle.goal_evaluator.specs.Lists.{Every}
 use Rattle.goal_evaluator.specs.Instances.{read_with, put_in}
 use Rattle.type_terms.specs.Made.{Standing, terms, bounds, traits, is_leaf_label, is_made}
@@ -90,7 +90,7 @@ each-append P (tree l c o) y p q = (p.0, p.1, each-append P o y p.2 q)
 
 pub each-replace : (P : Label → Type 0) (k : Sort) (v : ℕ) (r : Trees) → EachLabel P r → (t : Trees) → EachLabel P t → EachLabel P (replace k v r t)
 each-replace P k v r q none h = tt
-each-replace P k v r q (tree (infer j w) c o) h = by (is_variable j w k v) (each-replace P k v r q o h.2)
+each-replace P k v r q (tree (infer j w) c o) h = by (is_same_variable j w k v) (each-replace P k v r q o h.2)
   where
     by : (b : Bool) → EachLabel P (replace k v r o) → EachLabel P (if b then r +++ replace k v r o else tree (infer j w) c (replace k v r o))
     by true p = each-append P r (replace k v r o) q p
@@ -117,7 +117,7 @@ every-leaf kind P seen s (tree l c o) h =
     there false p = every-end P seen l s p
 
     here : (b : Bool) → is_some (kind l) ≡ b → Every P (if b then with_label l seen else seen)
-    here true e = there (is_among l seen) (h.0 e)
+    here true e = there (is_label_among l seen) (h.0 e)
     here false e = s
 
 pub clause-open : (l : Label) → IsSome (kind_in_clause l) → IsSome (kind_of_leaf l)

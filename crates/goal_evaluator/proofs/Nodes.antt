@@ -5,8 +5,8 @@ use Rattle.type_terms.specs.Promised.Label.{Label, Sort, of_type, of_const, of_l
 use Rattle.type_terms.specs.Promised.Trees.{Trees, none, tree, leaf, ◌+++◌, erase_label, sort_of, is_sort}
 use Rattle.type_terms.specs.Trees.{placed, is_no_tree}
 use Rattle.infer_table.specs.Content.{IsProper}
-use Rattle.infer_table.specs.Canonical.{OpenKinds, StandsIn, with_label, is_among, leaves}
-use Rattle.infer_table.specs.Solutions.{Binding, tree_of, replace, resolved, occurs, is_variable}
+use Rattle.infer_table.specs.Canonical.{OpenKinds, StandsIn, with_label, is_label_among, leaves}
+use Rattle.infer_table.specs.Solutions.{Binding, tree_of, replace, resolved, occurs, is_same_variable}
 use Rattle.infer_table.specs.declared.canonical.CanonicalVarKind.{CanonicalVarKind}
 use Rattle.goal_evaluator.specs.Lists.{Every}
 use Rattle.goal_evaluator.specs.Instances.{read_with, put_in, default_label, as_place, term_at}
@@ -148,7 +148,7 @@ put-nodes ls h (tree l c o) = node l (put_in (slot_at ls) c) (put_in (slot_at ls
 -- ---- values in the place of unknowns
 nodes-replace : (k : Sort) (v : ℕ) (r t : Trees) → AreNodes r → AreNodes t → AreNodes (replace k v r t)
 nodes-replace k v r none p q = tt
-nodes-replace k v r (tree (infer j w) c o) p q = by (is_variable j w k v) (nodes-replace k v r o p q.2)
+nodes-replace k v r (tree (infer j w) c o) p q = by (is_same_variable j w k v) (nodes-replace k v r o p q.2)
   where
     by : (b : Bool) → AreNodes (replace k v r o) → AreNodes (if b then r +++ replace k v r o else tree (infer j w) c (replace k v r o))
     by true h = nodes-append r (replace k v r o) p h
@@ -180,7 +180,7 @@ open-node kind (tree m c o) h l (inr (inl i)) = open-node kind c h.1 l i
 open-node kind (tree m c o) h l (inr (inr i)) = open-node kind o h.2 l i
 
 every-append : (P : Label → Type 0) (xs : List Label) (l : Label) → Every P xs → P l → Every P (with_label l xs)
-every-append P xs l h p = by (is_among l xs)
+every-append P xs l h p = by (is_label_among l xs)
   where
     added : (ys : List Label) → Every P ys → Every P (ys ++ l ∷ [])
     added [] h = (p, tt)
@@ -262,7 +262,7 @@ or-right true b e = absurd (false-true (sym e))
 or-right false b e = e
 
 -- two readings that differ at one unknown alone are equal where it does not stand
-module _ (s r : ChosenTerms) (own : s.own ≡ r.own) (k : Sort) (v : ℕ) (others : (j : Sort) (w : ℕ) → is_variable j w k v ≡ false → s.unknowns j w ≡ r.unknowns j w) where
+module _ (s r : ChosenTerms) (own : s.own ≡ r.own) (k : Sort) (v : ℕ) (others : (j : Sort) (w : ℕ) → is_same_variable j w k v ≡ false → s.unknowns j w ≡ r.unknowns j w) where
   standing-placeholder : (j : Sort) (i : ℕ) → standing s (placeholder j i) ≡ standing r (placeholder j i)
   standing-placeholder of_type i = ap (λ o. Some (as_place of_type (term_at o.terms i))) own
   standing-placeholder of_const i = ap (λ o. Some (as_place of_const (term_at o.terms i))) own
@@ -278,12 +278,12 @@ module _ (s r : ChosenTerms) (own : s.own ≡ r.own) (k : Sort) (v : ℕ) (other
   pub read-absent : (t : Trees) → occurs k v t ≡ false → read_with (standing s) t ≡ read_with (standing r) t
   read-absent none h = refl
   read-absent (tree (infer of_type w) c o) h =
-      ap (λ z. tree_of z +++ read_with (standing s) o) (others of_type w (or-left (is_variable of_type w k v) (occurs k v o) h))
-      ∙ ap (λ z. tree_of (r.unknowns of_type w) +++ z) (read-absent o (or-right (is_variable of_type w k v) (occurs k v o) h))
+      ap (λ z. tree_of z +++ read_with (standing s) o) (others of_type w (or-left (is_same_variable of_type w k v) (occurs k v o) h))
+      ∙ ap (λ z. tree_of (r.unknowns of_type w) +++ z) (read-absent o (or-right (is_same_variable of_type w k v) (occurs k v o) h))
   read-absent (tree (infer of_const w) c o) h =
-      ap (λ z. tree_of z +++ read_with (standing s) o) (others of_const w (or-left (is_variable of_const w k v) (occurs k v o) h))
-      ∙ ap (λ z. tree_of (r.unknowns of_const w) +++ z) (read-absent o (or-right (is_variable of_const w k v) (occurs k v o) h))
-  read-absent (tree (infer of_lifetime w) c o) h = ap (λ z. leaf static +++ z) (read-absent o (or-right (is_variable of_lifetime w k v) (occurs k v o) h))
+      ap (λ z. tree_of z +++ read_with (standing s) o) (others of_const w (or-left (is_same_variable of_const w k v) (occurs k v o) h))
+      ∙ ap (λ z. tree_of (r.unknowns of_const w) +++ z) (read-absent o (or-right (is_same_variable of_const w k v) (occurs k v o) h))
+  read-absent (tree (infer of_lifetime w) c o) h = ap (λ z. leaf static +++ z) (read-absent o (or-right (is_same_variable of_lifetime w k v) (occurs k v o) h))
   read-absent (tree (placeholder j i) c o) h =
       read-node (placeholder j i) c o (standing-placeholder j i) (read-absent c (or-left (occurs k v c) (occurs k v o) h)) (read-absent o (or-right (occurs k v c) (occurs k v o) h))
   read-absent (tree (param of_type i) c o) h = read-node (param of_type i) c o refl (read-absent c (or-left (occurs k v c) (occurs k v o) h)) (read-absent o (or-right (occurs k v c) (occurs k v o) h))

@@ -6,7 +6,7 @@ use Rattle.infer_table.specs.Canonical.{goal_leaves}
 use Rattle.infer_table.specs.Solutions.{Assignment, IsSorted}
 use Rattle.infer_table.specs.Unification.{TableTrees}
 use Rattle.infer_table.specs.declared.canonical.CanonicalVarKind.{CanonicalVarKind}
-use Rattle.infer_table.specs.Values.{filled}
+use Rattle.infer_table.specs.Values.{filled_values}
 use Rattle.infer_table.specs.Responses.{AnswerTrees}
 use Rattle.infer_table.specs.Applied.{with_constraints, applied}
 use Rattle.goal_evaluator.specs.Lists.{Every}
@@ -130,10 +130,10 @@ answer-keeps t n a e s h g =
     let hold : Hold r grown = subst (Every (UnknownStands r)) (sym (for-bindings known t.content 0 a.kinds)) (further-holds t s q known a.kinds t.content.bindings made.table.values h.allowed.hold) in
     let x = in-turn-keeps (better_in t made n a e) (opens t made n a e) (todo t made n a e) grown r (grown-made t.kinds t.content ls theirs a e made.table) (pairs-made t.kinds t.content ls theirs a e)
     (further-apart t s r grown.ty_vars grown.const_vars h refl sorted) hold ones in
-    let left = with_constraints (filled (values_in t made n a e) a.constraints) x.0 in
+    let left = with_constraints (filled_values (values_in t made n a e) a.constraints) x.0 in
     let put : put_into t.content (originals_of t n) a ≡ Some left =
     ap (λ b. if b then applied t.content (originals_of t n) a else Some t.content) e
-    ∙ ap (option_map (with_constraints (filled (values_in t made n a e) a.constraints))) (turns t.kinds t.content ls theirs a e grown ∙ x.1) in
+    ∙ ap (option_map (with_constraints (filled_values (values_in t made n a e) a.constraints))) (turns t.kinds t.content ls theirs a e grown ∙ x.1) in
     goes-on t s r.unknowns (put_into t.content (originals_of t n) a) left h put (put-made t made n a left put) sorted x.2 (sym (further-map t s q known a.kinds t.labels made.leaves))
 
 -- another answer changes nothing

@@ -6,7 +6,7 @@ use Rattle.type_terms.specs.Promised.Trees.{Trees, none, tree, leaf, ◌+++◌, 
 use Rattle.type_terms.specs.Trees.{is_a, placed, is_no_tree}
 use Rattle.type_terms.specs.Codes.{same_label}
 use Rattle.type_terms.proofs.Matching.{same-label-sound}
-use Rattle.infer_table.specs.Canonical.{OpenKinds, GoalTrees, kind_of_leaf, kind_in_clause, StandsIn, HasNoCanonical, is_among, place_of, canonical_label, goal_leaves, leaves, renamed}
+use Rattle.infer_table.specs.Canonical.{OpenKinds, GoalTrees, kind_of_leaf, kind_in_clause, StandsIn, HasNoCanonical, is_label_among, place_of, canonical_label, goal_leaves, leaves, renamed}
 use Rattle.infer_table.specs.Solutions.{Binding, tree_of, resolved, HasValues}
 use Rattle.infer_table.proofs.CanonicalLaws.{leaves-keep, leaves-hold}
 use Rattle.goal_evaluator.specs.Lists.{Every}
@@ -249,11 +249,11 @@ put-clean ls h (tree l c o) = node l (put_in (slot_at ls) c) (put_in (slot_at ls
     node l d p a b = (a, b)
 
 -- ---- leaves of a canonical form
-pub term-place : (f : Label → Trees) (l : Label) (ls : List Label) → is_among l ls ≡ true → term_at (map f ls) (place_of l ls) ≡ f l
+pub term-place : (f : Label → Trees) (l : Label) (ls : List Label) → is_label_among l ls ≡ true → term_at (map f ls) (place_of l ls) ≡ f l
 term-place f l [] h = absurd (false-true h)
 term-place f l (m ∷ ms) h = by (same_label m l) refl h (term-place f l ms)
   where
-    by : (b : Bool) → same_label m l ≡ b → (b || is_among l ms) ≡ true → (is_among l ms ≡ true → term_at (map f ms) (place_of l ms) ≡ f l)
+    by : (b : Bool) → same_label m l ≡ b → (b || is_label_among l ms) ≡ true → (is_label_among l ms ≡ true → term_at (map f ms) (place_of l ms) ≡ f l)
         → term_at (map f (m ∷ ms)) (if b then zero else suc (place_of l ms)) ≡ f l
     by true e q r = ap f (same-label-sound m l e)
     by false e q r = r q
@@ -262,7 +262,7 @@ module _ (s : ChosenTerms) (sorted : (k : Sort) (v : ℕ) → sort_of (s.unknown
   abbrev leaves_read : List Trees
   leaves_read = map (reading_of s) ls
 
-  term-of : (k : Sort) (l : Label) (x : Trees) → HasValues k → sort_of l ≡ k → standing s l ≡ Some x → is_among l ls ≡ true → Some (of_sort k (term_at leaves_read (place_of l ls))) ≡ standing s l
+  term-of : (k : Sort) (l : Label) (x : Trees) → HasValues k → sort_of l ≡ k → standing s l ≡ Some x → is_label_among l ls ≡ true → Some (of_sort k (term_at leaves_read (place_of l ls))) ≡ standing s l
   term-of k l x v e h a =
       let here : is_a k (reading_of s l) ≡ true = reading-sorted s sorted k l v ∙ ap (λ z. is_sort z k) e ∙ self k v in
       ap (λ z. Some (of_sort k z)) (term-place (reading_of s) l ls a) ∙ ap Some (sort-of-sort k (reading_of s l) here ∙ read-leaf (standing s) l x h) ∙ sym h
@@ -273,7 +273,7 @@ module _ (s : ChosenTerms) (sorted : (k : Sort) (v : ℕ) → sort_of (s.unknown
       self of_lifetime v = refl
 
   abbrev IsListed : OpenKinds → Label → Type 0
-  IsListed kind l = IsSome (kind l) → is_among l ls ≡ true
+  IsListed kind l = IsSome (kind l) → is_label_among l ls ≡ true
 
   open-carries : (l m : Label) (x : Trees) → standing s l ≡ Some x → given leaves_read m ≡ standing s l → Carries (given leaves_read) (standing s) l m
   open-carries l m x h e = record { stands = e; erased = λ n. some-none x (erase_label m ≡ erase_label l) (sym h ∙ n) }
@@ -308,7 +308,7 @@ module _ (s : ChosenTerms) (sorted : (k : Sort) (v : ℕ) → sort_of (s.unknown
   carries-in-clause l c h = same-carries l refl
 
   each-label : (kind : OpenKinds) (P : Label → Type 0) → ((l : Label) → IsNoCanonical l → IsListed kind l → P l)
-      → (t : Trees) → HasNoCanonical t → ((l : Label) → StandsIn kind t l → is_among l ls ≡ true) → EachLabel P t
+      → (t : Trees) → HasNoCanonical t → ((l : Label) → StandsIn kind t l → is_label_among l ls ≡ true) → EachLabel P t
   each-label kind P f none h a = tt
   each-label kind P f (tree l c o) h a =
       let x = clean-parts l c o h in

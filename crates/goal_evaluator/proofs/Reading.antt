@@ -5,7 +5,7 @@ use Rattle.type_terms.specs.Promised.Trees.{Trees, none, tree, leaf, ◌+++◌, 
 use Rattle.type_terms.specs.Trees.{placed}
 pub use Rattle.type_terms.proofs.TreeLaws.{append-none, append-assoc}
 use Rattle.infer_table.specs.Canonical.{OpenKinds, relabeled}
-use Rattle.infer_table.specs.Solutions.{Assignment, Binding, tree_of, replace, is_variable}
+use Rattle.infer_table.specs.Solutions.{Assignment, Binding, tree_of, replace, is_same_variable}
 use Rattle.infer_table.proofs.SolutionLaws.{is_variable-equal}
 use Rattle.type_terms.proofs.Made.{false-true}
 use Rattle.goal_evaluator.specs.Lists.{Every}
@@ -38,7 +38,7 @@ read-lifetime s l c h = ap (λ z. placed z (tree (erase_label l) (read_with (sta
 
 -- ---- replacing a variable by what it stands for
 replace-at : (s : Label → Option Trees) (k : Sort) (v : ℕ) (r : Trees) (j : Sort) (w : ℕ) (c o o' : Trees) (b : Bool)
-    → is_variable j w k v ≡ b → s (infer k v) ≡ Some (read_with s r) → read_with s o' ≡ read_with s o
+    → is_same_variable j w k v ≡ b → s (infer k v) ≡ Some (read_with s r) → read_with s o' ≡ read_with s o
     → read_with s (if b then r +++ o' else tree (infer j w) c o') ≡ read_with s (tree (infer j w) c o)
 replace-at s k v r j w c o o' true e h i =
     let same = is_variable-equal j k w v e in
@@ -55,7 +55,7 @@ node-at s l c o c' o' p q =
 pub read-replace : (s : Label → Option Trees) (k : Sort) (v : ℕ) (r : Trees) → s (infer k v) ≡ Some (read_with s r)
     → (t : Trees) → read_with s (replace k v r t) ≡ read_with s t
 read-replace s k v r h none = refl
-read-replace s k v r h (tree (infer j w) c o) = replace-at s k v r j w c o (replace k v r o) (is_variable j w k v) refl h (read-replace s k v r h o)
+read-replace s k v r h (tree (infer j w) c o) = replace-at s k v r j w c o (replace k v r o) (is_same_variable j w k v) refl h (read-replace s k v r h o)
 read-replace s k v r h (tree l c o) = node-at s l c o (replace k v r c) (replace k v r o) (read-replace s k v r h c) (read-replace s k v r h o)
 
 -- ---- labels in the place of others

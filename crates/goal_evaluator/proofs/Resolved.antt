@@ -4,7 +4,7 @@ use Rattle.std.specs.Prelude.{not}
 use Rattle.type_terms.specs.Promised.Label.{Label, Sort, of_type, of_const, of_lifetime, infer, dynamic, principal, auto_trait, predicate}
 use Rattle.type_terms.specs.Promised.Trees.{Trees, none, tree, leaf, ◌+++◌, sort_of, is_sort}
 use Rattle.type_terms.specs.Trees.{is_no_tree}
-use Rattle.infer_table.specs.Solutions.{Binding, replace, is_variable, resolved, HasValues}
+use Rattle.infer_table.specs.Solutions.{Binding, replace, is_same_variable, resolved, HasValues}
 use Rattle.goal_evaluator.specs.Lists.{Every}
 use Rattle.type_terms.specs.Made.{Standing, terms, bounds, traits, is_leaf_label, is_made}
 use Rattle.goal_evaluator.specs.Equations.{IsValue}
@@ -22,7 +22,7 @@ module _ (good : Label → Bool) where
       by true e = ap is_no_tree (no-tree-replaced k v r c (no-tree c e))
       by false e = refl
 
-  lifetime-apart : (j k : Sort) (w v : ℕ) → HasValues k → is_sort j of_lifetime ≡ true → is_variable j w k v ≡ false
+  lifetime-apart : (j k : Sort) (w v : ℕ) → HasValues k → is_sort j of_lifetime ≡ true → is_same_variable j w k v ≡ false
   lifetime-apart of_lifetime of_type w v g e = refl
   lifetime-apart of_lifetime of_const w v g e = refl
   lifetime-apart j of_lifetime w v g e = absurd g
@@ -46,7 +46,7 @@ module _ (good : Label → Bool) where
   made-replace k v r g q terms (tree (principal a b) c o) e = absurd (false-true e)
   made-replace k v r g q terms (tree (auto_trait a) c o) e = absurd (false-true e)
   made-replace k v r g q terms (tree (predicate _) c o) e = absurd (false-true e)
-  made-replace k v r g q terms (tree (infer j w) c o) e = by (is_variable j w k v) (made-replace k v r g q terms o (made-rest good (infer j w) c o e))
+  made-replace k v r g q terms (tree (infer j w) c o) e = by (is_same_variable j w k v) (made-replace k v r g q terms o (made-rest good (infer j w) c o e))
     where
       by : (b : Bool) → is_made good terms (replace k v r o) ≡ true → is_made good terms (if b then r +++ replace k v r o else tree (infer j w) c (replace k v r o)) ≡ true
       by true f = made-append good r (replace k v r o) q f

@@ -13,7 +13,7 @@ use Rattle.infer_table.specs.Values.{Value}
 use Rattle.infer_table.specs.Applied.{trees_of}
 use Rattle.infer_table.specs.Responses.{AnswerTrees}
 use Rattle.goal_evaluator.specs.FrameTables.{FrameTable, IsMadeFrame}
-use Rattle.goal_evaluator.specs.TableAnswers.{own_labels, own_values, joined, answer_leaves, numbered, value_numbered, with_kind, kinds_of, respond, leaf_value}
+use Rattle.goal_evaluator.specs.TableAnswers.{own_labels, own_values, joined, answer_leaves, numbered, value_numbered, with_kind, kinds_of_labels, respond, leaf_value}
 use Rattle.goal_evaluator.proofs.Whole.{IsOne}
 use Rattle.goal_evaluator.proofs.Free.{resolved-one}
 use Rattle.goal_evaluator.specs.OwnAnswers.{kinds_in, values_in, answer_of}
@@ -33,9 +33,9 @@ kind-next : (o : Option CanonicalVarKind) (ks : List (Option CanonicalVarKind)) 
 kind-next None ks rest e = e
 kind-next (Some k) ks rest e = ap (λ z. k ∷ z) e
 
-kinds-are : (ls : List Label) → kinds_in (map kind_of_leaf ls) ≡ kinds_of ls
+kinds-are : (ls : List Label) → kinds_in (map kind_of_leaf ls) ≡ kinds_of_labels ls
 kinds-are [] = refl
-kinds-are (l ∷ ls) = kind-next (kind_of_leaf l) (map kind_of_leaf ls) (kinds_of ls) (kinds-are ls)
+kinds-are (l ∷ ls) = kind-next (kind_of_leaf l) (map kind_of_leaf ls) (kinds_of_labels ls) (kinds-are ls)
 
 -- ---- values
 relabeled-append : (kind : OpenKinds) (f : Label → Label) (x y : Trees) → relabeled kind f (x +++ y) ≡ relabeled kind f x +++ relabeled kind f y
@@ -80,7 +80,7 @@ module _ (t : FrameTable) (made : IsMadeFrame t) where
 
   known-is : (c : Certainty)
       → ◌≡◌ {A = AnswerTrees}
-      (record { kinds = kinds_of (answer_leaves t); certainty = c; values = map (value_numbered t) (own_labels t.kinds t.labels); constraints = numbered t (resolved t.content.bindings t.content.constraints) })
+      (record { kinds = kinds_of_labels (answer_leaves t); certainty = c; values = map (value_numbered t) (own_labels t.kinds t.labels); constraints = numbered t (resolved t.content.bindings t.content.constraints) })
       (record {
         kinds = kinds_in (map kind_of_leaf found);
         certainty = c;

@@ -5,7 +5,7 @@ use Rattle.type_terms.specs.Promised.Trees.{Trees, none, tree, leaf, ◌+++◌, 
 use Rattle.type_terms.specs.Trees.{Single}
 use Rattle.type_terms.specs.Made.{terms, is_made}
 use Rattle.infer_table.specs.Canonical.{kind_of_leaf, canonical_label, relabeled, goal_leaves}
-use Rattle.infer_table.specs.Solutions.{Binding, replace, resolved, is_variable}
+use Rattle.infer_table.specs.Solutions.{Binding, replace, resolved, is_same_variable}
 use Rattle.goal_evaluator.specs.Lists.{Every}
 use Rattle.goal_evaluator.specs.Instances.{put_in, default_label}
 use Rattle.goal_evaluator.specs.Content.{trait_at, trait_of}
@@ -34,7 +34,7 @@ other-made good (tree l c o) s h = refl
 -- ---- resolving
 other-replace : (k : Sort) (v : ℕ) (r t : Trees) → IsOther r → IsOther t → IsOther (replace k v r t)
 other-replace k v r none i h = absurd h
-other-replace k v r (tree (infer j w) c o) i h = by (is_variable j w k v)
+other-replace k v r (tree (infer j w) c o) i h = by (is_same_variable j w k v)
   where
     by : (b : Bool) → IsOther (if b then r +++ replace k v r o else tree (infer j w) c (replace k v r o))
     by true = other-append r (replace k v r o) i

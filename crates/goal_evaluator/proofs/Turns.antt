@@ -14,7 +14,7 @@ use Rattle.infer_table.specs.Worklists.{equation_trees}
 use Rattle.infer_table.specs.declared.terms.Equation.{Equation}
 use Rattle.infer_table.specs.declared.terms.RegionConstraint.{RegionConstraint}
 use Rattle.infer_table.specs.Goals.{GoalHeld, goal_trees}
-use Rattle.infer_table.specs.Values.{Value, values_of, values-later, filled, goal_filled}
+use Rattle.infer_table.specs.Values.{Value, values_of, values-later, filled_values, goal_filled}
 use Rattle.infer_table.specs.declared.goal.Goal.{Goal}
 use Rattle.infer_table.specs.declared.response.CanonicalResponse.{CanonicalResponse}
 use Rattle.infer_table.proofs.Fillings.{filled-append}
@@ -95,21 +95,21 @@ with-both t a b = ap (λ z. record t { constraints = z }) (recorded-both a b t.c
 
 module _ (es now : List Entry) (k : Keeps es now) (vs ws : List Value) (same : ws ≡ vs) (xs : List RegionConstraint) (i : ℕ) (x : RegionConstraint) (lt : i < length xs) (is : x ≡ get_or xs i x) (held : IsHeldConstraint es x) where
   -- one more constraint is recorded, and those after it are left
-  pub next-recorded : (t u all : TableTrees) → u ≡ with_constraints (filled ws (constraints_trees now (x ∷ []))) t
-      → with_constraints (filled vs (constraints_trees es (drop i xs))) t ≡ all → with_constraints (filled vs (constraints_trees es (drop (i + 1) xs))) u ≡ all
+  pub next-recorded : (t u all : TableTrees) → u ≡ with_constraints (filled_values ws (constraints_trees now (x ∷ []))) t
+      → with_constraints (filled_values vs (constraints_trees es (drop i xs))) t ≡ all → with_constraints (filled_values vs (constraints_trees es (drop (i + 1) xs))) u ≡ all
   next-recorded t u all e h =
       let rest = constraints_trees es (drop (i + 1) xs) in
-      ap (with_constraints (filled vs rest)) e
-      ∙ ap (λ z. with_constraints (filled vs rest) (with_constraints (filled z (constraints_trees now (x ∷ []))) t)) same
-      ∙ ap (λ z. with_constraints (filled vs rest) (with_constraints (filled vs z) t)) (constraints-later es now k (x ∷ []) (held, tt))
-      ∙ with-both t (filled vs (constraints_trees es (x ∷ []))) (filled vs rest)
+      ap (with_constraints (filled_values vs rest)) e
+      ∙ ap (λ z. with_constraints (filled_values vs rest) (with_constraints (filled_values z (constraints_trees now (x ∷ []))) t)) same
+      ∙ ap (λ z. with_constraints (filled_values vs rest) (with_constraints (filled_values vs z) t)) (constraints-later es now k (x ∷ []) (held, tt))
+      ∙ with-both t (filled_values vs (constraints_trees es (x ∷ []))) (filled_values vs rest)
       ∙ ap (λ z. with_constraints z t) (sym (filled-append vs (constraints_trees es (x ∷ [])) rest))
-      ∙ ap (λ z. with_constraints (filled vs (constraints_trees es z)) t) (sym (cut xs i x lt is)) ∙ h
+      ∙ ap (λ z. with_constraints (filled_values vs (constraints_trees es z)) t) (sym (cut xs i x lt is)) ∙ h
 
 pub all-recorded : (es : List Entry) (vs : List Value) (rest : List RegionConstraint) (t all : TableTrees) → rest ≡ []
-    → with_constraints (filled vs (constraints_trees es rest)) t ≡ all → t ≡ all
+    → with_constraints (filled_values vs (constraints_trees es rest)) t ≡ all → t ≡ all
 all-recorded es vs rest t all e h =
-    ap (λ z. with_constraints (filled vs (constraints_trees es z)) t) (sym e) ∙ h
+    ap (λ z. with_constraints (filled_values vs (constraints_trees es z)) t) (sym e) ∙ h
 
 -- ---- goals
 one-goal : (s : GoalSource) (g h : GoalTrees) → g ≡ h → ◌≡◌ {A = NestedTrees} (record { source = s; goal = g }) (record { source = s; goal = h })

@@ -7,7 +7,7 @@ use Rattle.type_terms.specs.Trees.{is_a, is_no_tree}
 use Rattle.type_terms.specs.Codes.{same_label}
 use Rattle.type_terms.proofs.Matching.{same-label-sound}
 use Rattle.type_terms.specs.Made.{Standing, terms, bounds, traits, is_leaf_label, is_made}
-use Rattle.infer_table.specs.Canonical.{kind_of_leaf, StandsIn, is_among, place_of, canonical_label, relabeled}
+use Rattle.infer_table.specs.Canonical.{kind_of_leaf, StandsIn, is_label_among, place_of, canonical_label, relabeled}
 use Rattle.infer_table.specs.Solutions.{resolved}
 use Rattle.infer_table.specs.declared.canonical.CanonicalVarKind.{CanonicalVarKind}
 use Rattle.infer_table.specs.declared.canonical.CanonicalVarKind.TheVariants.{Ty, PlaceholderTy, Const, PlaceholderConst, Region}
@@ -20,7 +20,7 @@ use Rattle.infer_table.specs.Raw.{sort_of_kind, variable_value, variables_from}
 use Rattle.infer_table.specs.Answers.{have_same_sorts, is_answer_to}
 use Rattle.goal_evaluator.specs.Lists.{Every}
 use Rattle.goal_evaluator.specs.FrameTables.{kind_at, good_in, FrameTable, IsMadeFrame, IsOwn, AreOwn}
-use Rattle.goal_evaluator.specs.TableAnswers.{own_labels, own_values, joined, answer_leaves, numbered, value_numbered, kinds_of, with_kind, respond, is_kind_of, is_variable_of, is_fitting, IsWellFormed}
+use Rattle.goal_evaluator.specs.TableAnswers.{own_labels, own_values, joined, answer_leaves, numbered, value_numbered, kinds_of_labels, with_kind, respond, is_kind_of, is_variable_of, is_fitting, IsWellFormed}
 use Rattle.type_terms.proofs.Made.{false-true, left, right, both, no-tree, is_ordinary, made-ordinary, makes-ordinary, IsLast, last-bound, last-trait, never-dynamic, never-dynamic-bound, never-principal}
 use Rattle.goal_evaluator.proofs.Reading.{EachLabel}
 use Rattle.goal_evaluator.proofs.Labels.{label-leaf, each-label, every-leaf, last-made}
@@ -112,14 +112,14 @@ kind-of : (o : Option CanonicalVarKind) → IsSome o → (k : CanonicalVarKind) 
 kind-of None h = absurd (false-true h)
 kind-of (Some k) h = (k, refl)
 
-kind-placed : (l : Label) (k : CanonicalVarKind) (ls : List Label) → Every IsOpen ls → kind_of_leaf l ≡ Some k → is_among l ls ≡ true → kind_at (kinds_of ls) (place_of l ls) ≡ Some k
+kind-placed : (l : Label) (k : CanonicalVarKind) (ls : List Label) → Every IsOpen ls → kind_of_leaf l ≡ Some k → is_label_among l ls ≡ true → kind_at (kinds_of_labels ls) (place_of l ls) ≡ Some k
 kind-placed l k [] h e a = absurd (false-true a)
 kind-placed l k (m ∷ ms) h e a =
     let j = kind-of (kind_of_leaf m) h.0 in
-    ap (λ z. kind_at (with_kind z (kinds_of ms)) (place_of l (m ∷ ms))) j.1 ∙ by j.0 j.1 (same_label m l) refl a (kind-placed l k ms h.1 e)
+    ap (λ z. kind_at (with_kind z (kinds_of_labels ms)) (place_of l (m ∷ ms))) j.1 ∙ by j.0 j.1 (same_label m l) refl a (kind-placed l k ms h.1 e)
   where
-    by : (j : CanonicalVarKind) → kind_of_leaf m ≡ Some j → (b : Bool) → same_label m l ≡ b → (b || is_among l ms) ≡ true → (is_among l ms ≡ true → kind_at (kinds_of ms) (place_of l ms) ≡ Some k)
-        → kind_at (j ∷ kinds_of ms) (if b then zero else suc (place_of l ms)) ≡ Some k
+    by : (j : CanonicalVarKind) → kind_of_leaf m ≡ Some j → (b : Bool) → same_label m l ≡ b → (b || is_label_among l ms) ≡ true → (is_label_among l ms ≡ true → kind_at (kinds_of_labels ms) (place_of l ms) ≡ Some k)
+        → kind_at (j ∷ kinds_of_labels ms) (if b then zero else suc (place_of l ms)) ≡ Some k
     by j p true q a r = sym p ∙ ap kind_of_leaf (same-label-sound m l q) ∙ e
     by j p false q a r = r a
 
@@ -128,13 +128,13 @@ module _ (t : FrameTable) (made : IsMadeFrame t) where
   ls = answer_leaves t
 
   abbrev ks : List CanonicalVarKind
-  ks = kinds_of ls
+  ks = kinds_of_labels ls
 
   abbrev f : Label → Label
   f l = canonical_label ls l
 
   abbrev IsListed : Label → Type 0
-  IsListed l = IsOpen l → is_among l ls ≡ true
+  IsListed l = IsOpen l → is_label_among l ls ≡ true
 
   each-open : (x : Trees) → EachLabel (λ l. IsOpen l → IsOpen l) x
   each-open none = tt
@@ -143,7 +143,7 @@ module _ (t : FrameTable) (made : IsMadeFrame t) where
   all-open : Every IsOpen ls
   all-open = every-leaf kind_of_leaf IsOpen [] tt (joined (own_values t) +++ resolved t.content.bindings t.content.constraints) (each-open (joined (own_values t) +++ resolved t.content.bindings t.content.constraints))
 
-  each-listed : (x : Trees) → ((l : Label) → StandsIn kind_of_leaf x l → is_among l ls ≡ true) → EachLabel IsListed x
+  each-listed : (x : Trees) → ((l : Label) → StandsIn kind_of_leaf x l → is_label_among l ls ≡ true) → EachLabel IsListed x
   each-listed none a = tt
   each-listed (tree l c o) a = (λ i. a l (inl (refl, i)), each-listed c (λ m i. a m (inr (inl i))), each-listed o (λ m i. a m (inr (inr i))))
 

@@ -6,14 +6,14 @@ use Rattle.type_terms.specs.Promised.Label.{Label, Sort, of_type, of_const, of_l
 use Rattle.type_terms.specs.Promised.Trees.{Trees, none, tree, leaf, ◌+++◌, is_sort, sort_of}
 use Rattle.type_terms.specs.Trees.{placed, Single}
 use Rattle.infer_table.specs.Canonical.{OpenKinds, relabeled}
-use Rattle.infer_table.specs.Solutions.{Binding, is_variable, replace, resolved}
+use Rattle.infer_table.specs.Solutions.{Binding, is_same_variable, replace, resolved}
 use Rattle.infer_table.specs.Resolving.{is_root, followed}
-use Rattle.infer_table.specs.Opened.{opened}
+use Rattle.infer_table.specs.Opened.{opened_binder}
 use Rattle.infer_table.specs.Unification.{TableTrees, with_binding, object_parts, parts_of, Worklist, unified}
 use Rattle.infer_table.proofs.Kept.{Keeps, OfPairs, unified-keeps, turns-keep}
 use Rattle.infer_table.specs.declared.canonical.CanonicalVarKind.{CanonicalVarKind}
 use Rattle.infer_table.specs.declared.canonical.CanonicalVarKind.TheVariants.{Ty, PlaceholderTy, Const, PlaceholderConst, Region}
-use Rattle.infer_table.specs.Values.{Value, if_of_sort, value_for, filled}
+use Rattle.infer_table.specs.Values.{Value, if_of_sort, value_for, filled_values}
 use Rattle.infer_table.specs.Responses.{AnswerTrees}
 use Rattle.infer_table.specs.Applying.{is_numbered, root_labels, original_of, next_unknown, table_after, values_for, known_value, applied_values, applied_table}
 use Rattle.infer_table.specs.Applied.{trees_of, solved_in_turn, with_constraints, applied}
@@ -80,7 +80,7 @@ within-node n l c d o h e a b = (subst (λ z. with_self l z ≤ n) (sym e) h, a,
 module _ (n : ℕ) (k : Sort) (v : ℕ) (r : Trees) (h : IsOne n r) where
   count-replace : (t : Trees) → count (replace k v r t) ≡ count t
   count-replace none = refl
-  count-replace (tree (infer j w) c o) = by (is_variable j w k v) (count-replace o)
+  count-replace (tree (infer j w) c o) = by (is_same_variable j w k v) (count-replace o)
     where
       by : (b : Bool) → count (replace k v r o) ≡ count o → count (if b then r +++ replace k v r o else tree (infer j w) c (replace k v r o)) ≡ suc (count o)
       by true e = count-next n r (replace k v r o) o h e
@@ -89,7 +89,7 @@ module _ (n : ℕ) (k : Sort) (v : ℕ) (r : Trees) (h : IsOne n r) where
 
   within-replace : (t : Trees) → IsWithin n t → IsWithin n (replace k v r t)
   within-replace none g = tt
-  within-replace (tree (infer j w) c o) g = by (is_variable j w k v) (within-replace o g.2)
+  within-replace (tree (infer j w) c o) g = by (is_same_variable j w k v) (within-replace o g.2)
     where
       by : (b : Bool) → IsWithin n (replace k v r o) → IsWithin n (if b then r +++ replace k v r o else tree (infer j w) c (replace k v r o))
       by true e = within-append n r (replace k v r o) h.within e
@@ -152,13 +152,13 @@ module _ (n : ℕ) (vs : List Value) (h : AllOneValues n vs) where
   value-one (canonical s i) = value-at n vs s i h
   value-one l = tt
 
-  pub count-filled : (t : Trees) → count (filled vs t) ≡ count t
+  pub count-filled : (t : Trees) → count (filled_values vs t) ≡ count t
   count-filled none = refl
-  count-filled (tree l c o) = count-placed n (value_for vs l) l (filled vs c) o (filled vs o) (value-one l) (count-filled o)
+  count-filled (tree l c o) = count-placed n (value_for vs l) l (filled_values vs c) o (filled_values vs o) (value-one l) (count-filled o)
 
-  pub within-filled : (t : Trees) → IsWithin n t → IsWithin n (filled vs t)
+  pub within-filled : (t : Trees) → IsWithin n t → IsWithin n (filled_values vs t)
   within-filled none g = tt
-  within-filled (tree l c o) g = within-placed n (value_for vs l) l c (filled vs c) (filled vs o) (value-one l) g.0 (count-filled c) (within-filled c g.1) (within-filled o g.2)
+  within-filled (tree l c o) g = within-placed n (value_for vs l) l c (filled_values vs c) (filled_values vs o) (value-one l) g.0 (count-filled c) (within-filled c g.1) (within-filled o g.2)
 
 -- ---- labels in the place of labels
 pub count-relabeled : (kind : OpenKinds) (f : Label → Label) (t : Trees) → count (relabeled kind f t) ≡ count t
@@ -178,16 +178,16 @@ within-relabeled n kind f g (tree l c o) h =
     here true a = let p = g l (count c) in let q = fewer l (count c) in omega (arith, a, p, q)
     here false a = a
 
-pub count-opened : (first m d : ℕ) (t : Trees) → count (opened first m d t) ≡ count t
+pub count-opened : (first m d : ℕ) (t : Trees) → count (opened_binder first m d t) ≡ count t
 count-opened first m d none = refl
 count-opened first m d (tree (bound of_lifetime k v) none o) = ap suc (count-opened first m d o)
 count-opened first m d (tree l c o) = ap suc (count-opened first m d o)
 
-pub within-opened : (n first m d : ℕ) (t : Trees) → IsWithin n t → IsWithin n (opened first m d t)
+pub within-opened : (n first m d : ℕ) (t : Trees) → IsWithin n t → IsWithin n (opened_binder first m d t)
 within-opened n first m d none h = tt
 within-opened n first m d (tree (bound of_lifetime k v) none o) h = (no-terms n _, tt, within-opened n first m d o h.2)
 within-opened n first m d (tree l c o) h =
-    within-node n l c (opened first m (inside l d) c) (opened first m d o) h.0 (count-opened first m (inside l d) c) (within-opened n first m (inside l d) c h.1) (within-opened n first m d o h.2)
+    within-node n l c (opened_binder first m (inside l d) c) (opened_binder first m d o) h.0 (count-opened first m (inside l d) c) (within-opened n first m (inside l d) c h.1) (within-opened n first m d o h.2)
 
 -- ---- predicates and where-clauses in a row
 abbrev pub ArePredicatesWithin : ℕ → Trees → Type 0
@@ -211,7 +211,7 @@ predicates-node n l c d o h e a b = (omega (arith, h, e), a, b)
 
 predicates-replace : (n : ℕ) (k : Sort) (v : ℕ) (r : Trees) → IsOne n r → (t : Trees) → ArePredicatesWithin n t → ArePredicatesWithin n (replace k v r t)
 predicates-replace n k v r h none g = tt
-predicates-replace n k v r h (tree (infer j w) c o) g = by (is_variable j w k v) (predicates-replace n k v r h o g.2)
+predicates-replace n k v r h (tree (infer j w) c o) g = by (is_same_variable j w k v) (predicates-replace n k v r h o g.2)
   where
     by : (b : Bool) → ArePredicatesWithin n (replace k v r o) → ArePredicatesWithin n (if b then r +++ replace k v r o else tree (infer j w) c (replace k v r o))
     by true e = predicates-append n r (replace k v r o) h.within e
@@ -257,7 +257,7 @@ within-followed n (b ∷ older) t h g = by (is_root b (followed older t)) (withi
 
 within-object : (n first : ℕ) (t : Trees) → IsWithin n t → IsWithin n (object_parts first t)
 within-object n first none h = tt
-within-object n first (tree (principal m i) c o) h = within-append n (opened first m zero c) (object_parts first o) (within-opened n first m zero c h.1) (within-object n first o h.2)
+within-object n first (tree (principal m i) c o) h = within-append n (opened_binder first m zero c) (object_parts first o) (within-opened n first m zero c h.1) (within-object n first o h.2)
 within-object n first (tree (auto_trait i) c o) h = within-object n first o h.2
 within-object n first (tree l c o) h = h
 
@@ -350,8 +350,8 @@ module _ (n : ℕ) where
       let known = known_value a originals in
       let vs = applied_values t originals a in
       let ones = values-one known (λ i. original-one i (root_labels a.values) originals g) t 0 a.kinds in
-      constraints-keep (filled vs a.constraints) (solved_in_turn (applied_table t originals a) (trees_of originals) (filled vs (trees_of a.values))) u
-      (λ w f. turns-keep (IsWithin n) (HasWithin n) (keeps-within n) (applied_table t originals a) w (trees_of originals) (filled vs (trees_of a.values))
+      constraints-keep (filled_values vs a.constraints) (solved_in_turn (applied_table t originals a) (trees_of originals) (filled_values vs (trees_of a.values))) u
+      (λ w f. turns-keep (IsWithin n) (HasWithin n) (keeps-within n) (applied_table t originals a) w (trees_of originals) (filled_values vs (trees_of a.values))
       (subst (AreWithin n) (sym (for-bindings known t 0 a.kinds)) h) (row-within originals (originals-within originals g)) (within-filled n vs ones (trees_of a.values) (row-within a.values r)) f)
       e
 

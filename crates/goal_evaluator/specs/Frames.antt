@@ -6,7 +6,7 @@ use Rattle.infer_table.specs.Unification.{TableTrees, unified}
 use Rattle.infer_table.specs.declared.canonical.CanonicalVarKind.{CanonicalVarKind}
 use Rattle.infer_table.specs.declared.certainty.Certainty.{Certainty}
 use Rattle.infer_table.specs.Unknowns.{next_labels, with_each}
-use Rattle.infer_table.specs.Values.{Value, filled, goal_filled}
+use Rattle.infer_table.specs.Values.{Value, filled_values, goal_filled}
 use Rattle.infer_table.specs.Applied.{with_constraints}
 use Rattle.infer_table.specs.Applying.{next_unknown, with_unknown}
 use Rattle.infer_table.specs.Responses.{AnswerTrees}
@@ -59,7 +59,7 @@ fresh t kinds = record t { values = t.values ++ unknowns t.table kinds; table = 
 -- ---- equations
 -- both sides, with the values in the place of variables
 abbrev pub pair_filled : List Value → Trees × Trees → Trees × Trees
-pair_filled vs e = (filled vs e.0, filled vs e.1)
+pair_filled vs e = (filled_values vs e.0, filled_values vs e.1)
 
 -- one equation after the other, each in the table that those before it left; none: refused
 abbrev pub solved : TableTrees → List (Trees × Trees) → Option TableTrees
@@ -72,7 +72,7 @@ equate t es = option_map (λ u. record t { table = u }) (solved t.table (map (pa
 -- ---- constraints, nested goals and answers
 -- constraints on lifetimes, behind those that are recorded
 abbrev pub recorded : FrameTrees → Trees → FrameTrees
-recorded t cs = record t { table = with_constraints (filled t.values cs) t.table }
+recorded t cs = record t { table = with_constraints (filled_values t.values cs) t.table }
 
 abbrev pub nested_filled : List Value → NestedTrees → NestedTrees
 nested_filled vs n = record n { goal = goal_filled vs n.goal }

@@ -14,20 +14,20 @@ use Rattle.infer_table.specs.Leaves.{leaf_label, root_label}
 use Rattle.infer_table.specs.Values.{Value}
 
 -- the canonical variable with this number
-abbrev pub is_variable : ℕ → Label → Bool
-is_variable i (canonical s j) = i == j
-is_variable i l = false
+abbrev pub is_this_variable : ℕ → Label → Bool
+is_this_variable i (canonical s j) = i == j
+is_this_variable i l = false
 
 -- each value is the canonical variable of its place, the first of which is this one
 abbrev pub are_variables : List Entry → ℕ → List GenericArgKind → Bool
 are_variables es i [] = true
-are_variables es i (value ∷ values) = is_variable i (leaf_label es value) && are_variables es (i + 1) values
+are_variables es i (value ∷ values) = is_this_variable i (leaf_label es value) && are_variables es (i + 1) values
 
 -- each type and const value is the canonical variable that comes next, the first of which is this one; a lifetime may be any
 abbrev pub is_identity_modulo_regions : ℕ → List Value → Bool
 is_identity_modulo_regions i [] = true
 is_identity_modulo_regions i (v ∷ vs) =
-    if is_variable i (root_label v.trees) then is_identity_modulo_regions (i + 1) vs
+    if is_this_variable i (root_label v.trees) then is_identity_modulo_regions (i + 1) vs
     else (is_sort v.sort of_lifetime && is_identity_modulo_regions i vs)
 
 -- neither values nor constraints

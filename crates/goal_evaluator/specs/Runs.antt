@@ -7,7 +7,7 @@ use Rattle.infer_table.specs.Constraints.{constraints_trees}
 use Rattle.infer_table.specs.Content.{Table}
 use Rattle.infer_table.specs.Responses.{AnswerTrees, answer_trees}
 use Rattle.infer_table.specs.Unification.{TableTrees, table_trees, Worklist}
-use Rattle.infer_table.specs.Values.{values_of, filled}
+use Rattle.infer_table.specs.Values.{values_of, filled_values}
 use Rattle.infer_table.specs.Worklists.{equation_trees}
 use Rattle.infer_table.specs.declared.certainty.Certainty.{Certainty}
 use Rattle.infer_table.specs.declared.certainty.TypingMode.{TypingMode}
@@ -78,7 +78,7 @@ abbrev pub equation_filled : List Entry → List GenericArgKind → Equation →
 equation_filled es values equation = pair_filled (values_of es values) (equation_trees es equation) ∷ []
 
 abbrev pub constraints_filled : List Entry → List GenericArgKind → List RegionConstraint → Trees
-constraints_filled es values constraints = filled (values_of es values) (constraints_trees es constraints)
+constraints_filled es values constraints = filled_values (values_of es values) (constraints_trees es constraints)
 
 abbrev pub premises_filled : List Entry → List GenericArgKind → List (GoalSource × Goal) → List NestedTrees
 premises_filled es values goals = map (nested_filled (values_of es values)) (premises_trees es goals)

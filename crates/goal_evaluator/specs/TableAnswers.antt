@@ -91,9 +91,9 @@ abbrev pub with_kind : Option CanonicalVarKind → List CanonicalVarKind → Lis
 with_kind None ks = ks
 with_kind (Some k) ks = k ∷ ks
 
-abbrev pub kinds_of : List Label → List CanonicalVarKind
-kinds_of [] = []
-kinds_of (l ∷ ls) = with_kind (kind_of_leaf l) (kinds_of ls)
+abbrev pub kinds_of_labels : List Label → List CanonicalVarKind
+kinds_of_labels [] = []
+kinds_of_labels (l ∷ ls) = with_kind (kind_of_leaf l) (kinds_of_labels ls)
 
 -- each variable stands for itself, and no lifetime is constrained
 abbrev pub without_values : List CanonicalVarKind → Certainty → AnswerTrees
@@ -103,7 +103,7 @@ without_values kinds c = record { kinds = kinds; certainty = c; values = variabl
 abbrev pub respond : FrameTable → Certainty → AnswerTrees
 respond t (Maybe Overflow) = without_values t.kinds (Maybe Overflow)
 respond t c = record {
-  kinds = kinds_of (answer_leaves t);
+  kinds = kinds_of_labels (answer_leaves t);
   certainty = c;
   values = map (value_numbered t) (own_labels t.kinds t.labels);
   constraints = numbered t (resolved t.content.bindings t.content.constraints);

@@ -12,7 +12,7 @@ ghost use Rattle.infer_table.specs.Solutions.{HasNoSolution};
 ghost use Rattle.infer_table.specs.Content.{content, variables_of, Ready, Grows, AllConstraintsHeld};
 ghost use Rattle.infer_table.specs.Unification.{table_trees};
 ghost use Rattle.infer_table.specs.Leaves.{leaf_label};
-ghost use Rattle.infer_table.specs.Values.{value_of, values_of, filled};
+ghost use Rattle.infer_table.specs.Values.{value_of, values_of, filled_values};
 ghost use Rattle.infer_table.specs.Constraints.{constraints_trees};
 ghost use Rattle.infer_table.specs.Responses.{ResponseHeld, Records};
 ghost use Rattle.infer_table.specs.Applying.{root_labels, canonical_number, original_of, next_unknown, with_unknown, unknowns_of, table_after};
@@ -198,7 +198,7 @@ fn fill_values(
     requires terms { ArgsHeld cx.old.entries terms.now }
     ensures terms { GrewOrFull cx.old cx.new result }
     ensures held { IfOk result (λ r. ArgsHeld cx.new.entries r.items) }
-    ensures filled { IfOk result (λ r. args_trees cx.new.entries r.items ≡ filled (values_of cx.old.entries values.now) (args_trees cx.old.entries terms.now)) }
+    ensures filled_values { IfOk result (λ r. args_trees cx.new.entries r.items ≡ filled_values (values_of cx.old.entries values.now) (args_trees cx.old.entries terms.now)) }
 {
     let terms = cx.mk_args(Vec::from_slice(alloc, terms)?)?;
     let filled = terms.fold_with(alloc, cx, &CanonicalInstantiator { values })?;
@@ -225,9 +225,9 @@ fn fill_response(
     ensures values_held { IfOk result (λ r. ArgsHeld cx.new.entries r.var_values.items) }
     ensures constraints_held { IfOk result (λ r. AllConstraintsHeld cx.new.entries r.region_constraints.items) }
     ensures values { IfOk result (λ r. args_trees cx.new.entries r.var_values.items
-        ≡ filled (values_of cx.old.entries values.now) (args_trees cx.old.entries response.now.var_values.items)) }
+        ≡ filled_values (values_of cx.old.entries values.now) (args_trees cx.old.entries response.now.var_values.items)) }
     ensures constraints { IfOk result (λ r. constraints_trees cx.new.entries r.region_constraints.items
-        ≡ filled (values_of cx.old.entries values.now) (constraints_trees cx.old.entries response.now.region_constraints.items)) }
+        ≡ filled_values (values_of cx.old.entries values.now) (constraints_trees cx.old.entries response.now.region_constraints.items)) }
 {
     let var_values = fill_values(alloc, cx, values, &response.var_values)?;
     let folder = CanonicalInstantiator { values };

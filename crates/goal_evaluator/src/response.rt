@@ -5,7 +5,7 @@ ghost use Rattle.type_terms.specs.Promised.Label.{Sort};
 ghost use Rattle.type_terms.specs.Promised.Handles.{ArgHeld, ArgsHeld, bound_label};
 ghost use Rattle.infer_table.specs.Leaves.{leaf_label};
 ghost use Rattle.infer_table.specs.Values.{values_of};
-ghost use Rattle.goal_evaluator.specs.Responses.{is_variable, are_variables, is_identity_modulo_regions, says_nothing, ValuesHeld, content};
+ghost use Rattle.goal_evaluator.specs.Responses.{is_this_variable, are_variables, is_identity_modulo_regions, says_nothing, ValuesHeld, content};
 
 use infer_table::response::CanonicalResponse;
 use std::alloc::{AllocError, Global};
@@ -15,7 +15,7 @@ use type_terms::number::{BoundVar, BoundVarIndexKind};
 use type_terms::region::RegionKind;
 
 fn is_canonical(index: BoundVarIndexKind, variable: BoundVar, number: usize) -> bool
-    ensures { (s : Sort) → result ≡ is_variable number (bound_label s index variable) }
+    ensures { (s : Sort) → result ≡ is_this_variable number (bound_label s index variable) }
 {
     match index {
         BoundVarIndexKind::Canonical => number == variable.index as usize,
@@ -25,7 +25,7 @@ fn is_canonical(index: BoundVarIndexKind, variable: BoundVar, number: usize) -> 
 
 fn is_canonical_variable(cx: &Interner, value: GenericArgKind, number: usize) -> bool
     requires { ArgHeld cx.now.entries value }
-    ensures { result ≡ is_variable number (leaf_label cx.now.entries value) }
+    ensures { result ≡ is_this_variable number (leaf_label cx.now.entries value) }
 {
     match value {
         GenericArgKind::Lifetime(region) => match region.kind {

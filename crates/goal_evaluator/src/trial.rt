@@ -6,7 +6,7 @@ ghost use Rattle.type_terms.specs.Promised.Handles.{ArgHeld, ArgsHeld, arg_trees
 ghost use Rattle.infer_table.specs.Content.{Ready, IsHeldConstraint, AllConstraintsHeld};
 ghost use Rattle.infer_table.specs.Unification.{table_trees, unified};
 ghost use Rattle.infer_table.specs.Goals.{GoalHeld};
-ghost use Rattle.infer_table.specs.Values.{value_of, values_of, filled};
+ghost use Rattle.infer_table.specs.Values.{value_of, values_of, filled_values};
 ghost use Rattle.infer_table.specs.Applied.{with_constraints};
 ghost use Rattle.infer_table.specs.Applying.{next_unknown, with_unknown};
 ghost use Rattle.infer_table.specs.Responses.{answer_trees};
@@ -244,7 +244,7 @@ fn fill(
     requires term { ArgHeld cx.old.entries term }
     ensures terms { GrewOrFull cx.old cx.new result }
     ensures held { IfOk result (λ a. ArgHeld cx.new.entries a) }
-    ensures filled { IfOk result (λ a. arg_trees cx.new.entries a ≡ filled (values_of cx.old.entries values.now) (arg_trees cx.old.entries term)) }
+    ensures filled_values { IfOk result (λ a. arg_trees cx.new.entries a ≡ filled_values (values_of cx.old.entries values.now) (arg_trees cx.old.entries term)) }
 {
     term.fold_with(alloc, cx, &CanonicalInstantiator { values })
 }
@@ -449,7 +449,7 @@ fn fill_goals(
     requires goals { Every (λ n. GoalHeld cx.old.entries n.1) goals.now }
     ensures terms { GrewOrFull cx.old cx.new result }
     ensures held { IfOk result (λ gs. NestedHeld cx.new.entries (map nested_goal gs.items)) }
-    ensures filled { IfOk result (λ gs. premises_trees cx.new.entries gs.items ≡ premises_filled cx.old.entries values.now goals.now) }
+    ensures filled_values { IfOk result (λ gs. premises_trees cx.new.entries gs.items ≡ premises_filled cx.old.entries values.now goals.now) }
 {
     let mut filled = VecDeque::new(alloc);
     for premise in goals {

@@ -24,7 +24,7 @@ use Rattle.goal_evaluator.proofs.Resolved.{made-resolved}
 use Rattle.goal_evaluator.proofs.TableBeginning.{begin-made}
 use Rattle.goal_evaluator.specs.Tables.{frame_tables}
 use Rattle.goal_evaluator.proofs.FrameTableLaws.{tables_are_lawful}
-use Rattle.goal_frames.specs.Rules.{TraitBound, goal_of, Rule, RuleBook, BoundIsOver, IsRule, AreRules}
+use Rattle.goal_frames.specs.Rules.{TraitBound, goal_of, FrameRule, RuleBook, BoundIsOver, IsRule, AreRules}
 use Rattle.goal_frames.specs.Handlers.{BareGoal, bare_goal, bound_behind, nested_of_bound, spec_of, candidates_of, handled_by, listing_of, same_answer, applies_always}
 use Rattle.goal_frames.specs.Forms.{is_unnumbered}
 use Rattle.goal_frames.proofs.Listings.{listed-each}
@@ -63,9 +63,9 @@ each-decided : (book : RuleBook) → AreRules book → (o : Option BareGoal) →
 each-decided book rules_are None = (tt, tt)
 each-decided book rules_are (Some a) =
     each-spec (book.coinductive a.bound.trait) a (λ (c : Spec (workings frame_tables)). Every (AreSo frame_tables IsDecided IsMadeFrame) c.nested) book.rules
-    (Every-mono IsRule (λ (r : Rule). r.head.trait ≡ a.bound.trait → Every (AreSo frame_tables IsDecided IsMadeFrame) (spec_of (book.coinductive a.bound.trait) a r).nested) one book.rules rules_are)
+    (Every-mono IsRule (λ (r : FrameRule). r.head.trait ≡ a.bound.trait → Every (AreSo frame_tables IsDecided IsMadeFrame) (spec_of (book.coinductive a.bound.trait) a r).nested) one book.rules rules_are)
   where
-    one : (r : Rule) → IsRule r → r.head.trait ≡ a.bound.trait → Every (AreSo frame_tables IsDecided IsMadeFrame) (spec_of (book.coinductive a.bound.trait) a r).nested
+    one : (r : FrameRule) → IsRule r → r.head.trait ≡ a.bound.trait → Every (AreSo frame_tables IsDecided IsMadeFrame) (spec_of (book.coinductive a.bound.trait) a r).nested
     one r good e =
         Every-map (AreSo frame_tables IsDecided IsMadeFrame) (λ b. nested_of_bound (book.coinductive a.bound.trait) (bound_behind (length a.kinds) b)) r.premises
         (Every-mono (BoundIsOver r.kinds) (λ b. AreSo frame_tables IsDecided IsMadeFrame (nested_of_bound (book.coinductive a.bound.trait) (bound_behind (length a.kinds) b)))

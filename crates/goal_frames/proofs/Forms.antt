@@ -7,12 +7,12 @@ use Rattle.type_terms.specs.Trees.{is_no_tree}
 use Rattle.type_terms.specs.Codes.{same_label}
 use Rattle.type_terms.proofs.Matching.{same-label-sound}
 use Rattle.type_terms.specs.Made.{Standing, terms, bounds, traits, is_leaf_label, is_made}
-use Rattle.infer_table.specs.Canonical.{kind_of_leaf, StandsIn, relabeled, is_among, with_label, leaves, place_of, canonical_label}
+use Rattle.infer_table.specs.Canonical.{kind_of_leaf, StandsIn, relabeled, is_label_among, with_label, leaves, place_of, canonical_label}
 use Rattle.infer_table.specs.declared.canonical.CanonicalVarKind.{CanonicalVarKind}
 use Rattle.infer_table.proofs.CanonicalLaws.{leaves-hold}
 use Rattle.goal_evaluator.specs.Lists.{Every}
 use Rattle.goal_evaluator.specs.FrameTables.{kind_at}
-use Rattle.goal_evaluator.specs.TableAnswers.{is_kind_of, with_kind, kinds_of}
+use Rattle.goal_evaluator.specs.TableAnswers.{is_kind_of, with_kind, kinds_of_labels}
 use Rattle.type_terms.proofs.Made.{false-true, left, right, both, no-tree, is_ordinary, made-ordinary, makes-ordinary, IsLast, last-bound, last-trait, never-dynamic, never-dynamic-bound, never-principal}
 use Rattle.goal_evaluator.proofs.Reading.{EachLabel}
 use Rattle.goal_evaluator.proofs.Nodes.{every-leaf}
@@ -33,9 +33,9 @@ known-next : (o : Option CanonicalVarKind) (ks : List CanonicalVarKind) → is_s
 known-next None ks h = absurd (false-true h)
 known-next (Some k) ks h = refl
 
-known-kinds : (ls : List Label) → AreOpen ls → all_known (map kind_of_leaf ls) ≡ Some (kinds_of ls)
+known-kinds : (ls : List Label) → AreOpen ls → all_known (map kind_of_leaf ls) ≡ Some (kinds_of_labels ls)
 known-kinds [] h = refl
-known-kinds (l ∷ ls) h = ap (with_first (kind_of_leaf l)) (known-kinds ls h.1) ∙ known-next (kind_of_leaf l) (kinds_of ls) h.0
+known-kinds (l ∷ ls) h = ap (with_first (kind_of_leaf l)) (known-kinds ls h.1) ∙ known-next (kind_of_leaf l) (kinds_of_labels ls) h.0
 
 kind-first : (o : Option CanonicalVarKind) (ks : List CanonicalVarKind) → is_some o ≡ true → kind_at (with_kind o ks) zero ≡ o
 kind-first None ks h = absurd (false-true h)
@@ -45,14 +45,14 @@ kind-later : (o : Option CanonicalVarKind) (ks : List CanonicalVarKind) (i : ℕ
 kind-later None ks i h = absurd (false-true h)
 kind-later (Some k) ks i h = refl
 
-kind-place : (ls : List Label) → AreOpen ls → (l : Label) → is_among l ls ≡ true → kind_at (kinds_of ls) (place_of l ls) ≡ kind_of_leaf l
+kind-place : (ls : List Label) → AreOpen ls → (l : Label) → is_label_among l ls ≡ true → kind_at (kinds_of_labels ls) (place_of l ls) ≡ kind_of_leaf l
 kind-place [] h l a = absurd (false-true a)
 kind-place (m ∷ ls) h l a = by (same_label m l) refl a (λ f. kind-place ls h.1 l f)
   where
-    by : (b : Bool) → same_label m l ≡ b → (b || is_among l ls) ≡ true → (is_among l ls ≡ true → kind_at (kinds_of ls) (place_of l ls) ≡ kind_of_leaf l)
-        → kind_at (with_kind (kind_of_leaf m) (kinds_of ls)) (if b then zero else suc (place_of l ls)) ≡ kind_of_leaf l
-    by true q f g = kind-first (kind_of_leaf m) (kinds_of ls) h.0 ∙ ap kind_of_leaf (same-label-sound m l q)
-    by false q f g = kind-later (kind_of_leaf m) (kinds_of ls) (place_of l ls) h.0 ∙ g f
+    by : (b : Bool) → same_label m l ≡ b → (b || is_label_among l ls) ≡ true → (is_label_among l ls ≡ true → kind_at (kinds_of_labels ls) (place_of l ls) ≡ kind_of_leaf l)
+        → kind_at (with_kind (kind_of_leaf m) (kinds_of_labels ls)) (if b then zero else suc (place_of l ls)) ≡ kind_of_leaf l
+    by true q f g = kind-first (kind_of_leaf m) (kinds_of_labels ls) h.0 ∙ ap kind_of_leaf (same-label-sound m l q)
+    by false q f g = kind-later (kind_of_leaf m) (kinds_of_labels ls) (place_of l ls) h.0 ∙ g f
 
 open-kind : (l : Label) → is_some (kind_of_leaf l) ≡ true → is_kind_of (sort_of l) (kind_of_leaf l) ≡ true
 open-kind (infer of_type v) h = refl
@@ -73,10 +73,10 @@ module _ (ls : List Label) (opens : AreOpen ls) where
   numbered l = if is_some (kind_of_leaf l) then canonical_label ls l else l
 
   abbrev over : Label → Bool
-  over l = is_variable_over (kinds_of ls) l
+  over l = is_variable_over (kinds_of_labels ls) l
 
   abbrev IsListed : Label → Type 0
-  IsListed l = is_some (kind_of_leaf l) ≡ true → is_among l ls ≡ true
+  IsListed l = is_some (kind_of_leaf l) ≡ true → is_label_among l ls ≡ true
 
   stays-over : (l : Label) → is_unnumbered l ≡ true → is_some (kind_of_leaf l) ≡ false → over l ≡ true
   stays-over (canonical k i) g e = absurd (false-true g)
@@ -201,18 +201,18 @@ module _ (ls : List Label) (opens : AreOpen ls) where
   stands-numbered l (tree m c o) (inr (inr s)) = or-right (is_variable_label (sort_of l) (place_of l ls) (numbered m)) _ _ (stands-numbered l o s)
 
 -- ---- leaves are collected once each
-fresh-last : (seen xs : List Label) (l : Label) → AreFresh seen xs → is_some (kind_of_leaf l) ≡ true → is_among l (seen ++ xs) ≡ false → AreFresh seen (xs ++ l ∷ [])
-fresh-last seen [] l f i a = (i, ap (is_among l) (sym (append-nil seen)) ∙ a, tt)
+fresh-last : (seen xs : List Label) (l : Label) → AreFresh seen xs → is_some (kind_of_leaf l) ≡ true → is_label_among l (seen ++ xs) ≡ false → AreFresh seen (xs ++ l ∷ [])
+fresh-last seen [] l f i a = (i, ap (is_label_among l) (sym (append-nil seen)) ∙ a, tt)
   where
     append-nil : (xs : List Label) → xs ++ [] ≡ xs
     append-nil [] = refl
     append-nil (x ∷ xs) = ap (λ z. x ∷ z) (append-nil xs)
-fresh-last seen (x ∷ xs) l f i a = (f.0, f.1, fresh-last (seen ++ x ∷ []) xs l f.2 i (ap (is_among l) (append-list seen x xs) ∙ a))
+fresh-last seen (x ∷ xs) l f i a = (f.0, f.1, fresh-last (seen ++ x ∷ []) xs l f.2 i (ap (is_label_among l) (append-list seen x xs) ∙ a))
 
 fresh-leaf : (l : Label) (seen : List Label) → AreFresh [] seen → AreFresh [] (if is_some (kind_of_leaf l) then with_label l seen else seen)
-fresh-leaf l seen f = by (is_some (kind_of_leaf l)) refl (is_among l seen) refl
+fresh-leaf l seen f = by (is_some (kind_of_leaf l)) refl (is_label_among l seen) refl
   where
-    by : (b : Bool) → is_some (kind_of_leaf l) ≡ b → (c : Bool) → is_among l seen ≡ c → AreFresh [] (if b then (if c then seen else seen ++ l ∷ []) else seen)
+    by : (b : Bool) → is_some (kind_of_leaf l) ≡ b → (c : Bool) → is_label_among l seen ≡ c → AreFresh [] (if b then (if c then seen else seen ++ l ∷ []) else seen)
     by false e c q = f
     by true e true q = f
     by true e false q = fresh-last [] seen l f e q
@@ -243,14 +243,14 @@ place-next static i ks x h s r = r
 place-next l i ks x h s r = absurd (false-true h)
 
 places : (all seen ls : List Label) (x : Trees) → all ≡ seen ++ ls → AreFresh seen ls → Every (λ l. some_node (is_variable_label (sort_of l) (place_of l all)) x ≡ true) ls
-    → places_stand (length seen) (kinds_of ls) x ≡ true
+    → places_stand (length seen) (kinds_of_labels ls) x ≡ true
 places all seen [] x e f s = refl
 places all seen (l ∷ ls) x e f s =
-    place-next l (length seen) (kinds_of ls) x f.0 (ap (λ n. some_node (is_variable_label (sort_of l) n) x) (sym (ap (place_of l) e ∙ place-is seen l ls f.1)) ∙ s.0)
-    (ap (λ n. places_stand n (kinds_of ls) x) (sym (length-more seen l)) ∙ places all (seen ++ l ∷ []) ls x (e ∙ sym (append-list seen l ls)) f.2 s.1)
+    place-next l (length seen) (kinds_of_labels ls) x f.0 (ap (λ n. some_node (is_variable_label (sort_of l) n) x) (sym (ap (place_of l) e ∙ place-is seen l ls f.1)) ∙ s.0)
+    (ap (λ n. places_stand n (kinds_of_labels ls) x) (sym (length-more seen l)) ∙ places all (seen ++ l ∷ []) ls x (e ∙ sym (append-list seen l ls)) f.2 s.1)
 
 -- ---- goals
-each-listed : (ls : List Label) (t : Trees) → ((l : Label) → StandsIn kind_of_leaf t l → is_among l ls ≡ true) → EachLabel (λ l. is_some (kind_of_leaf l) ≡ true → is_among l ls ≡ true) t
+each-listed : (ls : List Label) (t : Trees) → ((l : Label) → StandsIn kind_of_leaf t l → is_label_among l ls ≡ true) → EachLabel (λ l. is_some (kind_of_leaf l) ≡ true → is_label_among l ls ≡ true) t
 each-listed ls none h = tt
 each-listed ls (tree l c o) h = (λ i. h l (inl (refl, i)), each-listed ls c (λ m s. h m (inr (inl s))), each-listed ls o (λ m s. h m (inr (inr s))))
 
@@ -264,8 +264,8 @@ canonical-goals-are-asked b m =
     let stand = places ls [] ls x refl fresh
     (every-leaf kind_of_leaf (λ l. some_node (is_variable_label (sort_of l) (place_of l ls)) x ≡ true) [] b.arguments tt (λ l s. stands-numbered ls opens l b.arguments s)) in
     let here : TraitBound = record { trait = b.trait; arguments = x } in (
-      record { kinds = kinds_of ls; bound = here },
+      record { kinds = kinds_of_labels ls; bound = here },
       ap (λ o. asked_with o (Some here)) (known-kinds ls opens)
-          ∙ ap (λ z. if z then Some (record { kinds = kinds_of ls; bound = here }) else None) (both (is_made (is_variable_over (kinds_of ls)) terms x) _ made stand),
+          ∙ ap (λ z. if z then Some (record { kinds = kinds_of_labels ls; bound = here }) else None) (both (is_made (is_variable_over (kinds_of_labels ls)) terms x) _ made stand),
       refl,
     )

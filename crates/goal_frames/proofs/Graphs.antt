@@ -1,7 +1,7 @@
 -- A proof graph of a search unfolds to a proof list.
 use Rattle.std.proofs.Common.{◌≡◌, Bool, true, false, List, [], ◌∷◌, inl, inr, refl, sym, ◌∙◌, ap, subst}
 use Rattle.search_graph.specs.declared.path_kind.PathKind.{PathKind}
-use Rattle.search_graph.specs.Path.{is_coinductive}
+use Rattle.search_graph.specs.Path.{is_coinductive_path}
 use Rattle.search_graph.specs.Proof as Searched
 use Rattle.goal_evaluator.specs.Lists.{IsAmong}
 use Rattle.goal_evaluator.specs.Table.{Tables}
@@ -13,7 +13,7 @@ use Rattle.goal_frames.specs.Programs.{Programs, ArePrograms}
 use Rattle.goal_frames.specs.Searches.{step_kind, kind_of, GoalInMode, goal_in, FollowsInMode}
 use Rattle.goal_frames.specs.Graphs.{GraphsGiveProofLists}
 
-kind-is : (b : Bool) → is_coinductive (step_kind b) ≡ b
+kind-is : (b : Bool) → is_coinductive_path (step_kind b) ≡ b
 kind-is true = refl
 kind-is false = refl
 
@@ -25,11 +25,11 @@ same-among g (h ∷ goals) (inr i) = inr (same-among g goals i)
 -- the questions, each with whether the step to it is coinductive
 abbrev told_apart : {G : Type 0} → List (G × PathKind) → List (G × Bool)
 told_apart [] = []
-told_apart (q ∷ questions) = (q.0, is_coinductive q.1) ∷ told_apart questions
+told_apart (q ∷ questions) = (q.0, is_coinductive_path q.1) ∷ told_apart questions
 
-told-among : {G : Type 0} (g : G) (k : PathKind) (questions : List (G × PathKind)) → IsAmong (g, k) questions → IsAmong (g, is_coinductive k) (told_apart questions)
+told-among : {G : Type 0} (g : G) (k : PathKind) (questions : List (G × PathKind)) → IsAmong (g, k) questions → IsAmong (g, is_coinductive_path k) (told_apart questions)
 told-among {G = G} g k [] i = absurd i
-told-among {G = G} g k (q ∷ questions) (inl e) = inl (ap (λ (x : G × PathKind). (x.0, is_coinductive x.1)) e)
+told-among {G = G} g k (q ∷ questions) (inl e) = inl (ap (λ (x : G × PathKind). (x.0, is_coinductive_path x.1)) e)
 told-among {G = G} g k (q ∷ questions) (inr i) = inr (told-among g k questions i)
 
 module _ {G : Type 0} (F : G → List (G × PathKind) → Type 0) (H : G → List (G × Bool) → Type 0)
@@ -46,7 +46,7 @@ module _ {G : Type 0} (F : G → List (G × PathKind) → Type 0) (H : G → Lis
   searched-among g (h ∷ goals) (inl e) = inl e
   searched-among g (h ∷ goals) (inr i) = inr (searched-among g goals i)
 
-  graph : (g : G) → Searched.HasProof G F g → HasGraph G H g
+  graph : (g : G) → Searched.HasGraphProof G F g → HasGraph G H g
   graph g h = record {
     goals = h.goals;
     among = same-among g h.goals h.among;

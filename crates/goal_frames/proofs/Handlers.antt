@@ -28,8 +28,8 @@ use Rattle.goal_evaluator.specs.TableOperations.{begin, fresh}
 use Rattle.goal_evaluator.specs.Tables.{frame_tables}
 use Rattle.goal_evaluator.proofs.FrameTableLaws.{tables_are_lawful}
 use Rattle.goal_frames.specs.Listings.{listed, IsListing}
-use Rattle.goal_frames.specs.Rules.{TraitBound, goal_of, Rule, RuleBook, BoundIsOver, IsRule, AreRules, instance_of, IsBy, IsClosedFact, is_coinductive_trait, is_coinductive, FollowsClosed, HasProofByBook}
-use Rattle.goal_frames.specs.Handlers.{BareGoal, bare_goal, bound_behind, as_one, nested_of_bound, spec_of, specs_for, unsure, number_of_rules, same_answer, applies_always, has_placeholder, world_of, widest_of, listing_of, handled_by}
+use Rattle.goal_frames.specs.Rules.{TraitBound, goal_of, FrameRule, RuleBook, BoundIsOver, IsRule, AreRules, instance_of, IsBy, IsClosedFact, is_coinductive_trait, is_coinductive, FollowsClosed, HasProofByBook}
+use Rattle.goal_frames.specs.Handlers.{BareGoal, bare_goal, bound_behind, as_one, nested_of_bound, spec_of, specs_for, unsure, number_of_rules, same_answer, applies_always, has_placeholder, world_of_search, widest_of, listing_of, handled_by}
 use Rattle.goal_frames.proofs.Listings.{listings-are-lawful}
 use Rattle.goal_evaluator.proofs.Readings.{reads-agree}
 use Rattle.goal_frames.proofs.Behind.{dropped, read-behind, made-behind, made-open}
@@ -48,20 +48,20 @@ use Rattle.goal_evaluator.proofs.Basics.{unmap as from-map}
 -- ---- the candidates are the rules
 module _ (kind : Bool) (a : BareGoal) where
   -- what holds of the candidate of each rule of the goal's trait holds of each candidate
-  each-if : (P : Spec (workings frame_tables) → Type 0) (r : Rule) (rules : List Rule) (b : Bool) → (r.head.trait == a.bound.trait) ≡ b → (r.head.trait ≡ a.bound.trait → P (spec_of kind a r))
+  each-if : (P : Spec (workings frame_tables) → Type 0) (r : FrameRule) (rules : List FrameRule) (b : Bool) → (r.head.trait == a.bound.trait) ≡ b → (r.head.trait ≡ a.bound.trait → P (spec_of kind a r))
       → Every P (specs_for kind a rules) → Every P (if b then spec_of kind a r ∷ specs_for kind a rules else specs_for kind a rules)
   each-if P r rules true e h g = (h (eqb-true r.head.trait a.bound.trait e), g)
   each-if P r rules false e h g = g
 
-  pub each-spec : (P : Spec (workings frame_tables) → Type 0) (rules : List Rule) → Every (λ r. r.head.trait ≡ a.bound.trait → P (spec_of kind a r)) rules → Every P (specs_for kind a rules)
+  pub each-spec : (P : Spec (workings frame_tables) → Type 0) (rules : List FrameRule) → Every (λ r. r.head.trait ≡ a.bound.trait → P (spec_of kind a r)) rules → Every P (specs_for kind a rules)
   each-spec P [] h = tt
   each-spec P (r ∷ rules) h = each-if P r rules (r.head.trait == a.bound.trait) refl h.0 (each-spec P rules h.1)
 
-  some-if : (P : Spec (workings frame_tables) → Type 0) (r : Rule) (rules : List Rule) (b : Bool) → SomeOf P (specs_for kind a rules) → SomeOf P (if b then spec_of kind a r ∷ specs_for kind a rules else specs_for kind a rules)
+  some-if : (P : Spec (workings frame_tables) → Type 0) (r : FrameRule) (rules : List FrameRule) (b : Bool) → SomeOf P (specs_for kind a rules) → SomeOf P (if b then spec_of kind a r ∷ specs_for kind a rules else specs_for kind a rules)
   some-if P r rules true s = inr s
   some-if P r rules false s = s
 
-  some-spec : (P : Spec (workings frame_tables) → Type 0) (rules : List Rule) → SomeOf (λ (r : Rule). (r.head.trait ≡ a.bound.trait) × P (spec_of kind a r)) rules → SomeOf P (specs_for kind a rules)
+  some-spec : (P : Spec (workings frame_tables) → Type 0) (rules : List FrameRule) → SomeOf (λ (r : FrameRule). (r.head.trait ≡ a.bound.trait) × P (spec_of kind a r)) rules → SomeOf P (specs_for kind a rules)
   some-spec P [] s = absurd s
   some-spec P (r ∷ rules) (inl x) =
       subst (λ b. SomeOf P (if b then spec_of kind a r ∷ specs_for kind a rules else specs_for kind a rules)) (sym (eq-eqb r.head.trait a.bound.trait x.0)) (inl x.1)
@@ -99,7 +99,7 @@ module _ (book : RuleBook) (rules_are : AreRules book) (mode : TypingMode) (f : 
   abbrev IsRuleFor : Spec (workings frame_tables) → Type 0
   IsRuleFor c = CandidateIsLawful frame_tables (listed frame_tables applies_always same_answer (listing_of book mode f a.kinds (Some a))) c
 
-  listed-rule : (r : Rule) → IsRule r → IsAmong r book.rules → r.head.trait ≡ a.bound.trait → IsRuleFor (spec_of kind a r)
+  listed-rule : (r : FrameRule) → IsRule r → IsAmong r book.rules → r.head.trait ≡ a.bound.trait → IsRuleFor (spec_of kind a r)
   listed-rule r good i same =
       let w = rule-within number book.rules rules-within r i in
       record {
@@ -116,7 +116,7 @@ module _ (book : RuleBook) (rules_are : AreRules book) (mode : TypingMode) (f : 
       same-kind g (b ∷ bs) = (sym (ap (λ (z : GoalTrees). is_coinductive_trait book (trait_of z.predicate)) h.goal), same-kind g bs)
 
   -- ---- solutions
-  module _ (v : Values) (closed : IsClosedFact (goal v)) (r : Rule) (good : IsRule r) (premises : List Fact) (by : IsBy (goal v) premises r) where
+  module _ (v : Values) (closed : IsClosedFact (goal v)) (r : FrameRule) (good : IsRule r) (premises : List Fact) (by : IsBy (goal v) premises r) where
     no_places : Every IsNotPlace a.kinds
     no_places = closed-kinds f a h v closed
 
@@ -169,7 +169,7 @@ module _ (book : RuleBook) (rules_are : AreRules book) (mode : TypingMode) (f : 
   cover-asked v p =
       let last = last_rule Fact (FollowsClosed book) (is_coinductive book) (goal v) p in
       some-spec kind a (Realizes frame_tables (HasProofByBook book) (begin a.kinds) v) book.rules
-      (SomeOf-both IsRule (IsBy (goal v) last.0) (λ (r : Rule). (r.head.trait ≡ a.bound.trait) × Realizes frame_tables (HasProofByBook book) (begin a.kinds) v (spec_of kind a r))
+      (SomeOf-both IsRule (IsBy (goal v) last.0) (λ (r : FrameRule). (r.head.trait ≡ a.bound.trait) × Realizes frame_tables (HasProofByBook book) (begin a.kinds) v (spec_of kind a r))
       (λ r good by. (sym (parts v last.1.0 r good last.0 by).0, realizes v last.1.0 r good last.0 by last.2)) book.rules rules_are last.1.1)
 
   asked-listing : IsListing frame_tables applies_always same_answer (listing_of book mode f a.kinds (Some a))
@@ -197,7 +197,7 @@ no-placeholder (Region ∷ ks) e = (tt, no-placeholder ks e)
 no-placeholder (PlaceholderTy ∷ ks) e = absurd (false-true (sym e))
 no-placeholder (PlaceholderConst ∷ ks) e = absurd (false-true (sym e))
 
-searched-kinds : (mode : TypingMode) (f : CanonicalForm) → bare_goal f ≡ None → world_of mode f → Every IsNotPlace (kinds_known f.kinds)
+searched-kinds : (mode : TypingMode) (f : CanonicalForm) → bare_goal f ≡ None → world_of_search mode f → Every IsNotPlace (kinds_known f.kinds)
 searched-kinds Coherence f e w = no-placeholder (kinds_known f.kinds) (not-true (has_placeholder (kinds_known f.kinds)) (ap (λ o. is_some o || not (has_placeholder (kinds_known f.kinds))) (sym e) ∙ w))
 searched-kinds PostAnalysis f e w = absurd w
 

@@ -21,7 +21,7 @@ use Rattle.goal_evaluator.proofs.Reading.{EachLabel}
 use Rattle.goal_evaluator.proofs.Labels.{IsGoodLabel, made-labels}
 use Rattle.goal_evaluator.specs.Tables.{frame_tables}
 use Rattle.goal_evaluator.specs.Fitting.{is_of_sort, is_slot, AreOver, IsGoalOver, IsValueOver}
-use Rattle.goal_frames.specs.Rules.{TraitBound, goal_of, Rule, BoundIsOver, IsRule}
+use Rattle.goal_frames.specs.Rules.{TraitBound, goal_of, FrameRule, BoundIsOver, IsRule}
 use Rattle.goal_evaluator.specs.Variables.{is_variable_over}
 use Rattle.goal_frames.specs.Handlers.{BareGoal, bare_goal, moved, bound_behind, as_one, nested_of_bound, spec_of, candidates_of}
 use Rattle.goal_frames.specs.RuleFitting.{slots_of, IsOverSlots, CandidatesFit}
@@ -131,7 +131,7 @@ arguments-behind kinds own b m =
     over-behind own (slots_of kinds own) (length kinds) (rule-slots kinds own) b.arguments (made-labels (is_variable_over own) terms b.arguments m) (made-leaves (is_variable_over own) terms b.arguments m)
 
 -- ---- candidates
-spec-fits : (kind : Bool) (f : CanonicalForm) (a : BareGoal) → IsAsked f a → (r : Rule) → IsRule r → IsOverSlots (slots_of a.kinds r.kinds) (spec_of kind a r)
+spec-fits : (kind : Bool) (f : CanonicalForm) (a : BareGoal) → IsAsked f a → (r : FrameRule) → IsRule r → IsOverSlots (slots_of a.kinds r.kinds) (spec_of kind a r)
 spec-fits kind f a h r good =
     let ls = slots_of a.kinds r.kinds in
     record {
@@ -157,5 +157,5 @@ candidates-fit book rules_are f = by (bare_goal f) refl
     by (Some a) e =
         subst (λ ks. Every (λ (c : Spec (workings frame_tables)). IsOverSlots (slots_of ks c.kinds) c) (candidates_of book (Some a))) (sym (kinds-are f a (asked-is f a e)))
         (each-spec (book.coinductive a.bound.trait) a (λ (c : Spec (workings frame_tables)). IsOverSlots (slots_of a.kinds c.kinds) c) book.rules
-        (Every-mono IsRule (λ (r : Rule). r.head.trait ≡ a.bound.trait → IsOverSlots (slots_of a.kinds r.kinds) (spec_of (book.coinductive a.bound.trait) a r))
+        (Every-mono IsRule (λ (r : FrameRule). r.head.trait ≡ a.bound.trait → IsOverSlots (slots_of a.kinds r.kinds) (spec_of (book.coinductive a.bound.trait) a r))
         (λ r good q. spec-fits (book.coinductive a.bound.trait) f a (asked-is f a e) r good) book.rules rules_are))

@@ -6,14 +6,14 @@ use Rattle.infer_table.specs.declared.certainty.TypingMode.{TypingMode}
 use Rattle.infer_table.specs.declared.certainty.TypingMode.TheVariants.{Coherence, PostAnalysis}
 use Rattle.goal_evaluator.specs.Content.{NestedQuestion}
 use Rattle.goal_evaluator.specs.FrameTables.{kinds_known}
-use Rattle.goal_frames.specs.Handlers.{has_placeholder, world_of}
+use Rattle.goal_frames.specs.Handlers.{has_placeholder, world_of_search}
 use Rattle.goal_frames.specs.RulePrograms.{book_of, rule_goals, RulesArePrograms}
 use Rattle.goal_frames.proofs.Handlers.{handlers-are-lawful}
 use Rattle.goal_frames.proofs.HandlerPrograms.{handlers-are-programs}
 use Rattle.goal_frames.proofs.Decided.{IsDecided, questions-decided}
 
 -- a question that is decided is looked for where its goal is
-decided-searched : (mode : TypingMode) (f : CanonicalForm) (q : NestedQuestion) → IsDecided q → world_of mode f → world_of mode q.form
+decided-searched : (mode : TypingMode) (f : CanonicalForm) (q : NestedQuestion) → IsDecided q → world_of_search mode f → world_of_search mode q.form
 decided-searched Coherence f q d x = ap (λ o. is_some o || not (has_placeholder (kinds_known q.form.kinds))) d.1
 decided-searched PostAnalysis f q d x = x
 

@@ -11,7 +11,7 @@ use Rattle.infer_table.specs.declared.certainty.MaybeCause.TheVariants.{Ambiguit
 use Rattle.infer_table.specs.Values.{Value}
 use Rattle.infer_table.specs.Raw.{sort_of_kind, variable_value, variables_from}
 use Rattle.infer_table.specs.Responses.{AnswerTrees}
-use Rattle.goal_evaluator.specs.TableAnswers.{own_labels, answer_leaves, value_numbered, with_kind, kinds_of, without_values, respond}
+use Rattle.goal_evaluator.specs.TableAnswers.{own_labels, answer_leaves, value_numbered, with_kind, kinds_of_labels, without_values, respond}
 use Rattle.goal_evaluator.specs.TableOperations.{begin}
 use Rattle.goal_evaluator.specs.FrameTables.{labels_from}
 use Rattle.goal_evaluator.proofs.FirstAnswers.{AreFresh, append-list, length-more, place-is, value_by, own-labels-all, begin-fresh, begin-leaves}
@@ -32,11 +32,11 @@ labels-of a b c i (Region ∷ ks) = (refl, refl, labels-of a b (suc c) (suc i) k
 labels-of a b c i (PlaceholderTy ∷ ks) = (refl, refl, labels-of a b c (suc i) ks)
 labels-of a b c i (PlaceholderConst ∷ ks) = (refl, refl, labels-of a b c (suc i) ks)
 
-kinds-are : (ks : List CanonicalVarKind) (ls : List Label) → AreOf ks ls → kinds_of ls ≡ ks
+kinds-are : (ks : List CanonicalVarKind) (ls : List Label) → AreOf ks ls → kinds_of_labels ls ≡ ks
 kinds-are [] [] o = refl
 kinds-are [] (l ∷ ls) o = absurd o
 kinds-are (k ∷ ks) [] o = absurd o
-kinds-are (k ∷ ks) (l ∷ ls) o = ap (λ x. with_kind x (kinds_of ls)) o.1 ∙ ap (λ z. k ∷ z) (kinds-are ks ls o.2)
+kinds-are (k ∷ ks) (l ∷ ls) o = ap (λ x. with_kind x (kinds_of_labels ls)) o.1 ∙ ap (λ z. k ∷ z) (kinds-are ks ls o.2)
 
 one : (all : List Label) (n : ℕ) (k : CanonicalVarKind) (l : Label) → is_some (kind_of_leaf l) ≡ true → sort_of l ≡ sort_of_kind k → place_of l all ≡ n → value_by all l ≡ variable_value k n
 one all n k l o s p =
@@ -58,8 +58,8 @@ begin-values ks =
     let ls = labels_from 0 0 0 0 ks in
     ap (map (value_numbered (begin ks))) (own-labels-all ks) ∙ values-are (answer_leaves (begin ks)) [] ks ls (begin-leaves ks) (begin-fresh ks) (labels-of 0 0 0 0 ks)
 
-begin-kinds : (ks : List CanonicalVarKind) → kinds_of (answer_leaves (begin ks)) ≡ ks
-begin-kinds ks = ap kinds_of (begin-leaves ks) ∙ kinds-are ks (labels_from 0 0 0 0 ks) (labels-of 0 0 0 0 ks)
+begin-kinds : (ks : List CanonicalVarKind) → kinds_of_labels (answer_leaves (begin ks)) ≡ ks
+begin-kinds ks = ap kinds_of_labels (begin-leaves ks) ∙ kinds-are ks (labels_from 0 0 0 0 ks) (labels-of 0 0 0 0 ks)
 
 answer-cong : (ks js : List CanonicalVarKind) (c : Certainty) (vs ws : List Value) → ks ≡ js → vs ≡ ws
     → ◌≡◌ {A = AnswerTrees} (record { kinds = ks; certainty = c; values = vs; constraints = none }) (record { kinds = js; certainty = c; values = ws; constraints = none })

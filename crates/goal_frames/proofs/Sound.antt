@@ -11,7 +11,7 @@ use Rattle.goal_evaluator.specs.Content.{Values, fits, given, fact_of, ChosenTer
 use Rattle.goal_evaluator.specs.FrameTables.{FrameTable, Allows, Nested, fact, is_open_label, term_of, EquationIsMet}
 use Rattle.type_terms.proofs.Made.{right}
 use Rattle.goal_evaluator.specs.TableOperations.{begin, fresh}
-use Rattle.goal_frames.specs.Rules.{TraitBound, Rule, RuleBook, IsDeterminedBy, IsRule, instance_of, IsBy, FollowsByRule}
+use Rattle.goal_frames.specs.Rules.{TraitBound, FrameRule, RuleBook, IsDeterminedBy, IsRule, instance_of, IsBy, FollowsByRule}
 use Rattle.goal_evaluator.specs.Variables.{is_variable_over}
 use Rattle.goal_frames.specs.Handlers.{BareGoal, bound_behind, as_one, nested_of_bound, spec_of}
 use Rattle.goal_evaluator.proofs.Readings.{AgreeIn, made-leaves, reads-agree, reads-determine}
@@ -37,7 +37,7 @@ facts-behind kind n s p e [] = refl
 facts-behind kind n s p e (b ∷ bs) =
     cons _ _ _ _ (ap (λ z. instance_of z (dropped n s.slots) b) (sym e) ∙ sym (fact-behind kind n s b)) (facts-behind kind n s p e bs)
 
-module _ (f : CanonicalForm) (a : BareGoal) (h : IsAsked f a) (r : Rule) (good : IsRule r) (kind : Bool) where
+module _ (f : CanonicalForm) (a : BareGoal) (h : IsAsked f a) (r : FrameRule) (good : IsRule r) (kind : Bool) where
   abbrev table : FrameTable
   table = fresh (begin a.kinds) r.kinds
 

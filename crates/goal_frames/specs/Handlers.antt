@@ -29,7 +29,7 @@ use Rattle.goal_evaluator.specs.Widths.{width_of_predicates, number_of}
 use Rattle.goal_evaluator.specs.TableOperations.{begin}
 use Rattle.goal_evaluator.specs.Tables.{frame_tables}
 use Rattle.goal_frames.specs.Listings.{Listing, listed}
-use Rattle.goal_frames.specs.Rules.{TraitBound, goal_of, Rule, RuleBook, AreRules, is_coinductive_trait, FollowsByRule, HasProofByBook}
+use Rattle.goal_frames.specs.Rules.{TraitBound, goal_of, FrameRule, RuleBook, AreRules, is_coinductive_trait, FollowsByRule, HasProofByBook}
 use Rattle.goal_evaluator.specs.Variables.{is_variable_over}
 
 -- ---- goals
@@ -92,7 +92,7 @@ abbrev pub nested_of_bound : Bool → TraitBound → Nested
 nested_of_bound kind b = record { goal = goal_of b; coinductive = kind }
 
 -- the rule as a candidate for the goal, with steps of this kind: the goal's arguments are the head's
-abbrev pub spec_of : Bool → BareGoal → Rule → Spec (workings frame_tables)
+abbrev pub spec_of : Bool → BareGoal → FrameRule → Spec (workings frame_tables)
 spec_of kind a r = record {
   source = BuiltinImpl Misc;
   kinds = r.kinds;
@@ -103,7 +103,7 @@ spec_of kind a r = record {
 }
 
 -- one for each rule of the goal's trait
-abbrev pub specs_for : Bool → BareGoal → List Rule → List (Spec (workings frame_tables))
+abbrev pub specs_for : Bool → BareGoal → List FrameRule → List (Spec (workings frame_tables))
 specs_for kind a [] = []
 specs_for kind a (r ∷ rules) = if r.head.trait == a.bound.trait then spec_of kind a r ∷ specs_for kind a rules else specs_for kind a rules
 
@@ -116,17 +116,17 @@ candidates_of book None = unsure ∷ []
 candidates_of book (Some a) = specs_for (book.coinductive a.bound.trait) a book.rules
 
 -- ---- numbers
-abbrev pub width_of : TraitBound → ℕ
-width_of b = width_of_predicates (goal_of b).predicate
+abbrev pub width_of_bound : TraitBound → ℕ
+width_of_bound b = width_of_predicates (goal_of b).predicate
 
 abbrev pub number_of_premises : List TraitBound → ℕ
 number_of_premises [] = 0
-number_of_premises (b ∷ bs) = suc (width_of b + number_of_premises bs)
+number_of_premises (b ∷ bs) = suc (width_of_bound b + number_of_premises bs)
 
 -- no rule is wider, and all rules together have no more premises
-abbrev pub number_of_rules : List Rule → ℕ
+abbrev pub number_of_rules : List FrameRule → ℕ
 number_of_rules [] = 0
-number_of_rules (r ∷ rules) = width_of r.head + number_of_premises r.premises + number_of_rules rules
+number_of_rules (r ∷ rules) = width_of_bound r.head + number_of_premises r.premises + number_of_rules rules
 
 -- ---- answers that are equal
 abbrev pub same_kind : CanonicalVarKind → CanonicalVarKind → Bool
@@ -174,9 +174,9 @@ abbrev pub is_searched : CanonicalForm → Bool
 is_searched f = is_some (bare_goal f) || not (has_placeholder (kinds_known f.kinds))
 
 -- in coherence the rules are those of one set of crates, and outside it no solutions are looked for
-abbrev pub world_of : TypingMode → CanonicalForm → Type 0
-world_of Coherence f = is_searched f ≡ true
-world_of PostAnalysis f = ⊥
+abbrev pub world_of_search : TypingMode → CanonicalForm → Type 0
+world_of_search Coherence f = is_searched f ≡ true
+world_of_search PostAnalysis f = ⊥
 
 -- ---- the handler
 -- no term of the goal's frame is wider, and no more questions are asked
@@ -189,8 +189,8 @@ listing_of book mode f kinds o = record {
   goal = λ v. fact_of (record { form = f; coinductive = false }) v;
   begin = begin kinds;
   specs = candidates_of book o;
-  Rule = FollowsByRule book;
-  World = world_of mode f;
+  FrameRule = FollowsByRule book;
+  World = world_of_search mode f;
   Proves = λ w g. HasProofByBook book g;
   coinductive = is_coinductive_trait book (trait_of f.goal.predicate);
   number = widest_of book f;

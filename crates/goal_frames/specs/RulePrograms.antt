@@ -1,14 +1,14 @@
 -- Lists of rules over trees as programs: a context declares the list.
 use Rattle.std.specs.Prelude.{ℕ, Bool, List}
 use Rattle.goal_evaluator.specs.Lists.{Every}
-use Rattle.goal_frames.specs.Rules.{Rule, RuleBook, IsRule, is_coinductive, FollowsByRule}
+use Rattle.goal_frames.specs.Rules.{FrameRule, RuleBook, IsRule, is_coinductive, FollowsByRule}
 use Rattle.goal_frames.specs.Handlers.{handled_by}
 use Rattle.goal_frames.specs.Meanings.{Goals}
 use Rattle.goal_frames.specs.HandlerPrograms.{HandlersArePrograms}
 
 -- rules as they are to be
 pub record DeclaredRules : Type 0 where
-  pub rules : List Rule
+  pub rules : List FrameRule
   pub made : Every IsRule rules
   -- by the trait's number
   pub coinductive : ℕ → Bool

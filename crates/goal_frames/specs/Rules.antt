@@ -24,13 +24,13 @@ goal_of b = record { environment = none; predicate = tree (predicate (of_trait b
 
 -- the head holds if the premises do, whatever its variables stand for: of these kinds, in the terms the canonical variables 0, 1, ..
 -- `impl<T: Show> Show for Vec<T>` has one variable, the head `Vec<^0>: Show`, and the premise `^0: Show`
-pub record Rule : Type 0 where
+pub record FrameRule : Type 0 where
   pub kinds : List CanonicalVarKind
   pub head : TraitBound
   pub premises : List TraitBound
 
 pub record RuleBook : Type 0 where
-  pub rules : List Rule
+  pub rules : List FrameRule
   -- by the trait's number
   pub coinductive : ℕ → Bool
 
@@ -51,7 +51,7 @@ BoundIsOver kinds b = is_made (is_variable_over kinds) terms b.arguments ≡ tru
 abbrev pub IsDeterminedBy : TraitBound → TraitBound → Type 0
 IsDeterminedBy head premise = (k : Sort) (i : ℕ) → LabelStandsIn (canonical k i) premise.arguments → LabelStandsIn (canonical k i) head.arguments
 
-pub record IsRule (r : Rule) : Type 0 where
+pub record IsRule (r : FrameRule) : Type 0 where
   pub kinds : Every IsUnknown r.kinds
   pub head : BoundIsOver r.kinds r.head
   pub premises : Every (BoundIsOver r.kinds) r.premises
@@ -65,7 +65,7 @@ abbrev pub instance_of : Bool → List Trees → TraitBound → Fact
 instance_of proper values b = record { trait = Some b.trait; goal = goal_read (given values) (goal_of b); proper = proper }
 
 -- the reference is the head, with some terms for the rule's variables, and the premises are the rule's with the same terms
-pub record IsBy (f : Fact) (premises : List Fact) (r : Rule) : Type 0 where
+pub record IsBy (f : Fact) (premises : List Fact) (r : FrameRule) : Type 0 where
   pub values : List Trees
   pub concludes : f.goal ≡ goal_read (given values) (goal_of r.head)
   pub needs : map (instance_of f.proper values) r.premises ≡ premises

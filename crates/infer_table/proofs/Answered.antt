@@ -8,7 +8,7 @@ use Rattle.type_terms.specs.Codes.{same_label}
 use Rattle.type_terms.proofs.Matching.{same-label-sound}
 use Rattle.infer_table.specs.Solutions.{Assignment, tree_of, instance, IsSorted}
 use Rattle.infer_table.specs.declared.canonical.CanonicalVarKind.{CanonicalVarKind}
-use Rattle.infer_table.specs.Canonical.{kind_of_leaf, StandsIn, relabeled, leaves, is_among, place_of, canonical_label, HasNoCanonical}
+use Rattle.infer_table.specs.Canonical.{kind_of_leaf, StandsIn, relabeled, leaves, is_label_among, place_of, canonical_label, HasNoCanonical}
 use Rattle.infer_table.proofs.CanonicalLaws.{leaves-hold, leaves-keep, kind-sort}
 use Rattle.infer_table.proofs.SolutionLaws.{is_sort-equal}
 use Rattle.infer_table.proofs.EquationFacts.{erase-sort}
@@ -22,13 +22,13 @@ use Rattle.type_terms.proofs.TermBasics.{tree-cong, two, is_sort-self}
 use Rattle.type_terms.proofs.TypeBasics.{some-is}
 
 -- the leaf in its place
-leaf-at : (l : Label) (ls : List Label) → is_among l ls ≡ true → slice_get ls (place_of l ls) ≡ Some l
+leaf-at : (l : Label) (ls : List Label) → is_label_among l ls ≡ true → slice_get ls (place_of l ls) ≡ Some l
 leaf-at l [] h = absurd (false-true h)
 leaf-at l (m ∷ ms) h = by (same_label m l) refl (leaf-at l ms)
   where
-    by : (b : Bool) → same_label m l ≡ b → (is_among l ms ≡ true → slice_get ms (place_of l ms) ≡ Some l) → slice_get (m ∷ ms) (if same_label m l then zero else suc (place_of l ms)) ≡ Some l
+    by : (b : Bool) → same_label m l ≡ b → (is_label_among l ms ≡ true → slice_get ms (place_of l ms) ≡ Some l) → slice_get (m ∷ ms) (if same_label m l then zero else suc (place_of l ms)) ≡ Some l
     by true e q = rw e (ap Some (same-label-sound m l e))
-    by false e q = let rest : is_among l ms ≡ true = rw e at h in rw e (q rest)
+    by false e q = let rest : is_label_among l ms ≡ true = rw e at h in rw e (q rest)
 
 -- the kind in its place
 kind-at : (ks : List CanonicalVarKind) (ls : List Label) (i : ℕ) (l : Label) (k : CanonicalVarKind) → map Some ks ≡ map kind_of_leaf ls → slice_get ls i ≡ Some l → kind_of_leaf l ≡ Some k → slice_get ks i ≡ Some k
@@ -88,7 +88,7 @@ lifetime-node s (placeholder of_lifetime v) k e h = refl
 lifetime-node s static k e h = refl
 lifetime-node s l k e h = cc
 
-leaf-read : (s : Assignment) (ls : List Label) (l : Label) (k : CanonicalVarKind) → kind_of_leaf l ≡ Some k → is_among l ls ≡ true → (j : Sort) → sort_of l ≡ j → chosen (choice s ls) (leaf (canonical j (place_of l ls))) ≡ instance s (leaf l)
+leaf-read : (s : Assignment) (ls : List Label) (l : Label) (k : CanonicalVarKind) → kind_of_leaf l ≡ Some k → is_label_among l ls ≡ true → (j : Sort) → sort_of l ≡ j → chosen (choice s ls) (leaf (canonical j (place_of l ls))) ≡ instance s (leaf l)
 leaf-read s ls l k e m of_type h =
     ap (λ (j : Sort). tree_of (choice s ls j (place_of l ls))) (sym h) ∙ ap tree_of (choose-self s ls l (place_of l ls) (leaf-at l ls m)) ∙ node-of s l
 leaf-read s ls l k e m of_const h =
@@ -96,9 +96,9 @@ leaf-read s ls l k e m of_const h =
 leaf-read s ls l k e m of_lifetime h = lifetime-node s l k e h
 
 -- an answer's leaves hold those of its values
-pub value-leaves : (v c p : Trees) → p ≡ v +++ c → (l : Label) → StandsIn kind_of_leaf v l → is_among l (answer_leaves p) ≡ true
+pub value-leaves : (v c p : Trees) → p ≡ v +++ c → (l : Label) → StandsIn kind_of_leaf v l → is_label_among l (answer_leaves p) ≡ true
 value-leaves v c p e l q =
-    subst (λ z. is_among l z ≡ true) (sym (ap (leaves kind_of_leaf []) e ∙ leaves-append kind_of_leaf [] v c)) (leaves-keep kind_of_leaf l (leaves kind_of_leaf [] v) c (leaves-hold kind_of_leaf l [] v q))
+    subst (λ z. is_label_among l z ≡ true) (sym (ap (leaves kind_of_leaf []) e ∙ leaves-append kind_of_leaf [] v c)) (leaves-keep kind_of_leaf l (leaves kind_of_leaf [] v) c (leaves-hold kind_of_leaf l [] v q))
 
 -- ---- numbered trees
 chosen-split : (q : Assignment) (j : Sort) (i : ℕ) (o : Trees) → chosen q (tree (canonical j i) none o) ≡ chosen q (leaf (canonical j i)) +++ chosen q o
@@ -134,7 +134,7 @@ module _ (ls : List Label) where
   abbrev numbered : Trees → Trees
   numbered t = relabeled kind_of_leaf (canonical_label ls) t
 
-  pub chosen-numbered : (s : Assignment) (t : Trees) → HasNoCanonical t → OpenAreLeaves kind_of_leaf t → ((l : Label) → StandsIn kind_of_leaf t l → is_among l ls ≡ true) → chosen (choice s ls) (numbered t) ≡ instance s t
+  pub chosen-numbered : (s : Assignment) (t : Trees) → HasNoCanonical t → OpenAreLeaves kind_of_leaf t → ((l : Label) → StandsIn kind_of_leaf t l → is_label_among l ls ≡ true) → chosen (choice s ls) (numbered t) ≡ instance s t
   chosen-numbered s none n h m = refl
   chosen-numbered s (tree l c o) n h m =
       by (kind_of_leaf l) refl (chosen-numbered s c (parts l c o n).0 h.1 (λ x q. m x (inr (inl q)))) (chosen-numbered s o (parts l c o n).1 h.2 (λ x q. m x (inr (inr q))))
@@ -156,7 +156,7 @@ module _ (ls : List Label) where
           ∙ two _ _ _ _ (leaf-read s ls l k e (m l (inl (refl, is_open))) (sort_of l) refl) r
           ∙ instance-split s l o ∙ ap (λ z. instance s (tree l z o)) (sym c-none)
 
-  pub are-numbered : (ks : List CanonicalVarKind) → map Some ks ≡ map kind_of_leaf ls → (t : Trees) → HasNoCanonical t → OpenAreLeaves kind_of_leaf t → ((l : Label) → StandsIn kind_of_leaf t l → is_among l ls ≡ true) → AreNumbered ks (numbered t)
+  pub are-numbered : (ks : List CanonicalVarKind) → map Some ks ≡ map kind_of_leaf ls → (t : Trees) → HasNoCanonical t → OpenAreLeaves kind_of_leaf t → ((l : Label) → StandsIn kind_of_leaf t l → is_label_among l ls ≡ true) → AreNumbered ks (numbered t)
   are-numbered ks kinds none n h m = tt
   are-numbered ks kinds (tree l c o) n h m =
       by (kind_of_leaf l) refl (are-numbered ks kinds c (parts l c o n).0 h.1 (λ x q. m x (inr (inl q)))) (are-numbered ks kinds o (parts l c o n).1 h.2 (λ x q. m x (inr (inr q))))
@@ -172,5 +172,5 @@ module _ (ls : List Label) where
           (ap (option_map sort_of_kind) (kind-at ks ls (place_of l ls) l k kinds (leaf-at l ls (m l (inl (refl, is_open)))) e) ∙ ap Some (sym (kind-sort l k e)), ap numbered (h.0 is_open), r)
 
   -- the numbered trees agree with what the trees stand for
-  pub agrees : (s : Assignment) (a t u : Trees) → IsSorted s → HasNoCanonical t → OpenAreLeaves kind_of_leaf t → ((l : Label) → StandsIn kind_of_leaf t l → is_among l ls ≡ true) → a ≡ numbered t → instance s t ≡ instance s u → Agrees a (instance s u)
+  pub agrees : (s : Assignment) (a t u : Trees) → IsSorted s → HasNoCanonical t → OpenAreLeaves kind_of_leaf t → ((l : Label) → StandsIn kind_of_leaf t l → is_label_among l ls ≡ true) → a ≡ numbered t → instance s t ≡ instance s u → Agrees a (instance s u)
   agrees s a t u h n k m e p = (choice s ls, λ j i. choose-sorted s h j (slice_get ls i), ap (chosen (choice s ls)) e ∙ chosen-numbered s t n k m ∙ p)

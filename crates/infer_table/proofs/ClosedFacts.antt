@@ -10,7 +10,7 @@ use Rattle.type_terms.specs.Trees.{flags, label_flags}
 use Rattle.infer_table.specs.Canonical.{kind_in_clause, kind_of_leaf, leaves, relabeled, with_label}
 use Rattle.infer_table.specs.Solutions.{Binding, resolved}
 use Rattle.infer_table.proofs.ResolveFacts.{unknown-free-resolved}
-use Rattle.infer_table.specs.Leaves.{open_kinds, open_flags, is_closed, OpenAreLeaves}
+use Rattle.infer_table.specs.Leaves.{open_kinds, open_flags, is_closed_by, OpenAreLeaves}
 use Rattle.type_terms.proofs.Made.{false-true}
 use Rattle.type_terms.proofs.TermBasics.{tree-cong}
 
@@ -111,19 +111,19 @@ flags-are : (b : Bool) → open_flags b ≡ mask b
 flags-are true = refl
 flags-are false = refl
 
-unmarked : (b : Bool) (t : Trees) → is_closed b t ≡ true → bit_and (flags t) (mask b) ≡ 0
+unmarked : (b : Bool) (t : Trees) → is_closed_by b t ≡ true → bit_and (flags t) (mask b) ≡ 0
 unmarked b t h = ap (bit_and (flags t)) (sym (flags-are b)) ∙ zero-test _ h
 
-pub closed-leaves : (b : Bool) (seen : List Label) (t : Trees) → is_closed b t ≡ true → leaves (open_kinds b) seen t ≡ seen
+pub closed-leaves : (b : Bool) (seen : List Label) (t : Trees) → is_closed_by b t ≡ true → leaves (open_kinds b) seen t ≡ seen
 closed-leaves b seen t h = unmarked-leaves b seen t (unmarked b t h)
 
-pub closed-stays : (b : Bool) (f : Label → Label) (t : Trees) → is_closed b t ≡ true → relabeled (open_kinds b) f t ≡ t
+pub closed-stays : (b : Bool) (f : Label → Label) (t : Trees) → is_closed_by b t ≡ true → relabeled (open_kinds b) f t ≡ t
 closed-stays b f t h = unmarked-stays b f t (unmarked b t h)
 
-pub closed-only : (b : Bool) (t : Trees) → is_closed b t ≡ true → OpenAreLeaves (open_kinds b) t
+pub closed-only : (b : Bool) (t : Trees) → is_closed_by b t ≡ true → OpenAreLeaves (open_kinds b) t
 closed-only b t h = unmarked-only b t (unmarked b t h)
 
 -- no variable of inference stands in it
-pub closed-resolved : (b : Bool) (bs : List Binding) (t : Trees) → is_closed b t ≡ true → resolved bs t ≡ t
+pub closed-resolved : (b : Bool) (bs : List Binding) (t : Trees) → is_closed_by b t ≡ true → resolved bs t ≡ t
 closed-resolved true bs t h = unknown-free-resolved bs t (and-part (flags t) 546 1365 1911 refl (unmarked true t h))
 closed-resolved false bs t h = unknown-free-resolved bs t (and-part (flags t) 546 9557 10103 refl (unmarked false t h))

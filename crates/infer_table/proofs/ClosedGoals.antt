@@ -23,8 +23,8 @@ use Rattle.infer_table.specs.declared.goal.Goal.{Goal}
 use Rattle.infer_table.specs.declared.input.Canonicalized.{Canonicalized}
 use Rattle.infer_table.specs.Goals.{clause_label, clause_terms, environment_trees, predicate_trees, goal_trees, goal_resolved, ClausesHeld, PredicateHeld, GoalHeld}
 use Rattle.infer_table.specs.Inputs.{IsCanonicalInput, IsItsOwnForm}
-use Rattle.infer_table.specs.Leaves.{open_flags, are_closed_flags, is_closed, is_closed_goal}
-use Rattle.infer_table.specs.Values.{value_for, values_of, filled, goal_filled}
+use Rattle.infer_table.specs.Leaves.{open_flags, are_closed_flags, is_closed_by, is_closed_goal}
+use Rattle.infer_table.specs.Values.{value_for, values_of, filled_values, goal_filled}
 use Rattle.infer_table.proofs.ClosedFacts.{closed-leaves, closed-stays, closed-resolved}
 use Rattle.infer_table.proofs.Collections.{cut-at}
 use Rattle.infer_table.proofs.Numbers.{goal-same}
@@ -51,18 +51,18 @@ label-none (Trait p) = refl
 label-none (RegionOutlives a b) = refl
 label-none (TypeOutlives t r) = refl
 
-closed-next : (es : List Entry) (x : Clause) (xs : List Clause) → is_closed true (environment_trees es (x ∷ xs)) ≡ (are_closed_flags true (piece_flags (clause_pieces es x)) && is_closed true (environment_trees es xs))
+closed-next : (es : List Entry) (x : Clause) (xs : List Clause) → is_closed_by true (environment_trees es (x ∷ xs)) ≡ (are_closed_flags true (piece_flags (clause_pieces es x)) && is_closed_by true (environment_trees es xs))
 closed-next es x xs =
     ap (λ n. are_closed_flags true (bit_or (bit_or n (flags (clause_terms es x))) (flags (environment_trees es xs)))) (label-none x)
     ∙ union-closed (open_flags true) (flags (clause_terms es x)) (flags (environment_trees es xs))
-    ∙ ap (λ n. are_closed_flags true n && is_closed true (environment_trees es xs)) (sym (clause-flags es x))
+    ∙ ap (λ n. are_closed_flags true n && is_closed_by true (environment_trees es xs)) (sym (clause-flags es x))
 
 -- the clauses from one on are closed where it is and those after it are
 pub closed-from : (es : List Entry) (xs : List Clause) (i : ℕ) (x : Clause) → i < length xs → x ≡ get_or xs i x
-    → is_closed true (environment_trees es (drop i xs)) ≡ (are_closed_flags true (piece_flags (clause_pieces es x)) && is_closed true (environment_trees es (drop (i + 1) xs)))
+    → is_closed_by true (environment_trees es (drop i xs)) ≡ (are_closed_flags true (piece_flags (clause_pieces es x)) && is_closed_by true (environment_trees es (drop (i + 1) xs)))
 closed-from es xs i x lt is =
     let cut : drop i xs ≡ x ∷ drop (i + 1) xs = cut-at xs i x lt ∙ ap (λ z. z ∷ drop (i + 1) xs) (sym is) in
-    ap (λ z. is_closed true (environment_trees es z)) cut ∙ closed-next es x (drop (i + 1) xs)
+    ap (λ z. is_closed_by true (environment_trees es z)) cut ∙ closed-next es x (drop (i + 1) xs)
 
 -- ---- a goal in which nothing is open
 and-parts : (x y : Bool) → (x && y) ≡ true → (x ≡ true) × (y ≡ true)
@@ -71,17 +71,17 @@ and-parts false y h = absurd cc
 
 pub closed-goal-resolved : (bs : List Binding) (g : GoalTrees) → is_closed_goal g ≡ true → goal_resolved bs g ≡ g
 closed-goal-resolved bs g h =
-    let p = and-parts (is_closed true g.environment) (is_closed false g.predicate) h in
+    let p = and-parts (is_closed_by true g.environment) (is_closed_by false g.predicate) h in
     goal-same _ _ _ _ (closed-resolved true bs g.environment p.0) (closed-resolved false bs g.predicate p.1)
 
 closed-goal-stays : (f : Label → Label) (g : GoalTrees) → is_closed_goal g ≡ true → renamed f g ≡ g
 closed-goal-stays f g h =
-    let p = and-parts (is_closed true g.environment) (is_closed false g.predicate) h in
+    let p = and-parts (is_closed_by true g.environment) (is_closed_by false g.predicate) h in
     goal-same _ _ _ _ (closed-stays true f g.environment p.0) (closed-stays false f g.predicate p.1)
 
 pub closed-goal-leaves : (g : GoalTrees) → is_closed_goal g ≡ true → goal_leaves g ≡ []
 closed-goal-leaves g h =
-    let p = and-parts (is_closed true g.environment) (is_closed false g.predicate) h in
+    let p = and-parts (is_closed_by true g.environment) (is_closed_by false g.predicate) h in
     ap (λ ls. leaves kind_of_leaf ls g.predicate) (closed-leaves true [] g.environment p.0) ∙ closed-leaves false [] g.predicate p.1
 
 pub resolved-leaves : (bs : List Binding) (g : GoalTrees) → is_closed_goal g ≡ true → goal_leaves (goal_resolved bs g) ≡ []
@@ -95,9 +95,9 @@ no-value : (l : Label) → value_for [] l ≡ None
 no-value (canonical s i) = refl
 no-value l = refl
 
-pub filled-nothing : (t : Trees) → filled [] t ≡ t
+pub filled-nothing : (t : Trees) → filled_values [] t ≡ t
 filled-nothing none = refl
-filled-nothing (tree l c o) = ap (λ v. placed v (tree l (filled [] c) none) +++ filled [] o) (no-value l) ∙ tree-cong l c _ o _ (filled-nothing c) (filled-nothing o)
+filled-nothing (tree l c o) = ap (λ v. placed v (tree l (filled_values [] c) none) +++ filled_values [] o) (no-value l) ∙ tree-cong l c _ o _ (filled-nothing c) (filled-nothing o)
 
 -- ---- its own form
 module _ (es : List Entry) (m : TypingMode) (g : Goal) (r : Canonicalized) (own : IsItsOwnForm m g r) where

@@ -22,7 +22,7 @@ use Rattle.infer_table.proofs.SolutionLaws.{resolved-append, resolved-none, reso
 use Rattle.infer_table.specs.declared.canonicalizer.LeafCollector.{LeafCollector}
 use Rattle.infer_table.specs.Leaves.{open_kinds, labels, numbering}
 use Rattle.infer_table.specs.LeafLaws.{Collecting}
-use Rattle.infer_table.specs.Values.{Value, filled, filling}
+use Rattle.infer_table.specs.Values.{Value, filled_values, filling}
 use Rattle.infer_table.proofs.Numbers.{relabeled-append, numbered-fold}
 use Rattle.infer_table.proofs.Fillings.{filled-append, filled-fold}
 use Rattle.infer_table.proofs.Collections.{Collected, two-visits}
@@ -148,13 +148,13 @@ constraints-numbered ls old new xs ys h =
     folded-all (numbered_by ls) refl (relabeled-append false (canonical_label ls)) (numbered-node ls) (numbering false ls) (λ t u f. numbered-fold false ls [] t u f) old new xs ys h
 
 -- ---- filling
-filled-node : (vs : List Value) (x : RegionConstraint) (c o : Trees) → filled vs (tree (constraint_label x) c o) ≡ tree (constraint_label x) (filled vs c) (filled vs o)
+filled-node : (vs : List Value) (x : RegionConstraint) (c o : Trees) → filled_values vs (tree (constraint_label x) c o) ≡ tree (constraint_label x) (filled_values vs c) (filled_values vs o)
 filled-node vs (Equal a b) c o = refl
 filled-node vs (RegionOutlives a b) c o = refl
 filled-node vs (TypeOutlives t r) c o = refl
 
-pub constraints-filled : (vs : List Value) (old new : List Entry) (xs ys : List RegionConstraint) → ConstraintsFold (λ bs t. filling vs t) old xs new ys → constraints_trees new ys ≡ filled vs (constraints_trees old xs)
-constraints-filled vs old new xs ys h = folded-all (filled vs) refl (filled-append vs) (filled-node vs) (λ bs t. filling vs t) (filled-fold vs) old new xs ys h
+pub constraints-filled : (vs : List Value) (old new : List Entry) (xs ys : List RegionConstraint) → ConstraintsFold (λ bs t. filling vs t) old xs new ys → constraints_trees new ys ≡ filled_values vs (constraints_trees old xs)
+constraints-filled vs old new xs ys h = folded-all (filled_values vs) refl (filled-append vs) (filled-node vs) (λ bs t. filling vs t) (filled-fold vs) old new xs ys h
 
 -- ---- resolving
 resolved-node : (bs : List Binding) (x : RegionConstraint) (c o : Trees) → resolved bs (tree (constraint_label x) c o) ≡ tree (constraint_label x) (resolved bs c) (resolved bs o)

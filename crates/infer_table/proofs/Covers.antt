@@ -16,7 +16,7 @@ use Rattle.type_terms.specs.declared.kinds.GenericArgKind.{GenericArgKind}
 use Rattle.type_terms.specs.declared.kinds.GenericArgKind.TheVariants.{Lifetime, Ty as AType, Const as AConst}
 use Rattle.type_terms.proofs.Sorts.{bound-sort, arg-single}
 use Rattle.type_terms.specs.Kept.{is-at}
-use Rattle.infer_table.specs.Solutions.{Assignment, tree_of, instance, is_variable, IsSorted, Binding, Solves, Equates, HasNoSolution}
+use Rattle.infer_table.specs.Solutions.{Assignment, tree_of, instance, is_same_variable, IsSorted, Binding, Solves, Equates, HasNoSolution}
 use Rattle.infer_table.specs.Content.{Table, variables_of}
 use Rattle.infer_table.specs.Unification.{TableTrees, table_trees}
 use Rattle.infer_table.specs.declared.canonical.CanonicalVarKind.{CanonicalVarKind}
@@ -25,7 +25,7 @@ use Rattle.infer_table.proofs.SolutionLaws.{is_variable-equal, is_variable-self,
 use Rattle.infer_table.proofs.EquationFacts.{erase-sort}
 use Rattle.infer_table.specs.declared.response.CanonicalResponse.{CanonicalResponse}
 use Rattle.infer_table.specs.Leaves.{root_label, leaf_label}
-use Rattle.infer_table.specs.Values.{Value, sort_of_arg, value_of, values_of, if_of_sort, value_for, filled}
+use Rattle.infer_table.specs.Values.{Value, sort_of_arg, value_of, values_of, if_of_sort, value_for, filled_values}
 use Rattle.infer_table.specs.Raw.{sort_of_kind}
 use Rattle.infer_table.specs.Responses.{answer_trees}
 use Rattle.infer_table.specs.Applying.{is_numbered, next_unknown, with_unknown, unknowns_of, table_after, values_for, known_value, applied_values}
@@ -172,25 +172,25 @@ module _ (es : List Entry) (law : Lawful es) (ks : List CanonicalVarKind) (q s :
 
 -- ---- an assignment, continued to the new unknowns
 abbrev given : Sort → ℕ → Label × Trees → Assignment → Assignment
-given j w n s = λ k v. if is_variable j w k v then n else s k v
+given j w n s = λ k v. if is_same_variable j w k v then n else s k v
 
-given-other : (j : Sort) (w : ℕ) (n : Label × Trees) (s : Assignment) (k : Sort) (v : ℕ) → is_variable j w k v ≡ false → given j w n s k v ≡ s k v
+given-other : (j : Sort) (w : ℕ) (n : Label × Trees) (s : Assignment) (k : Sort) (v : ℕ) → is_same_variable j w k v ≡ false → given j w n s k v ≡ s k v
 given-other j w n s k v e = ap (λ (b : Bool). if b then n else s k v) e
 
 given-self : (j : Sort) (w : ℕ) (n : Label × Trees) (s : Assignment) → given j w n s j w ≡ n
 given-self j w n s = ap (λ (b : Bool). if b then n else s j w) (is_variable-self j w)
 
-apart : (j k : Sort) (w v : ℕ) → (j ≡ k → w ≡ v → ⊥) → is_variable j w k v ≡ false
-apart j k w v h = by (is_variable j w k v) refl
+apart : (j k : Sort) (w v : ℕ) → (j ≡ k → w ≡ v → ⊥) → is_same_variable j w k v ≡ false
+apart j k w v h = by (is_same_variable j w k v) refl
   where
-    by : (b : Bool) → is_variable j w k v ≡ b → is_variable j w k v ≡ false
+    by : (b : Bool) → is_same_variable j w k v ≡ b → is_same_variable j w k v ≡ false
     by true e = let same = is_variable-equal j k w v e in absurd (h same.0 same.1)
     by false e = e
 
 given-sorted : (j : Sort) (w : ℕ) (n : Label × Trees) (s : Assignment) → sort_of n.0 ≡ j → IsSorted s → IsSorted (given j w n s)
-given-sorted j w n s e h k v = by (is_variable j w k v) refl
+given-sorted j w n s e h k v = by (is_same_variable j w k v) refl
   where
-    by : (b : Bool) → is_variable j w k v ≡ b → sort_of (given j w n s k v).0 ≡ k
+    by : (b : Bool) → is_same_variable j w k v ≡ b → sort_of (given j w n s k v).0 ≡ k
     by true p = ap (λ (b : Bool). sort_of (if b then n else s k v).0) p ∙ e ∙ (is_variable-equal j k w v p).0
     by false p = ap (λ (b : Bool). sort_of (if b then n else s k v).0) p ∙ h k v
 
@@ -337,12 +337,12 @@ record IsRead (W : List Value) (q S : Assignment) (j : Sort) (i : ℕ) : Type 0 
   read : instance S trees ≡ chosen q (leaf (canonical j i))
 
 module _ (W : List Value) (ks : List CanonicalVarKind) (q S : Assignment) (put : (i : ℕ) (j : Sort) → option_map sort_of_kind (slice_get ks i) ≡ Some j → IsRead W q S j i) where
-  filled-chosen : (t : Trees) → AreNumbered ks t → instance S (filled W t) ≡ chosen q t
+  filled-chosen : (t : Trees) → AreNumbered ks t → instance S (filled_values W t) ≡ chosen q t
   filled-chosen none h = refl
   filled-chosen (tree (canonical j i) c o) h =
       let p = put i j h.0 in
-      ap (λ v. instance S (placed v (tree (canonical j i) (filled W c) none) +++ filled W o)) p.put
-      ∙ instance-append S p.trees (filled W o) ∙ two _ _ _ _ p.read (filled-chosen o h.2) ∙ chosen-node q j i c o h.1
+      ap (λ v. instance S (placed v (tree (canonical j i) (filled_values W c) none) +++ filled_values W o)) p.put
+      ∙ instance-append S p.trees (filled_values W o) ∙ two _ _ _ _ p.read (filled-chosen o h.2) ∙ chosen-node q j i c o h.1
   filled-chosen (tree (infer k v) c o) h = absurd h
   filled-chosen (tree l c o) h = tree-cong _ _ _ _ _ _ refl (filled-chosen c h.0) (filled-chosen o h.1)
 
@@ -376,7 +376,7 @@ same-unknowns es t = λ i k. each k i
 module _ (es : List Entry) (law : Lawful es) (t : Table) (originals : List GenericArgKind) (r : CanonicalResponse) (s : Assignment) (s-sorted : IsSorted s)
     (ho : ArgsHeld es originals) (hv : ArgsHeld es r.var_values.items) (n : AreNumbered r.variables.items (args_trees es r.var_values.items)) (k : AreKnown (variables_of t) (args_trees es originals)) where
   covers : Agrees (args_trees es r.var_values.items) (instance s (args_trees es originals))
-      → IsContinued (variables_of t) s (args_trees es originals) (filled (applied_values (table_trees es t) (values_of es originals) (answer_trees es r)) (args_trees es r.var_values.items))
+      → IsContinued (variables_of t) s (args_trees es originals) (filled_values (applied_values (table_trees es t) (values_of es originals) (answer_trees es r)) (args_trees es r.var_values.items))
   covers (q, q-sorted, e) = record {
     to = S;
     sorted = continued-sorted known q (table_trees es t) 0 ks s q-sorted s-sorted;
@@ -420,14 +420,14 @@ module _ (es : List Entry) (law : Lawful es) (t : Table) (originals : List Gener
           record { trees = p.value.trees; put = ap (if_of_sort j) p.at ∙ if-of-sort j p.value is.0; read = is.1 }
 
   -- an answer that is applied keeps the solutions that agree with it
-  pub applies : (new : List Binding) → (bs : List Binding) → IsOfKnown (variables_of t) bs → Solves s bs → Equates bs new (args_trees es originals) (filled (applied_values (table_trees es t) (values_of es originals) (answer_trees es r)) (args_trees es r.var_values.items))
+  pub applies : (new : List Binding) → (bs : List Binding) → IsOfKnown (variables_of t) bs → Solves s bs → Equates bs new (args_trees es originals) (filled_values (applied_values (table_trees es t) (values_of es originals) (answer_trees es r)) (args_trees es r.var_values.items))
       → Agrees (args_trees es r.var_values.items) (instance s (args_trees es originals)) → (u : Assignment) × Continues (variables_of t) s u × Solves u new
   applies new bs own h e g =
       let c = covers g in
       (c.to, c.continues, e.all c.to (own s c.to h c.sorted c.continues) c.equal)
 
   -- one that is refused agrees with none
-  pub refuses : (bs : List Binding) → IsOfKnown (variables_of t) bs → Solves s bs → HasNoSolution bs (args_trees es originals) (filled (applied_values (table_trees es t) (values_of es originals) (answer_trees es r)) (args_trees es r.var_values.items))
+  pub refuses : (bs : List Binding) → IsOfKnown (variables_of t) bs → Solves s bs → HasNoSolution bs (args_trees es originals) (filled_values (applied_values (table_trees es t) (values_of es originals) (answer_trees es r)) (args_trees es r.var_values.items))
       → Agrees (args_trees es r.var_values.items) (instance s (args_trees es originals)) → ⊥
   refuses bs own h e g =
       let c = covers g in

@@ -21,7 +21,7 @@ use Rattle.type_terms.specs.Pieces.{one_piece}
 use Rattle.term_folds.proofs.Replacing.{Describes, folds-are}
 use Rattle.infer_table.specs.Goals.{clause_label, clause_terms, environment_trees, goal_trees, ClausesFold, GoalFolds}
 use Rattle.infer_table.specs.declared.goal.Goal.{Goal}
-use Rattle.infer_table.specs.Values.{Value, value_of, values_of, if_of_sort, value_for, filled, goal_filled, put_if_there, is_unbound, filling, filling-once}
+use Rattle.infer_table.specs.Values.{Value, value_of, values_of, if_of_sort, value_for, filled_values, goal_filled, put_if_there, is_unbound, filling, filling-once}
 use Rattle.infer_table.specs.Leaves.{root_label, is_type_label}
 use Rattle.infer_table.proofs.ClosedFacts.{or-left, or-right, zero-test}
 use Rattle.infer_table.proofs.Numbers.{goal-same}
@@ -34,7 +34,7 @@ unbound-label vs (canonical of_const i) h = cc
 unbound-label vs (canonical of_lifetime i) h = cc
 unbound-label vs l h = refl
 
-unbound-stays : (vs : List Value) (t : Trees) → bit_and (flags t) 2184 ≡ 0 → filled vs t ≡ t
+unbound-stays : (vs : List Value) (t : Trees) → bit_and (flags t) 2184 ≡ 0 → filled_values vs t ≡ t
 unbound-stays vs none h = refl
 unbound-stays vs (tree l c o) h =
     let here = or-left (bit_or (label_flags l) (flags c)) (flags o) 2184 h in
@@ -45,40 +45,40 @@ unbound-stays vs (tree l c o) h =
     placed-none v l c c' o o' p q r = rw (p, q, r) refl
 
 module _ (vs : List Value) where
-  pub filled-append : (x y : Trees) → filled vs (x +++ y) ≡ filled vs x +++ filled vs y
+  pub filled-append : (x y : Trees) → filled_values vs (x +++ y) ≡ filled_values vs x +++ filled_values vs y
   filled-append none y = refl
   filled-append (tree l c o) y =
-      ap (λ z. placed (value_for vs l) (tree l (filled vs c) none) +++ z) (filled-append o y)
-      ∙ sym (append-assoc (placed (value_for vs l) (tree l (filled vs c) none)) (filled vs o) (filled vs y))
+      ap (λ z. placed (value_for vs l) (tree l (filled_values vs c) none) +++ z) (filled-append o y)
+      ∙ sym (append-assoc (placed (value_for vs l) (tree l (filled_values vs c) none)) (filled_values vs o) (filled_values vs y))
 
-  enters-is : (bs : List ℕ) (l : Label) (c : Trees) → filling vs (tree l c none) ≡ enters → filled vs (tree l c none) ≡ tree l (filled vs c) none
+  enters-is : (bs : List ℕ) (l : Label) (c : Trees) → filling vs (tree l c none) ≡ enters → filled_values vs (tree l c none) ≡ tree l (filled_values vs c) none
   enters-is bs l c e = by (is_type_label l && is_unbound (tree l c none)) (value_for vs l) (tree l c none) e
     where
-      by : (b : Bool) (v : Option Trees) (s : Trees) → (if b then puts s else put_if_there v) ≡ enters → placed v (tree l (filled vs c) none) +++ none ≡ tree l (filled vs c) none
+      by : (b : Bool) (v : Option Trees) (s : Trees) → (if b then puts s else put_if_there v) ≡ enters → placed v (tree l (filled_values vs c) none) +++ none ≡ tree l (filled_values vs c) none
       by true v s e = cc
       by false None s e = refl
       by false (Some t) s e = cc
 
-  unbound-filled : (l : Label) (c : Trees) → (is_type_label l && is_unbound (tree l c none)) ≡ true → filled vs (tree l c none) ≡ tree l c none
+  unbound-filled : (l : Label) (c : Trees) → (is_type_label l && is_unbound (tree l c none)) ≡ true → filled_values vs (tree l c none) ≡ tree l c none
   unbound-filled l c h = by (is_type_label l) h
     where
-      by : (y : Bool) → (y && is_unbound (tree l c none)) ≡ true → filled vs (tree l c none) ≡ tree l c none
+      by : (y : Bool) → (y && is_unbound (tree l c none)) ≡ true → filled_values vs (tree l c none) ≡ tree l c none
       by true e = unbound-stays vs (tree l c none) (zero-test _ e)
       by false e = cc
 
-  puts-is : (bs : List ℕ) (l : Label) (c r : Trees) → filling vs (tree l c none) ≡ puts r → filled vs (tree l c none) ≡ r
+  puts-is : (bs : List ℕ) (l : Label) (c r : Trees) → filling vs (tree l c none) ≡ puts r → filled_values vs (tree l c none) ≡ r
   puts-is bs l c r e = by (is_type_label l && is_unbound (tree l c none)) refl (value_for vs l) refl e
     where
       same : (s t : Trees) → puts s ≡ puts t → s ≡ t
       same s t e = cc
 
       by : (b : Bool) → (is_type_label l && is_unbound (tree l c none)) ≡ b → (v : Option Trees) → value_for vs l ≡ v
-          → (if b then puts (tree l c none) else put_if_there v) ≡ puts r → filled vs (tree l c none) ≡ r
+          → (if b then puts (tree l c none) else put_if_there v) ≡ puts r → filled_values vs (tree l c none) ≡ r
       by true p v q e = unbound-filled l c p ∙ same _ _ e
       by false p None q e = cc
-      by false p (Some t) q e = ap (λ (z : Option Trees). placed z (tree l (filled vs c) none) +++ none) q ∙ append-none t ∙ same _ _ e
+      by false p (Some t) q e = ap (λ (z : Option Trees). placed z (tree l (filled_values vs c) none) +++ none) q ∙ append-none t ∙ same _ _ e
 
-  filling-describes : Describes (λ bs t. filling vs t) (λ bs t. filled vs t)
+  filling-describes : Describes (λ bs t. filling vs t) (λ bs t. filled_values vs t)
   filling-describes = record {
     at_none = λ bs. refl;
     at_list = λ bs l c o. filled-append (tree l c none) o;
@@ -87,12 +87,12 @@ module _ (vs : List Value) where
     at_again = λ bs l c s e. absurd (filling-once vs (tree l c none) s e);
   }
 
-  pub filled-fold : (t u : Trees) → Folds (λ bs t. filling vs t) [] t u → u ≡ filled vs t
-  filled-fold t u h = folds-are (λ bs t. filled vs t) filling-describes h
+  pub filled-fold : (t u : Trees) → Folds (λ bs t. filling vs t) [] t u → u ≡ filled_values vs t
+  filled-fold t u h = folds-are (λ bs t. filled_values vs t) filling-describes h
 
   record FilledClause (old new : List Entry) (x y : Clause) : Type 0 where
     label : clause_label y ≡ clause_label x
-    terms : clause_terms new y ≡ filled vs (clause_terms old x)
+    terms : clause_terms new y ≡ filled_values vs (clause_terms old x)
 
   two : (a a' b b' : Trees) → a' ≡ a → b' ≡ b → a' +++ b' ≡ a +++ b
   two a a' b b' p q = cc
@@ -116,12 +116,12 @@ module _ (vs : List Value) where
   node l l' c c' o o' p q r = cc
 
   -- a clause is no variable
-  clause-node : (x : Clause) (c o : Trees) → filled vs (tree (clause_label x) c o) ≡ tree (clause_label x) (filled vs c) (filled vs o)
+  clause-node : (x : Clause) (c o : Trees) → filled_values vs (tree (clause_label x) c o) ≡ tree (clause_label x) (filled_values vs c) (filled_values vs o)
   clause-node (Trait p) c o = refl
   clause-node (RegionOutlives r s) c o = refl
   clause-node (TypeOutlives t r) c o = refl
 
-  pub environment-filled : (old new : List Entry) (xs ys : List Clause) → ClausesFold (λ bs t. filling vs t) old xs new ys → environment_trees new ys ≡ filled vs (environment_trees old xs)
+  pub environment-filled : (old new : List Entry) (xs ys : List Clause) → ClausesFold (λ bs t. filling vs t) old xs new ys → environment_trees new ys ≡ filled_values vs (environment_trees old xs)
   environment-filled old new [] [] h = refl
   environment-filled old new [] (y ∷ ys) h = absurd h
   environment-filled old new (x ∷ xs) [] h = absurd h
@@ -129,7 +129,7 @@ module _ (vs : List Value) where
       let here = clause-filled old new x y h.0 h.1 in
       node _ _ _ _ _ _ here.label here.terms (environment-filled old new xs ys h.2) ∙ sym (clause-node x (clause_terms old x) (environment_trees old xs))
 
-  pub predicate-filled : (i j : ℕ) (t u : Trees) → j ≡ i → FoldsEach (λ bs t. filling vs t) [] (one_piece t) (one_piece u) → tree (predicate (of_trait j)) u none ≡ filled vs (tree (predicate (of_trait i)) t none)
+  pub predicate-filled : (i j : ℕ) (t u : Trees) → j ≡ i → FoldsEach (λ bs t. filling vs t) [] (one_piece t) (one_piece u) → tree (predicate (of_trait j)) u none ≡ filled_values vs (tree (predicate (of_trait i)) t none)
   predicate-filled i j t u e h = same i j _ _ e (filled-fold t u h.1)
     where
       same : (i j : ℕ) (t u : Trees) → j ≡ i → u ≡ t → tree (predicate (of_trait j)) u none ≡ tree (predicate (of_trait i)) t none

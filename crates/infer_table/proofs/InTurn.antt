@@ -14,7 +14,7 @@ use Rattle.infer_table.specs.Content.{Table, Ready, content}
 use Rattle.infer_table.specs.Constraints.{constraints_trees}
 use Rattle.infer_table.specs.Kept.{content-kept}
 use Rattle.infer_table.specs.Unification.{TableTrees, table_trees, unified}
-use Rattle.infer_table.specs.Values.{Value, values_of, filled}
+use Rattle.infer_table.specs.Values.{Value, values_of, filled_values}
 use Rattle.infer_table.specs.Responses.{AnswerTrees}
 use Rattle.infer_table.specs.Applying.{applied_values, applied_table}
 use Rattle.infer_table.specs.Applied.{trees_of, solved_in_turn, with_constraints, applied}
@@ -89,14 +89,14 @@ same-trees old new k t u r e f =
 
 -- ---- an answer
 module _ (t : TableTrees) (originals : List Value) (a : AnswerTrees) (start : TableTrees) (left right : Trees)
-    (taken : start ≡ applied_table t originals a) (own : left ≡ trees_of originals) (put : right ≡ filled (applied_values t originals a) (trees_of a.values)) where
-  solved-so : solved_in_turn (applied_table t originals a) (trees_of originals) (filled (applied_values t originals a) (trees_of a.values)) ≡ solved_in_turn start left right
+    (taken : start ≡ applied_table t originals a) (own : left ≡ trees_of originals) (put : right ≡ filled_values (applied_values t originals a) (trees_of a.values)) where
+  solved-so : solved_in_turn (applied_table t originals a) (trees_of originals) (filled_values (applied_values t originals a) (trees_of a.values)) ≡ solved_in_turn start left right
   solved-so =
-      ap (λ z. solved_in_turn z (trees_of originals) (filled (applied_values t originals a) (trees_of a.values))) (sym taken)
-      ∙ ap (λ z. solved_in_turn start z (filled (applied_values t originals a) (trees_of a.values))) (sym own) ∙ ap (solved_in_turn start left) (sym put)
+      ap (λ z. solved_in_turn z (trees_of originals) (filled_values (applied_values t originals a) (trees_of a.values))) (sym taken)
+      ∙ ap (λ z. solved_in_turn start z (filled_values (applied_values t originals a) (trees_of a.values))) (sym own) ∙ ap (solved_in_turn start left) (sym put)
 
-  pub applied-leaves : (solved end : TableTrees) → solved_in_turn start left right ≡ Some solved → with_constraints (filled (applied_values t originals a) a.constraints) solved ≡ end → applied t originals a ≡ Some end
-  applied-leaves solved end e f = ap (option_map (with_constraints (filled (applied_values t originals a) a.constraints))) (solved-so ∙ e) ∙ ap Some f
+  pub applied-leaves : (solved end : TableTrees) → solved_in_turn start left right ≡ Some solved → with_constraints (filled_values (applied_values t originals a) a.constraints) solved ≡ end → applied t originals a ≡ Some end
+  applied-leaves solved end e f = ap (option_map (with_constraints (filled_values (applied_values t originals a) a.constraints))) (solved-so ∙ e) ∙ ap Some f
 
   pub applied-refused : solved_in_turn start left right ≡ None → applied t originals a ≡ None
-  applied-refused e = ap (option_map (with_constraints (filled (applied_values t originals a) a.constraints))) (solved-so ∙ e)
+  applied-refused e = ap (option_map (with_constraints (filled_values (applied_values t originals a) a.constraints))) (solved-so ∙ e)

@@ -16,7 +16,7 @@ use Rattle.infer_table.specs.Unification.{TableTrees, table_trees}
 use Rattle.infer_table.specs.declared.canonical.CanonicalVarKind.{CanonicalVarKind}
 use Rattle.infer_table.specs.declared.canonical.CanonicalVarKind.TheVariants.{Ty, PlaceholderTy, Const, PlaceholderConst, Region}
 use Rattle.infer_table.specs.declared.response.CanonicalResponse.{CanonicalResponse}
-use Rattle.infer_table.specs.Values.{Value, value_of, values_of, if_of_sort, filled}
+use Rattle.infer_table.specs.Values.{Value, value_of, values_of, if_of_sort, filled_values}
 use Rattle.infer_table.specs.Responses.{answer_trees}
 use Rattle.infer_table.specs.Applying.{is_numbered, root_labels, original_of, next_unknown, unknowns_of, table_after, values_for, table_for, known_value, applied_values, applied_table}
 use Rattle.infer_table.specs.Covers.{AreNumbered, AreKnown, IsOfKnown, IsWellPosed}
@@ -69,12 +69,12 @@ module _ (counts : Sort → ℕ) (vs : List Value) (all : AllKnown counts vs) (k
       by true = h
       by false = g
 
-  pub filled-known : (t : Trees) → AreNumbered ks t → AreKnown counts (filled vs t)
+  pub filled-known : (t : Trees) → AreNumbered ks t → AreKnown counts (filled_values vs t)
   filled-known none h = tt
   filled-known (tree (canonical j i) c o) h =
-      let below : AreKnown counts (filled vs c) = subst (λ z. AreKnown counts (filled vs z)) (sym h.1) tt in
-      known-joined counts (placed (if_of_sort j (slice_get vs i)) (tree (canonical j i) (filled vs c) none)) (filled vs o)
-      (placed-known j (slice_get vs i) (tree (canonical j i) (filled vs c) none) (slice-known counts vs i all) (below, tt)) (filled-known o h.2)
+      let below : AreKnown counts (filled_values vs c) = subst (λ z. AreKnown counts (filled_values vs z)) (sym h.1) tt in
+      known-joined counts (placed (if_of_sort j (slice_get vs i)) (tree (canonical j i) (filled_values vs c) none)) (filled_values vs o)
+      (placed-known j (slice_get vs i) (tree (canonical j i) (filled_values vs c) none) (slice-known counts vs i all) (below, tt)) (filled-known o h.2)
   filled-known (tree (infer k v) c o) h = absurd h
   filled-known (tree l c o) h = (filled-known c h.0, filled-known o h.1)
 
@@ -117,7 +117,7 @@ module _ (es : List Entry) (t : Table) (originals : List GenericArgKind) (r : Ca
   taken = applied_table (table_trees es t) (values_of es originals) (answer_trees es r)
 
   abbrev put : Trees
-  put = filled (applied_values (table_trees es t) (values_of es originals) (answer_trees es r)) (args_trees es r.var_values.items)
+  put = filled_values (applied_values (table_trees es t) (values_of es originals) (answer_trees es r)) (args_trees es r.var_values.items)
 
   answer-known : AreKnown (unknowns_of taken) put
   answer-known =

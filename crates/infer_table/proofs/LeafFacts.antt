@@ -28,7 +28,7 @@ use Rattle.type_terms.proofs.Equal.{through, region-kind-eq}
 use Rattle.type_terms.proofs.Sorts.{bound-sort}
 use Rattle.type_terms.specs.Kept.{is-at}
 use Rattle.infer_table.specs.declared.canonical.CanonicalVarKind.{CanonicalVarKind}
-use Rattle.infer_table.specs.Canonical.{is_among, with_label, place_of, kind_of_leaf}
+use Rattle.infer_table.specs.Canonical.{is_label_among, with_label, place_of, kind_of_leaf}
 use Rattle.infer_table.proofs.CanonicalLaws.{same_label-self}
 use Rattle.infer_table.specs.Leaves.{leaf_label, labels, IsLeaf, AreLeaves, AreOpen}
 
@@ -93,7 +93,7 @@ told-apart es law k m h g = by (arg.eq k m) refl (same_label (leaf_label es m) (
         let s : k ≡ m = same-arg es law k m (leaf_label es k) h.0 g.0 h.1 (g.1 ∙ ap leaf e) in
         sym ((arg-eq k m).1 s) ∙ p
 
-pub among-keys : (es : List Entry) → Lawful es → (k : GenericArgKind) (ks : List GenericArgKind) → IsLeaf es k → AreLeaves es ks → is_among (leaf_label es k) (labels es ks) ≡ list_any (arg.eq k) ks
+pub among-keys : (es : List Entry) → Lawful es → (k : GenericArgKind) (ks : List GenericArgKind) → IsLeaf es k → AreLeaves es ks → is_label_among (leaf_label es k) (labels es ks) ≡ list_any (arg.eq k) ks
 among-keys es law k [] h g = refl
 among-keys es law k (m ∷ ms) h g = rw (told-apart es law k m h g.0, among-keys es law k ms h g.1) refl
 

@@ -18,7 +18,7 @@ use Rattle.term_folds.proofs.Replacing.{Describes, folds-are}
 use Rattle.infer_table.specs.Canonical.{GoalTrees, kind_of_leaf, canonical_label, relabeled}
 use Rattle.infer_table.specs.Goals.{clause_label, clause_terms, environment_trees, goal_trees, ClausesHeld, GoalHeld, ClausesFold}
 use Rattle.infer_table.specs.declared.goal.Goal.{Goal}
-use Rattle.infer_table.specs.Leaves.{open_kinds, root_label, is_closed, is_type_label, numbering}
+use Rattle.infer_table.specs.Leaves.{open_kinds, root_label, is_closed_by, is_type_label, numbering}
 use Rattle.infer_table.specs.LeafLaws.{numbering-once}
 use Rattle.infer_table.proofs.ClosedFacts.{closed-stays}
 use Rattle.type_terms.proofs.TermBasics.{below-node, at-single}
@@ -31,15 +31,15 @@ module _ (b : Bool) (ls : List Label) where
   abbrev numbered : Trees → Trees
   numbered t = relabeled (open_kinds b) (canonical_label ls) t
 
-  closed-numbered : (l : Label) (c : Trees) → (is_type_label l && is_closed b (tree l c none)) ≡ true → numbered (tree l c none) ≡ tree l c none
+  closed-numbered : (l : Label) (c : Trees) → (is_type_label l && is_closed_by b (tree l c none)) ≡ true → numbered (tree l c none) ≡ tree l c none
   closed-numbered l c h = by (is_type_label l) h
     where
-      by : (y : Bool) → (y && is_closed b (tree l c none)) ≡ true → relabeled (open_kinds b) (canonical_label ls) (tree l c none) ≡ tree l c none
+      by : (y : Bool) → (y && is_closed_by b (tree l c none)) ≡ true → relabeled (open_kinds b) (canonical_label ls) (tree l c none) ≡ tree l c none
       by true e = closed-stays b (canonical_label ls) (tree l c none) e
       by false e = cc
 
   enters-is : (bs : List ℕ) (l : Label) (c : Trees) → numbering b ls bs (tree l c none) ≡ enters → numbered (tree l c none) ≡ tree l (numbered c) none
-  enters-is bs l c e = by (is_some (open_kinds b l)) (is_type_label l && is_closed b (tree l c none)) (tree l c none) e
+  enters-is bs l c e = by (is_some (open_kinds b l)) (is_type_label l && is_closed_by b (tree l c none)) (tree l c none) e
     where
       by : (x y : Bool) (t : Trees) → (if x then puts (tree (canonical_label ls l) (numbered c) none) else (if y then puts t else enters)) ≡ enters
           → tree (if x then canonical_label ls l else l) (numbered c) none ≡ tree l (numbered c) none
@@ -48,12 +48,12 @@ module _ (b : Bool) (ls : List Label) where
       by false false t e = refl
 
   puts-is : (bs : List ℕ) (l : Label) (c r : Trees) → numbering b ls bs (tree l c none) ≡ puts r → numbered (tree l c none) ≡ r
-  puts-is bs l c r e = by (is_some (open_kinds b l)) refl (is_type_label l && is_closed b (tree l c none)) refl e
+  puts-is bs l c r e = by (is_some (open_kinds b l)) refl (is_type_label l && is_closed_by b (tree l c none)) refl e
     where
       same : (s t : Trees) → puts s ≡ puts t → s ≡ t
       same s t e = cc
 
-      by : (x : Bool) → is_some (open_kinds b l) ≡ x → (y : Bool) → (is_type_label l && is_closed b (tree l c none)) ≡ y
+      by : (x : Bool) → is_some (open_kinds b l) ≡ x → (y : Bool) → (is_type_label l && is_closed_by b (tree l c none)) ≡ y
           → (if x then puts (tree (canonical_label ls l) (numbered c) none) else (if y then puts (tree l c none) else enters)) ≡ puts r
           → numbered (tree l c none) ≡ r
       by true p y q e = ap (λ (z : Bool). tree (if z then canonical_label ls l else l) (numbered c) none) p ∙ same _ _ e
@@ -122,15 +122,15 @@ module _ (b : Bool) (ls : List Label) where
 chosen : (x y : Bool) (p q : Does) → x ≡ false → (if x then p else (if y then q else enters)) ≡ (if y then q else enters)
 chosen x y p q e = rw e refl
 
-pub enters-at : (b : Bool) (ls : List Label) (bs : List ℕ) (t : Trees) → Single t → is_some (open_kinds b (root_label t)) ≡ false → (is_type_label (root_label t) && is_closed b t) ≡ false → numbering b ls bs t ≡ enters
+pub enters-at : (b : Bool) (ls : List Label) (bs : List ℕ) (t : Trees) → Single t → is_some (open_kinds b (root_label t)) ≡ false → (is_type_label (root_label t) && is_closed_by b t) ≡ false → numbering b ls bs t ≡ enters
 enters-at b ls bs t s =
-    at-single (λ t. is_some (open_kinds b (root_label t)) ≡ false → (is_type_label (root_label t) && is_closed b t) ≡ false → numbering b ls bs t ≡ enters)
-    (λ l c e f. chosen _ (is_type_label l && is_closed b (tree l c none)) _ (puts (tree l c none)) e ∙ ap (λ (y : Bool). if y then puts (tree l c none) else enters) f) t s
+    at-single (λ t. is_some (open_kinds b (root_label t)) ≡ false → (is_type_label (root_label t) && is_closed_by b t) ≡ false → numbering b ls bs t ≡ enters)
+    (λ l c e f. chosen _ (is_type_label l && is_closed_by b (tree l c none)) _ (puts (tree l c none)) e ∙ ap (λ (y : Bool). if y then puts (tree l c none) else enters) f) t s
 
-pub stays-at : (b : Bool) (ls : List Label) (bs : List ℕ) (t : Trees) → Single t → is_some (open_kinds b (root_label t)) ≡ false → (is_type_label (root_label t) && is_closed b t) ≡ true → numbering b ls bs t ≡ puts t
+pub stays-at : (b : Bool) (ls : List Label) (bs : List ℕ) (t : Trees) → Single t → is_some (open_kinds b (root_label t)) ≡ false → (is_type_label (root_label t) && is_closed_by b t) ≡ true → numbering b ls bs t ≡ puts t
 stays-at b ls bs t s =
-    at-single (λ t. is_some (open_kinds b (root_label t)) ≡ false → (is_type_label (root_label t) && is_closed b t) ≡ true → numbering b ls bs t ≡ puts t)
-    (λ l c e f. chosen _ (is_type_label l && is_closed b (tree l c none)) _ (puts (tree l c none)) e ∙ ap (λ (y : Bool). if y then puts (tree l c none) else enters) f) t s
+    at-single (λ t. is_some (open_kinds b (root_label t)) ≡ false → (is_type_label (root_label t) && is_closed_by b t) ≡ true → numbering b ls bs t ≡ puts t)
+    (λ l c e f. chosen _ (is_type_label l && is_closed_by b (tree l c none)) _ (puts (tree l c none)) e ∙ ap (λ (y : Bool). if y then puts (tree l c none) else enters) f) t s
 
 pub says-stays : {T : Type 0} (P : T → Trees → Type 0) (d : Does) (t : Trees) (x : T) → d ≡ puts t → P x t → Answers P d (Replace x)
 says-stays P d t x e h = rw e h

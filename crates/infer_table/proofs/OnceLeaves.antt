@@ -12,7 +12,7 @@ use Rattle.type_terms.specs.Pieces.{Piece}
 use Rattle.type_terms.specs.Visits.{VisitsEach}
 use Rattle.type_terms.specs.Entering.{HasEntered, SeesOnce}
 use Rattle.type_terms.proofs.OnceFacts.{Repeats, once-visits-each}
-use Rattle.infer_table.specs.Canonical.{OpenKinds, is_among, with_label, leaves}
+use Rattle.infer_table.specs.Canonical.{OpenKinds, is_label_among, with_label, leaves}
 use Rattle.infer_table.specs.Leaves.{open_kinds, labels, Collects}
 use Rattle.infer_table.specs.LeafLaws.{Collecting}
 use Rattle.infer_table.specs.declared.canonicalizer.LeafCollector.{LeafCollector}
@@ -20,20 +20,20 @@ use Rattle.infer_table.proofs.CanonicalLaws.{with-among, among-head, leaves-keep
 
 -- what is listed stays listed
 abbrev Within : List Label → List Label → Type 0
-Within ls ms = (l : Label) → is_among l ls ≡ true → is_among l ms ≡ true
+Within ls ms = (l : Label) → is_label_among l ls ≡ true → is_label_among l ms ≡ true
 
 abbrev pub Leads : List Entry → LeafCollector → LeafCollector → Type 0
 Leads es v w = (w.in_clause ≡ v.in_clause) × Within (labels es v.leaves.keys) (labels es w.leaves.keys)
 
 -- what is listed is not listed again
-listed-stays : (l : Label) (ls : List Label) → is_among l ls ≡ true → with_label l ls ≡ ls
+listed-stays : (l : Label) (ls : List Label) → is_label_among l ls ≡ true → with_label l ls ≡ ls
 listed-stays l ls h = ap (λ (b : Bool). if b then ls else ls ++ l ∷ []) h
 
 module _ (kind : OpenKinds) where
   abbrev head : List Label → Label → List Label
   head seen l = if is_some (kind l) then with_label l seen else seen
 
-  head-keeps : (l m : Label) (seen : List Label) → is_among l seen ≡ true → is_among l (head seen m) ≡ true
+  head-keeps : (l m : Label) (seen : List Label) → is_label_among l seen ≡ true → is_label_among l (head seen m) ≡ true
   head-keeps l m seen h = among-head kind l m seen h
 
   head-listed : (m : Label) (seen after : List Label) → Within (head seen m) after → head after m ≡ after
@@ -57,16 +57,16 @@ module _ (kind : OpenKinds) where
       ap (λ z. leaves kind (leaves kind z c) o) (head-listed m seen after outer) ∙ ap (λ z. leaves kind z o) (leaves-listed c first after inner) ∙ leaves-listed o below after h
 
   collects-within : (t : Trees) (before after : List Label) (a : Seen Fault) → Collects kind t before after a → Within before after
-  collects-within none before after Enter h = λ l q. subst (λ z. is_among l z ≡ true) (sym h.0) q
-  collects-within (tree m c o) before after Enter h = λ l q. subst (λ z. is_among l z ≡ true) (sym h.0) (head-keeps l m before q)
-  collects-within t before after Pass h = λ l q. subst (λ z. is_among l z ≡ true) (sym h.0) (leaves-within before t l q)
-  collects-within t before after (Break f) h = λ l q. subst (λ z. is_among l z ≡ true) (sym h.1) q
+  collects-within none before after Enter h = λ l q. subst (λ z. is_label_among l z ≡ true) (sym h.0) q
+  collects-within (tree m c o) before after Enter h = λ l q. subst (λ z. is_label_among l z ≡ true) (sym h.0) (head-keeps l m before q)
+  collects-within t before after Pass h = λ l q. subst (λ z. is_label_among l z ≡ true) (sym h.0) (leaves-within before t l q)
+  collects-within t before after (Break f) h = λ l q. subst (λ z. is_label_among l z ≡ true) (sym h.1) q
 
   -- a node whose leaves are listed
   collects-again : (t : Trees) (before after later : List Label) (a : Seen Fault) → Collects kind t before after a → Within after later → Collects kind t later later a
   collects-again none before after later Enter h w = (refl, h.1)
-  collects-again (tree m c o) before after later Enter h w = (sym (head-listed m before later (λ l q. w l (subst (λ z. is_among l z ≡ true) (sym h.0) q))), h.1)
-  collects-again t before after later Pass h w = (sym (leaves-listed t before later (λ l q. w l (subst (λ z. is_among l z ≡ true) (sym h.0) q))), h.1)
+  collects-again (tree m c o) before after later Enter h w = (sym (head-listed m before later (λ l q. w l (subst (λ z. is_label_among l z ≡ true) (sym h.0) q))), h.1)
+  collects-again t before after later Pass h w = (sym (leaves-listed t before later (λ l q. w l (subst (λ z. is_label_among l z ≡ true) (sym h.0) q))), h.1)
   collects-again t before after later (Break f) h w = (h.0, refl)
 
 collecting-repeats : (es : List Entry) → Repeats (λ bs t v w a. Collecting es t v w a) (Leads es)

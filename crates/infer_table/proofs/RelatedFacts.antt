@@ -9,9 +9,9 @@ use Rattle.type_terms.specs.Trees.{Single}
 use Rattle.type_terms.specs.Codes.{same}
 use Rattle.type_terms.proofs.Matching.{same-sound}
 use Rattle.type_terms.proofs.TreeLaws.{append-none}
-use Rattle.infer_table.specs.Solutions.{Assignment, Binding, Solves, resolved, occurs, is_variable, HasValues}
+use Rattle.infer_table.specs.Solutions.{Assignment, Binding, Solves, resolved, occurs, is_same_variable, HasValues}
 use Rattle.infer_table.specs.Content.{IsUnbound}
-use Rattle.infer_table.specs.Opened.{opened, is_opened}
+use Rattle.infer_table.specs.Opened.{opened_binder, is_opened}
 use Rattle.infer_table.specs.Resolving.{is_root, followed}
 use Rattle.infer_table.specs.Unification.{TableTrees, Extends, equal_constraint, is_recorded, recorded_once, with_binding, with_equal, with_regions, term_sort, variable_at, binds, head_of, object_parts, parts_of, Worklist, pairs, Outcome, refused, onward, bound_to, in_pairs, by_parts, by_variables, by_sort, compared, step}
 use Rattle.infer_table.specs.WellFormed.{is_numbered, IsOfTerms, AllSame}
@@ -44,7 +44,7 @@ IsNext bs cs = (cs ≡ bs) ⊎ ((n : Binding) × HasValues n.sort × (cs ≡ n �
 lifetime-no-root : (b : Binding) (x : Trees) → HasValues b.sort → term_sort x ≡ of_lifetime → is_root b x ≡ false
 lifetime-no-root b (tree (infer k v) none none) h e = by b.sort k h e
   where
-    by : (j k : Sort) → HasValues j → k ≡ of_lifetime → is_variable j b.var k v ≡ false
+    by : (j k : Sort) → HasValues j → k ≡ of_lifetime → is_same_variable j b.var k v ≡ false
     by of_lifetime k g e = absurd g
     by of_type of_lifetime g e = refl
     by of_const of_lifetime g e = refl
@@ -216,7 +216,7 @@ none-opened d k v = grind (arith, nat_tests)
 same-node : (l m : Label) (c d o p : Trees) → l ≡ m → c ≡ d → o ≡ p → tree l c o ≡ tree m d p
 same-node l m c d o p x y z = cc
 
-opened-none : (i d : ℕ) (t : Trees) → opened i zero d t ≡ t
+opened-none : (i d : ℕ) (t : Trees) → opened_binder i zero d t ≡ t
 opened-none i d none = refl
 opened-none i d (tree (bound of_lifetime k v) none o) = same-node _ _ _ _ _ _ (ap (λ b. cond b (infer of_lifetime (i + v)) (bound of_lifetime k v)) (none-opened d k v)) refl (opened-none i d o)
 opened-none i d (tree l c o) = same-node _ _ _ _ _ _ refl (opened-none i (inside l d) c) (opened-none i d o)
@@ -234,7 +234,7 @@ autos-fixed i j (tree l c o) h = absurd h
 
 object-fixed : (i j : ℕ) (c : Trees) → AreTrees is_numbered in_object c → binds (tree dynamic c none) ≡ zero → object_parts i c ≡ object_parts j c
 object-fixed i j none h e = absurd h
-object-fixed i j (tree (principal n t) c o) h e = both (ap (λ m. opened i m 0 c) e ∙ opened-none i 0 c ∙ sym (opened-none j 0 c) ∙ sym (ap (λ m. opened j m 0 c) e)) (autos-fixed i j o h.1)
+object-fixed i j (tree (principal n t) c o) h e = both (ap (λ m. opened_binder i m 0 c) e ∙ opened-none i 0 c ∙ sym (opened-none j 0 c) ∙ sym (ap (λ m. opened_binder j m 0 c) e)) (autos-fixed i j o h.1)
   where
     both : {x y u v : Trees} → x ≡ y → u ≡ v → x +++ u ≡ y +++ v
     both p q = cc
@@ -244,7 +244,7 @@ object-fixed i j (tree l c o) h e = absurd h
 
 parts-fixed : (i j : ℕ) (x : Trees) → AreTrees is_numbered in_terms x → binds x ≡ zero → parts_of i x ≡ parts_of j x
 parts-fixed i j none h e = refl
-parts-fixed i j (tree (fn_ptr n) c o) h e = ap (λ m. opened i m 0 c) e ∙ opened-none i 0 c ∙ sym (opened-none j 0 c) ∙ sym (ap (λ m. opened j m 0 c) e)
+parts-fixed i j (tree (fn_ptr n) c o) h e = ap (λ m. opened_binder i m 0 c) e ∙ opened-none i 0 c ∙ sym (opened-none j 0 c) ∙ sym (ap (λ m. opened_binder j m 0 c) e)
 parts-fixed i j (tree dynamic c o) h e = object-fixed i j c h.0 (by c e)
   where
     by : (c : Trees) → binds (tree dynamic c o) ≡ zero → binds (tree dynamic c none) ≡ zero
@@ -266,7 +266,7 @@ variable-leaf k v (tree (infer j w) c o) h p e = let q : w ≡ v = cc in
     ap (λ z. tree (infer j w) z o) h.1.0 ∙ ap (λ z. tree (infer j w) none z) h.0 ∙ ap (λ z. leaf (infer z w)) p ∙ ap (λ z. leaf (infer k z)) q
 variable-leaf k v (tree l c o) h p e = cc
 
--- it is replaced by others, for which it waits unless a lifetime was opened
+-- it is replaced by others, for which it waits unless a lifetime was opened_binder
 abbrev pub Leaves : TableTrees → Trees → Trees → Worklist → Outcome → Type 0
 Leaves t a b rest refused = Unit {0}
 Leaves t a b rest (onward f u left) =

@@ -8,12 +8,12 @@ use Rattle.type_terms.specs.Promised.Trees.{Trees, none, tree, ◌+++◌, is_sor
 use Rattle.type_terms.specs.Trees.{placed}
 use Rattle.infer_table.specs.declared.canonical.CanonicalVarKind.{CanonicalVarKind}
 use Rattle.infer_table.specs.declared.canonical.CanonicalVarKind.TheVariants.{Ty, PlaceholderTy, Const, PlaceholderConst, Region}
-use Rattle.infer_table.specs.Solutions.{Binding, is_variable, replace, resolved}
+use Rattle.infer_table.specs.Solutions.{Binding, is_same_variable, replace, resolved}
 use Rattle.infer_table.specs.Resolving.{followed, is_root}
-use Rattle.infer_table.specs.Opened.{is_opened, opened_label, opened}
+use Rattle.infer_table.specs.Opened.{is_opened, opened_label, opened_binder}
 use Rattle.infer_table.specs.Unification.{TableTrees, with_binding, term_sort, object_parts, parts_of, Worklist}
 use Rattle.infer_table.specs.Canonical.{HasNoCanonical}
-use Rattle.infer_table.specs.Values.{Value, if_of_sort, filled}
+use Rattle.infer_table.specs.Values.{Value, if_of_sort, filled_values}
 use Rattle.infer_table.specs.Raw.{sort_of_kind}
 use Rattle.infer_table.specs.Leaves.{root_label}
 use Rattle.infer_table.specs.Answers.{have_same_sorts}
@@ -46,7 +46,7 @@ clean-append (tree l c o) b p q = let x = clean-parts l c o p in clean-node l c 
 
 pub clean-replace : (k : Sort) (v : ℕ) (r t : Trees) → HasNoCanonical r → HasNoCanonical t → HasNoCanonical (replace k v r t)
 clean-replace k v r none p q = q
-clean-replace k v r (tree (infer j w) c o) p q = by (is_variable j w k v) (clean-replace k v r o p q.1)
+clean-replace k v r (tree (infer j w) c o) p q = by (is_same_variable j w k v) (clean-replace k v r o p q.1)
   where
     by : (b : Bool) → HasNoCanonical (replace k v r o) → HasNoCanonical (if b then r +++ replace k v r o else tree (infer j w) c (replace k v r o))
     by true h = clean-append r (replace k v r o) p h
@@ -77,14 +77,14 @@ label-opened first n d k v = by (is_opened n d k v)
     by true = tt
     by false = tt
 
-clean-opened : (first n d : ℕ) (t : Trees) → HasNoCanonical t → HasNoCanonical (opened first n d t)
+clean-opened : (first n d : ℕ) (t : Trees) → HasNoCanonical t → HasNoCanonical (opened_binder first n d t)
 clean-opened first n d none h = tt
-clean-opened first n d (tree (bound of_lifetime k v) none o) h = clean-node (opened_label first n d k v) none (opened first n d o) (label-opened first n d k v) tt (clean-opened first n d o h.1)
+clean-opened first n d (tree (bound of_lifetime k v) none o) h = clean-node (opened_label first n d k v) none (opened_binder first n d o) (label-opened first n d k v) tt (clean-opened first n d o h.1)
 clean-opened first n d (tree (canonical s i) c o) h = absurd h
 clean-opened first n d (tree l c o) h = (clean-opened first n (inside l d) c h.0, clean-opened first n d o h.1)
 
 clean-object : (first : ℕ) (t : Trees) → HasNoCanonical t → HasNoCanonical (object_parts first t)
-clean-object first (tree (principal n i) c o) h = clean-append (opened first n zero c) (object_parts first o) (clean-opened first n zero c h.0) (clean-object first o h.1)
+clean-object first (tree (principal n i) c o) h = clean-append (opened_binder first n zero c) (object_parts first o) (clean-opened first n zero c h.0) (clean-object first o h.1)
 clean-object first (tree (auto_trait i) c o) h = clean-object first o h.1
 clean-object first none h = tt
 clean-object first (tree l c o) h = h
@@ -159,11 +159,11 @@ module _ (ks : List CanonicalVarKind) (vs : List Value) (all : AllSuit ks vs) wh
   clean-placed None t h = absurd h
   clean-placed (Some x) t h = h
 
-  clean-filled : (t : Trees) → AreNumbered ks t → HasNoCanonical (filled vs t)
+  clean-filled : (t : Trees) → AreNumbered ks t → HasNoCanonical (filled_values vs t)
   clean-filled none h = tt
   clean-filled (tree (canonical s i) c o) h =
-      clean-append (placed (if_of_sort s (slice_get vs i)) (tree (canonical s i) (filled vs c) none)) (filled vs o)
-      (clean-placed (if_of_sort s (slice_get vs i)) (tree (canonical s i) (filled vs c) none) (suits-at ks vs i s all h.0)) (clean-filled o h.2)
+      clean-append (placed (if_of_sort s (slice_get vs i)) (tree (canonical s i) (filled_values vs c) none)) (filled_values vs o)
+      (clean-placed (if_of_sort s (slice_get vs i)) (tree (canonical s i) (filled_values vs c) none) (suits-at ks vs i s all h.0)) (clean-filled o h.2)
   clean-filled (tree (infer k v) c o) h = absurd h
   clean-filled (tree l c o) h = (clean-filled c h.0, clean-filled o h.1)
 
@@ -237,14 +237,14 @@ answers-keep-out t u originals a h q fits e =
     let values = applied_values t originals a in
     let suit : AllSuit a.kinds values =
     values-suit (known_value a originals) t 0 a.kinds (λ n j k i g. original-suits a.kinds j k a.values originals fits.answers fits.sorted fits.numbered q (subst (λ (m : ℕ). slice_get a.kinds m ≡ Some k) (there n j i) g)) in
-    by (solved_in_turn (applied_table t originals a) (trees_of originals) (filled values (trees_of a.values))) refl (clean-filled a.kinds values suit (trees_of a.values) fits.numbered) e
+    by (solved_in_turn (applied_table t originals a) (trees_of originals) (filled_values values (trees_of a.values))) refl (clean-filled a.kinds values suit (trees_of a.values) fits.numbered) e
   where
     there : (n j : ℕ) → j ≡ 0 + n → n ≡ j
     there n j i = omega (arith, i)
 
-    by : (r : Option TableTrees) → solved_in_turn (applied_table t originals a) (trees_of originals) (filled (applied_values t originals a) (trees_of a.values)) ≡ r
-        → HasNoCanonical (filled (applied_values t originals a) (trees_of a.values)) → option_map (with_constraints (filled (applied_values t originals a) a.constraints)) r ≡ Some u → HaveNoCanonical u.bindings
+    by : (r : Option TableTrees) → solved_in_turn (applied_table t originals a) (trees_of originals) (filled_values (applied_values t originals a) (trees_of a.values)) ≡ r
+        → HasNoCanonical (filled_values (applied_values t originals a) (trees_of a.values)) → option_map (with_constraints (filled_values (applied_values t originals a) a.constraints)) r ≡ Some u → HaveNoCanonical u.bindings
     by None i f e = cc
     by (Some w) i f e =
-        subst (λ (z : TableTrees). HaveNoCanonical z.bindings) (some-one (with_constraints (filled (applied_values t originals a) a.constraints) w) u e)
-        (turn-stays (applied_table t originals a) w (trees_of originals) (filled (applied_values t originals a) (trees_of a.values)) (table-for-stays (known_value a originals) t 0 a.kinds h) (clean-values originals q) f i)
+        subst (λ (z : TableTrees). HaveNoCanonical z.bindings) (some-one (with_constraints (filled_values (applied_values t originals a) a.constraints) w) u e)
+        (turn-stays (applied_table t originals a) w (trees_of originals) (filled_values (applied_values t originals a) (trees_of a.values)) (table-for-stays (known_value a originals) t 0 a.kinds h) (clean-values originals q) f i)

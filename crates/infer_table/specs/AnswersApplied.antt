@@ -10,7 +10,7 @@ use Rattle.infer_table.specs.Solutions.{Assignment, Binding, IsSorted, Solves, E
 use Rattle.infer_table.specs.Content.{Table, content, variables_of, Ready}
 use Rattle.infer_table.specs.Constraints.{constraints_trees}
 use Rattle.infer_table.specs.Unification.{TableTrees, table_trees}
-use Rattle.infer_table.specs.Values.{Value, sort_of_arg, value_of, values_of, filled}
+use Rattle.infer_table.specs.Values.{Value, sort_of_arg, value_of, values_of, filled_values}
 use Rattle.infer_table.specs.Raw.{sort_of_kind}
 use Rattle.infer_table.specs.Responses.{answer_trees}
 use Rattle.infer_table.specs.Applying.{applied_values, applied_table}
@@ -34,11 +34,11 @@ with_unknowns_put_in es t originals r = applied_table (table_trees es t) (values
 
 -- the answer's own values, with these in the place of its variables
 abbrev pub answered_values : List Entry → Table → List GenericArgKind → CanonicalResponse → Trees
-answered_values es t originals r = filled (values_put_in es t originals r) (args_trees es r.var_values.items)
+answered_values es t originals r = filled_values (values_put_in es t originals r) (args_trees es r.var_values.items)
 
 -- and its constraints
 abbrev pub answered_constraints : List Entry → Table → List GenericArgKind → CanonicalResponse → Trees
-answered_constraints es t originals r = filled (values_put_in es t originals r) (constraints_trees es r.region_constraints.items)
+answered_constraints es t originals r = filled_values (values_put_in es t originals r) (constraints_trees es r.region_constraints.items)
 
 -- what is left once the values are equal in their places, from the first pair on; none where a pair is refused
 abbrev pub equated_in_turn : List Entry → Table → List GenericArgKind → List GenericArgKind → Option TableTrees

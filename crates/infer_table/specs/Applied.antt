@@ -2,7 +2,7 @@
 use Rattle.std.specs.Prelude.{List, [], ◌∷◌, Option, Some, None, option_map, option_and_then}
 use Rattle.type_terms.specs.Promised.Trees.{Trees, none, tree, ◌+++◌}
 use Rattle.infer_table.specs.Unification.{TableTrees, all_recorded, unified}
-use Rattle.infer_table.specs.Values.{Value, filled}
+use Rattle.infer_table.specs.Values.{Value, filled_values}
 use Rattle.infer_table.specs.Responses.{AnswerTrees}
 use Rattle.infer_table.specs.Applying.{applied_values, applied_table}
 
@@ -27,4 +27,4 @@ with_constraints c t = record t { constraints = all_recorded c t.constraints }
 abbrev pub applied : TableTrees → List Value → AnswerTrees → Option TableTrees
 applied t originals a =
     let values = applied_values t originals a in
-    option_map (with_constraints (filled values a.constraints)) (solved_in_turn (applied_table t originals a) (trees_of originals) (filled values (trees_of a.values)))
+    option_map (with_constraints (filled_values values a.constraints)) (solved_in_turn (applied_table t originals a) (trees_of originals) (filled_values values (trees_of a.values)))

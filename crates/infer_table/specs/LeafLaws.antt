@@ -13,7 +13,7 @@ use Rattle.type_terms.specs.Visits.{IsBound, VisitsEach}
 use Rattle.type_terms.specs.Kept.{arg-held-later, arg-trees-later}
 use Rattle.type_terms.specs.Pieces.{Piece}
 use Rattle.infer_table.specs.declared.canonicalizer.LeafCollector.{LeafCollector}
-use Rattle.infer_table.specs.Leaves.{open_kinds, root_label, leaf_label, labels, IsLeaf, AreLeaves, Collects, is_closed, is_type_label, numbering}
+use Rattle.infer_table.specs.Leaves.{open_kinds, root_label, leaf_label, labels, IsLeaf, AreLeaves, Collects, is_closed_by, is_type_label, numbering}
 
 -- how a collector answers
 abbrev pub Collecting : List Entry → Trees → LeafCollector → LeafCollector → Seen Fault → Type 0
@@ -41,7 +41,7 @@ numbering-bounds b ls bs (tree l c o) h = absurd h
 
 pub numbering-once : (b : Bool) (ls : List Label) (bs : List ℕ) (t s : Trees) → numbering b ls bs t ≡ again s → ⊥
 numbering-once b ls bs none s e = cc
-numbering-once b ls bs (tree l c o) s e = by (is_some (open_kinds b l)) (is_type_label l && is_closed b (tree l c none)) _ _ e
+numbering-once b ls bs (tree l c o) s e = by (is_some (open_kinds b l)) (is_type_label l && is_closed_by b (tree l c none)) _ _ e
   where
     by : (x y : Bool) (t u : Trees) → (if x then puts t else (if y then puts u else enters)) ≡ again s → ⊥
     by true y t u e = cc

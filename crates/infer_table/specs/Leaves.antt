@@ -82,11 +82,11 @@ abbrev pub are_closed_flags : Bool → ℕ → Bool
 are_closed_flags b f = bit_and f (open_flags b) == 0
 
 -- nothing open stands in the trees
-abbrev pub is_closed : Bool → Trees → Bool
-is_closed b t = are_closed_flags b (flags t)
+abbrev pub is_closed_by : Bool → Trees → Bool
+is_closed_by b t = are_closed_flags b (flags t)
 
 abbrev pub is_closed_goal : GoalTrees → Bool
-is_closed_goal g = is_closed true g.environment && is_closed false g.predicate
+is_closed_goal g = is_closed_by true g.environment && is_closed_by false g.predicate
 
 -- the label of a type
 abbrev pub is_type_label : Label → Bool
@@ -100,4 +100,4 @@ abbrev pub numbering : Bool → List Label → List ℕ → Trees → Does
 numbering b ls bs none = enters
 numbering b ls bs (tree l c o) =
     if is_some (open_kinds b l) then puts (tree (canonical_label ls l) (relabeled (open_kinds b) (canonical_label ls) c) none)
-    else (if is_type_label l && is_closed b (tree l c none) then puts (tree l c none) else enters)
+    else (if is_type_label l && is_closed_by b (tree l c none) then puts (tree l c none) else enters)

@@ -1,4 +1,4 @@
--- A binder opened: variables in the place of the lifetimes that it binds.
+-- A binder opened_binder: variables in the place of the lifetimes that it binds.
 -- `for<'a> fn(&'a u8, for<'b> fn(&'a u8, &'b u8))` opens to `fn(&'?0 u8, for<'b> fn(&'?0 u8, &'b u8))`.
 use Rattle.std.specs.Prelude.{◌≡◌, ℕ, ◌+◌, List, length, cond, ltb, ◌&&◌, ◌==◌, Bool, true, false, refl}
 use Rattle.std.proofs.Common.{ap}
@@ -8,7 +8,7 @@ use Rattle.type_terms.specs.Trees.{outer_binder}
 use Rattle.term_folds.specs.Folds.{Does, enters, puts, again}
 use Rattle.type_terms.specs.Visits.{IsBound}
 
--- lifetime v of the k-th binder around it is one of the n that the opened binder binds, where d binders are inside that one
+-- lifetime v of the k-th binder around it is one of the n that the opened_binder binder binds, where d binders are inside that one
 abbrev pub is_opened : ℕ → ℕ → ℕ → ℕ → Bool
 is_opened n d k v = (k == d) && ltb v n
 
@@ -17,10 +17,10 @@ abbrev pub opened_label : ℕ → ℕ → ℕ → ℕ → ℕ → Label
 opened_label first n d k v = cond (is_opened n d k v) (infer of_lifetime (first + v)) (bound of_lifetime k v)
 
 -- the value of a binder of n lifetimes with the variables from `first` on in their place, below d binders of the value
-abbrev pub opened : ℕ → ℕ → ℕ → Trees → Trees
-opened first n d none = none
-opened first n d (tree (bound of_lifetime k v) none o) = tree (opened_label first n d k v) none (opened first n d o)
-opened first n d (tree l c o) = tree l (opened first n (inside l d) c) (opened first n d o)
+abbrev pub opened_binder : ℕ → ℕ → ℕ → Trees → Trees
+opened_binder first n d none = none
+opened_binder first n d (tree (bound of_lifetime k v) none o) = tree (opened_label first n d k v) none (opened_binder first n d o)
+opened_binder first n d (tree l c o) = tree l (opened_binder first n (inside l d) c) (opened_binder first n d o)
 
 -- what the folder does: a type that no binder number leads out of stays
 abbrev pub opening : ℕ → ℕ → List ℕ → Trees → Does

@@ -7,13 +7,13 @@ use Rattle.type_terms.specs.Trees.{flags}
 use Rattle.term_folds.specs.Folds.{Does, enters, puts, again}
 use Rattle.type_terms.specs.Visits.{IsBound}
 use Rattle.type_terms.specs.Promised.Handles.{Entry, Keeps}
-use Rattle.infer_table.specs.Solutions.{Binding, is_variable, resolved, size}
+use Rattle.infer_table.specs.Solutions.{Binding, is_same_variable, resolved, size}
 use Rattle.infer_table.specs.Content.{Table, content, Ready}
 use Rattle.infer_table.specs.Kept.{content-kept, ready-later}
 
 -- the tree is the binding's variable
 abbrev pub is_root : Binding → Trees → Bool
-is_root b (tree (infer k v) none none) = is_variable b.sort b.var k v
+is_root b (tree (infer k v) none none) = is_same_variable b.sort b.var k v
 is_root b t = false
 
 -- a variable with a value, followed as far as values are variables with values; any other term is itself
@@ -22,9 +22,9 @@ followed [] t = t
 followed (b ∷ older) t = if is_root b (followed older t) then followed older b.value else followed older t
 
 -- a variable
-abbrev pub is_open : Trees → Bool
-is_open (tree (infer k v) c o) = true
-is_open t = false
+abbrev pub is_open_leaf : Trees → Bool
+is_open_leaf (tree (infer k v) c o) = true
+is_open_leaf t = false
 
 -- no variable stands in the term: none of its flags is in `HAS_INFER`
 abbrev pub has_no_unknown : Trees → Bool
@@ -36,7 +36,7 @@ resolves bs ds none = enters
 resolves bs ds (tree (principal n i) c o) = enters
 resolves bs ds (tree (auto_trait i) c o) = enters
 resolves bs ds (tree (infer of_lifetime v) c o) = puts (tree (infer of_lifetime v) c none)
-resolves bs ds (tree (infer k v) none o) = cond (is_open (followed bs (leaf (infer k v)))) (puts (resolved bs (leaf (infer k v)))) (again (followed bs (leaf (infer k v))))
+resolves bs ds (tree (infer k v) none o) = cond (is_open_leaf (followed bs (leaf (infer k v)))) (puts (resolved bs (leaf (infer k v)))) (again (followed bs (leaf (infer k v))))
 resolves bs ds (tree (infer k v) c o) = puts (resolved bs (tree (infer k v) c none))
 resolves bs ds (tree l c o) = cond (is_sort (sort_of l) of_type) (cond (has_no_unknown (tree l c none)) (puts (tree l c none)) enters) enters
 

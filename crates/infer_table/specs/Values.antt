@@ -42,12 +42,12 @@ value_for vs (canonical s i) = if_of_sort s (slice_get vs i)
 value_for vs l = None
 
 -- the trees with the values in the place of canonical variables; one without a value stays
-abbrev pub filled : List Value → Trees → Trees
-filled vs none = none
-filled vs (tree l c o) = placed (value_for vs l) (tree l (filled vs c) none) +++ filled vs o
+abbrev pub filled_values : List Value → Trees → Trees
+filled_values vs none = none
+filled_values vs (tree l c o) = placed (value_for vs l) (tree l (filled_values vs c) none) +++ filled_values vs o
 
 abbrev pub goal_filled : List Value → GoalTrees → GoalTrees
-goal_filled vs g = record { environment = filled vs g.environment; predicate = filled vs g.predicate }
+goal_filled vs g = record { environment = filled_values vs g.environment; predicate = filled_values vs g.predicate }
 
 -- ---- what the folder does
 abbrev pub put_if_there : Option Trees → Does

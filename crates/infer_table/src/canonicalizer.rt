@@ -6,7 +6,7 @@ ghost use Rattle.type_terms.specs.Promised.Trees.{sort_of};
 ghost use Rattle.type_terms.specs.Promised.Handles.{Has, types, consts, trees_at};
 ghost use Rattle.type_terms.specs.Promised.Handles.{region_label};
 ghost use Rattle.infer_table.specs.Canonical.{place_of};
-ghost use Rattle.infer_table.specs.Leaves.{open_kinds, AreLeaves, labels, leaf_label, are_closed_flags, is_closed, is_type_label, IsLeaf, Adds};
+ghost use Rattle.infer_table.specs.Leaves.{open_kinds, AreLeaves, labels, leaf_label, are_closed_flags, is_closed_by, is_type_label, IsLeaf, Adds};
 
 use indexmap::IndexSet;
 use std::alloc::Global;

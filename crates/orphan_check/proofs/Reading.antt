@@ -4,11 +4,11 @@ use Rattle.type_terms.specs.Promised.Label.{Label, Sort, of_type, of_const, of_l
 use Rattle.type_terms.specs.Promised.Trees.{Trees, none, tree, ◌+++◌, is_sort, sort_of}
 use Rattle.type_terms.specs.Trees.{Single}
 use Rattle.type_terms.specs.Promised.Worlds.{World}
-use Rattle.infer_table.specs.Solutions.{Binding, resolved, is_variable, value_in, Acyclic, HasValues, AllValued}
+use Rattle.infer_table.specs.Solutions.{Binding, resolved, is_same_variable, value_in, Acyclic, HasValues, AllValued}
 use Rattle.infer_table.proofs.ContentFacts.{AllSorted}
 use Rattle.type_terms.specs.Promised.Walks.{trait_is, is_home}
 use Rattle.infer_table.specs.Content.{IsUnbound}
-use Rattle.infer_table.specs.Resolving.{followed, is_open}
+use Rattle.infer_table.specs.Resolving.{followed, is_open_leaf}
 use Rattle.infer_table.specs.Unification.{term_sort}
 use Rattle.infer_table.specs.WellFormed.{is_numbered}
 use Rattle.infer_table.proofs.SolutionLaws.{resolved-append, resolved-none, resolved-rigid, unbound-stays}
@@ -93,7 +93,7 @@ module _ (bs : List Binding) (valued : AllValued bs) (acyclic : Acyclic bs) (sor
   lifetime-stays [] h v = refl
   lifetime-stays (b ∷ older) h v = by b.sort h.0 (lifetime-stays older h.1 v)
     where
-      by : (k : Sort) → HasValues k → value_in older of_lifetime v ≡ None → (if is_variable k b.var of_lifetime v then Some b.value else value_in older of_lifetime v) ≡ None
+      by : (k : Sort) → HasValues k → value_in older of_lifetime v ≡ None → (if is_same_variable k b.var of_lifetime v then Some b.value else value_in older of_lifetime v) ≡ None
       by of_type h e = e
       by of_const h e = e
       by of_lifetime h e = absurd h
@@ -139,7 +139,7 @@ module _ (bs : List Binding) (valued : AllValued bs) (acyclic : Acyclic bs) (sor
 -- ---- the steps
 module _ {E : Type 0} (r : Reading E) (same : (t : Trees) → r.answers t ≡ Ok t) (valued : AllValued r.values) (acyclic : Acyclic r.values) (sorted : AllSorted r.values) (terms : AllTrees is_numbered r.values) where
   pub read-is : (t : Trees) → read r t ≡ Ok (followed r.values t)
-  read-is t = ap (settled (followed r.values t)) (same (followed r.values t)) ∙ either-same (is_open (followed r.values t)) (Ok (followed r.values t))
+  read-is t = ap (settled (followed r.values t)) (same (followed r.values t)) ∙ either-same (is_open_leaf (followed r.values t)) (Ok (followed r.values t))
 
   by-look : (k : Look) (u w : Trees) (first : Bool) (inner : List (Step E)) (is : List WalkItem) → resolved r.values u ≡ w → (k ≡ passage → shown r inner ≡ is) → shown r (step_of k u first inner) ≡ item_of k w first is
   by-look local_type u w first inner is e h = ap (λ z. local_item z ∷ []) e

@@ -7,7 +7,7 @@ use Rattle.type_terms.specs.Promised.Handles.{Entry}
 use Rattle.declarations.specs.Items.{Items, declared}
 use Rattle.infer_table.specs.Solutions.{Binding}
 use Rattle.infer_table.specs.Content.{Table, content}
-use Rattle.infer_table.specs.Resolving.{followed, is_open}
+use Rattle.infer_table.specs.Resolving.{followed, is_open_leaf}
 use Rattle.orphan_check.specs.declared.errors.InCrate.{InCrate}
 use Rattle.orphan_check.specs.declared.errors.InCrate.TheVariants.{Local, Remote}
 use Rattle.type_terms.specs.Promised.OrphanErrors.{Look, local_type, open_type, leaf_type, passage, look}
@@ -38,7 +38,7 @@ pub data Step (E : Type 0) : Type 0 where
 
 -- A type is read as the normalizer answers it, or as it is where that is a variable.
 abbrev pub settled : {E : Type 0} → Trees → Result Trees E → Result Trees E
-settled t (Ok u) = if is_open u then Ok t else Ok u
+settled t (Ok u) = if is_open_leaf u then Ok t else Ok u
 settled t (Err e) = Err e
 
 -- The normalizer is handed the type with the value of a variable in its place.

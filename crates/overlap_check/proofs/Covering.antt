@@ -11,7 +11,7 @@ use Rattle.type_terms.specs.Promised.Answers.{is_open, is_closed}
 use Rattle.type_terms.proofs.Fitting.{next-shut, head-shut}
 use Rattle.type_terms.proofs.Walking.{or-left, or-right, or-cases}
 use Rattle.type_terms.proofs.Members.{same-number, self-number}
-use Rattle.infer_table.specs.Solutions.{Assignment, instance, tree_of, IsSorted, HasValues, occurs, is_variable as is_unknown}
+use Rattle.infer_table.specs.Solutions.{Assignment, instance, tree_of, IsSorted, HasValues, occurs, is_same_variable as is_unknown}
 use Rattle.infer_table.specs.Content.{Table, variables_of, IsProper}
 use Rattle.infer_table.proofs.SolutionLaws.{is_variable-self}
 use Rattle.term_folds.specs.Arguments.{sort_at}

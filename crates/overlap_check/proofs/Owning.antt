@@ -5,9 +5,9 @@ use Rattle.std.proofs.lemmas.Bool.Decides.{nat_tests}
 use Rattle.type_terms.specs.Promised.Label.{Label, Sort, of_type, of_const, of_lifetime, infer, canonical, bound, fn_ptr, dynamic, principal, auto_trait, predicate, inside}
 use Rattle.type_terms.specs.Promised.Trees.{Trees, none, tree, ◌+++◌, is_sort}
 use Rattle.type_terms.specs.Codes.{same}
-use Rattle.infer_table.specs.Solutions.{Binding, is_variable, replace, resolved, occurs}
+use Rattle.infer_table.specs.Solutions.{Binding, is_same_variable, replace, resolved, occurs}
 use Rattle.infer_table.specs.Resolving.{followed, is_root}
-use Rattle.infer_table.specs.Opened.{is_opened, opened_label, opened}
+use Rattle.infer_table.specs.Opened.{is_opened, opened_label, opened_binder}
 use Rattle.infer_table.specs.Equations.{unbound_in}
 use Rattle.infer_table.specs.Unification.{TableTrees, with_binding, with_equal, with_regions, term_sort, variable_at, head_of, object_parts, parts_of, binds, Worklist, pairs, Outcome, refused, onward, bound_to, in_pairs, by_parts, by_variables, by_sort, compared, step, load, Solver, after, steps, rounds, unified}
 use Rattle.infer_table.specs.Applied.{solved_in_turn}
@@ -67,7 +67,7 @@ own-append n (tree l c o) y h g = (h.0, h.1, own-append n o y h.2 g)
 
 own-replace : (n : Sort → ℕ) (k : Sort) (v : ℕ) (r t : Trees) → AreOwn n r → AreOwn n t → AreOwn n (replace k v r t)
 own-replace n k v r none p q = tt
-own-replace n k v r (tree (infer j w) c o) p q = by (is_variable j w k v) (own-replace n k v r o p q.2)
+own-replace n k v r (tree (infer j w) c o) p q = by (is_same_variable j w k v) (own-replace n k v r o p q.2)
   where
     by : (b : Bool) → AreOwn n (replace k v r o) → AreOwn n (if b then r +++ replace k v r o else tree (infer j w) c (replace k v r o))
     by true h = own-append n r (replace k v r o) p h
@@ -97,7 +97,7 @@ own-label n first m d k v le = by (is_opened m d k v) refl
     by true e = let low : v < m = test-below v m (and-right (k == d) (ltb v m) e) in omega (arith, le, low)
     by false e = tt
 
-own-opened : (n : Sort → ℕ) (first m : ℕ) → first + m ≤ n of_lifetime → (d : ℕ) (t : Trees) → AreOwn n t → AreOwn n (opened first m d t)
+own-opened : (n : Sort → ℕ) (first m : ℕ) → first + m ≤ n of_lifetime → (d : ℕ) (t : Trees) → AreOwn n t → AreOwn n (opened_binder first m d t)
 own-opened n first m le d none h = tt
 own-opened n first m le d (tree (bound of_lifetime k v) none o) h = (own-label n first m d k v le, tt, own-opened n first m le d o h.2)
 own-opened n first m le d (tree l c o) h = (h.0, own-opened n first m le (inside l d) c h.1, own-opened n first m le d o h.2)
@@ -112,7 +112,7 @@ module _ (good : Label → Bool) (opens : (v : ℕ) → good (infer of_lifetime 
 
   own-object : (n : Sort → ℕ) (first : ℕ) (c x : Trees) → AreTrees good in_object c → first + binds (tree dynamic c x) ≤ n of_lifetime → AreOwn n c → AreOwn n (object_parts first c)
   own-object n first none x h le q = absurd h
-  own-object n first (tree (principal m t) c o) x h le q = own-append n (opened first m 0 c) (object_parts first o) (own-opened n first m le 0 c q.1) (own-autos n first o h.1 q.2)
+  own-object n first (tree (principal m t) c o) x h le q = own-append n (opened_binder first m 0 c) (object_parts first o) (own-opened n first m le 0 c q.1) (own-autos n first o h.1 q.2)
   own-object n first (tree (auto_trait i) none o) x h le q = own-autos n first o h q.2
   own-object n first (tree l none none) x h le q = q
   own-object n first (tree l c o) x h le q = absurd h

@@ -15,7 +15,7 @@ use Rattle.infer_table.specs.Content.{Table, content, variables_of}
 use Rattle.infer_table.specs.Growth.{counts-kept}
 use Rattle.infer_table.specs.Covers.{AreKnown, IsOfKnown}
 use Rattle.infer_table.specs.Kept.{content-kept}
-use Rattle.infer_table.specs.Solutions.{occurs, is_variable as is_unknown, resolved}
+use Rattle.infer_table.specs.Solutions.{occurs, is_same_variable as is_unknown, resolved}
 use Rattle.infer_table.specs.Unification.{table_trees}
 use Rattle.infer_table.specs.WellFormed.{is_numbered}
 use Rattle.infer_table.proofs.ContentFacts.{is-trees}

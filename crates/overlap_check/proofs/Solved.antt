@@ -5,7 +5,7 @@ use Rattle.type_terms.specs.Promised.Trees.{Trees, none, tree, sort_of, erase, n
 use Rattle.type_terms.proofs.Walking.{or-cases}
 use Rattle.type_terms.proofs.Members.{so-false}
 use Rattle.type_terms.proofs.Fitting.{or-no as or-both}
-use Rattle.infer_table.specs.Solutions.{Assignment, Binding, instance, tree_of, IsSorted, HasValues, is_variable, occurs, resolved, value_in, Solves, Equates, IsCompletion}
+use Rattle.infer_table.specs.Solutions.{Assignment, Binding, instance, tree_of, IsSorted, HasValues, is_same_variable, occurs, resolved, value_in, Solves, Equates, IsCompletion}
 use Rattle.type_terms.specs.Promised.Handles.{Entry}
 use Rattle.infer_table.specs.Content.{Table, variables_of, content, Ready, IsProper}
 use Rattle.infer_table.proofs.ContentFacts.{valued}
@@ -32,10 +32,10 @@ below (tree l c o) = c
 
 -- ---- equal instances are by equal values of what stands there
 at-variable : (S R : Assignment) (j : Sort) (w : ℕ) (o : Trees) → tree_of (S j w) ≡ tree_of (R j w) → ((k : Sort) (v : ℕ) → HasValues k → occurs k v o ≡ true → tree_of (S k v) ≡ tree_of (R k v))
-    → (k : Sort) (v : ℕ) → HasValues k → is_variable j w k v || occurs k v o ≡ true → tree_of (S k v) ≡ tree_of (R k v)
-at-variable S R j w o e f k v h g = by (or-cases (is_variable j w k v) (occurs k v o) g)
+    → (k : Sort) (v : ℕ) → HasValues k → is_same_variable j w k v || occurs k v o ≡ true → tree_of (S k v) ≡ tree_of (R k v)
+at-variable S R j w o e f k v h g = by (or-cases (is_same_variable j w k v) (occurs k v o) g)
   where
-    by : (is_variable j w k v ≡ true) ⊎ (occurs k v o ≡ true) → tree_of (S k v) ≡ tree_of (R k v)
+    by : (is_same_variable j w k v ≡ true) ⊎ (occurs k v o ≡ true) → tree_of (S k v) ≡ tree_of (R k v)
     by (inl p) = let same = is_variable-equal j k w v p in subst (λ (x : Sort). tree_of (S x v) ≡ tree_of (R x v)) same.0 (subst (λ (n : ℕ). tree_of (S j n) ≡ tree_of (R j n)) same.1 e)
     by (inr p) = f k v h p
 
@@ -48,10 +48,10 @@ at-node S R c o e f k v h g = by (or-cases (occurs k v c) (occurs k v o) g)
     by (inr p) = f k v h p
 
 at-lifetime : (S R : Assignment) (w : ℕ) (o : Trees) → ((k : Sort) (v : ℕ) → HasValues k → occurs k v o ≡ true → tree_of (S k v) ≡ tree_of (R k v))
-    → (k : Sort) (v : ℕ) → HasValues k → is_variable of_lifetime w k v || occurs k v o ≡ true → tree_of (S k v) ≡ tree_of (R k v)
-at-lifetime S R w o f k v h g = by (or-cases (is_variable of_lifetime w k v) (occurs k v o) g)
+    → (k : Sort) (v : ℕ) → HasValues k → is_same_variable of_lifetime w k v || occurs k v o ≡ true → tree_of (S k v) ≡ tree_of (R k v)
+at-lifetime S R w o f k v h g = by (or-cases (is_same_variable of_lifetime w k v) (occurs k v o) g)
   where
-    by : (is_variable of_lifetime w k v ≡ true) ⊎ (occurs k v o ≡ true) → tree_of (S k v) ≡ tree_of (R k v)
+    by : (is_same_variable of_lifetime w k v ≡ true) ⊎ (occurs k v o ≡ true) → tree_of (S k v) ≡ tree_of (R k v)
     by (inl p) = absurd (subst HasValues (sym (is_variable-equal of_lifetime k w v p).0) h)
     by (inr p) = f k v h p
 
@@ -64,35 +64,35 @@ same-values S R (tree l c o) e = at-node S R c o (same-values S R c (ap below e)
 
 -- ---- one value changed
 abbrev pub changed : Assignment → Sort → ℕ → Label × Trees → Assignment
-changed S k v n j w = if is_variable k v j w then n else S j w
+changed S k v n j w = if is_same_variable k v j w then n else S j w
 
 changed-sorted : (S : Assignment) (k : Sort) (v : ℕ) (n : Label × Trees) → IsSorted S → sort_of n.0 ≡ k → IsSorted (changed S k v n)
-changed-sorted S k v n h e = λ j w. by j w (is_variable k v j w) refl
+changed-sorted S k v n h e = λ j w. by j w (is_same_variable k v j w) refl
   where
-    by : (j : Sort) (w : ℕ) (b : Bool) → is_variable k v j w ≡ b → sort_of (if b then n else S j w).0 ≡ j
+    by : (j : Sort) (w : ℕ) (b : Bool) → is_same_variable k v j w ≡ b → sort_of (if b then n else S j w).0 ≡ j
     by j w true p = e ∙ (is_variable-equal k j v w p).0
     by j w false p = h j w
 
 -- the test is the same from both sides
-flipped : (j k : Sort) (w v : ℕ) → is_variable j w k v ≡ false → is_variable k v j w ≡ false
-flipped j k w v h = so-false (is_variable k v j w) (λ p. let same = is_variable-equal k j v w p in clash j k w v same.0 same.1 h)
+flipped : (j k : Sort) (w v : ℕ) → is_same_variable j w k v ≡ false → is_same_variable k v j w ≡ false
+flipped j k w v h = so-false (is_same_variable k v j w) (λ p. let same = is_variable-equal k j v w p in clash j k w v same.0 same.1 h)
   where
-    clash : (j k : Sort) (w v : ℕ) → k ≡ j → v ≡ w → is_variable j w k v ≡ false → ⊥
-    clash j k w v p q h = let s : is_variable j w j w ≡ false = subst (λ (x : Sort). is_variable j w x w ≡ false) p (subst (λ (n : ℕ). is_variable j w k n ≡ false) q h) in let t = is_variable-self j w in cc
+    clash : (j k : Sort) (w v : ℕ) → k ≡ j → v ≡ w → is_same_variable j w k v ≡ false → ⊥
+    clash j k w v p q h = let s : is_same_variable j w j w ≡ false = subst (λ (x : Sort). is_same_variable j w x w ≡ false) p (subst (λ (n : ℕ). is_same_variable j w k n ≡ false) q h) in let t = is_variable-self j w in cc
 
-changed-other : (S : Assignment) (j k : Sort) (w v : ℕ) (n : Label × Trees) → is_variable j w k v ≡ false → changed S k v n j w ≡ S j w
+changed-other : (S : Assignment) (j k : Sort) (w v : ℕ) (n : Label × Trees) → is_same_variable j w k v ≡ false → changed S k v n j w ≡ S j w
 changed-other S j k w v n h = ap (λ b. if b then n else S j w) (flipped j k w v h)
 
 pub unchanged : (S : Assignment) (k : Sort) (v : ℕ) (n : Label × Trees) (t : Trees) → IsProper t → occurs k v t ≡ false → instance (changed S k v n) t ≡ instance S t
 unchanged S k v n none p h = refl
 unchanged S k v n (tree (infer of_type w) c o) p h =
-    let e = changed-other S of_type k w v n (or-left (is_variable of_type w k v) (occurs k v o) h) in
-    node (ap (λ (q : Label × Trees). q.0) e) (ap (λ (q : Label × Trees). q.1) e) (unchanged S k v n o p.1 (or-right (is_variable of_type w k v) (occurs k v o) h))
+    let e = changed-other S of_type k w v n (or-left (is_same_variable of_type w k v) (occurs k v o) h) in
+    node (ap (λ (q : Label × Trees). q.0) e) (ap (λ (q : Label × Trees). q.1) e) (unchanged S k v n o p.1 (or-right (is_same_variable of_type w k v) (occurs k v o) h))
 unchanged S k v n (tree (infer of_const w) c o) p h =
-    let e = changed-other S of_const k w v n (or-left (is_variable of_const w k v) (occurs k v o) h) in
-    node (ap (λ (q : Label × Trees). q.0) e) (ap (λ (q : Label × Trees). q.1) e) (unchanged S k v n o p.1 (or-right (is_variable of_const w k v) (occurs k v o) h))
+    let e = changed-other S of_const k w v n (or-left (is_same_variable of_const w k v) (occurs k v o) h) in
+    node (ap (λ (q : Label × Trees). q.0) e) (ap (λ (q : Label × Trees). q.1) e) (unchanged S k v n o p.1 (or-right (is_same_variable of_const w k v) (occurs k v o) h))
 unchanged S k v n (tree (infer of_lifetime w) c o) p h =
-    node refl (ap (instance (changed S k v n)) p.0 ∙ sym (ap (instance S) p.0)) (unchanged S k v n o p.1 (or-right (is_variable of_lifetime w k v) (occurs k v o) h))
+    node refl (ap (instance (changed S k v n)) p.0 ∙ sym (ap (instance S) p.0)) (unchanged S k v n o p.1 (or-right (is_same_variable of_lifetime w k v) (occurs k v o) h))
 unchanged S k v n (tree l c o) p h = node refl (unchanged S k v n c p.0 (or-left (occurs k v c) (occurs k v o) h)) (unchanged S k v n o p.1 (or-right (occurs k v c) (occurs k v o) h))
 
 -- ---- what stands in an impl's terms with unknowns put in
@@ -107,8 +107,8 @@ proper-put t ks d (tree (param s i) c o) h = proper-joined (shift zero d (nth (f
 proper-put t ks d (tree (infer k v) c o) h = (ap (instantiate d (fresh_unknowns t ks)) h.1, proper-put t ks d o h.2)
 proper-put t ks d (tree l c o) h = (proper-put t ks (inside l d) c h.1, proper-put t ks d o h.2)
 
-younger : (t : Table) (j : Sort) (ks : List Sort) (k : Sort) (v : ℕ) → variables_of (with_unknowns (with_unknown t j) ks) k ≤ v → is_variable j (variables_of t j) k v ≡ false
-younger t j ks k v h = so-false (is_variable j (variables_of t j) k v) (λ p.
+younger : (t : Table) (j : Sort) (ks : List Sort) (k : Sort) (v : ℕ) → variables_of (with_unknowns (with_unknown t j) ks) k ≤ v → is_same_variable j (variables_of t j) k v ≡ false
+younger t j ks k v h = so-false (is_same_variable j (variables_of t j) k v) (λ p.
     let same = is_variable-equal j k (variables_of t j) v p in
     let n : variables_of t k ≡ v = subst (λ (x : Sort). variables_of t x ≡ v) same.0 same.1 in
     let o = one-more t k in
@@ -118,10 +118,10 @@ younger t j ks k v h = so-false (is_variable j (variables_of t j) k v) (λ p.
 
 below-unknown : (t : Table) (ks : List Sort) (d i : ℕ) (k : Sort) (v : ℕ) → variables_of (with_unknowns t ks) k ≤ v → occurs k v (shift zero d (nth (fresh_unknowns t ks) i)) ≡ false
 below-unknown t [] d i k v h = refl
-below-unknown t (j ∷ ks) d zero k v h = or-both (is_variable j (variables_of t j) k v) false (younger t j ks k v h) refl
+below-unknown t (j ∷ ks) d zero k v h = or-both (is_same_variable j (variables_of t j) k v) false (younger t j ks k v h) refl
 below-unknown t (j ∷ ks) d (suc i) k v h = below-unknown (with_unknown t j) ks d i k v h
 
-lifetime-apart : (w : ℕ) (k : Sort) (v : ℕ) → HasValues k → is_variable of_lifetime w k v ≡ false
+lifetime-apart : (w : ℕ) (k : Sort) (v : ℕ) → HasValues k → is_same_variable of_lifetime w k v ≡ false
 lifetime-apart w of_type v h = refl
 lifetime-apart w of_const v h = refl
 lifetime-apart w of_lifetime v h = absurd h
@@ -134,7 +134,7 @@ below-put t ks d (tree (param s i) c o) h k v g le =
     let z = instantiate d (fresh_unknowns t ks) o in
     occurs-append k v y z ∙ or-both (occurs k v y) (occurs k v z) (below-unknown t ks d i k v le) (below-put t ks d o h.2 k v g le)
 below-put t ks d (tree (infer of_lifetime w) c o) h k v g le =
-    or-both (is_variable of_lifetime w k v) (occurs k v (instantiate d (fresh_unknowns t ks) o)) (lifetime-apart w k v g) (below-put t ks d o h.2 k v g le)
+    or-both (is_same_variable of_lifetime w k v) (occurs k v (instantiate d (fresh_unknowns t ks) o)) (lifetime-apart w k v g) (below-put t ks d o h.2 k v g le)
 below-put t ks d (tree (infer of_type w) c o) h k v g le = absurd (no-type h.0)
 below-put t ks d (tree (infer of_const w) c o) h k v g le = absurd (no-const h.0)
 below-put t ks d (tree l c o) h k v g le =
@@ -240,15 +240,15 @@ module _ (a b : Trees) (bs : List Binding) (equates : Equates [] bs a b) (facts 
 -- ---- without unknowns an instance is the term itself
 pub plain-instance : (S : Assignment) (t : Trees) → IsProper t → ((k : Sort) (v : ℕ) → HasValues k → occurs k v t ≡ false) → instance S t ≡ erase t
 plain-instance S none p h = refl
-plain-instance S (tree (infer of_type w) c o) p h = absurd (let n = or-left (is_variable of_type w of_type w) (occurs of_type w o) (h of_type w tt) in let y = is_variable-self of_type w in clash n y)
+plain-instance S (tree (infer of_type w) c o) p h = absurd (let n = or-left (is_same_variable of_type w of_type w) (occurs of_type w o) (h of_type w tt) in let y = is_variable-self of_type w in clash n y)
   where
-    clash : is_variable of_type w of_type w ≡ false → is_variable of_type w of_type w ≡ true → ⊥
+    clash : is_same_variable of_type w of_type w ≡ false → is_same_variable of_type w of_type w ≡ true → ⊥
     clash n y = cc
-plain-instance S (tree (infer of_const w) c o) p h = absurd (let n = or-left (is_variable of_const w of_const w) (occurs of_const w o) (h of_const w tt) in let y = is_variable-self of_const w in clash n y)
+plain-instance S (tree (infer of_const w) c o) p h = absurd (let n = or-left (is_same_variable of_const w of_const w) (occurs of_const w o) (h of_const w tt) in let y = is_variable-self of_const w in clash n y)
   where
-    clash : is_variable of_const w of_const w ≡ false → is_variable of_const w of_const w ≡ true → ⊥
+    clash : is_same_variable of_const w of_const w ≡ false → is_same_variable of_const w of_const w ≡ true → ⊥
     clash n y = cc
 plain-instance S (tree (infer of_lifetime w) c o) p h =
-    node refl (ap (instance S) p.0 ∙ sym (ap erase p.0)) (plain-instance S o p.1 (λ k v g. or-right (is_variable of_lifetime w k v) (occurs k v o) (h k v g)))
+    node refl (ap (instance S) p.0 ∙ sym (ap erase p.0)) (plain-instance S o p.1 (λ k v g. or-right (is_same_variable of_lifetime w k v) (occurs k v o) (h k v g)))
 plain-instance S (tree l c o) p h =
     node refl (plain-instance S c p.0 (λ k v g. or-left (occurs k v c) (occurs k v o) (h k v g))) (plain-instance S o p.1 (λ k v g. or-right (occurs k v c) (occurs k v o) (h k v g)))

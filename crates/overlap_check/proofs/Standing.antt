@@ -4,7 +4,7 @@ use Rattle.type_terms.specs.Promised.Label.{Label, Sort, of_type, of_const, of_l
 use Rattle.type_terms.specs.Promised.Trees.{Trees, none, tree, leaf, nth, shift, sort_of, IsA, is_sort}
 use Rattle.type_terms.specs.Trees.{is_a, is_no_tree}
 use Rattle.type_terms.proofs.Walking.{left}
-use Rattle.infer_table.specs.Solutions.{Assignment, instance, tree_of, is_variable, IsSorted, HasValues}
+use Rattle.infer_table.specs.Solutions.{Assignment, instance, tree_of, is_same_variable, IsSorted, HasValues}
 use Rattle.infer_table.specs.Content.{Table, variables_of}
 use Rattle.infer_table.proofs.SolutionLaws.{is_sort-equal, is_variable-self, is_variable-equal}
 use Rattle.term_folds.specs.Arguments.{sort_at}
@@ -86,11 +86,11 @@ nth-rest (tree l c o) i = refl
 -- the trees of A for the unknowns of these sorts that the table would have next, and for others what s gives
 abbrev pub assigned : Table → List Sort → Trees → Assignment → Assignment
 assigned t [] A s k v = s k v
-assigned t (j ∷ ks) A s k v = if is_variable j (variables_of t j) k v then own k (nth A zero) else assigned (with_unknown t j) ks (rest_of A) s k v
+assigned t (j ∷ ks) A s k v = if is_same_variable j (variables_of t j) k v then own k (nth A zero) else assigned (with_unknown t j) ks (rest_of A) s k v
 
 pub assigned-sorted : (t : Table) (ks : List Sort) (A : Trees) (s : Assignment) → IsSorted s → IsSorted (assigned t ks A s)
 assigned-sorted t [] A s h = h
-assigned-sorted t (j ∷ ks) A s h = λ k v. by k v (is_variable j (variables_of t j) k v) (assigned-sorted (with_unknown t j) ks (rest_of A) s h k v)
+assigned-sorted t (j ∷ ks) A s h = λ k v. by k v (is_same_variable j (variables_of t j) k v) (assigned-sorted (with_unknown t j) ks (rest_of A) s h k v)
   where
     by : (k : Sort) (v : ℕ) (b : Bool) → sort_of (assigned (with_unknown t j) ks (rest_of A) s k v).0 ≡ k
         → sort_of (if b then own k (nth A zero) else assigned (with_unknown t j) ks (rest_of A) s k v).0 ≡ k
@@ -101,9 +101,9 @@ assigned-sorted t (j ∷ ks) A s h = λ k v. by k v (is_variable j (variables_of
 pub assigned-older : (t : Table) (ks : List Sort) (A : Trees) (s : Assignment) (k : Sort) (v : ℕ) → v < variables_of t k → assigned t ks A s k v ≡ s k v
 assigned-older t [] A s k v h = refl
 assigned-older t (j ∷ ks) A s k v h =
-    by (is_variable j (variables_of t j) k v) refl (assigned-older (with_unknown t j) ks (rest_of A) s k v (let n = no-fewer t j k in omega (arith, n, h)))
+    by (is_same_variable j (variables_of t j) k v) refl (assigned-older (with_unknown t j) ks (rest_of A) s k v (let n = no-fewer t j k in omega (arith, n, h)))
   where
-    by : (b : Bool) → is_variable j (variables_of t j) k v ≡ b → assigned (with_unknown t j) ks (rest_of A) s k v ≡ s k v
+    by : (b : Bool) → is_same_variable j (variables_of t j) k v ≡ b → assigned (with_unknown t j) ks (rest_of A) s k v ≡ s k v
         → (if b then own k (nth A zero) else assigned (with_unknown t j) ks (rest_of A) s k v) ≡ s k v
     by true e q =
         let same = is_variable-equal j k (variables_of t j) v e in
@@ -114,9 +114,9 @@ assigned-older t (j ∷ ks) A s k v h =
 pub assigned-younger : (t : Table) (ks : List Sort) (A : Trees) (s : Assignment) (k : Sort) (v : ℕ) → variables_of (with_unknowns t ks) k ≤ v → assigned t ks A s k v ≡ s k v
 assigned-younger t [] A s k v h = refl
 assigned-younger t (j ∷ ks) A s k v h =
-    by (is_variable j (variables_of t j) k v) refl (assigned-younger (with_unknown t j) ks (rest_of A) s k v h)
+    by (is_same_variable j (variables_of t j) k v) refl (assigned-younger (with_unknown t j) ks (rest_of A) s k v h)
   where
-    by : (b : Bool) → is_variable j (variables_of t j) k v ≡ b → assigned (with_unknown t j) ks (rest_of A) s k v ≡ s k v
+    by : (b : Bool) → is_same_variable j (variables_of t j) k v ≡ b → assigned (with_unknown t j) ks (rest_of A) s k v ≡ s k v
         → (if b then own k (nth A zero) else assigned (with_unknown t j) ks (rest_of A) s k v) ≡ s k v
     by true e q =
         let same = is_variable-equal j k (variables_of t j) v e in
@@ -151,16 +151,16 @@ fresh-known S t [] A s h d i k v e a = absurd cc
 fresh-known S t (j ∷ ks) A s h d zero k v e a =
     let at : S k (variables_of t k) ≡ own k (nth A zero) =
     h k (variables_of t k) (omega arith)
-    ∙ ap (λ (x : Sort). if is_variable x (variables_of t x) k (variables_of t k) then own k (nth A zero) else assigned (with_unknown t x) ks (rest_of A) s k (variables_of t k)) (some-sort j k e)
+    ∙ ap (λ (x : Sort). if is_same_variable x (variables_of t x) k (variables_of t k) then own k (nth A zero) else assigned (with_unknown t x) ks (rest_of A) s k (variables_of t k)) (some-sort j k e)
     ∙ ap (λ b. if b then own k (nth A zero) else assigned (with_unknown t k) ks (rest_of A) s k (variables_of t k)) (is_variable-self k (variables_of t k)) in
     ap (λ (x : Sort). instance S (leaf (infer x (variables_of t x)))) (some-sort j k e) ∙ instance-unknown S k (variables_of t k) v ∙ ap tree_of at ∙ own-is k (nth A zero) v a
 fresh-known S t (j ∷ ks) A s h d (suc i) k v e a =
     fresh-known S (with_unknown t j) ks (rest_of A) s next d i k v e (subst (IsA k) (nth-rest A i) a) ∙ sym (nth-rest A i)
   where
     next : (x : Sort) (w : ℕ) → variables_of (with_unknown t j) x ≤ w → S x w ≡ assigned (with_unknown t j) ks (rest_of A) s x w
-    next x w le = h x w (let n = no-fewer t j x in omega (arith, n, le)) ∙ by (is_variable j (variables_of t j) x w) refl
+    next x w le = h x w (let n = no-fewer t j x in omega (arith, n, le)) ∙ by (is_same_variable j (variables_of t j) x w) refl
       where
-        by : (b : Bool) → is_variable j (variables_of t j) x w ≡ b
+        by : (b : Bool) → is_same_variable j (variables_of t j) x w ≡ b
             → (if b then own x (nth A zero) else assigned (with_unknown t j) ks (rest_of A) s x w) ≡ assigned (with_unknown t j) ks (rest_of A) s x w
         by true q =
             let same = is_variable-equal j x (variables_of t j) w q in

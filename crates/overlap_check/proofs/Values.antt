@@ -3,7 +3,7 @@ use Rattle.std.proofs.Common.{◌≡◌, ℕ, zero, suc, ◌+◌, arith, Bool, t
 use Rattle.std.specs.List.{slice_get}
 use Rattle.type_terms.specs.Promised.Label.{Label, Sort, of_type, of_const, of_lifetime, infer}
 use Rattle.type_terms.specs.Promised.Trees.{Trees, none, tree, erase}
-use Rattle.infer_table.specs.Solutions.{Assignment, Binding, Solves, instance, tree_of, IsSorted, HasValues, is_variable, occurs, resolved, value_in}
+use Rattle.infer_table.specs.Solutions.{Assignment, Binding, Solves, instance, tree_of, IsSorted, HasValues, is_same_variable, occurs, resolved, value_in}
 use Rattle.infer_table.specs.Content.{Table, IsProper}
 use Rattle.infer_table.proofs.SolutionLaws.{is_variable-self}
 use Rattle.type_terms.specs.Promised.Questions.{FitKinds, of_kind, filled}
@@ -22,13 +22,13 @@ first-true a b e = ap (λ x. x || b) e
 pub instance-agrees : (r s : Assignment) (x : Trees) → IsProper x → ((k : Sort) (v : ℕ) → HasValues k → occurs k v x ≡ true → r k v ≡ s k v) → instance r x ≡ instance s x
 instance-agrees r s none p h = refl
 instance-agrees r s (tree (infer of_type w) c o) p h =
-    let e : r of_type w ≡ s of_type w = h of_type w tt (first-true (is_variable of_type w of_type w) (occurs of_type w o) (is_variable-self of_type w)) in
-    node (ap (λ (q : Label × Trees). q.0) e) (ap (λ (q : Label × Trees). q.1) e) (instance-agrees r s o p.1 (λ k v g m. h k v g (later-true (is_variable of_type w k v) (occurs k v o) m)))
+    let e : r of_type w ≡ s of_type w = h of_type w tt (first-true (is_same_variable of_type w of_type w) (occurs of_type w o) (is_variable-self of_type w)) in
+    node (ap (λ (q : Label × Trees). q.0) e) (ap (λ (q : Label × Trees). q.1) e) (instance-agrees r s o p.1 (λ k v g m. h k v g (later-true (is_same_variable of_type w k v) (occurs k v o) m)))
 instance-agrees r s (tree (infer of_const w) c o) p h =
-    let e : r of_const w ≡ s of_const w = h of_const w tt (first-true (is_variable of_const w of_const w) (occurs of_const w o) (is_variable-self of_const w)) in
-    node (ap (λ (q : Label × Trees). q.0) e) (ap (λ (q : Label × Trees). q.1) e) (instance-agrees r s o p.1 (λ k v g m. h k v g (later-true (is_variable of_const w k v) (occurs k v o) m)))
+    let e : r of_const w ≡ s of_const w = h of_const w tt (first-true (is_same_variable of_const w of_const w) (occurs of_const w o) (is_variable-self of_const w)) in
+    node (ap (λ (q : Label × Trees). q.0) e) (ap (λ (q : Label × Trees). q.1) e) (instance-agrees r s o p.1 (λ k v g m. h k v g (later-true (is_same_variable of_const w k v) (occurs k v o) m)))
 instance-agrees r s (tree (infer of_lifetime w) c o) p h =
-    node refl (ap (instance r) p.0 ∙ sym (ap (instance s) p.0)) (instance-agrees r s o p.1 (λ k v g m. h k v g (later-true (is_variable of_lifetime w k v) (occurs k v o) m)))
+    node refl (ap (instance r) p.0 ∙ sym (ap (instance s) p.0)) (instance-agrees r s o p.1 (λ k v g m. h k v g (later-true (is_same_variable of_lifetime w k v) (occurs k v o) m)))
 instance-agrees r s (tree l c o) p h =
     node refl (instance-agrees r s c p.0 (λ k v g m. h k v g (first-true (occurs k v c) (occurs k v o) m))) (instance-agrees r s o p.1 (λ k v g m. h k v g (later-true (occurs k v c) (occurs k v o) m)))
 

@@ -3,7 +3,7 @@ use Rattle.std.proofs.Common.{◌≡◌, ℕ, zero, suc, ◌<◌, max, Bool, tru
 use Rattle.search_graph.specs.declared.path_kind.PathKind.{PathKind}
 use Rattle.search_graph.specs.declared.path_kind.PathKind.TheVariants.{Inductive, Unknown, Coinductive, ForcedAmbiguity}
 use Rattle.search_graph.specs.Laws.{IsAssociative}
-use Rattle.search_graph.specs.Path.{rank, is_coinductive, greater, after, flag_of}
+use Rattle.search_graph.specs.Path.{rank, is_coinductive_path, greater, after, flag_of}
 
 -- the kind at a place of the order
 abbrev kind_at : ℕ → PathKind
@@ -86,7 +86,7 @@ after-twice None j k = refl
 after-twice (Some i) j k = greater-associative i j k
 
 -- a coinductive step is one of two
-pub greater_passes : (j k : PathKind) (b : Bool) → b || is_coinductive (greater j k) ≡ true → (b || is_coinductive k) || is_coinductive j ≡ true
+pub greater_passes : (j k : PathKind) (b : Bool) → b || is_coinductive_path (greater j k) ≡ true → (b || is_coinductive_path k) || is_coinductive_path j ≡ true
 greater_passes j k true h = refl
 greater_passes Inductive Coinductive false h = refl
 greater_passes Inductive Inductive false h = h
@@ -100,10 +100,10 @@ greater_passes Coinductive Inductive false h = refl
 greater_passes Coinductive Unknown false h = refl
 greater_passes Coinductive Coinductive false h = refl
 greater_passes Coinductive ForcedAmbiguity false h = refl
-greater_passes ForcedAmbiguity k false h = elim k as (λ k. (false || is_coinductive k) || is_coinductive ForcedAmbiguity ≡ true) [ Inductive ↦ h | Unknown ↦ h | Coinductive ↦ refl | ForcedAmbiguity ↦ h ]
+greater_passes ForcedAmbiguity k false h = elim k as (λ k. (false || is_coinductive_path k) || is_coinductive_path ForcedAmbiguity ≡ true) [ Inductive ↦ h | Unknown ↦ h | Coinductive ↦ refl | ForcedAmbiguity ↦ h ]
 
 -- where neither hides a coinductive step, a coinductive one of two makes the greater coinductive
-pub greater_keeps : (j k : PathKind) (b : Bool) → (greater j k ≡ ForcedAmbiguity → ⊥) → (b || is_coinductive k) || is_coinductive j ≡ true → b || is_coinductive (greater j k) ≡ true
+pub greater_keeps : (j k : PathKind) (b : Bool) → (greater j k ≡ ForcedAmbiguity → ⊥) → (b || is_coinductive_path k) || is_coinductive_path j ≡ true → b || is_coinductive_path (greater j k) ≡ true
 greater_keeps j k true free h = refl
 greater_keeps Inductive Inductive false free h = h
 greater_keeps Inductive Unknown false free h = h

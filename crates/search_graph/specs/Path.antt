@@ -12,11 +12,11 @@ rank Coinductive = 2
 rank ForcedAmbiguity = 3
 
 -- whether a step is coinductive
-abbrev pub is_coinductive : PathKind → Bool
-is_coinductive Inductive = false
-is_coinductive Unknown = false
-is_coinductive Coinductive = true
-is_coinductive ForcedAmbiguity = false
+abbrev pub is_coinductive_path : PathKind → Bool
+is_coinductive_path Inductive = false
+is_coinductive_path Unknown = false
+is_coinductive_path Coinductive = true
+is_coinductive_path ForcedAmbiguity = false
 
 -- the greater of two kinds
 abbrev pub greater : PathKind → PathKind → PathKind

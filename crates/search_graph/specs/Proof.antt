@@ -1,7 +1,7 @@
 -- Proofs: finitely many goals, each derived by rules down to coinductive questions of goals among them.
 use Rattle.std.specs.Prelude.{◌≡◌, true, List, [], ◌∷◌, ◌⊎◌}
 use Rattle.search_graph.specs.declared.path_kind.PathKind.{PathKind}
-use Rattle.search_graph.specs.Path.{is_coinductive}
+use Rattle.search_graph.specs.Path.{is_coinductive_path}
 
 abbrev pub IsAmong : {G : Type 0} → G → List G → Type 0
 IsAmong g [] = ⊥
@@ -10,7 +10,7 @@ IsAmong g (h ∷ goals) = (g ≡ h) ⊎ IsAmong g goals
 -- the questions are derived by rules, down to coinductive questions of goals that are assumed
 pub data Derivation (G : Type 0) (Follows : G → List (G × PathKind) → Type 0) (assumed : List G) : List (G × PathKind) → Type 0 where
   end : Derivation G Follows assumed []
-  again : {rest : List (G × PathKind)} {g : G} {k : PathKind} → is_coinductive k ≡ true → IsAmong g assumed → Derivation G Follows assumed rest → Derivation G Follows assumed ((g, k) ∷ rest)
+  again : {rest : List (G × PathKind)} {g : G} {k : PathKind} → is_coinductive_path k ≡ true → IsAmong g assumed → Derivation G Follows assumed rest → Derivation G Follows assumed ((g, k) ∷ rest)
   by_rule : {rest premises : List (G × PathKind)} {g : G} {k : PathKind} → Follows g premises → Derivation G Follows assumed premises → Derivation G Follows assumed rest → Derivation G Follows assumed ((g, k) ∷ rest)
 
 -- some rule concludes the goal, and its premises are derived
@@ -18,7 +18,7 @@ abbrev pub IsDerived : (G : Type 0) → (G → List (G × PathKind) → Type 0) 
 IsDerived G Follows assumed g = (premises : List (G × PathKind)) × Follows g premises × Derivation G Follows assumed premises
 
 -- the goal has a proof
-pub record HasProof (G : Type 0) (Follows : G → List (G × PathKind) → Type 0) (g : G) : Type 0 where
+pub record HasGraphProof (G : Type 0) (Follows : G → List (G × PathKind) → Type 0) (g : G) : Type 0 where
   pub goals : List G
   pub among : IsAmong g goals
   pub derived : (h : G) → IsAmong h goals → IsDerived G Follows goals h

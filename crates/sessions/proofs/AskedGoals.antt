@@ -15,12 +15,12 @@ use Rattle.type_terms.proofs.Members.{same-number}
 use Rattle.type_terms.proofs.Walking.{left, right, both}
 use Rattle.type_terms.specs.Made.{Standing, terms, bounds, traits, is_leaf_label, is_made}
 use Rattle.type_terms.proofs.Made.{is_ordinary, false-true, no-tree, IsLast, made-ordinary, makes-ordinary, made-weaker, last-bound, last-trait, never-dynamic, never-dynamic-bound, never-principal}
-use Rattle.infer_table.specs.Canonical.{OpenKinds, kind_of_leaf, kind_in_clause, StandsIn, relabeled, canonical_label, leaves, is_among, GoalTrees, goal_leaves, canonical_form, HasNoCanonical}
+use Rattle.infer_table.specs.Canonical.{OpenKinds, kind_of_leaf, kind_in_clause, StandsIn, relabeled, canonical_label, leaves, is_label_among, GoalTrees, goal_leaves, canonical_form, HasNoCanonical}
 use Rattle.infer_table.specs.Solutions.{Assignment, IsSorted, instance}
 use Rattle.goal_evaluator.specs.Lists.{Every}
 use Rattle.goal_evaluator.specs.Instances.{as_place, term_at}
 use Rattle.goal_evaluator.specs.Content.{Fact, fact_of}
-use Rattle.goal_evaluator.specs.TableAnswers.{kinds_of}
+use Rattle.goal_evaluator.specs.TableAnswers.{kinds_of_labels}
 use Rattle.goal_evaluator.specs.Variables.{is_variable_over}
 use Rattle.goal_evaluator.proofs.ListLaws.{Every-mono}
 use Rattle.goal_evaluator.proofs.Nodes.{every-leaf}
@@ -493,7 +493,7 @@ module _ (V : World) (sorts : Sorts) (formed : IsFormedView V sorts) (E : List R
   unnumbered : (t : Trees) → are_fixed t ≡ true → is_made is_unnumbered terms t ≡ true
   unnumbered t h = made-weaker is_fixed is_unnumbered fixed-unnumbered terms t h
 
-  is-made : is_made (is_variable_over (kinds_of ls)) terms y ≡ true
+  is-made : is_made (is_variable_over (kinds_of_labels ls)) terms y ≡ true
   is-made = made-numbered ls opens terms x (unnumbered x q.terms) (λ l i. goal-listed g l (inr (inr (inl i))))
 
   written : written_in V (record { trait = r.trait; args = y }) ≡ true
@@ -511,22 +511,22 @@ module _ (V : World) (sorts : Sorts) (formed : IsFormedView V sorts) (E : List R
           ∙ begins-numbered ls (next_of x) (fixed-next x x-fixed) (second-typed x (q.trait.1 ∙ ap sorts.of_trait (same-number r.trait unsize h) ∙ formed.unsizes))
       by false h = refl
 
-  clauses-are : (cs : List Reference) → AreFixed cs → ((l : Label) → StandsIn kind_in_clause (trees_of_clauses cs) l → is_among l ls ≡ true)
-      → are_clauses (kinds_of ls) (relabeled kind_in_clause (canonical_label ls) (trees_of_clauses cs)) ≡ true
+  clauses-are : (cs : List Reference) → AreFixed cs → ((l : Label) → StandsIn kind_in_clause (trees_of_clauses cs) l → is_label_among l ls ≡ true)
+      → are_clauses (kinds_of_labels ls) (relabeled kind_in_clause (canonical_label ls) (trees_of_clauses cs)) ≡ true
   clauses-are [] h f = refl
   clauses-are (c ∷ cs) h f =
-      both (is_made (is_variable_over (kinds_of ls)) terms (relabeled kind_in_clause (canonical_label ls) c.args)) _
+      both (is_made (is_variable_over (kinds_of_labels ls)) terms (relabeled kind_in_clause (canonical_label ls) c.args)) _
       (made-in-clause ls opens terms c.args (unnumbered c.args (left (are_fixed c.args) _ h)) (λ l i. f l (inr (inl i))))
       (clauses-are cs (right (are_fixed c.args) _ h) (λ l i. f l (inr (inr i))))
 
   abbrev form : GoalOverKinds
-  form = record { kinds = kinds_of ls; environment = d; reference = record { trait = r.trait; args = y } }
+  form = record { kinds = kinds_of_labels ls; environment = d; reference = record { trait = r.trait; args = y } }
 
   form-asked : goal_over_kinds V (canonical_form g) ≡ Some form
   form-asked =
       ap (asked_with V d (tree (predicate (of_trait r.trait)) y none)) (kinds-known ls opens)
       ∙ ap (λ b. asked_if b form)
-      (all-true (written_in V form.reference) (is_made (is_variable_over (kinds_of ls)) terms y) (begins_with_type y) (not (r.trait == unsize) || begins_with_type (next_of y)) (are_clauses (kinds_of ls) d) written is-made begins target
+      (all-true (written_in V form.reference) (is_made (is_variable_over (kinds_of_labels ls)) terms y) (begins_with_type y) (not (r.trait == unsize) || begins_with_type (next_of y)) (are_clauses (kinds_of_labels ls) d) written is-made begins target
       (clauses-are E q.clauses (λ l i. goal-listed g l (inl i))))
 
   admitted : is_unbound (canonical_form g) ≡ true

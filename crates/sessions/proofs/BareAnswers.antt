@@ -19,7 +19,7 @@ use Rattle.infer_table.specs.Leaves.{root_label}
 use Rattle.infer_table.specs.Raw.{sort_of_kind}
 use Rattle.infer_table.specs.Responses.{AnswerTrees}
 use Rattle.infer_table.specs.Unification.{TableTrees, with_equal, Solver, refused, onward, by_sort, compared, step, after, steps, rounds, unified}
-use Rattle.infer_table.specs.Values.{Value, value_for, if_of_sort, filled}
+use Rattle.infer_table.specs.Values.{Value, value_for, if_of_sort, filled_values}
 use Rattle.infer_table.specs.declared.canonical.CanonicalVarKind.{CanonicalVarKind}
 use Rattle.infer_table.proofs.SolutionLaws.{is_sort-equal as is-sort}
 use Rattle.infer_table.proofs.UnifyFacts.{same-self}
@@ -215,13 +215,13 @@ module _ (t : TableTrees) (labels : List Label) (a : AnswerTrees) where
   StandsBehind n ls vs = (i : ℕ) → n ≤ i → (known i ≡ original_of i (root_labels vs) (map leaf_value ls)) ⊎ (is_kind_of of_lifetime (kind_at a.kinds i) ≡ true)
 
   abbrev Filled : List Label → List Value → Type 0
-  Filled ls vs = (ms : List Label) × (filled values (trees_of vs) ≡ row ms) × RowsAlike ls ms
+  Filled ls vs = (ms : List Label) × (filled_values values (trees_of vs) ≡ row ms) × RowsAlike ls ms
 
   -- one more value, which is a leaf
   one-more : (l : Label) (ls : List Label) (v : Value) (vs : List Value) (r m : Label) → v.trees ≡ leaf r → Becomes r m → AreAlike l m → Filled ls vs → Filled (l ∷ ls) (v ∷ vs)
   one-more l ls v vs r m e b x rest = (
     m ∷ rest.0,
-    ap (λ z. filled values (z +++ trees_of vs)) e ∙ ap (λ z. z +++ filled values (trees_of vs)) b ∙ ap (tree m none) rest.1,
+    ap (λ z. filled_values values (z +++ trees_of vs)) e ∙ ap (λ z. z +++ filled_values values (trees_of vs)) b ∙ ap (tree m none) rest.1,
     (x, rest.2),
   )
 
@@ -325,10 +325,10 @@ module _ (t : TableTrees) (none_there : t.bindings ≡ []) (ls : List Label) (a 
       let grown = table_for (known t ls a) t 0 a.kinds in
       let vs = values t ls a in
       let y = row-left grown (for-bindings (known t ls a) t 0 a.kinds ∙ none_there) ls x.0 x.2 in (
-        with_constraints (filled vs a.constraints) y.0,
-        ap (λ z. option_map (with_constraints (filled vs a.constraints)) (solved_in_turn grown z (filled vs (trees_of a.values)))) (row-is ls)
-            ∙ ap (λ z. option_map (with_constraints (filled vs a.constraints)) (solved_in_turn grown (row ls) z)) x.1
-            ∙ ap (option_map (with_constraints (filled vs a.constraints))) y.1,
+        with_constraints (filled_values vs a.constraints) y.0,
+        ap (λ z. option_map (with_constraints (filled_values vs a.constraints)) (solved_in_turn grown z (filled_values vs (trees_of a.values)))) (row-is ls)
+            ∙ ap (λ z. option_map (with_constraints (filled_values vs a.constraints)) (solved_in_turn grown (row ls) z)) x.1
+            ∙ ap (option_map (with_constraints (filled_values vs a.constraints))) y.1,
       )
 
   -- a table without values refuses none

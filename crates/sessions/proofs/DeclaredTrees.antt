@@ -7,38 +7,38 @@ use Rattle.type_terms.specs.Promised.LinkedSet.{is_stray}
 use Rattle.type_terms.specs.Promised.Versions.{well_written, label_allowed, label_shaped, begins_with_bound}
 use Rattle.type_terms.specs.Made.{Standing, terms, bounds, traits, is_made}
 use Rattle.type_terms.proofs.Made.{left, right, both, false-true, no-tree, made-ordinary, last-bound, last-trait, never-dynamic, never-dynamic-bound, never-principal}
-use Rattle.candidate_model.specs.Declared.{is_declared}
+use Rattle.candidate_model.specs.Declared.{is_declared_leaf}
 use Rattle.view_lowering.proofs.Trees.{or}
 use Rattle.sessions.proofs.TextTerms.{Scope, IsStructAt, IsTraitAt, TextNode, TextNodes}
 use Rattle.type_terms.specs.Promised.Supers.{no_param, dyns_of_bounds}
 
 -- ---- each label of a made tree is good
-module _ (p : Label → Bool) (each : (l : Label) → is_declared l ≡ true → p l ≡ false) where
-  node-shut : (l : Label) (c o : Trees) → is_declared l ≡ true → some_node p c ≡ false → some_node p o ≡ false → some_node p (tree l c o) ≡ false
+module _ (p : Label → Bool) (each : (l : Label) → is_declared_leaf l ≡ true → p l ≡ false) where
+  node-shut : (l : Label) (c o : Trees) → is_declared_leaf l ≡ true → some_node p c ≡ false → some_node p o ≡ false → some_node p (tree l c o) ≡ false
   node-shut l c o g h k = or (p l || some_node p c) (some_node p o) (or (p l) (some_node p c) (each l g) h) k
 
   nothing-in : (c : Trees) → c ≡ none → some_node p c ≡ false
   nothing-in c e = ap (some_node p) e
 
-  pub made-shut : (m : Standing) (t : Trees) → is_made is_declared m t ≡ true → some_node p t ≡ false
+  pub made-shut : (m : Standing) (t : Trees) → is_made is_declared_leaf m t ≡ true → some_node p t ≡ false
   made-shut m none h = refl
   made-shut terms (tree dynamic c o) h =
-      node-shut dynamic c o refl (made-shut bounds c (left (is_made is_declared bounds c) (is_made is_declared terms o) h)) (made-shut terms o (right (is_made is_declared bounds c) (is_made is_declared terms o) h))
+      node-shut dynamic c o refl (made-shut bounds c (left (is_made is_declared_leaf bounds c) (is_made is_declared_leaf terms o) h)) (made-shut terms o (right (is_made is_declared_leaf bounds c) (is_made is_declared_leaf terms o) h))
   made-shut terms (tree (principal n t) c o) h = absurd (false-true h)
   made-shut terms (tree (auto_trait n) c o) h = absurd (false-true h)
   made-shut terms (tree (predicate k) c o) h = absurd (false-true h)
-  made-shut terms (tree l c o) h = let x = made-ordinary is_declared l c o refl h in node-shut l c o x.0 (made-shut terms c x.2) (made-shut terms o x.3)
+  made-shut terms (tree l c o) h = let x = made-ordinary is_declared_leaf l c o refl h in node-shut l c o x.0 (made-shut terms c x.2) (made-shut terms o x.3)
   made-shut bounds (tree (principal n t) c o) h =
-      node-shut (principal n t) c o refl (made-shut terms c (left (is_made is_declared terms c) (is_made is_declared traits o) h)) (made-shut traits o (right (is_made is_declared terms c) (is_made is_declared traits o) h))
-  made-shut bounds (tree (auto_trait n) c o) h = node-shut (auto_trait n) c o refl (nothing-in c (no-tree c (left (is_no_tree c) (is_made is_declared traits o) h))) (made-shut traits o (right (is_no_tree c) (is_made is_declared traits o) h))
+      node-shut (principal n t) c o refl (made-shut terms c (left (is_made is_declared_leaf terms c) (is_made is_declared_leaf traits o) h)) (made-shut traits o (right (is_made is_declared_leaf terms c) (is_made is_declared_leaf traits o) h))
+  made-shut bounds (tree (auto_trait n) c o) h = node-shut (auto_trait n) c o refl (nothing-in c (no-tree c (left (is_no_tree c) (is_made is_declared_leaf traits o) h))) (made-shut traits o (right (is_no_tree c) (is_made is_declared_leaf traits o) h))
   made-shut bounds (tree (predicate k) c o) h = absurd (false-true h)
-  made-shut bounds (tree dynamic c o) h = absurd (never-dynamic-bound is_declared c o h)
-  made-shut bounds (tree l c o) h = let x = last-bound is_declared l c o refl h in node-shut l c o x.good_label (nothing-in c x.children) (nothing-in o x.rest)
-  made-shut traits (tree (auto_trait n) c o) h = node-shut (auto_trait n) c o refl (nothing-in c (no-tree c (left (is_no_tree c) (is_made is_declared traits o) h))) (made-shut traits o (right (is_no_tree c) (is_made is_declared traits o) h))
+  made-shut bounds (tree dynamic c o) h = absurd (never-dynamic-bound is_declared_leaf c o h)
+  made-shut bounds (tree l c o) h = let x = last-bound is_declared_leaf l c o refl h in node-shut l c o x.good_label (nothing-in c x.children) (nothing-in o x.rest)
+  made-shut traits (tree (auto_trait n) c o) h = node-shut (auto_trait n) c o refl (nothing-in c (no-tree c (left (is_no_tree c) (is_made is_declared_leaf traits o) h))) (made-shut traits o (right (is_no_tree c) (is_made is_declared_leaf traits o) h))
   made-shut traits (tree (predicate k) c o) h = absurd (false-true h)
-  made-shut traits (tree dynamic c o) h = absurd (never-dynamic is_declared c o h)
-  made-shut traits (tree (principal n t) c o) h = absurd (never-principal is_declared n t c o h)
-  made-shut traits (tree l c o) h = let x = last-trait is_declared l c o refl h in node-shut l c o x.good_label (nothing-in c x.children) (nothing-in o x.rest)
+  made-shut traits (tree dynamic c o) h = absurd (never-dynamic is_declared_leaf c o h)
+  made-shut traits (tree (principal n t) c o) h = absurd (never-principal is_declared_leaf n t c o h)
+  made-shut traits (tree l c o) h = let x = last-trait is_declared_leaf l c o refl h in node-shut l c o x.good_label (nothing-in c x.children) (nothing-in o x.rest)
 
 pub over-erase : (q : Label → Bool) (t : Trees) → some_node q (erase t) ≡ some_node (λ l. q (erase_label l)) t
 over-erase q none = refl
@@ -48,7 +48,7 @@ over-erase q (tree l c o) = two (q (erase_label l)) (over-erase q c) (over-erase
     two a p r = cc
 
 -- ---- no variable and nothing bound
-label-plain : (l : Label) → is_declared l ≡ true → is_stray (erase_label l) ≡ false
+label-plain : (l : Label) → is_declared_leaf l ≡ true → is_stray (erase_label l) ≡ false
 label-plain (placeholder s i) h = absurd (false-true h)
 label-plain (infer s i) h = absurd (false-true h)
 label-plain (canonical s i) h = absurd (false-true h)
@@ -60,7 +60,7 @@ label-plain (fn_ptr n) h = refl
 label-plain (principal n t) h = refl
 label-plain l h = refl
 
-pub made-plain : (t : Trees) → is_made is_declared terms t ≡ true → some_node is_stray (erase t) ≡ false
+pub made-plain : (t : Trees) → is_made is_declared_leaf terms t ≡ true → some_node is_stray (erase t) ≡ false
 made-plain t h = over-erase is_stray t ∙ made-shut (λ l. is_stray (erase_label l)) label-plain terms t h
 
 -- ---- bounds of a `dyn`
@@ -103,36 +103,36 @@ ending : (l : Label) (c o : Trees) → is_sort (sort_of l) of_lifetime ≡ true 
 ending l c o e p q = subst (λ x. Bounded (tree l x o)) (sym p) (subst (λ x. Bounded (tree l none x)) (sym q) (record { dyns = ap (λ m. dyns_of_bounds (tree m none none)) (lifetime-static l e); bare = ap (λ m. no_param (tree m none none)) (lifetime-static l e) }))
 
 mutual
-  pub made-dyns : (t : Trees) → is_made is_declared terms t ≡ true → dyns_of_bounds (erase t) ≡ true
+  pub made-dyns : (t : Trees) → is_made is_declared_leaf terms t ≡ true → dyns_of_bounds (erase t) ≡ true
   made-dyns none h = refl
   made-dyns (tree dynamic c o) h =
-      let b = made-bounds bounds c (left (is_made is_declared bounds c) (is_made is_declared terms o) h) (λ e. absurd cc) in
-      both (no_param (erase c)) _ b.bare (both (dyns_of_bounds (erase c)) _ b.dyns (made-dyns o (right (is_made is_declared bounds c) (is_made is_declared terms o) h)))
+      let b = made-bounds bounds c (left (is_made is_declared_leaf bounds c) (is_made is_declared_leaf terms o) h) (λ e. absurd cc) in
+      both (no_param (erase c)) _ b.bare (both (dyns_of_bounds (erase c)) _ b.dyns (made-dyns o (right (is_made is_declared_leaf bounds c) (is_made is_declared_leaf terms o) h)))
   made-dyns (tree (principal n t) c o) h = absurd (false-true h)
   made-dyns (tree (auto_trait n) c o) h = absurd (false-true h)
   made-dyns (tree (predicate k) c o) h = absurd (false-true h)
-  made-dyns (tree l c o) h = let x = made-ordinary is_declared l c o refl h in dyns-node l (erase c) (erase o) (λ e. absurd cc) (made-dyns c x.2) (made-dyns o x.3)
+  made-dyns (tree l c o) h = let x = made-ordinary is_declared_leaf l c o refl h in dyns-node l (erase c) (erase o) (λ e. absurd cc) (made-dyns c x.2) (made-dyns o x.3)
 
-  made-bounds : (m : Standing) (t : Trees) → is_made is_declared m t ≡ true → (m ≡ terms → ⊥) → Bounded t
+  made-bounds : (m : Standing) (t : Trees) → is_made is_declared_leaf m t ≡ true → (m ≡ terms → ⊥) → Bounded t
   made-bounds terms t h n = absurd (n refl)
   made-bounds bounds none h n = absurd (false-true h)
   made-bounds traits none h n = absurd (false-true h)
   made-bounds bounds (tree (principal k t) c o) h n =
-      let r = made-bounds traits o (right (is_made is_declared terms c) (is_made is_declared traits o) h) (λ e. absurd cc) in
-      record { dyns = both (dyns_of_bounds (erase c)) _ (made-dyns c (left (is_made is_declared terms c) (is_made is_declared traits o) h)) r.dyns; bare = r.bare }
+      let r = made-bounds traits o (right (is_made is_declared_leaf terms c) (is_made is_declared_leaf traits o) h) (λ e. absurd cc) in
+      record { dyns = both (dyns_of_bounds (erase c)) _ (made-dyns c (left (is_made is_declared_leaf terms c) (is_made is_declared_leaf traits o) h)) r.dyns; bare = r.bare }
   made-bounds bounds (tree (auto_trait k) c o) h n =
-      let r = made-bounds traits o (right (is_no_tree c) (is_made is_declared traits o) h) (λ e. absurd cc) in
-      record { dyns = both (dyns_of_bounds (erase c)) _ (ap (λ x. dyns_of_bounds (erase x)) (no-tree c (left (is_no_tree c) (is_made is_declared traits o) h))) r.dyns; bare = r.bare }
+      let r = made-bounds traits o (right (is_no_tree c) (is_made is_declared_leaf traits o) h) (λ e. absurd cc) in
+      record { dyns = both (dyns_of_bounds (erase c)) _ (ap (λ x. dyns_of_bounds (erase x)) (no-tree c (left (is_no_tree c) (is_made is_declared_leaf traits o) h))) r.dyns; bare = r.bare }
   made-bounds bounds (tree (predicate k) c o) h n = absurd (false-true h)
-  made-bounds bounds (tree dynamic c o) h n = absurd (never-dynamic-bound is_declared c o h)
-  made-bounds bounds (tree l c o) h n = let x = last-bound is_declared l c o refl h in ending l c o x.lifetime x.children x.rest
+  made-bounds bounds (tree dynamic c o) h n = absurd (never-dynamic-bound is_declared_leaf c o h)
+  made-bounds bounds (tree l c o) h n = let x = last-bound is_declared_leaf l c o refl h in ending l c o x.lifetime x.children x.rest
   made-bounds traits (tree (auto_trait k) c o) h n =
-      let r = made-bounds traits o (right (is_no_tree c) (is_made is_declared traits o) h) (λ e. absurd cc) in
-      record { dyns = both (dyns_of_bounds (erase c)) _ (ap (λ x. dyns_of_bounds (erase x)) (no-tree c (left (is_no_tree c) (is_made is_declared traits o) h))) r.dyns; bare = r.bare }
+      let r = made-bounds traits o (right (is_no_tree c) (is_made is_declared_leaf traits o) h) (λ e. absurd cc) in
+      record { dyns = both (dyns_of_bounds (erase c)) _ (ap (λ x. dyns_of_bounds (erase x)) (no-tree c (left (is_no_tree c) (is_made is_declared_leaf traits o) h))) r.dyns; bare = r.bare }
   made-bounds traits (tree (predicate k) c o) h n = absurd (false-true h)
-  made-bounds traits (tree dynamic c o) h n = absurd (never-dynamic is_declared c o h)
-  made-bounds traits (tree (principal k t) c o) h n = absurd (never-principal is_declared k t c o h)
-  made-bounds traits (tree l c o) h n = let x = last-trait is_declared l c o refl h in ending l c o x.lifetime x.children x.rest
+  made-bounds traits (tree dynamic c o) h n = absurd (never-dynamic is_declared_leaf c o h)
+  made-bounds traits (tree (principal k t) c o) h n = absurd (never-principal is_declared_leaf k t c o h)
+  made-bounds traits (tree l c o) h n = let x = last-trait is_declared_leaf l c o refl h in ending l c o x.lifetime x.children x.rest
 
 -- ---- names are seen, and each `dyn` begins with a bound
 bare-begins : (t : Trees) → no_param t ≡ true → begins_with_bound t ≡ true

@@ -18,7 +18,7 @@ use Rattle.goal_evaluator.specs.Lists.{Every}
 use Rattle.declarations.specs.Applied.{sorts_of}
 use Rattle.declarations.specs.Promised.Elaboration.{elaborate, all_levels}
 use Rattle.candidate_model.specs.Asking.{next_of}
-use Rattle.candidate_model.specs.Declared.{is_declared, is_lifetime_parameter}
+use Rattle.candidate_model.specs.Declared.{is_declared_leaf, is_lifetime_parameter}
 use Rattle.candidate_model.specs.DeclaredWell.{IsDeclaredWell, are_distinct}
 use Rattle.candidate_model.proofs.DeclaredParts.{bound-declared}
 use Rattle.candidate_model.proofs.ErasedRows.{label-stays}
@@ -154,7 +154,7 @@ module _ (V : World) (sorts : Sorts) where
         let sorted : sorts_of r.args ≡ sorts.of_trait x.name = h.fit.trait.1 ∙ ap sorts.of_trait (sym e) in
         let declared = bound-declared V well.terms x b i j in
         fits-sound r.args b.args
-        (fits-by r.args terms b.args (left (is_made is_declared terms b.args) _ declared)
+        (fits-by r.args terms b.args (left (is_made is_declared_leaf terms b.args) _ declared)
         (λ s k g. nth-sort r.args made (sorts.of_trait x.name) sorted s k (param-where (sorts.of_trait x.name) b.args (view.bounds x b i j).params s k g)))
 
     bound-stays : (x : TraitDecl) → In x V.traits → (b : Reference) → In b x.bounds → erased_reference b ≡ b
@@ -204,7 +204,7 @@ module _ (V : World) (sorts : Sorts) where
             let good = every-formed (strict_supertraits V (erased_reference r)) (supers-good V sorts well view (erased_reference r) (erased-formed r h)) (erased_reference z) strict in
             subst IsFormedClause m.is
             (record {
-              fixed = instance-made is_fixed closed-fixed bound-loose r.args h.fixed zero terms m.bound.args (left (is_made is_declared terms m.bound.args) _ d) (well.erased m.declared m.bound m.there_is m.among);
+              fixed = instance-made is_fixed closed-fixed bound-loose r.args h.fixed zero terms m.bound.args (left (is_made is_declared_leaf terms m.bound.args) _ d) (well.erased m.declared m.bound m.there_is m.among);
               fit = fits-back z good;
             })
 

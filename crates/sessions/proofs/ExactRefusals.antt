@@ -24,7 +24,7 @@ use Rattle.text_language.specs.Promised.Declarations.{Declarations, Question}
 use Rattle.view_lowering.specs.Promised.SeenWorlds.{plain_label, plain, all_kept, unbound_reference}
 use Rattle.view_lowering.specs.Promised.Questions.{IsQuestion}
 use Rattle.view_lowering.specs.Promised.Questions.{variable_kinds}
-use Rattle.view_lowering.specs.QuestionVariables.{is_stray, HasVariablesAlone}
+use Rattle.view_lowering.specs.QuestionVariables.{is_undeclared_variable, HasVariablesAlone}
 use Rattle.view_lowering.specs.Ready.{AreSeen}
 use Rattle.candidate_model.specs.Meaning.{SelfTypesBegin}
 use Rattle.candidate_assembly.specs.declared.solver.Solver.{Solver}
@@ -166,7 +166,7 @@ module _ (ks : List Sort) where
   abbrev is_unfree : Label → Bool
   is_unfree l = not (stands_free l)
 
-  free-label : (l : Label) → is_stray ks (plain_label all_kept l) ≡ false → is_unfree (plain_label all_kept l) ≡ false
+  free-label : (l : Label) → is_undeclared_variable ks (plain_label all_kept l) ≡ false → is_unfree (plain_label all_kept l) ≡ false
   free-label (bound of_lifetime j i) e = refl
   free-label (bound of_type j i) e = absurd (false-true (sym e))
   free-label (bound of_const j i) e = absurd (false-true (sym e))
@@ -176,16 +176,16 @@ module _ (ks : List Sort) where
   free-label (param of_const i) e = refl
   free-label l e = refl
 
-  free-terms : (t : Trees) → some_node (is_stray ks) (plain all_kept t) ≡ false → some_node is_unfree (plain all_kept t) ≡ false
+  free-terms : (t : Trees) → some_node (is_undeclared_variable ks) (plain all_kept t) ≡ false → some_node is_unfree (plain all_kept t) ≡ false
   free-terms none e = refl
   free-terms (tree l c o) e =
       let m = plain_label all_kept l in
       let x = plain all_kept c in
       let y = plain all_kept o in
       or-no (is_unfree m || some_node is_unfree x) (some_node is_unfree y)
-      (or-no (is_unfree m) (some_node is_unfree x) (free-label l (no-left (is_stray ks m) (some_node (is_stray ks) x) (no-left (is_stray ks m || some_node (is_stray ks) x) (some_node (is_stray ks) y) e)))
-      (free-terms c (child-shut (is_stray ks) m x y e)))
-      (free-terms o (next-shut (is_stray ks) m x y e))
+      (or-no (is_unfree m) (some_node is_unfree x) (free-label l (no-left (is_undeclared_variable ks m) (some_node (is_undeclared_variable ks) x) (no-left (is_undeclared_variable ks m || some_node (is_undeclared_variable ks) x) (some_node (is_undeclared_variable ks) y) e)))
+      (free-terms c (child-shut (is_undeclared_variable ks) m x y e)))
+      (free-terms o (next-shut (is_undeclared_variable ks) m x y e))
 
   both-free : (l : Label) → is_in_range l ≡ true → is_unfree l ≡ false → stands_free l ≡ true
   both-free l h e = by (stands_free l) e

@@ -12,7 +12,7 @@ use Rattle.type_terms.specs.declared.kinds.GenericArgKind.{GenericArgKind}
 use Rattle.term_folds.specs.declared.predicate.TraitRef.{TraitRef}
 use Rattle.declarations.specs.Applied.{TraitRefsHeld, references_in}
 use Rattle.sessions.specs.Foreign.{is_foreign_term, are_own_terms, is_unknown_term, strays}
-use Rattle.sessions.specs.Promised.OwnValues.{is_same_param, stands_in}
+use Rattle.sessions.specs.Promised.OwnValues.{is_same_param, occurs_among}
 use Rattle.sessions.proofs.OwnValues.{some-either}
 use Rattle.type_terms.proofs.BooleanBasics.{or-false as no-more, de-morgan}
 
@@ -62,18 +62,18 @@ module _ (es : List Entry) (m : Label) (left : List TraitRef) (b : Bool) (r : Tr
   pub held-first : TraitRefsHeld es left → TraitRefsHeld es (r ∷ others)
   held-first h = subst (TraitRefsHeld es) e h
 
-  module _ (k : stands_in (references_in es left) m ≡ b) where
-    whole : (some_node (λ l. is_same_param l m) (trees_at es r.args.0) || stands_in (references_in es others) m) ≡ b
-    whole = ap (λ xs. stands_in (references_in es xs) m) (sym e) ∙ k
+  module _ (k : occurs_among (references_in es left) m ≡ b) where
+    whole : (some_node (λ l. is_same_param l m) (trees_at es r.args.0) || occurs_among (references_in es others) m) ≡ b
+    whole = ap (λ xs. occurs_among (references_in es xs) m) (sym e) ∙ k
 
     pub param-found : some_node (λ l. is_same_param l m) (trees_at es r.args.0) ≡ true → true ≡ b
-    param-found h = ap (λ z. z || stands_in (references_in es others) m) (sym h) ∙ whole
+    param-found h = ap (λ z. z || occurs_among (references_in es others) m) (sym h) ∙ whole
 
-    pub param-next : some_node (λ l. is_same_param l m) (trees_at es r.args.0) ≡ false → stands_in (references_in es others) m ≡ b
-    param-next h = ap (λ z. z || stands_in (references_in es others) m) (sym h) ∙ whole
+    pub param-next : some_node (λ l. is_same_param l m) (trees_at es r.args.0) ≡ false → occurs_among (references_in es others) m ≡ b
+    param-next h = ap (λ z. z || occurs_among (references_in es others) m) (sym h) ∙ whole
 
-pub param-none : (es : List Entry) (m : Label) (left : List TraitRef) (b : Bool) → left ≡ [] → stands_in (references_in es left) m ≡ b → false ≡ b
-param-none es m left b e k = ap (λ xs. stands_in (references_in es xs) m) (sym e) ∙ k
+pub param-none : (es : List Entry) (m : Label) (left : List TraitRef) (b : Bool) → left ≡ [] → occurs_among (references_in es left) m ≡ b → false ≡ b
+param-none es m left b e k = ap (λ xs. occurs_among (references_in es xs) m) (sym e) ∙ k
 
 -- ---- values one after the other
 module _ (es : List Entry) (V : World) (rs : List Reference) (left : List GenericArgKind) (b : Bool) (v : GenericArgKind) (others : List GenericArgKind) (e : left ≡ v ∷ others) where

@@ -19,7 +19,7 @@ use Rattle.text_language.specs.Declarations.{nothing_declared}
 use Rattle.text_language.specs.Uses.{Use, crate_use, trait_use, args_count, kinds_of_trait, type_uses, types_uses, args_uses, bound_uses, clause_uses, header_uses, uses, params_of}
 use Rattle.text_language.specs.Faults.{fault_of, belongs_to_crate, is_impl, is_hidden_use, is_crate, number_of_crate, once, variables_in}
 use Rattle.text_language.specs.Promised.Faults.{with_own, own_struct, own_trait}
-use Rattle.text_language.specs.Lowering.{crate_number, trait_number, field_trees, type_tree, args_trees, with_self, clause_reference, Meanings}
+use Rattle.text_language.specs.Lowering.{crate_number, trait_number, field_trees, type_tree, args_trees, bound_with_self, clause_reference, Meanings}
 use Rattle.text_language.specs.Adding.{added, item_meanings, crate_of, struct_of, trait_of, impl_of, question_of, question_meanings}
 use Rattle.text_language.specs.Written.{IsWritten}
 use Rattle.text_language.specs.Text.{LineGives, other_byte, blank, unwritten, faulty, adds, LinesGive, ends, fails, goes_on, TextGives, too_long, fits}
@@ -245,7 +245,7 @@ module _ (d : Declarations) (l : Line) (first c : ℕ) (parameter : Sort → ℕ
   )
 
   self-formed : (self : Trees) → TextNodes (scope_of d l c) self → sorts_of self ≡ of_type ∷ [] → (b : Bound) → ScalarArgs b.args → S (bound_uses (with_own d l) b)
-      → IsFormedReference (scope_of d l c) (with_self M self b)
+      → IsFormedReference (scope_of d l c) (bound_with_self M self b)
   self-formed self n s b f h =
       let ks = kinds_of_trait (known (with_own d l) b.trait) in
       let q = trait-used d l first c parameter variables sorted free structs traits bare b.trait (args_count b.args) (args_uses (with_own d l) [] ks b.args) h in
@@ -277,7 +277,7 @@ module _ (d : Declarations) (l : Line) (first c : ℕ) (parameter : Sort → ℕ
       (type-nodes d l first c parameter variables sorted free structs traits bare [] k.subject f.0 (rest-of (bound_uses (with_own d l) k.bound) (type_uses (with_own d l) [] of_type k.subject) h))
       (type-sorts d l first c parameter variables sorted free structs traits bare [] k.subject f.0) k.bound f.1 (head-of (bound_uses (with_own d l) k.bound) (type_uses (with_own d l) [] of_type k.subject) h)
 
-  bounds-formed : (bs : List Bound) → ScalarBounds bs → S (flat_map (bound_uses (with_own d l)) bs) → Each (IsFormedReference (scope_of d l c)) (map (with_self M (leaf (param of_type 0))) bs)
+  bounds-formed : (bs : List Bound) → ScalarBounds bs → S (flat_map (bound_uses (with_own d l)) bs) → Each (IsFormedReference (scope_of d l c)) (map (bound_with_self M (leaf (param of_type 0))) bs)
   bounds-formed [] f h = tt
   bounds-formed (b ∷ bs) f h = (
     self-formed (leaf (param of_type 0)) (tt, tt, tt) refl b f.0 (head-of (bound_uses (with_own d l) b) (flat_map (bound_uses (with_own d l)) bs) h),
@@ -504,7 +504,7 @@ line-formed d line (trait_line g a n ps bs) w f well h =
       structs = structs-still d e goes h;
       traits = each-more (TraitFormed e) d.traits x (traits-still d e goes h)
           (each-map (IsFormedReference (scope_of d l (last_crate d))) (IsFormedReference (scope e (last_crate d))) (reference-grows (scope_of d l (last_crate d)) (scope e (last_crate d)) (own-grows d l (last_crate d) refl))
-          (map (with_self (item_meanings d l 1) (leaf (param of_type 0))) bs)
+          (map (bound_with_self (item_meanings d l 1) (leaf (param of_type 0))) bs)
           (bounds-formed d l 1 (last_crate d) param [] param-sorted (param-free (scope_of d l (last_crate d))) well.struct_numbers at bare bs (trait-scalars line g a n ps bs w) (faultless-uses d l f, own-seen d l f refl refl p.has_seen_names)));
       impls = impls-still d e goes h;
       questions = questions-still d e goes h;

@@ -10,7 +10,7 @@ use Rattle.type_terms.proofs.Fitting.{child-shut, next-shut, not-true, or-no}
 use Rattle.infer_table.specs.Solutions.{Assignment, instance, IsSorted}
 use Rattle.infer_table.proofs.SolutionLaws.{is_sort-equal}
 use Rattle.type_terms.specs.Promised.Questions.{FitKinds, of_kind, filled}
-use Rattle.view_lowering.specs.QuestionVariables.{number_of, is_stray}
+use Rattle.view_lowering.specs.QuestionVariables.{number_of, is_undeclared_variable}
 use Rattle.type_terms.proofs.Matching.{or-false-left as no-left}
 use Rattle.type_terms.proofs.TermBasics.{is_sort-self}
 
@@ -95,10 +95,10 @@ module _ (ks : List Sort) (ts : List Trees) (fit : FitKinds ks ts) (shut : Every
   S = given ks ts
 
   abbrev NoStray : Trees → Type 0
-  NoStray t = some_node (is_stray ks) t ≡ false
+  NoStray t = some_node (is_undeclared_variable ks) t ≡ false
 
-  stray-first : (l : Label) (c o : Trees) → NoStray (tree l c o) → is_stray ks l ≡ false
-  stray-first l c o h = no-left (is_stray ks l) (some_node (is_stray ks) c) (no-left (is_stray ks l || some_node (is_stray ks) c) (some_node (is_stray ks) o) h)
+  stray-first : (l : Label) (c o : Trees) → NoStray (tree l c o) → is_undeclared_variable ks l ≡ false
+  stray-first l c o h = no-left (is_undeclared_variable ks l) (some_node (is_undeclared_variable ks) c) (no-left (is_undeclared_variable ks l || some_node (is_undeclared_variable ks) c) (some_node (is_undeclared_variable ks) o) h)
 
   at-type : (i : ℕ) (c o : Trees) → NoStray (tree (infer of_type i) c o) → IsPlaced of_type (slice_get (of_kind of_type ks ts) i)
   at-type i c o h = placed-at of_type ks ts fit shut i (below i (number_of of_type ks) (stray-first (infer of_type i) c o h))
@@ -116,29 +116,29 @@ module _ (ks : List Sort) (ts : List Trees) (fit : FitKinds ks ts) (shut : Every
 
   pub instance-is : (t : Trees) → NoStray t → instance S t ≡ filled ks ts (erase t)
   instance-is none h = refl
-  instance-is (tree (infer of_type i) c o) h = joined of_type i (instance S o) (filled ks ts (erase o)) (at-type i c o h) (instance-is o (next-shut (is_stray ks) (infer of_type i) c o h))
-  instance-is (tree (infer of_const i) c o) h = joined of_const i (instance S o) (filled ks ts (erase o)) (at-const i c o h) (instance-is o (next-shut (is_stray ks) (infer of_const i) c o h))
+  instance-is (tree (infer of_type i) c o) h = joined of_type i (instance S o) (filled ks ts (erase o)) (at-type i c o h) (instance-is o (next-shut (is_undeclared_variable ks) (infer of_type i) c o h))
+  instance-is (tree (infer of_const i) c o) h = joined of_const i (instance S o) (filled ks ts (erase o)) (at-const i c o h) (instance-is o (next-shut (is_undeclared_variable ks) (infer of_const i) c o h))
   instance-is (tree (infer of_lifetime i) c o) h = absurd (no-true (stray-first (infer of_lifetime i) c o h))
     where
       no-true : true ≡ false → ⊥
       no-true e = cc
-  instance-is (tree (param of_type i) c o) h = node refl (instance-is c (child-shut (is_stray ks) (param of_type i) c o h)) (instance-is o (next-shut (is_stray ks) (param of_type i) c o h))
-  instance-is (tree (param of_const i) c o) h = node refl (instance-is c (child-shut (is_stray ks) (param of_const i) c o h)) (instance-is o (next-shut (is_stray ks) (param of_const i) c o h))
-  instance-is (tree (param of_lifetime i) c o) h = node refl (instance-is c (child-shut (is_stray ks) (param of_lifetime i) c o h)) (instance-is o (next-shut (is_stray ks) (param of_lifetime i) c o h))
-  instance-is (tree (placeholder of_type i) c o) h = node refl (instance-is c (child-shut (is_stray ks) (placeholder of_type i) c o h)) (instance-is o (next-shut (is_stray ks) (placeholder of_type i) c o h))
-  instance-is (tree (placeholder of_const i) c o) h = node refl (instance-is c (child-shut (is_stray ks) (placeholder of_const i) c o h)) (instance-is o (next-shut (is_stray ks) (placeholder of_const i) c o h))
-  instance-is (tree (placeholder of_lifetime i) c o) h = node refl (instance-is c (child-shut (is_stray ks) (placeholder of_lifetime i) c o h)) (instance-is o (next-shut (is_stray ks) (placeholder of_lifetime i) c o h))
-  instance-is (tree (bound of_type i j) c o) h = node refl (instance-is c (child-shut (is_stray ks) (bound of_type i j) c o h)) (instance-is o (next-shut (is_stray ks) (bound of_type i j) c o h))
-  instance-is (tree (bound of_const i j) c o) h = node refl (instance-is c (child-shut (is_stray ks) (bound of_const i j) c o h)) (instance-is o (next-shut (is_stray ks) (bound of_const i j) c o h))
-  instance-is (tree (bound of_lifetime i j) c o) h = node refl (instance-is c (child-shut (is_stray ks) (bound of_lifetime i j) c o h)) (instance-is o (next-shut (is_stray ks) (bound of_lifetime i j) c o h))
+  instance-is (tree (param of_type i) c o) h = node refl (instance-is c (child-shut (is_undeclared_variable ks) (param of_type i) c o h)) (instance-is o (next-shut (is_undeclared_variable ks) (param of_type i) c o h))
+  instance-is (tree (param of_const i) c o) h = node refl (instance-is c (child-shut (is_undeclared_variable ks) (param of_const i) c o h)) (instance-is o (next-shut (is_undeclared_variable ks) (param of_const i) c o h))
+  instance-is (tree (param of_lifetime i) c o) h = node refl (instance-is c (child-shut (is_undeclared_variable ks) (param of_lifetime i) c o h)) (instance-is o (next-shut (is_undeclared_variable ks) (param of_lifetime i) c o h))
+  instance-is (tree (placeholder of_type i) c o) h = node refl (instance-is c (child-shut (is_undeclared_variable ks) (placeholder of_type i) c o h)) (instance-is o (next-shut (is_undeclared_variable ks) (placeholder of_type i) c o h))
+  instance-is (tree (placeholder of_const i) c o) h = node refl (instance-is c (child-shut (is_undeclared_variable ks) (placeholder of_const i) c o h)) (instance-is o (next-shut (is_undeclared_variable ks) (placeholder of_const i) c o h))
+  instance-is (tree (placeholder of_lifetime i) c o) h = node refl (instance-is c (child-shut (is_undeclared_variable ks) (placeholder of_lifetime i) c o h)) (instance-is o (next-shut (is_undeclared_variable ks) (placeholder of_lifetime i) c o h))
+  instance-is (tree (bound of_type i j) c o) h = node refl (instance-is c (child-shut (is_undeclared_variable ks) (bound of_type i j) c o h)) (instance-is o (next-shut (is_undeclared_variable ks) (bound of_type i j) c o h))
+  instance-is (tree (bound of_const i j) c o) h = node refl (instance-is c (child-shut (is_undeclared_variable ks) (bound of_const i j) c o h)) (instance-is o (next-shut (is_undeclared_variable ks) (bound of_const i j) c o h))
+  instance-is (tree (bound of_lifetime i j) c o) h = node refl (instance-is c (child-shut (is_undeclared_variable ks) (bound of_lifetime i j) c o h)) (instance-is o (next-shut (is_undeclared_variable ks) (bound of_lifetime i j) c o h))
   instance-is (tree (canonical s i) c o) h = absurd (no-true (stray-first (canonical s i) c o h))
     where
       no-true : true ≡ false → ⊥
       no-true e = cc
-  instance-is (tree l c o) h = node refl (instance-is c (child-shut (is_stray ks) l c o h)) (instance-is o (next-shut (is_stray ks) l c o h))
+  instance-is (tree l c o) h = node refl (instance-is c (child-shut (is_undeclared_variable ks) l c o h)) (instance-is o (next-shut (is_undeclared_variable ks) l c o h))
 
   -- ---- nothing open is left
-  open-label : (l : Label) → is_stray ks l ≡ false → ((s : Sort) (i : ℕ) → l ≡ infer s i → ⊥) → is_open (erase_label l) ≡ false
+  open-label : (l : Label) → is_undeclared_variable ks l ≡ false → ((s : Sort) (i : ℕ) → l ≡ infer s i → ⊥) → is_open (erase_label l) ≡ false
   open-label (infer s i) h n = absurd (n s i refl)
   open-label (param of_lifetime i) h n = refl
   open-label (param of_type i) h n = cc
@@ -165,12 +165,12 @@ module _ (ks : List Sort) (ts : List Trees) (fit : FitKinds ks ts) (shut : Every
 
   pub instance-shut : (t : Trees) → NoStray t → some_node is_open (instance S t) ≡ false
   instance-shut none h = refl
-  instance-shut (tree (infer of_type i) c o) h = shut-value of_type i (instance S o) (at-type i c o h) (instance-shut o (next-shut (is_stray ks) (infer of_type i) c o h))
-  instance-shut (tree (infer of_const i) c o) h = shut-value of_const i (instance S o) (at-const i c o h) (instance-shut o (next-shut (is_stray ks) (infer of_const i) c o h))
+  instance-shut (tree (infer of_type i) c o) h = shut-value of_type i (instance S o) (at-type i c o h) (instance-shut o (next-shut (is_undeclared_variable ks) (infer of_type i) c o h))
+  instance-shut (tree (infer of_const i) c o) h = shut-value of_const i (instance S o) (at-const i c o h) (instance-shut o (next-shut (is_undeclared_variable ks) (infer of_const i) c o h))
   instance-shut (tree (infer of_lifetime i) c o) h = absurd (no-true (stray-first (infer of_lifetime i) c o h))
     where
       no-true : true ≡ false → ⊥
       no-true e = cc
   instance-shut (tree l c o) h =
       shut-node (erase_label l) (instance S c) (instance S o) (open-label l (stray-first l c o h) (λ s i e. cc))
-      (instance-shut c (child-shut (is_stray ks) l c o h)) (instance-shut o (next-shut (is_stray ks) l c o h))
+      (instance-shut c (child-shut (is_undeclared_variable ks) l c o h)) (instance-shut o (next-shut (is_undeclared_variable ks) l c o h))

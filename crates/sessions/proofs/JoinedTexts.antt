@@ -24,7 +24,7 @@ use Rattle.type_terms.proofs.AddedByView.{keeps-in-set}
 use Rattle.type_terms.proofs.ViewLaws.{sees-itself}
 use Rattle.type_terms.proofs.SameNumbers.{hold-views}
 use Rattle.declarations.specs.Promised.Elaboration.{Each}
-use Rattle.candidate_model.specs.Declared.{is_declared}
+use Rattle.candidate_model.specs.Declared.{is_declared_leaf}
 use Rattle.candidate_model.specs.DeclaredWell.{is_single}
 use Rattle.type_terms.specs.Made.{terms, is_made}
 use Rattle.text_language.specs.Promised.Declarations.{Declarations, NamedCrate, NamedStruct, NamedTrait, NamedImpl, world_of}
@@ -75,8 +75,8 @@ same-place : {N D : Type 0} (number : N → ℕ) (read : N → D) (ns : List N) 
 same-place number read ns p j k n m x y e f g h q =
     g ∙ ap read (same_Some n m (sym e ∙ ap (slice_get ns) (sym (p j n e) ∙ q ∙ p k m f) ∙ f)) ∙ sym h
 
-map-erased : (kept : ℕ → Bool) (sorts : List Sort) (t : Trees) → is_good kept sorts t ≡ true → is_made is_declared terms (plain kept t) ≡ true
-map-erased kept sorts t h = and-left (is_made is_declared terms (plain kept t)) _ h
+map-erased : (kept : ℕ → Bool) (sorts : List Sort) (t : Trees) → is_good kept sorts t ≡ true → is_made is_declared_leaf terms (plain kept t) ≡ true
+map-erased kept sorts t h = and-left (is_made is_declared_leaf terms (plain kept t)) _ h
 
 good-plain : (kept : ℕ → Bool) (sorts : List Sort) (t : Trees) → is_good kept sorts t ≡ true → some_node is_stray (erase t) ≡ false
 good-plain kept sorts t h = ap (some_node is_stray) (sym (plain-erased kept t)) ∙ made-plain (plain kept t) (map-erased kept sorts t h)

@@ -17,9 +17,9 @@ use Rattle.text_language.specs.Promised.Syntax.{TypeTree, of_primitive, never_ty
 use Rattle.text_language.specs.Promised.Declarations.{Declarations, NamedCrate, NamedStruct, NamedTrait, NamedImpl, LaterImpl, Known, a_crate, a_struct, a_trait, world_of, known, last_crate, last_changed, last_later, impl_owner, kinds_of}
 use Rattle.text_language.specs.Declarations.{nothing_declared}
 use Rattle.text_language.specs.Uses.{args_count, kinds_of_struct, kinds_of_trait, type_uses, args_uses, clause_uses}
-use Rattle.text_language.specs.Faults.{fault_of, belongs_to_crate, is_impl, is_param, is_loaded_auto, is_own_struct, is_struct_in, is_built_in, is_trait_of}
+use Rattle.text_language.specs.Faults.{fault_of, belongs_to_crate, is_impl, is_line_param, is_loaded_auto, is_own_struct, is_struct_in, is_built_in, is_trait_of}
 use Rattle.text_language.specs.Promised.Faults.{with_own, is_among, is_auto_name}
-use Rattle.text_language.specs.Lowering.{crate_number, place_among, trait_number, struct_label, type_label, type_tree, args_trees, with_self}
+use Rattle.text_language.specs.Lowering.{crate_number, place_among, trait_number, struct_label, type_label, type_tree, args_trees, bound_with_self}
 use Rattle.text_language.specs.Adding.{added, item_meanings, crate_of, struct_of, trait_of, impl_of}
 use Rattle.text_language.specs.Written.{IsWritten}
 use Rattle.text_language.specs.Text.{LineGives, other_byte, blank, unwritten, faulty, adds, LinesGive, ends, fails, goes_on, TextGives, too_long, fits}
@@ -183,8 +183,8 @@ module _ (d : Declarations) (line : List ℕ) (ps : Params) (k : Clause) (ks : L
   own-self : (t : TypeTree) (more : Trees) → is_own_struct d l t ≡ true
       → (s : ℕ) × (cs : Trees) × (os : Trees) × (type_tree (item_meanings d l 0) [] of_type t +++ more ≡ tree (adt s) cs os) × ((y : NamedStruct) × (slice_get d.structs s ≡ Some y) × (y.item.home ≡ impl_owner d))
   own-self (named n args) more h =
-      let q = own-known d n well (and-right (not (is_param l n)) _ h) in
-      let a = among-first n ps.types ps.consts (not-true (is_param l n) (and-left (not (is_param l n)) _ h)) in
+      let q = own-known d n well (and-right (not (is_line_param l n)) _ h) in
+      let a = among-first n ps.types ps.consts (not-true (is_line_param l n) (and-left (not (is_line_param l n)) _ h)) in
       (q.0, args_trees (item_meanings d l 0) [] (kinds_of_struct (known d n)) args, more, ap (λ m. tree m (args_trees (item_meanings d l 0) [] (kinds_of_struct (known d n)) args) more) (label n a ∙ q.1), q.2)
     where
       label : (n : List ℕ) → is_among n ps.types ≡ false → type_label (item_meanings d l 0) n ≡ struct_label (known d n)
@@ -430,7 +430,7 @@ line-kept d line (trait_line g a n ps bs) w f well formed h =
       structs = h.structs;
       traits = behind-more (λ (y : NamedTrait). y.item.home) nothing_declared.traits d.traits x h.traits (behind-core d (placed-item d l f refl refl));
       impls = h.impls;
-      autos = each-more (λ (y : NamedTrait). y.item.is_auto ≡ true → y.item.bounds ≡ []) d.traits x h.autos (λ q. ap (map (with_self (item_meanings d l 1) (leaf (param of_type 0)))) (bare-bounds g a n ps bs (passes-tests d l f).is_bare_auto q));
+      autos = each-more (λ (y : NamedTrait). y.item.is_auto ≡ true → y.item.bounds ≡ []) d.traits x h.autos (λ q. ap (map (bound_with_self (item_meanings d l 1) (leaf (param of_type 0)))) (bare-bounds g a n ps bs (passes-tests d l f).is_bare_auto q));
       headers = headers-still d e (λ k y q. q) (λ k y q. still-there d.traits (x ∷ []) k y q) (seen-still d e refl) (same-length (length d.crates)) d.impls h.headers;
       fields_rise = h.fields_rise;
       bounds_rise = each-more (λ (y : NamedTrait). Each (λ (r : Reference). Rises r.args) y.item.bounds) d.traits x h.bounds_rise (bounds-rise (with_own d l) ps 1 [] (leaf (param of_type 0)) refl bs);

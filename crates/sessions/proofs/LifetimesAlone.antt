@@ -15,7 +15,7 @@ use Rattle.infer_table.specs.Canonical.{StandsIn, kind_of_leaf, goal_leaves}
 use Rattle.infer_table.specs.Responses.{AnswerTrees}
 use Rattle.infer_table.specs.Solutions.{Assignment, IsSorted}
 use Rattle.infer_table.specs.Unification.{TableTrees}
-use Rattle.infer_table.specs.Values.{Value, filled}
+use Rattle.infer_table.specs.Values.{Value, filled_values}
 use Rattle.goal_evaluator.specs.Lists.{Every}
 use Rattle.goal_evaluator.specs.Content.{ChosenTerms, reading_of, UnknownStands}
 use Rattle.goal_evaluator.specs.Equations.{Hold}
@@ -148,8 +148,8 @@ module _ (types consts regions : ℕ) (constraints : Trees) (ls : List Label) (l
         let x =
         in-turn-keeps (is_good [] grown.ty_vars grown.const_vars) (lifetimes-good [] grown.ty_vars grown.const_vars) _ grown r (grown-made [] T ls theirs a fitting made.table) (pairs-made [] T ls theirs a fitting)
         (further-apart t s r grown.ty_vars grown.const_vars allows refl sorted) hold ones in (
-          with_constraints (filled values a.constraints) x.0,
-          ap (λ b. if b then applied T (map leaf_value ls) a else Some T) fitting ∙ ap (option_map (with_constraints (filled values a.constraints))) (turns [] T ls theirs a fitting grown ∙ x.1),
+          with_constraints (filled_values values a.constraints) x.0,
+          ap (λ b. if b then applied T (map leaf_value ls) a else Some T) fitting ∙ ap (option_map (with_constraints (filled_values values a.constraints))) (turns [] T ls theirs a fitting grown ∙ x.1),
         )
 
   not-refused : put_into T (map leaf_value ls) a ≡ None → ⊥

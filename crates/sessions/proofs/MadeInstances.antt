@@ -5,7 +5,7 @@ use Rattle.type_terms.specs.Promised.Trees.{Trees, none, tree, is_sort, sort_of,
 use Rattle.type_terms.specs.Trees.{is_no_tree}
 use Rattle.type_terms.specs.Made.{Standing, terms, bounds, traits, is_leaf_label, is_made}
 use Rattle.type_terms.proofs.Made.{left, right, both, false-true, no-tree, IsLast, made-ordinary, makes-ordinary, made-rest, made-alone, made-append, last-bound, last-trait, never-dynamic, never-dynamic-bound, never-principal}
-use Rattle.candidate_model.specs.Declared.{is_declared, is_lifetime_parameter}
+use Rattle.candidate_model.specs.Declared.{is_declared_leaf, is_lifetime_parameter}
 use Rattle.candidate_model.proofs.Instances.{is_bound, shift-unbound}
 use Rattle.type_terms.proofs.TermBasics.{gone}
 use Rattle.type_terms.proofs.BooleanBasics.{none-of}
@@ -89,7 +89,7 @@ module _ (good : Label → Bool) (closed : (l : Label) → is_closed_label l ≡
     last-is l c o g s e h = both (good l) _ g (both (is_sort (sort_of l) of_lifetime) _ s (both (is_no_tree c) (is_no_tree o) e h))
 
     -- the lifetime at the end of the bounds is `'static`
-    lasts : (d : ℕ) (l : Label) (c o : Trees) → is_declared l ≡ true → is_sort (sort_of l) of_lifetime ≡ true → is_lifetime_parameter l ≡ false → c ≡ none → o ≡ none
+    lasts : (d : ℕ) (l : Label) (c o : Trees) → is_declared_leaf l ≡ true → is_sort (sort_of l) of_lifetime ≡ true → is_lifetime_parameter l ≡ false → c ≡ none → o ≡ none
         → (is_made good traits (instantiate d A (tree l c o)) ≡ true) × (is_made good bounds (instantiate d A (tree l c o)) ≡ true)
     lasts d static c o g s e p q = let x = last-is static (instantiate d A c) (instantiate d A o) (closed static refl) refl (gone (instantiate d A) refl c p) (gone (instantiate d A) refl o q) in (x, x)
     lasts d (param of_lifetime i) c o g s e p q = absurd (false-true (sym e))
@@ -101,40 +101,40 @@ module _ (good : Label → Bool) (closed : (l : Label) → is_closed_label l ≡
     lasts d (bound k j i) c o g s e p q = absurd (false-true g)
     lasts d l c o g s e p q = absurd (false-true s)
 
-    pub instance-made : (d : ℕ) (m : Standing) (t : Trees) → is_made is_declared m t ≡ true → NoLifetimes t → is_made good m (instantiate d A t) ≡ true
+    pub instance-made : (d : ℕ) (m : Standing) (t : Trees) → is_made is_declared_leaf m t ≡ true → NoLifetimes t → is_made good m (instantiate d A t) ≡ true
     instance-made d terms none h e = refl
     instance-made d terms (tree dynamic c o) h e =
         let p = no-parts dynamic c o e in
-        both (is_made good bounds (instantiate d A c)) _ (instance-made d bounds c (left (is_made is_declared bounds c) (is_made is_declared terms o) h) p.1) (instance-made d terms o (right (is_made is_declared bounds c) (is_made is_declared terms o) h) p.2)
+        both (is_made good bounds (instantiate d A c)) _ (instance-made d bounds c (left (is_made is_declared_leaf bounds c) (is_made is_declared_leaf terms o) h) p.1) (instance-made d terms o (right (is_made is_declared_leaf bounds c) (is_made is_declared_leaf terms o) h) p.2)
     instance-made d terms (tree (principal k t) c o) h e = absurd (false-true h)
     instance-made d terms (tree (auto_trait t) c o) h e = absurd (false-true h)
     instance-made d terms (tree (predicate k) c o) h e = absurd (false-true h)
     instance-made d terms (tree (param s i) c o) h e =
-        made-append good (shift zero d (nth A i)) (instantiate d A o) (argument-made d i) (instance-made d terms o (made-rest is_declared (param s i) c o h) (no-parts (param s i) c o e).2)
+        made-append good (shift zero d (nth A i)) (instantiate d A o) (argument-made d i) (instance-made d terms o (made-rest is_declared_leaf (param s i) c o h) (no-parts (param s i) c o e).2)
     instance-made d terms (tree (infer s i) c o) h e = absurd (false-true h)
     instance-made d terms (tree (canonical s i) c o) h e = absurd (false-true h)
     instance-made d terms (tree (placeholder s i) c o) h e = absurd (false-true h)
     instance-made d terms (tree (bound s k i) c o) h e = absurd (false-true h)
     instance-made d terms (tree l c o) h e =
-        let x = made-ordinary is_declared l c o refl h in
+        let x = made-ordinary is_declared_leaf l c o refl h in
         let p = no-parts l c o e in
         makes-ordinary good l (instantiate (inside l d) A c) (instantiate d A o) refl (closed l refl) (no-children (is_leaf_label l) (instantiate (inside l d) A) refl c x.1) (instance-made (inside l d) terms c x.2 p.1) (instance-made d terms o x.3 p.2)
     instance-made d bounds none h e = absurd (false-true h)
     instance-made d bounds (tree (predicate k) c o) h e = absurd (false-true h)
-    instance-made d bounds (tree dynamic c o) h e = absurd (never-dynamic-bound is_declared c o h)
+    instance-made d bounds (tree dynamic c o) h e = absurd (never-dynamic-bound is_declared_leaf c o h)
     instance-made d bounds (tree (principal k t) c o) h e =
         let p = no-parts (principal k t) c o e in
-        both (is_made good terms (instantiate (inside (principal k t) d) A c)) _ (instance-made (inside (principal k t) d) terms c (left (is_made is_declared terms c) (is_made is_declared traits o) h) p.1)
-        (instance-made d traits o (right (is_made is_declared terms c) (is_made is_declared traits o) h) p.2)
+        both (is_made good terms (instantiate (inside (principal k t) d) A c)) _ (instance-made (inside (principal k t) d) terms c (left (is_made is_declared_leaf terms c) (is_made is_declared_leaf traits o) h) p.1)
+        (instance-made d traits o (right (is_made is_declared_leaf terms c) (is_made is_declared_leaf traits o) h) p.2)
     instance-made d bounds (tree (auto_trait t) c o) h e =
-        both (is_no_tree (instantiate d A c)) _ (gone (instantiate d A) refl c (no-tree c (left (is_no_tree c) (is_made is_declared traits o) h)))
-        (instance-made d traits o (right (is_no_tree c) (is_made is_declared traits o) h) (no-parts (auto_trait t) c o e).2)
-    instance-made d bounds (tree l c o) h e = let x = last-bound is_declared l c o refl h in (lasts d l c o x.good_label x.lifetime (no-parts l c o e).0 x.children x.rest).1
+        both (is_no_tree (instantiate d A c)) _ (gone (instantiate d A) refl c (no-tree c (left (is_no_tree c) (is_made is_declared_leaf traits o) h)))
+        (instance-made d traits o (right (is_no_tree c) (is_made is_declared_leaf traits o) h) (no-parts (auto_trait t) c o e).2)
+    instance-made d bounds (tree l c o) h e = let x = last-bound is_declared_leaf l c o refl h in (lasts d l c o x.good_label x.lifetime (no-parts l c o e).0 x.children x.rest).1
     instance-made d traits none h e = absurd (false-true h)
     instance-made d traits (tree (predicate k) c o) h e = absurd (false-true h)
-    instance-made d traits (tree dynamic c o) h e = absurd (never-dynamic is_declared c o h)
-    instance-made d traits (tree (principal k t) c o) h e = absurd (never-principal is_declared k t c o h)
+    instance-made d traits (tree dynamic c o) h e = absurd (never-dynamic is_declared_leaf c o h)
+    instance-made d traits (tree (principal k t) c o) h e = absurd (never-principal is_declared_leaf k t c o h)
     instance-made d traits (tree (auto_trait t) c o) h e =
-        both (is_no_tree (instantiate d A c)) _ (gone (instantiate d A) refl c (no-tree c (left (is_no_tree c) (is_made is_declared traits o) h)))
-        (instance-made d traits o (right (is_no_tree c) (is_made is_declared traits o) h) (no-parts (auto_trait t) c o e).2)
-    instance-made d traits (tree l c o) h e = let x = last-trait is_declared l c o refl h in (lasts d l c o x.good_label x.lifetime (no-parts l c o e).0 x.children x.rest).0
+        both (is_no_tree (instantiate d A c)) _ (gone (instantiate d A) refl c (no-tree c (left (is_no_tree c) (is_made is_declared_leaf traits o) h)))
+        (instance-made d traits o (right (is_no_tree c) (is_made is_declared_leaf traits o) h) (no-parts (auto_trait t) c o e).2)
+    instance-made d traits (tree l c o) h e = let x = last-trait is_declared_leaf l c o refl h in (lasts d l c o x.good_label x.lifetime (no-parts l c o e).0 x.children x.rest).0

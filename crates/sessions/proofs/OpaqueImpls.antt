@@ -15,7 +15,7 @@ use Rattle.declarations.specs.Applied.{IsApplied, sorts_of}
 use Rattle.declarations.specs.Promised.Elaboration.{supertraits}
 use Rattle.declarations.specs.Items.{Items, reference_in, trait_at, written}
 use Rattle.text_language.specs.Promised.Declarations.{Declarations}
-use Rattle.candidate_model.specs.Declared.{is_counted, is_declared, are_terms}
+use Rattle.candidate_model.specs.Declared.{is_counted, is_declared_leaf, are_terms}
 use Rattle.candidate_model.specs.DeclaredWell.{IsDeclaredWell, is_declared_well}
 use Rattle.candidate_model.proofs.DeclaredParts.{header-declared, clause-declared}
 use Rattle.candidate_model.proofs.DeclaredWell.{tests-tell}
@@ -51,7 +51,7 @@ module _ (d : Declarations) (text : IsOfText d) (c : _) (es : List Entry) (decls
 
   opaque-formed : (r : Reference) → are_terms r.args ≡ true → FitsSorts V sorts r → IsFormedClause V sorts (opaque_reference r)
   opaque-formed r t f = record {
-    fixed = opaque-made terms r.args (left (is_made is_declared terms r.args) (not (some_node is_counted r.args)) t);
+    fixed = opaque-made terms r.args (left (is_made is_declared_leaf terms r.args) (not (some_node is_counted r.args)) t);
     fit = record { nodes = opaque-nodes V sorts r.args f.nodes; trait = (f.trait.0, opaque-sorts r.args ∙ f.trait.1) };
   }
 

@@ -18,7 +18,7 @@ use Rattle.type_terms.specs.Made.{Standing, terms, bounds, traits, is_leaf_label
 use Rattle.type_terms.proofs.Made.{left, right, both, false-true, no-tree, IsLast, made-ordinary, makes-ordinary, last-bound, last-trait, never-dynamic, never-dynamic-bound, never-principal}
 use Rattle.term_folds.specs.Arguments.{sort_at}
 use Rattle.declarations.specs.Applied.{sorts_of}
-use Rattle.candidate_model.specs.Declared.{is_declared}
+use Rattle.candidate_model.specs.Declared.{is_declared_leaf}
 use Rattle.overlap_check.specs.Fresh.{HasArguments}
 use Rattle.solver_completeness.specs.FormedFacts.{Sorts, NodesFit}
 use Rattle.solver_completeness.proofs.FormedInstances.{node-same}
@@ -124,7 +124,7 @@ gone c h = subst (λ z. is_no_tree (opaque z) ≡ true) (sym h) refl
 abbrev EndsWith : Trees → Type 0
 EndsWith t = (is_made is_fixed traits t ≡ true) × (is_made is_fixed bounds t ≡ true)
 
-last : (l : Label) → is_declared l ≡ true → is_sort (sort_of l) of_lifetime ≡ true → EndsWith (opaque (tree l none none))
+last : (l : Label) → is_declared_leaf l ≡ true → is_sort (sort_of l) of_lifetime ≡ true → EndsWith (opaque (tree l none none))
 last static g s = (refl, refl)
 last (param of_lifetime i) g s = (refl, refl)
 last (param of_type i) g s = absurd (false-true s)
@@ -135,16 +135,16 @@ last (placeholder k i) g s = absurd (false-true g)
 last (bound k j i) g s = absurd (false-true g)
 last l g s = absurd (false-true s)
 
-ends : (l : Label) (c o : Trees) → IsLast is_declared l c o → EndsWith (opaque (tree l c o))
+ends : (l : Label) (c o : Trees) → IsLast is_declared_leaf l c o → EndsWith (opaque (tree l c o))
 ends l c o x =
     subst (λ z. EndsWith (opaque (tree l z o))) (sym x.children) (subst (λ z. EndsWith (opaque (tree l none z))) (sym x.rest) (last l x.good_label x.lifetime))
 
 -- with placeholders for its parameters what is declared is fixed
-pub opaque-made : (m : Standing) (t : Trees) → is_made is_declared m t ≡ true → is_made is_fixed m (opaque t) ≡ true
+pub opaque-made : (m : Standing) (t : Trees) → is_made is_declared_leaf m t ≡ true → is_made is_fixed m (opaque t) ≡ true
 opaque-made terms none h = refl
 opaque-made terms (tree dynamic c o) h =
-    both (is_made is_fixed bounds (opaque c)) _ (opaque-made bounds c (left (is_made is_declared bounds c) (is_made is_declared terms o) h))
-    (opaque-made terms o (right (is_made is_declared bounds c) (is_made is_declared terms o) h))
+    both (is_made is_fixed bounds (opaque c)) _ (opaque-made bounds c (left (is_made is_declared_leaf bounds c) (is_made is_declared_leaf terms o) h))
+    (opaque-made terms o (right (is_made is_declared_leaf bounds c) (is_made is_declared_leaf terms o) h))
 opaque-made terms (tree (principal k t) c o) h = absurd (false-true h)
 opaque-made terms (tree (auto_trait t) c o) h = absurd (false-true h)
 opaque-made terms (tree (predicate k) c o) h = absurd (false-true h)
@@ -153,27 +153,27 @@ opaque-made terms (tree (canonical s i) c o) h = absurd (false-true h)
 opaque-made terms (tree (placeholder s i) c o) h = absurd (false-true h)
 opaque-made terms (tree (bound s k i) c o) h = absurd (false-true h)
 opaque-made terms (tree (param s i) c o) h =
-    let x = made-ordinary is_declared (param s i) c o refl h in
+    let x = made-ordinary is_declared_leaf (param s i) c o refl h in
     makes-ordinary is_fixed (placeholder s i) (opaque c) (opaque o) refl refl (no-children true opaque refl c x.1) (opaque-made terms c x.2) (opaque-made terms o x.3)
 opaque-made terms (tree l c o) h =
-    let x = made-ordinary is_declared l c o refl h in
+    let x = made-ordinary is_declared_leaf l c o refl h in
     makes-ordinary is_fixed l (opaque c) (opaque o) refl refl (no-children (is_leaf_label l) opaque refl c x.1) (opaque-made terms c x.2) (opaque-made terms o x.3)
 opaque-made bounds none h = absurd (false-true h)
 opaque-made bounds (tree (predicate k) c o) h = absurd (false-true h)
-opaque-made bounds (tree dynamic c o) h = absurd (never-dynamic-bound is_declared c o h)
+opaque-made bounds (tree dynamic c o) h = absurd (never-dynamic-bound is_declared_leaf c o h)
 opaque-made bounds (tree (principal k t) c o) h =
-    both (is_made is_fixed terms (opaque c)) _ (opaque-made terms c (left (is_made is_declared terms c) (is_made is_declared traits o) h))
-    (opaque-made traits o (right (is_made is_declared terms c) (is_made is_declared traits o) h))
+    both (is_made is_fixed terms (opaque c)) _ (opaque-made terms c (left (is_made is_declared_leaf terms c) (is_made is_declared_leaf traits o) h))
+    (opaque-made traits o (right (is_made is_declared_leaf terms c) (is_made is_declared_leaf traits o) h))
 opaque-made bounds (tree (auto_trait t) c o) h =
-    both (is_no_tree (opaque c)) _ (gone c (no-tree c (left (is_no_tree c) (is_made is_declared traits o) h))) (opaque-made traits o (right (is_no_tree c) (is_made is_declared traits o) h))
-opaque-made bounds (tree l c o) h = (ends l c o (last-bound is_declared l c o refl h)).1
+    both (is_no_tree (opaque c)) _ (gone c (no-tree c (left (is_no_tree c) (is_made is_declared_leaf traits o) h))) (opaque-made traits o (right (is_no_tree c) (is_made is_declared_leaf traits o) h))
+opaque-made bounds (tree l c o) h = (ends l c o (last-bound is_declared_leaf l c o refl h)).1
 opaque-made traits none h = absurd (false-true h)
 opaque-made traits (tree (predicate k) c o) h = absurd (false-true h)
-opaque-made traits (tree dynamic c o) h = absurd (never-dynamic is_declared c o h)
-opaque-made traits (tree (principal k t) c o) h = absurd (never-principal is_declared k t c o h)
+opaque-made traits (tree dynamic c o) h = absurd (never-dynamic is_declared_leaf c o h)
+opaque-made traits (tree (principal k t) c o) h = absurd (never-principal is_declared_leaf k t c o h)
 opaque-made traits (tree (auto_trait t) c o) h =
-    both (is_no_tree (opaque c)) _ (gone c (no-tree c (left (is_no_tree c) (is_made is_declared traits o) h))) (opaque-made traits o (right (is_no_tree c) (is_made is_declared traits o) h))
-opaque-made traits (tree l c o) h = (ends l c o (last-trait is_declared l c o refl h)).0
+    both (is_no_tree (opaque c)) _ (gone c (no-tree c (left (is_no_tree c) (is_made is_declared_leaf traits o) h))) (opaque-made traits o (right (is_no_tree c) (is_made is_declared_leaf traits o) h))
+opaque-made traits (tree l c o) h = (ends l c o (last-trait is_declared_leaf l c o refl h)).0
 
 -- ---- up to lifetimes
 pub opaque-erased : (t : Trees) → opaque (erase t) ≡ erase (opaque t)

@@ -13,7 +13,7 @@ use Rattle.candidate_model.proofs.ErasedCandidates.{without_lifetimes}
 use Rattle.type_terms.specs.Promised.Questions.{FitKinds, filled_reference, HoldUnknownsAlone, SolutionBy, IsProveAnswer, yes, is_bound_place}
 use Rattle.overlap_check.proofs.Filling.{filled-shut}
 use Rattle.sessions.specs.Foreign.{is_unknown_term, is_foreign_term, are_own_terms}
-use Rattle.sessions.specs.Promised.OwnValues.{is_unknown, is_same_param, stands_in, is_stray, is_foreign, are_own, HasNoParameter, SpeakOfOwn}
+use Rattle.sessions.specs.Promised.OwnValues.{is_unknown, is_same_param, occurs_among, is_stray_place, is_foreign, are_own, HasNoParameter, SpeakOfOwn}
 use Rattle.type_terms.proofs.Matching.{or-false-left as no-left}
 use Rattle.type_terms.proofs.BooleanBasics.{or-swap as swapped}
 
@@ -77,19 +77,19 @@ param-same m (bound of_type j i) = refl
 param-same m (bound of_const j i) = refl
 param-same m l = refl
 
-stands-same : (rs : List Reference) (m : Label) → stands_in (map erased_reference rs) m ≡ stands_in rs m
+stands-same : (rs : List Reference) (m : Label) → occurs_among (map erased_reference rs) m ≡ occurs_among rs m
 stands-same [] m = refl
 stands-same (r ∷ rs) m =
-    ap (λ b. b || stands_in (map erased_reference rs) m) (some-same (λ l. is_same_param l m) (λ l. is_same_param l m) (param-same m) r.args)
+    ap (λ b. b || occurs_among (map erased_reference rs) m) (some-same (λ l. is_same_param l m) (λ l. is_same_param l m) (param-same m) r.args)
     ∙ ap (λ b. some_node (λ l. is_same_param l m) r.args || b) (stands-same rs m)
 
-stray-same : (rs : List Reference) (l : Label) → is_stray (map erased_reference rs) l ≡ is_stray rs l
+stray-same : (rs : List Reference) (l : Label) → is_stray_place (map erased_reference rs) l ≡ is_stray_place rs l
 stray-same rs (placeholder s i) = ap not (stands-same rs (placeholder s i))
 stray-same rs l = refl
 
 module _ (U V : World) (declared : (l : Label) → is_undeclared U (erase_label l) ≡ is_undeclared V l) where
   foreign-label : (rs : List Reference) (l : Label) → is_foreign U (map erased_reference rs) (erase_label l) ≡ is_foreign_term V rs l
-  foreign-label rs l = ap (λ b. b || is_stray (map erased_reference rs) (erase_label l)) (declared l) ∙ ap (λ b. is_undeclared V l || b) (stray-same rs (erase_label l))
+  foreign-label rs l = ap (λ b. b || is_stray_place (map erased_reference rs) (erase_label l)) (declared l) ∙ ap (λ b. is_undeclared V l || b) (stray-same rs (erase_label l))
 
   pub own-erased : (rs : List Reference) (ts : List Trees) → are_own U (map erased_reference rs) (map erase ts) ≡ are_own_terms V rs ts
   own-erased rs [] = refl
@@ -181,7 +181,7 @@ defaults-closed (of_const ∷ ks) = (refl, defaults-closed ks)
 defaults-closed (of_lifetime ∷ ks) = (refl, defaults-closed ks)
 
 module _ (V : World) (r : Reference) (alone : HasNoParameter r) where
-  none-stands : (m : Label) → stands_in (r ∷ []) m ≡ false
+  none-stands : (m : Label) → occurs_among (r ∷ []) m ≡ false
   none-stands m = both-false (some_node (λ l. is_same_param l m) r.args) false (some-less is_bound_place (λ l. is_same_param l m) (no-same m) r.args alone) refl
 
   own-label : (l : Label) → is_foreign V (r ∷ []) l ≡ false → is_bound_place l ≡ false

@@ -25,7 +25,7 @@ use Rattle.declarations.specs.Applied.{references_in}
 use Rattle.declarations.specs.Items.{reference_in, impl_in, written}
 use Rattle.declarations.specs.Promised.Elaboration.{Each}
 use Rattle.declarations.specs.declared.items.ImplDef.{ImplDef}
-use Rattle.candidate_model.specs.Declared.{is_declared, are_terms, are_references, is_declared_view}
+use Rattle.candidate_model.specs.Declared.{is_declared_leaf, are_terms, are_references, is_declared_view}
 use Rattle.candidate_model.specs.DeclaredWell.{is_declared_well}
 use Rattle.candidate_model.proofs.DeclaredWell.{tests-tell}
 use Rattle.overlap_check.specs.Fresh.{HasArguments}
@@ -67,7 +67,7 @@ module _ (V : World) (sorts : Sorts) (view : IsFormedView V sorts) (terms_declar
     term-of : (x : Trees) → HasArguments I x → NodesFit V sorts x → are_terms x ≡ true → IsFormedTerm V sorts (instantiate zero I x)
     term-of x a n h =
         let are = fresh-are t (sorts_of_impl def) in
-        (nodes-put I are V sorts zero x a n, trees-put I are in_terms zero x a (trees-of is_declared terms x (left (is_made is_declared terms x) _ h)))
+        (nodes-put I are V sorts zero x a n, trees-put I are in_terms zero x a (trees-of is_declared_leaf terms x (left (is_made is_declared_leaf terms x) _ h)))
 
     pub header-term : IsFormedTerm V sorts (instantiate zero I (trees_at es def.header.args.0))
     header-term = term-of (trees_at es def.header.args.0) has-arguments.header (headers decl of.seen) (left (are_terms decl.header.args) (are_references decl.clauses) (impl-declared decl of.seen))

@@ -15,7 +15,7 @@ use Rattle.type_terms.proofs.Made.{made-weaker}
 use Rattle.term_folds.specs.declared.predicate.TraitRef.{TraitRef}
 use Rattle.declarations.specs.Held.{ReferenceHeld}
 use Rattle.declarations.specs.Items.{reference_in}
-use Rattle.infer_table.specs.Canonical.{GoalTrees, canonical_form, kind_of_leaf, leaves, with_label, is_among}
+use Rattle.infer_table.specs.Canonical.{GoalTrees, canonical_form, kind_of_leaf, leaves, with_label, is_label_among}
 use Rattle.infer_table.specs.Content.{Table, content, variables_of, Ready, IsProper}
 use Rattle.infer_table.specs.Covers.{AreKnown, IsOfKnown}
 use Rattle.infer_table.specs.Responses.{AnswerTrees}
@@ -186,7 +186,7 @@ behind-fine [] l a h = (h, tt)
 behind-fine (m ∷ ls) l a h = (a.0, behind-fine ls l a.1 h)
 
 with-fine : (l : Label) (seen : List Label) → is_place l ≡ false → AllFine seen → AllFine (with_label l seen)
-with-fine l seen h a = by (is_among l seen)
+with-fine l seen h a = by (is_label_among l seen)
   where
     by : (b : Bool) → AllFine (if b then seen else seen ++ l ∷ [])
     by true = a

@@ -10,9 +10,9 @@ use Rattle.type_terms.specs.Made.{terms}
 use Rattle.type_terms.proofs.Made.{false-true}
 use Rattle.term_folds.specs.Arguments.{sort_at}
 use Rattle.infer_table.specs.Content.{Table}
-use Rattle.infer_table.specs.Opened.{is_opened, opened}
+use Rattle.infer_table.specs.Opened.{is_opened, opened_binder}
 use Rattle.infer_table.specs.Resolving.{followed, is_root}
-use Rattle.infer_table.specs.Solutions.{Binding, is_variable, replace, resolved, AllValued}
+use Rattle.infer_table.specs.Solutions.{Binding, is_same_variable, replace, resolved, AllValued}
 use Rattle.infer_table.specs.Unification.{TableTrees, with_binding, object_parts, parts_of, term_sort}
 use Rattle.infer_table.proofs.ContentFacts.{AllSorted}
 use Rattle.infer_table.proofs.Kept.{Keeps}
@@ -23,7 +23,7 @@ use Rattle.goal_evaluator.specs.Lists.{Every}
 use Rattle.goal_evaluator.specs.Equations.{IsValue}
 use Rattle.goal_evaluator.proofs.Resolved.{made-resolved}
 use Rattle.declarations.specs.Applied.{sorts_of}
-use Rattle.candidate_model.specs.Declared.{is_declared}
+use Rattle.candidate_model.specs.Declared.{is_declared_leaf}
 use Rattle.overlap_check.specs.Fresh.{with_unknown, fresh_unknowns, HasArguments}
 use Rattle.solver_completeness.specs.FormedFacts.{Sorts, NodesFit, FitsNode}
 use Rattle.solver_completeness.proofs.FormedInstances.{node-same, sorts-append}
@@ -66,7 +66,7 @@ at-unknown (tree (infer k v) c o) zero s h e = (v, same (same_Some k s e) h.0)
 at-unknown (tree (infer k v) c o) (suc i) s h e = at-unknown o i s h.1 e
 at-unknown (tree l c o) i s h e = absurd h
 
-declared-free : (l : Label) → is_declared l ≡ true → stands_free l ≡ true
+declared-free : (l : Label) → is_declared_leaf l ≡ true → stands_free l ≡ true
 declared-free (canonical k i) h = absurd (false-true h)
 declared-free (bound k j i) h = absurd (false-true h)
 declared-free l h = refl
@@ -101,7 +101,7 @@ module _ (I : Trees) (are : AreUnknowns I) where
     nodes-put V sorts d o h.2 n.2,
   )
 
-  pub trees-put : (p : Place) (d : ℕ) (t : Trees) → HasArguments I t → AreTrees is_declared p t → AreTrees stands_free p (put d t)
+  pub trees-put : (p : Place) (d : ℕ) (t : Trees) → HasArguments I t → AreTrees is_declared_leaf p t → AreTrees stands_free p (put d t)
   trees-put in_terms d none a h = tt
   trees-put in_terms d (tree (param s i) c o) a h = subst (AreTrees stands_free in_terms) (sym (put-is d s i c o a.0).1) (refl, refl, trees-put in_terms d o a.2 h.2)
   trees-put in_terms d (tree (infer k v) c o) a h = absurd (false-true h.1)
@@ -128,21 +128,21 @@ module _ (I : Trees) (are : AreUnknowns I) where
   trees-put in_autos d (tree l (tree m e p) o) a h = absurd h
   trees-put in_autos d (tree l none (tree m e p)) a h = absurd h
 
--- ---- binders opened
+-- ---- binders opened_binder
 opened-sort : (b : Bool) (v k j : ℕ) → sort_of (cond b (infer of_lifetime v) (bound of_lifetime k j)) ≡ of_lifetime
 opened-sort true v k j = refl
 opened-sort false v k j = refl
 
-opened-sorts : (first n d : ℕ) (t : Trees) → sorts_of (opened first n d t) ≡ sorts_of t
+opened-sorts : (first n d : ℕ) (t : Trees) → sorts_of (opened_binder first n d t) ≡ sorts_of t
 opened-sorts first n d none = refl
-opened-sorts first n d (tree (bound of_lifetime k v) none o) = ap (λ s. s ∷ sorts_of (opened first n d o)) (opened-sort (is_opened n d k v) (first + v) k v) ∙ ap (λ z. of_lifetime ∷ z) (opened-sorts first n d o)
+opened-sorts first n d (tree (bound of_lifetime k v) none o) = ap (λ s. s ∷ sorts_of (opened_binder first n d o)) (opened-sort (is_opened n d k v) (first + v) k v) ∙ ap (λ z. of_lifetime ∷ z) (opened-sorts first n d o)
 opened-sorts first n d (tree l c o) = ap (λ z. sort_of l ∷ z) (opened-sorts first n d o)
 
-opened-autos : (first n d : ℕ) (t : Trees) → autos_with none (opened first n d t) ≡ autos_with none t
+opened-autos : (first n d : ℕ) (t : Trees) → autos_with none (opened_binder first n d t) ≡ autos_with none t
 opened-autos first n d none = refl
 opened-autos first n d (tree (bound of_lifetime k v) none o) = by (is_opened n d k v) ∙ opened-autos first n d o
   where
-    by : (b : Bool) → autos_with none (tree (cond b (infer of_lifetime (first + v)) (bound of_lifetime k v)) none (opened first n d o)) ≡ autos_with none (opened first n d o)
+    by : (b : Bool) → autos_with none (tree (cond b (infer of_lifetime (first + v)) (bound of_lifetime k v)) none (opened_binder first n d o)) ≡ autos_with none (opened_binder first n d o)
     by true = refl
     by false = refl
 opened-autos first n d (tree (auto_trait t) c o) = ap (λ z. asked t none ∷ z) (opened-autos first n d o)
@@ -152,23 +152,23 @@ module _ (V : World) (sorts : Sorts) where
   abbrev Fit : Trees → Type 0
   Fit t = NodesFit V sorts t
 
-  opened-nodes : (first n d : ℕ) (t : Trees) → Fit t → Fit (opened first n d t)
+  opened-nodes : (first n d : ℕ) (t : Trees) → Fit t → Fit (opened_binder first n d t)
   opened-nodes first n d none h = tt
-  opened-nodes first n d (tree (bound of_lifetime k v) none o) h = by (is_opened n d k v) (opened first n d o) (opened-nodes first n d o h.2)
+  opened-nodes first n d (tree (bound of_lifetime k v) none o) h = by (is_opened n d k v) (opened_binder first n d o) (opened-nodes first n d o h.2)
     where
       by : (b : Bool) (r : Trees) → Fit r → Fit (tree (cond b (infer of_lifetime (first + v)) (bound of_lifetime k v)) none r)
       by true r q = (tt, tt, q)
       by false r q = (tt, tt, q)
-  opened-nodes first n d (tree dynamic c o) h = (same-autos c (opened first n d c) (opened-autos first n d c) ∙ h.0, opened-nodes first n d c h.1, opened-nodes first n d o h.2)
+  opened-nodes first n d (tree dynamic c o) h = (same-autos c (opened_binder first n d c) (opened-autos first n d c) ∙ h.0, opened-nodes first n d c h.1, opened-nodes first n d o h.2)
   opened-nodes first n d (tree l c o) h = (
-    node-same V sorts l c (opened first n (inside l d) c) refl (opened-sorts first n (inside l d) c) h.0,
+    node-same V sorts l c (opened_binder first n (inside l d) c) refl (opened-sorts first n (inside l d) c) h.0,
     opened-nodes first n (inside l d) c h.1,
     opened-nodes first n d o h.2,
   )
 
   object-nodes : (first : ℕ) (c : Trees) → Fit c → Fit (object_parts first c)
   object-nodes first none h = tt
-  object-nodes first (tree (principal n t) c o) h = nodes-append (FitsNode V sorts) (opened first n zero c) (object_parts first o) (opened-nodes first n zero c h.1) (object-nodes first o h.2)
+  object-nodes first (tree (principal n t) c o) h = nodes-append (FitsNode V sorts) (opened_binder first n zero c) (object_parts first o) (opened-nodes first n zero c h.1) (object-nodes first o h.2)
   object-nodes first (tree (auto_trait t) c o) h = object-nodes first o h.2
   object-nodes first (tree l c o) h = h
 
@@ -233,16 +233,16 @@ module _ (V : World) (sorts : Sorts) where
   module _ (k : Sort) (v : ℕ) (r : Trees) (one : sorts_of r ≡ k ∷ []) (bare : autos_with none r ≡ []) (fit : Fit r) where
     sorts-replaced : (t : Trees) → sorts_of (replace k v r t) ≡ sorts_of t
     sorts-replaced none = refl
-    sorts-replaced (tree (infer j w) c o) = by (is_variable j w k v) refl (sorts-replaced o)
+    sorts-replaced (tree (infer j w) c o) = by (is_same_variable j w k v) refl (sorts-replaced o)
       where
-        by : (b : Bool) → is_variable j w k v ≡ b → sorts_of (replace k v r o) ≡ sorts_of o → sorts_of (if b then r +++ replace k v r o else tree (infer j w) c (replace k v r o)) ≡ j ∷ sorts_of o
+        by : (b : Bool) → is_same_variable j w k v ≡ b → sorts_of (replace k v r o) ≡ sorts_of o → sorts_of (if b then r +++ replace k v r o else tree (infer j w) c (replace k v r o)) ≡ j ∷ sorts_of o
         by true e q = sorts-append r (replace k v r o) ∙ ap (λ z. z ++ sorts_of (replace k v r o)) one ∙ ap (λ z. k ∷ z) q ∙ ap (λ z. z ∷ sorts_of o) (sym (is_variable-equal j k w v e).0)
         by false e q = ap (λ z. j ∷ z) q
     sorts-replaced (tree l c o) = ap (λ z. sort_of l ∷ z) (sorts-replaced o)
 
     autos-replaced : (t : Trees) → autos_with none (replace k v r t) ≡ autos_with none t
     autos-replaced none = refl
-    autos-replaced (tree (infer j w) c o) = by (is_variable j w k v) (autos-replaced o)
+    autos-replaced (tree (infer j w) c o) = by (is_same_variable j w k v) (autos-replaced o)
       where
         by : (b : Bool) → autos_with none (replace k v r o) ≡ autos_with none o → autos_with none (if b then r +++ replace k v r o else tree (infer j w) c (replace k v r o)) ≡ autos_with none o
         by true q = autos-append r (replace k v r o) ∙ ap (λ z. z ++ autos_with none (replace k v r o)) bare ∙ q
@@ -252,7 +252,7 @@ module _ (V : World) (sorts : Sorts) where
 
     nodes-replaced : (t : Trees) → Fit t → Fit (replace k v r t)
     nodes-replaced none h = tt
-    nodes-replaced (tree (infer j w) c o) h = by (is_variable j w k v) (nodes-replaced o h.2)
+    nodes-replaced (tree (infer j w) c o) h = by (is_same_variable j w k v) (nodes-replaced o h.2)
       where
         by : (b : Bool) → Fit (replace k v r o) → Fit (if b then r +++ replace k v r o else tree (infer j w) c (replace k v r o))
         by true q = nodes-append (FitsNode V sorts) r (replace k v r o) fit q

@@ -4,11 +4,11 @@ use Rattle.type_terms.specs.Promised.Label.{Label, Sort, of_type, of_const, of_l
 use Rattle.type_terms.specs.Promised.Trees.{Trees, none, tree, some_node}
 use Rattle.type_terms.specs.Promised.Worlds.{Reference}
 use Rattle.type_terms.proofs.Fitting.{child-shut, next-shut}
-use Rattle.infer_table.specs.Canonical.{HasNoCanonical, kind_of_leaf, leaves, with_label, is_among, canonical_form}
+use Rattle.infer_table.specs.Canonical.{HasNoCanonical, kind_of_leaf, leaves, with_label, is_label_among, canonical_form}
 use Rattle.infer_table.specs.Covers.{AreKnown}
 use Rattle.goal_evaluator.specs.FrameTables.{kinds_known}
 use Rattle.candidate_model.specs.Solver.{has_placeholder}
-use Rattle.view_lowering.specs.QuestionVariables.{number_of, is_stray}
+use Rattle.view_lowering.specs.QuestionVariables.{number_of, is_undeclared_variable}
 use Rattle.sessions.specs.Asking.{goal_alone}
 use Rattle.sessions.proofs.Given.{below}
 use Rattle.type_terms.proofs.Matching.{or-false-left as no-left}
@@ -16,15 +16,15 @@ use Rattle.type_terms.proofs.BooleanBasics.{true-false as no-true}
 
 module _ (ks : List Sort) where
   abbrev NoStray : Trees → Type 0
-  NoStray t = some_node (is_stray ks) t ≡ false
+  NoStray t = some_node (is_undeclared_variable ks) t ≡ false
 
-  first-fine : (l : Label) (c o : Trees) → NoStray (tree l c o) → is_stray ks l ≡ false
-  first-fine l c o h = no-left (is_stray ks l) (some_node (is_stray ks) c) (no-left (is_stray ks l || some_node (is_stray ks) c) (some_node (is_stray ks) o) h)
+  first-fine : (l : Label) (c o : Trees) → NoStray (tree l c o) → is_undeclared_variable ks l ≡ false
+  first-fine l c o h = no-left (is_undeclared_variable ks l) (some_node (is_undeclared_variable ks) c) (no-left (is_undeclared_variable ks l || some_node (is_undeclared_variable ks) c) (some_node (is_undeclared_variable ks) o) h)
 
   pub no-canonical : (t : Trees) → NoStray t → HasNoCanonical t
   no-canonical none h = tt
   no-canonical (tree (canonical s i) c o) h = absurd (no-true (first-fine (canonical s i) c o h))
-  no-canonical (tree l c o) h = (no-canonical c (child-shut (is_stray ks) l c o h), no-canonical o (next-shut (is_stray ks) l c o h))
+  no-canonical (tree l c o) h = (no-canonical c (child-shut (is_undeclared_variable ks) l c o h), no-canonical o (next-shut (is_undeclared_variable ks) l c o h))
 
   -- a table with as many variables knows them
   module _ (counts : Sort → ℕ) (types : number_of of_type ks ≤ counts of_type) (consts : number_of of_const ks ≤ counts of_const) where
@@ -37,18 +37,18 @@ module _ (ks : List Sort) where
     pub known : (t : Trees) → NoStray t → AreKnown counts t
     known none h = tt
     known (tree (infer of_type i) c o) h =
-        (type-below i (below i (number_of of_type ks) (first-fine (infer of_type i) c o h)), known c (child-shut (is_stray ks) (infer of_type i) c o h), known o (next-shut (is_stray ks) (infer of_type i) c o h))
+        (type-below i (below i (number_of of_type ks) (first-fine (infer of_type i) c o h)), known c (child-shut (is_undeclared_variable ks) (infer of_type i) c o h), known o (next-shut (is_undeclared_variable ks) (infer of_type i) c o h))
     known (tree (infer of_const i) c o) h =
-        (const-below i (below i (number_of of_const ks) (first-fine (infer of_const i) c o h)), known c (child-shut (is_stray ks) (infer of_const i) c o h), known o (next-shut (is_stray ks) (infer of_const i) c o h))
+        (const-below i (below i (number_of of_const ks) (first-fine (infer of_const i) c o h)), known c (child-shut (is_undeclared_variable ks) (infer of_const i) c o h), known o (next-shut (is_undeclared_variable ks) (infer of_const i) c o h))
     known (tree (infer of_lifetime i) c o) h = absurd (no-true (first-fine (infer of_lifetime i) c o h))
-    known (tree l c o) h = (known c (child-shut (is_stray ks) l c o h), known o (next-shut (is_stray ks) l c o h))
+    known (tree l c o) h = (known c (child-shut (is_undeclared_variable ks) l c o h), known o (next-shut (is_undeclared_variable ks) l c o h))
 
   -- ---- no parameter is a variable of the form
   abbrev AllFine : List Label → Type 0
   AllFine [] = Unit {0}
-  AllFine (l ∷ ls) = (is_stray ks l ≡ false) × AllFine ls
+  AllFine (l ∷ ls) = (is_undeclared_variable ks l ≡ false) × AllFine ls
 
-  one-fine : (l : Label) (ls : List Label) → is_stray ks l ≡ false → has_placeholder (kinds_known (map kind_of_leaf ls)) ≡ false → has_placeholder (kinds_known (kind_of_leaf l ∷ map kind_of_leaf ls)) ≡ false
+  one-fine : (l : Label) (ls : List Label) → is_undeclared_variable ks l ≡ false → has_placeholder (kinds_known (map kind_of_leaf ls)) ≡ false → has_placeholder (kinds_known (kind_of_leaf l ∷ map kind_of_leaf ls)) ≡ false
   one-fine (infer of_type i) ls h e = e
   one-fine (infer of_const i) ls h e = e
   one-fine (infer of_lifetime i) ls h e = e
@@ -65,12 +65,12 @@ module _ (ks : List Sort) where
   kinds-fine [] h = refl
   kinds-fine (l ∷ ls) h = one-fine l ls h.0 (kinds-fine ls h.1)
 
-  behind-fine : (ls : List Label) (l : Label) → AllFine ls → is_stray ks l ≡ false → AllFine (ls ++ l ∷ [])
+  behind-fine : (ls : List Label) (l : Label) → AllFine ls → is_undeclared_variable ks l ≡ false → AllFine (ls ++ l ∷ [])
   behind-fine [] l a h = (h, tt)
   behind-fine (m ∷ ls) l a h = (a.0, behind-fine ls l a.1 h)
 
-  with-fine : (l : Label) (seen : List Label) → is_stray ks l ≡ false → AllFine seen → AllFine (with_label l seen)
-  with-fine l seen h a = by (is_among l seen)
+  with-fine : (l : Label) (seen : List Label) → is_undeclared_variable ks l ≡ false → AllFine seen → AllFine (with_label l seen)
+  with-fine l seen h a = by (is_label_among l seen)
     where
       by : (b : Bool) → AllFine (if b then seen else seen ++ l ∷ [])
       by true = a
@@ -79,7 +79,7 @@ module _ (ks : List Sort) where
   leaves-fine : (t : Trees) → NoStray t → (seen : List Label) → AllFine seen → AllFine (leaves kind_of_leaf seen t)
   leaves-fine none h seen a = a
   leaves-fine (tree l c o) h seen a =
-      leaves-fine o (next-shut (is_stray ks) l c o h) _ (leaves-fine c (child-shut (is_stray ks) l c o h) _ (by (is_some (kind_of_leaf l))))
+      leaves-fine o (next-shut (is_undeclared_variable ks) l c o h) _ (leaves-fine c (child-shut (is_undeclared_variable ks) l c o h) _ (by (is_some (kind_of_leaf l))))
     where
       by : (b : Bool) → AllFine (if b then with_label l seen else seen)
       by true = with-fine l seen (first-fine l c o h) a

@@ -12,11 +12,11 @@ use Rattle.type_terms.specs.Promised.Worlds.{Reference}
 use Rattle.type_terms.specs.Made.{terms, bounds, traits, is_made}
 use Rattle.type_terms.proofs.Made.{false-true, made-weaker}
 use Rattle.declarations.specs.Promised.Elaboration.{Each}
-use Rattle.text_language.specs.Promised.Syntax.{TypeTree, of_primitive, never_type, variable_type, named, reference_to, pointer_to, slice_of, array_of, tuple_of, fn_of, fn_to, dyn_of, Types, no_types, and_type, Args, no_args, and_arg, Arg, lifetime_arg, number_arg, type_arg, Item, bound_item, lifetime_item, Items, no_items, and_item, Length, number_length, name_length, variable_length, Clause, Line, crate_line, struct_line, trait_line, impl_line, prove_line, refute_line, later_line, supers_line}
+use Rattle.text_language.specs.Promised.Syntax.{TypeTree, of_primitive, never_type, variable_type, named, reference_to, pointer_to, slice_of, array_of, tuple_of, fn_of, fn_to, dyn_of, Types, no_types, and_type, Args, no_args, and_arg, Arg, lifetime_arg, number_arg, type_arg, Item, bound_item, lifetime_item, DynBounds, no_items, and_item, Length, number_length, name_length, variable_length, Clause, Line, crate_line, struct_line, trait_line, impl_line, prove_line, refute_line, later_line, supers_line}
 use Rattle.text_language.specs.Promised.Declarations.{Declarations, NamedImpl, Question, Variable, Known, a_crate, a_struct, a_trait, known}
 use Rattle.text_language.specs.Declarations.{nothing_declared}
 use Rattle.text_language.specs.Uses.{Use, name_use, trait_use, variable_use, dyn_use, items_use, item_shape, item_shapes, args_count, types_count, kinds_of_struct, kinds_of_trait, next_kind, other_kinds, length_uses, lifetime_uses, binder_uses, type_uses, types_uses, args_uses, arg_uses, item_uses, items_uses, bound_uses, clause_uses, params_of}
-use Rattle.text_language.specs.Faults.{fault_of, is_param, is_param_of, is_type_of, static_name, is_late, is_any, variables_in, once, is_of_other_kind}
+use Rattle.text_language.specs.Faults.{fault_of, is_line_param, is_param_of, is_type_of, static_name, is_late, is_any, variables_in, once, is_of_other_kind}
 use Rattle.text_language.specs.Promised.Faults.{with_own, is_among, is_auto_name}
 use Rattle.text_language.specs.Lowering.{Meanings, place_among, variable_label, type_label, lifetime_under, lifetime_label, optional_lifetime, length_label, struct_label, trait_number, auto_leaves, autos, with_auto, item_lifetime, last_lifetime, type_tree, types_trees, args_trees, arg_tree, item_tree, items_trees, clause_reference}
 use Rattle.text_language.specs.Adding.{added, impl_of, item_meanings, question_of, question_meanings}
@@ -207,7 +207,7 @@ module _ (w : Sort → ℕ → Bool) where
 
     -- ---- names
     param-bare : (n : List ℕ) (args : Args) → is_among n (params_of l).types ≡ true → UseFits d l (name_use of_type n (args_count args)) → args ≡ no_args
-    param-bare n args h f = no-count args (by (is_param l n) (among-first n (params_of l).types (params_of l).consts h) f)
+    param-bare n args h f = no-count args (by (is_line_param l n) (among-first n (params_of l).types (params_of l).consts h) f)
       where
         by : (b : Bool) → b ≡ true → (if b then is_param_of l of_type n (args_count args) else option_map_or (is_type_of of_type (args_count args)) (known D n) false) ≡ true → (args_count args == 0) ≡ true
         by true e g = and-right (is_among n (params_of l).types) _ g
@@ -233,7 +233,7 @@ module _ (w : Sort → ℕ → Bool) where
     ends-item s (bound_item b n args) = record { after_none = refl; after_some = refl }
     ends-item s (lifetime_item n) = ends-lifetime s n
 
-    ends-last : (s : List (List (List ℕ))) (i : Item) (is : Items) → Ends (last_lifetime means s i is)
+    ends-last : (s : List (List (List ℕ))) (i : Item) (is : DynBounds) → Ends (last_lifetime means s i is)
     ends-last s i no_items = ends-item s i
     ends-last s i (and_item j is) = ends-last s j is
 
@@ -246,11 +246,11 @@ module _ (w : Sort → ℕ → Bool) where
         by false g = absurd cc
     bare-item s (lifetime_item n) h = refl
 
-    bare-items : (s : List (List (List ℕ))) (is : Items) → list_any (is_late D) (item_shapes is) ≡ false → items_trees means s is ≡ none
+    bare-items : (s : List (List (List ℕ))) (is : DynBounds) → list_any (is_late D) (item_shapes is) ≡ false → items_trees means s is ≡ none
     bare-items s no_items h = refl
     bare-items s (and_item i is) h = ap (λ t. t +++ items_trees means s is) (bare-item s i (or-left (is_late D (item_shape i)) _ h)) ∙ bare-items s is (or-right (is_late D (item_shape i)) _ h)
 
-    late-none : (i : Item) (is : Items) → UseFits d l (dyn_use (item_shape i ∷ item_shapes is)) → list_any (is_late D) (item_shapes is) ≡ false
+    late-none : (i : Item) (is : DynBounds) → UseFits d l (dyn_use (item_shape i ∷ item_shapes is)) → list_any (is_late D) (item_shapes is) ≡ false
     late-none i is f = or-left _ _ (or-right _ _ f.0)
 
     -- ---- types

@@ -8,12 +8,12 @@ use Rattle.type_terms.specs.Promised.Trees.{Trees, none, tree, leaf, ◌+++◌, 
 use Rattle.type_terms.specs.Promised.Worlds.{Reference}
 use Rattle.type_terms.specs.Promised.LinkedSet.{autos_rise, dyns_rise}
 use Rattle.declarations.specs.Promised.Elaboration.{Each}
-use Rattle.text_language.specs.Promised.Syntax.{TypeTree, of_primitive, never_type, variable_type, named, reference_to, pointer_to, slice_of, array_of, tuple_of, fn_of, fn_to, dyn_of, Types, no_types, and_type, Args, no_args, and_arg, Arg, lifetime_arg, number_arg, type_arg, Item, bound_item, lifetime_item, Items, no_items, and_item, Params, Bound, Clause}
+use Rattle.text_language.specs.Promised.Syntax.{TypeTree, of_primitive, never_type, variable_type, named, reference_to, pointer_to, slice_of, array_of, tuple_of, fn_of, fn_to, dyn_of, Types, no_types, and_type, Args, no_args, and_arg, Arg, lifetime_arg, number_arg, type_arg, Item, bound_item, lifetime_item, DynBounds, no_items, and_item, Params, Bound, Clause}
 use Rattle.text_language.specs.Promised.Declarations.{Declarations, Known, a_crate, a_struct, a_trait, known}
 use Rattle.text_language.specs.Uses.{kinds_of_struct, kinds_of_trait, next_kind, other_kinds}
 use Rattle.text_language.specs.Promised.Faults.{is_among, is_auto_name}
 use Rattle.text_language.specs.Faults.{static_name}
-use Rattle.text_language.specs.Lowering.{Meanings, place_among, trait_number, struct_label, type_label, const_label, lifetime_under, lifetime_label, optional_lifetime, length_label, inserted, with_auto, autos, auto_leaves, item_lifetime, last_lifetime, type_tree, types_trees, args_trees, arg_tree, item_tree, items_trees, field_trees, with_self, clause_reference}
+use Rattle.text_language.specs.Lowering.{Meanings, place_among, trait_number, struct_label, type_label, const_label, lifetime_under, lifetime_label, optional_lifetime, length_label, inserted, with_auto, autos, auto_leaves, item_lifetime, last_lifetime, type_tree, types_trees, args_trees, arg_tree, item_tree, items_trees, field_trees, bound_with_self, clause_reference}
 use Rattle.type_terms.proofs.TreeLaws.{append-assoc}
 use Rattle.type_terms.proofs.Made.{left, right, both}
 
@@ -85,7 +85,7 @@ module _ (D : Declarations) (ps : Params) (first : ℕ) (variables : List (List 
       by true = inserted-on zero (trait_number (known D n)) ns (any (trait_number (known D n))) h
       by false = h
 
-  autos-on : (is : Items) → FromOn zero (autos D is)
+  autos-on : (is : DynBounds) → FromOn zero (autos D is)
   autos-on no_items = tt
   autos-on (and_item i is) = with-on i (autos D is) (autos-on is)
 
@@ -109,7 +109,7 @@ module _ (D : Declarations) (ps : Params) (first : ℕ) (variables : List (List 
   item-ends s (bound_item b n args) = refl
   item-ends s (lifetime_item n) = lifetime-static s n
 
-  last-ends : (s : List (List (List ℕ))) (i : Item) (is : Items) → erase (last_lifetime M s i is) ≡ leaf static
+  last-ends : (s : List (List (List ℕ))) (i : Item) (is : DynBounds) → erase (last_lifetime M s i is) ≡ leaf static
   last-ends s i no_items = item-ends s i
   last-ends s i (and_item j is) = last-ends s j is
 
@@ -126,7 +126,7 @@ module _ (D : Declarations) (ps : Params) (first : ℕ) (variables : List (List 
       by true = refl
       by false = refl
 
-  past-items : (b : ℕ) (s : List (List (List ℕ))) (is : Items) (o : Trees) → autos_rise b (erase (items_trees M s is +++ o)) ≡ autos_rise b (erase o)
+  past-items : (b : ℕ) (s : List (List (List ℕ))) (is : DynBounds) (o : Trees) → autos_rise b (erase (items_trees M s is +++ o)) ≡ autos_rise b (erase o)
   past-items b s no_items o = refl
   past-items b s (and_item i is) o = ap (λ t. autos_rise b (erase t)) (append-assoc (item_tree M s i) (items_trees M s is) o) ∙ past-item b s i (items_trees M s is +++ o) ∙ past-items b s is o
 
@@ -197,7 +197,7 @@ module _ (D : Declarations) (ps : Params) (first : ℕ) (variables : List (List 
         by true h = refl
         by false h = node-rises (principal zero (trait_number (known D n))) (erase (args_trees M (b ∷ s) (kinds_of_trait (known D n)) args)) (λ e. absurd cc) h
 
-    items-rise : (s : List (List (List ℕ))) (is : Items) → Rises (items_trees M s is)
+    items-rise : (s : List (List (List ℕ))) (is : DynBounds) → Rises (items_trees M s is)
     items-rise s no_items = refl
     items-rise s (and_item i is) = append-rises (item_tree M s i) (items_trees M s is) (item-rises s i) (items-rise s is)
 
@@ -206,7 +206,7 @@ module _ (D : Declarations) (ps : Params) (first : ℕ) (variables : List (List 
   fields-rise no_types = tt
   fields-rise (and_type t ts) = (type-rises [] of_type t, fields-rise ts)
 
-  pub with-self-rises : (self : Trees) → Rises self → (b : Bound) → Rises (with_self M self b).args
+  pub with-self-rises : (self : Trees) → Rises self → (b : Bound) → Rises (bound_with_self M self b).args
   with-self-rises self h b = append-rises self (args_trees M [] (kinds_of_trait (known D b.trait)) b.args) h (args-rise [] (kinds_of_trait (known D b.trait)) b.args)
 
   pub clause-rises : (k : Clause) → Rises (clause_reference M k).args
@@ -216,6 +216,6 @@ module _ (D : Declarations) (ps : Params) (first : ℕ) (variables : List (List 
   clauses-rise [] = tt
   clauses-rise (k ∷ ks) = (clause-rises k, clauses-rise ks)
 
-  pub bounds-rise : (self : Trees) → Rises self → (bs : List Bound) → Each (λ (r : Reference). Rises r.args) (map (with_self M self) bs)
+  pub bounds-rise : (self : Trees) → Rises self → (bs : List Bound) → Each (λ (r : Reference). Rises r.args) (map (bound_with_self M self) bs)
   bounds-rise self h [] = tt
   bounds-rise self h (b ∷ bs) = (with-self-rises self h b, bounds-rise self h bs)

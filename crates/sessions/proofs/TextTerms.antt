@@ -12,11 +12,11 @@ use Rattle.type_terms.specs.Promised.Worlds.{Reference, sees}
 use Rattle.type_terms.specs.Promised.Rules.{autos_with}
 use Rattle.type_terms.proofs.Members.{self-number}
 use Rattle.declarations.specs.Applied.{sorts_of}
-use Rattle.text_language.specs.Promised.Syntax.{TypeTree, of_primitive, never_type, variable_type, named, reference_to, pointer_to, slice_of, array_of, tuple_of, fn_of, fn_to, dyn_of, Types, no_types, and_type, Args, no_args, and_arg, Arg, lifetime_arg, number_arg, type_arg, Item, bound_item, lifetime_item, Items, no_items, and_item, Length, number_length, name_length, variable_length, Line}
+use Rattle.text_language.specs.Promised.Syntax.{TypeTree, of_primitive, never_type, variable_type, named, reference_to, pointer_to, slice_of, array_of, tuple_of, fn_of, fn_to, dyn_of, Types, no_types, and_type, Args, no_args, and_arg, Arg, lifetime_arg, number_arg, type_arg, Item, bound_item, lifetime_item, DynBounds, no_items, and_item, Length, number_length, name_length, variable_length, Line}
 use Rattle.text_language.specs.Promised.Declarations.{Declarations, NamedCrate, NamedStruct, NamedTrait, world_of, Known, a_crate, a_struct, a_trait, known}
 use Rattle.text_language.specs.Uses.{Use, name_use, trait_use, items_use, dyn_use, item_shape, item_shapes, args_count, types_count, kinds_of_struct, kinds_of_trait, length_uses, lifetime_uses, binder_uses, type_uses, types_uses, args_uses, arg_uses, item_uses, items_uses, params_of}
 use Rattle.text_language.specs.Promised.Faults.{with_own, is_among, is_auto_name}
-use Rattle.text_language.specs.Faults.{is_param, is_param_of, is_type_of, is_trait_of, home_of, is_hidden_use, static_name}
+use Rattle.text_language.specs.Faults.{is_line_param, is_param_of, is_type_of, is_trait_of, home_of, is_hidden_use, static_name}
 use Rattle.text_language.specs.Lowering.{Meanings, place_among, trait_number, struct_label, type_label, const_label, lifetime_under, lifetime_label, optional_lifetime, length_label, inserted, with_auto, autos, auto_leaves, item_lifetime, last_lifetime, type_tree, types_trees, args_trees, arg_tree, item_tree, items_trees}
 use Rattle.text_lines.specs.Faultless.{UsesFit}
 use Rattle.view_lowering.proofs.Begins.{is_scalar}
@@ -228,7 +228,7 @@ module _ (d : Declarations) (l : Line) (first c : ℕ) (parameter : Sort → ℕ
   shown true b e h = absurd cc
 
   pub trait-used : (n : List ℕ) (k : ℕ) (us : List Use) → FitSeen (trait_use n k ∷ us) → TraitKnown k (known D n)
-  trait-used n k us h = trait-known n k h.0.0.1 (shown (is_param l n) (hides (known D n)) h.0.0.0 (head-shown (trait_use n k) us h))
+  trait-used n k us h = trait-known n k h.0.0.1 (shown (is_line_param l n) (hides (known D n)) h.0.0.0 (head-shown (trait_use n k) us h))
 
   auto-bare : (n : List ℕ) → is_auto_name D n ≡ true → kinds_of_trait (known D n) ≡ []
   auto-bare n h = by (known D n) refl h
@@ -382,20 +382,20 @@ module _ (d : Declarations) (l : Line) (first c : ℕ) (parameter : Sort → ℕ
   named-node : (n : List ℕ) (k : ℕ) (us : List Use) (x : Trees) → FitSeen (name_use of_type n k ∷ us) → (length (kinds_of_struct (known D n)) ≡ k → sorts_of x ≡ kinds_of_struct (known D n)) → TextNode E (type_label means n) x
   named-node n k us x h g = by (is_among n (params_of l).types) refl
     where
-      no-param : is_among n (params_of l).types ≡ false → is_param l n ≡ false
-      no-param e = at (is_param l n) h.0.0
+      no-param : is_among n (params_of l).types ≡ false → is_line_param l n ≡ false
+      no-param e = at (is_line_param l n) h.0.0
         where
           at : (b : Bool) → (if b then is_param_of l of_type n k else option_map_or (is_type_of of_type k) (known D n) false) ≡ true → b ≡ false
           at false q = refl
           at true q = absurd (true-false (is_among n (params_of l).types) (and-left (is_among n (params_of l).types) _ q) e)
 
-      fitting : is_param l n ≡ false → option_map_or (is_type_of of_type k) (known D n) false ≡ true
+      fitting : is_line_param l n ≡ false → option_map_or (is_type_of of_type k) (known D n) false ≡ true
       fitting e = ap (λ b. if b then is_param_of l of_type n k else option_map_or (is_type_of of_type k) (known D n) false) (sym e) ∙ h.0.0
 
       by : (b : Bool) → is_among n (params_of l).types ≡ b → TextNode E (if b then parameter of_type (first + length (params_of l).lifetimes + place_among n (params_of l).types) else struct_label (known D n)) x
       by true e = free of_type _ x
       by false e =
-          let q = struct-known n k (fitting (no-param e)) (shown (is_param l n) (hides (known D n)) (no-param e) (head-shown (name_use of_type n k) us h)) in
+          let q = struct-known n k (fitting (no-param e)) (shown (is_line_param l n) (hides (known D n)) (no-param e) (head-shown (name_use of_type n k) us h)) in
           subst (λ z. TextNode E z x) (sym q.1) (subst (IsStructAt E q.0) (sym (g q.3)) q.2)
 
   -- ---- the auto traits of a `dyn`
@@ -422,7 +422,7 @@ module _ (d : Declarations) (l : Line) (first c : ℕ) (parameter : Sort → ℕ
           inserted-fit (trait_number (known D n)) ns (subst (λ ks. IsTraitAt E (trait_number (known D n)) (of_type ∷ ks)) (auto-bare n e) q.0) g
       by false e = g
 
-  autos-fit : (s : List (List (List ℕ))) (is : Items) → FitSeen (items_uses D s is) → AutosFit (autos D is)
+  autos-fit : (s : List (List (List ℕ))) (is : DynBounds) → FitSeen (items_uses D s is) → AutosFit (autos D is)
   autos-fit s no_items h = tt
   autos-fit s (and_item i is) h = with-fit s i (autos D is) (first-seen (item_uses D s i) (items_uses D s is) h) (autos-fit s is (rest-seen (item_uses D s i) (items_uses D s is) h))
 
@@ -438,7 +438,7 @@ module _ (d : Declarations) (l : Line) (first c : ℕ) (parameter : Sort → ℕ
       by true = inserted-rises (trait_number (known D n)) ns h
       by false = h
 
-  autos-rise : (is : Items) → Rising (autos D is)
+  autos-rise : (is : DynBounds) → Rising (autos D is)
   autos-rise no_items = tt
   autos-rise (and_item i is) = with-rises i (autos D is) (autos-rise is)
 
@@ -458,7 +458,7 @@ module _ (d : Declarations) (l : Line) (first c : ℕ) (parameter : Sort → ℕ
   append-twice none y z = refl
   append-twice (tree m k o) y z = ap (λ t. tree m k t) (append-twice o y z)
 
-  past-items : (s : List (List (List ℕ))) (is : Items) (o : Trees) → named_autos (items_trees means s is +++ o) ≡ named_autos o
+  past-items : (s : List (List (List ℕ))) (is : DynBounds) (o : Trees) → named_autos (items_trees means s is +++ o) ≡ named_autos o
   past-items s no_items o = refl
   past-items s (and_item i is) o = ap named_autos (append-twice (item_tree means s i) (items_trees means s is) o) ∙ past-item s i (items_trees means s is +++ o) ∙ past-items s is o
 
@@ -478,11 +478,11 @@ module _ (d : Declarations) (l : Line) (first c : ℕ) (parameter : Sort → ℕ
   ends-item s (bound_item b n args) = (static, refl, refl, tt)
   ends-item s (lifetime_item n) = (lifetime_label means s n, refl, lifetime-sort s n, (lifetime-node s n).0)
 
-  ends-last : (s : List (List (List ℕ))) (i : Item) (is : Items) → IsEnd (last_lifetime means s i is)
+  ends-last : (s : List (List (List ℕ))) (i : Item) (is : DynBounds) → IsEnd (last_lifetime means s i is)
   ends-last s i no_items = ends-item s i
   ends-last s i (and_item j is) = ends-last s j is
 
-  dyn-once : (s : List (List (List ℕ))) (i : Item) (is : Items) → let A = with_auto D i (autos D is) in
+  dyn-once : (s : List (List (List ℕ))) (i : Item) (is : DynBounds) → let A = with_auto D i (autos D is) in
       autos_stand_once (tree dynamic (item_tree means s i +++ items_trees means s is +++ auto_leaves A +++ last_lifetime means s i is) none) ≡ true
   dyn-once s i is =
       let A = with_auto D i (autos D is) in
@@ -595,7 +595,7 @@ module _ (d : Declarations) (l : Line) (first c : ℕ) (parameter : Sort → ℕ
         principal-nodes (is_auto_name D n) (length b) (trait_number (known D n)) (args_trees means (b ∷ s) ks args)
         (subst (λ z. IsTraitAt E (trait_number (known D n)) (of_type ∷ z)) (sym (args-sorts (b ∷ s) ks args f q.1 more)) q.0) (args-nodes (b ∷ s) ks args f more)
 
-    items-nodes : (s : List (List (List ℕ))) (is : Items) → ScalarItems is → FitSeen (items_uses D s is) → N (items_trees means s is)
+    items-nodes : (s : List (List (List ℕ))) (is : DynBounds) → ScalarItems is → FitSeen (items_uses D s is) → N (items_trees means s is)
     items-nodes s no_items f h = tt
     items-nodes s (and_item i is) f h =
         nodes-append (TextNode E) (item_tree means s i) (items_trees means s is) (item-nodes s i f.0 (first-seen (item_uses D s i) (items_uses D s is) h)) (items-nodes s is f.1 (rest-seen (item_uses D s i) (items_uses D s is) h))

@@ -26,8 +26,8 @@ use Rattle.type_terms.proofs.Walking.{left, right}
 use Rattle.type_terms.specs.Made.{terms, is_made}
 use Rattle.type_terms.proofs.Made.{false-true}
 use Rattle.goal_evaluator.specs.Lists.{Every}
-use Rattle.candidate_model.specs.Candidates.{is_param}
-use Rattle.candidate_model.specs.Declared.{is_declared as is_declared_label, are_terms, is_unsorted, is_lifetime_parameter}
+use Rattle.candidate_model.specs.Candidates.{is_this_param}
+use Rattle.candidate_model.specs.Declared.{is_declared_leaf as is_declared_label, are_terms, is_unsorted, is_lifetime_parameter}
 use Rattle.candidate_model.specs.DeclaredWell.{IsDeclaredWell}
 use Rattle.candidate_model.specs.Facts.{is_unerased}
 use Rattle.candidate_model.specs.Meaning.{SelfTypesBegin}
@@ -110,7 +110,7 @@ kept-mentions : (j : ℕ) (l : Label) (c o : Trees) → is_kept l ≡ true → m
 kept-mentions j (param s i) c o h = absurd (false-true h)
 kept-mentions j l c o h = refl
 
-kept-no-param : (s : Sort) (j : ℕ) (l : Label) → is_kept l ≡ true → is_param s j l ≡ true → ⊥
+kept-no-param : (s : Sort) (j : ℕ) (l : Label) → is_kept l ≡ true → is_this_param s j l ≡ true → ⊥
 kept-no-param s j (param k i) h e = false-true h
 kept-no-param s j l h e = false-true e
 
@@ -140,12 +140,12 @@ mentioned-stands (tree (param s i) c o) j h = by (j == i) refl h (mentioned-stan
   where
     by : (b : Bool) → (j == i) ≡ b → (b || mentions j o) ≡ true → (mentions j o ≡ true → (k : Sort) × Stands k j o) → (k : Sort) × Stands k j (tree (param s i) c o)
     by true e g f = (s, subst (λ z. Stands s z (tree (param s i) c o)) (sym (same-number j i e)) (here-some s i c o (sort-self s)))
-    by false e g f = let x = f g in (x.0, next-some (is_param x.0 j) (param s i) c o x.1)
+    by false e g f = let x = f g in (x.0, next-some (is_this_param x.0 j) (param s i) c o x.1)
 mentioned-stands (tree l c o) j h = by (mentions j c) refl h (mentioned-stands c j) (mentioned-stands o j)
   where
     by : (b : Bool) → mentions j c ≡ b → (b || mentions j o) ≡ true → (mentions j c ≡ true → (k : Sort) × Stands k j c) → (mentions j o ≡ true → (k : Sort) × Stands k j o) → (k : Sort) × Stands k j (tree l c o)
-    by true e g f k = let x = f e in (x.0, child-some (is_param x.0 j) l c o x.1)
-    by false e g f k = let x = k g in (x.0, next-some (is_param x.0 j) l c o x.1)
+    by true e g f k = let x = f e in (x.0, child-some (is_this_param x.0 j) l c o x.1)
+    by false e g f k = let x = k g in (x.0, next-some (is_this_param x.0 j) l c o x.1)
 
 -- no lifetime stands where lifetimes are left out
 no-lifetime : (t : Trees) (j : ℕ) → Stands of_lifetime j (erase t) → ⊥
@@ -292,7 +292,7 @@ module _ (V : World) (well : IsDeclaredWell V) (begin : SelfTypesBegin V) (erase
     value_of false j = nth B j
 
     abbrev value_at : ℕ → Trees
-    value_at j = value_of (some_node (is_param of_lifetime j) h) j
+    value_at j = value_of (some_node (is_this_param of_lifetime j) h) j
 
     abbrev C : Trees
     C = listed value_at 0 i.params
@@ -301,14 +301,14 @@ module _ (V : World) (well : IsDeclaredWell V) (begin : SelfTypesBegin V) (erase
     B-plain = arguments-plain 0 i.params (erase h) r.args plain
 
     one-value : (j : ℕ) → Single (value_at j)
-    one-value j = by (some_node (is_param of_lifetime j) h)
+    one-value j = by (some_node (is_this_param of_lifetime j) h)
       where
         by : (b : Bool) → Single (value_of b j)
         by true = refl
         by false = single-nth B j
 
     plain-value : (j : ℕ) → Plain (value_at j)
-    plain-value j = by (some_node (is_param of_lifetime j) h)
+    plain-value j = by (some_node (is_this_param of_lifetime j) h)
       where
         by : (b : Bool) → Plain (value_of b j)
         by true = refl
@@ -320,10 +320,10 @@ module _ (V : World) (well : IsDeclaredWell V) (begin : SelfTypesBegin V) (erase
     at-lifetime : (j : ℕ) → Stands of_lifetime j h → nth C j ≡ leaf static
     at-lifetime j e = nth-listed value_at one-value 0 i.params j (below i.params h h-sorted of_lifetime j e) ∙ ap value_at (zero-add j) ∙ ap (λ b. value_of b j) e
 
-    not-lifetime : (s : Sort) (j : ℕ) → is_sort s of_lifetime ≡ false → Stands s j h → some_node (is_param of_lifetime j) h ≡ false
-    not-lifetime s j n e = by (some_node (is_param of_lifetime j) h) refl
+    not-lifetime : (s : Sort) (j : ℕ) → is_sort s of_lifetime ≡ false → Stands s j h → some_node (is_this_param of_lifetime j) h ≡ false
+    not-lifetime s j n e = by (some_node (is_this_param of_lifetime j) h) refl
       where
-        by : (b : Bool) → some_node (is_param of_lifetime j) h ≡ b → b ≡ false
+        by : (b : Bool) → some_node (is_this_param of_lifetime j) h ≡ b → b ≡ false
         by false f = refl
         by true f = absurd (false-true (sym n ∙ ap (λ k. is_sort k of_lifetime) (sym (one-sort i.params h h-sorted s of_lifetime j e f))))
 

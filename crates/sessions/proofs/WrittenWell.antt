@@ -27,8 +27,8 @@ use Rattle.declarations.specs.Applied.{sort_of_param}
 use Rattle.declarations.specs.Items.{Items, HeldImpl, reference_in, impl_in, written}
 use Rattle.declarations.specs.Promised.Elaboration.{Each}
 use Rattle.declarations.proofs.Elaborating.{each-in}
-use Rattle.candidate_model.specs.Candidates.{is_param, kind_of_param, kinds_of_params}
-use Rattle.candidate_model.specs.Declared.{is_declared, is_counted, are_terms, is_otherwise, is_unsorted}
+use Rattle.candidate_model.specs.Candidates.{is_this_param, kind_of_param, kinds_of_params}
+use Rattle.candidate_model.specs.Declared.{is_declared_leaf, is_counted, are_terms, is_otherwise, is_unsorted}
 use Rattle.candidate_model.specs.DeclaredWell.{IsDeclaredWell}
 use Rattle.candidate_model.proofs.ClosedPremises.{plain}
 use Rattle.candidate_model.proofs.DeclaredParts.{header-declared, clause-declared}
@@ -58,11 +58,11 @@ not-true true e = absurd (false-true e)
 not-true false e = refl
 
 -- ---- each parameter that is a type or a constant stands in a header that tells its kind
-same-label : (s : Sort) (i : ℕ) (l : Label) → is_param s i l ≡ is_label s i l
+same-label : (s : Sort) (i : ℕ) (l : Label) → is_this_param s i l ≡ is_label s i l
 same-label s i (param r j) = refl
 same-label s i l = refl
 
-same-stands : (s : Sort) (i : ℕ) (t : Trees) → some_node (is_param s i) t ≡ some_node (is_label s i) t
+same-stands : (s : Sort) (i : ℕ) (t : Trees) → some_node (is_this_param s i) t ≡ some_node (is_label s i) t
 same-stands s i none = refl
 same-stands s i (tree l c o) = by (same-label s i l) (same-stands s i c) (same-stands s i o)
   where
@@ -74,14 +74,14 @@ kind_of of_type = Ty
 kind_of of_const = Const
 kind_of of_lifetime = Region
 
-told : (h : Trees) (s : Sort) (i : ℕ) → is_sort s of_lifetime ≡ false → kind_of s ≡ kind_of_param h i → some_node (is_param s i) h ≡ true
-told h of_type i n e = by (some_node (is_param of_type i) h) (some_node (is_param of_const i) h) e
+told : (h : Trees) (s : Sort) (i : ℕ) → is_sort s of_lifetime ≡ false → kind_of s ≡ kind_of_param h i → some_node (is_this_param s i) h ≡ true
+told h of_type i n e = by (some_node (is_this_param of_type i) h) (some_node (is_this_param of_const i) h) e
   where
     by : (a b : Bool) → Ty ≡ (if a then Ty else if b then Const else Region) → a ≡ true
     by true b e = refl
     by false true e = cc
     by false false e = cc
-told h of_const i n e = by (some_node (is_param of_type i) h) (some_node (is_param of_const i) h) e
+told h of_const i n e = by (some_node (is_this_param of_type i) h) (some_node (is_this_param of_const i) h) e
   where
     by : (a b : Bool) → Const ≡ (if a then Ty else if b then Const else Region) → b ≡ true
     by true b e = cc
@@ -119,7 +119,7 @@ header-holds h ps e i s f n = sym (same-stands s i h) ∙ told h s i n (at-place
     first k = omega arith
 
 -- ---- labels
-unsorted : (n : ℕ) (h : Trees) (s : Sort) (j : ℕ) → nat_lt j n ≡ false → (l : Label) → is_param s j l ≡ true → is_unsorted n h l ≡ true
+unsorted : (n : ℕ) (h : Trees) (s : Sort) (j : ℕ) → nat_lt j n ≡ false → (l : Label) → is_this_param s j l ≡ true → is_unsorted n h l ≡ true
 unsorted n h s j x (param r i) e =
     let same : i ≡ j = sym (eqb-true j i (right (is_sort s r) (j == i) e)) in
     subst (λ k. not (nat_lt k n) || some_node (is_otherwise r k) h ≡ true) (sym same) (ap (λ b. not b || some_node (is_otherwise r j) h) x)
@@ -173,21 +173,21 @@ module _ (es : List Entry) (d : Items) (ready : AreReadyDeclarations es d) where
     below : (j : ℕ) → mentions j (erase header) ≡ true → j < length i.def.params.items
     below j e =
         let x = mentioned-kept j (erase header) (erased-lifetimes header) e in
-        let f : some_node (is_param x.0 j) header ≡ true = sym (kept-node x.0 j x.1 header) ∙ x.2 in
+        let f : some_node (is_this_param x.0 j) header ≡ true = sym (kept-node x.0 j x.1 header) ∙ x.2 in
         is-less j (length i.def.params.items) (is-less-than x.0 f (nat_lt j (length i.def.params.items)) refl)
       where
-        is-less-than : (s : Sort) → some_node (is_param s j) header ≡ true → (b : Bool) → b ≡ nat_lt j (length i.def.params.items) → nat_lt j (length i.def.params.items) ≡ true
+        is-less-than : (s : Sort) → some_node (is_this_param s j) header ≡ true → (b : Bool) → b ≡ nat_lt j (length i.def.params.items) → nat_lt j (length i.def.params.items) ≡ true
         is-less-than s f true q = sym q
-        is-less-than s f false q = absurd (false-true (sym sorted ∙ node-weaker (is_param s j) (is_unsorted (length i.def.params.items) header) (unsorted (length i.def.params.items) header s j (sym q)) header f))
+        is-less-than s f false q = absurd (false-true (sym sorted ∙ node-weaker (is_this_param s j) (is_unsorted (length i.def.params.items) header) (unsorted (length i.def.params.items) header s j (sym q)) header f))
 
     in-header : (k : Reference) → In k (map erased_reference (decl i).clauses) → (j : ℕ) → mentions j k.args ≡ true → mentions j (erase header) ≡ true
     in-header k n j e =
         let a = map-in erased_reference (decl i).clauses k n in
         let e' : mentions j (erase a.0.args) ≡ true = subst (λ (r : Reference). mentions j r.args ≡ true) (sym a.2) e in
         let x = mentioned-kept j (erase a.0.args) (erased-lifetimes a.0.args) e' in
-        let f : some_node (is_param x.0 j) a.0.args ≡ true = sym (kept-node x.0 j x.1 a.0.args) ∙ x.2 in
-        let g : some_node (is_param x.0 j) header ≡ true = well.determined (decl i) a.0 declared-impl a.1 x.0 j f in
-        standing-mentioned x.0 j terms (erase header) (left (is_made is_declared terms (erase header)) (not (some_node is_counted (erase header))) (declared-stays header header-terms)) (kept-node x.0 j x.1 header ∙ g)
+        let f : some_node (is_this_param x.0 j) a.0.args ≡ true = sym (kept-node x.0 j x.1 a.0.args) ∙ x.2 in
+        let g : some_node (is_this_param x.0 j) header ≡ true = well.determined (decl i) a.0 declared-impl a.1 x.0 j f in
+        standing-mentioned x.0 j terms (erase header) (left (is_made is_declared_leaf terms (erase header)) (not (some_node is_counted (erase header))) (declared-stays header header-terms)) (kept-node x.0 j x.1 header ∙ g)
 
     written-well : IsWrittenWell es i.def
     written-well = record {

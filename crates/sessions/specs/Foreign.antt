@@ -13,7 +13,7 @@ use Rattle.term_folds.specs.declared.predicate.TraitRef.{TraitRef}
 use Rattle.declarations.specs.Applied.{references_in}
 use Rattle.declarations.specs.Items.{reference_in}
 use Rattle.candidate_assembly.specs.Finding.{BreaksAt, at_root}
-use Rattle.sessions.specs.Promised.OwnValues.{is_same_param, is_stray}
+use Rattle.sessions.specs.Promised.OwnValues.{is_same_param, is_stray_place}
 use Rattle.sessions.specs.declared.answers.ProveAnswer.{ProveAnswer}
 use Rattle.sessions.specs.declared.answers.ProveAnswer.TheVariants.{Yes, Maybe, Unproved}
 use Rattle.sessions.specs.declared.own_values.Param.{Param}
@@ -36,7 +36,7 @@ is_unknown_term l = false
 
 -- An open place, lifetimes aside, that is neither an unknown nor a parameter that stands in the references.
 abbrev pub strays : List Reference → Label → Bool
-strays rs l = is_stray rs (erase_label l)
+strays rs l = is_stray_place rs (erase_label l)
 
 -- That, or a name that V does not declare.
 abbrev pub is_foreign_term : World → List Reference → Label → Bool

@@ -15,7 +15,7 @@ ghost use Rattle.declarations.specs.Applied.{TraitRefsHeld, references_in};
 ghost use Rattle.declarations.specs.Held.{ReferenceHeld};
 ghost use Rattle.declarations.specs.Items.{reference_in, written};
 ghost use Rattle.candidate_assembly.specs.Finding.{BreaksAt, some_root};
-ghost use Rattle.sessions.specs.Promised.OwnValues.{is_same_param, stands_in};
+ghost use Rattle.sessions.specs.Promised.OwnValues.{is_same_param, occurs_among};
 ghost use Rattle.sessions.specs.Foreign.{IsOwnAnswer, are_own_terms, is_foreign_term, is_unknown_term, label_of, question_in, strays};
 ghost use Rattle.sessions.specs.Promised.Given.{AnswerValuesHeld};
 
@@ -142,7 +142,7 @@ fn args_hold(cx: &Interner, args: GenericArgs, param: Param) -> bool
 /// Whether a parameter stands in one of the references.
 fn references_hold(cx: &Interner, references: &[TraitRef], param: Param) -> bool
     requires { TraitRefsHeld cx.now.entries references.now }
-    ensures { result ≡ stands_in (references_in cx.now.entries references.now) (label_of param) }
+    ensures { result ≡ occurs_among (references_in cx.now.entries references.now) (label_of param) }
 {
     let mut left = references;
     'references: while let Some((reference, others)) = left.split_first() {
@@ -168,7 +168,7 @@ impl Asked<'_> {
     fn holds(self, cx: &Interner, param: Param) -> bool
         requires reference { ReferenceHeld cx.now.entries self.reference }
         requires clauses { TraitRefsHeld cx.now.entries self.clauses.now }
-        ensures { result ≡ stands_in (question_in cx.now.entries self.entry.reference self.entry.clauses.now) (label_of param) }
+        ensures { result ≡ occurs_among (question_in cx.now.entries self.entry.reference self.entry.clauses.now) (label_of param) }
     {
         args_hold(cx, self.reference.args, param) || references_hold(cx, self.clauses, param)
     }

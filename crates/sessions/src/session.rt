@@ -17,7 +17,7 @@ ghost use Rattle.sessions.specs.ByTrait.{ListsSeen, HavePartnersSeen};
 ghost use Rattle.sessions.specs.Promised.CoherentTexts.{HeldTextsAreCoherent};
 ghost use Rattle.sessions.specs.Checking.{HasOrphan, HasJudged, HasPartner, HasOverlap};
 ghost use Rattle.sessions.specs.Promised.FrameBounds.{ProvesInFrames, RefutesInFrames};
-ghost use Rattle.sessions.specs.Promised.Given.{AnswerValuesHeld, VerdictHeld, answer_in, later_of, refutation_of, supers_of, verdict_in};
+ghost use Rattle.sessions.specs.Promised.Given.{AnswerValuesHeld, VerdictHeld, answer_in, later_of, refutation_of, supers_answer_of, verdict_in};
 ghost use Rattle.sessions.specs.Promised.Promises.{IsProved, IsRefutation, IsVerdictOf};
 ghost use Rattle.sessions.specs.Promised.Releases.{AddedImplsBreakNoUser, IsSectionOf, IsLaterAnswer, IsSupersAnswer};
 ghost use Rattle.sessions.specs.SeenViews.{IsLeftView, IsViewOf};
@@ -458,7 +458,7 @@ impl<'w> Session<'w> {
         // In each linked set with a crate that answered, what got `no` has no solution, and what got `yes` without where-clauses has a
         // proof.
         ensures everywhere { AnswersHoldEverywhere }
-        ensures answer { IfOk result (λ a. IsSupersAnswer self.old.depth self.old.declarations self.old.of_crate (supers_of a)) }
+        ensures answer { IfOk result (λ a. IsSupersAnswer self.old.depth self.old.declarations self.old.of_crate (supers_answer_of a)) }
         ensures stays { StaysOn self.old self.new }
         ensures full { IfErr result (SessionFullAtLimit self.new) }
     {

@@ -5,7 +5,7 @@ use Rattle.type_terms.specs.Promised.Label.{Label, Sort, of_type, of_const, of_l
 use Rattle.type_terms.specs.Promised.Trees.{Trees, none, tree, leaf, ◌+++◌, is_sort}
 use Rattle.type_terms.specs.Codes.{same_label}
 use Rattle.type_terms.proofs.Matching.{same-label-sound}
-use Rattle.infer_table.specs.Canonical.{OpenKinds, StandsInGoal, kind_of_leaf, kind_in_clause, is_among, with_label, leaves, goal_leaves}
+use Rattle.infer_table.specs.Canonical.{OpenKinds, StandsInGoal, kind_of_leaf, kind_in_clause, is_label_among, with_label, leaves, goal_leaves}
 use Rattle.infer_table.specs.Solutions.{resolved}
 use Rattle.infer_table.specs.declared.canonical.CanonicalVarKind.{CanonicalVarKind}
 use Rattle.infer_table.specs.declared.canonical.CanonicalVarKind.TheVariants.{Ty, PlaceholderTy, Const, PlaceholderConst, Region}
@@ -65,7 +65,7 @@ module _ (t : FrameTable) (m : IsMadeFrame t) (closed : AreClosed (map Some t.ki
 -- ---- leaves stand once
 abbrev pub AreOnce : List Label → Type 0
 AreOnce [] = Unit {0}
-AreOnce (l ∷ ls) = (is_among l ls ≡ false) × AreOnce ls
+AreOnce (l ∷ ls) = (is_label_among l ls ≡ false) × AreOnce ls
 
 or-false : (a b : Bool) → (a || b) ≡ false → (a ≡ false) × (b ≡ false)
 or-false true b h = absurd (false-true (sym h))
@@ -82,21 +82,21 @@ not-same l m h = by (same_label m l) refl
     by true e = absurd (false-true (sym h ∙ subst (λ z. same_label l z ≡ true) (sym (same-label-sound m l e)) (same_label-self l)))
     by false e = refl
 
-among-end : (l m : Label) (ls : List Label) → is_among l ls ≡ false → same_label m l ≡ false → is_among l (ls ++ m ∷ []) ≡ false
+among-end : (l m : Label) (ls : List Label) → is_label_among l ls ≡ false → same_label m l ≡ false → is_label_among l (ls ++ m ∷ []) ≡ false
 among-end l m [] h e = or-both (same_label m l) false e refl
-among-end l m (x ∷ ls) h e = let y = or-false (same_label x l) (is_among l ls) h in or-both (same_label x l) (is_among l (ls ++ m ∷ [])) y.0 (among-end l m ls y.1 e)
+among-end l m (x ∷ ls) h e = let y = or-false (same_label x l) (is_label_among l ls) h in or-both (same_label x l) (is_label_among l (ls ++ m ∷ [])) y.0 (among-end l m ls y.1 e)
 
-once-end : (ls : List Label) (m : Label) → AreOnce ls → is_among m ls ≡ false → AreOnce (ls ++ m ∷ [])
+once-end : (ls : List Label) (m : Label) → AreOnce ls → is_label_among m ls ≡ false → AreOnce (ls ++ m ∷ [])
 once-end [] m h e = (refl, tt)
 once-end (l ∷ ls) m h e =
-    let x = or-false (same_label l m) (is_among m ls) e in
+    let x = or-false (same_label l m) (is_label_among m ls) e in
     (among-end l m ls h.0 (not-same l m x.0), once-end ls m h.1 x.1)
 
 once-label : (b : Bool) (l : Label) (ls : List Label) → AreOnce ls → AreOnce (if b then with_label l ls else ls)
 once-label false l ls h = h
-once-label true l ls h = by (is_among l ls) refl
+once-label true l ls h = by (is_label_among l ls) refl
   where
-    by : (b : Bool) → is_among l ls ≡ b → AreOnce (if b then ls else ls ++ l ∷ [])
+    by : (b : Bool) → is_label_among l ls ≡ b → AreOnce (if b then ls else ls ++ l ∷ [])
     by true e = h
     by false e = once-end ls l h e
 
@@ -115,21 +115,21 @@ IsAt l (m ∷ ls) (suc i) = IsAt l ls i
 pub record StandsAt (l : Label) (ls : List Label) (i : ℕ) : Type 0 where
   pub kind : kind_in (map kind_of_leaf ls) i ≡ kind_of_leaf l
   pub term : (s : ChosenTerms) → term_at (map (reading_of s) ls) i ≡ reading_of s l
-  pub among : is_among l ls ≡ true
+  pub among : is_label_among l ls ≡ true
   pub at : IsAt l ls i
 
 -- a placeholder stands at each place of that kind
 abbrev HasPlaceholder : Sort → List Label → ℕ → Type 0
 HasPlaceholder k ls i = (a : ℕ) × StandsAt (placeholder k a) ls i
 
-among-first : (l : Label) (ls : List Label) → is_among l (l ∷ ls) ≡ true
-among-first l ls = ap (λ b. b || is_among l ls) (same_label-self l)
+among-first : (l : Label) (ls : List Label) → is_label_among l (l ∷ ls) ≡ true
+among-first l ls = ap (λ b. b || is_label_among l ls) (same_label-self l)
 
 here : (l : Label) (ls : List Label) → StandsAt l (l ∷ ls) zero
 here l ls = record { kind = refl; term = λ s. refl; among = among-first l ls; at = refl }
 
 there : (l m : Label) (ls : List Label) (i : ℕ) → StandsAt l ls i → StandsAt l (m ∷ ls) (suc i)
-there l m ls i h = record { kind = h.kind; term = λ s. h.term s; among = or-right (same_label m l) (is_among l ls) h.among; at = h.at }
+there l m ls i h = record { kind = h.kind; term = λ s. h.term s; among = or-right (same_label m l) (is_label_among l ls) h.among; at = h.at }
 
 pub placeholder-at : (good : Label → Bool) → ((k : Sort) (i : ℕ) → is_sort k of_lifetime ≡ false → good (param k i) ≡ true → ⊥) → (k : Sort) → is_sort k of_lifetime ≡ false → (ls : List Label)
     → Every (λ l. good l ≡ true) ls → (i : ℕ) → is_placeholder_of k (kind_in (map kind_of_leaf ls) i) ≡ true → HasPlaceholder k ls i
@@ -167,16 +167,16 @@ placeholder-at good n of_const g (m ∷ ls) h zero e = by m h.0 e
     by l h e = absurd (false-true e)
 
 -- a leaf stands at one place
-at-among : (l : Label) (ls : List Label) (i : ℕ) → IsAt l ls i → is_among l ls ≡ true
+at-among : (l : Label) (ls : List Label) (i : ℕ) → IsAt l ls i → is_label_among l ls ≡ true
 at-among l [] i h = absurd h
-at-among l (m ∷ ls) zero h = subst (λ z. is_among z (m ∷ ls) ≡ true) h (among-first m ls)
-at-among l (m ∷ ls) (suc i) h = or-right (same_label m l) (is_among l ls) (at-among l ls i h)
+at-among l (m ∷ ls) zero h = subst (λ z. is_label_among z (m ∷ ls) ≡ true) h (among-first m ls)
+at-among l (m ∷ ls) (suc i) h = or-right (same_label m l) (is_label_among l ls) (at-among l ls i h)
 
 pub one-place : (l : Label) (ls : List Label) (i j : ℕ) → AreOnce ls → IsAt l ls i → IsAt l ls j → i ≡ j
 one-place l [] i j o h g = absurd h
 one-place l (m ∷ ls) zero zero o h g = refl
-one-place l (m ∷ ls) zero (suc j) o h g = absurd (false-true (sym (subst (λ z. is_among z ls ≡ false) h o.0) ∙ at-among l ls j g))
-one-place l (m ∷ ls) (suc i) zero o h g = absurd (false-true (sym (subst (λ z. is_among z ls ≡ false) g o.0) ∙ at-among l ls i h))
+one-place l (m ∷ ls) zero (suc j) o h g = absurd (false-true (sym (subst (λ z. is_label_among z ls ≡ false) h o.0) ∙ at-among l ls j g))
+one-place l (m ∷ ls) (suc i) zero o h g = absurd (false-true (sym (subst (λ z. is_label_among z ls ≡ false) g o.0) ∙ at-among l ls i h))
 one-place l (m ∷ ls) (suc i) (suc j) o h g = ap suc (one-place l ls i j o.1 h g)
 
 -- ---- places of terms
@@ -238,7 +238,7 @@ module _ (t : FrameTable) (closed : AreClosed (map Some t.kinds)) (n : Nested) (
   apart k i j e f same g =
       let x = placeholder-at is_theirs no-param k g ls (goal-leaves t a.made n) i e in
       let y = placeholder-at is_theirs no-param k g ls (goal-leaves t a.made n) j f in
-      let good = λ (c : ℕ) (h : is_among (placeholder k c) ls ≡ true).
+      let good = λ (c : ℕ) (h : is_label_among (placeholder k c) ls ≡ true).
       ap (is_placeholder_of k) (kind-same t.kinds c) ∙ place-good k c g (among-has (λ l. is_theirs l ≡ true) (placeholder k c) ls (goal-leaves t a.made n) h) in
       let one : x.0 ≡ y.0 =
       p.apart k x.0 y.0 (good x.0 x.1.among) (good y.0 y.1.among)

@@ -17,7 +17,7 @@ use Rattle.type_terms.proofs.Made.{left, right, both, false-true, is_ordinary, m
 use Rattle.goal_evaluator.specs.Lists.{Every}
 use Rattle.declarations.specs.Applied.{sorts_of}
 use Rattle.candidate_model.specs.Facts.{is_unerased}
-use Rattle.candidate_model.specs.Declared.{is_declared, are_terms, are_references}
+use Rattle.candidate_model.specs.Declared.{is_declared_leaf, are_terms, are_references}
 use Rattle.candidate_model.specs.DeclaredWell.{IsDeclaredWell}
 use Rattle.candidate_model.proofs.PlainRules.{every-flat}
 use Rattle.candidate_model.proofs.Rows.{fields-declared}
@@ -137,7 +137,7 @@ module _ (V : World) (sorts : Sorts) where
     module _ (A : Trees) (formed : Formed A) where
       -- an instance of what speaks of parameters of these sorts
       fits-params : (ss : List Sort) → sorts_of A ≡ ss → (t : Trees) → are_terms t ≡ true → EachNode (HasParams ss) t → fits A t ≡ true
-      fits-params ss e t h p = fits-by A terms t (left (is_made is_declared terms t) _ h) (λ s j g. nth-sort A formed.made ss e s j (param-where ss t p s j g))
+      fits-params ss e t h p = fits-by A terms t (left (is_made is_declared_leaf terms t) _ h) (λ s j g. nth-sort A formed.made ss e s j (param-where ss t p s j g))
 
       instance-of : (ss : List Sort) → sorts_of A ≡ ss → (t : Trees) → are_terms t ≡ true → NodesFit V sorts t → EachNode (HasParams ss) t → Formed (instantiate zero A t)
       instance-of ss e t h n p = instance-formed V sorts A formed.plain formed.nodes t h n (fits-params ss e t h p) (λ s j g. nth-made A j formed.made)
@@ -263,13 +263,13 @@ module _ (V : World) (sorts : Sorts) where
         clause-good c k =
             let d = member-each (λ (y : Reference). are_terms y.args) i.clauses c clauses-declared k in
             let f =
-            fits-by A terms c.args (left (is_made is_declared terms c.args) _ d)
+            fits-by A terms c.args (left (is_made is_declared_leaf terms c.args) _ d)
             (λ s j g. sort-where A i.header.args fitting s j (well.determined i c stands k s j g)) in
             let p = view.clause_traits i c stands k in
             record {
               args =
                   instance-formed V sorts A A-plain A-nodes c.args d (view.clause_nodes i c stands k) f
-                  (λ s j g. made-where V sorts A A-plain A-nodes zero terms i.header.args (left (is_made is_declared terms i.header.args) _ header-declared) fitting header-made s j (well.determined i c stands k s j g));
+                  (λ s j g. made-where V sorts A A-plain A-nodes zero terms i.header.args (left (is_made is_declared_leaf terms i.header.args) _ header-declared) fitting header-made s j (well.determined i c stands k s j g));
               trait = (p.0, sorts-put V sorts A A-plain A-nodes zero c.args f ∙ p.1);
             }
 

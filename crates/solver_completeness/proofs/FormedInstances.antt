@@ -12,8 +12,8 @@ use Rattle.type_terms.specs.Made.{Standing, terms, bounds, traits, is_leaf_label
 use Rattle.type_terms.proofs.Made.{left, right, both, false-true, no-tree, made-ordinary, makes-ordinary, made-rest, made-alone, made-append, last-bound, last-trait, never-dynamic, never-dynamic-bound, never-principal}
 use Rattle.infer_table.proofs.SolutionLaws.{is_sort-equal as is-sort}
 use Rattle.declarations.specs.Applied.{sorts_of}
-use Rattle.candidate_model.specs.Candidates.{is_param}
-use Rattle.candidate_model.specs.Declared.{is_declared, are_terms}
+use Rattle.candidate_model.specs.Candidates.{is_this_param}
+use Rattle.candidate_model.specs.Declared.{is_declared_leaf, are_terms}
 use Rattle.candidate_model.specs.Asking.{next_of}
 use Rattle.candidate_model.specs.DeclaredWell.{are_distinct}
 use Rattle.candidate_model.specs.Facts.{is_unerased}
@@ -78,26 +78,26 @@ either-middle false true c h = refl
 either-middle false false c h = absurd (false-true h)
 
 abbrev pub Stands : Sort → ℕ → Trees → Type 0
-Stands s j t = some_node (is_param s j) t ≡ true
+Stands s j t = some_node (is_this_param s j) t ≡ true
 
 stands-here : (s : Sort) (i : ℕ) (c o : Trees) → Stands s i (tree (param s i) c o)
-stands-here s i c o = either-first (is_sort s s && (i == i)) (some_node (is_param s i) c) (some_node (is_param s i) o) (both (is_sort s s) (i == i) (sort-self s) (self-number i))
+stands-here s i c o = either-first (is_sort s s && (i == i)) (some_node (is_this_param s i) c) (some_node (is_this_param s i) o) (both (is_sort s s) (i == i) (sort-self s) (self-number i))
 
 stands-child : (s : Sort) (j : ℕ) (l : Label) (c o : Trees) → Stands s j c → Stands s j (tree l c o)
-stands-child s j l c o h = either-middle (is_param s j l) (some_node (is_param s j) c) (some_node (is_param s j) o) h
+stands-child s j l c o h = either-middle (is_this_param s j l) (some_node (is_this_param s j) c) (some_node (is_this_param s j) o) h
 
 stands-next : (s : Sort) (j : ℕ) (l : Label) (c o : Trees) → Stands s j o → Stands s j (tree l c o)
-stands-next s j l c o h = either-last (is_param s j l) (some_node (is_param s j) c) (some_node (is_param s j) o) h
+stands-next s j l c o h = either-last (is_this_param s j l) (some_node (is_this_param s j) c) (some_node (is_this_param s j) o) h
 
-pub stands-cases : {Q : Type 0} (s : Sort) (j : ℕ) (l : Label) (c o : Trees) → Stands s j (tree l c o) → (is_param s j l ≡ true → Q) → (Stands s j c → Q) → (Stands s j o → Q) → Q
-stands-cases {Q = Q} s j l c o h f g k = by (is_param s j l) refl (some_node (is_param s j) c) refl h
+pub stands-cases : {Q : Type 0} (s : Sort) (j : ℕ) (l : Label) (c o : Trees) → Stands s j (tree l c o) → (is_this_param s j l ≡ true → Q) → (Stands s j c → Q) → (Stands s j o → Q) → Q
+stands-cases {Q = Q} s j l c o h f g k = by (is_this_param s j l) refl (some_node (is_this_param s j) c) refl h
   where
-    by : (a : Bool) → is_param s j l ≡ a → (b : Bool) → some_node (is_param s j) c ≡ b → (a || b || some_node (is_param s j) o) ≡ true → Q
+    by : (a : Bool) → is_this_param s j l ≡ a → (b : Bool) → some_node (is_this_param s j) c ≡ b → (a || b || some_node (is_this_param s j) o) ≡ true → Q
     by true e b x y = f e
     by false e true x y = g x
     by false e false x y = k y
 
-pub param-is : (s : Sort) (j : ℕ) (k : Sort) (i : ℕ) → is_param s j (param k i) ≡ true → (s ≡ k) × (j ≡ i)
+pub param-is : (s : Sort) (j : ℕ) (k : Sort) (i : ℕ) → is_this_param s j (param k i) ≡ true → (s ≡ k) × (j ≡ i)
 param-is s j k i e = (is-sort s k (left (is_sort s k) (j == i) e), same-number j i (right (is_sort s k) (j == i) e))
 
 -- ---- what a list of trees begins with
@@ -133,35 +133,35 @@ fits-place : (l : Label) (A c o : Trees) → is_sort (sort_of l) of_lifetime ≡
 fits-place (param s i) A c o h f p q = both (is_a s (nth A i)) _ (f s i (stands-here s i c o)) (both (is_no_tree c) _ (ap is_no_tree p) (ap (fits A) q))
 fits-place l A c o h f p q = both (fits A c) (fits A o) (ap (fits A) p) (ap (fits A) q)
 
-pub fits-by : (A : Trees) (m : Standing) (t : Trees) → is_made is_declared m t ≡ true → ((s : Sort) (j : ℕ) → Stands s j t → is_a s (nth A j) ≡ true) → fits A t ≡ true
+pub fits-by : (A : Trees) (m : Standing) (t : Trees) → is_made is_declared_leaf m t ≡ true → ((s : Sort) (j : ℕ) → Stands s j t → is_a s (nth A j) ≡ true) → fits A t ≡ true
 fits-by A terms none h f = refl
 fits-by A terms (tree (param s i) c o) h f =
-    let x = made-ordinary is_declared (param s i) c o refl h in
+    let x = made-ordinary is_declared_leaf (param s i) c o refl h in
     both (is_a s (nth A i)) _ (f s i (stands-here s i c o)) (both (is_no_tree c) _ x.1 (fits-by A terms o x.3 (λ r j g. f r j (stands-next r j (param s i) c o g))))
 fits-by A terms (tree dynamic c o) h f =
-    both (fits A c) (fits A o) (fits-by A bounds c (left (is_made is_declared bounds c) _ h) (λ r j g. f r j (stands-child r j dynamic c o g))) (fits-by A terms o (right (is_made is_declared bounds c) _ h) (λ r j g. f r j (stands-next r j dynamic c o g)))
+    both (fits A c) (fits A o) (fits-by A bounds c (left (is_made is_declared_leaf bounds c) _ h) (λ r j g. f r j (stands-child r j dynamic c o g))) (fits-by A terms o (right (is_made is_declared_leaf bounds c) _ h) (λ r j g. f r j (stands-next r j dynamic c o g)))
 fits-by A terms (tree (principal n i) c o) h f = absurd (false-true h)
 fits-by A terms (tree (auto_trait i) c o) h f = absurd (false-true h)
 fits-by A terms (tree (predicate k) c o) h f = absurd (false-true h)
 fits-by A terms (tree l c o) h f =
-    let x = made-ordinary is_declared l c o refl h in
+    let x = made-ordinary is_declared_leaf l c o refl h in
     both (fits A c) (fits A o) (fits-by A terms c x.2 (λ r j g. f r j (stands-child r j l c o g))) (fits-by A terms o x.3 (λ r j g. f r j (stands-next r j l c o g)))
 fits-by A bounds none h f = absurd (false-true h)
 fits-by A bounds (tree (principal n i) c o) h f =
-    both (fits A c) (fits A o) (fits-by A terms c (left (is_made is_declared terms c) _ h) (λ r j g. f r j (stands-child r j (principal n i) c o g)))
-    (fits-by A traits o (right (is_made is_declared terms c) _ h) (λ r j g. f r j (stands-next r j (principal n i) c o g)))
+    both (fits A c) (fits A o) (fits-by A terms c (left (is_made is_declared_leaf terms c) _ h) (λ r j g. f r j (stands-child r j (principal n i) c o g)))
+    (fits-by A traits o (right (is_made is_declared_leaf terms c) _ h) (λ r j g. f r j (stands-next r j (principal n i) c o g)))
 fits-by A bounds (tree (auto_trait i) c o) h f =
     both (fits A c) (fits A o) (ap (fits A) (no-tree c (left (is_no_tree c) _ h))) (fits-by A traits o (right (is_no_tree c) _ h) (λ r j g. f r j (stands-next r j (auto_trait i) c o g)))
 fits-by A bounds (tree (predicate k) c o) h f = absurd (false-true h)
-fits-by A bounds (tree dynamic c o) h f = absurd (never-dynamic-bound is_declared c o h)
-fits-by A bounds (tree l c o) h f = let x = last-bound is_declared l c o refl h in fits-place l A c o x.lifetime f x.children x.rest
+fits-by A bounds (tree dynamic c o) h f = absurd (never-dynamic-bound is_declared_leaf c o h)
+fits-by A bounds (tree l c o) h f = let x = last-bound is_declared_leaf l c o refl h in fits-place l A c o x.lifetime f x.children x.rest
 fits-by A traits none h f = absurd (false-true h)
 fits-by A traits (tree (auto_trait i) c o) h f =
     both (fits A c) (fits A o) (ap (fits A) (no-tree c (left (is_no_tree c) _ h))) (fits-by A traits o (right (is_no_tree c) _ h) (λ r j g. f r j (stands-next r j (auto_trait i) c o g)))
 fits-by A traits (tree (predicate k) c o) h f = absurd (false-true h)
-fits-by A traits (tree dynamic c o) h f = absurd (never-dynamic is_declared c o h)
-fits-by A traits (tree (principal n i) c o) h f = absurd (never-principal is_declared n i c o h)
-fits-by A traits (tree l c o) h f = let x = last-trait is_declared l c o refl h in fits-place l A c o x.lifetime f x.children x.rest
+fits-by A traits (tree dynamic c o) h f = absurd (never-dynamic is_declared_leaf c o h)
+fits-by A traits (tree (principal n i) c o) h f = absurd (never-principal is_declared_leaf n i c o h)
+fits-by A traits (tree l c o) h f = let x = last-trait is_declared_leaf l c o refl h in fits-place l A c o x.lifetime f x.children x.rest
 
 -- and what stands where they fit has a tree of its sort
 pub sort-where : (A t : Trees) → fits A t ≡ true → (s : Sort) (j : ℕ) → Stands s j t → is_a s (nth A j) ≡ true
@@ -170,7 +170,7 @@ sort-where A (tree (param k i) c o) h s j g =
     let r = right (is_a k (nth A i)) _ h in
     stands-cases s j (param k i) c o g
     (λ e. let x = param-is s j k i e in subst (λ z. is_a z (nth A j) ≡ true) (sym x.0) (subst (λ z. is_a k (nth A z) ≡ true) (sym x.1) (left (is_a k (nth A i)) _ h)))
-    (λ e. absurd (false-true (subst (λ z. some_node (is_param s j) z ≡ true) (no-tree c (left (is_no_tree c) _ r)) e)))
+    (λ e. absurd (false-true (subst (λ z. some_node (is_this_param s j) z ≡ true) (no-tree c (left (is_no_tree c) _ r)) e)))
     (λ e. sort-where A o (right (is_no_tree c) _ r) s j e)
 sort-where A (tree l c o) h s j g =
     stands-cases s j l c o g (λ e. absurd (false-true e)) (λ e. sort-where A c (left (fits A c) (fits A o) h) s j e) (λ e. sort-where A o (right (fits A c) (fits A o) h) s j e)
@@ -254,10 +254,10 @@ module _ (V : World) (sorts : Sorts) where
           autos = ap (autos_with none) e ∙ y.3;
         }
 
-    lastly : (d : ℕ) (l : Label) (c o : Trees) → is_declared l ≡ true → is_sort (sort_of l) of_lifetime ≡ true → c ≡ none → o ≡ none → fits A (tree l c o) ≡ true → IsLastly d l c o
+    lastly : (d : ℕ) (l : Label) (c o : Trees) → is_declared_leaf l ≡ true → is_sort (sort_of l) of_lifetime ≡ true → c ≡ none → o ≡ none → fits A (tree l c o) ≡ true → IsLastly d l c o
     lastly d l c o g s p q h = subst (λ z. IsLastly d l z o) (sym p) (subst (λ z. IsLastly d l none z) (sym q) (by l g s (subst (λ z. fits A (tree l none z) ≡ true) q (subst (λ z. fits A (tree l z o) ≡ true) p h))))
       where
-        by : (l : Label) → is_declared l ≡ true → is_sort (sort_of l) of_lifetime ≡ true → fits A (tree l none none) ≡ true → IsLastly d l none none
+        by : (l : Label) → is_declared_leaf l ≡ true → is_sort (sort_of l) of_lifetime ≡ true → fits A (tree l none none) ≡ true → IsLastly d l none none
         by static g s h = leaf-lastly d static refl refl (tt, tt, tt)
         by (param of_lifetime i) g s h = param-lastly d i (left (is_a of_lifetime (nth A i)) _ h)
         by (param of_type i) g s h = absurd (false-true s)
@@ -273,21 +273,21 @@ module _ (V : World) (sorts : Sorts) where
     IsMadeAt t = (s : Sort) (j : ℕ) → Stands s j t → is_made any_label terms (nth A j) ≡ true
 
     -- the auto traits of a `dyn` stay
-    traits-autos : (d : ℕ) (t : Trees) → is_made is_declared traits t ≡ true → fits A t ≡ true → autos_with none (put d t) ≡ autos_with none t
+    traits-autos : (d : ℕ) (t : Trees) → is_made is_declared_leaf traits t ≡ true → fits A t ≡ true → autos_with none (put d t) ≡ autos_with none t
     traits-autos d none h f = absurd (false-true h)
     traits-autos d (tree (auto_trait i) c o) h f = ap (λ z. asked i none ∷ z) (traits-autos d o (right (is_no_tree c) _ h) (right (fits A c) (fits A o) f))
     traits-autos d (tree (predicate k) c o) h f = absurd (false-true h)
-    traits-autos d (tree dynamic c o) h f = absurd (never-dynamic is_declared c o h)
-    traits-autos d (tree (principal n i) c o) h f = absurd (never-principal is_declared n i c o h)
-    traits-autos d (tree l c o) h f = let x = last-trait is_declared l c o refl h in (lastly d l c o x.good_label x.lifetime x.children x.rest f).autos
+    traits-autos d (tree dynamic c o) h f = absurd (never-dynamic is_declared_leaf c o h)
+    traits-autos d (tree (principal n i) c o) h f = absurd (never-principal is_declared_leaf n i c o h)
+    traits-autos d (tree l c o) h f = let x = last-trait is_declared_leaf l c o refl h in (lastly d l c o x.good_label x.lifetime x.children x.rest f).autos
 
-    bounds-autos : (d : ℕ) (t : Trees) → is_made is_declared bounds t ≡ true → fits A t ≡ true → autos_with none (put d t) ≡ autos_with none t
+    bounds-autos : (d : ℕ) (t : Trees) → is_made is_declared_leaf bounds t ≡ true → fits A t ≡ true → autos_with none (put d t) ≡ autos_with none t
     bounds-autos d none h f = absurd (false-true h)
     bounds-autos d (tree (auto_trait i) c o) h f = ap (λ z. asked i none ∷ z) (traits-autos d o (right (is_no_tree c) _ h) (right (fits A c) (fits A o) f))
     bounds-autos d (tree (predicate k) c o) h f = absurd (false-true h)
-    bounds-autos d (tree dynamic c o) h f = absurd (never-dynamic-bound is_declared c o h)
-    bounds-autos d (tree (principal n i) c o) h f = traits-autos d o (right (is_made is_declared terms c) _ h) (right (fits A c) (fits A o) f)
-    bounds-autos d (tree l c o) h f = let x = last-bound is_declared l c o refl h in (lastly d l c o x.good_label x.lifetime x.children x.rest f).autos
+    bounds-autos d (tree dynamic c o) h f = absurd (never-dynamic-bound is_declared_leaf c o h)
+    bounds-autos d (tree (principal n i) c o) h f = traits-autos d o (right (is_made is_declared_leaf terms c) _ h) (right (fits A c) (fits A o) f)
+    bounds-autos d (tree l c o) h f = let x = last-bound is_declared_leaf l c o refl h in (lastly d l c o x.good_label x.lifetime x.children x.rest f).autos
 
     no-children : (b : Bool) (d : ℕ) (c : Trees) → (not b || is_no_tree c) ≡ true → (not b || is_no_tree (put d c)) ≡ true
     no-children false d c h = refl
@@ -300,12 +300,12 @@ module _ (V : World) (sorts : Sorts) where
     abbrev Puts : ℕ → Standing → Trees → Type 0
     Puts d m t = (is_made any_label m (put d t) ≡ true) × NodesFit V sorts (put d t)
 
-    pub all-put : (d : ℕ) (m : Standing) (t : Trees) → is_made is_declared m t ≡ true → NodesFit V sorts t → fits A t ≡ true → IsMadeAt t → Puts d m t
+    pub all-put : (d : ℕ) (m : Standing) (t : Trees) → is_made is_declared_leaf m t ≡ true → NodesFit V sorts t → fits A t ≡ true → IsMadeAt t → Puts d m t
     all-put d terms none h n f a = (refl, tt)
     all-put d terms (tree dynamic c o) h n f a =
-        let x = left (is_made is_declared bounds c) (is_made is_declared terms o) h in
+        let x = left (is_made is_declared_leaf bounds c) (is_made is_declared_leaf terms o) h in
         let p = all-put d bounds c x n.1 (left (fits A c) (fits A o) f) (λ s j g. a s j (stands-child s j dynamic c o g)) in
-        let q = all-put d terms o (right (is_made is_declared bounds c) (is_made is_declared terms o) h) n.2 (right (fits A c) (fits A o) f) (λ s j g. a s j (stands-next s j dynamic c o g)) in (
+        let q = all-put d terms o (right (is_made is_declared_leaf bounds c) (is_made is_declared_leaf terms o) h) n.2 (right (fits A c) (fits A o) f) (λ s j g. a s j (stands-next s j dynamic c o g)) in (
           both (is_made any_label bounds (put d c)) (is_made any_label terms (put d o)) p.0 q.0,
           (ap (λ z. are_distinct (map (λ (r : Reference). r.trait) z)) (bounds-autos d c x (left (fits A c) (fits A o) f)) ∙ n.0, p.1, q.1),
         )
@@ -313,12 +313,12 @@ module _ (V : World) (sorts : Sorts) where
     all-put d terms (tree (auto_trait i) c o) h n f a = absurd (false-true h)
     all-put d terms (tree (predicate k) c o) h n f a = absurd (false-true h)
     all-put d terms (tree (param s i) c o) h n f a =
-        let q = all-put d terms o (made-rest is_declared (param s i) c o h) n.2 (right (is_no_tree c) _ (right (is_a s (nth A i)) _ f)) (λ r j g. a r j (stands-next r j (param s i) c o g)) in (
+        let q = all-put d terms o (made-rest is_declared_leaf (param s i) c o h) n.2 (right (is_no_tree c) _ (right (is_a s (nth A i)) _ f)) (λ r j g. a r j (stands-next r j (param s i) c o g)) in (
           subst (λ z. is_made any_label terms z ≡ true) (sym (put-param d s i c o)) (made-append any_label (nth A i) (put d o) (a s i (stands-here s i c o)) q.0),
           subst (NodesFit V sorts) (sym (put-param d s i c o)) (nodes-append (nth A i) (put d o) (nth-nodes A i nodes) q.1),
         )
     all-put d terms (tree l c o) h n f a =
-        let x = made-ordinary is_declared l c o refl h in
+        let x = made-ordinary is_declared_leaf l c o refl h in
         let p = all-put (inside l d) terms c x.2 n.1 (left (fits A c) (fits A o) f) (λ s j g. a s j (stands-child s j l c o g)) in
         let q = all-put d terms o x.3 n.2 (right (fits A c) (fits A o) f) (λ s j g. a s j (stands-next s j l c o g)) in (
           makes-ordinary any_label l (put (inside l d) c) (put d o) refl refl (no-children (is_leaf_label l) (inside l d) c x.1) p.0 q.0,
@@ -326,8 +326,8 @@ module _ (V : World) (sorts : Sorts) where
         )
     all-put d bounds none h n f a = absurd (false-true h)
     all-put d bounds (tree (principal k i) c o) h n f a =
-        let p = all-put (inside (principal k i) d) terms c (left (is_made is_declared terms c) _ h) n.1 (left (fits A c) (fits A o) f) (λ s j g. a s j (stands-child s j (principal k i) c o g)) in
-        let q = all-put d traits o (right (is_made is_declared terms c) _ h) n.2 (right (fits A c) (fits A o) f) (λ s j g. a s j (stands-next s j (principal k i) c o g)) in (
+        let p = all-put (inside (principal k i) d) terms c (left (is_made is_declared_leaf terms c) _ h) n.1 (left (fits A c) (fits A o) f) (λ s j g. a s j (stands-child s j (principal k i) c o g)) in
+        let q = all-put d traits o (right (is_made is_declared_leaf terms c) _ h) n.2 (right (fits A c) (fits A o) f) (λ s j g. a s j (stands-next s j (principal k i) c o g)) in (
           both (is_made any_label terms (put (inside (principal k i) d) c)) _ p.0 q.0,
           (node-same (principal k i) c (put (inside (principal k i) d) c) refl (sorts-put (inside (principal k i) d) c (left (fits A c) (fits A o) f)) n.0, p.1, q.1),
         )
@@ -336,22 +336,22 @@ module _ (V : World) (sorts : Sorts) where
         let q = all-put d traits o (right (is_no_tree c) _ h) n.2 (right (fits A c) (fits A o) f) (λ s j g. a s j (stands-next s j (auto_trait i) c o g)) in
         (both (is_no_tree (put d c)) _ p.0 q.0, (n.0, p.1, q.1))
     all-put d bounds (tree (predicate k) c o) h n f a = absurd (false-true h)
-    all-put d bounds (tree dynamic c o) h n f a = absurd (never-dynamic-bound is_declared c o h)
-    all-put d bounds (tree l c o) h n f a = let x = last-bound is_declared l c o refl h in let y = lastly d l c o x.good_label x.lifetime x.children x.rest f in (y.in_bounds, y.fit)
+    all-put d bounds (tree dynamic c o) h n f a = absurd (never-dynamic-bound is_declared_leaf c o h)
+    all-put d bounds (tree l c o) h n f a = let x = last-bound is_declared_leaf l c o refl h in let y = lastly d l c o x.good_label x.lifetime x.children x.rest f in (y.in_bounds, y.fit)
     all-put d traits none h n f a = absurd (false-true h)
     all-put d traits (tree (auto_trait i) c o) h n f a =
         let p = gone d c (no-tree c (left (is_no_tree c) _ h)) in
         let q = all-put d traits o (right (is_no_tree c) _ h) n.2 (right (fits A c) (fits A o) f) (λ s j g. a s j (stands-next s j (auto_trait i) c o g)) in
         (both (is_no_tree (put d c)) _ p.0 q.0, (n.0, p.1, q.1))
     all-put d traits (tree (predicate k) c o) h n f a = absurd (false-true h)
-    all-put d traits (tree dynamic c o) h n f a = absurd (never-dynamic is_declared c o h)
-    all-put d traits (tree (principal k i) c o) h n f a = absurd (never-principal is_declared k i c o h)
-    all-put d traits (tree l c o) h n f a = let x = last-trait is_declared l c o refl h in let y = lastly d l c o x.good_label x.lifetime x.children x.rest f in (y.in_traits, y.fit)
+    all-put d traits (tree dynamic c o) h n f a = absurd (never-dynamic is_declared_leaf c o h)
+    all-put d traits (tree (principal k i) c o) h n f a = absurd (never-principal is_declared_leaf k i c o h)
+    all-put d traits (tree l c o) h n f a = let x = last-trait is_declared_leaf l c o refl h in let y = lastly d l c o x.good_label x.lifetime x.children x.rest f in (y.in_traits, y.fit)
 
     -- so instances are formed
     pub instance-formed : (t : Trees) → are_terms t ≡ true → NodesFit V sorts t → fits A t ≡ true → IsMadeAt t → AreFormed V sorts (instantiate zero A t)
     instance-formed t h n f a =
-        let x = all-put zero terms t (left (is_made is_declared terms t) _ h) n f a in
+        let x = all-put zero terms t (left (is_made is_declared_leaf terms t) _ h) n f a in
         record { made = x.0; plain = plain-instance A t plain h; nodes = x.1 }
 
     -- ---- what stands for parameters where the instance is made
@@ -363,50 +363,50 @@ module _ (V : World) (sorts : Sorts) where
 
     last-where : (l : Label) (c o : Trees) → is_sort (sort_of l) of_lifetime ≡ true → c ≡ none → o ≡ none → fits A (tree l c o) ≡ true → (s : Sort) (j : ℕ) → Stands s j (tree l c o) → is_made any_label terms (nth A j) ≡ true
     last-where l c o e p q f s j g =
-        stands-cases s j l c o g (λ x. by l x e (sort-where A (tree l c o) f s j g)) (λ x. absurd (false-true (subst (λ z. some_node (is_param s j) z ≡ true) p x))) (λ x. absurd (false-true (subst (λ z. some_node (is_param s j) z ≡ true) q x)))
+        stands-cases s j l c o g (λ x. by l x e (sort-where A (tree l c o) f s j g)) (λ x. absurd (false-true (subst (λ z. some_node (is_this_param s j) z ≡ true) p x))) (λ x. absurd (false-true (subst (λ z. some_node (is_this_param s j) z ≡ true) q x)))
       where
-        by : (l : Label) → is_param s j l ≡ true → is_sort (sort_of l) of_lifetime ≡ true → is_a s (nth A j) ≡ true → is_made any_label terms (nth A j) ≡ true
+        by : (l : Label) → is_this_param s j l ≡ true → is_sort (sort_of l) of_lifetime ≡ true → is_a s (nth A j) ≡ true → is_made any_label terms (nth A j) ≡ true
         by (param k i) x e h =
             let y = lifetime-leaf (nth A j) (subst (λ z. is_a z (nth A j) ≡ true) ((param-is s j k i x).0 ∙ is-sort k of_lifetime e) h) in
             subst (λ z. is_made any_label terms z ≡ true) (sym y.1) (last-lifetime y.0 y.2).2
         by l x e h = absurd (false-true x)
 
-    pub made-where : (d : ℕ) (m : Standing) (t : Trees) → is_made is_declared m t ≡ true → fits A t ≡ true → is_made any_label m (put d t) ≡ true → (s : Sort) (j : ℕ) → Stands s j t → is_made any_label terms (nth A j) ≡ true
+    pub made-where : (d : ℕ) (m : Standing) (t : Trees) → is_made is_declared_leaf m t ≡ true → fits A t ≡ true → is_made any_label m (put d t) ≡ true → (s : Sort) (j : ℕ) → Stands s j t → is_made any_label terms (nth A j) ≡ true
     made-where d terms none h f n s j g = absurd (false-true g)
     made-where d terms (tree (param k i) c o) h f n s j g =
         let r = right (is_a k (nth A i)) _ f in
         let x = alone-where k (nth A i) (put d o) (left (is_a k (nth A i)) _ f) (subst (λ z. is_made any_label terms z ≡ true) (put-param d k i c o) n) in
         stands-cases s j (param k i) c o g
         (λ e. subst (λ z. is_made any_label terms (nth A z) ≡ true) (sym (param-is s j k i e).1) x.0)
-        (λ e. absurd (false-true (subst (λ z. some_node (is_param s j) z ≡ true) (no-tree c (left (is_no_tree c) _ r)) e)))
-        (λ e. made-where d terms o (made-rest is_declared (param k i) c o h) (right (is_no_tree c) _ r) x.1 s j e)
+        (λ e. absurd (false-true (subst (λ z. some_node (is_this_param s j) z ≡ true) (no-tree c (left (is_no_tree c) _ r)) e)))
+        (λ e. made-where d terms o (made-rest is_declared_leaf (param k i) c o h) (right (is_no_tree c) _ r) x.1 s j e)
     made-where d terms (tree dynamic c o) h f n s j g =
         stands-cases s j dynamic c o g (λ e. absurd (false-true e))
-        (λ e. made-where d bounds c (left (is_made is_declared bounds c) _ h) (left (fits A c) (fits A o) f) (left (is_made any_label bounds (put d c)) _ n) s j e)
-        (λ e. made-where d terms o (right (is_made is_declared bounds c) _ h) (right (fits A c) (fits A o) f) (right (is_made any_label bounds (put d c)) _ n) s j e)
+        (λ e. made-where d bounds c (left (is_made is_declared_leaf bounds c) _ h) (left (fits A c) (fits A o) f) (left (is_made any_label bounds (put d c)) _ n) s j e)
+        (λ e. made-where d terms o (right (is_made is_declared_leaf bounds c) _ h) (right (fits A c) (fits A o) f) (right (is_made any_label bounds (put d c)) _ n) s j e)
     made-where d terms (tree (principal k i) c o) h f n s j g = absurd (false-true h)
     made-where d terms (tree (auto_trait i) c o) h f n s j g = absurd (false-true h)
     made-where d terms (tree (predicate k) c o) h f n s j g = absurd (false-true h)
     made-where d terms (tree l c o) h f n s j g =
-        let x = made-ordinary is_declared l c o refl h in
+        let x = made-ordinary is_declared_leaf l c o refl h in
         let y = made-ordinary any_label l (put (inside l d) c) (put d o) refl n in
         stands-cases s j l c o g (λ e. absurd (false-true e)) (λ e. made-where (inside l d) terms c x.2 (left (fits A c) (fits A o) f) y.2 s j e) (λ e. made-where d terms o x.3 (right (fits A c) (fits A o) f) y.3 s j e)
     made-where d bounds none h f n s j g = absurd (false-true h)
     made-where d bounds (tree (principal k i) c o) h f n s j g =
         stands-cases s j (principal k i) c o g (λ e. absurd (false-true e))
-        (λ e. made-where (inside (principal k i) d) terms c (left (is_made is_declared terms c) _ h) (left (fits A c) (fits A o) f) (left (is_made any_label terms (put (inside (principal k i) d) c)) _ n) s j e)
-        (λ e. made-where d traits o (right (is_made is_declared terms c) _ h) (right (fits A c) (fits A o) f) (right (is_made any_label terms (put (inside (principal k i) d) c)) _ n) s j e)
+        (λ e. made-where (inside (principal k i) d) terms c (left (is_made is_declared_leaf terms c) _ h) (left (fits A c) (fits A o) f) (left (is_made any_label terms (put (inside (principal k i) d) c)) _ n) s j e)
+        (λ e. made-where d traits o (right (is_made is_declared_leaf terms c) _ h) (right (fits A c) (fits A o) f) (right (is_made any_label terms (put (inside (principal k i) d) c)) _ n) s j e)
     made-where d bounds (tree (auto_trait i) c o) h f n s j g =
-        stands-cases s j (auto_trait i) c o g (λ e. absurd (false-true e)) (λ e. absurd (false-true (subst (λ z. some_node (is_param s j) z ≡ true) (no-tree c (left (is_no_tree c) _ h)) e)))
+        stands-cases s j (auto_trait i) c o g (λ e. absurd (false-true e)) (λ e. absurd (false-true (subst (λ z. some_node (is_this_param s j) z ≡ true) (no-tree c (left (is_no_tree c) _ h)) e)))
         (λ e. made-where d traits o (right (is_no_tree c) _ h) (right (fits A c) (fits A o) f) (right (is_no_tree (put d c)) _ n) s j e)
     made-where d bounds (tree (predicate k) c o) h f n s j g = absurd (false-true h)
-    made-where d bounds (tree dynamic c o) h f n s j g = absurd (never-dynamic-bound is_declared c o h)
-    made-where d bounds (tree l c o) h f n s j g = let x = last-bound is_declared l c o refl h in last-where l c o x.lifetime x.children x.rest f s j g
+    made-where d bounds (tree dynamic c o) h f n s j g = absurd (never-dynamic-bound is_declared_leaf c o h)
+    made-where d bounds (tree l c o) h f n s j g = let x = last-bound is_declared_leaf l c o refl h in last-where l c o x.lifetime x.children x.rest f s j g
     made-where d traits none h f n s j g = absurd (false-true h)
     made-where d traits (tree (auto_trait i) c o) h f n s j g =
-        stands-cases s j (auto_trait i) c o g (λ e. absurd (false-true e)) (λ e. absurd (false-true (subst (λ z. some_node (is_param s j) z ≡ true) (no-tree c (left (is_no_tree c) _ h)) e)))
+        stands-cases s j (auto_trait i) c o g (λ e. absurd (false-true e)) (λ e. absurd (false-true (subst (λ z. some_node (is_this_param s j) z ≡ true) (no-tree c (left (is_no_tree c) _ h)) e)))
         (λ e. made-where d traits o (right (is_no_tree c) _ h) (right (fits A c) (fits A o) f) (right (is_no_tree (put d c)) _ n) s j e)
     made-where d traits (tree (predicate k) c o) h f n s j g = absurd (false-true h)
-    made-where d traits (tree dynamic c o) h f n s j g = absurd (never-dynamic is_declared c o h)
-    made-where d traits (tree (principal k i) c o) h f n s j g = absurd (never-principal is_declared k i c o h)
-    made-where d traits (tree l c o) h f n s j g = let x = last-trait is_declared l c o refl h in last-where l c o x.lifetime x.children x.rest f s j g
+    made-where d traits (tree dynamic c o) h f n s j g = absurd (never-dynamic is_declared_leaf c o h)
+    made-where d traits (tree (principal k i) c o) h f n s j g = absurd (never-principal is_declared_leaf k i c o h)
+    made-where d traits (tree l c o) h f n s j g = let x = last-trait is_declared_leaf l c o refl h in last-where l c o x.lifetime x.children x.rest f s j g

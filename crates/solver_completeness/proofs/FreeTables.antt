@@ -3,7 +3,7 @@ use Rattle.std.proofs.Common.{◌≡◌, ℕ, Bool, true, false, ◌&&◌, List,
 use Rattle.type_terms.specs.Promised.Label.{Label, Sort, of_type, of_const, of_lifetime, infer, bool, value}
 use Rattle.type_terms.specs.Promised.Trees.{Trees, none, leaf, sort_of}
 use Rattle.infer_table.specs.Canonical.{StandsInGoal, kind_of_leaf, kind_in_clause}
-use Rattle.infer_table.specs.Solutions.{Assignment, tree_of, is_variable, resolved, HasValues}
+use Rattle.infer_table.specs.Solutions.{Assignment, tree_of, is_same_variable, resolved, HasValues}
 use Rattle.infer_table.specs.declared.canonical.CanonicalVarKind.{CanonicalVarKind}
 use Rattle.infer_table.specs.declared.canonical.CanonicalVarKind.TheVariants.{Ty, PlaceholderTy, Const, PlaceholderConst, Region}
 use Rattle.infer_table.proofs.SolutionLaws.{is_variable-equal, is_variable-self}
@@ -55,15 +55,15 @@ module _ (t : FrameTable) (m : IsMadeFrame t) (closed : AreClosed (map Some t.ki
 
 -- one node for each unknown, and the default for all others
 abbrev pub with_node : Sort → ℕ → Label → Assignment
-with_node k v x j w = if is_variable j w k v then (x, none) else (default_label j, none)
+with_node k v x j w = if is_same_variable j w k v then (x, none) else (default_label j, none)
 
 pub node-sorted : (k : Sort) (v : ℕ) (x : Label) → sort_of x ≡ k → (j : Sort) (w : ℕ) → sort_of (with_node k v x j w).0 ≡ j
-node-sorted k v x h j w = by (is_variable j w k v) refl
+node-sorted k v x h j w = by (is_same_variable j w k v) refl
   where
     first : Bool → Label × Trees
     first b = if b then (x, none) else (default_label j, none)
 
-    by : (b : Bool) → is_variable j w k v ≡ b → sort_of (first b).0 ≡ j
+    by : (b : Bool) → is_same_variable j w k v ≡ b → sort_of (first b).0 ≡ j
     by true e = h ∙ sym (is_variable-equal j k w v e).0
     by false e = default-sort j
 

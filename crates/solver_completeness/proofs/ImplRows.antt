@@ -27,12 +27,12 @@ use Rattle.goal_evaluator.proofs.Slots.{own_slot, of-sort-twice}
 use Rattle.solver_completeness.specs.Closed.{Applies, EquationsRefuse, no_more, refused, applied}
 use Rattle.solver_completeness.specs.ClosedTables.{AreClosed, ArePlaces}
 use Rattle.candidate_model.specs.Facts.{is_plain, is_unerased, beside, children_of, reference_in, tree_of_reference}
-use Rattle.candidate_model.specs.Declared.{is_declared, is_counted, are_terms, is_unsorted}
+use Rattle.candidate_model.specs.Declared.{is_declared_leaf, is_counted, are_terms, is_unsorted}
 use Rattle.candidate_model.specs.DeclaredWell.{IsDeclaredWell}
 use Rattle.candidate_model.specs.Meaning.{ViewMeaning}
 use Rattle.declarations.specs.Apart.{are_apart}
 use Rattle.candidate_model.specs.Asking.{GoalOverKinds, goal_over_kinds, self_of, with_plain_head}
-use Rattle.candidate_model.specs.Candidates.{Candidate, premise, is_param, kind_of_param, kinds_of_params, rules_behind, all_equal, by_the_impl, is_relevant_to, can_match, by_impls}
+use Rattle.candidate_model.specs.Candidates.{Candidate, premise, is_this_param, kind_of_param, kinds_of_params, rules_behind, all_equal, by_the_impl, is_relevant_to, can_match, by_impls}
 use Rattle.candidate_model.specs.Cover.{goal_fact, read_reference}
 use Rattle.candidate_model.proofs.DeclaredParts.{header-declared, clause-declared}
 use Rattle.candidate_model.proofs.EquationTerms.{IsOpenTerms, made-behind}
@@ -59,7 +59,7 @@ use Rattle.type_terms.proofs.TermBasics.{append-none}
 
 -- ---- kinds of parameters
 own-kind : (h : Trees) (i : ℕ) → IsOwnKind (kind_of_param h i)
-own-kind h i = by (some_node (is_param of_type i) h) (some_node (is_param of_const i) h)
+own-kind h i = by (some_node (is_this_param of_type i) h) (some_node (is_this_param of_const i) h)
   where
     by : (b d : Bool) → IsOwnKind (if b then Ty else if d then Const else Region)
     by true d = tt
@@ -200,10 +200,10 @@ module _ (m : ViewMeaning) (well : IsDeclaredWell m.view) (f : CanonicalForm) (a
       s-allowed : Allows (fresh (begin a.kinds) js) s
       s-allowed = filled-allowed a.kinds js (kinds-closed m f a is_asked closed v places) (own-kinds h zero i.params) v (as_list A)
 
-      kind-is : (j : ℕ) (k : Sort) → some_node (is_param k j) h ≡ true → kind_at js j ≡ Some (kind_of_param h j)
+      kind-is : (j : ℕ) (k : Sort) → some_node (is_this_param k j) h ≡ true → kind_at js j ≡ Some (kind_of_param h j)
       kind-is j k e = kind-of-number h zero i.params j (below i.params h sorted k j e) ∙ ap (λ z. Some (kind_of_param h z)) (zero-add j)
 
-      slot-at : (j : ℕ) (k : Sort) → some_node (is_param k j) h ≡ true → (kind : CanonicalVarKind) → kind_of_param h j ≡ kind → term_at s.slots (n + j) ≡ own_slot kind (term_at (as_list A) j)
+      slot-at : (j : ℕ) (k : Sort) → some_node (is_this_param k j) h ≡ true → (kind : CanonicalVarKind) → kind_of_param h j ≡ kind → term_at s.slots (n + j) ≡ own_slot kind (term_at (as_list A) j)
       slot-at j k e kind q = slot-behind a.kinds js (kinds-closed m f a is_asked closed v places) (own-kinds h zero i.params) v (as_list A) j kind (kind-is j k e ∙ ap (λ z. Some z) q)
 
       A-plain : Plain A
@@ -212,33 +212,33 @@ module _ (m : ViewMeaning) (well : IsDeclaredWell m.view) (f : CanonicalForm) (a
       values : AreValues n s.slots A h
       values of_type j e =
           sym (append-none (of_sort of_type (term_at s.slots (n + j)))
-          ∙ ap (of_sort of_type) (slot-at j of_type e Ty (ap (λ (b : Bool). if b then Ty else if some_node (is_param of_const j) h then Const else Region) e))
+          ∙ ap (of_sort of_type) (slot-at j of_type e Ty (ap (λ (b : Bool). if b then Ty else if some_node (is_this_param of_const j) h then Const else Region) e))
           ∙ of-sort-twice of_type (term_at (as_list A) j)
           ∙ type-at A j (fits-sorted A h by.fitting of_type j e))
       values of_const j e =
           sym (append-none (of_sort of_const (term_at s.slots (n + j)))
           ∙ ap (of_sort of_const) (slot-at j of_const e Const
-          (ap (λ (b : Bool). if b then Ty else if some_node (is_param of_const j) h then Const else Region) (no-type j e) ∙ ap (λ (b : Bool). if b then Const else Region) e))
+          (ap (λ (b : Bool). if b then Ty else if some_node (is_this_param of_const j) h then Const else Region) (no-type j e) ∙ ap (λ (b : Bool). if b then Const else Region) e))
           ∙ of-sort-twice of_const (term_at (as_list A) j)
           ∙ const-at A j (fits-sorted A h by.fitting of_const j e))
         where
-          no-type : (j : ℕ) → some_node (is_param of_const j) h ≡ true → some_node (is_param of_type j) h ≡ false
-          no-type j e = either (some_node (is_param of_type j) h) refl
+          no-type : (j : ℕ) → some_node (is_this_param of_const j) h ≡ true → some_node (is_this_param of_type j) h ≡ false
+          no-type j e = either (some_node (is_this_param of_type j) h) refl
             where
-              either : (b : Bool) → some_node (is_param of_type j) h ≡ b → b ≡ false
+              either : (b : Bool) → some_node (is_this_param of_type j) h ≡ b → b ≡ false
               either false q = refl
               either true q = absurd (let z = one-sort i.params h sorted of_const of_type j e q in cc)
       values of_lifetime j e = plain-lifetime (nth A j) (fits-sorted A h by.fitting of_lifetime j e) (plain-nth A j A-plain)
 
       -- what is declared over parameters of the header is read as the instance
-      read-as : (t : Trees) → are_terms t ≡ true → ((k : Sort) (j : ℕ) → some_node (is_param k j) t ≡ true → some_node (is_param k j) h ≡ true) → instantiate zero A t ≡ read_behind n s.slots t
+      read-as : (t : Trees) → are_terms t ≡ true → ((k : Sort) (j : ℕ) → some_node (is_this_param k j) t ≡ true → some_node (is_this_param k j) h ≡ true) → instantiate zero A t ≡ read_behind n s.slots t
       read-as t d stands = instance-is n s.slots A (plain-unbound A A-plain) t d zero (λ k j e. values k j (stands k j e))
 
       header-is : read_with (given s.slots) a.reference.args ≡ read_with (given s.slots) (rules_behind n i.header).args
       header-is = args-are s s-allowed refl ∙ sym (ap (λ (x : Reference). x.args) by.is-instance) ∙ read-as h header (λ k j e. e)
 
       behind-open : IsOpenTerms (rules_behind n i.header).args
-      behind-open = made-behind n h (left (is_made is_declared terms h) (not (some_node is_counted h)) header)
+      behind-open = made-behind n h (left (is_made is_declared_leaf terms h) (not (some_node is_counted h)) header)
 
       same-fact : (t : ℕ) (e d x y : Trees) (p q : Bool) → e ≡ d → x ≡ y → p ≡ q
           → ◌≡◌ {A = Fact} (record (fact (premise a true (record { trait = t; args = none })) its) { goal = record { environment = e; predicate = tree_of_reference (record { trait = t; args = x }) none }; proper = p })
@@ -282,7 +282,7 @@ module _ (m : ViewMeaning) (well : IsDeclaredWell m.view) (f : CanonicalForm) (a
     relevant-param k j y c o B (tree (param z w) d p) e = refl
     relevant-param k j y c o B (tree l d p) e = absurd (let q = label-is l (param of_type j) _ _ _ _ e in cc)
 
-    relevant-place : (k : Label) (j : ℕ) (y c o : Trees) (B t : Trees) → is_made is_declared terms t ≡ true → instantiate zero B t ≡ tree (placeholder of_type j) none y → is_relevant_to (tree k c o) t ≡ true
+    relevant-place : (k : Label) (j : ℕ) (y c o : Trees) (B t : Trees) → is_made is_declared_leaf terms t ≡ true → instantiate zero B t ≡ tree (placeholder of_type j) none y → is_relevant_to (tree k c o) t ≡ true
     relevant-place k j y c o B none d e = absurd (no-tree (placeholder of_type j) none y e)
     relevant-place k j y c o B (tree (param z w) x p) d e = refl
     relevant-place k j y c o B (tree (placeholder z w) x p) d e = absurd (false-true d)
@@ -309,7 +309,7 @@ module _ (m : ViewMeaning) (well : IsDeclaredWell m.view) (f : CanonicalForm) (a
                     → is_relevant_to (tree (canonical of_type x.number) x.children x.others) h ≡ true
                 either (inl e) = relevant-param (canonical of_type x.number) p.number (Read x.others) x.children x.others A h (at ∙ ap Read x.is ∙ e)
                 either (inr e) =
-                    relevant-place (canonical of_type x.number) p.number (Read x.others) x.children x.others A h (left (is_made is_declared terms h) (not (some_node is_counted h)) header) (at ∙ ap Read x.is ∙ e)
+                    relevant-place (canonical of_type x.number) p.number (Read x.others) x.children x.others A h (left (is_made is_declared_leaf terms h) (not (some_node is_counted h)) header) (at ∙ ap Read x.is ∙ e)
 
     matches : (u : Rule) → ByImpl r i u → can_match a.reference.args h ≡ true
     matches u by = both-true (is_relevant_to (self_of a) h) (not (are_apart a.reference.args h)) (relevant u by) (instances-meet its.slots A a.reference.args h (ap (λ (x : Reference). x.args) by.is-instance))

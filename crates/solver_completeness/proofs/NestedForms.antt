@@ -11,7 +11,7 @@ use Rattle.type_terms.proofs.Walking.{left, right, both}
 use Rattle.type_terms.proofs.Fitting.{head-shut, child-shut, next-shut}
 use Rattle.type_terms.specs.Made.{terms, is_made}
 use Rattle.type_terms.proofs.Made.{false-true}
-use Rattle.infer_table.specs.Canonical.{GoalTrees, StandsIn, StandsInGoal, kind_of_leaf, kind_in_clause, relabeled, is_among, canonical_label, goal_leaves, canonical_form}
+use Rattle.infer_table.specs.Canonical.{GoalTrees, StandsIn, StandsInGoal, kind_of_leaf, kind_in_clause, relabeled, is_label_among, canonical_label, goal_leaves, canonical_form}
 use Rattle.infer_table.specs.Solutions.{Binding, HasValues, replace, resolved}
 use Rattle.infer_table.specs.declared.canonical.CanonicalVarKind.{CanonicalVarKind}
 use Rattle.infer_table.proofs.SolutionLaws.{resolved-none}
@@ -19,7 +19,7 @@ use Rattle.goal_evaluator.specs.Lists.{Every}
 use Rattle.goal_evaluator.specs.Instances.{read_with, put_in, term_at}
 use Rattle.goal_evaluator.specs.Content.{ChosenTerms, standing, given}
 use Rattle.goal_evaluator.specs.FrameTables.{FrameTable, IsMadeFrame, Allows, Nested, good_in, goal_in, question, fact, slot_at, is_open_label}
-use Rattle.goal_evaluator.specs.TableAnswers.{kinds_of}
+use Rattle.goal_evaluator.specs.TableAnswers.{kinds_of_labels}
 use Rattle.goal_evaluator.specs.Finite.{IsDetermined}
 use Rattle.goal_evaluator.proofs.Equating.{made-put, slots-of}
 use Rattle.goal_evaluator.proofs.Labels.{made-more}
@@ -160,20 +160,20 @@ module _ (T : FrameTable) (made : IsMadeFrame T) where
       (made-more (is_variable_over kinds) is_open_label (over-open kinds) terms x h)))
 
   module _ (ls : List Label) (opens : Every (λ l. IsSome (kind_of_leaf l)) ls) where
-    clauses-numbered : (kinds : List CanonicalVarKind) (x : Trees) → are_clauses kinds x ≡ true → ((l : Label) → StandsIn kind_in_clause (inside x) l → is_among l ls ≡ true)
-        → are_clauses (kinds_of ls) (relabeled kind_in_clause (canonical_label ls) (inside x)) ≡ true
-    clauses-numbered kinds none h f = ap (λ z. are_clauses (kinds_of ls) (relabeled kind_in_clause (canonical_label ls) z)) (resolved-none T.content.bindings)
+    clauses-numbered : (kinds : List CanonicalVarKind) (x : Trees) → are_clauses kinds x ≡ true → ((l : Label) → StandsIn kind_in_clause (inside x) l → is_label_among l ls ≡ true)
+        → are_clauses (kinds_of_labels ls) (relabeled kind_in_clause (canonical_label ls) (inside x)) ≡ true
+    clauses-numbered kinds none h f = ap (λ z. are_clauses (kinds_of_labels ls) (relabeled kind_in_clause (canonical_label ls) z)) (resolved-none T.content.bindings)
     clauses-numbered kinds (tree l c o) h f =
         let e : is_open l ≡ false = not-open (is_open l) (left (not (is_open l)) _ h) in
         let m : is_made (is_variable_over kinds) terms c ≡ true = left (is_made (is_variable_over kinds) terms c) (are_clauses kinds o) (right (not (is_open l)) _ h) in
         let r : are_clauses kinds o ≡ true = right (is_made (is_variable_over kinds) terms c) (are_clauses kinds o) (right (not (is_open l)) _ h) in
         let is = inside-node l c o e in
         let stands = λ (k : Label) (s : StandsIn kind_in_clause (tree l (inside (below l c)) (inside o)) k). f k (subst (λ z. StandsIn kind_in_clause z k) (sym is) s) in
-        subst (λ z. are_clauses (kinds_of ls) (relabeled kind_in_clause (canonical_label ls) z) ≡ true) (sym is)
-        (subst (λ z. (not (is_open z) && (is_made (is_variable_over (kinds_of ls)) terms (relabeled kind_in_clause (canonical_label ls) (inside (below l c))) && are_clauses (kinds_of ls) (relabeled kind_in_clause (canonical_label ls) (inside o)))) ≡ true)
+        subst (λ z. are_clauses (kinds_of_labels ls) (relabeled kind_in_clause (canonical_label ls) z) ≡ true) (sym is)
+        (subst (λ z. (not (is_open z) && (is_made (is_variable_over (kinds_of_labels ls)) terms (relabeled kind_in_clause (canonical_label ls) (inside (below l c))) && are_clauses (kinds_of_labels ls) (relabeled kind_in_clause (canonical_label ls) (inside o)))) ≡ true)
         (sym (clause-label (canonical_label ls) l e))
         (both (not (is_open l)) _ (ap not e)
-        (both (is_made (is_variable_over (kinds_of ls)) terms (relabeled kind_in_clause (canonical_label ls) (inside (below l c)))) _
+        (both (is_made (is_variable_over (kinds_of_labels ls)) terms (relabeled kind_in_clause (canonical_label ls) (inside (below l c)))) _
         (made-in-clause ls opens terms (inside (below l c)) (inside-made kinds (below l c) (below-made (is_variable_over kinds) l c m)) (λ k s. stands k (inr (inl s))))
         (clauses-numbered kinds o r (λ k s. stands k (inr (inr s)))))))
 
@@ -241,7 +241,7 @@ module _ (V : World) (T : FrameTable) (made : IsMadeFrame T) (closed : AreClosed
       abbrev d : Trees
       d = relabeled kind_in_clause (canonical_label ls) e
 
-      is-made : is_made (is_variable_over (kinds_of ls)) terms y ≡ true
+      is-made : is_made (is_variable_over (kinds_of_labels ls)) terms y ≡ true
       is-made =
           made-numbered ls opens terms x (made-back s allowed.sorted any_label terms x nodes known (back (λ z. is_made any_label terms z ≡ true) askable.made))
           (λ l i. goal-listed g l (inr (inr (inl i))))
@@ -263,17 +263,17 @@ module _ (V : World) (T : FrameTable) (made : IsMadeFrame T) (closed : AreClosed
           by true h = next-numbered s allowed.sorted ls x nodes known plain h
           by false h = refl
 
-      clauses-are : are_clauses (kinds_of ls) d ≡ true
+      clauses-are : are_clauses (kinds_of_labels ls) d ≡ true
       clauses-are = clauses-numbered T made ls opens kinds environment clauses (λ l i. goal-listed g l (inl i))
 
       abbrev form : GoalOverKinds
-      form = record { kinds = kinds_of ls; environment = d; reference = record { trait = t; args = y } }
+      form = record { kinds = kinds_of_labels ls; environment = d; reference = record { trait = t; args = y } }
 
       form-asked : goal_over_kinds V (canonical_form g) ≡ Some form
       form-asked =
           ap (asked_with V d (tree (predicate (of_trait t)) y none)) (kinds-known ls opens)
           ∙ ap (λ b. asked_if b form)
-          (all-true (written_in V form.reference) (is_made (is_variable_over (kinds_of ls)) terms y) (begins_with_type y) (not (t == unsize) || begins_with_type (next_of y)) (are_clauses (kinds_of ls) d) written is-made begins target clauses-are)
+          (all-true (written_in V form.reference) (is_made (is_variable_over (kinds_of_labels ls)) terms y) (begins_with_type y) (not (t == unsize) || begins_with_type (next_of y)) (are_clauses (kinds_of_labels ls) d) written is-made begins target clauses-are)
 
       pub question-decided : (a : GoalOverKinds) × (goal_over_kinds V (question T n).form ≡ Some a)
       question-decided = (form, ap (λ z. goal_over_kinds V (canonical_form z)) goal-is ∙ form-asked)

@@ -8,12 +8,12 @@ use Rattle.type_terms.specs.Codes.{same_label}
 use Rattle.type_terms.proofs.Matching.{same-label-sound}
 use Rattle.type_terms.specs.Made.{Standing, terms, bounds, traits, is_leaf_label, is_made}
 use Rattle.type_terms.proofs.Made.{false-true, left, right, both, no-tree, is_ordinary, made-ordinary, makes-ordinary, IsLast, last-bound, last-trait, never-dynamic, never-dynamic-bound, never-principal}
-use Rattle.infer_table.specs.Canonical.{OpenKinds, GoalTrees, StandsInGoal, kind_of_leaf, kind_in_clause, StandsIn, relabeled, is_among, leaves, place_of, canonical_label, goal_leaves}
+use Rattle.infer_table.specs.Canonical.{OpenKinds, GoalTrees, StandsInGoal, kind_of_leaf, kind_in_clause, StandsIn, relabeled, is_label_among, leaves, place_of, canonical_label, goal_leaves}
 use Rattle.infer_table.specs.declared.canonical.CanonicalVarKind.{CanonicalVarKind}
 use Rattle.infer_table.proofs.CanonicalLaws.{leaves-hold, leaves-keep}
 use Rattle.goal_evaluator.specs.Lists.{Every}
 use Rattle.goal_evaluator.specs.FrameTables.{kind_at}
-use Rattle.goal_evaluator.specs.TableAnswers.{is_kind_of, with_kind, kinds_of}
+use Rattle.goal_evaluator.specs.TableAnswers.{is_kind_of, with_kind, kinds_of_labels}
 use Rattle.goal_evaluator.proofs.Reading.{EachLabel}
 use Rattle.goal_evaluator.proofs.Nodes.{every-leaf}
 use Rattle.goal_frames.specs.Forms.{is_unnumbered}
@@ -106,9 +106,9 @@ known-next : (o : Option CanonicalVarKind) (ks : List CanonicalVarKind) → is_s
 known-next None ks h = absurd (false-true h)
 known-next (Some k) ks h = refl
 
-pub kinds-known : (ls : List Label) → AreOpen ls → all_known (map kind_of_leaf ls) ≡ Some (kinds_of ls)
+pub kinds-known : (ls : List Label) → AreOpen ls → all_known (map kind_of_leaf ls) ≡ Some (kinds_of_labels ls)
 kinds-known [] h = refl
-kinds-known (l ∷ ls) h = ap (with_first (kind_of_leaf l)) (kinds-known ls h.1) ∙ known-next (kind_of_leaf l) (kinds_of ls) h.0
+kinds-known (l ∷ ls) h = ap (with_first (kind_of_leaf l)) (kinds-known ls h.1) ∙ known-next (kind_of_leaf l) (kinds_of_labels ls) h.0
 
 kind-first : (o : Option CanonicalVarKind) (ks : List CanonicalVarKind) → is_some o ≡ true → kind_at (with_kind o ks) zero ≡ o
 kind-first None ks h = absurd (false-true h)
@@ -118,14 +118,14 @@ kind-later : (o : Option CanonicalVarKind) (ks : List CanonicalVarKind) (i : ℕ
 kind-later None ks i h = absurd (false-true h)
 kind-later (Some k) ks i h = refl
 
-kind-place : (ls : List Label) → AreOpen ls → (l : Label) → is_among l ls ≡ true → kind_at (kinds_of ls) (place_of l ls) ≡ kind_of_leaf l
+kind-place : (ls : List Label) → AreOpen ls → (l : Label) → is_label_among l ls ≡ true → kind_at (kinds_of_labels ls) (place_of l ls) ≡ kind_of_leaf l
 kind-place [] h l a = absurd (false-true a)
 kind-place (m ∷ ls) h l a = by (same_label m l) refl a (λ f. kind-place ls h.1 l f)
   where
-    by : (b : Bool) → same_label m l ≡ b → (b || is_among l ls) ≡ true → (is_among l ls ≡ true → kind_at (kinds_of ls) (place_of l ls) ≡ kind_of_leaf l)
-        → kind_at (with_kind (kind_of_leaf m) (kinds_of ls)) (if b then zero else suc (place_of l ls)) ≡ kind_of_leaf l
-    by true q f g = kind-first (kind_of_leaf m) (kinds_of ls) h.0 ∙ ap kind_of_leaf (same-label-sound m l q)
-    by false q f g = kind-later (kind_of_leaf m) (kinds_of ls) (place_of l ls) h.0 ∙ g f
+    by : (b : Bool) → same_label m l ≡ b → (b || is_label_among l ls) ≡ true → (is_label_among l ls ≡ true → kind_at (kinds_of_labels ls) (place_of l ls) ≡ kind_of_leaf l)
+        → kind_at (with_kind (kind_of_leaf m) (kinds_of_labels ls)) (if b then zero else suc (place_of l ls)) ≡ kind_of_leaf l
+    by true q f g = kind-first (kind_of_leaf m) (kinds_of_labels ls) h.0 ∙ ap kind_of_leaf (same-label-sound m l q)
+    by false q f g = kind-later (kind_of_leaf m) (kinds_of_labels ls) (place_of l ls) h.0 ∙ g f
 
 open-kind : (l : Label) → is_some (kind_of_leaf l) ≡ true → is_kind_of (sort_of l) (kind_of_leaf l) ≡ true
 open-kind (infer of_type v) h = refl
@@ -184,10 +184,10 @@ clause-relabeled f (tree l c o) = same (clause-label f l) (clause-relabeled f c)
 
 module _ (ls : List Label) (opens : AreOpen ls) where
   abbrev over : Label → Bool
-  over l = is_variable_over (kinds_of ls) l
+  over l = is_variable_over (kinds_of_labels ls) l
 
   abbrev IsListed : Label → Type 0
-  IsListed l = is_some (kind_of_leaf l) ≡ true → is_among l ls ≡ true
+  IsListed l = is_some (kind_of_leaf l) ≡ true → is_label_among l ls ≡ true
 
   record At (l m : Label) : Type 0 where
     pub ordinary : is_ordinary m ≡ true
@@ -197,34 +197,34 @@ module _ (ls : List Label) (opens : AreOpen ls) where
 
   at : (l : Label) → IsListed l → is_ordinary l ≡ true → is_unnumbered l ≡ true → (b : Bool) → is_some (kind_of_leaf l) ≡ b → At l (if b then canonical_label ls l else l)
   at l a i g true e = record { ordinary = refl; fits = ap (is_kind_of (sort_of l)) (kind-place ls opens l (a e)) ∙ open-kind l e; sort = refl; leaf = λ f. absurd (false-true (sym f ∙ open-leaf l e)) }
-  at l a i g false e = record { ordinary = i; fits = stays-over (kinds_of ls) l g e; sort = refl; leaf = λ f. f }
+  at l a i g false e = record { ordinary = i; fits = stays-over (kinds_of_labels ls) l g e; sort = refl; leaf = λ f. f }
 
   numbered-stays : (l : Label) → IsListed l → StaysSo over (canonical_label ls) l
   numbered-stays l a i g = let x = at l a i g (is_some (kind_of_leaf l)) refl in record { ordinary = x.ordinary; fits = x.fits; sort = x.sort; leaf = x.leaf }
 
-  clause-stays : (l : Label) → (is_some (kind_in_clause l) ≡ true → is_among l ls ≡ true) → StaysSo over (but_static (canonical_label ls)) l
+  clause-stays : (l : Label) → (is_some (kind_in_clause l) ≡ true → is_label_among l ls ≡ true) → StaysSo over (but_static (canonical_label ls)) l
   clause-stays static a i g = record { ordinary = refl; fits = refl; sort = refl; leaf = λ f. absurd (false-true (sym f)) }
   clause-stays (infer k v) a i g = let x = at (infer k v) a i g (is_some (kind_of_leaf (infer k v))) refl in record { ordinary = x.ordinary; fits = x.fits; sort = x.sort; leaf = x.leaf }
   clause-stays (param k v) a i g = let x = at (param k v) a i g (is_some (kind_of_leaf (param k v))) refl in record { ordinary = x.ordinary; fits = x.fits; sort = x.sort; leaf = x.leaf }
   clause-stays (placeholder k v) a i g = let x = at (placeholder k v) a i g (is_some (kind_of_leaf (placeholder k v))) refl in record { ordinary = x.ordinary; fits = x.fits; sort = x.sort; leaf = x.leaf }
-  clause-stays l a i g = record { ordinary = i; fits = stays-over (kinds_of ls) l g refl; sort = refl; leaf = λ f. f }
+  clause-stays l a i g = record { ordinary = i; fits = stays-over (kinds_of_labels ls) l g refl; sort = refl; leaf = λ f. f }
 
   -- leaves that are listed
-  each-listed : (kind : OpenKinds) (t : Trees) → ((l : Label) → StandsIn kind t l → is_among l ls ≡ true) → EachLabel (λ l. is_some (kind l) ≡ true → is_among l ls ≡ true) t
+  each-listed : (kind : OpenKinds) (t : Trees) → ((l : Label) → StandsIn kind t l → is_label_among l ls ≡ true) → EachLabel (λ l. is_some (kind l) ≡ true → is_label_among l ls ≡ true) t
   each-listed kind none h = tt
   each-listed kind (tree l c o) h = (λ i. h l (inl (refl, i)), each-listed kind c (λ m s. h m (inr (inl s))), each-listed kind o (λ m s. h m (inr (inr s))))
 
   -- so numbered terms are made over the kinds of the leaves
-  pub made-numbered : (m : Standing) (t : Trees) → is_made is_unnumbered m t ≡ true → ((l : Label) → StandsIn kind_of_leaf t l → is_among l ls ≡ true) → is_made over m (relabeled kind_of_leaf (canonical_label ls) t) ≡ true
+  pub made-numbered : (m : Standing) (t : Trees) → is_made is_unnumbered m t ≡ true → ((l : Label) → StandsIn kind_of_leaf t l → is_label_among l ls ≡ true) → is_made over m (relabeled kind_of_leaf (canonical_label ls) t) ≡ true
   made-numbered m t h a =
       made-put over (canonical_label ls) m t h
       (each-label IsListed (StaysSo over (canonical_label ls)) numbered-stays t (each-listed kind_of_leaf t a))
 
-  pub made-in-clause : (m : Standing) (t : Trees) → is_made is_unnumbered m t ≡ true → ((l : Label) → StandsIn kind_in_clause t l → is_among l ls ≡ true) → is_made over m (relabeled kind_in_clause (canonical_label ls) t) ≡ true
+  pub made-in-clause : (m : Standing) (t : Trees) → is_made is_unnumbered m t ≡ true → ((l : Label) → StandsIn kind_in_clause t l → is_label_among l ls ≡ true) → is_made over m (relabeled kind_in_clause (canonical_label ls) t) ≡ true
   made-in-clause m t h a =
       subst (λ z. is_made over m z ≡ true) (sym (clause-relabeled (canonical_label ls) t))
       (made-put over (but_static (canonical_label ls)) m t h
-      (each-label (λ l. is_some (kind_in_clause l) ≡ true → is_among l ls ≡ true) (StaysSo over (but_static (canonical_label ls))) clause-stays t (each-listed kind_in_clause t a)))
+      (each-label (λ l. is_some (kind_in_clause l) ≡ true → is_label_among l ls ≡ true) (StaysSo over (but_static (canonical_label ls))) clause-stays t (each-listed kind_in_clause t a)))
 
 -- ---- the leaves of a goal
 stands-open : (kind : OpenKinds) (t : Trees) (l : Label) → StandsIn kind t l → is_some (kind l) ≡ true
@@ -246,6 +246,6 @@ goal-open g =
     (every-leaf kind_in_clause (λ l. IsSome (kind_of_leaf l)) [] g.environment tt (λ l s. open-outside l (stands-open kind_in_clause g.environment l s)))
     (λ l s. stands-open kind_of_leaf g.predicate l s)
 
-pub goal-listed : (g : GoalTrees) (l : Label) → StandsInGoal g l → is_among l (goal_leaves g) ≡ true
+pub goal-listed : (g : GoalTrees) (l : Label) → StandsInGoal g l → is_label_among l (goal_leaves g) ≡ true
 goal-listed g l (inl s) = leaves-keep kind_of_leaf l (leaves kind_in_clause [] g.environment) g.predicate (leaves-hold kind_in_clause l [] g.environment s)
 goal-listed g l (inr s) = leaves-hold kind_of_leaf l (leaves kind_in_clause [] g.environment) g.predicate s

@@ -26,7 +26,7 @@ use Rattle.goal_evaluator.proofs.Resolved.{made-resolved}
 use Rattle.goal_evaluator.proofs.TableBeginning.{begin-made}
 use Rattle.goal_evaluator.specs.TableOperations.{begin, fresh}
 use Rattle.goal_evaluator.specs.Tables.{frame_tables}
-use Rattle.goal_frames.specs.Rules.{TraitBound, goal_of, Rule, RuleBook, BoundIsOver, IsRule, AreRules, instance_of}
+use Rattle.goal_frames.specs.Rules.{TraitBound, goal_of, FrameRule, RuleBook, BoundIsOver, IsRule, AreRules, instance_of}
 use Rattle.goal_frames.specs.Handlers.{BareGoal, bare_goal, bound_behind, as_one, nested_of_bound, spec_of, specs_for, candidates_of, listing_of, same_answer, applies_always}
 use Rattle.goal_frames.specs.RulePrograms.{DeclaredRules, book_of}
 use Rattle.solver_completeness.specs.RuleAnswers.{rule_programs}
@@ -96,7 +96,7 @@ module _ (f : CanonicalForm) (a : BareGoal) (h : IsAsked f a) (closed : AreClose
   goal-is : goal.goal ≡ goal_read (given v.terms) (goal_of a.bound)
   goal-is = ap (goal_read (given v.terms)) h.goal
 
-  module _ (r : Rule) (good : IsRule r) where
+  module _ (r : FrameRule) (good : IsRule r) where
     abbrev values : List Trees
     values = values_for r goal
 
@@ -182,7 +182,7 @@ module _ (f : CanonicalForm) (a : BareGoal) (h : IsAsked f a) (closed : AreClose
         ∙ ap (λ (o : Values). read_with (given o.terms) a.bound.arguments) own))
 
   -- ---- all rules
-  one-way : (r : Rule) → IsRule r → (rules : List Rule) → AreWays frame_tables (begin a.kinds) v (specs_for kind a rules) (rule_ways rules goal) → (b : Bool) → (r.head.trait == a.bound.trait) ≡ b → (c : Bool) → concludes r goal ≡ c
+  one-way : (r : FrameRule) → IsRule r → (rules : List FrameRule) → AreWays frame_tables (begin a.kinds) v (specs_for kind a rules) (rule_ways rules goal) → (b : Bool) → (r.head.trait == a.bound.trait) ≡ b → (c : Bool) → concludes r goal ≡ c
       → AreWays frame_tables (begin a.kinds) v (if b then spec_of kind a r ∷ specs_for kind a rules else specs_for kind a rules)
       (if c then map (instance_of goal.proper (values_for r goal)) r.premises ∷ rule_ways rules goal else rule_ways rules goal)
   one-way r good rules u true e true c = applied (applies r good c) u
@@ -190,12 +190,12 @@ module _ (f : CanonicalForm) (a : BareGoal) (h : IsAsked f a) (closed : AreClose
   one-way r good rules u false e false c = u
   one-way r good rules u false e true c = absurd (false-true (sym e ∙ eq-eqb r.head.trait a.bound.trait (sym (concludes-parts r good c).0)))
 
-  all-ways : (rules : List Rule) → Every IsRule rules → AreWays frame_tables (begin a.kinds) v (specs_for kind a rules) (rule_ways rules goal)
+  all-ways : (rules : List FrameRule) → Every IsRule rules → AreWays frame_tables (begin a.kinds) v (specs_for kind a rules) (rule_ways rules goal)
   all-ways [] g = no_more
   all-ways (r ∷ rules) g = one-way r g.0 rules (all-ways rules g.1) (r.head.trait == a.bound.trait) refl (concludes r goal) refl
 
 -- ---- what holds of the candidate of each rule
-each-spec : (P : Spec (workings frame_tables) → Type 0) (kind : Bool) (a : BareGoal) (rules : List Rule) → Every IsRule rules → ((r : Rule) → IsRule r → P (spec_of kind a r)) → Every P (specs_for kind a rules)
+each-spec : (P : Spec (workings frame_tables) → Type 0) (kind : Bool) (a : BareGoal) (rules : List FrameRule) → Every IsRule rules → ((r : FrameRule) → IsRule r → P (spec_of kind a r)) → Every P (specs_for kind a rules)
 each-spec P kind a [] g f = tt
 each-spec P kind a (r ∷ rules) g f = by (r.head.trait == a.bound.trait) (each-spec P kind a rules g.1 f)
   where
@@ -232,7 +232,7 @@ module _ (book : RuleBook) (rules_are : AreRules book) (mode : TypingMode) (q : 
         selects = itself (rule_ways book.rules (fact_of q v));
       }
     where
-      Asks : Rule → Nested → Type 0
+      Asks : FrameRule → Nested → Type 0
       Asks r n =
           (T : FrameTable) (s : ChosenTerms) → AsksFrom frame_tables (begin a.kinds) (spec_of (book.coinductive a.bound.trait) a r) T → IsMadeFrame T → AreClosed (map Some T.kinds) → IsDetermined T n → Allows T s → Allows (fresh (begin a.kinds) r.kinds) s → Every (λ e. EquationIsMet e s) (spec_of (book.coinductive a.bound.trait) a r).equations → s.own ≡ v → IsAskedForm (question T n)
 

@@ -5,7 +5,7 @@ use Rattle.type_terms.specs.Promised.Label.{Label, Sort, of_type, of_const, of_l
 use Rattle.type_terms.specs.Promised.Trees.{Trees, none, tree, leaf, ◌+++◌, sort_of, is_sort}
 use Rattle.type_terms.specs.Codes.{same_label}
 use Rattle.type_terms.proofs.Matching.{same-label-sound}
-use Rattle.infer_table.specs.Canonical.{OpenKinds, kind_of_leaf, is_among, with_label, leaves, place_of, canonical_label, relabeled}
+use Rattle.infer_table.specs.Canonical.{OpenKinds, kind_of_leaf, is_label_among, with_label, leaves, place_of, canonical_label, relabeled}
 use Rattle.infer_table.specs.Solutions.{resolved, is_rigid}
 use Rattle.infer_table.specs.declared.canonical.CanonicalVarKind.{CanonicalVarKind}
 use Rattle.infer_table.specs.declared.canonical.CanonicalVarKind.TheVariants.{Ty, PlaceholderTy, Const, PlaceholderConst, Region}
@@ -46,7 +46,7 @@ extends-more a b c x y = (x.0 ++ y.0, y.1 ∙ ap (λ z. z ++ y.0) x.1 ∙ append
 
 extends-label : (b : Bool) (l : Label) (seen : List Label) → Extends seen (if b then with_label l seen else seen)
 extends-label false l seen = ([], sym (append-nil seen))
-extends-label true l seen = by (is_among l seen)
+extends-label true l seen = by (is_label_among l seen)
   where
     by : (b : Bool) → Extends seen (if b then seen else seen ++ l ∷ [])
     by true = ([], sym (append-nil seen))
@@ -60,7 +60,7 @@ extends-leaves kind seen (tree l c o) =
 
 -- ---- places
 -- what was seen stands before the end
-stands-before : (l : Label) (seen rest : List Label) → is_among l seen ≡ true → place_of l (seen ++ rest) < length seen
+stands-before : (l : Label) (seen rest : List Label) → is_label_among l seen ≡ true → place_of l (seen ++ rest) < length seen
 stands-before l [] rest h = absurd (false-true h)
 stands-before l (m ∷ ms) rest h = by (same_label m l) refl h (stands-before l ms rest)
   where
@@ -70,7 +70,7 @@ stands-before l (m ∷ ms) rest h = by (same_label m l) refl h (stands-before l 
     next : (a b : ℕ) → a < b → suc a < suc b
     next a b h = omega (arith, h)
 
-    by : (b : Bool) → same_label m l ≡ b → (b || is_among l ms) ≡ true → (is_among l ms ≡ true → place_of l (ms ++ rest) < length ms) → (if b then zero else suc (place_of l (ms ++ rest))) < suc (length ms)
+    by : (b : Bool) → same_label m l ≡ b → (b || is_label_among l ms) ≡ true → (is_label_among l ms ≡ true → place_of l (ms ++ rest) < length ms) → (if b then zero else suc (place_of l (ms ++ rest))) < suc (length ms)
     by true e q f = first (length ms)
     by false e q f = next _ _ (f q)
 
@@ -93,11 +93,11 @@ all-before : (place : ℕ) (ls : List Label) → Every (IsBefore place) ls → E
 all-before place [] h = tt
 all-before place (l ∷ ls) h = (before-next place l h.0, all-before place ls h.1)
 
-not-among : (P : Label → Type 0) (l : Label) (ms : List Label) → Every P ms → (P l → ⊥) → is_among l ms ≡ false
+not-among : (P : Label → Type 0) (l : Label) (ms : List Label) → Every P ms → (P l → ⊥) → is_label_among l ms ≡ false
 not-among P l [] h n = refl
 not-among P l (m ∷ ms) h n = by (same_label m l) refl (not-among P l ms h.1 n)
   where
-    by : (b : Bool) → same_label m l ≡ b → is_among l ms ≡ false → (b || is_among l ms) ≡ false
+    by : (b : Bool) → same_label m l ≡ b → is_label_among l ms ≡ false → (b || is_label_among l ms) ≡ false
     by true e f = absurd (n (subst P (same-label-sound m l e) h.0))
     by false e f = f
 
@@ -119,7 +119,7 @@ module _ (t : FrameTable) (all : List Label) where
   AllGood ls = Every (λ l. is_made (good_in t) terms (leaf l) ≡ true) ls
 
   -- an open leaf that was not seen before is the next variable
-  new-leaf : (l : Label) (ls seen : List Label) → is_some (kind_of_leaf l) ≡ true → is_among l seen ≡ false → Extends (seen ++ l ∷ []) all
+  new-leaf : (l : Label) (ls seen : List Label) → is_some (kind_of_leaf l) ≡ true → is_label_among l seen ≡ false → Extends (seen ++ l ∷ []) all
       → are_variables (length (seen ++ l ∷ [])) (map (value_by all) ls) ≡ true → are_variables (length seen) (value_by all l ∷ map (value_by all) ls) ≡ true
   new-leaf l ls seen o n x h =
       ap (λ z. if is_variable_itself (length seen) (sort_of l) (leaf z) then are_variables (suc (length seen)) (map (value_by all) ls) else (is_sort (sort_of l) of_lifetime && are_variables (length seen) (map (value_by all) ls)))
@@ -149,7 +149,7 @@ module _ (t : FrameTable) (all : List Label) where
       at : (b : Bool) → is_some (kind_of_leaf l) ≡ b → all ≡ leaves kind_of_leaf (if b then with_label l seen else seen) extra
       at b q = x ∙ ap (λ b. leaves kind_of_leaf (if b then with_label l seen else seen) extra) q
 
-      seen-or-new : (c : Bool) → is_among l seen ≡ c → is_some (kind_of_leaf l) ≡ true → all ≡ leaves kind_of_leaf (if c then seen else seen ++ l ∷ []) extra → are_variables (length seen) (value_by all l ∷ map (value_by all) ls) ≡ true
+      seen-or-new : (c : Bool) → is_label_among l seen ≡ c → is_some (kind_of_leaf l) ≡ true → all ≡ leaves kind_of_leaf (if c then seen else seen ++ l ∷ []) extra → are_variables (length seen) (value_by all l ∷ map (value_by all) ls) ≡ true
       seen-or-new true q o y =
           let z = extends-leaves kind_of_leaf seen extra in
           passed l ls seen e
@@ -163,7 +163,7 @@ module _ (t : FrameTable) (all : List Label) where
           (go (seen ++ l ∷ []) (every-end (IsBefore place) seen l b (lifetime-before place l e)) y)
 
       by : (b : Bool) → is_some (kind_of_leaf l) ≡ b → are_variables (length seen) (value_by all l ∷ map (value_by all) ls) ≡ true
-      by true q = seen-or-new (is_among l seen) refl q (at true q)
+      by true q = seen-or-new (is_label_among l seen) refl q (at true q)
       by false q =
           passed l ls seen e (ap (λ b. is_variable_itself (length seen) (sort_of l) (leaf (if b then canonical_label all l else l))) q ∙ itself-not (length seen) (sort_of l) l g)
           (go seen b (at false q))

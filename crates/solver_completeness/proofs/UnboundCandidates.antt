@@ -21,7 +21,7 @@ use Rattle.goal_evaluator.specs.Instances.{put_in, default_label}
 use Rattle.goal_evaluator.specs.FrameTables.{Nested, Equation, term_of, is_open_label}
 use Rattle.infer_table.specs.Values.{Value}
 use Rattle.declarations.specs.Promised.Elaboration.{elaborate, supertraits}
-use Rattle.candidate_model.specs.Declared.{is_declared, are_terms, are_references}
+use Rattle.candidate_model.specs.Declared.{is_declared_leaf, are_terms, are_references}
 use Rattle.candidate_model.specs.DeclaredWell.{IsDeclaredWell}
 use Rattle.candidate_model.specs.Asking.{GoalOverKinds, clauses, self_of, next_of, begins_unknown, with_plain_head}
 use Rattle.candidate_model.specs.Candidates.{Candidate, premise, first_value, all_equal, clause_source, by_rule, moved, rules_behind, by_the_impl, unsure, unknowable, by_clauses, as_written, if_so, misc, by_sized, by_copy, by_auto, by_tuple, by_fn_ptr, call_of, by_call, unsize_array_of, upcast_source, upcasts_from, upcasts_to, upcasts_of, unsize_by_struct, unsize_struct_of, unsize_known, unsizing_outlives, unsize_recording, built_in, by_impls, can_match, bounds_from, object_source, written_source, objects_of}
@@ -50,12 +50,12 @@ last-shut t none h = tt
 last-shut t (tree l c none) h = (h, tt)
 last-shut t (tree l c (tree m d o)) h = last-shut t (tree m d o) (next-shut is_bound l c (tree m d o) h)
 
-declared-label : (l : Label) → is_declared l ≡ true → is_bound l ≡ false
+declared-label : (l : Label) → is_declared_leaf l ≡ true → is_bound l ≡ false
 declared-label (bound s k i) h = absurd (false-true h)
 declared-label l h = refl
 
 declared-unbound : (t : Trees) → are_terms t ≡ true → Unbound t
-declared-unbound t h = made-unbound is_declared declared-label terms t (left (is_made is_declared terms t) _ h)
+declared-unbound t h = made-unbound is_declared_leaf declared-label terms t (left (is_made is_declared_leaf terms t) _ h)
 
 together-shut : (A : Trees) → Unbound A → (fs : List Trees) → list_all are_terms fs ≡ true → Unbound (together (map (instantiate zero A) fs))
 together-shut A h [] e = refl

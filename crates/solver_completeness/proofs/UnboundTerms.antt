@@ -9,7 +9,7 @@ use Rattle.type_terms.proofs.Walking.{left, right, both}
 use Rattle.type_terms.specs.Made.{Standing, terms, bounds, traits, is_made}
 use Rattle.type_terms.proofs.Made.{false-true, no-tree, made-ordinary, makes-ordinary, IsLast, last-bound, last-trait, never-dynamic, never-dynamic-bound, never-principal}
 use Rattle.infer_table.specs.Canonical.{kind_of_leaf, relabeled, canonical_label}
-use Rattle.infer_table.specs.Solutions.{Binding, HasValues, replace, resolved, is_variable}
+use Rattle.infer_table.specs.Solutions.{Binding, HasValues, replace, resolved, is_same_variable}
 use Rattle.infer_table.specs.Unification.{TableTrees, unified}
 use Rattle.infer_table.specs.Applied.{solved_in_turn, trees_of, with_constraints, applied}
 use Rattle.infer_table.specs.Applying.{table_after, next_unknown, known_value, applied_values, applied_table}
@@ -18,7 +18,7 @@ use Rattle.infer_table.specs.declared.canonical.CanonicalVarKind.{CanonicalVarKi
 use Rattle.infer_table.specs.declared.canonical.CanonicalVarKind.TheVariants.{Ty, PlaceholderTy, Const, PlaceholderConst, Region}
 use Rattle.infer_table.proofs.ExtendFacts.{unified-extends}
 use Rattle.infer_table.specs.Responses.{AnswerTrees}
-use Rattle.infer_table.specs.Values.{Value, filled}
+use Rattle.infer_table.specs.Values.{Value, filled_values}
 use Rattle.goal_evaluator.specs.Lists.{Every}
 use Rattle.goal_evaluator.specs.TableAnswers.{put_into, is_fitting_answer, originals_of}
 use Rattle.goal_evaluator.specs.Instances.{put_in, default_label}
@@ -116,7 +116,7 @@ instance-unbound d A (tree l c o) h g =
 -- ---- values in the place of unknowns
 replace-unbound : (k : Sort) (v : ℕ) (r t : Trees) → Unbound r → Unbound t → Unbound (replace k v r t)
 replace-unbound k v r none f h = refl
-replace-unbound k v r (tree (infer j w) c o) f h = by (is_variable j w k v) (replace-unbound k v r o f (next-shut is_bound (infer j w) c o h))
+replace-unbound k v r (tree (infer j w) c o) f h = by (is_same_variable j w k v) (replace-unbound k v r o f (next-shut is_bound (infer j w) c o h))
   where
     by : (b : Bool) → Unbound (replace k v r o) → Unbound (if b then r +++ replace k v r o else tree (infer j w) c (replace k v r o))
     by true g = append-shut is_bound r (replace k v r o) f g
@@ -211,9 +211,9 @@ put-adds t os a u e = by (is_fitting_answer os a) e
     table = applied_table t os a
 
     rows : Trees
-    rows = filled (applied_values t os a) (trees_of a.values)
+    rows = filled_values (applied_values t os a) (trees_of a.values)
 
-    more : (x : Option TableTrees) → solved_in_turn table (trees_of os) rows ≡ x → option_map (with_constraints (filled (applied_values t os a) a.constraints)) x ≡ Some u → Adds t u
+    more : (x : Option TableTrees) → solved_in_turn table (trees_of os) rows ≡ x → option_map (with_constraints (filled_values (applied_values t os a) a.constraints)) x ≡ Some u → Adds t u
     more None q e = absurd (cc)
     more (Some w) q e =
         let x = solved-adds (trees_of os) rows table w q in

@@ -4,7 +4,7 @@ use Rattle.type_terms.specs.Promised.Label.{of_type, adt, placeholder, canonical
 use Rattle.type_terms.specs.Promised.Trees.{Trees, none, tree, leaf}
 use Rattle.infer_table.specs.declared.canonical.CanonicalVarKind.TheVariants.{Ty}
 use Rattle.goal_evaluator.specs.Content.{Fact}
-use Rattle.goal_frames.specs.Rules.{TraitBound, goal_of, Rule}
+use Rattle.goal_frames.specs.Rules.{TraitBound, goal_of, FrameRule}
 use Rattle.solver_completeness.specs.Ways.{HasShortChains, IsPossible}
 use Rattle.solver_completeness.specs.RuleWays.{rule_ways}
 
@@ -14,7 +14,7 @@ show t = record { trait = 0; arguments = t }
 abbrev vec : Trees → Trees
 vec t = tree (adt 1) t none
 
-abbrev rules : List Rule
+abbrev rules : List FrameRule
 rules =
     record { kinds = []; head = show (leaf (adt 0)); premises = [] }
     ∷ record { kinds = Ty ∷ []; head = show (vec (leaf (canonical of_type 0))); premises = show (leaf (canonical of_type 0)) ∷ [] }

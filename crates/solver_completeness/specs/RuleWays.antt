@@ -8,7 +8,7 @@ use Rattle.infer_table.specs.Raw.{sort_of_kind}
 use Rattle.goal_evaluator.specs.Merge.{or_else}
 use Rattle.goal_evaluator.specs.Instances.{goal_read}
 use Rattle.goal_evaluator.specs.Content.{given, Fact, NestedQuestion}
-use Rattle.goal_frames.specs.Rules.{goal_of, Rule, instance_of}
+use Rattle.goal_frames.specs.Rules.{goal_of, FrameRule, instance_of}
 use Rattle.goal_frames.specs.Handlers.{BareGoal, bare_goal}
 
 -- what stands in the second trees where the variable stands first in the first
@@ -31,13 +31,13 @@ abbrev pub arguments_of : Trees → Trees
 arguments_of none = none
 arguments_of (tree l c o) = c
 
-abbrev pub values_for : Rule → Fact → List Trees
+abbrev pub values_for : FrameRule → Fact → List Trees
 values_for r f = matched 0 r.kinds r.head.arguments (arguments_of f.goal.predicate)
 
-abbrev pub concludes : Rule → Fact → Bool
+abbrev pub concludes : FrameRule → Fact → Bool
 concludes r f = same f.goal.environment none && same f.goal.predicate (goal_read (given (values_for r f)) (goal_of r.head)).predicate
 
-abbrev pub rule_ways : List Rule → Fact → List (List Fact)
+abbrev pub rule_ways : List FrameRule → Fact → List (List Fact)
 rule_ways [] f = []
 rule_ways (r ∷ rules) f = if concludes r f then map (instance_of f.proper (values_for r f)) r.premises ∷ rule_ways rules f else rule_ways rules f
 

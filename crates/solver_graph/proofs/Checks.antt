@@ -23,7 +23,7 @@ use Rattle.infer_table.specs.Values.{Value, value_of, values_of}
 use Rattle.infer_table.specs.Raw.{sort_of_kind, variable_value, variables_from}
 use Rattle.infer_table.specs.Responses.{AnswerTrees, answer_trees}
 use Rattle.goal_evaluator.specs.Lists.{Every}
-use Rattle.goal_evaluator.specs.Responses.{is_variable, are_variables, says_nothing, is_identity_modulo_regions}
+use Rattle.goal_evaluator.specs.Responses.{is_this_variable, are_variables, says_nothing, is_identity_modulo_regions}
 use Rattle.goal_evaluator.proofs.SameResponses.{certainty-eq}
 use Rattle.goal_evaluator.specs.TableAnswers.{is_kind_of, is_variable_of, is_fitting, IsWellFormed, has_values, without_values}
 use Rattle.goal_evaluator.specs.FrameTables.{kind_at}
@@ -48,7 +48,7 @@ value-cong s r t u e f = cc
 
 -- a term over the variables of an answer whose root is variable i, of this kind
 root-is : (all : List CanonicalVarKind) (i : ℕ) (k : CanonicalVarKind) (s : Sort) (t : Trees) → (is_a s t && is_made (is_variable_of all) terms t) ≡ true
-    → kind_at all i ≡ Some k → is_variable i (root_label t) ≡ true → ◌≡◌ {A = Value} (record { sort = s; trees = t }) (variable_value k i)
+    → kind_at all i ≡ Some k → is_this_variable i (root_label t) ≡ true → ◌≡◌ {A = Value} (record { sort = s; trees = t }) (variable_value k i)
 root-is all i k s none h e v = absurd (false-true v)
 root-is all i k s (tree (canonical r j) c o) h e v =
     let a : is_a s (tree (canonical r j) c o) ≡ true = left (is_a s (tree (canonical r j) c o)) _ h in
@@ -76,8 +76,8 @@ module _ (es : List Entry) (all : List CanonicalVarKind) where
   values-are i (x ∷ vs) [] f n at v = cc
   values-are i (x ∷ vs) (k ∷ ks) f n at v =
       first-and-rest (value_of es x) (variable_value k i) (values_of es vs) (variables_from (i + 1) ks)
-      (root-is all i k (value_of es x).sort (value_of es x).trees f.0 (ap (kind_at all) (here i) ∙ at zero) (left (is_variable i (leaf_label es x)) _ v))
-      (values-are (i + 1) vs ks f.1 (same-length (length vs) (length ks) n) (λ j. ap (kind_at all) (next i j) ∙ at (suc j)) (right (is_variable i (leaf_label es x)) _ v))
+      (root-is all i k (value_of es x).sort (value_of es x).trees f.0 (ap (kind_at all) (here i) ∙ at zero) (left (is_this_variable i (leaf_label es x)) _ v))
+      (values-are (i + 1) vs ks f.1 (same-length (length vs) (length ks) n) (λ j. ap (kind_at all) (next i j) ∙ at (suc j)) (right (is_this_variable i (leaf_label es x)) _ v))
 
   -- ---- and back
   variables-are : (i : ℕ) (vs : List GenericArgKind) (ks : List CanonicalVarKind) → values_of es vs ≡ variables_from i ks → (are_variables es i vs ≡ true) × (length vs ≡ length ks)
@@ -89,7 +89,7 @@ module _ (es : List Entry) (all : List CanonicalVarKind) where
       let rest : values_of es vs ≡ variables_from (i + 1) ks = cc in
       let more = variables-are (i + 1) vs ks rest in
       let label : leaf_label es x ≡ canonical (sort_of_kind k) i = ap (λ (v : Value). root_label v.trees) first in
-      (both (is_variable i (leaf_label es x)) _ (ap (is_variable i) label ∙ number-self i) more.0, ap suc more.1)
+      (both (is_this_variable i (leaf_label es x)) _ (ap (is_this_variable i) label ∙ number-self i) more.0, ap suc more.1)
 
 no-constraints : (es : List Entry) (cs : List RegionConstraint) → constraints_trees es cs ≡ none → cs ≡ []
 no-constraints es [] e = refl

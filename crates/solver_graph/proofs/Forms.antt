@@ -5,7 +5,7 @@ use Rattle.type_terms.specs.Promised.Label.{Label, Sort, of_type, of_const, of_l
 use Rattle.type_terms.specs.Promised.Trees.{Trees, none, tree, leaf, ◌+++◌, erase_label, is_sort}
 use Rattle.type_terms.specs.Trees.{is_a, placed}
 use Rattle.type_terms.specs.Made.{is_leaf_label}
-use Rattle.infer_table.specs.Canonical.{OpenKinds, GoalTrees, kind_of_leaf, kind_in_clause, StandsIn, HasNoCanonical, is_among, place_of, canonical_label, goal_leaves, leaves, relabeled}
+use Rattle.infer_table.specs.Canonical.{OpenKinds, GoalTrees, kind_of_leaf, kind_in_clause, StandsIn, HasNoCanonical, is_label_among, place_of, canonical_label, goal_leaves, leaves, relabeled}
 use Rattle.infer_table.specs.Solutions.{Assignment, Binding, IsSorted, Solves, AllValued, instance, resolved}
 use Rattle.infer_table.proofs.CanonicalLaws.{leaves-keep, leaves-hold}
 use Rattle.infer_table.proofs.SolutionLaws.{instance-resolved}
@@ -30,7 +30,7 @@ module _ (s : Assignment) (sorted : IsSorted s) (ls : List Label) where
   abbrev standing : Label → Option Trees
   standing = given (map under ls)
 
-  here : (k : Sort) (l : Label) → is_a k (under l) ≡ true → is_among l ls ≡ true → Some (of_sort k (term_at (map under ls) (place_of l ls))) ≡ Some (under l)
+  here : (k : Sort) (l : Label) → is_a k (under l) ≡ true → is_label_among l ls ≡ true → Some (of_sort k (term_at (map under ls) (place_of l ls))) ≡ Some (under l)
   here k l h a = ap (λ z. Some (of_sort k z)) (term-place under l ls a) ∙ ap Some (sort-of-sort k (under l) h)
 
   type-unknown : (v : ℕ) → is_a of_type (under (infer of_type v)) ≡ true
@@ -55,7 +55,7 @@ module _ (s : Assignment) (sorted : IsSorted s) (ls : List Label) where
       ap (λ z. placed z (tree (erase_label l) d none) +++ p) e ∙ ap (λ z. tree (erase_label l) z p) q ∙ ap (λ z. tree (erase_label l) (instance s c) z) r ∙ f
 
   abbrev IsListed : OpenKinds → Label → Type 0
-  IsListed kind l = IsSome (kind l) → is_among l ls ≡ true
+  IsListed kind l = IsSome (kind l) → is_label_among l ls ≡ true
 
   read-at : (l : Label) (c o : Trees) → IsNoCanonical l → (is_leaf_label l ≡ true → c ≡ none) → IsListed kind_of_leaf l → IsReadAt l (if is_some (kind_of_leaf l) then canonical_label ls l else l) c o
   read-at (canonical k i) c o n e a = absurd n
@@ -92,7 +92,7 @@ module _ (s : Assignment) (sorted : IsSorted s) (ls : List Label) where
 
   read-form : (kind : OpenKinds)
       → ((l : Label) (c o : Trees) → IsNoCanonical l → (is_leaf_label l ≡ true → c ≡ none) → IsListed kind l → IsReadAt l (if is_some (kind l) then canonical_label ls l else l) c o)
-      → (t : Trees) → HasNoCanonical t → HasLeaves t → ((l : Label) → StandsIn kind t l → is_among l ls ≡ true)
+      → (t : Trees) → HasNoCanonical t → HasLeaves t → ((l : Label) → StandsIn kind t l → is_label_among l ls ≡ true)
       → read_with standing (relabeled kind (canonical_label ls) t) ≡ instance s t
   read-form kind f none n h a = refl
   read-form kind f (tree l c o) n h a =

@@ -13,7 +13,7 @@ use Rattle.term_folds.specs.declared.predicate.Clause.TheVariants.{Trait, Region
 use Rattle.term_folds.specs.Clauses.{ClauseHeld}
 use Rattle.type_terms.specs.Kept.{is-at}
 use Rattle.infer_table.specs.Content.{Table, content, Ready}
-use Rattle.infer_table.specs.Solutions.{Binding, replace, resolved, is_variable}
+use Rattle.infer_table.specs.Solutions.{Binding, replace, resolved, is_same_variable}
 use Rattle.infer_table.specs.WellFormed.{AllTerms, is_numbered}
 use Rattle.infer_table.proofs.Places.{ready-terms, arg-term}
 use Rattle.infer_table.specs.declared.goal.Goal.{Goal}
@@ -28,7 +28,7 @@ leaves-append (tree l c o) y p q = (p.0, p.1, leaves-append o y p.2 q)
 
 leaves-replace : (k : Sort) (v : ℕ) (r t : Trees) → HasLeaves r → HasLeaves t → HasLeaves (replace k v r t)
 leaves-replace k v r none p q = tt
-leaves-replace k v r (tree (infer j w) c o) p q = by (is_variable j w k v) (leaves-replace k v r o p q.2)
+leaves-replace k v r (tree (infer j w) c o) p q = by (is_same_variable j w k v) (leaves-replace k v r o p q.2)
   where
     by : (b : Bool) → HasLeaves (replace k v r o) → HasLeaves (if b then r +++ replace k v r o else tree (infer j w) c (replace k v r o))
     by true h = leaves-append r (replace k v r o) p h

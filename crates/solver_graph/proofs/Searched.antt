@@ -15,7 +15,7 @@ use Rattle.infer_table.specs.declared.goal.Goal.{Goal}
 use Rattle.infer_table.specs.Goals.{GoalHeld, goal_trees}
 use Rattle.infer_table.specs.Inputs.{IsWithoutCanonical}
 use Rattle.infer_table.specs.Responses.{AnswerTrees}
-use Rattle.search_graph.specs.Proof.{HasProof}
+use Rattle.search_graph.specs.Proof.{HasGraphProof}
 use Rattle.goal_evaluator.specs.Law.{AgreesTo}
 use Rattle.goal_evaluator.specs.Proof as Lists
 use Rattle.goal_evaluator.specs.Content.{trait_of, Fact, fact_of}
@@ -43,7 +43,7 @@ module _ (es : List Entry) (law : Lawful es) (t : Table) (ready : Ready es t) (g
 
     -- a proof graph of the canonical form unfolds to a proof of the instance
     pub root-proof : HandlersArePrograms m
-        → HasProof (TypingMode × CanonicalForm) (FollowsInMode frame_tables (programs_of m) w) (mode, canonical_form (goal_in es t g))
+        → HasGraphProof (TypingMode × CanonicalForm) (FollowsInMode frame_tables (programs_of m) w) (mode, canonical_form (goal_in es t g))
         → Lists.FactHasProof Fact (m.Rule w) (m.coinductive w) (fact_under s (goal_trees es g))
     root-proof lawful graph =
         subst (Lists.FactHasProof Fact (m.Rule w) (m.coinductive w)) goal-is

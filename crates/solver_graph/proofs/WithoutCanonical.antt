@@ -5,7 +5,7 @@ use Rattle.type_terms.specs.Promised.Label.{Label, Sort, of_type, of_const, of_l
 use Rattle.type_terms.specs.Promised.Trees.{Trees, none, tree, is_sort, sort_of}
 use Rattle.type_terms.specs.Trees.{is_a, is_no_tree}
 use Rattle.infer_table.specs.declared.canonical.CanonicalVarKind.{CanonicalVarKind}
-use Rattle.infer_table.specs.Canonical.{OpenKinds, GoalTrees, kind_of_leaf, kind_in_clause, is_among, with_label, leaves, goal_leaves}
+use Rattle.infer_table.specs.Canonical.{OpenKinds, GoalTrees, kind_of_leaf, kind_in_clause, is_label_among, with_label, leaves, goal_leaves}
 use Rattle.infer_table.specs.Unification.{TableTrees, term_sort}
 use Rattle.infer_table.specs.Values.{Value}
 use Rattle.infer_table.specs.Answers.{is_answer_to}
@@ -34,7 +34,7 @@ module _ (kind : OpenKinds) (never : (s : Sort) (i : ℕ) → kind (canonical s 
   one-more (m ∷ ls) l h c = (h.0, one-more ls l h.1 c)
 
   with-clean : (l : Label) (seen : List Label) → Every IsNoCanonical seen → IsNoCanonical l → Every IsNoCanonical (with_label l seen)
-  with-clean l seen h c = by (is_among l seen)
+  with-clean l seen h c = by (is_label_among l seen)
     where
       by : (b : Bool) → Every IsNoCanonical (if b then seen else seen ++ l ∷ [])
       by true = h

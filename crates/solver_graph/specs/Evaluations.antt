@@ -7,7 +7,7 @@ use Rattle.infer_table.specs.declared.certainty.TypingMode.{TypingMode}
 use Rattle.search_graph.specs.Meaning.{Meaning}
 use Rattle.search_graph.specs.Computed.{IsComputed, IsGiven}
 use Rattle.search_graph.specs.Plain.{IsPlain}
-use Rattle.search_graph.specs.Proof.{HasProof}
+use Rattle.search_graph.specs.Proof.{HasGraphProof}
 use Rattle.infer_table.specs.declared.goal.Goal.{Goal}
 use Rattle.infer_table.specs.Responses.{AnswerTrees}
 use Rattle.goal_evaluator.specs.TableAnswers.{has_values}
@@ -32,4 +32,4 @@ pub record Says (e : GoalEvaluation) (a : AnswerTrees) : Type 0 where
 -- each solution of the goal agrees with the answer, and a yes has a proof graph
 pub record IsRight {C I R F : Type 0} (m : Meaning C I R F) (w : m.World) (g : m.Goal) (a : m.Answer) : Type 0 where
   pub covers : m.Covers w g a
-  pub yes : m.is_yes a ≡ true → HasProof m.Goal (m.Follows w) g
+  pub yes : m.is_yes a ≡ true → HasGraphProof m.Goal (m.Follows w) g

@@ -6,7 +6,7 @@ ghost use Rattle.goal_frames.specs.Fitting.{ResultFits};
 ghost use Rattle.goal_evaluator.specs.StepReadings.{result_read};
 ghost use Rattle.search_graph.specs.Cache.{AreJustified, AreConsistent, HasConflict, KeepsResults};
 ghost use Rattle.search_graph.specs.Meaning.{Keeps, IsFair};
-ghost use Rattle.search_graph.specs.Proof.{HasProof};
+ghost use Rattle.search_graph.specs.Proof.{HasGraphProof};
 ghost use Rattle.solver_graph.specs.Contexts.{goal_of, IsReady, IsInput};
 ghost use Rattle.solver_graph.specs.Searching.{solver_meaning};
 ghost use Rattle.solver_graph.specs.Evaluations.{IsRight};

@@ -19,14 +19,14 @@ use Rattle.type_terms.specs.Pieces.{Piece}
 use Rattle.term_folds.specs.Shifts.{ShiftInRange, moved}
 
 -- a parameter
-abbrev pub is_param : Label → Bool
-is_param (param s i) = true
-is_param _ = false
+abbrev pub is_any_param : Label → Bool
+is_any_param (param s i) = true
+is_any_param _ = false
 
 -- a value has a parameter
 abbrev pub has_param : List Piece → Bool
 has_param [] = false
-has_param (p ∷ ps) = some_node is_param p.trees || has_param ps
+has_param (p ∷ ps) = some_node is_any_param p.trees || has_param ps
 
 -- the sort of the argument with this place, if there is one
 abbrev pub sort_at : Trees → ℕ → Option Sort
@@ -81,12 +81,12 @@ looked_at A none = Pass
 looked_at A (tree (principal n i) c o) = Enter
 looked_at A (tree (auto_trait i) c o) = Enter
 looked_at A (tree (param s i) c o) = misfit_answer (misfit s (sort_at A i))
-looked_at A (tree l c o) = cond (some_node is_param (tree l c none)) Enter Pass
+looked_at A (tree l c o) = cond (some_node is_any_param (tree l c none)) Enter Pass
 
 -- whether the node itself is a parameter
 abbrev pub is_param_node : Trees → Bool
 is_param_node none = false
-is_param_node (tree l c o) = is_param l
+is_param_node (tree l c o) = is_any_param l
 
 -- what the folder does that puts arguments in: a parameter without an argument of its sort stays, and so does a term
 -- without parameters
@@ -99,7 +99,7 @@ putting A bs none = enters
 putting A bs (tree (principal n i) c o) = enters
 putting A bs (tree (auto_trait i) c o) = enters
 putting A bs (tree (param s i) c o) = fitted (misfit s (sort_at A i)) (moved zero (min (length bs) MAX_INDEX) (nth A i))
-putting A bs (tree l c o) = cond (some_node is_param (tree l c none)) enters (puts (tree l c none))
+putting A bs (tree l c o) = cond (some_node is_any_param (tree l c none)) enters (puts (tree l c none))
 
 pub putting-bounds : (A : Trees) (bs : List ℕ) (t : Trees) → IsBound t → putting A bs t ≡ enters
 putting-bounds A bs (tree (principal n i) c o) h = refl
@@ -124,7 +124,7 @@ putting-once A bs (tree (param r i) c o) s e = by (misfit r (sort_at A i)) (move
     by : (m : Option InstantiateError) (t : Trees) → fitted m t ≡ again s → ⊥
     by None t e = cc
     by (Some x) t e = cc
-putting-once A bs (tree l c o) s e = by (some_node is_param (tree l c none)) (tree l c none) e
+putting-once A bs (tree l c o) s e = by (some_node is_any_param (tree l c none)) (tree l c none) e
   where
     by : (b : Bool) (t : Trees) → cond b enters (puts t) ≡ again s → ⊥
     by true t e = cc

@@ -4,7 +4,7 @@ ghost use Rattle.type_terms.specs.Promised.Trees.{nth, some_node};
 ghost use Rattle.type_terms.specs.Promised.Handles.{Keeps, Has, trees_at};
 ghost use Rattle.type_terms.specs.Terms.{args_lists};
 ghost use Rattle.type_terms.specs.Promised.Handles.{ArgHeld, arg_trees};
-ghost use Rattle.term_folds.specs.Arguments.{is_param, sort_at, arg_sort};
+ghost use Rattle.term_folds.specs.Arguments.{is_any_param, sort_at, arg_sort};
 
 use crate::fold::Answer;
 use crate::folder::TypeFolder;
@@ -60,7 +60,7 @@ pub(crate) fn argument(cx: &Interner, args: GenericArgs, index: u32) -> Option<G
 /// Whether a term has a parameter: one look at its flags.
 fn has_param<H: Handle>(cx: &Interner, term: H) -> bool
     requires { Has cx.now.entries H.handle_kind (H.handle_number term) }
-    ensures { result ≡ some_node is_param (trees_at cx.now.entries (H.handle_number term)) }
+    ensures { result ≡ some_node is_any_param (trees_at cx.now.entries (H.handle_number term)) }
 {
     cx.flags(term).intersects(TypeFlags::HAS_PARAM)
 }

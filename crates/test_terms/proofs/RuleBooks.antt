@@ -10,7 +10,7 @@ use Rattle.goal_evaluator.specs.Candidate.{Spec, Considered, Next, consider, ans
 use Rattle.goal_evaluator.specs.Law.{IsYes, AgreesTo, Realizes}
 use Rattle.goal_evaluator.specs.Handler.{nested_of, AnswerWithin, IsHandler}
 use Rattle.goal_evaluator.specs.Merge.{if_there, responses, is_always_applicable, merge_or_flounder, same_certainty, IsMergeOfResponses}
-use Rattle.test_terms.specs.Atoms.{Argument, atom, unknown, value_at, Goal, Response, atoms, AtomRule, AtomRuleBook, AtomIsBy, put_in, goal_put_in, spec_of, specs_for, candidates_for, nested_in, rest_of, remaining, same_value, same_response, if_refused, refused_numbers, next_of, AtomFollowsByRule, AtomHasProofByBook, handled_by}
+use Rattle.test_terms.specs.Atoms.{Argument, atom, unknown, value_at, Goal, Response, atoms, AtomRule, AtomRuleBook, AtomIsBy, put_in, goal_put_in, spec_of, specs_for, candidates_for, nested_in, without_first, remaining, same_value, same_response, if_refused, refused_numbers, next_of, AtomFollowsByRule, AtomHasProofByBook, handled_by}
 use Rattle.goal_evaluator.proofs.ListLaws.{Every-mono, SomeOf-mono, SomeOf-found, SomeOf-at, Every-at, among-all, both-right}
 use Rattle.test_terms.proofs.AtomTables.{atoms_are_lawful}
 use Rattle.goal_evaluator.proofs.LastRules.{last_rule}
@@ -190,7 +190,7 @@ module _ (book : AtomRuleBook) (g : Goal) where
   none_left seen [] a ignored e = (tt, ap (answer_in a) e, ap (ignored_in ignored) e)
   none_left seen (s ∷ left) a ignored e = absurd (cc)
 
-  left_on : (d : Considered (workings atoms)) (c : Spec (workings atoms)) (left : List (Spec (workings atoms))) → IsFirst left d.spec → IsAmong c left → (c ≡ d.spec) ⊎ IsAmong c (rest_of left)
+  left_on : (d : Considered (workings atoms)) (c : Spec (workings atoms)) (left : List (Spec (workings atoms))) → IsFirst left d.spec → IsAmong c left → (c ≡ d.spec) ⊎ IsAmong c (without_first left)
   left_on d c [] f i = absurd i
   left_on d c (s ∷ left) f (inl e) = inl (e ∙ f)
   left_on d c (s ∷ left) f (inr i) = inr i
@@ -203,7 +203,7 @@ module _ (book : AtomRuleBook) (g : Goal) where
     | inr j ↦ elim (left_on d c (remaining seen specs) (first seen (remaining seen specs) d.spec h.0) j) [ inl e ↦ inl (inl e) | inr k ↦ inr k ]
   ]
 
-  in_rest : (c : Spec (workings atoms)) (left : List (Spec (workings atoms))) → IsAmong c (rest_of left) → IsAmong c left
+  in_rest : (c : Spec (workings atoms)) (left : List (Spec (workings atoms))) → IsAmong c (without_first left) → IsAmong c left
   in_rest c [] i = i
   in_rest c (s ∷ left) i = inr i
 
@@ -216,7 +216,7 @@ module _ (book : AtomRuleBook) (g : Goal) where
   among_first c (s ∷ left) f = inl (sym f)
 
   -- how many there are, and how many nested goals they have
-  less_one : (c : Spec (workings atoms)) (left : List (Spec (workings atoms))) → IsFirst left c → (length left ≡ suc (length (rest_of left))) × (nested_in left ≡ length c.nested + nested_in (rest_of left))
+  less_one : (c : Spec (workings atoms)) (left : List (Spec (workings atoms))) → IsFirst left c → (length left ≡ suc (length (without_first left))) × (nested_in left ≡ length c.nested + nested_in (without_first left))
   less_one c [] f = absurd f
   less_one c (s ∷ left) f = (refl, ap (λ (d : Spec (workings atoms)). length d.nested + nested_in left) f)
 

@@ -155,14 +155,14 @@ abbrev pub nested_in : List (Spec (workings atoms)) → ℕ
 nested_in [] = 0
 nested_in (s ∷ specs) = length s.nested + nested_in specs
 
-abbrev pub rest_of : {A : Type 0} → List A → List A
-rest_of [] = []
-rest_of (x ∷ xs) = xs
+abbrev pub without_first : {A : Type 0} → List A → List A
+without_first [] = []
+without_first (x ∷ xs) = xs
 
 -- what is left of the candidates after these were considered
 abbrev pub remaining : List (Considered (workings atoms)) → List (Spec (workings atoms)) → List (Spec (workings atoms))
 remaining [] specs = specs
-remaining (c ∷ seen) specs = rest_of (remaining seen specs)
+remaining (c ∷ seen) specs = without_first (remaining seen specs)
 
 abbrev pub same_value : Option ℕ → Option ℕ → Bool
 same_value None None = true

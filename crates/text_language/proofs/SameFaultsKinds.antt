@@ -14,7 +14,7 @@ use Rattle.text_language.specs.Promised.Syntax.{TypeTree, named, Params, Clause,
 use Rattle.text_language.specs.Promised.Declarations.{Declarations, Known, a_crate, a_struct, a_trait, known, kinds_of, impl_owner}
 use Rattle.text_language.specs.Uses.{Use, name_use, trait_use, uses, asked_uses, header_uses, clause_uses, bound_uses}
 use Rattle.text_language.specs.Promised.Faults.{is_among, with_own, is_auto_name, built_in_traits}
-use Rattle.text_language.specs.Faults.{takes_names, is_param, is_other_sort, uses_other_sort, is_name_use, has_free_param, is_use_of, bounds_use_own, is_loaded_auto, is_struct_in, is_own_struct, is_foreign_auto, is_built_in, implements_built_in, variables_in, has_stray_variable, refutes_params}
+use Rattle.text_language.specs.Faults.{takes_names, is_line_param, is_other_sort, uses_other_sort, is_name_use, has_free_param, is_use_of, bounds_use_own, is_loaded_auto, is_struct_in, is_own_struct, is_foreign_auto, is_built_in, implements_built_in, variables_in, has_stray_variable, refutes_params}
 use Rattle.text_language.specs.Promised.Mentions.{Mention, crate_mention, name_mention, trait_mention, lifetime_mention, binder_mention, variable_mention, misfit_mention, dyn_mention, list_mention, number_mention, type_mention, line_mentions, asked_mentions, bound_mentions, header_mentions}
 use Rattle.text_language.specs.Promised.LineFaults.{names_among, heads_own_struct, faults_by_kind, variables_among}
 use Rattle.text_language.proofs.SameMentions.{as_uses, mentions-are, asked-mentions-are, bound-mentions-are, header-mentions-are, other-variables}
@@ -50,13 +50,13 @@ any-within p q (n ∷ ns) h =
     ∙ ap (λ b. q n || b) (any-within p q ns (λ m e. h m (ap (λ b. bytes_eq n m || b) e ∙ or-true (bytes_eq n m))))
 
 -- no parameter stands where a trait has to
-no-trait : (d : Declarations) (l : Line) (n : List ℕ) → is_param l n ≡ true → (u : Use) → is_other_sort d l u ≡ false → is_use_of n u ≡ is_name_use n u
+no-trait : (d : Declarations) (l : Line) (n : List ℕ) → is_line_param l n ≡ true → (u : Use) → is_other_sort d l u ≡ false → is_use_of n u ≡ is_name_use n u
 no-trait d l n p (trait_use m k) e = by (bytes_eq m n) refl
   where
     by : (b : Bool) → bytes_eq m n ≡ b → b ≡ false
     by true f =
-        let q : is_param l m ≡ false = left-false (is_param l m) _ e in
-        let r : is_param l m ≡ is_param l n = ap (is_param l) ((bytes_eq-Decides m n).0 f) in
+        let q : is_line_param l m ≡ false = left-false (is_line_param l m) _ e in
+        let r : is_line_param l m ≡ is_line_param l n = ap (is_line_param l) ((bytes_eq-Decides m n).0 f) in
         absurd cc
     by false f = refl
 no-trait d l n p (name_use q m k) e = refl
@@ -137,7 +137,7 @@ own-struct : (d : Declarations) (ps : Params) (h : Clause) (ks : List Clause) �
     → (t : TypeTree) → heads_own_struct d t ≡ is_own_struct d (impl_line ps h ks) t
 own-struct d ps h ks e (named n args) =
     struct-in (impl_owner d) (known d n)
-    ∙ without (is_param (impl_line ps h ks) n) (option_map_or (is_struct_in (impl_owner d)) (known d n) false)
+    ∙ without (is_line_param (impl_line ps h ks) n) (option_map_or (is_struct_in (impl_owner d)) (known d n) false)
     (λ p. ap (λ w. option_map_or (is_struct_in (impl_owner d)) w false) (param-unknown d (impl_line ps h ks) e n p))
 own-struct d ps h ks e _ = refl
 

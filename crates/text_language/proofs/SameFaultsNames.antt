@@ -13,7 +13,7 @@ use Rattle.text_language.specs.Promised.Syntax.{Line, crate_line, struct_line, t
 use Rattle.text_language.specs.Promised.Declarations.{Declarations, NamedCrate, NamedStruct, NamedTrait, Known, a_crate, a_struct, a_trait, known, world_of, impl_owner}
 use Rattle.text_language.specs.Uses.{Use, uses, params_of}
 use Rattle.text_language.specs.Promised.Faults.{is_among, repeats, with_own}
-use Rattle.text_language.specs.Faults.{static_name, is_misplaced, declares_taken, is_taken_param, is_in_scope, is_taken_binder, takes_names, is_param, is_known_name, is_unknown_use, uses_unknown, number_of_crate, looking_crate, home_of, is_hidden_name, is_hidden_use, uses_hidden, is_crate, is_type_of, is_trait_of, is_param_of, is_other_sort, uses_other_sort}
+use Rattle.text_language.specs.Faults.{static_name, is_misplaced, declares_taken, is_taken_param, is_in_scope, is_taken_binder, takes_names, is_line_param, is_known_name, is_unknown_use, uses_unknown, number_of_crate, looking_crate, home_of, is_hidden_name, is_hidden_use, uses_hidden, is_crate, is_type_of, is_trait_of, is_param_of, is_other_sort, uses_other_sort}
 use Rattle.text_language.specs.Promised.Mentions.{Mention, crate_mention, name_mention, trait_mention, lifetime_mention, binder_mention, variable_mention, misfit_mention, dyn_mention, list_mention, number_mention, type_mention, line_mentions, line_params}
 use Rattle.text_language.specs.Promised.LineFaults.{faults_by_kind, mention_faults, lifetimes_in_scope, is_unknown_name, is_out_of_sight, is_unseen_name, fits_place}
 use Rattle.text_language.proofs.SameMentions.{as_uses, mentions-are, params-same}
@@ -163,7 +163,7 @@ among-none d n (m ∷ ns) e h =
     by true f g k r = subst (λ x. known d x ≡ None) ((bytes_eq-Decides m n).0 f) (none (known d m) k)
     by false f g k r = r g
 
-pub param-unknown : (d : Declarations) (l : Line) → takes_names d l ≡ false → (n : List ℕ) → is_param l n ≡ true → known (with_own d l) n ≡ None
+pub param-unknown : (d : Declarations) (l : Line) → takes_names d l ≡ false → (n : List ℕ) → is_line_param l n ≡ true → known (with_own d l) n ≡ None
 param-unknown d l t n h =
     let ps : Bool = is_taken_param d l in
     let bs : Bool = list_any (is_taken_binder l) (uses (with_own d l) l) in
@@ -254,7 +254,7 @@ module _ (d : Declarations) (l : Line) (t : takes_names d l ≡ false) where
   unseen-some c j (Some (a_trait i h a kinds)) = j h
 
   unseen-name : (c : ℕ) → Judges d l (Some c) → (n : List ℕ) → is_unseen_name (with_own d l) l n ≡ is_hidden_name d l c n
-  unseen-name c j n = unseen-some c j (known (with_own d l) n) ∙ by (is_param l n) (λ e. ap (hidden c) (param-unknown d l t n e))
+  unseen-name c j n = unseen-some c j (known (with_own d l) n) ∙ by (is_line_param l n) (λ e. ap (hidden c) (param-unknown d l t n e))
     where
       by : (b : Bool) → (b ≡ true → hidden c (known (with_own d l) n) ≡ false) → hidden c (known (with_own d l) n) ≡ not b && hidden c (known (with_own d l) n)
       by true f = f refl
@@ -388,10 +388,10 @@ module _ (d : Declarations) (l : Line) (t : takes_names d l ≡ false) where
   abbrev means : List ℕ → Option Known
   means n = known (with_own d l) n
 
-  fits : (p : Sort) (n : List ℕ) (k : ℕ) → at_lifetime (name_mention p n k) ≡ false → fits_place (with_own d l) (params_of l) p n k ≡ cond (is_param l n) (is_param_of l p n k) (option_map_or (is_type_of p k) (means n) false)
+  fits : (p : Sort) (n : List ℕ) (k : ℕ) → at_lifetime (name_mention p n k) ≡ false → fits_place (with_own d l) (params_of l) p n k ≡ cond (is_line_param l n) (is_param_of l p n k) (option_map_or (is_type_of p k) (means n) false)
   fits of_type n k x =
       ap (λ b. (is_among n (params_of l).types && (k == 0)) || b) (struct-is k (means n))
-      ∙ by (is_among n (params_of l).types) (is_among n (params_of l).consts) (is_param l n) (k == 0) (option_map_or (is_type_of of_type k) (means n) false)
+      ∙ by (is_among n (params_of l).types) (is_among n (params_of l).consts) (is_line_param l n) (k == 0) (option_map_or (is_type_of of_type k) (means n) false)
       (among-append n (params_of l).types (params_of l).consts) (λ e. ap (λ w. option_map_or (is_type_of of_type k) w false) (param-unknown d l t n e))
     where
       by : (x y z b s : Bool) → z ≡ x || y → (z ≡ true → s ≡ false) → (x && b) || s ≡ cond z (x && b) s
@@ -402,7 +402,7 @@ module _ (d : Declarations) (l : Line) (t : takes_names d l ≡ false) where
       by false y false b s e f = refl
   fits of_lifetime n k x = absurd cc
   fits of_const n k x =
-      by (is_among n (params_of l).types) (is_among n (params_of l).consts) (is_param l n) (k == 0) (option_map_or (is_type_of of_const k) (means n) false)
+      by (is_among n (params_of l).types) (is_among n (params_of l).consts) (is_line_param l n) (k == 0) (option_map_or (is_type_of of_const k) (means n) false)
       (among-append n (params_of l).types (params_of l).consts) (no-struct of_const k (means n) (λ e. absurd cc))
     where
       by : (x y z b s : Bool) → z ≡ x || y → s ≡ false → y && b ≡ cond z (y && b) s
@@ -411,8 +411,8 @@ module _ (d : Declarations) (l : Line) (t : takes_names d l ≡ false) where
       by false true false b s e f = absurd cc
       by false false false b s e f = sym f
 
-  is-trait : (n : List ℕ) (k : ℕ) → not (option_map_or (λ w. elim w [ a_trait i h a kinds ↦ length kinds == k | _ ↦ false ]) (means n) false) ≡ is_param l n || not (option_map_or (is_trait_of k) (means n) false)
-  is-trait n k = ap not (trait-is k (means n)) ∙ by (is_param l n) (λ e. ap (λ w. option_map_or (is_trait_of k) w false) (param-unknown d l t n e))
+  is-trait : (n : List ℕ) (k : ℕ) → not (option_map_or (λ w. elim w [ a_trait i h a kinds ↦ length kinds == k | _ ↦ false ]) (means n) false) ≡ is_line_param l n || not (option_map_or (is_trait_of k) (means n) false)
+  is-trait n k = ap not (trait-is k (means n)) ∙ by (is_line_param l n) (λ e. ap (λ w. option_map_or (is_trait_of k) w false) (param-unknown d l t n e))
     where
       by : (b : Bool) → (b ≡ true → option_map_or (is_trait_of k) (means n) false ≡ false) → not (option_map_or (is_trait_of k) (means n) false) ≡ b || not (option_map_or (is_trait_of k) (means n) false)
       by true f = ap not (f refl)

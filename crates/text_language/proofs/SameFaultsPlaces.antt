@@ -5,7 +5,7 @@ use Rattle.std.specs.Option.{option_to_list}
 use Rattle.std.specs.List.{list_any, flat_map}
 use Rattle.std.proofs.lemmas.List.Folds.{list_any-append}
 use Rattle.type_terms.specs.Promised.Label.{Sort, of_type, of_const, of_lifetime}
-use Rattle.text_language.specs.Promised.Syntax.{TypeTree, of_primitive, never_type, variable_type, named, reference_to, pointer_to, slice_of, array_of, tuple_of, fn_of, fn_to, dyn_of, Types, no_types, and_type, Args, no_args, and_arg, Arg, lifetime_arg, number_arg, type_arg, Item, bound_item, lifetime_item, Items, no_items, and_item, number_length, name_length, variable_length, Bound, Clause, Line, crate_line, struct_line, trait_line, impl_line, prove_line, refute_line, later_line, supers_line}
+use Rattle.text_language.specs.Promised.Syntax.{TypeTree, of_primitive, never_type, variable_type, named, reference_to, pointer_to, slice_of, array_of, tuple_of, fn_of, fn_to, dyn_of, Types, no_types, and_type, Args, no_args, and_arg, Arg, lifetime_arg, number_arg, type_arg, Item, bound_item, lifetime_item, DynBounds, no_items, and_item, number_length, name_length, variable_length, Bound, Clause, Line, crate_line, struct_line, trait_line, impl_line, prove_line, refute_line, later_line, supers_line}
 use Rattle.text_language.specs.Promised.Declarations.{Declarations}
 use Rattle.text_language.specs.Promised.Mentions.{Mention, crate_mention, name_mention, lifetime_mention, variable_mention, misfit_mention, number_mention, type_mention, struct_kinds, trait_kinds, type_mentions, types_mentions, args_mentions, arg_mentions, item_mentions, items_mentions, bound_mentions, clause_mentions, header_mentions, line_mentions}
 
@@ -96,7 +96,7 @@ mutual
   item-covered d s k (bound_item b n args) = args-covered d (b ∷ s) k (trait_kinds d n) args
   item-covered d s k (lifetime_item n) = empty
 
-  items-covered : (d : Declarations) (s : Scope) (k : ℕ) (is : Items) → Covered (items_mentions d s k is)
+  items-covered : (d : Declarations) (s : Scope) (k : ℕ) (is : DynBounds) → Covered (items_mentions d s k is)
   items-covered d s k no_items = empty
   items-covered d s k (and_item i is) = both (item_mentions d s k i) (items_mentions d s k is) (item-covered d s k i) (items-covered d s k is)
 

@@ -9,7 +9,7 @@ use Rattle.type_terms.specs.Promised.Label.{Label}
 use Rattle.type_terms.specs.Codes.{same_label}
 use Rattle.text_language.specs.Words.{Sign, open_angle, close_angle, open_round, close_round, open_square, close_square, comma, colon, semicolon, ampersand, star, plus, exclamation, keyword_text, crate_word, uses_word, fundamental_word, struct_word, auto_word, trait_word, impl_word, for_word, where_word, prove_word, refute_word, in_word, mut_word, const_word, fn_word, dyn_word}
 use Rattle.text_language.specs.Tokens.{Token, keyword, primitive, name, lifetime, variable, number, sign, arrow}
-use Rattle.text_language.specs.Promised.Syntax.{TypeTree, of_primitive, never_type, variable_type, named, reference_to, pointer_to, slice_of, array_of, tuple_of, fn_of, fn_to, dyn_of, number_length, name_length, variable_length, Types, no_types, and_type, Args, no_args, and_arg, Arg, lifetime_arg, number_arg, type_arg, Item, bound_item, lifetime_item, Items, no_items, and_item, Params, Bound, Clause, Line, crate_line, struct_line, trait_line, impl_line, prove_line, refute_line, later_line, supers_line}
+use Rattle.text_language.specs.Promised.Syntax.{TypeTree, of_primitive, never_type, variable_type, named, reference_to, pointer_to, slice_of, array_of, tuple_of, fn_of, fn_to, dyn_of, number_length, name_length, variable_length, Types, no_types, and_type, Args, no_args, and_arg, Arg, lifetime_arg, number_arg, type_arg, Item, bound_item, lifetime_item, DynBounds, no_items, and_item, Params, Bound, Clause, Line, crate_line, struct_line, trait_line, impl_line, prove_line, refute_line, later_line, supers_line}
 use Rattle.text_language.specs.Syntax.{type_spelling, inputs_spelling, more_types, args_spelling, more_args, arg_spelling, item_spelling, more_items, binder_spelling, more_lifetimes, lifetime_spelling, more_names, uses_spelling, param_spellings, params_spelling, behind, in_angles, bound_spelling, clause_spelling, bounds_spelling, where_spelling, fields_spelling, spelling}
 use Rattle.text_language.specs.Promised.Grammar.{primitive_names, reserved_words, PieceTests, literal, name_with, numeral, enclosed, type_tests, types_tests, args_tests, item_tests, items_tests, params_tests, bound_tests, clause_tests, line_tests}
 
@@ -166,7 +166,7 @@ mutual
   item-same (bound_item b n args) = append_assoc (enclosed "for<" "," ">" (map (name_with "'") b)) (name_with "" n) (enclosed "<" "," ">" (args_tests args)) ∙ joined _ _ (binder_spelling b) (name n ∷ args_spelling args) (binder-same b) (onward (name n ∷ []) (args_spelling args) _ (args-same args))
   item-same (lifetime_item n) = refl
 
-  items-same : (is : Items) → flat_map (λ q. literal "+" ++ q) (items_tests is) ++ [] ≡ tests_of (more_items is)
+  items-same : (is : DynBounds) → flat_map (λ q. literal "+" ++ q) (items_tests is) ++ [] ≡ tests_of (more_items is)
   items-same no_items = refl
   items-same (and_item i is) =
       one_more (literal "+") (item_tests i) [] (items_tests is) ∙ onward (sign plus ∷ []) _ _ (joined _ _ (item_spelling i) (more_items is) (item-same i) (items-same is))

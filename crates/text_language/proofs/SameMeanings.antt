@@ -11,7 +11,7 @@ use Rattle.text_language.specs.Promised.Syntax.{Params, Clause, Line, crate_line
 use Rattle.text_language.specs.Promised.Declarations.{Declarations, NamedImpl, Variable, of_later, of_supers, known, kinds_of, names_of, last_crate, last_later, impl_owner}
 use Rattle.text_language.specs.Declarations.{sorted_names}
 use Rattle.text_language.specs.Uses.{Use, crate_use, name_use, trait_use, lifetime_use, binder_use, variable_use, misfit_use, dyn_use, items_use, number_use, uses, type_uses, bound_uses, clause_uses, header_uses, params_of}
-use Rattle.text_language.specs.Faults.{first_of, tests, fault_of, declares_taken, is_taken_param, is_taken_binder, is_unknown_use, is_other_sort, is_bad_dyn, static_name, is_in_scope, is_crate, is_type_of, is_trait_of, is_param, is_param_of, variables_in, once}
+use Rattle.text_language.specs.Faults.{first_of, tests, fault_of, declares_taken, is_taken_param, is_taken_binder, is_unknown_use, is_other_sort, is_bad_dyn, static_name, is_in_scope, is_crate, is_type_of, is_trait_of, is_line_param, is_param_of, variables_in, once}
 use Rattle.text_language.specs.Promised.Faults.{is_among, repeats, with_own}
 use Rattle.text_language.specs.Lowering.{crate_number, clause_reference}
 use Rattle.text_language.specs.Adding.{added, item_meanings, question_meanings}
@@ -37,8 +37,8 @@ none-holds ((n, false) ∷ ts) e = (refl, none-holds ts e)
 
 use-fits : (d : Declarations) (l : Line) (u : Use) → is_taken_binder l u ≡ false → is_unknown_use d l u ≡ false → is_other_sort d l u ≡ false → is_bad_dyn (with_own d l) u ≡ false → UseFits d l u
 use-fits d l (crate_use n) a b c e = not-false (option_map_or is_crate (known d n) false) c
-use-fits d l (name_use p n k) a b c e = not-false (if is_param l n then is_param_of l p n k else option_map_or (is_type_of p k) (known (with_own d l) n) false) c
-use-fits d l (trait_use n k) a b c e = not-false (option_map_or (is_trait_of k) (known (with_own d l) n) false) (or-second (is_param l n) _ c)
+use-fits d l (name_use p n k) a b c e = not-false (if is_line_param l n then is_param_of l p n k else option_map_or (is_type_of p k) (known (with_own d l) n) false) c
+use-fits d l (trait_use n k) a b c e = not-false (option_map_or (is_trait_of k) (known (with_own d l) n) false) (or-second (is_line_param l n) _ c)
 use-fits d l (lifetime_use s n) a b c e = not-false (bytes_eq n static_name || is_in_scope l s n) b
 use-fits d l (binder_use s ns) a b c e = or-first (is_among static_name ns) (list_any (is_in_scope l s) ns) (or-second (repeats ns) _ a)
 use-fits d l (variable_use p n) a b c e = tt

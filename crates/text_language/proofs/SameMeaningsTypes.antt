@@ -8,12 +8,12 @@ use Rattle.std.specs.Str.{bytes_eq}
 use Rattle.type_terms.specs.Promised.Label.{Label, Sort, of_type, of_const, of_lifetime, never, array, slice, tuple, dynamic, static, adt, fn_ptr, auto_trait, value, ref, raw_pointer, principal, infer, bound}
 use Rattle.type_terms.specs.Promised.Trees.{Trees, none, tree, leaf, ◌+++◌}
 use Rattle.type_terms.specs.Promised.Rules.{together}
-use Rattle.text_language.specs.Promised.Syntax.{TypeTree, of_primitive, never_type, variable_type, named, reference_to, pointer_to, slice_of, array_of, tuple_of, fn_of, fn_to, dyn_of, Types, no_types, and_type, Args, no_args, and_arg, lifetime_arg, number_arg, type_arg, Item, bound_item, lifetime_item, Items, no_items, and_item, number_length, name_length, variable_length, Bound, Clause, Line}
+use Rattle.text_language.specs.Promised.Syntax.{TypeTree, of_primitive, never_type, variable_type, named, reference_to, pointer_to, slice_of, array_of, tuple_of, fn_of, fn_to, dyn_of, Types, no_types, and_type, Args, no_args, and_arg, lifetime_arg, number_arg, type_arg, Item, bound_item, lifetime_item, DynBounds, no_items, and_item, number_length, name_length, variable_length, Bound, Clause, Line}
 use Rattle.text_language.specs.Promised.Declarations.{Declarations, Variable, Known, a_crate, a_struct, a_trait, known}
 use Rattle.text_language.specs.Uses.{Use, crate_use, name_use, trait_use, lifetime_use, binder_use, variable_use, misfit_use, dyn_use, items_use, number_use, item_shape, item_shapes, args_count, types_count, kinds_of_struct, kinds_of_trait, length_uses, lifetime_uses, lifetime_arg_uses, binder_uses, type_misfits, type_uses, types_uses, args_uses, arg_uses, item_uses, items_uses, bound_uses, clause_uses, params_of}
 use Rattle.text_language.specs.Promised.Faults.{with_own, is_among, is_auto_name}
-use Rattle.text_language.specs.Faults.{is_in_scope, static_name, is_param, is_param_of, is_crate, is_type_of, is_trait_of, is_bound, is_late, binds_auto, has_early_lifetime, is_bad_dyn}
-use Rattle.text_language.specs.Lowering.{Meanings, place_among, crate_number, trait_number, struct_label, type_label, const_label, variable_label, lifetime_under, lifetime_label, optional_lifetime, inserted, with_auto, autos, auto_leaves, item_lifetime, last_lifetime, type_tree, types_trees, args_trees, items_trees, field_trees, with_self, clause_reference}
+use Rattle.text_language.specs.Faults.{is_in_scope, static_name, is_line_param, is_param_of, is_crate, is_type_of, is_trait_of, is_bound, is_late, binds_auto, has_early_lifetime, is_bad_dyn}
+use Rattle.text_language.specs.Lowering.{Meanings, place_among, crate_number, trait_number, struct_label, type_label, const_label, variable_label, lifetime_under, lifetime_label, optional_lifetime, inserted, with_auto, autos, auto_leaves, item_lifetime, last_lifetime, type_tree, types_trees, args_trees, items_trees, field_trees, bound_with_self, clause_reference}
 use Rattle.text_language.specs.Promised.LineMeanings.{means, own_param, life_label, variable_meaning, dyn_end, as_tree, as_trees, as_args, bound_meaning, clause_meaning}
 use Rattle.text_language.proofs.SameMeaningsNames.{and-first, and-second, not-false, name-position, own-life, own-type, own-const}
 use Rattle.text_language.proofs.SameMeaningsVariables.{as-variables, variable-placed}
@@ -24,7 +24,7 @@ use Rattle.type_terms.proofs.ListBasics.{same-name}
 -- ---- a use that fits
 abbrev pub UseFits : Declarations → Line → Use → Type 0
 UseFits d l (crate_use n) = option_map_or is_crate (known d n) false ≡ true
-UseFits d l (name_use p n k) = (if is_param l n then is_param_of l p n k else option_map_or (is_type_of p k) (known (with_own d l) n) false) ≡ true
+UseFits d l (name_use p n k) = (if is_line_param l n then is_param_of l p n k else option_map_or (is_type_of p k) (known (with_own d l) n) false) ≡ true
 UseFits d l (trait_use n k) = option_map_or (is_trait_of k) (known (with_own d l) n) false ≡ true
 UseFits d l (lifetime_use s n) = bytes_eq n static_name || is_in_scope l s n ≡ true
 UseFits d l (binder_use s ns) = is_among static_name ns ≡ false
@@ -187,7 +187,7 @@ module _ (d : Declarations) (l : Line) (first : ℕ) (parameter label : Sort →
       ∙ ap Some (labels of_const (length ls + length ts + place_among n cs) ∙ ap (parameter of_const) (omega arith))
 
   const-use : (n : List ℕ) (k : ℕ) → UseFits d l (name_use of_const n k) → (is_among n cs ≡ true) × ((k == 0) ≡ true)
-  const-use n k h = by (is_param l n) (known D n) h
+  const-use n k h = by (is_line_param l n) (known D n) h
     where
       by : (b : Bool) (o : Option Known) → (if b then is_among n cs && (k == 0) else option_map_or (is_type_of of_const k) o false) ≡ true → (is_among n cs ≡ true) × ((k == 0) ≡ true)
       by true o g = (and-first _ _ g, and-second (is_among n cs) _ g)
@@ -197,7 +197,7 @@ module _ (d : Declarations) (l : Line) (first : ℕ) (parameter label : Sort →
       by false (Some (a_trait i c a ks)) g = absurd cc
 
   no-lifetime : {A : Type 0} (n : List ℕ) (k : ℕ) → UseFits d l (name_use of_lifetime n k) → A
-  no-lifetime n k h = by (is_param l n) (known D n) h
+  no-lifetime n k h = by (is_line_param l n) (known D n) h
     where
       by : {A : Type 0} (b : Bool) (o : Option Known) → (if b then false else option_map_or (is_type_of of_lifetime k) o false) ≡ true → A
       by true o g = absurd cc
@@ -220,12 +220,12 @@ module _ (d : Declarations) (l : Line) (first : ℕ) (parameter label : Sort →
       → as_tree D own vs s p (named n args) ≡ type_tree old s p (named n args)
   named-is s of_lifetime n args h r = no-lifetime n (args_count args) h
   named-is s of_const n args h r = ap (λ o. option_map_or leaf o (tree (adt (means D n).0) (as_args D own vs s (means D n).1 args) none)) (const-named n (const-use n (args_count args) h).0)
-  named-is s of_type n args h r = by (is_param l n) refl h
+  named-is s of_type n args h r = by (is_line_param l n) refl h
     where
       in-head : (b : Bool) → is_among n ts ≡ b → type_label old n ≡ (if b then parameter of_type (first + length ls + place_among n ts) else struct_label (known D n))
       in-head b e = ap (λ x. if x then parameter of_type (first + length ls + place_among n ts) else struct_label (known D n)) e
 
-      by : (b : Bool) → is_param l n ≡ b → (if b then is_among n ts && (args_count args == 0) else option_map_or (is_type_of of_type (args_count args)) (known D n) false) ≡ true
+      by : (b : Bool) → is_line_param l n ≡ b → (if b then is_among n ts && (args_count args == 0) else option_map_or (is_type_of of_type (args_count args)) (known D n) false) ≡ true
           → as_tree D own vs s of_type (named n args) ≡ type_tree old s of_type (named n args)
       by true e g =
           let there = and-first _ _ g in
@@ -253,23 +253,23 @@ module _ (d : Declarations) (l : Line) (first : ℕ) (parameter label : Sort →
 
   -- ---- the items of a `dyn`
   -- what is behind the first bound: auto traits, and a lifetime at the end
-  abbrev IsLate : Items → Type 0
+  abbrev IsLate : DynBounds → Type 0
   IsLate is = list_any (is_late D) (item_shapes is) ≡ false
 
-  abbrev EndsWell : Items → Type 0
+  abbrev EndsWell : DynBounds → Type 0
   EndsWell is = has_early_lifetime (item_shapes is) ≡ false
 
-  late-auto : (b : List (List ℕ)) (n : List ℕ) (args : Args) (is : Items) → IsLate (and_item (bound_item b n args) is) → is_auto_name D n ≡ true
+  late-auto : (b : List (List ℕ)) (n : List ℕ) (args : Args) (is : DynBounds) → IsLate (and_item (bound_item b n args) is) → is_auto_name D n ≡ true
   late-auto b n args is h = not-false (is_auto_name D n) (or-first _ _ h)
 
-  late-rest : (i : Item) (is : Items) → IsLate (and_item i is) → IsLate is
+  late-rest : (i : Item) (is : DynBounds) → IsLate (and_item i is) → IsLate is
   late-rest i is h = or-second (is_late D (item_shape i)) _ h
 
-  ends-rest : (b : List (List ℕ)) (n : List ℕ) (args : Args) (is : Items) → EndsWell (and_item (bound_item b n args) is) → EndsWell is
+  ends-rest : (b : List (List ℕ)) (n : List ℕ) (args : Args) (is : DynBounds) → EndsWell (and_item (bound_item b n args) is) → EndsWell is
   ends-rest b n args no_items h = refl
   ends-rest b n args (and_item i is) h = h
 
-  no-principal : (s : Binders) (is : Items) → IsLate is → items_trees old s is ≡ none
+  no-principal : (s : Binders) (is : DynBounds) → IsLate is → items_trees old s is ≡ none
   no-principal s no_items h = refl
   no-principal s (and_item (lifetime_item n) is) h = no-principal s is (late-rest (lifetime_item n) is h)
   no-principal s (and_item (bound_item b n args) is) h =
@@ -277,16 +277,16 @@ module _ (d : Declarations) (l : Line) (first : ℕ) (parameter label : Sort →
       ∙ no-principal s is (late-rest (bound_item b n args) is h)
 
   -- the auto traits on top of these
-  onto : List ℕ → Items → List ℕ
+  onto : List ℕ → DynBounds → List ℕ
   onto ns no_items = ns
   onto ns (and_item i is) = with_auto D i (onto ns is)
 
-  onto-none : (is : Items) → onto [] is ≡ autos D is
+  onto-none : (is : DynBounds) → onto [] is ≡ autos D is
   unfolding onto
   onto-none no_items = refl
   onto-none (and_item i is) = ap (with_auto D i) (onto-none is)
 
-  onto-more : (k : ℕ) (ns : List ℕ) (is : Items) → onto (inserted k ns) is ≡ inserted k (onto ns is)
+  onto-more : (k : ℕ) (ns : List ℕ) (is : DynBounds) → onto (inserted k ns) is ≡ inserted k (onto ns is)
   unfolding onto
   onto-more k ns no_items = refl
   onto-more k ns (and_item (lifetime_item n) is) = onto-more k ns is
@@ -300,7 +300,7 @@ module _ (d : Declarations) (l : Line) (first : ℕ) (parameter label : Sort →
   leaves-on : (ns : List ℕ) (t u : Trees) → t ≡ u → together (map (λ i. leaf (auto_trait i)) ns) +++ t ≡ auto_leaves ns +++ u
   leaves-on ns t u e = ap (λ x. x +++ t) (autos-are ns) ∙ ap (λ x. auto_leaves ns +++ x) e
 
-  dyn-end-is : (s : Binders) (ns : List ℕ) (i : Item) (is : Items) → Rises 0 ns → NoStatic s → AllFit d l (items_uses D s is) → IsLate is → EndsWell is
+  dyn-end-is : (s : Binders) (ns : List ℕ) (i : Item) (is : DynBounds) → Rises 0 ns → NoStatic s → AllFit d l (items_uses D s is) → IsLate is → EndsWell is
       → item_lifetime old s i ≡ leaf static → dyn_end D own s ns is ≡ auto_leaves (onto ns is) +++ last_lifetime old s i is
   unfolding onto
   dyn-end-is s ns i no_items r h f a b e = leaves-on ns (leaf static) (item_lifetime old s i) (sym e)
@@ -316,7 +316,7 @@ module _ (d : Declarations) (l : Line) (first : ℕ) (parameter label : Sort →
       ∙ ap (λ x. auto_leaves x +++ last_lifetime old s (bound_item c n args) is)
       (onto-more k ns is ∙ ap (λ x. if x then inserted k (onto ns is) else onto ns is) (sym (late-auto c n args is a)))
 
-  module _ (s : Binders) (p : Sort) (b : List (List ℕ)) (n : List ℕ) (args : Args) (is : Items) (h : NoStatic s) (f : AllFit d l (type_uses D s p (dyn_of (bound_item b n args) is))) where
+  module _ (s : Binders) (p : Sort) (b : List (List ℕ)) (n : List ℕ) (args : Args) (is : DynBounds) (h : NoStatic s) (f : AllFit d l (type_uses D s p (dyn_of (bound_item b n args) is))) where
     abbrev i : Item
     i = bound_item b n args
 
@@ -432,7 +432,7 @@ module _ (d : Declarations) (l : Line) (first : ℕ) (parameter label : Sort →
       ap (λ x. x ∷ as_trees D own vs [] ts) (type-is [] of_type t refl (first-fit d l (type_uses D [] of_type t) (types_uses D [] ts) f))
       ∙ ap (λ x. type_tree old [] of_type t ∷ x) (fields-are ts (rest-fit d l (type_uses D [] of_type t) (types_uses D [] ts) f))
 
-  pub bound-is : (self : Trees) (b : Bound) → AllFit d l (bound_uses D b) → bound_meaning D own vs self b ≡ with_self old self b
+  pub bound-is : (self : Trees) (b : Bound) → AllFit d l (bound_uses D b) → bound_meaning D own vs self b ≡ bound_with_self old self b
   bound-is self b f =
       ap (λ i. record { trait = i; args = self +++ as_args D own vs [] ((means D b.trait).1) b.args }) (trait-numbered D b.trait (args_count b.args) f.0)
       ∙ ap (λ ks. record { trait = trait_number (known D b.trait); args = self +++ as_args D own vs [] ks b.args }) (trait-kinds D b.trait (args_count b.args) f.0)
@@ -450,8 +450,8 @@ module _ (d : Declarations) (l : Line) (first : ℕ) (parameter label : Sort →
       ap (λ x. x ∷ map (clause_meaning D own vs) ks) (clause-is k (first-fit d l (clause_uses D k) (flat_map (clause_uses D) ks) f))
       ∙ ap (λ x. clause_reference old k ∷ x) (clauses-are ks (rest-fit d l (clause_uses D k) (flat_map (clause_uses D) ks) f))
 
-  pub bounds-are : (self : Trees) (bs : List Bound) → AllFit d l (flat_map (bound_uses D) bs) → map (bound_meaning D own vs self) bs ≡ map (with_self old self) bs
+  pub bounds-are : (self : Trees) (bs : List Bound) → AllFit d l (flat_map (bound_uses D) bs) → map (bound_meaning D own vs self) bs ≡ map (bound_with_self old self) bs
   bounds-are self [] f = refl
   bounds-are self (b ∷ bs) f =
       ap (λ x. x ∷ map (bound_meaning D own vs self) bs) (bound-is self b (first-fit d l (bound_uses D b) (flat_map (bound_uses D) bs) f))
-      ∙ ap (λ x. with_self old self b ∷ x) (bounds-are self bs (rest-fit d l (bound_uses D b) (flat_map (bound_uses D) bs) f))
+      ∙ ap (λ x. bound_with_self old self b ∷ x) (bounds-are self bs (rest-fit d l (bound_uses D b) (flat_map (bound_uses D) bs) f))

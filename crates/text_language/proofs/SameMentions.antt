@@ -8,7 +8,7 @@ use Rattle.text_language.specs.Promised.Faults.{with_own}
 use Rattle.std.specs.List.{flat_map}
 use Rattle.std.proofs.lemmas.Grind.{flat_map-append}
 use Rattle.type_terms.specs.Promised.Label.{Sort, of_type, of_const, of_lifetime}
-use Rattle.text_language.specs.Promised.Syntax.{TypeTree, of_primitive, never_type, variable_type, named, reference_to, pointer_to, slice_of, array_of, tuple_of, fn_of, fn_to, dyn_of, Types, no_types, and_type, Args, no_args, and_arg, Arg, lifetime_arg, number_arg, type_arg, Item, bound_item, lifetime_item, Items, no_items, and_item, number_length, name_length, variable_length, Bound, Clause, Line, crate_line, struct_line, trait_line, impl_line, prove_line, refute_line, later_line, supers_line}
+use Rattle.text_language.specs.Promised.Syntax.{TypeTree, of_primitive, never_type, variable_type, named, reference_to, pointer_to, slice_of, array_of, tuple_of, fn_of, fn_to, dyn_of, Types, no_types, and_type, Args, no_args, and_arg, Arg, lifetime_arg, number_arg, type_arg, Item, bound_item, lifetime_item, DynBounds, no_items, and_item, number_length, name_length, variable_length, Bound, Clause, Line, crate_line, struct_line, trait_line, impl_line, prove_line, refute_line, later_line, supers_line}
 use Rattle.text_language.specs.Promised.Declarations.{Declarations, Known, a_crate, a_struct, a_trait, known}
 use Rattle.text_language.specs.Uses.{Use, crate_use, name_use, trait_use, lifetime_use, binder_use, misfit_use, variable_use, dyn_use, items_use, number_use, binder_uses, item_shape, item_shapes, types_count, args_count, next_kind, other_kinds, kinds_of_struct, kinds_of_trait, type_uses, types_uses, args_uses, arg_uses, item_uses, items_uses, bound_uses, clause_uses, header_uses, uses, asked_uses, other_uses, params_of}
 use Rattle.text_language.specs.Promised.Mentions.{Mention, crate_mention, name_mention, trait_mention, lifetime_mention, binder_mention, variable_mention, misfit_mention, dyn_mention, list_mention, number_mention, type_mention, item_list, led_by, struct_kinds, trait_kinds, type_mentions, types_mentions, args_mentions, arg_mentions, item_mentions, items_mentions, bound_mentions, clause_mentions, header_mentions, line_mentions, asked_mentions, line_params}
@@ -72,7 +72,7 @@ args-counted : (d : Declarations) (s : List (List (List ℕ))) (k : ℕ) (ks : L
 args-counted d s k ks no_args = refl
 args-counted d s k ks (and_arg a args) = ap suc (args-counted d s k (drop 1 ks) args)
 
-shapes : (is : Items) → map item_shape (item_list is) ≡ item_shapes is
+shapes : (is : DynBounds) → map item_shape (item_list is) ≡ item_shapes is
 shapes no_items = refl
 shapes (and_item i is) = ap (λ x. item_shape i ∷ x) (shapes is)
 
@@ -146,7 +146,7 @@ mutual
       ap (λ u. binder_uses s b ++ u) (led (trait_use n) (args_mentions d (b ∷ s) k ks args) (args-counted d (b ∷ s) k ks args) (args-same d (b ∷ s) k ks args ∙ ap (λ q. args_uses d (b ∷ s) q args) (trait-kinds d n)))
   item-same d s k (lifetime_item n) = refl
 
-  items-same : (d : Declarations) (s : Scope) (k : ℕ) (is : Items) → used (items_mentions d s k is) ≡ items_uses d s is
+  items-same : (d : Declarations) (s : Scope) (k : ℕ) (is : DynBounds) → used (items_mentions d s k is) ≡ items_uses d s is
   items-same d s k no_items = refl
   items-same d s k (and_item i is) = both (item_mentions d s k i) (items_mentions d s k is) (item-same d s k i) (items-same d s k is)
 

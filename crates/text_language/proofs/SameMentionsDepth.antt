@@ -6,10 +6,10 @@ use Rattle.std.specs.Option.{option_map_or}
 use Rattle.std.proofs.lemmas.Bool.Decides.{nat_tests}
 use Rattle.std.proofs.lemmas.List.Folds.{list_any-append}
 use Rattle.type_terms.specs.Promised.Label.{Sort, of_type, of_const, of_lifetime}
-use Rattle.text_language.specs.Promised.Syntax.{TypeTree, of_primitive, never_type, variable_type, named, reference_to, pointer_to, slice_of, array_of, tuple_of, fn_of, fn_to, dyn_of, Types, no_types, and_type, Args, no_args, and_arg, Arg, lifetime_arg, number_arg, type_arg, Item, bound_item, lifetime_item, Items, no_items, and_item, number_length, name_length, variable_length, Bound, Clause, Line, crate_line, struct_line, trait_line, impl_line, prove_line, refute_line, later_line, supers_line}
+use Rattle.text_language.specs.Promised.Syntax.{TypeTree, of_primitive, never_type, variable_type, named, reference_to, pointer_to, slice_of, array_of, tuple_of, fn_of, fn_to, dyn_of, Types, no_types, and_type, Args, no_args, and_arg, Arg, lifetime_arg, number_arg, type_arg, Item, bound_item, lifetime_item, DynBounds, no_items, and_item, number_length, name_length, variable_length, Bound, Clause, Line, crate_line, struct_line, trait_line, impl_line, prove_line, refute_line, later_line, supers_line}
 use Rattle.text_language.specs.Promised.Declarations.{Declarations, Known, known}
-use Rattle.text_language.specs.Uses.{Use, name_use, misfit_use, next_kind, other_kinds, at_place, type_depth, types_depth, args_depth, arg_depth, item_depth, items_depth, bound_depth, clause_depth, greatest, line_depth, uses, params_of}
-use Rattle.text_language.specs.Faults.{is_other_sort, is_type_of, is_param}
+use Rattle.text_language.specs.Uses.{Use, name_use, misfit_use, next_kind, other_kinds, at_place, type_depth, types_depth, args_depth, arg_depth, item_depth, items_depth, bound_depth, clause_depth, greatest_number, line_depth, uses, params_of}
+use Rattle.text_language.specs.Faults.{is_other_sort, is_type_of, is_line_param}
 use Rattle.text_language.specs.Promised.Faults.{is_among, with_own}
 use Rattle.text_language.specs.Promised.Mentions.{Mention, crate_mention, name_mention, trait_mention, lifetime_mention, binder_mention, variable_mention, misfit_mention, dyn_mention, list_mention, number_mention, type_mention, struct_kinds, trait_kinds, type_mentions, types_mentions, args_mentions, arg_mentions, item_mentions, items_mentions, bound_mentions, clause_mentions, header_mentions, line_mentions}
 use Rattle.text_language.proofs.SameMentions.{as_uses, mentions-are, first-kind, later-kinds, struct-kinds, trait-kinds}
@@ -193,7 +193,7 @@ mutual
   item-deep L i d s (bound_item b n args) h = args-deep L i d (b ∷ s) (trait_kinds d n) args h ∙ ap (λ q. nat_lt L (i + args_depth d q args)) (trait-kinds d n)
   item-deep L i d s (lifetime_item n) h = deep-none L i
 
-  items-deep : (L i : ℕ) (d : Declarations) (s : Scope) (is : Items) → Placed (items_mentions d s (suc i) is) → Deep L i (items_mentions d s (suc i) is) (items_depth d is)
+  items-deep : (L i : ℕ) (d : Declarations) (s : Scope) (is : DynBounds) → Placed (items_mentions d s (suc i) is) → Deep L i (items_mentions d s (suc i) is) (items_depth d is)
   items-deep L i d s no_items h = deep-none L i
   items-deep L i d s (and_item j is) h =
       let xs : List Mention = item_mentions d s (suc i) j in
@@ -224,12 +224,12 @@ header-deep L d k h =
     ∙ max-swap L (bound_depth d k.bound) (type_depth d k.subject)
 
 each-deep : {X : Type 0} (L : ℕ) (f : X → List Mention) (g : X → ℕ) → ((x : X) → Placed (f x) → Deep L 0 (f x) (g x))
-    → (xs : List X) → Placed (flat_map f xs) → Deep L 0 (flat_map f xs) (greatest (map g xs))
+    → (xs : List X) → Placed (flat_map f xs) → Deep L 0 (flat_map f xs) (greatest_number (map g xs))
 each-deep L f g e [] h = deep-none L 0
 each-deep L f g e (x ∷ xs) h =
-    deep-both L 0 (f x) (flat_map f xs) (g x) (greatest (map g xs)) (e x (placed-left (f x) (flat_map f xs) h)) (each-deep L f g e xs (placed-right (f x) (flat_map f xs) h))
+    deep-both L 0 (f x) (flat_map f xs) (g x) (greatest_number (map g xs)) (e x (placed-left (f x) (flat_map f xs) h)) (each-deep L f g e xs (placed-right (f x) (flat_map f xs) h))
 
-clauses-deep : (L : ℕ) (d : Declarations) (ks : List Clause) → Placed (flat_map (clause_mentions d) ks) → Deep L 0 (flat_map (clause_mentions d) ks) (greatest (map (clause_depth d) ks))
+clauses-deep : (L : ℕ) (d : Declarations) (ks : List Clause) → Placed (flat_map (clause_mentions d) ks) → Deep L 0 (flat_map (clause_mentions d) ks) (greatest_number (map (clause_depth d) ks))
 clauses-deep L d ks h = each-deep L (clause_mentions d) (clause_depth d) (clause-deep L d) ks h
 
 crates-deep : (L : ℕ) (ns : List (List ℕ)) → Deep L 0 (map crate_mention ns) 0
@@ -243,11 +243,11 @@ line-deep L d (trait_line f a n ps bs) h = each-deep L (bound_mentions d) (bound
 line-deep L d (impl_line ps k ks) h =
     let xs : List Mention = header_mentions d k in
     let ys : List Mention = flat_map (clause_mentions d) ks in
-    deep-both L 0 xs ys (clause_depth d k) (greatest (map (clause_depth d) ks)) (header-deep L d k (placed-left xs ys h)) (clauses-deep L d ks (placed-right xs ys h))
+    deep-both L 0 xs ys (clause_depth d k) (greatest_number (map (clause_depth d) ks)) (header-deep L d k (placed-left xs ys h)) (clauses-deep L d ks (placed-right xs ys h))
 line-deep L d (prove_line c ps k ks) h =
     let xs : List Mention = clause_mentions d k in
     let ys : List Mention = flat_map (clause_mentions d) ks in
-    deep-both L 0 xs ys (clause_depth d k) (greatest (map (clause_depth d) ks)) (clause-deep L d k (placed-left xs ys h)) (clauses-deep L d ks (placed-right xs ys h))
+    deep-both L 0 xs ys (clause_depth d k) (greatest_number (map (clause_depth d) ks)) (clause-deep L d k (placed-left xs ys h)) (clauses-deep L d ks (placed-right xs ys h))
 line-deep L d (refute_line c ps k) h = clause-deep L d k h
 line-deep L d (later_line n) h = deep-none L 0
 line-deep L d (supers_line n) h = deep-none L 0
@@ -290,7 +290,7 @@ const-has-none false c (Some w) k = refl
 
 ill-is-other : (d : Declarations) (l : Line) (u : Use) → is_other_sort d l u ≡ false → ill_used u ≡ false
 ill-is-other d l misfit_use h = h
-ill-is-other d l (name_use of_const n (suc k)) h = sym (const-has-none (is_param l n) (is_among n (params_of l).consts) (known (with_own d l) n) k) ∙ h
+ill-is-other d l (name_use of_const n (suc k)) h = sym (const-has-none (is_line_param l n) (is_among n (params_of l).consts) (known (with_own d l) n) k) ∙ h
 ill-is-other d l _ h = refl
 
 ill-uses : (d : Declarations) (l : Line) (us : List Use) → list_any (is_other_sort d l) us ≡ false → list_any ill_used us ≡ false

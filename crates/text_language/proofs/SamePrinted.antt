@@ -9,7 +9,7 @@ use Rattle.type_terms.specs.Promised.Trees.{Trees, none, tree, leaf, is_sort, so
 use Rattle.type_terms.specs.Codes.{same, same_label}
 use Rattle.text_language.specs.Promised.Declarations.{Declarations, Question, Variable}
 use Rattle.text_language.specs.Output.{values_text, is_in, unknown_text}
-use Rattle.text_language.specs.Names.{of_kind, own_unknowns, valued, free_unknowns, question_unknown, question_names, value_texts, answer_values}
+use Rattle.text_language.specs.Names.{variables_of_kind, own_unknowns, valued, free_unknowns, question_unknown, question_names, value_texts, answer_values}
 use Rattle.text_language.specs.Promised.PrintedTypes.{yes_values_text, counted_unknowns, unknowns_within, printed_trees, final_text}
 use Rattle.text_language.proofs.SamePrintedTypes.{is_infer, OfUnknowns, lookup, Agrees, type-same, all-left, all-right}
 use Rattle.text_language.proofs.SamePrintedNames.{labels_from, counted-from, own-name}
@@ -111,7 +111,7 @@ module _ (d : Declarations) (q : Question) (ts : List Trees) where
   unknown-name s i h listed =
       ap₂ (λ (xs : List (List ℕ)) (us : List Label). lookup (zip xs us) (infer s i)) first-same all-same
       ∙ own-name variable_name (λ v. v.kind) (map numbered (range_with_len 1 (length found))) (map label_of further) s h q.variables i
-      ∙ chosen variable_name (slice_get (of_kind s q.variables) i) (lookup (zip (map numbered (range_with_len 1 (length found))) (map label_of further)) (infer s i)) (unknown_text further s i)
+      ∙ chosen variable_name (slice_get (variables_of_kind s q.variables) i) (lookup (zip (map numbered (range_with_len 1 (length found))) (map label_of further)) (infer s i)) (unknown_text further s i)
       (λ e. free-name numbered s i (length found) 1 further
       (ap (λ b. b || is_in s i further) (sym e) ∙ sym (listed-or q s i further h) ∙ ap (list_any (same_label (infer s i))) (sym all-same) ∙ listed h)
       short ∙ ap numbered (omega arith))

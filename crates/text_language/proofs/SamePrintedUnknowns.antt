@@ -12,7 +12,7 @@ use Rattle.type_terms.specs.Promised.Trees.{Trees, none, tree, sort_of, is_sort}
 use Rattle.type_terms.specs.Codes.{same_label, same_numbers, numbers}
 use Rattle.text_language.specs.Promised.Declarations.{Question, Variable}
 use Rattle.text_language.specs.Output.{is_in, with_unknown, place_in}
-use Rattle.text_language.specs.Names.{of_kind, with_free, free_unknowns}
+use Rattle.text_language.specs.Names.{variables_of_kind, with_free, free_unknowns}
 use Rattle.text_language.specs.Promised.PrintedTypes.{counted_unknowns, unknowns_within}
 use Rattle.text_language.proofs.SamePrintedTypes.{lookup}
 use Rattle.text_language.proofs.SamePrintedNames.{stands-for}
@@ -128,7 +128,7 @@ module _ (q : Question) where
   abbrev pub all_labels : List (Sort × ℕ) → List Label
   all_labels us = own_labels ++ map label_of us
 
-  pub listed-or : (s : Sort) (i : ℕ) (us : List (Sort × ℕ)) → is_sort s of_lifetime ≡ false → list_any (same_label (infer s i)) (all_labels us) ≡ (is_some (slice_get (of_kind s q.variables) i) || is_in s i us)
+  pub listed-or : (s : Sort) (i : ℕ) (us : List (Sort × ℕ)) → is_sort s of_lifetime ≡ false → list_any (same_label (infer s i)) (all_labels us) ≡ (is_some (slice_get (variables_of_kind s q.variables) i) || is_in s i us)
   listed-or s i us h = list_any-append (same_label (infer s i)) own_labels (map label_of us) ∙ ap₂ (λ a b. a || b) (stands-for (λ v. v.text) (λ v. v.kind) s h q.variables i) (listed-in s i us)
 
   joined-labels : (u : Sort × ℕ) (us : List (Sort × ℕ)) → all_labels us ++ label_of u ∷ [] ≡ all_labels (us ++ u ∷ [])
@@ -145,20 +145,20 @@ module _ (q : Question) where
   either false us = refl
 
   term-listed : (s : Sort) (i : ℕ) (us : List (Sort × ℕ)) → is_sort s of_lifetime ≡ false
-      → (if list_any (same_label (infer s i)) (all_labels us) then all_labels us else all_labels us ++ infer s i ∷ []) ≡ all_labels (if nat_lt i (length (of_kind s q.variables)) then us else (if is_in s i us then us else us ++ (s, i) ∷ []))
+      → (if list_any (same_label (infer s i)) (all_labels us) then all_labels us else all_labels us ++ infer s i ∷ []) ≡ all_labels (if nat_lt i (length (variables_of_kind s q.variables)) then us else (if is_in s i us then us else us ++ (s, i) ∷ []))
   term-listed s i us h =
-      ap (λ b. if b then all_labels us else all_labels us ++ infer s i ∷ []) (listed-or s i us h ∙ ap (λ a. a || is_in s i us) (got-some (of_kind s q.variables) i))
-      ∙ one-listed s i us (nat_lt i (length (of_kind s q.variables))) (is_in s i us)
+      ap (λ b. if b then all_labels us else all_labels us ++ infer s i ∷ []) (listed-or s i us h ∙ ap (λ a. a || is_in s i us) (got-some (variables_of_kind s q.variables) i))
+      ∙ one-listed s i us (nat_lt i (length (variables_of_kind s q.variables))) (is_in s i us)
 
-  step-same : (s : Sort) (i : ℕ) (us : List (Sort × ℕ)) → added (all_labels us) (infer s i) ≡ all_labels (if nat_lt i (length (of_kind s q.variables)) then us else with_unknown (infer s i) us)
+  step-same : (s : Sort) (i : ℕ) (us : List (Sort × ℕ)) → added (all_labels us) (infer s i) ≡ all_labels (if nat_lt i (length (variables_of_kind s q.variables)) then us else with_unknown (infer s i) us)
   step-same of_type i us = term-listed of_type i us refl
   step-same of_const i us = term-listed of_const i us refl
-  step-same of_lifetime i us = either (nat_lt i (length (of_kind of_lifetime q.variables))) us
+  step-same of_lifetime i us = either (nat_lt i (length (variables_of_kind of_lifetime q.variables))) us
 
   with-free-same : (t : Trees) (us : List (Sort × ℕ)) → fold added (all_labels us) (unknowns_within t) ≡ all_labels (with_free q t us)
   with-free-same none us = refl
   with-free-same (tree (infer s i) c o) us =
-      ap (λ x. fold added x (unknowns_within o)) (step-same s i us) ∙ with-free-same o (if nat_lt i (length (of_kind s q.variables)) then us else with_unknown (infer s i) us)
+      ap (λ x. fold added x (unknowns_within o)) (step-same s i us) ∙ with-free-same o (if nat_lt i (length (variables_of_kind s q.variables)) then us else with_unknown (infer s i) us)
   with-free-same (tree l c o) us =
       fold-append added (all_labels us) (unknowns_within c) (unknowns_within o)
       ∙ ap (λ x. fold added x (unknowns_within o)) (with-free-same c us) ∙ with-free-same o (with_free q c us)

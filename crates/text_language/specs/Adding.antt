@@ -8,7 +8,7 @@ use Rattle.text_language.specs.Declarations.{sorted_names}
 use Rattle.text_language.specs.Uses.{asked_uses, params_of}
 use Rattle.text_language.specs.Promised.Faults.{with_own}
 use Rattle.text_language.specs.Faults.{variables_in, once}
-use Rattle.text_language.specs.Lowering.{Meanings, crate_number, field_trees, with_self, clause_reference}
+use Rattle.text_language.specs.Lowering.{Meanings, crate_number, field_trees, bound_with_self, clause_reference}
 
 -- what names stand for in an item's line, whose parameters count from `first`, and in a question's
 abbrev pub item_meanings : Declarations → Line → ℕ → Meanings
@@ -25,7 +25,7 @@ struct_of d e f n ps fs = record { text = n; kinds = kinds_of ps; item = record 
 
 -- parameter 0 is Self
 abbrev pub trait_of : Declarations → Meanings → Bool → Bool → List ℕ → Params → List Bound → NamedTrait
-trait_of d e f a n ps bs = record { text = n; kinds = kinds_of ps; item = record { name = length d.traits; home = last_crate d; is_fundamental = f; is_auto = a; bounds = map (with_self e (leaf (param of_type 0))) bs } }
+trait_of d e f a n ps bs = record { text = n; kinds = kinds_of ps; item = record { name = length d.traits; home = last_crate d; is_fundamental = f; is_auto = a; bounds = map (bound_with_self e (leaf (param of_type 0))) bs } }
 
 -- in a section it counts from 0 there, and is of the crate that is changed
 abbrev pub impl_of : Declarations → Meanings → Params → Clause → List Clause → NamedImpl

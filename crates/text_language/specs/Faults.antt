@@ -52,11 +52,11 @@ abbrev pub takes_names : Declarations → Line → Bool
 takes_names d l = declares_taken d l || (is_taken_param d l || list_any (is_taken_binder l) (uses (with_own d l) l))
 
 -- ---- 5: a name or a lifetime isn't known
-abbrev pub is_param : Line → List ℕ → Bool
-is_param l n = is_among n ((params_of l).types ++ (params_of l).consts)
+abbrev pub is_line_param : Line → List ℕ → Bool
+is_line_param l n = is_among n ((params_of l).types ++ (params_of l).consts)
 
 abbrev pub is_known_name : Declarations → Line → List ℕ → Bool
-is_known_name d l n = is_param l n || is_some (known (with_own d l) n)
+is_known_name d l n = is_line_param l n || is_some (known (with_own d l) n)
 
 abbrev pub is_unknown_use : Declarations → Line → Use → Bool
 is_unknown_use d l (crate_use n) = not (is_known_name d l n)
@@ -90,7 +90,7 @@ home_of (a_struct k h kinds) = Some h
 home_of (a_trait k h a kinds) = Some h
 
 abbrev pub is_hidden_name : Declarations → Line → ℕ → List ℕ → Bool
-is_hidden_name d l c n = not (is_param l n) && option_map_or (λ h. not (sees (world_of d) c h)) (option_and_then home_of (known (with_own d l) n)) false
+is_hidden_name d l c n = not (is_line_param l n) && option_map_or (λ h. not (sees (world_of d) c h)) (option_and_then home_of (known (with_own d l) n)) false
 
 abbrev pub is_hidden_use : Declarations → Line → ℕ → Use → Bool
 is_hidden_use d l c (name_use p n k) = is_hidden_name d l c n
@@ -122,8 +122,8 @@ is_param_of l of_lifetime n k = false
 
 abbrev pub is_other_sort : Declarations → Line → Use → Bool
 is_other_sort d l (crate_use n) = not (option_map_or is_crate (known d n) false)
-is_other_sort d l (name_use p n k) = not (if is_param l n then is_param_of l p n k else option_map_or (is_type_of p k) (known (with_own d l) n) false)
-is_other_sort d l (trait_use n k) = is_param l n || not (option_map_or (is_trait_of k) (known (with_own d l) n) false)
+is_other_sort d l (name_use p n k) = not (if is_line_param l n then is_param_of l p n k else option_map_or (is_type_of p k) (known (with_own d l) n) false)
+is_other_sort d l (trait_use n k) = is_line_param l n || not (option_map_or (is_trait_of k) (known (with_own d l) n) false)
 is_other_sort d l misfit_use = true
 is_other_sort d l _ = false
 
@@ -159,7 +159,7 @@ is_struct_in c (a_struct i h kinds) = h == c
 is_struct_in c _ = false
 
 abbrev pub is_own_struct : Declarations → Line → TypeTree → Bool
-is_own_struct d l (named n args) = not (is_param l n) && option_map_or (is_struct_in (impl_owner d)) (known d n) false
+is_own_struct d l (named n args) = not (is_line_param l n) && option_map_or (is_struct_in (impl_owner d)) (known d n) false
 is_own_struct d l _ = false
 
 abbrev pub is_foreign_auto : Declarations → Line → Bool

@@ -4,7 +4,7 @@ use Rattle.std.specs.Str.{bytes_eq}
 use Rattle.type_terms.specs.Promised.Label.{Label, Sort, of_type, of_const, of_lifetime, never, array, slice, tuple, dynamic, static, adt, fn_ptr, auto_trait, value, ref, raw_pointer, principal, infer, bound}
 use Rattle.type_terms.specs.Promised.Trees.{Trees, none, tree, leaf, ◌+++◌, is_sort}
 use Rattle.type_terms.specs.Promised.Worlds.{Reference}
-use Rattle.text_language.specs.Promised.Syntax.{TypeTree, of_primitive, never_type, variable_type, named, reference_to, pointer_to, slice_of, array_of, tuple_of, fn_of, fn_to, dyn_of, Types, no_types, and_type, Args, no_args, and_arg, Arg, lifetime_arg, number_arg, type_arg, Item, bound_item, lifetime_item, Items, no_items, and_item, Length, number_length, name_length, variable_length, Params, Bound, Clause}
+use Rattle.text_language.specs.Promised.Syntax.{TypeTree, of_primitive, never_type, variable_type, named, reference_to, pointer_to, slice_of, array_of, tuple_of, fn_of, fn_to, dyn_of, Types, no_types, and_type, Args, no_args, and_arg, Arg, lifetime_arg, number_arg, type_arg, Item, bound_item, lifetime_item, DynBounds, no_items, and_item, Length, number_length, name_length, variable_length, Params, Bound, Clause}
 use Rattle.text_language.specs.Promised.Declarations.{Declarations, Known, a_crate, a_struct, a_trait, known}
 use Rattle.text_language.specs.Uses.{next_kind, other_kinds, kinds_of_struct, kinds_of_trait}
 use Rattle.text_language.specs.Promised.Faults.{is_among, is_auto_name}
@@ -78,7 +78,7 @@ abbrev pub with_auto : Declarations → Item → List ℕ → List ℕ
 with_auto d (bound_item b n args) ns = if is_auto_name d n then inserted (trait_number (known d n)) ns else ns
 with_auto d (lifetime_item n) ns = ns
 
-abbrev pub autos : Declarations → Items → List ℕ
+abbrev pub autos : Declarations → DynBounds → List ℕ
 autos d no_items = []
 autos d (and_item i is) = with_auto d i (autos d is)
 
@@ -91,7 +91,7 @@ abbrev pub item_lifetime : Meanings → List (List (List ℕ)) → Item → Tree
 item_lifetime e s (bound_item b n args) = leaf static
 item_lifetime e s (lifetime_item n) = leaf (lifetime_label e s n)
 
-abbrev pub last_lifetime : Meanings → List (List (List ℕ)) → Item → Items → Trees
+abbrev pub last_lifetime : Meanings → List (List (List ℕ)) → Item → DynBounds → Trees
 last_lifetime e s i no_items = item_lifetime e s i
 last_lifetime e s i (and_item j is) = last_lifetime e s j is
 
@@ -134,7 +134,7 @@ abbrev mutual
       if is_auto_name e.items n then none else tree (principal (length b) (trait_number (known e.items n))) (args_trees e (b ∷ s) (kinds_of_trait (known e.items n)) args) none
   item_tree e s (lifetime_item n) = none
 
-  pub items_trees : Meanings → List (List (List ℕ)) → Items → Trees
+  pub items_trees : Meanings → List (List (List ℕ)) → DynBounds → Trees
   items_trees e s no_items = none
   items_trees e s (and_item i is) = item_tree e s i +++ items_trees e s is
 
@@ -143,8 +143,8 @@ field_trees e no_types = []
 field_trees e (and_type t ts) = type_tree e [] of_type t ∷ field_trees e ts
 
 -- ---- references
-abbrev pub with_self : Meanings → Trees → Bound → Reference
-with_self e self b = record { trait = trait_number (known e.items b.trait); args = self +++ args_trees e [] (kinds_of_trait (known e.items b.trait)) b.args }
+abbrev pub bound_with_self : Meanings → Trees → Bound → Reference
+bound_with_self e self b = record { trait = trait_number (known e.items b.trait); args = self +++ args_trees e [] (kinds_of_trait (known e.items b.trait)) b.args }
 
 abbrev pub clause_reference : Meanings → Clause → Reference
-clause_reference e k = with_self e (type_tree e [] of_type k.subject) k.bound
+clause_reference e k = bound_with_self e (type_tree e [] of_type k.subject) k.bound

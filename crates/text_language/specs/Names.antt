@@ -30,8 +30,8 @@ header_names d ps = record {
 }
 
 -- ---- the values of a question: one tree for each variable, in their order
-abbrev pub of_kind : Sort → List Variable → List Variable
-of_kind s vs = filter (λ v. is_sort v.kind s) vs
+abbrev pub variables_of_kind : Sort → List Variable → List Variable
+variables_of_kind s vs = filter (λ v. is_sort v.kind s) vs
 
 -- the unknowns that stand for the variables, in their order: those of one kind are counted from 0
 abbrev pub own_from : (types consts : ℕ) → List Variable → List Trees
@@ -49,7 +49,7 @@ valued _ _ _ = []
 -- the unknowns that the question doesn't hold, by first place in the line
 abbrev pub with_free : Question → Trees → List (Sort × ℕ) → List (Sort × ℕ)
 with_free q none us = us
-with_free q (tree (infer s i) c o) us = with_free q o (if nat_lt i (length (of_kind s q.variables)) then us else with_unknown (infer s i) us)
+with_free q (tree (infer s i) c o) us = with_free q o (if nat_lt i (length (variables_of_kind s q.variables)) then us else with_unknown (infer s i) us)
 with_free q (tree l c o) us = with_free q o (with_free q c us)
 
 abbrev pub free_unknowns : Question → List (Variable × Trees) → List (Sort × ℕ) → List (Sort × ℕ)
@@ -57,7 +57,7 @@ free_unknowns q [] us = us
 free_unknowns q (v ∷ vs) us = free_unknowns q vs (with_free q v.1 us)
 
 abbrev pub question_unknown : Question → List (Sort × ℕ) → Sort → ℕ → List ℕ
-question_unknown q us s i = option_map_or (λ v. codes "?" ++ v.text) (slice_get (of_kind s q.variables) i) (unknown_text us s i)
+question_unknown q us s i = option_map_or (λ v. codes "?" ++ v.text) (slice_get (variables_of_kind s q.variables) i) (unknown_text us s i)
 
 abbrev pub question_names : Declarations → Question → List (Sort × ℕ) → Names
 question_names d q us = record {

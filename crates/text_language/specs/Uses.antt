@@ -2,7 +2,7 @@
 use Rattle.std.specs.Prelude.{ℕ, suc, max, Bool, true, false, List, [], ◌∷◌, ◌++◌, map, Option, Some, None}
 use Rattle.std.specs.List.{flat_map}
 use Rattle.type_terms.specs.Promised.Label.{Sort, of_type, of_const, of_lifetime}
-use Rattle.text_language.specs.Promised.Syntax.{TypeTree, of_primitive, never_type, variable_type, named, reference_to, pointer_to, slice_of, array_of, tuple_of, fn_of, fn_to, dyn_of, Types, no_types, and_type, Args, no_args, and_arg, Arg, lifetime_arg, number_arg, type_arg, Item, bound_item, lifetime_item, Items, no_items, and_item, Length, number_length, name_length, variable_length, Params, Bound, Clause, Line, crate_line, struct_line, trait_line, impl_line, prove_line, refute_line, later_line, supers_line}
+use Rattle.text_language.specs.Promised.Syntax.{TypeTree, of_primitive, never_type, variable_type, named, reference_to, pointer_to, slice_of, array_of, tuple_of, fn_of, fn_to, dyn_of, Types, no_types, and_type, Args, no_args, and_arg, Arg, lifetime_arg, number_arg, type_arg, Item, bound_item, lifetime_item, DynBounds, no_items, and_item, Length, number_length, name_length, variable_length, Params, Bound, Clause, Line, crate_line, struct_line, trait_line, impl_line, prove_line, refute_line, later_line, supers_line}
 use Rattle.text_language.specs.Promised.Declarations.{Declarations, Known, a_struct, a_trait, known}
 
 -- an item of a `dyn`
@@ -93,7 +93,7 @@ abbrev pub item_shape : Item → ItemShape
 item_shape (bound_item b n args) = bound_shape (has_names b) n
 item_shape (lifetime_item n) = lifetime_shape
 
-abbrev pub item_shapes : Items → List ItemShape
+abbrev pub item_shapes : DynBounds → List ItemShape
 item_shapes no_items = []
 item_shapes (and_item i is) = item_shape i ∷ item_shapes is
 
@@ -131,7 +131,7 @@ abbrev mutual
   item_uses d s (bound_item b n args) = binder_uses s b ++ trait_use n (args_count args) ∷ args_uses d (b ∷ s) (kinds_of_trait (known d n)) args
   item_uses d s (lifetime_item n) = lifetime_use s n ∷ []
 
-  pub items_uses : Declarations → List (List (List ℕ)) → Items → List Use
+  pub items_uses : Declarations → List (List (List ℕ)) → DynBounds → List Use
   items_uses d s no_items = []
   items_uses d s (and_item i is) = item_uses d s i ++ items_uses d s is
 
@@ -222,7 +222,7 @@ abbrev mutual
   item_depth d (bound_item b n args) = args_depth d (kinds_of_trait (known d n)) args
   item_depth d (lifetime_item n) = 0
 
-  pub items_depth : Declarations → Items → ℕ
+  pub items_depth : Declarations → DynBounds → ℕ
   items_depth d no_items = 0
   items_depth d (and_item i is) = max (item_depth d i) (items_depth d is)
 
@@ -232,17 +232,17 @@ bound_depth d b = args_depth d (kinds_of_trait (known d b.trait)) b.args
 abbrev pub clause_depth : Declarations → Clause → ℕ
 clause_depth d k = max (type_depth d k.subject) (bound_depth d k.bound)
 
-abbrev pub greatest : List ℕ → ℕ
-greatest [] = 0
-greatest (n ∷ ns) = max n (greatest ns)
+abbrev pub greatest_number : List ℕ → ℕ
+greatest_number [] = 0
+greatest_number (n ∷ ns) = max n (greatest_number ns)
 
 -- of the deepest type in a line
 abbrev pub line_depth : Declarations → Line → ℕ
 line_depth d (crate_line n us) = 0
 line_depth d (struct_line f n ps fs) = types_depth d fs
-line_depth d (trait_line f a n ps bs) = greatest (map (bound_depth d) bs)
-line_depth d (impl_line ps h ks) = max (clause_depth d h) (greatest (map (clause_depth d) ks))
-line_depth d (prove_line c ps a ks) = max (clause_depth d a) (greatest (map (clause_depth d) ks))
+line_depth d (trait_line f a n ps bs) = greatest_number (map (bound_depth d) bs)
+line_depth d (impl_line ps h ks) = max (clause_depth d h) (greatest_number (map (clause_depth d) ks))
+line_depth d (prove_line c ps a ks) = max (clause_depth d a) (greatest_number (map (clause_depth d) ks))
 line_depth d (refute_line c ps a) = clause_depth d a
 line_depth d (later_line n) = 0
 line_depth d (supers_line n) = 0

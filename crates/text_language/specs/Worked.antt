@@ -68,8 +68,8 @@ Declares ss r = AllSaid ss × (declared_in (outcome ss nothing_declared 1) ≡ S
 abbrev u8 : TypeTree
 u8 = of_primitive (uint 0)
 
-abbrev plain : List ℕ → TypeTree
-plain n = named n no_args
+abbrev plain_name : List ℕ → TypeTree
+plain_name n = named n no_args
 
 abbrev one : TypeTree → Args
 one t = and_arg (type_arg t) no_args
@@ -115,7 +115,7 @@ abbrev pub not_seen : List Said
 not_seen = (codes "crate a", crate_line (codes "a") []) ∷ show ∷ (codes "crate b", crate_line (codes "b") []) ∷ show_for (codes "impl Show for u8") u8 ∷ []
 
 abbrev pub without_arguments : List Said
-without_arguments = base ∷ v ∷ show ∷ show_for (codes "impl Show for V") (plain (codes "V")) ∷ []
+without_arguments = base ∷ v ∷ show ∷ show_for (codes "impl Show for V") (plain_name (codes "V")) ∷ []
 
 abbrev pub free_parameter : List Said
 free_parameter = base ∷ show ∷ (codes "impl<T> Show for u8", impl_line (of_types (codes "T" ∷ [])) (is u8 (bare (codes "Show"))) []) ∷ []
@@ -138,7 +138,7 @@ stray_variable = base ∷ show ∷ show_for (codes "impl Show for ?x") (variable
 abbrev pub refuted_parameter : List Said
 refuted_parameter =
     base ∷ show
-    ∷ (codes "refute in base <T> T: Show", refute_line (codes "base") (of_types (codes "T" ∷ [])) (is (plain (codes "T")) (bare (codes "Show")))) ∷ []
+    ∷ (codes "refute in base <T> T: Show", refute_line (codes "base") (of_types (codes "T" ∷ [])) (is (plain_name (codes "T")) (bare (codes "Show")))) ∷ []
 
 abbrev pub two_principals : List Said
 two_principals =
@@ -203,7 +203,7 @@ later_unseen = base ∷ (codes "crate first", crate_line (codes "first") []) ∷
 abbrev pub later_foreign_auto : List Said
 later_foreign_auto =
     base ∷ safe ∷ (codes "crate first uses base", crate_line (codes "first") (codes "base" ∷ [])) ∷ struct_a ∷ (codes "later first", later_line (codes "first"))
-    ∷ (codes "impl Safe for Box<A>", impl_line no_params (is (named (codes "Box") (one (plain (codes "A")))) (bare (codes "Safe"))) []) ∷ []
+    ∷ (codes "impl Safe for Box<A>", impl_line no_params (is (named (codes "Box") (one (plain_name (codes "A")))) (bare (codes "Safe"))) []) ∷ []
 
 abbrev pub later_built_in : List Said
 later_built_in = later_core ∷ (codes "impl Tuple for u8", impl_line no_params (is u8 (bare (codes "Tuple"))) []) ∷ []
@@ -235,15 +235,15 @@ abbrev pub TwoSections : Type 0
 TwoSections =
     let ss =
     base ∷ num ∷ v ∷ (codes "crate first uses base", crate_line (codes "first") (codes "base" ∷ [])) ∷ later_base
-    ∷ (codes "impl<T> Num for V<T>", impl_line (of_types (codes "T" ∷ [])) (is (named (codes "V") (one (plain (codes "T")))) (bare (codes "Num"))) [])
+    ∷ (codes "impl<T> Num for V<T>", impl_line (of_types (codes "T" ∷ [])) (is (named (codes "V") (one (plain_name (codes "T")))) (bare (codes "Num"))) [])
     ∷ (codes "refute in base u8: Num", refute_line (codes "base") no_params (is u8 (bare (codes "Num"))))
     ∷ supers_base
-    ∷ (codes "impl<T> Num for &T", impl_line (of_types (codes "T" ∷ [])) (is (reference_to None false (plain (codes "T"))) (bare (codes "Num"))) [])
+    ∷ (codes "impl<T> Num for &T", impl_line (of_types (codes "T" ∷ [])) (is (reference_to None false (plain_name (codes "T"))) (bare (codes "Num"))) [])
     ∷ later_core
     ∷ (codes "impl Clone for str", impl_line no_params (is (of_primitive str) (bare (codes "Clone"))) [])
     ∷ (codes "crate second uses base", crate_line (codes "second") (codes "base" ∷ []))
     ∷ struct_a
-    ∷ (codes "impl Num for A", impl_line no_params (is (plain (codes "A")) (bare (codes "Num"))) [])
+    ∷ (codes "impl Num for A", impl_line no_params (is (plain_name (codes "A")) (bare (codes "Num"))) [])
     ∷ []
     in
     let T = leaf (param of_type 0) in
@@ -291,14 +291,14 @@ own_name_inside =
 
 -- a parameter is no struct of the impl's crate
 abbrev pub auto_for_parameter : List Said
-auto_for_parameter = base ∷ safe ∷ (codes "impl<T> Safe for T", impl_line (of_types (codes "T" ∷ [])) (is (plain (codes "T")) (bare (codes "Safe"))) []) ∷ []
+auto_for_parameter = base ∷ safe ∷ (codes "impl<T> Safe for T", impl_line (of_types (codes "T" ∷ [])) (is (plain_name (codes "T")) (bare (codes "Safe"))) []) ∷ []
 
 -- a used name that is too long is unknown
 abbrev long_text : List ℕ
 long_text = codes "aaaaaaaaaaaaaaaaaaaaaaaaaaaaaaaaaaaaaaaaaaaaaaaaaaaaaaaaaaaaaaaaa"
 
 abbrev pub long_used : List Said
-long_used = base ∷ show ∷ show_for (codes "impl Show for " ++ long_text) (plain long_text) ∷ []
+long_used = base ∷ show ∷ show_for (codes "impl Show for " ++ long_text) (plain_name long_text) ∷ []
 
 -- a variable can't stand for a lifetime, nor for a type and a const
 abbrev pub variable_lifetime : List Said
@@ -331,7 +331,7 @@ deep_const n =
     base ∷ show ∷ (codes "struct C<const N>", struct_line false (codes "C") (record { lifetimes = []; types = []; consts = codes "N" ∷ [] }) no_types)
     ∷ (
       codes "impl<const M> Show for " ++ ampersands n (codes "C<M>"),
-      impl_line (record { lifetimes = []; types = []; consts = codes "M" ∷ [] }) (is (references n (named (codes "C") (one (plain (codes "M"))))) (bare (codes "Show"))) [],
+      impl_line (record { lifetimes = []; types = []; consts = codes "M" ∷ [] }) (is (references n (named (codes "C") (one (plain_name (codes "M"))))) (bare (codes "Show"))) [],
     ) ∷ []
 
 abbrev pub FinePoints : Type 0
@@ -350,7 +350,7 @@ generic_impl =
     base ∷ show ∷ v
     ∷ (
       codes "impl<T> Show for V<T> where T: Show",
-      impl_line (of_types (codes "T" ∷ [])) (is (named (codes "V") (one (plain (codes "T")))) (bare (codes "Show"))) (is (plain (codes "T")) (bare (codes "Show")) ∷ []),
+      impl_line (of_types (codes "T" ∷ [])) (is (named (codes "V") (one (plain_name (codes "T")))) (bare (codes "Show"))) (is (plain_name (codes "T")) (bare (codes "Show")) ∷ []),
     )
     ∷ (codes "prove in base V<V<u8>>: Show", prove_line (codes "base") no_params (is (named (codes "V") (one (named (codes "V") (one u8)))) (bare (codes "Show"))) []) ∷ []
 
@@ -412,7 +412,7 @@ bound_lifetimes =
     ∷ (
       codes "fundamental trait Sub<T>: Tr<'static, T> + Safe",
       trait_line true false (codes "Sub") (of_types (codes "T" ∷ []))
-          (record { trait = codes "Tr"; args = and_arg (lifetime_arg (codes "static")) (one (plain (codes "T"))) } ∷ bare (codes "Safe") ∷ []),
+          (record { trait = codes "Tr"; args = and_arg (lifetime_arg (codes "static")) (one (plain_name (codes "T"))) } ∷ bare (codes "Safe") ∷ []),
     )
     ∷ (
       codes "struct S<'p>(for<'a> fn(&'a u8), dyn Sync + Safe + Sync + 'p, dyn for<'b> Tr<'b, for<'c> fn(&'b u8, &'c mut u8) -> [u8]>)",
@@ -459,7 +459,7 @@ abbrev core_line : List ℕ → Bool → List ℕ → Params → List Bound → 
 core_line bytes f n ps bs = (bytes, trait_line f false n ps bs)
 
 abbrev to_A : List ℕ → Bound
-to_A n = record { trait = n; args = one (plain (codes "A")) }
+to_A n = record { trait = n; args = one (plain_name (codes "A")) }
 
 abbrev pub core_text : List Said
 core_text =
@@ -472,7 +472,7 @@ core_text =
     ∷ core_line (codes "fundamental trait FnMut<A>: FnOnce<A>") true (codes "FnMut") (of_types (codes "A" ∷ [])) (to_A (codes "FnOnce") ∷ [])
     ∷ core_line (codes "fundamental trait Fn<A>: FnMut<A>") true (codes "Fn") (of_types (codes "A" ∷ [])) (to_A (codes "FnMut") ∷ [])
     ∷ core_line (codes "trait Unsize<T>") false (codes "Unsize") (of_types (codes "T" ∷ [])) []
-    ∷ (codes "fundamental struct Box<T>(*const T)", struct_line true (codes "Box") (of_types (codes "T" ∷ [])) (and_type (pointer_to false (plain (codes "T"))) no_types))
+    ∷ (codes "fundamental struct Box<T>(*const T)", struct_line true (codes "Box") (of_types (codes "T" ∷ [])) (and_type (pointer_to false (plain_name (codes "T"))) no_types))
     ∷ []
 
 -- `impl Clone for bool` and so on, with the words before `for`
@@ -484,7 +484,7 @@ abbrev scalar_types : List (List ℕ × TypeTree)
 scalar_types = map (λ p. (p.0, of_primitive p.1)) (take 2 primitives) ++ (codes "!", never_type) ∷ map (λ p. (p.0, of_primitive p.1)) (drop 3 primitives)
 
 abbrev T : TypeTree
-T = plain (codes "T")
+T = plain_name (codes "T")
 
 -- `impl<T> Clone for ..` and so on: the line behind its first words
 abbrev for_pointers : List ℕ → List ℕ → List Said

@@ -8,7 +8,7 @@ use Rattle.std.proofs.lemmas.Bool.{leb-false, ltb-false}
 use Rattle.text_language.specs.Promised.Syntax.{Line}
 use Rattle.text_language.specs.Promised.Declarations.{Declarations, known, kinds_of}
 use Rattle.text_language.specs.Uses.{Use, crate_use, name_use, trait_use, lifetime_use, binder_use, variable_use, misfit_use, dyn_use, items_use, number_use, uses, asked_uses, params_of, line_depth}
-use Rattle.text_language.specs.Faults.{fault_of, is_unknown_use, is_other_sort, is_bad_dyn, passes_in, is_full, has_long_name, is_param, is_param_of, is_type_of, is_trait_of, static_name, is_in_scope, is_bound, parts, once, variables_in, param_limit, part_limit, list_limit, variable_limit, depth_limit}
+use Rattle.text_language.specs.Faults.{fault_of, is_unknown_use, is_other_sort, is_bad_dyn, passes_in, is_full, has_long_name, is_line_param, is_param_of, is_type_of, is_trait_of, static_name, is_in_scope, is_bound, parts, once, variables_in, param_limit, part_limit, list_limit, variable_limit, depth_limit}
 use Rattle.text_language.specs.Promised.Faults.{with_own}
 use Rattle.text_lines.specs.Faultless.{names_crate, UseFits, UsesFit, KeepsLimits}
 use Rattle.text_lines.proofs.NoFault.{or-first, or-second, not-false, passes-tests}
@@ -16,10 +16,10 @@ use Rattle.type_terms.proofs.BooleanBasics.{true-false as not-both}
 
 use-fits : (d : Declarations) (l : Line) (u : Use) → is_unknown_use d l u ≡ false → is_other_sort d l u ≡ false → is_bad_dyn (with_own d l) u ≡ false → passes_in u ≡ false → UseFits d l u
 use-fits d l (crate_use n) a b c e = not-false (names_crate d n) b
-use-fits d l (name_use p n k) a b c e = not-false (if is_param l n then is_param_of l p n k else option_map_or (is_type_of p k) (known (with_own d l) n) false) b
+use-fits d l (name_use p n k) a b c e = not-false (if is_line_param l n then is_param_of l p n k else option_map_or (is_type_of p k) (known (with_own d l) n) false) b
 use-fits d l (trait_use n k) a b c e = (
-  or-first (is_param l n) (not (option_map_or (is_trait_of k) (known (with_own d l) n) false)) b,
-  not-false (option_map_or (is_trait_of k) (known (with_own d l) n) false) (or-second (is_param l n) (not (option_map_or (is_trait_of k) (known (with_own d l) n) false)) b),
+  or-first (is_line_param l n) (not (option_map_or (is_trait_of k) (known (with_own d l) n) false)) b,
+  not-false (option_map_or (is_trait_of k) (known (with_own d l) n) false) (or-second (is_line_param l n) (not (option_map_or (is_trait_of k) (known (with_own d l) n) false)) b),
 )
 use-fits d l (lifetime_use s n) a b c e = not-false (bytes_eq n static_name || is_in_scope l s n) a
 use-fits d l (binder_use s ns) a b c e = tt

@@ -2,7 +2,7 @@
 use Rattle.std.proofs.Common.{◌≡◌, ℕ, zero, suc, List, [], ◌∷◌, ◌++◌, length, Option, Some, None, refl, ap, ◌∙◌}
 use Rattle.text_language.specs.Words.{mut_word, const_word, fn_word, for_word, open_angle, close_angle, open_round, close_round, close_square, comma, semicolon, ampersand, star, plus}
 use Rattle.text_language.specs.Tokens.{Token, keyword, name, lifetime, variable, number, sign, arrow}
-use Rattle.text_language.specs.Promised.Syntax.{TypeTree, Types, no_types, and_type, Args, no_args, and_arg, Arg, lifetime_arg, number_arg, type_arg, Item, bound_item, lifetime_item, Items, no_items, and_item, Length, number_length, name_length, variable_length}
+use Rattle.text_language.specs.Promised.Syntax.{TypeTree, Types, no_types, and_type, Args, no_args, and_arg, Arg, lifetime_arg, number_arg, type_arg, Item, bound_item, lifetime_item, DynBounds, no_items, and_item, Length, number_length, name_length, variable_length}
 use Rattle.text_lines.specs.Cells.{Cell, named_cell, bound_cell, dyn_cell, tuple_cell, binder_onto, type_onto, types_onto, args_onto, arg_onto, item_onto, items_onto}
 use Rattle.text_lines.specs.Machine as flat
 use Rattle.text_lines.proofs.TreeMachine.{Frame, in_args, in_bound, in_reference, in_pointer, in_brackets, in_tuple, in_items, in_inputs, in_output, TreeState, opening, item, closing, finished, stuck, args_rev, types_rev, dyn_rev, item_end, args_end, bound_args_end, arg_end, name_step, bound_step, reference_step, ampersand_step, star_step, tuple_step, inputs_end, inputs_step, fn_step, bound_fn, bound_at, open_step, item_step, length_end, length_step, brackets_end, second_step, tuple_end, items_end, input_end, close_step, step, run}
@@ -28,7 +28,7 @@ types-made : (us : List TypeTree) (ts : Types) (out : List Cell) → types_onto 
 types-made [] ts out = refl
 types-made (u ∷ us) ts out = types-made us (and_type u ts) out
 
-dyn-made : (i : Item) (is : List Item) (js : Items) (out : List Cell) → type_onto (dyn_rev i is js) out ≡ items_onto js (item_onto i (items_made is out)) ++ dyn_cell (length out) ∷ []
+dyn-made : (i : Item) (is : List Item) (js : DynBounds) (out : List Cell) → type_onto (dyn_rev i is js) out ≡ items_onto js (item_onto i (items_made is out)) ++ dyn_cell (length out) ∷ []
 dyn-made i [] js out = refl
 dyn-made i (h ∷ is) js out = dyn-made h is (and_item i js) out
 

@@ -6,7 +6,7 @@ use Rattle.std.proofs.lemmas.Option.{same_Some}
 use Rattle.std.proofs.lemmas.List.{length-append}
 use Rattle.text_language.specs.Words.{comma, plus, open_angle, close_angle, colon, for_word, const_word, dyn_word}
 use Rattle.text_language.specs.Tokens.{Token, keyword, name, lifetime, sign}
-use Rattle.text_language.specs.Promised.Syntax.{TypeTree, of_primitive, never_type, variable_type, named, reference_to, pointer_to, slice_of, array_of, tuple_of, fn_of, fn_to, dyn_of, Types, no_types, and_type, Item, bound_item, Items, no_items, and_item, Params, Bound, Clause, Line, crate_line, struct_line, trait_line, impl_line, prove_line, refute_line, later_line, supers_line}
+use Rattle.text_language.specs.Promised.Syntax.{TypeTree, of_primitive, never_type, variable_type, named, reference_to, pointer_to, slice_of, array_of, tuple_of, fn_of, fn_to, dyn_of, Types, no_types, and_type, Item, bound_item, DynBounds, no_items, and_item, Params, Bound, Clause, Line, crate_line, struct_line, trait_line, impl_line, prove_line, refute_line, later_line, supers_line}
 use Rattle.text_language.specs.Syntax.{no_params, type_spelling, more_items, more_names, uses_spelling, param_spellings, behind, in_angles, params_spelling, bound_spelling, clause_spelling, bounds_spelling, where_spelling, fields_spelling, spelling}
 use Rattle.text_lines.specs.Follows.{IsCompleteType}
 use Rattle.text_lines.specs.TokenSteps.{NoAngle}
@@ -85,7 +85,7 @@ fields-again (and_type t ts) =
 abbrev as_item : Bound → Item
 as_item b = bound_item [] b.trait b.args
 
-abbrev as_items : List Bound → Items
+abbrev as_items : List Bound → DynBounds
 as_items [] = no_items
 as_items (b ∷ bs) = and_item (as_item b) (as_items bs)
 

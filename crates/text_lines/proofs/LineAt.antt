@@ -4,7 +4,7 @@ use Rattle.std.specs.Prelude.{map}
 use Rattle.std.specs.Option.{option_map}
 use Rattle.text_language.specs.Words.{comma, open_angle, close_angle, open_round, colon, crate_word, uses_word, fundamental_word, struct_word, auto_word, trait_word, impl_word, for_word, where_word, prove_word, refute_word, later_word, supers_word, in_word, const_word, fn_word, dyn_word}
 use Rattle.text_language.specs.Tokens.{Token, keyword, name, lifetime, sign}
-use Rattle.text_language.specs.Promised.Syntax.{TypeTree, fn_of, dyn_of, Types, no_types, and_type, Item, bound_item, Items, no_items, and_item, Params, Bound, Clause, Line, crate_line, struct_line, trait_line, impl_line, prove_line, refute_line, later_line, supers_line}
+use Rattle.text_language.specs.Promised.Syntax.{TypeTree, fn_of, dyn_of, Types, no_types, and_type, Item, bound_item, DynBounds, no_items, and_item, Params, Bound, Clause, Line, crate_line, struct_line, trait_line, impl_line, prove_line, refute_line, later_line, supers_line}
 use Rattle.text_language.specs.Syntax.{no_params}
 use Rattle.text_lines.proofs.TypeAt.{◌>>=◌, type_at, bound_at, clause_at}
 
@@ -91,7 +91,7 @@ abbrev pub bound_first : Option Bound → Option (List Bound) → Option (List B
 bound_first (Some b) (Some bs) = Some (b ∷ bs)
 bound_first _ _ = None
 
-abbrev pub items_bounds : Items → Option (List Bound)
+abbrev pub items_bounds : DynBounds → Option (List Bound)
 items_bounds no_items = Some []
 items_bounds (and_item i is) = bound_first (item_bound i) (items_bounds is)
 

@@ -14,7 +14,7 @@ use Rattle.text_lines.specs.declared.line_error.LineError.TheVariants as errors
 use Rattle.text_lines.specs.Cells.{Cell}
 use Rattle.text_lines.specs.Follows.{IsCompleteType}
 use Rattle.text_lines.specs.Statement.{Statement, crate_statement, struct_statement, trait_statement, impl_statement, prove_statement, refute_statement, later_statement, supers_statement, param_list, bound_onto, bound_span, clause_onto, clause_spans, header_onto, header_spans, all_onto, all_spans, line_cells, line_statement}
-use Rattle.text_lines.specs.Parts.{Progress, ◌>>=◌, crate_at, struct_at, trait_at, impl_at, prove_at, refute_at, later_at, supers_at, auto_front, fundamental_front, statement_front, statement_at, line_at, written_in}
+use Rattle.text_lines.specs.Parts.{Progress, ◌>>=◌, crate_at, struct_at, trait_at, impl_at, prove_at, refute_at, later_at, supers_at, auto_front, fundamental_front, statement_front, statement_at, line_at, statement_in}
 use Rattle.text_lines.specs.Lines.{ReadsLine, SaysLine}
 use Rattle.text_lines.specs.Steps.{GivesAlone}
 use Rattle.text_lines.specs.Views.{read_of}
@@ -231,29 +231,29 @@ line-again l =
     ∙ ap (λ z. z >>= λ s. if is_nil s.1.1 then Some (s.0, s.1.0) else None) (front-again l)
 
 -- ---- bytes
-written-takes : (line : List ℕ) (x : Statement × List Cell) → written_in line ≡ Some x → (l : Line) × IsWritten line l × (x.0 ≡ line_statement l) × (x.1 ≡ line_cells l)
-unfolding written_in
+written-takes : (line : List ℕ) (x : Statement × List Cell) → statement_in line ≡ Some x → (l : Line) × IsWritten line l × (x.0 ≡ line_statement l) × (x.1 ≡ line_cells l)
+unfolding statement_in
 written-takes line x e =
     let a = bind-some (tokens_of line) line_at x e in
     let n = line-takes a.0 x a.2 in
     (n.0, a.1 ∙ ap Some n.1, n.2, n.3)
 
-written-again : (line : List ℕ) (l : Line) → IsWritten line l → written_in line ≡ Some (line_statement l, line_cells l)
-unfolding written_in
+written-again : (line : List ℕ) (l : Line) → IsWritten line l → statement_in line ≡ Some (line_statement l, line_cells l)
+unfolding statement_in
 written-again line l w = ap (λ ts. ts >>= line_at) w ∙ line-again l
 
-pub is-found : (line : List ℕ) (r : Result LineRead LineError) → GivesAlone read_of r (written_in line) → IfOk r (λ x. SaysLine line x)
+pub is-found : (line : List ℕ) (r : Result LineRead LineError) → GivesAlone read_of r (statement_in line) → IfOk r (λ x. SaysLine line x)
 is-found line (Ok x) g = let n = written-takes line (read_of x) g in (n.0, n.1, (n.2, n.3))
 is-found line (Err e) g = tt
 
-pub is-only : (line : List ℕ) (r : Result LineRead LineError) → GivesAlone read_of r (written_in line) → (l : Line) → IsWritten line l → IfOk r (λ x. ReadsLine l x)
+pub is-only : (line : List ℕ) (r : Result LineRead LineError) → GivesAlone read_of r (statement_in line) → (l : Line) → IsWritten line l → IfOk r (λ x. ReadsLine l x)
 is-only line (Ok x) g l w =
     let s : read_of x ≡ (line_statement l, line_cells l) = same_Some (read_of x) (line_statement l, line_cells l) (sym g ∙ written-again line l w) in
     (ap (λ (z : Statement × List Cell). z.0) s, ap (λ (z : Statement × List Cell). z.1) s)
 is-only line (Err e) g l w = tt
 
-pub is-refused : (line : List ℕ) (r : Result LineRead LineError) → GivesAlone read_of r (written_in line) → IsErrOf r errors.Syntax → (l : Line) → IsWritten line l → ⊥
+pub is-refused : (line : List ℕ) (r : Result LineRead LineError) → GivesAlone read_of r (statement_in line) → IsErrOf r errors.Syntax → (l : Line) → IsWritten line l → ⊥
 is-refused line r g e l w =
-    let none : written_in line ≡ None = subst (λ x. GivesAlone read_of x (written_in line)) e g in
+    let none : statement_in line ≡ None = subst (λ x. GivesAlone read_of x (statement_in line)) e g in
     let some = written-again line l w in
     absurd cc

@@ -5,7 +5,7 @@ use Rattle.std.specs.List.{flat_map}
 use Rattle.type_terms.specs.Promised.Label.{of_type}
 use Rattle.text_language.specs.Promised.Syntax.{TypeTree, Types, no_types, and_type, Bound, Clause, Line, crate_line, struct_line, trait_line, impl_line, prove_line, refute_line, later_line, supers_line}
 use Rattle.text_language.specs.Promised.Declarations.{Declarations}
-use Rattle.text_language.specs.Uses.{crate_use, type_uses, types_uses, bound_uses, clause_uses, type_depth, types_depth, bound_depth, clause_depth, greatest}
+use Rattle.text_language.specs.Uses.{crate_use, type_uses, types_uses, bound_uses, clause_uses, type_depth, types_depth, bound_depth, clause_depth, greatest_number}
 use Rattle.text_lines.specs.Cells.{Cell}
 use Rattle.text_lines.specs.Statement.{Statement, crate_statement, struct_statement, trait_statement, impl_statement, prove_statement, refute_statement, later_statement, supers_statement, type_list, line_cells, line_statement}
 use Rattle.text_lines.specs.Places.{TypeStands, BoundStands, ClauseStands, EachOf, LineStands}
@@ -89,17 +89,17 @@ max-first a b c = omega arith
 max-zero : (a : ℕ) → a ≡ max a 0
 max-zero a = omega arith
 
-types-deep : (d : Declarations) (ts : Types) → types_depth d ts ≡ greatest (map (part_depth d) (map type_part (type_list ts)))
+types-deep : (d : Declarations) (ts : Types) → types_depth d ts ≡ greatest_number (map (part_depth d) (map type_part (type_list ts)))
 types-deep d no_types = refl
 types-deep d (and_type t ts) = ap (max (type_depth d t)) (types-deep d ts)
 
-bounds-deep : (d : Declarations) (bs : List Bound) → greatest (map (bound_depth d) bs) ≡ greatest (map (part_depth d) (map bound_part bs))
+bounds-deep : (d : Declarations) (bs : List Bound) → greatest_number (map (bound_depth d) bs) ≡ greatest_number (map (part_depth d) (map bound_part bs))
 bounds-deep d [] = refl
 bounds-deep d (b ∷ bs) = ap (max (bound_depth d b)) (bounds-deep d bs)
 
-clauses-deep : (d : Declarations) (ks : List Clause) → greatest (map (clause_depth d) ks) ≡ greatest (map (part_depth d) (flat_map clause_parts ks))
+clauses-deep : (d : Declarations) (ks : List Clause) → greatest_number (map (clause_depth d) ks) ≡ greatest_number (map (part_depth d) (flat_map clause_parts ks))
 clauses-deep d [] = refl
-clauses-deep d (k ∷ ks) = ap (max (clause_depth d k)) (clauses-deep d ks) ∙ max-assoc (type_depth d k.subject) (bound_depth d k.bound) (greatest (map (part_depth d) (flat_map clause_parts ks)))
+clauses-deep d (k ∷ ks) = ap (max (clause_depth d k)) (clauses-deep d ks) ∙ max-assoc (type_depth d k.subject) (bound_depth d k.bound) (greatest_number (map (part_depth d) (flat_map clause_parts ks)))
 
 pub depth-of-parts : DepthOfParts
 depth-of-parts d (crate_line n us) = refl
@@ -108,6 +108,6 @@ depth-of-parts d (supers_line n) = refl
 depth-of-parts d (struct_line f n ps ts) = types-deep d ts
 depth-of-parts d (trait_line f a n ps bs) = bounds-deep d bs
 depth-of-parts d (impl_line ps h ks) =
-    ap (max (clause_depth d h)) (clauses-deep d ks) ∙ max-first (type_depth d h.subject) (bound_depth d h.bound) (greatest (map (part_depth d) (flat_map clause_parts ks)))
+    ap (max (clause_depth d h)) (clauses-deep d ks) ∙ max-first (type_depth d h.subject) (bound_depth d h.bound) (greatest_number (map (part_depth d) (flat_map clause_parts ks)))
 depth-of-parts d (prove_line c ps k ks) = clauses-deep d (k ∷ ks)
 depth-of-parts d (refute_line c ps k) = ap (max (type_depth d k.subject)) (max-zero (bound_depth d k.bound))

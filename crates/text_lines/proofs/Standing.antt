@@ -3,7 +3,7 @@ use Rattle.std.proofs.Common.{◌≡◌, ℕ, ◌≤◌, List, [], ◌∷◌, �
 use Rattle.std.specs.Prelude.{take}
 use Rattle.std.proofs.Math.Seq.{take-append_seam}
 use Rattle.std.proofs.lemmas.List.{length-append}
-use Rattle.text_language.specs.Promised.Syntax.{TypeTree, of_primitive, never_type, variable_type, named, reference_to, pointer_to, slice_of, array_of, tuple_of, fn_of, fn_to, dyn_of, Types, no_types, and_type, Args, no_args, and_arg, Arg, lifetime_arg, number_arg, type_arg, Item, bound_item, lifetime_item, Items, no_items, and_item, Bound, Clause, crate_line, struct_line, trait_line, impl_line, prove_line, refute_line, later_line, supers_line}
+use Rattle.text_language.specs.Promised.Syntax.{TypeTree, of_primitive, never_type, variable_type, named, reference_to, pointer_to, slice_of, array_of, tuple_of, fn_of, fn_to, dyn_of, Types, no_types, and_type, Args, no_args, and_arg, Arg, lifetime_arg, number_arg, type_arg, Item, bound_item, lifetime_item, DynBounds, no_items, and_item, Bound, Clause, crate_line, struct_line, trait_line, impl_line, prove_line, refute_line, later_line, supers_line}
 use Rattle.text_lines.specs.Cells.{Cell, primitive_cell, never_cell, slice_cell, variable_cell, lifetime_cell, binder_cell, number_cell, named_cell, reference_cell, pointer_cell, array_cell, tuple_cell, dyn_cell, fn_cell, fn_to_cell, bound_cell, binder_onto, type_onto, types_onto, args_onto, arg_onto, item_onto, items_onto}
 use Rattle.text_lines.specs.Statement.{type_span, bound_onto, bound_span, clause_onto, clause_spans, header_onto, header_spans, all_onto, all_spans, type_list}
 use Rattle.text_lines.specs.Places.{TypeStands, BoundStands, ClauseStands, EachOf, SpansStand}
@@ -74,7 +74,7 @@ mutual
       further (further (binder-extends b o) (args-extend args (binder_onto b o))) (one (args_onto args (binder_onto b o)) (bound_cell n (length o) (length (binder_onto b o))))
   item-extends (lifetime_item n) o = one o (lifetime_cell n)
 
-  items-extend : (is : Items) (o : List Cell) → Extends o (items_onto is o)
+  items-extend : (is : DynBounds) (o : List Cell) → Extends o (items_onto is o)
   items-extend no_items o = same o
   items-extend (and_item i is) o = further (item-extends i o) (items-extend is (item_onto i o))
 

@@ -2,7 +2,7 @@
 use Rattle.std.specs.Prelude.{ℕ, zero, suc, Bool, true, false, List, [], ◌∷◌, Option, Some, None}
 use Rattle.text_language.specs.Words.{mut_word, const_word, fn_word, dyn_word, for_word, open_angle, close_angle, open_round, close_round, open_square, close_square, comma, semicolon, ampersand, star, plus, exclamation}
 use Rattle.text_language.specs.Tokens.{Token, keyword, primitive, name, lifetime, variable, number, sign, arrow}
-use Rattle.text_language.specs.Promised.Syntax.{TypeTree, of_primitive, never_type, variable_type, named, reference_to, pointer_to, slice_of, array_of, tuple_of, fn_of, fn_to, dyn_of, Types, no_types, and_type, Args, no_args, and_arg, Arg, lifetime_arg, number_arg, type_arg, Item, bound_item, lifetime_item, Items, no_items, and_item, Length, number_length, name_length, variable_length}
+use Rattle.text_language.specs.Promised.Syntax.{TypeTree, of_primitive, never_type, variable_type, named, reference_to, pointer_to, slice_of, array_of, tuple_of, fn_of, fn_to, dyn_of, Types, no_types, and_type, Args, no_args, and_arg, Arg, lifetime_arg, number_arg, type_arg, Item, bound_item, lifetime_item, DynBounds, no_items, and_item, Length, number_length, name_length, variable_length}
 use Rattle.text_lines.specs.Machine.{binder_at}
 
 -- lists of what has been read are the last one first
@@ -32,7 +32,7 @@ abbrev pub types_rev : List TypeTree → Types → Types
 types_rev [] ts = ts
 types_rev (t ∷ us) ts = types_rev us (and_type t ts)
 
-abbrev pub dyn_rev : Item → List Item → Items → TypeTree
+abbrev pub dyn_rev : Item → List Item → DynBounds → TypeTree
 dyn_rev i [] js = dyn_of i js
 dyn_rev i (h ∷ is) js = dyn_rev h is (and_item i js)
 

@@ -3,7 +3,7 @@ use Rattle.std.proofs.Common.{◌≡◌, ℕ, zero, suc, Bool, List, [], ◌∷�
 use Rattle.std.proofs.lemmas.Option.{same_Some}
 use Rattle.text_language.specs.Words.{mut_word, const_word, fn_word, dyn_word, for_word, open_angle, close_angle, open_round, close_round, open_square, close_square, comma, semicolon, ampersand, star, plus, exclamation}
 use Rattle.text_language.specs.Tokens.{Token, keyword, primitive, name, lifetime, variable, number, sign, arrow}
-use Rattle.text_language.specs.Promised.Syntax.{TypeTree, reference_to, tuple_of, fn_of, fn_to, Types, no_types, and_type, Args, no_args, and_arg, Arg, lifetime_arg, number_arg, type_arg, Item, bound_item, lifetime_item, Items, no_items, and_item, Length, number_length, name_length, variable_length}
+use Rattle.text_language.specs.Promised.Syntax.{TypeTree, reference_to, tuple_of, fn_of, fn_to, Types, no_types, and_type, Args, no_args, and_arg, Arg, lifetime_arg, number_arg, type_arg, Item, bound_item, lifetime_item, DynBounds, no_items, and_item, Length, number_length, name_length, variable_length}
 use Rattle.text_language.specs.Syntax.{more_lifetimes, binder_spelling, lifetime_spelling, mut_spelling, pointer_word, length_token, type_spelling, second_item, inputs_spelling, more_types, args_spelling, more_args, arg_spelling, item_spelling, more_items}
 use Rattle.text_lines.specs.Machine.{binder_at, more_binder, in_front}
 use Rattle.text_lines.proofs.TreeMachine.{Frame, in_args, in_bound, in_reference, in_pointer, in_brackets, in_tuple, in_items, in_inputs, in_output, TreeState, opening, item, closing, finished, stuck, args_rev, types_rev, dyn_rev, item_end, args_end, bound_args_end, arg_end, name_step, bound_step, reference_step, ampersand_step, star_step, tuple_step, inputs_end, inputs_step, fn_step, bound_fn, bound_at, open_step, item_step, length_end, length_step, brackets_end, second_step, tuple_end, items_end, input_end, close_step, step, run}
@@ -57,7 +57,7 @@ second-spelled : (us : List TypeTree) (t : TypeTree) (ts : Types) (r : List Toke
 second-spelled [] t ts r = ap (λ x. sign comma ∷ x) (append_assoc (type_spelling t) (more_types ts) r)
 second-spelled (h ∷ us) t ts r = second-spelled us h (and_type t ts) r ∙ ap (λ x. sign comma ∷ types_before us (type_spelling h ++ sign comma ∷ x)) (append_assoc (type_spelling t) (more_types ts) r)
 
-dyn-spelled : (is : List Item) (i : Item) (js : Items) (r : List Token) → type_spelling (dyn_rev i is js) ++ r ≡ keyword dyn_word ∷ items_before is (item_spelling i ++ (more_items js ++ r))
+dyn-spelled : (is : List Item) (i : Item) (js : DynBounds) (r : List Token) → type_spelling (dyn_rev i is js) ++ r ≡ keyword dyn_word ∷ items_before is (item_spelling i ++ (more_items js ++ r))
 dyn-spelled [] i js r = ap (λ x. keyword dyn_word ∷ x) (append_assoc (item_spelling i) (more_items js) r)
 dyn-spelled (h ∷ is) i js r = dyn-spelled is h (and_item i js) r ∙ ap (λ x. keyword dyn_word ∷ items_before is (item_spelling h ++ sign plus ∷ x)) (append_assoc (item_spelling i) (more_items js) r)
 

@@ -2,7 +2,7 @@
 use Rattle.std.proofs.Common.{◌≡◌, ℕ, zero, suc, ◌+◌, Bool, true, false, List, [], ◌∷◌, ◌++◌, Option, Some, None, refl, sym, ap, ◌∙◌, subst, append_assoc, arith}
 use Rattle.text_language.specs.Words.{mut_word, fn_word, dyn_word, open_angle, close_angle, open_round, close_round, open_square, close_square, comma, semicolon, ampersand, star, plus, exclamation}
 use Rattle.text_language.specs.Tokens.{Token, keyword, primitive, name, lifetime, variable, number, sign, arrow}
-use Rattle.text_language.specs.Promised.Syntax.{TypeTree, of_primitive, never_type, variable_type, named, reference_to, pointer_to, slice_of, array_of, tuple_of, fn_of, fn_to, dyn_of, Types, no_types, and_type, Args, no_args, and_arg, Arg, lifetime_arg, number_arg, type_arg, Item, bound_item, lifetime_item, Items, no_items, and_item, Length, number_length, name_length, variable_length}
+use Rattle.text_language.specs.Promised.Syntax.{TypeTree, of_primitive, never_type, variable_type, named, reference_to, pointer_to, slice_of, array_of, tuple_of, fn_of, fn_to, dyn_of, Types, no_types, and_type, Args, no_args, and_arg, Arg, lifetime_arg, number_arg, type_arg, Item, bound_item, lifetime_item, DynBounds, no_items, and_item, Length, number_length, name_length, variable_length}
 use Rattle.text_language.specs.Syntax.{more_lifetimes, binder_spelling, lifetime_spelling, mut_spelling, pointer_word, length_token, type_spelling, second_item, inputs_spelling, more_types, more_args, arg_spelling, item_spelling, more_items}
 use Rattle.text_lines.specs.Machine.{more_binder, in_front}
 use Rattle.text_lines.specs.Follows.{IsCompleteType}
@@ -73,7 +73,7 @@ more-args-follow : (args : Args) (r : List Token) → IsCompleteType (more_args 
 more-args-follow no_args r = tt
 more-args-follow (and_arg a args) r = tt
 
-more-items-no-args : (js : Items) (r : List Token) → IsCompleteType r → NoAngle (more_items js ++ r)
+more-items-no-args : (js : DynBounds) (r : List Token) → IsCompleteType r → NoAngle (more_items js ++ r)
 more-items-no-args no_items r h = follows-no-args r h
 more-items-no-args (and_item j js) r h = tt
 
@@ -279,7 +279,7 @@ mutual
       ∙ ap (opening (in_bound is b n [] ∷ s)) (append_assoc (arg_spelling a) (more_args args) r)))
       (then _ (bound_args_end s is b n (a ∷ []) (more_args args ++ r)) _ (reads_bound_arg a s is b n [] (more_args args ++ r) (more-args-follow args r)) (reads_more_bound args s is b n (a ∷ []) r))
 
-  reads_items : (js : Items) (s : List Frame) (is : List Item) (i : Item) (r : List Token) → IsCompleteType r → Leads (item_end s is i (more_items js ++ r)) (closing s (dyn_rev i is js) r)
+  reads_items : (js : DynBounds) (s : List Frame) (is : List Item) (i : Item) (r : List Token) → IsCompleteType r → Leads (item_end s is i (more_items js ++ r)) (closing s (dyn_rev i is js) r)
   reads_items no_items s is i r h = from _ _ _ (item-alone s is i r h) (stays _)
   reads_items (and_item j js) s is i r h =
       from _ (item s (i ∷ is) (item_spelling j ++ (more_items js ++ r))) _ (ap (item s (i ∷ is)) (append_assoc (item_spelling j) (more_items js) r))

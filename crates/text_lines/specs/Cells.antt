@@ -1,7 +1,7 @@
 -- A type as a list of cells: what stands inside a cell comes before it, and the cell says where that begins.
 use Rattle.std.specs.Prelude.{ℕ, Bool, List, [], ◌∷◌, ◌++◌, length, Option}
 use Rattle.type_terms.specs.Promised.Label.{Label}
-use Rattle.text_language.specs.Promised.Syntax.{TypeTree, of_primitive, never_type, variable_type, named, reference_to, pointer_to, slice_of, array_of, tuple_of, fn_of, fn_to, dyn_of, Types, no_types, and_type, Args, no_args, and_arg, Arg, lifetime_arg, number_arg, type_arg, Item, bound_item, lifetime_item, Items, no_items, and_item, Length}
+use Rattle.text_language.specs.Promised.Syntax.{TypeTree, of_primitive, never_type, variable_type, named, reference_to, pointer_to, slice_of, array_of, tuple_of, fn_of, fn_to, dyn_of, Types, no_types, and_type, Args, no_args, and_arg, Arg, lifetime_arg, number_arg, type_arg, Item, bound_item, lifetime_item, DynBounds, no_items, and_item, Length}
 
 -- `start` is the place of the first cell inside; the names of a binder stand there, up to `inner`. The output of a fn is the last cell inside.
 pub data Cell : Type 0 where
@@ -55,6 +55,6 @@ abbrev mutual
   item_onto (bound_item b n args) out = args_onto args (binder_onto b out) ++ bound_cell n (length out) (length (binder_onto b out)) ∷ []
   item_onto (lifetime_item n) out = out ++ lifetime_cell n ∷ []
 
-  pub items_onto : Items → List Cell → List Cell
+  pub items_onto : DynBounds → List Cell → List Cell
   items_onto no_items out = out
   items_onto (and_item i is) out = items_onto is (item_onto i out)

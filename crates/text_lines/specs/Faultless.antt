@@ -8,7 +8,7 @@ use Rattle.text_language.specs.Promised.Declarations.{Declarations, known, kinds
 use Rattle.text_language.specs.Uses.{Use, crate_use, name_use, trait_use, lifetime_use, binder_use, variable_use, misfit_use, dyn_use, items_use, number_use, uses, asked_uses, params_of, declared_name, line_depth}
 use Rattle.text_language.specs.Faults.{fault_of, is_misplaced, takes_names, uses_unknown, uses_hidden, uses_other_sort, has_free_param, bounds_use_own, is_loaded_auto, is_foreign_auto, implements_built_in, has_stray_variable, refutes_params, has_bad_dyn, passes_limit, belongs_to_crate, is_impl, is_crate}
 use Rattle.text_language.specs.Promised.Faults.{with_own}
-use Rattle.text_language.specs.Faults.{is_param, is_param_of, is_type_of, is_trait_of, static_name, is_in_scope, is_bad_dyn, is_bound, parts, once, variables_in, param_limit, part_limit, list_limit, variable_limit, depth_limit}
+use Rattle.text_language.specs.Faults.{is_line_param, is_param_of, is_type_of, is_trait_of, static_name, is_in_scope, is_bad_dyn, is_bound, parts, once, variables_in, param_limit, part_limit, list_limit, variable_limit, depth_limit}
 
 -- no test of a fault holds
 pub record PassesTests (d : Declarations) (l : Line) : Type 0 where
@@ -60,8 +60,8 @@ BelongsToCrate =
 -- lifetime is in scope; and what is counted is within its limit.
 abbrev pub UseFits : Declarations → Line → Use → Type 0
 UseFits d l (crate_use n) = names_crate d n ≡ true
-UseFits d l (name_use p n k) = (if is_param l n then is_param_of l p n k else option_map_or (is_type_of p k) (known (with_own d l) n) false) ≡ true
-UseFits d l (trait_use n k) = (is_param l n ≡ false) × (option_map_or (is_trait_of k) (known (with_own d l) n) false ≡ true)
+UseFits d l (name_use p n k) = (if is_line_param l n then is_param_of l p n k else option_map_or (is_type_of p k) (known (with_own d l) n) false) ≡ true
+UseFits d l (trait_use n k) = (is_line_param l n ≡ false) × (option_map_or (is_trait_of k) (known (with_own d l) n) false ≡ true)
 UseFits d l (lifetime_use s n) = bytes_eq n static_name || is_in_scope l s n ≡ true
 UseFits d l (binder_use s ns) = Unit {0}
 UseFits d l (variable_use p n) = Unit {0}

@@ -4,7 +4,7 @@ use Rattle.std.specs.List.{flat_map}
 use Rattle.type_terms.specs.Promised.Label.{of_type}
 use Rattle.text_language.specs.Promised.Syntax.{TypeTree, Bound, Clause, Line, crate_line, struct_line, trait_line, impl_line, prove_line, refute_line, later_line, supers_line}
 use Rattle.text_language.specs.Promised.Declarations.{Declarations}
-use Rattle.text_language.specs.Uses.{Use, crate_use, type_uses, bound_uses, uses, asked_uses, type_depth, bound_depth, greatest, line_depth}
+use Rattle.text_language.specs.Uses.{Use, crate_use, type_uses, bound_uses, uses, asked_uses, type_depth, bound_depth, greatest_number, line_depth}
 use Rattle.text_lines.specs.Cells.{Cell}
 use Rattle.text_lines.specs.Statement.{Statement, crate_statement, struct_statement, trait_statement, impl_statement, prove_statement, refute_statement, later_statement, supers_statement, type_list, line_cells, line_statement}
 use Rattle.text_lines.specs.Places.{TypeStands, BoundStands, EachOf}
@@ -95,4 +95,4 @@ AskedOfParts = (d : Declarations) (l : Line) → asked_uses d l ≡ flat_map (pa
 
 -- It is as deep as its deepest part.
 abbrev pub DepthOfParts : Type 0
-DepthOfParts = (d : Declarations) (l : Line) → line_depth d l ≡ greatest (map (part_depth d) (line_parts l))
+DepthOfParts = (d : Declarations) (l : Line) → line_depth d l ≡ greatest_number (map (part_depth d) (line_parts l))

@@ -174,5 +174,5 @@ statement_at p = statement_front p.0 p.1
 unfoldable pub line_at : List Token → Option (Statement × List Cell)
 line_at ts = statement_at ([], ts) >>= λ s. if is_nil s.1.1 then Some (s.0, s.1.0) else None
 
-unfoldable pub written_in : List ℕ → Option (Statement × List Cell)
-written_in line = tokens_of line >>= line_at
+unfoldable pub statement_in : List ℕ → Option (Statement × List Cell)
+statement_in line = tokens_of line >>= line_at

@@ -5,7 +5,7 @@ ghost use Rattle.text_language.specs.Written.{IsWritten};
 ghost use Rattle.text_language.specs.Promised.Written.{is_ascii, is_blank};
 ghost use Rattle.text_lines.specs.TokenViews.{tokens_in};
 ghost use Rattle.text_lines.specs.Lines.{ReadsLine, SaysLine};
-ghost use Rattle.text_lines.specs.Parts.{auto_front, fundamental_front, statement_at, line_at, written_in};
+ghost use Rattle.text_lines.specs.Parts.{auto_front, fundamental_front, statement_at, line_at, statement_in};
 ghost use Rattle.text_lines.specs.Steps.{Reads, GivesAlone};
 ghost use Rattle.text_lines.specs.Views.{statement_of, read_of};
 
@@ -104,7 +104,7 @@ fn read_tokens<'a>(alloc: Global, tokens: &[Token<'a>]) -> Result<LineRead<'a>, 
 
 #[tactic(auto, unfolding(crate::specs::Parts::written_in))]
 fn read(alloc: Global, line: &[u8]) -> Result<LineRead<'_>, LineError>
-    ensures { GivesAlone read_of result (written_in line.now) }
+    ensures { GivesAlone read_of result (statement_in line.now) }
 {
     let Some(found) = tokens(alloc, line)? else {
         return Err(LineError::Syntax);

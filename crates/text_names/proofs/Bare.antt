@@ -6,7 +6,7 @@ use Rattle.text_language.specs.Promised.Declarations.{Declarations}
 use Rattle.text_language.specs.Promised.Faults.{with_own}
 use Rattle.text_language.specs.Uses.{Use, params_of}
 use Rattle.text_lines.specs.Statement.{Param, lifetime_param, type_param, const_param, param_list, line_statement}
-use Rattle.text_names.specs.Machine.{Sight, items, findings}
+use Rattle.text_names.specs.Machine.{Sight, seen_items, findings}
 use Rattle.text_names.specs.Params.{lifetime_name, other_name, lifetimes_said, others_said}
 use Rattle.text_names.specs.Speaks.{Speaks}
 
@@ -120,7 +120,7 @@ params-bare (later_line n) = refl
 params-bare (supers_line n) = refl
 
 -- the sight's line and the line that was read see the same
-pub same-items : (v : Sight) (l : Line) → Speaks v.line (line_statement l) → items v ≡ with_own v.before l
+pub same-items : (v : Sight) (l : Line) → Speaks v.line (line_statement l) → seen_items v ≡ with_own v.before l
 same-items v l e = own-bare v.before v.line ∙ ap (with_own v.before) (speaks-bare v.line l e) ∙ sym (own-bare v.before l)
 
 pub same-findings : (v : Sight) (l : Line) (us : List Use) → Speaks v.line (line_statement l) → findings v us ≡ findings (sight v.before l) us

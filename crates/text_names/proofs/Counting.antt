@@ -4,7 +4,7 @@ use Rattle.std.specs.Prelude.{if◌then◌else◌, min, nat_le, nat_lt, ◌==◌
 use Rattle.std.proofs.lemmas.Bool.Decides.{nat_tests, leb_tells}
 use Rattle.std.proofs.lemmas.List.{append-nil, length-drop}
 use Rattle.std.proofs.Math.Seq.{drop-append_seam}
-use Rattle.text_language.specs.Promised.Syntax.{TypeTree, of_primitive, never_type, variable_type, named, reference_to, pointer_to, slice_of, array_of, tuple_of, fn_of, fn_to, dyn_of, Types, no_types, and_type, Args, no_args, and_arg, Arg, lifetime_arg, number_arg, type_arg, Item, bound_item, lifetime_item, Items, no_items, and_item}
+use Rattle.text_language.specs.Promised.Syntax.{TypeTree, of_primitive, never_type, variable_type, named, reference_to, pointer_to, slice_of, array_of, tuple_of, fn_of, fn_to, dyn_of, Types, no_types, and_type, Args, no_args, and_arg, Arg, lifetime_arg, number_arg, type_arg, Item, bound_item, lifetime_item, DynBounds, no_items, and_item}
 use Rattle.text_language.specs.Uses.{ItemShape, bound_shape, types_count, args_count, item_shape, item_shapes, has_names}
 use Rattle.text_lines.specs.Cells.{Cell, primitive_cell, never_cell, slice_cell, variable_cell, lifetime_cell, binder_cell, number_cell, named_cell, reference_cell, pointer_cell, array_cell, tuple_cell, dyn_cell, fn_cell, fn_to_cell, bound_cell}
 use Rattle.text_names.specs.Back.{binder_back, type_back, types_back, args_back, arg_back, item_back, items_back, begins, parts, parts_above, count_above, names_before, names_between, down_to, shape_of}
@@ -104,7 +104,7 @@ mutual
       one-more (bound_cell n (length r) (length (binder_back b r))) (args_back args (binder_back b r)) r (further (args_back args (binder_back b r)) (binder_back b r) r (args-extends args (binder_back b r)) (binder-extends b r))
   item-extends (lifetime_item n) r = one-more (lifetime_cell n) r r (same r)
 
-  pub items-extends : (is : Items) (r : List Cell) → Extends (items_back is r) r
+  pub items-extends : (is : DynBounds) (r : List Cell) → Extends (items_back is r) r
   items-extends no_items r = same r
   items-extends (and_item i is) r = further (items_back is (item_back i r)) (item_back i r) r (items-extends is (item_back i r)) (item-extends i r)
 
@@ -269,11 +269,11 @@ count-args args r =
     ap length (args-parts (length r) args r [] h ∙ parts-none (length r) (length r) r (arg-cells args r []) h) ∙ arg-cells-length args r
 
 -- ---- the items of a `dyn`
-item-cells : Items → List Cell → List Cell
+item-cells : DynBounds → List Cell → List Cell
 item-cells no_items r = []
 item-cells (and_item i is) r = item-cell i r ∷ item-cells is (item_back i r)
 
-items-parts : (start : ℕ) (is : Items) (r later : List Cell) → start ≤ length r → parts start (length (items_back is r)) (items_back is r) later ≡ parts start (length r) r (item-cells is r ++ later)
+items-parts : (start : ℕ) (is : DynBounds) (r later : List Cell) → start ≤ length r → parts start (length (items_back is r)) (items_back is r) later ≡ parts start (length r) r (item-cells is r ++ later)
 unfolding item-cells
 items-parts start no_items r later h = refl
 items-parts start (and_item i is) r later h =
@@ -302,12 +302,12 @@ item-shaped (bound_item b n args) r = ap (λ h. item_shape_with h n) (is-binder 
     item_shape_with h n = bound_shape h n
 item-shaped (lifetime_item n) r = refl
 
-items-shaped : (is : Items) (r : List Cell) → map shape_of (item-cells is r) ≡ item_shapes is
+items-shaped : (is : DynBounds) (r : List Cell) → map shape_of (item-cells is r) ≡ item_shapes is
 unfolding item-cells
 items-shaped no_items r = refl
 items-shaped (and_item i is) r = ap (λ x. x ∷ map shape_of (item-cells is (item_back i r))) (item-shaped i r) ∙ ap (λ x. item_shape i ∷ x) (items-shaped is (item_back i r))
 
-pub shapes-above : (i : Item) (is : Items) (r : List Cell) → map shape_of (parts_above (length r) (items_back is (item_back i r))) ≡ item_shape i ∷ item_shapes is
+pub shapes-above : (i : Item) (is : DynBounds) (r : List Cell) → map shape_of (parts_above (length r) (items_back is (item_back i r))) ≡ item_shape i ∷ item_shapes is
 unfolding item-cells
 shapes-above i is r =
     let h : length r ≤ length r = omega arith in

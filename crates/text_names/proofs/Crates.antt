@@ -10,7 +10,7 @@ use Rattle.text_lines.specs.Statement.{line_statement}
 use Rattle.text_names.specs.Machine.{Sight, findings, either}
 use Rattle.text_names.specs.declared.findings.Findings.{Findings}
 use Rattle.text_names.proofs.Uses.{findings-append}
-use Rattle.text_names.specs.Speaks.{crates_named}
+use Rattle.text_names.specs.Speaks.{crates_mentioned}
 
 pub crates-step : (v : Sight) (ns : List (Bor (List ℕ))) (i : ℕ) (d : Bor (List ℕ)) (f x : Findings) → i < length ns → f ≡ findings v (map crate_use (map text_of (take i ns))) → x ≡ findings v (crate_use (text_of (get_or ns i d)) ∷ [])
     → either f x ≡ findings v (map crate_use (map text_of (take (i + 1) ns)))
@@ -22,7 +22,7 @@ crates-step v ns i d f x h e k =
     ∙ sym (findings-append v (map crate_use (map text_of (take i ns))) (crate_use (text_of n) ∷ []))
     ∙ ap (findings v) (sym (ap (map crate_use) (ap (map text_of) whole ∙ map-append text_of (take i ns) (n ∷ [])) ∙ map-append crate_use (map text_of (take i ns)) (text_of n ∷ [])))
 
-pub crates-are-named : (l : Line) → crates_named (line_statement l) ≡ named_crates l
+pub crates-are-named : (l : Line) → crates_mentioned (line_statement l) ≡ named_crates l
 crates-are-named (crate_line n us) = refl
 crates-are-named (struct_line f n ps fs) = refl
 crates-are-named (trait_line f a n ps bs) = refl

@@ -11,7 +11,7 @@ use Rattle.text_lines.specs.Places.{EachOf}
 use Rattle.text_lines.specs.declared.parts.LinePart as places
 use Rattle.text_lines.specs.declared.parts.LinePart.TheVariants as place
 use Rattle.text_lines.specs.declared.statement.Span.{Span}
-use Rattle.text_names.specs.Machine.{Sight, items, findings, either}
+use Rattle.text_names.specs.Machine.{Sight, seen_items, findings, either}
 use Rattle.text_names.specs.Resolving.{found_in, type_found, bound_found, ResolvesType, ResolvesBound}
 use Rattle.text_names.specs.Views.{variable_in}
 use Rattle.text_names.specs.declared.findings.Findings.{Findings}
@@ -27,17 +27,17 @@ max-assoc : (a b c : ℕ) → max a (max b c) ≡ max (max a b) c
 max-assoc a b c = omega arith
 
 pub uses-together : (v : Sight) (ps qs : List LinePart) → uses_of v (ps ++ qs) ≡ uses_of v ps ++ uses_of v qs
-uses-together v ps qs = flat_map-append (part_uses (items v)) ps qs
+uses-together v ps qs = flat_map-append (part_uses (seen_items v)) ps qs
 
-uses-more : (v : Sight) (ps : List LinePart) (p : LinePart) → uses_of v (ps ++ p ∷ []) ≡ uses_of v ps ++ part_uses (items v) p
-uses-more v ps p = uses-together v ps (p ∷ []) ∙ ap (λ z. uses_of v ps ++ z) (append-nil (part_uses (items v) p))
+uses-more : (v : Sight) (ps : List LinePart) (p : LinePart) → uses_of v (ps ++ p ∷ []) ≡ uses_of v ps ++ part_uses (seen_items v) p
+uses-more v ps p = uses-together v ps (p ∷ []) ∙ ap (λ z. uses_of v ps ++ z) (append-nil (part_uses (seen_items v) p))
 
 pub depth-together : (v : Sight) (ps qs : List LinePart) → depth_of v (ps ++ qs) ≡ max (depth_of v ps) (depth_of v qs)
 depth-together v [] qs = omega arith
-depth-together v (p ∷ ps) qs = ap (max (part_depth (items v) p)) (depth-together v ps qs) ∙ max-assoc (part_depth (items v) p) (depth_of v ps) (depth_of v qs)
+depth-together v (p ∷ ps) qs = ap (max (part_depth (seen_items v) p)) (depth-together v ps qs) ∙ max-assoc (part_depth (seen_items v) p) (depth_of v ps) (depth_of v qs)
 
-depth-more : (v : Sight) (ps : List LinePart) (p : LinePart) → depth_of v (ps ++ p ∷ []) ≡ max (depth_of v ps) (part_depth (items v) p)
-depth-more v ps p = let e : max (part_depth (items v) p) 0 ≡ part_depth (items v) p = omega arith in depth-together v ps (p ∷ []) ∙ ap (max (depth_of v ps)) e
+depth-more : (v : Sight) (ps : List LinePart) (p : LinePart) → depth_of v (ps ++ p ∷ []) ≡ max (depth_of v ps) (part_depth (seen_items v) p)
+depth-more v ps p = let e : max (part_depth (seen_items v) p) 0 ≡ part_depth (seen_items v) p = omega arith in depth-together v ps (p ∷ []) ∙ ap (max (depth_of v ps)) e
 
 each-more : {T Y : Type 0} (P : T → Y → Type 0) (ts : List T) (ys : List Y) (t : T) (y : Y) → EachOf P ts ys → P t y → EachOf P (ts ++ t ∷ []) (ys ++ y ∷ [])
 each-more P [] [] t y h p = (p, tt)
@@ -47,15 +47,15 @@ each-more P (s ∷ ts) (z ∷ ys) t y h p = (h.0, each-more P ts ys t y h.1 p)
 
 -- the part was found to be this
 pub found-more : (v : Sight) (ps : List LinePart) (p : LinePart) (old new : PartsFound) (f : Findings) (vs : List (List ℕ × Sort)) (b : Bool) (r : ResolvedPart)
-    → f ≡ findings v (part_uses (items v) p) → vs ≡ variables_in (part_uses (items v) p) → b ≡ nat_lt depth_limit (part_depth (items v) p)
+    → f ≡ findings v (part_uses (seen_items v) p) → vs ≡ variables_in (part_uses (seen_items v) p) → b ≡ nat_lt depth_limit (part_depth (seen_items v) p)
     → Resolves v p r → new.faults ≡ either old.faults f → map variable_in new.variables.items ≡ map variable_in old.variables.items ++ vs → new.is_deep ≡ old.is_deep || b
     → new.parts.items ≡ old.parts.items ++ r ∷ [] → IsFound v ps old → IsFound v (ps ++ p ∷ []) new
 found-more v ps p old new f vs b r ef ev eb er nf nv nb nr is =
-    let us = part_uses (items v) p in
+    let us = part_uses (seen_items v) p in
     record {
       faults = nf ∙ ap (λ x. either x f) is.faults ∙ ap (either (findings v (uses_of v ps))) ef ∙ sym (findings-append v (uses_of v ps) us) ∙ sym (ap (findings v) (uses-more v ps p));
       variables = nv ∙ ap (λ x. x ++ vs) is.variables ∙ ap (λ x. variables_in (uses_of v ps) ++ x) ev ∙ sym (variables-append (uses_of v ps) us) ∙ sym (ap variables_in (uses-more v ps p));
-      is_deep = nb ∙ ap (λ x. x || b) is.is_deep ∙ ap (λ x. nat_lt depth_limit (depth_of v ps) || x) eb ∙ sym (lt-max depth_limit (depth_of v ps) (part_depth (items v) p)) ∙ sym (ap (nat_lt depth_limit) (depth-more v ps p));
+      is_deep = nb ∙ ap (λ x. x || b) is.is_deep ∙ ap (λ x. nat_lt depth_limit (depth_of v ps) || x) eb ∙ sym (lt-max depth_limit (depth_of v ps) (part_depth (seen_items v) p)) ∙ sym (ap (nat_lt depth_limit) (depth-more v ps p));
       parts = subst (EachOf (Resolves v) (ps ++ p ∷ [])) (sym nr) (each-more (Resolves v) ps old.parts.items p r is.parts er);
     }
 

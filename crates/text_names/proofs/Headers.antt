@@ -11,7 +11,7 @@ use Rattle.type_terms.specs.Promised.Label.{of_type}
 use Rattle.text_language.specs.Promised.Syntax.{TypeTree, of_primitive, never_type, variable_type, named, reference_to, pointer_to, slice_of, array_of, tuple_of, fn_of, fn_to, dyn_of, Params, Clause, Line, crate_line, struct_line, trait_line, impl_line, prove_line, refute_line, later_line, supers_line}
 use Rattle.text_language.specs.Promised.Declarations.{Declarations, known, impl_owner}
 use Rattle.text_language.specs.Uses.{args_uses, type_uses, kinds_of_trait, params_of, header_uses}
-use Rattle.text_language.specs.Faults.{has_free_param, implements_built_in, is_built_in, is_foreign_auto, is_name_use, is_own_struct, is_param, is_struct_in}
+use Rattle.text_language.specs.Faults.{has_free_param, implements_built_in, is_built_in, is_foreign_auto, is_name_use, is_own_struct, is_line_param, is_struct_in}
 use Rattle.text_language.specs.Promised.Faults.{is_among, is_auto_name}
 use Rattle.text_lines.specs.Cells.{Cell, primitive_cell, never_cell, slice_cell, variable_cell, named_cell, reference_cell, pointer_cell, array_cell, tuple_cell, dyn_cell, fn_cell, fn_to_cell, binder_onto, type_onto, types_onto, args_onto, item_onto, items_onto}
 use Rattle.text_lines.specs.TypeViews.{cell_of, cells_in}
@@ -25,7 +25,7 @@ use Rattle.text_lines.specs.declared.statement.ClauseSpans.{ClauseSpans}
 use Rattle.text_lines.specs.declared.statement.LineRead.{LineRead}
 use Rattle.text_lines.specs.declared.statement.Span.{Span}
 use Rattle.text_lines.proofs.Standing.{spans-stand}
-use Rattle.text_names.specs.Machine.{Sight, items}
+use Rattle.text_names.specs.Machine.{Sight, seen_items}
 use Rattle.text_names.specs.UsedNames.{names_with}
 use Rattle.text_names.proofs.UsedLaws.{types_use_names, args_use_names}
 use Rattle.text_names.specs.Header.{header_said, name_of, last_name, names_own_struct, names_in_header}
@@ -130,7 +130,7 @@ pub no-built : (d : Declarations) (l : Line) (r : LineRead) → ReadsLine l r �
 no-built d l r e k = none-built d l (k ∙ ap header_said e.0)
 
 -- ---- an impl of an auto trait, or of one with built-in rules alone
-own-struct : (d : Declarations) (l : Line) (t : TypeTree) → option_map_or (λ n. not (is_param l n) && option_map_or (is_struct_in (impl_owner d)) (known d n) false) (type_name t) false ≡ is_own_struct d l t
+own-struct : (d : Declarations) (l : Line) (t : TypeTree) → option_map_or (λ n. not (is_line_param l n) && option_map_or (is_struct_in (impl_owner d)) (known d n) false) (type_name t) false ≡ is_own_struct d l t
 own-struct d l (named n args) = refl
 own-struct d l (of_primitive p) = refl
 own-struct d l never_type = refl
@@ -145,30 +145,30 @@ own-struct d l (fn_to b ts r) = refl
 own-struct d l (dyn_of i is) = refl
 
 -- in an impl's line nothing more is known than before it
-pub impl-items : (v : Sight) (ps : Params) (k : Clause) (ks : List Clause) → Speaks v.line (line_statement (impl_line ps k ks)) → items v ≡ v.before
+pub impl-items : (v : Sight) (ps : Params) (k : Clause) (ks : List Clause) → Speaks v.line (line_statement (impl_line ps k ks)) → seen_items v ≡ v.before
 impl-items v ps k ks e = same-items v (impl_line ps k ks) e
 
 pub foreign-is : (v : Sight) (ps : Params) (k : Clause) (ks : List Clause) (a b : Option (List ℕ)) → Speaks v.line (line_statement (impl_line ps k ks)) → a ≡ Some k.bound.trait → b ≡ type_name k.subject
-    → option_map_or (is_auto_name (items v)) a false && not (option_map_or (names_own_struct v) b false) ≡ is_foreign_auto v.before (impl_line ps k ks)
+    → option_map_or (is_auto_name (seen_items v)) a false && not (option_map_or (names_own_struct v) b false) ≡ is_foreign_auto v.before (impl_line ps k ks)
 foreign-is v ps k ks a b sp ea eb =
     let l = impl_line ps k ks in
     let d = v.before in
     let own : (z : Declarations) (p : Params) → Bool = λ z p. option_map_or (λ n. not (is_among n (p.types ++ p.consts)) && option_map_or (is_struct_in (impl_owner d)) (known z n) false) (type_name k.subject) false in
-    ap (λ z. option_map_or (is_auto_name (items v)) z false && not (option_map_or (names_own_struct v) b false)) ea
-    ∙ ap (λ z. is_auto_name (items v) k.bound.trait && not (option_map_or (names_own_struct v) z false)) eb
+    ap (λ z. option_map_or (is_auto_name (seen_items v)) z false && not (option_map_or (names_own_struct v) b false)) ea
+    ∙ ap (λ z. is_auto_name (seen_items v) k.bound.trait && not (option_map_or (names_own_struct v) z false)) eb
     ∙ ap (λ z. is_auto_name z k.bound.trait && not (own z (params_of v.line))) (impl-items v ps k ks sp)
     ∙ ap (λ z. is_auto_name d k.bound.trait && not (own d z)) (same-params v l sp)
     ∙ ap (λ z. is_auto_name d k.bound.trait && not z) (own-struct d l k.subject)
 
 pub built-is : (v : Sight) (ps : Params) (k : Clause) (ks : List Clause) (a : Option (List ℕ)) → Speaks v.line (line_statement (impl_line ps k ks)) → a ≡ Some k.bound.trait
-    → option_map_or (λ n. option_map_or is_built_in (known (items v) n) false) a false ≡ implements_built_in v.before (impl_line ps k ks)
+    → option_map_or (λ n. option_map_or is_built_in (known (seen_items v) n) false) a false ≡ implements_built_in v.before (impl_line ps k ks)
 built-is v ps k ks a sp ea =
-    ap (λ z. option_map_or (λ n. option_map_or is_built_in (known (items v) n) false) z false) ea ∙ ap (λ z. option_map_or is_built_in (known z k.bound.trait) false) (impl-items v ps k ks sp)
+    ap (λ z. option_map_or (λ n. option_map_or is_built_in (known (seen_items v) n) false) z false) ea ∙ ap (λ z. option_map_or is_built_in (known z k.bound.trait) false) (impl-items v ps k ks sp)
 
 -- of the line that was read
 pub read-foreign : (v : Sight) (l : Line) (r : LineRead) (h : ClauseSpans) (a b : Option (List ℕ)) → Speaks v.line (statement_of r.statement) → ReadsLine l r → Some h ≡ header_said (statement_of r.statement)
     → a ≡ last_name (take h.bound.end (cells_in r.cells.items)) → b ≡ last_name (take h.subject.end (cells_in r.cells.items))
-    → option_map_or (is_auto_name (items v)) a false && not (option_map_or (names_own_struct v) b false) ≡ is_foreign_auto v.before l
+    → option_map_or (is_auto_name (seen_items v)) a false && not (option_map_or (names_own_struct v) b false) ≡ is_foreign_auto v.before l
 read-foreign v l r h a b sp e k ea eb =
     let i = read-impl l r h e k in
     let cells = cells_in r.cells.items in
@@ -176,7 +176,7 @@ read-foreign v l r h a b sp e k ea eb =
     ∙ ap (is_foreign_auto v.before) (sym i.is)
 
 pub read-built : (v : Sight) (l : Line) (r : LineRead) (h : ClauseSpans) (a : Option (List ℕ)) → Speaks v.line (statement_of r.statement) → ReadsLine l r → Some h ≡ header_said (statement_of r.statement)
-    → a ≡ last_name (take h.bound.end (cells_in r.cells.items)) → option_map_or (λ n. option_map_or is_built_in (known (items v) n) false) a false ≡ implements_built_in v.before l
+    → a ≡ last_name (take h.bound.end (cells_in r.cells.items)) → option_map_or (λ n. option_map_or is_built_in (known (seen_items v) n) false) a false ≡ implements_built_in v.before l
 read-built v l r h a sp e k ea =
     let i = read-impl l r h e k in
     built-is v i.params i.header i.clauses a (subst (Speaks v.line) (e.0 ∙ ap line_statement i.is) sp) (ea ∙ last-stands (cells_in r.cells.items) (named i.header.bound.trait i.header.bound.args) h.bound i.bound)

@@ -8,10 +8,10 @@ use Rattle.std.specs.Str.{bytes_eq}
 use Rattle.text_language.specs.Promised.Syntax.{Params, Line}
 use Rattle.text_language.specs.Uses.{Use, crate_use, name_use, trait_use, lifetime_use, variable_use, misfit_use, items_use, number_use, binder_use, binder_uses, declared_name, params_of}
 use Rattle.text_language.specs.Promised.Faults.{is_among, repeats}
-use Rattle.text_language.specs.Faults.{is_taken_binder, is_unknown_use, is_hidden_use, looking_crate, is_other_sort, is_use_of, is_bad_dyn, passes_in, static_name, is_param, is_hidden_name, is_long, is_in_scope}
+use Rattle.text_language.specs.Faults.{is_taken_binder, is_unknown_use, is_hidden_use, looking_crate, is_other_sort, is_use_of, is_bad_dyn, passes_in, static_name, is_line_param, is_hidden_name, is_long, is_in_scope}
 use Rattle.text_language.specs.Lowering.{place_among}
 use Rattle.text_names.specs.declared.findings.Findings.{Findings}
-use Rattle.text_names.specs.Machine.{Sight, items, params, findings, either}
+use Rattle.text_names.specs.Machine.{Sight, seen_items, params, findings, either}
 use Rattle.text_names.proofs.Uses.{findings-append}
 use Rattle.text_names.specs.LookUps.{place_in, scope_place, is_own_name}
 use Rattle.text_names.specs.Resolved.{static_region, region_of, param_region, bound_region, region_under}
@@ -30,7 +30,7 @@ made a b c d e f g = record { takes_names = a; uses_unknown = b; uses_hidden = c
 
 -- the findings of one use, test by test
 pub one-use : (v : Sight) (u : Use) (a b c d e f g : Bool) → a ≡ is_taken_binder v.line u → b ≡ is_unknown_use v.before v.line u → c ≡ option_map_or (λ k. is_hidden_use v.before v.line k u) (looking_crate v.before v.line) false
-    → d ≡ is_other_sort v.before v.line u → e ≡ option_map_or (λ n. is_use_of n u) (declared_name v.line) false → f ≡ is_bad_dyn (items v) u → g ≡ passes_in u
+    → d ≡ is_other_sort v.before v.line u → e ≡ option_map_or (λ n. is_use_of n u) (declared_name v.line) false → f ≡ is_bad_dyn (seen_items v) u → g ≡ passes_in u
     → made a b c d e f g ≡ findings v (u ∷ [])
 one-use v u a b c d e f g ha hb hc hd he hf hg =
     ap (λ z. made z b c d e f g) (ha ∙ sym (or-false (is_taken_binder v.line u)))
@@ -38,7 +38,7 @@ one-use v u a b c d e f g ha hb hc hd he hf hg =
     ∙ ap (λ z. made (is_taken_binder v.line u || false) (is_unknown_use v.before v.line u || false) z d e f g) (hc ∙ sym (option-or (looking_crate v.before v.line) (λ k. is_hidden_use v.before v.line k u)))
     ∙ ap (λ z. made (findings v (u ∷ [])).takes_names (findings v (u ∷ [])).uses_unknown (findings v (u ∷ [])).uses_hidden z e f g) (hd ∙ sym (or-false (is_other_sort v.before v.line u)))
     ∙ ap (λ z. made (findings v (u ∷ [])).takes_names (findings v (u ∷ [])).uses_unknown (findings v (u ∷ [])).uses_hidden (findings v (u ∷ [])).uses_other_sort z f g) (he ∙ sym (option-or (declared_name v.line) (λ n. is_use_of n u)))
-    ∙ ap (λ z. made (findings v (u ∷ [])).takes_names (findings v (u ∷ [])).uses_unknown (findings v (u ∷ [])).uses_hidden (findings v (u ∷ [])).uses_other_sort (findings v (u ∷ [])).uses_own z g) (hf ∙ sym (or-false (is_bad_dyn (items v) u)))
+    ∙ ap (λ z. made (findings v (u ∷ [])).takes_names (findings v (u ∷ [])).uses_unknown (findings v (u ∷ [])).uses_hidden (findings v (u ∷ [])).uses_other_sort (findings v (u ∷ [])).uses_own z g) (hf ∙ sym (or-false (is_bad_dyn (seen_items v) u)))
     ∙ ap (λ z. made (findings v (u ∷ [])).takes_names (findings v (u ∷ [])).uses_unknown (findings v (u ∷ [])).uses_hidden (findings v (u ∷ [])).uses_other_sort (findings v (u ∷ [])).uses_own (findings v (u ∷ [])).has_bad_dyn z) (hg ∙ sym (or-false (passes_in u)))
 
 pub no-look : (v : Sight) → false ≡ option_map_or (λ k. false) (looking_crate v.before v.line) false
@@ -134,7 +134,7 @@ among-append n (x ∷ xs) ys = by (bytes_eq x n) (among-append n xs ys)
     by false e = e
 
 -- a parameter of either sort
-pub param-by : (l : Line) (n : List ℕ) (o q : Option ℕ) → o ≡ place_in n (params_of l).types → q ≡ place_in n (params_of l).consts → is_some o || is_some q ≡ is_param l n
+pub param-by : (l : Line) (n : List ℕ) (o q : Option ℕ) → o ≡ place_in n (params_of l).types → q ≡ place_in n (params_of l).consts → is_some o || is_some q ≡ is_line_param l n
 param-by l n o q e f =
     ap (λ x. is_some x || is_some q) e ∙ ap (λ b. b || is_some q) (among-place 0 n (params_of l).types) ∙ ap (λ x. is_among n (params_of l).types || is_some x) f
     ∙ ap (λ b. is_among n (params_of l).types || b) (among-place 0 n (params_of l).consts) ∙ sym (among-append n (params_of l).types (params_of l).consts)

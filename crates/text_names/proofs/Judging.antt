@@ -13,7 +13,7 @@ use Rattle.text_language.specs.Promised.Faults.{with_own}
 use Rattle.text_lines.specs.Says.{name_said, params_said, is_said_impl}
 use Rattle.text_lines.specs.Statement.{Statement, param_list, line_statement}
 use Rattle.text_lines.proofs.WhatIsSaid.{name-is-said, params-are-said, tests-agree}
-use Rattle.text_names.specs.Machine.{Sight, items, findings}
+use Rattle.text_names.specs.Machine.{Sight, seen_items, findings}
 use Rattle.text_names.specs.Views.{variable_in}
 use Rattle.text_names.specs.declared.findings.Findings.{Findings}
 use Rattle.text_names.specs.FaultNumbers.{numbered}
@@ -44,13 +44,13 @@ taken-params d l =
     ap (are_taken e) (params-are-said l) ∙ ap (λ ls. names_taken e ls (others_said (param_list p))) (lifetimes-of p) ∙ ap (names_taken e p.lifetimes) (others-of p)
 
 pub taken-is : (v : Sight) (l : Line) (s : Statement) (a : Bool) (f : Findings) → Speaks v.line (line_statement l) → s ≡ line_statement l
-    → a ≡ option_map_or (λ n. is_some (known v.before n)) (name_said s) false || are_taken (items v) (params_said s) → f ≡ line_faults v.before l → a || f.takes_names ≡ faults.takes_names v.before l
+    → a ≡ option_map_or (λ n. is_some (known v.before n)) (name_said s) false || are_taken (seen_items v) (params_said s) → f ≡ line_faults v.before l → a || f.takes_names ≡ faults.takes_names v.before l
 taken-is v l s a f sp es ea ef =
     let d = v.before in
     let t = line_statement l in
     let known_before = λ (o : _). option_map_or (λ n. is_some (known d n)) o false in
     let own : a ≡ faults.declares_taken d l || is_taken_param d l =
-    ea ∙ ap (λ z. known_before (name_said z) || are_taken (items v) (params_said z)) es ∙ ap (λ z. known_before z || are_taken (items v) (params_said t)) (name-is-said l)
+    ea ∙ ap (λ z. known_before (name_said z) || are_taken (seen_items v) (params_said z)) es ∙ ap (λ z. known_before z || are_taken (seen_items v) (params_said t)) (name-is-said l)
     ∙ ap (λ z. known_before (declared_name l) || are_taken z (params_said t)) (same-items v l sp) ∙ ap (λ z. known_before (declared_name l) || z) (taken-params d l) in
     ap (λ z. z || f.takes_names) own ∙ ap (λ z. (faults.declares_taken d l || is_taken_param d l) || z.takes_names) ef ∙ or-front (faults.declares_taken d l) (is_taken_param d l) (line_faults d l).takes_names
 

@@ -10,7 +10,7 @@ use Rattle.text_language.specs.Uses.{crate_use, uses, asked_uses, other_uses, li
 use Rattle.text_lines.specs.LineParts.{part_uses, line_parts, asked_parts, named_crates}
 use Rattle.text_lines.specs.Statement.{line_statement}
 use Rattle.text_lines.proofs.PartsOfLines.{uses-of-parts, asked-of-parts, depth-of-parts}
-use Rattle.text_names.specs.Machine.{Sight, items, findings, either}
+use Rattle.text_names.specs.Machine.{Sight, seen_items, findings, either}
 use Rattle.text_names.specs.Views.{variable_in}
 use Rattle.text_names.proofs.Uses.{findings-append}
 use Rattle.text_names.specs.Found.{uses_of, depth_of}
@@ -43,7 +43,7 @@ line-findings v l found sp is =
     ∙ ap (λ z. either (findings v cs) (either (findings v ps) z)) is.others.faults
     ∙ ap (either (findings v cs)) (sym (findings-append v ps qs)) ∙ sym (findings-append v cs (ps ++ qs))
     ∙ ap (λ z. findings v (cs ++ z)) (sym (uses-together v (asked_parts l) (other_parts l)) ∙ ap (uses_of v) (parts-together l))
-    ∙ ap (findings v) (sym (uses-of-parts (items v) l)) ∙ same-findings v l (uses (items v) l) sp ∙ ap (λ z. findings (sight v.before l) (uses z l)) (same-items v l sp)
+    ∙ ap (findings v) (sym (uses-of-parts (seen_items v) l)) ∙ same-findings v l (uses (seen_items v) l) sp ∙ ap (λ z. findings (sight v.before l) (uses z l)) (same-items v l sp)
 
 -- ---- variables
 asked-before : (d : Declarations) (l : Line) → asked_uses (with_own d l) l ≡ asked_uses d l
@@ -58,7 +58,7 @@ asked-before d (supers_line n) = refl
 
 pub asked-variables : (v : Sight) (l : Line) (found : LineFound) → Speaks v.line (line_statement l) → IsLineFound v l found → map variable_in found.asked.variables.items ≡ variables_in (asked_uses v.before l)
 asked-variables v l found sp is =
-    is.asked.variables ∙ ap variables_in (sym (asked-of-parts (items v) l) ∙ ap (λ z. asked_uses z l) (same-items v l sp) ∙ asked-before v.before l)
+    is.asked.variables ∙ ap variables_in (sym (asked-of-parts (seen_items v) l) ∙ ap (λ z. asked_uses z l) (same-items v l sp) ∙ asked-before v.before l)
 
 no-variables : (ns : List (List ℕ)) → variables_in (map crate_use ns) ≡ []
 no-variables [] = refl
@@ -75,11 +75,11 @@ others-use e (later_line n) = refl
 others-use e (supers_line n) = refl
 
 pub other-variables : (v : Sight) (l : Line) (found : LineFound) → Speaks v.line (line_statement l) → IsLineFound v l found → map variable_in found.others.variables.items ≡ variables_in (other_uses (with_own v.before l) l)
-other-variables v l found sp is = is.others.variables ∙ others-use (items v) l ∙ ap (λ z. variables_in (other_uses z l)) (same-items v l sp)
+other-variables v l found sp is = is.others.variables ∙ others-use (seen_items v) l ∙ ap (λ z. variables_in (other_uses z l)) (same-items v l sp)
 
 -- ---- depth
 pub line-deep : (v : Sight) (l : Line) (found : LineFound) → Speaks v.line (line_statement l) → IsLineFound v l found → found.asked.is_deep || found.others.is_deep ≡ nat_lt depth_limit (line_depth (with_own v.before l) l)
 line-deep v l found sp is =
     ap (λ z. z || found.others.is_deep) is.asked.is_deep ∙ ap (λ z. nat_lt depth_limit (depth_of v (asked_parts l)) || z) is.others.is_deep
     ∙ sym (lt-max depth_limit (depth_of v (asked_parts l)) (depth_of v (other_parts l)))
-    ∙ ap (nat_lt depth_limit) (sym (depth-together v (asked_parts l) (other_parts l)) ∙ ap (depth_of v) (parts-together l) ∙ sym (depth-of-parts (items v) l) ∙ ap (λ z. line_depth z l) (same-items v l sp))
+    ∙ ap (nat_lt depth_limit) (sym (depth-together v (asked_parts l) (other_parts l)) ∙ ap (depth_of v) (parts-together l) ∙ sym (depth-of-parts (seen_items v) l) ∙ ap (λ z. line_depth z l) (same-items v l sp))

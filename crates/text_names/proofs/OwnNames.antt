@@ -5,7 +5,7 @@ use Rattle.std.specs.List.{list_any, flat_map}
 use Rattle.std.specs.Str.{bytes_eq}
 use Rattle.std.proofs.lemmas.List.Folds.{list_any-append}
 use Rattle.type_terms.specs.Promised.Label.{Sort, of_type, of_const, of_lifetime}
-use Rattle.text_language.specs.Promised.Syntax.{TypeTree, of_primitive, never_type, variable_type, named, reference_to, pointer_to, slice_of, array_of, tuple_of, fn_of, fn_to, dyn_of, Types, no_types, and_type, Args, no_args, and_arg, Arg, lifetime_arg, number_arg, type_arg, Item, bound_item, lifetime_item, Items, no_items, and_item, Bound, Line, crate_line, struct_line, trait_line, impl_line, prove_line, refute_line, later_line, supers_line}
+use Rattle.text_language.specs.Promised.Syntax.{TypeTree, of_primitive, never_type, variable_type, named, reference_to, pointer_to, slice_of, array_of, tuple_of, fn_of, fn_to, dyn_of, Types, no_types, and_type, Args, no_args, and_arg, Arg, lifetime_arg, number_arg, type_arg, Item, bound_item, lifetime_item, DynBounds, no_items, and_item, Bound, Line, crate_line, struct_line, trait_line, impl_line, prove_line, refute_line, later_line, supers_line}
 use Rattle.text_language.specs.Promised.Declarations.{Declarations, known}
 use Rattle.text_language.specs.Uses.{Use, trait_use, items_use, binder_uses, lifetime_uses, lifetime_arg_uses, number_arg_uses, length_uses, type_misfits, types_count, args_count, next_kind, other_kinds, kinds_of_struct, kinds_of_trait, type_uses, types_uses, args_uses, arg_uses, item_uses, items_uses, bound_uses, uses}
 use Rattle.text_language.specs.Faults.{is_use_of, bounds_use_own}
@@ -96,7 +96,7 @@ mutual
       (ap (λ x. bytes_eq m n || x) (args-alike args n d e (b ∷ s) (kinds_of_trait (known d m)) (kinds_of_trait (known e m))))
   item-alike (lifetime_item m) n d e s = refl
 
-  items-alike : (is : Items) (n : List ℕ) (d e : Declarations) (s : List (List (List ℕ))) → Alike n (items_uses d s is) (items_uses e s is)
+  items-alike : (is : DynBounds) (n : List ℕ) (d e : Declarations) (s : List (List (List ℕ))) → Alike n (items_uses d s is) (items_uses e s is)
   items-alike no_items n d e s = refl
   items-alike (and_item i is) n d e s = joined n (item_uses d s i) (item_uses e s i) (items_uses d s is) (items_uses e s is) (item-alike i n d e s) (items-alike is n d e s)
 

@@ -3,7 +3,7 @@ use Rattle.std.proofs.Common.{◌≡◌, ℕ, suc, ◌+◌, Bool, true, false, L
 use Rattle.std.specs.Prelude.{if◌then◌else◌}
 use Rattle.type_terms.specs.Promised.Label.{Label, Sort, of_type, of_const, of_lifetime, array, slice, tuple, dynamic, fn_ptr, auto_trait, ref, raw_pointer, principal}
 use Rattle.type_terms.specs.Promised.Trees.{Trees, none, tree, leaf, ◌+++◌}
-use Rattle.text_language.specs.Promised.Syntax.{TypeTree, of_primitive, never_type, variable_type, named, reference_to, pointer_to, slice_of, array_of, tuple_of, fn_of, fn_to, dyn_of, Types, no_types, and_type, Args, no_args, and_arg, Arg, lifetime_arg, number_arg, type_arg, Item, bound_item, lifetime_item, Items, no_items, and_item, Length, number_length, name_length, variable_length}
+use Rattle.text_language.specs.Promised.Syntax.{TypeTree, of_primitive, never_type, variable_type, named, reference_to, pointer_to, slice_of, array_of, tuple_of, fn_of, fn_to, dyn_of, Types, no_types, and_type, Args, no_args, and_arg, Arg, lifetime_arg, number_arg, type_arg, Item, bound_item, lifetime_item, DynBounds, no_items, and_item, Length, number_length, name_length, variable_length}
 use Rattle.text_language.specs.Promised.Declarations.{known}
 use Rattle.text_language.specs.Uses.{next_kind, other_kinds, kinds_of_struct, kinds_of_trait, types_count, args_count}
 use Rattle.text_language.specs.Promised.Faults.{is_among, is_auto_name}
@@ -11,7 +11,7 @@ use Rattle.text_language.specs.Faults.{static_name}
 use Rattle.std.specs.Str.{bytes_eq}
 use Rattle.text_language.specs.Lowering.{Meanings, place_among, trait_number, struct_label, with_auto, autos, type_label, lifetime_under, lifetime_label, optional_lifetime, length_label, auto_leaves, last_lifetime, item_lifetime, type_tree, types_trees, args_trees, arg_tree, item_tree, items_trees}
 use Rattle.text_names.specs.Resolved.{Region, ResolvedCell, node_cell, param_cell, lifetime_cell, reference_cell, region_under, region_of, optional_region, named_cell, length_cell, autos_before, principals_count, principals, item_region, last_region, dyn_before, type_before, types_before, args_before, arg_before, item_before, items_before}
-use Rattle.text_names.specs.Standing.{first_of_sort, region_label, gathered, below, over, trees_behind, standing, CellsStand}
+use Rattle.text_names.specs.Standing.{first_of_sort, written_region_label, gathered, below, over, trees_behind, standing, CellsStand}
 use Rattle.type_terms.proofs.TermBasics.{and-none, assoc}
 
 -- ---- lists of trees
@@ -82,7 +82,7 @@ item_list : Meanings → List (List (List ℕ)) → Item → List Trees
 item_list e s (bound_item b n args) = if is_auto_name e.items n then [] else principal_tree e s b n args ∷ []
 item_list e s (lifetime_item n) = []
 
-items_list : Meanings → List (List (List ℕ)) → Items → List Trees
+items_list : Meanings → List (List (List ℕ)) → DynBounds → List Trees
 items_list e s no_items = []
 items_list e s (and_item i is) = item_list e s i ++ items_list e s is
 
@@ -129,13 +129,13 @@ unfolding item_list principal_tree
 item-length e s (bound_item b n args) k = if-length (is_auto_name e.items n) (principal_tree e s b n args) k
 item-length e s (lifetime_item n) k = let e : 0 + k ≡ k = omega arith in e
 
-items-joined : (e : Meanings) (s : List (List (List ℕ))) (is : Items) → joined (items_list e s is) ≡ items_trees e s is
+items-joined : (e : Meanings) (s : List (List (List ℕ))) (is : DynBounds) → joined (items_list e s is) ≡ items_trees e s is
 unfolding joined items_list
 items-joined e s no_items = refl
 items-joined e s (and_item i is) =
     joined-append (item_list e s i) (items_list e s is) ∙ ap (λ x. x +++ joined (items_list e s is)) (item-joined e s i) ∙ ap (λ o. item_tree e s i +++ o) (items-joined e s is)
 
-items-length : (e : Meanings) (s : List (List (List ℕ))) (is : Items) → length (items_list e s is) ≡ principals e.items is
+items-length : (e : Meanings) (s : List (List (List ℕ))) (is : DynBounds) → length (items_list e s is) ≡ principals e.items is
 unfolding items_list
 items-length e s no_items = refl
 items-length e s (and_item i is) =
@@ -152,26 +152,26 @@ autos-length [] = refl
 autos-length (n ∷ ns) = ap suc (autos-length ns)
 
 -- ---- lifetimes and names
-if-region : (e : Meanings) (b : Bool) (x y : Region) (l m : Label) → region_label e x ≡ l → region_label e y ≡ m → region_label e (if b then x else y) ≡ (if b then l else m)
+if-region : (e : Meanings) (b : Bool) (x y : Region) (l m : Label) → written_region_label e x ≡ l → written_region_label e y ≡ m → written_region_label e (if b then x else y) ≡ (if b then l else m)
 if-region e true x y l m g h = g
 if-region e false x y l m g h = h
 
-under : (e : Meanings) (k : ℕ) (s : List (List (List ℕ))) (n : List ℕ) → region_label e (region_under e.params k s n) ≡ lifetime_under e k s n
+under : (e : Meanings) (k : ℕ) (s : List (List (List ℕ))) (n : List ℕ) → written_region_label e (region_under e.params k s n) ≡ lifetime_under e k s n
 under e k [] n = refl
 under e k (b ∷ s) n = if-region e (is_among n b) _ _ _ _ refl (under e (suc k) s n)
 
-pub at-region : (e : Meanings) (s : List (List (List ℕ))) (n : List ℕ) → region_label e (region_of e.params s n) ≡ lifetime_label e s n
+pub at-region : (e : Meanings) (s : List (List (List ℕ))) (n : List ℕ) → written_region_label e (region_of e.params s n) ≡ lifetime_label e s n
 at-region e s n = if-region e (bytes_eq n static_name) _ _ _ _ refl (under e 0 s n)
 
-pub at-optional : (e : Meanings) (s : List (List (List ℕ))) (l : Option (List ℕ)) → leaf (region_label e (optional_region e.params s l)) ≡ optional_lifetime e s l
+pub at-optional : (e : Meanings) (s : List (List (List ℕ))) (l : Option (List ℕ)) → leaf (written_region_label e (optional_region e.params s l)) ≡ optional_lifetime e s l
 at-optional e s None = refl
 at-optional e s (Some n) = ap leaf (at-region e s n)
 
-at-item-region : (e : Meanings) (s : List (List (List ℕ))) (i : Item) → leaf (region_label e (item_region e.params s i)) ≡ item_lifetime e s i
+at-item-region : (e : Meanings) (s : List (List (List ℕ))) (i : Item) → leaf (written_region_label e (item_region e.params s i)) ≡ item_lifetime e s i
 at-item-region e s (bound_item b n args) = refl
 at-item-region e s (lifetime_item n) = ap leaf (at-region e s n)
 
-at-last : (e : Meanings) (s : List (List (List ℕ))) (i : Item) (is : Items) → leaf (region_label e (last_region e.params s i is)) ≡ last_lifetime e s i is
+at-last : (e : Meanings) (s : List (List (List ℕ))) (i : Item) (is : DynBounds) → leaf (written_region_label e (last_region e.params s i is)) ≡ last_lifetime e s i is
 at-last e s i no_items = at-item-region e s i
 at-last e s i (and_item j is) = at-last e s j is
 
@@ -193,10 +193,10 @@ unfolding push_all autos_list
 at-autos e [] cs S = refl
 at-autos e (n ∷ ns) cs S = at-autos e ns cs (leaf (auto_trait n) ∷ S)
 
-dyn-list : Meanings → List (List (List ℕ)) → Item → Items → List ℕ → List Trees
+dyn-list : Meanings → List (List (List ℕ)) → Item → DynBounds → List ℕ → List Trees
 dyn-list e s i is ns = (item_list e s i ++ items_list e s is) ++ autos_list ns
 
-dyn-joined : (e : Meanings) (s : List (List (List ℕ))) (i : Item) (is : Items) (ns : List ℕ) (y z : Trees) → y ≡ z
+dyn-joined : (e : Meanings) (s : List (List (List ℕ))) (i : Item) (is : DynBounds) (ns : List ℕ) (y z : Trees) → y ≡ z
     → joined (dyn-list e s i is ns) +++ y ≡ item_tree e s i +++ items_trees e s is +++ auto_leaves ns +++ z
 unfolding dyn-list
 dyn-joined e s i is ns y z h =
@@ -208,30 +208,30 @@ dyn-joined e s i is ns y z h =
     ∙ ap (λ x. x +++ (its +++ (au +++ y))) (item-joined e s i) ∙ ap (λ x. item_tree e s i +++ (x +++ (au +++ y))) (items-joined e s is)
     ∙ ap (λ x. item_tree e s i +++ (items_trees e s is +++ (x +++ y))) (autos-joined ns) ∙ ap (λ x. item_tree e s i +++ (items_trees e s is +++ (auto_leaves ns +++ x))) h
 
-dyn-length : (e : Meanings) (s : List (List (List ℕ))) (i : Item) (is : Items) (ns : List ℕ) → length (dyn-list e s i is ns) ≡ principals_count e.items i (principals e.items is) + length ns
+dyn-length : (e : Meanings) (s : List (List (List ℕ))) (i : Item) (is : DynBounds) (ns : List ℕ) → length (dyn-list e s i is ns) ≡ principals_count e.items i (principals e.items is) + length ns
 unfolding dyn-list
 dyn-length e s i is ns =
     length-append (item_list e s i ++ items_list e s is) (autos_list ns)
     ∙ ap (λ k. k + length (autos_list ns)) (length-append (item_list e s i) (items_list e s is) ∙ ap (λ k. length (item_list e s i) + k) (items-length e s is) ∙ item-length e s i (principals e.items is))
     ∙ ap (λ k. principals_count e.items i (principals e.items is) + k) (autos-length ns)
 
-at-dyn-over : (e : Meanings) (s : List (List (List ℕ))) (i : Item) (is : Items) (ns : List ℕ) (r : Region) (z : Trees) (S : List Trees) → leaf (region_label e r) ≡ z
-    → over dynamic (suc (principals_count e.items i (principals e.items is) + length ns)) (leaf (region_label e r) ∷ push_all ((item_list e s i ++ items_list e s is) ++ autos_list ns) S)
+at-dyn-over : (e : Meanings) (s : List (List (List ℕ))) (i : Item) (is : DynBounds) (ns : List ℕ) (r : Region) (z : Trees) (S : List Trees) → leaf (written_region_label e r) ≡ z
+    → over dynamic (suc (principals_count e.items i (principals e.items is) + length ns)) (leaf (written_region_label e r) ∷ push_all ((item_list e s i ++ items_list e s is) ++ autos_list ns) S)
     ≡ tree dynamic (item_tree e s i +++ items_trees e s is +++ auto_leaves ns +++ z) none ∷ S
 unfolding dyn-list
 at-dyn-over e s i is ns r z S h =
-    over-last dynamic (dyn-list e s i is ns) (leaf (region_label e r)) S (principals_count e.items i (principals e.items is) + length ns) (item_tree e s i +++ items_trees e s is +++ auto_leaves ns +++ z) (dyn-length e s i is ns) (dyn-joined e s i is ns (leaf (region_label e r)) z h)
+    over-last dynamic (dyn-list e s i is ns) (leaf (written_region_label e r)) S (principals_count e.items i (principals e.items is) + length ns) (item_tree e s i +++ items_trees e s is +++ auto_leaves ns +++ z) (dyn-length e s i is ns) (dyn-joined e s i is ns (leaf (written_region_label e r)) z h)
 
 -- behind a dyn's autos, its lifetime and itself
-at-dyn : (e : Meanings) (s : List (List (List ℕ))) (i : Item) (is : Items) (ns : List ℕ) (r : Region) (z : Trees) (cs : List ResolvedCell) (S : List Trees) → leaf (region_label e r) ≡ z
+at-dyn : (e : Meanings) (s : List (List (List ℕ))) (i : Item) (is : DynBounds) (ns : List ℕ) (r : Region) (z : Trees) (cs : List ResolvedCell) (S : List Trees) → leaf (written_region_label e r) ≡ z
     → standing e (dyn_before r ns (principals_count e.items i (principals e.items is)) cs) (push_all (item_list e s i ++ items_list e s is) S)
     ≡ standing e cs (tree dynamic (item_tree e s i +++ items_trees e s is +++ auto_leaves ns +++ z) none ∷ S)
 at-dyn e s i is ns r z cs S h =
     let k = principals_count e.items i (principals e.items is) in
     let m : k + (length ns + 1) ≡ suc (k + length ns) = omega arith in
     at-autos e ns (lifetime_cell r ∷ node_cell dynamic (k + (length ns + 1)) ∷ cs) (push_all (item_list e s i ++ items_list e s is) S)
-    ∙ ap (λ j. standing e cs (over dynamic j (leaf (region_label e r) ∷ push_all (autos_list ns) (push_all (item_list e s i ++ items_list e s is) S)))) m
-    ∙ ap (λ P. standing e cs (over dynamic (suc (k + length ns)) (leaf (region_label e r) ∷ P))) (sym (push-append (item_list e s i ++ items_list e s is) (autos_list ns) S))
+    ∙ ap (λ j. standing e cs (over dynamic j (leaf (written_region_label e r) ∷ push_all (autos_list ns) (push_all (item_list e s i ++ items_list e s is) S)))) m
+    ∙ ap (λ P. standing e cs (over dynamic (suc (k + length ns)) (leaf (written_region_label e r) ∷ P))) (sym (push-append (item_list e s i ++ items_list e s is) (autos_list ns) S))
     ∙ ap (standing e cs) (at-dyn-over e s i is ns r z S h)
 
 at-head : (e : Meanings) (s : List (List (List ℕ))) (n : List ℕ) (args : Args) (cs : List ResolvedCell) (S : List Trees)
@@ -313,7 +313,7 @@ mutual
       ]
   at-item e s (lifetime_item n) cs S = refl
 
-  at-items : (e : Meanings) (s : List (List (List ℕ))) (is : Items) (cs : List ResolvedCell) (S : List Trees)
+  at-items : (e : Meanings) (s : List (List (List ℕ))) (is : DynBounds) (cs : List ResolvedCell) (S : List Trees)
       → standing e (items_before e.items e.params s is cs) S ≡ standing e cs (push_all (items_list e s is) S)
   at-items e s no_items cs S = refl
   at-items e s (and_item i is) cs S =

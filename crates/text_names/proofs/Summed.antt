@@ -1,4 +1,4 @@
--- The items of a `dyn`, summed up from the last on.
+-- The seen_items of a `dyn`, summed up from the last on.
 use Rattle.std.proofs.Common.{◌≡◌, ℕ, suc, ◌+◌, ◌<◌, ◌≤◌, Bool, true, false, List, [], ◌∷◌, length, map, take, drop, fold, refl, sym, ap, ◌∙◌, cond, arith, ◌++◌, Some}
 use Rattle.std.specs.Prelude.{if◌then◌else◌, ◌==◌, not, ◌||◌, ◌&&◌, nat_lt, count_by}
 use Rattle.std.specs.List.{list_any}
@@ -11,7 +11,7 @@ use Rattle.text_language.specs.Promised.Faults.{is_auto_name}
 use Rattle.text_language.specs.Faults.{is_bound, is_late, binds_auto, others, has_early_lifetime, is_bad_dyn, passes_in}
 use Rattle.text_language.specs.Lowering.{inserted, trait_number}
 use Rattle.text_language.specs.Uses.{ItemShape, bound_shape, lifetime_shape, dyn_use}
-use Rattle.text_names.specs.Machine.{Sight, items, findings, shape_autos, shape_principals}
+use Rattle.text_names.specs.Machine.{Sight, seen_items, findings, shape_autos, shape_principals}
 use Rattle.text_names.specs.Shapes.{Summary, is_bad, no_items, with_shape, with_auto_trait, with_principal, summary}
 use Rattle.text_names.specs.Back.{parts, parts_above, count_above, shape_of}
 use Rattle.text_names.specs.Steps.{TakesPart}
@@ -158,9 +158,9 @@ bound-none [] = refl
 bound-none (bound_shape b n ∷ is) = let h : 0 < suc (count_by is_bound is) = omega arith in ap (λ k. k == 0) (bound-counted b n is) ∙ not-eq (suc (count_by is_bound is)) 0 h
 bound-none (lifetime_shape ∷ is) = bound-none is
 
-pub one_dyn : (v : Sight) (is : List ItemShape) (x : Summary) (b : Bool) (k : ℕ) → x ≡ summary (items v) is → b ≡ is_bad x → k ≡ x.bounds → made false false false false false b (nat_lt 64 k) ≡ findings v (dyn_use is ∷ [])
+pub one_dyn : (v : Sight) (is : List ItemShape) (x : Summary) (b : Bool) (k : ℕ) → x ≡ summary (seen_items v) is → b ≡ is_bad x → k ≡ x.bounds → made false false false false false b (nat_lt 64 k) ≡ findings v (dyn_use is ∷ [])
 one_dyn v is x b k e f g =
-    let d = items v in
+    let d = seen_items v in
     let y = summary d is in
     let bad : b ≡ is_bad_dyn d (dyn_use is) =
     f ∙ ap is_bad e ∙ ap (λ k. (k == 0) || (y.has_late || (y.binds_auto || y.has_early_lifetime))) (bounds-counted d is)

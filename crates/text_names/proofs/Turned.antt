@@ -1,7 +1,7 @@
 -- The cells that were read, turned round.
 use Rattle.std.proofs.Common.{◌≡◌, ℕ, List, [], ◌∷◌, ◌++◌, length, reverse, refl, sym, ap, ◌∙◌}
 use Rattle.std.proofs.lemmas.List.{reverse-append, length-reverse}
-use Rattle.text_language.specs.Promised.Syntax.{TypeTree, of_primitive, never_type, variable_type, named, reference_to, pointer_to, slice_of, array_of, tuple_of, fn_of, fn_to, dyn_of, Types, no_types, and_type, Args, no_args, and_arg, Arg, lifetime_arg, number_arg, type_arg, Item, bound_item, lifetime_item, Items, no_items, and_item}
+use Rattle.text_language.specs.Promised.Syntax.{TypeTree, of_primitive, never_type, variable_type, named, reference_to, pointer_to, slice_of, array_of, tuple_of, fn_of, fn_to, dyn_of, Types, no_types, and_type, Args, no_args, and_arg, Arg, lifetime_arg, number_arg, type_arg, Item, bound_item, lifetime_item, DynBounds, no_items, and_item}
 use Rattle.text_lines.specs.Cells.{Cell, primitive_cell, never_cell, slice_cell, variable_cell, lifetime_cell, binder_cell, number_cell, named_cell, reference_cell, pointer_cell, array_cell, tuple_cell, dyn_cell, fn_cell, fn_to_cell, bound_cell, binder_onto, type_onto, types_onto, args_onto, arg_onto, item_onto, items_onto}
 use Rattle.text_names.specs.Back.{binder_back, type_back, types_back, args_back, arg_back, item_back, items_back}
 
@@ -65,6 +65,6 @@ mutual
       ∙ ap (λ i. bound_cell n (length (reverse o)) i ∷ args_back args (binder_back b (reverse o))) (inner-turned b o)
   item-turned (lifetime_item n) o = put o (reverse o) (lifetime_cell n) refl
 
-  items-turned : (is : Items) (o : List Cell) → reverse (items_onto is o) ≡ items_back is (reverse o)
+  items-turned : (is : DynBounds) (o : List Cell) → reverse (items_onto is o) ≡ items_back is (reverse o)
   items-turned no_items o = refl
   items-turned (and_item i is) o = items-turned is (item_onto i o) ∙ ap (items_back is) (item-turned i o)

@@ -6,7 +6,7 @@ use Rattle.std.specs.Str.{bytes_eq}
 use Rattle.std.proofs.lemmas.List.{append-nil}
 use Rattle.std.proofs.Math.Seq.{drop-append_seam}
 use Rattle.type_terms.specs.Promised.Label.{Sort, of_type, of_const, of_lifetime}
-use Rattle.text_language.specs.Promised.Syntax.{TypeTree, of_primitive, never_type, variable_type, named, reference_to, pointer_to, slice_of, array_of, tuple_of, fn_of, fn_to, dyn_of, Types, no_types, and_type, Args, no_args, and_arg, Arg, lifetime_arg, number_arg, type_arg, Item, bound_item, lifetime_item, Items, no_items, and_item, number_length, name_length, variable_length}
+use Rattle.text_language.specs.Promised.Syntax.{TypeTree, of_primitive, never_type, variable_type, named, reference_to, pointer_to, slice_of, array_of, tuple_of, fn_of, fn_to, dyn_of, Types, no_types, and_type, Args, no_args, and_arg, Arg, lifetime_arg, number_arg, type_arg, Item, bound_item, lifetime_item, DynBounds, no_items, and_item, number_length, name_length, variable_length}
 use Rattle.text_language.specs.Promised.Declarations.{Declarations, known}
 use Rattle.text_language.specs.Promised.Faults.{is_among}
 use Rattle.text_language.specs.Faults.{is_name_use}
@@ -220,7 +220,7 @@ mutual
       (used-first o (args_onto args q) us (trait_use m (args_count args) ∷ []) (λ n. refl) (used-then o q (args_onto args q) [] us (used-binder b o) (of-args args d (b ∷ s) (kinds_of_trait (known d m)) q))))
   of-item (lifetime_item m) d s o = used-alone o (lifetime_cell m) (item_uses d s (lifetime_item m)) refl (λ n. refl)
 
-  of-items : (is : Items) (d : Declarations) (s : List (List (List ℕ))) (o : List Cell) → Used o (items_onto is o) (items_uses d s is)
+  of-items : (is : DynBounds) (d : Declarations) (s : List (List (List ℕ))) (o : List Cell) → Used o (items_onto is o) (items_uses d s is)
   of-items no_items d s o = used-none o
   of-items (and_item i is) d s o = used-then o (item_onto i o) (items_onto is (item_onto i o)) (item_uses d s i) (items_uses d s is) (of-item i d s o) (of-items is d s (item_onto i o))
 

@@ -9,7 +9,7 @@ use Rattle.text_language.specs.Uses.{Use, crate_use, name_use, trait_use, lifeti
 use Rattle.text_language.specs.Faults.{is_taken_binder, is_unknown_use, is_hidden_use, looking_crate, is_other_sort, is_use_of, is_bad_dyn, passes_in, variables_in}
 use Rattle.text_language.specs.Uses.{declared_name}
 use Rattle.text_names.specs.declared.findings.Findings.{Findings}
-use Rattle.text_names.specs.Machine.{Sight, items, findings, either, Found, using, has_room, deep_in, sinking, deepening, deeper, room_at}
+use Rattle.text_names.specs.Machine.{Sight, seen_items, findings, either, Found, using, has_room, deep_in, sinking, deepening, deeper, room_at}
 use Rattle.type_terms.proofs.BooleanBasics.{or-assoc}
 use Rattle.type_terms.proofs.NumberBasics.{lt-max}
 
@@ -51,7 +51,7 @@ pub findings-append : (v : Sight) (xs ys : List Use) → findings v (xs ++ ys) �
 findings-append v xs ys =
     findings-are (findings v (xs ++ ys)) (either (findings v xs) (findings v ys)) (any-append (is_taken_binder v.line) xs ys) (any-append (is_unknown_use v.before v.line) xs ys)
     (option-any (looking_crate v.before v.line) (is_hidden_use v.before v.line) xs ys) (any-append (is_other_sort v.before v.line) xs ys)
-    (option-any (declared_name v.line) is_use_of xs ys) (any-append (is_bad_dyn (items v)) xs ys) (any-append passes_in xs ys)
+    (option-any (declared_name v.line) is_use_of xs ys) (any-append (is_bad_dyn (seen_items v)) xs ys) (any-append passes_in xs ys)
 
 either-assoc : (x y z : Findings) → either (either x y) z ≡ either x (either y z)
 either-assoc x y z =

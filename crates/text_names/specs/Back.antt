@@ -1,6 +1,6 @@
 -- The cells of a type from the last to the first. A cell comes before its parts.
 use Rattle.std.specs.Prelude.{ℕ, suc, ◌-◌, ◌==◌, not, List, [], ◌∷◌, length, drop, min, nat_le, nat_lt, if◌then◌else◌}
-use Rattle.text_language.specs.Promised.Syntax.{TypeTree, of_primitive, never_type, variable_type, named, reference_to, pointer_to, slice_of, array_of, tuple_of, fn_of, fn_to, dyn_of, Types, no_types, and_type, Args, no_args, and_arg, Arg, lifetime_arg, number_arg, type_arg, Item, bound_item, lifetime_item, Items, no_items, and_item}
+use Rattle.text_language.specs.Promised.Syntax.{TypeTree, of_primitive, never_type, variable_type, named, reference_to, pointer_to, slice_of, array_of, tuple_of, fn_of, fn_to, dyn_of, Types, no_types, and_type, Args, no_args, and_arg, Arg, lifetime_arg, number_arg, type_arg, Item, bound_item, lifetime_item, DynBounds, no_items, and_item}
 use Rattle.text_language.specs.Uses.{ItemShape, bound_shape, lifetime_shape}
 use Rattle.text_lines.specs.Cells.{Cell, primitive_cell, never_cell, slice_cell, variable_cell, lifetime_cell, binder_cell, number_cell, named_cell, reference_cell, pointer_cell, array_cell, tuple_cell, dyn_cell, fn_cell, fn_to_cell, bound_cell}
 
@@ -41,7 +41,7 @@ abbrev mutual
   item_back (bound_item b n args) r = bound_cell n (length r) (length (binder_back b r)) ∷ args_back args (binder_back b r)
   item_back (lifetime_item n) r = lifetime_cell n ∷ r
 
-  pub items_back : Items → List Cell → List Cell
+  pub items_back : DynBounds → List Cell → List Cell
   items_back no_items r = r
   items_back (and_item i is) r = items_back is (item_back i r)
 

@@ -4,12 +4,12 @@ use Rattle.std.specs.List.{flat_map}
 use Rattle.text_language.specs.Faults.{variables_in, depth_limit}
 use Rattle.text_language.specs.Promised.Declarations.{known}
 use Rattle.text_language.specs.Lowering.{trait_number}
-use Rattle.text_language.specs.Uses.{Use, greatest}
+use Rattle.text_language.specs.Uses.{Use, greatest_number}
 use Rattle.text_lines.specs.Cells.{Cell}
 use Rattle.text_lines.specs.LineParts.{LinePart, type_part, bound_part, PartStands, part_uses, part_depth}
 use Rattle.text_lines.specs.Places.{EachOf}
 use Rattle.text_lines.specs.declared.parts.LinePart as places
-use Rattle.text_names.specs.Machine.{Sight, items, findings}
+use Rattle.text_names.specs.Machine.{Sight, seen_items, findings}
 use Rattle.text_names.specs.Resolving.{type_found, bound_found}
 use Rattle.text_names.specs.Views.{resolved_in, variable_in}
 use Rattle.text_names.specs.declared.parts.PartsFound.{PartsFound}
@@ -17,15 +17,15 @@ use Rattle.text_names.specs.declared.parts.ResolvedPart.{ResolvedPart}
 
 -- The uses of these types and bounds.
 abbrev pub uses_of : Sight → List LinePart → List Use
-uses_of v ps = flat_map (part_uses (items v)) ps
+uses_of v ps = flat_map (part_uses (seen_items v)) ps
 
 abbrev pub depth_of : Sight → List LinePart → ℕ
-depth_of v ps = greatest (map (part_depth (items v)) ps)
+depth_of v ps = greatest_number (map (part_depth (seen_items v)) ps)
 
 -- The type resolves to these cells, and the bound to its trait's number and the cells of its arguments.
 abbrev pub Resolves : Sight → LinePart → ResolvedPart → Type 0
 Resolves v (type_part t) r = map resolved_in r.cells.items ≡ (type_found v t).cells
-Resolves v (bound_part b) r = (map resolved_in r.cells.items ≡ (bound_found v b).cells) × (r.trait_number ≡ trait_number (known (items v) b.trait))
+Resolves v (bound_part b) r = (map resolved_in r.cells.items ≡ (bound_found v b).cells) × (r.trait_number ≡ trait_number (known (seen_items v) b.trait))
 
 -- This was found of these types and bounds.
 pub record IsFound (v : Sight) (ps : List LinePart) (found : PartsFound) : Type 0 where

@@ -21,8 +21,8 @@ pub record Sight : Type 0 where
   pub before : Declarations
   pub line : Line
 
-abbrev pub items : Sight → Declarations
-items v = with_own v.before v.line
+abbrev pub seen_items : Sight → Declarations
+seen_items v = with_own v.before v.line
 
 abbrev pub params : Sight → Params
 params v = params_of v.line
@@ -35,7 +35,7 @@ findings v us = record {
   uses_hidden = option_map_or (λ c. list_any (is_hidden_use v.before v.line c) us) (looking_crate v.before v.line) false;
   uses_other_sort = list_any (is_other_sort v.before v.line) us;
   uses_own = option_map_or (λ n. list_any (is_use_of n) us) (declared_name v.line) false;
-  has_bad_dyn = list_any (is_bad_dyn (items v)) us;
+  has_bad_dyn = list_any (is_bad_dyn (seen_items v)) us;
   passes_limit = list_any passes_in us;
 }
 
@@ -144,7 +144,7 @@ is_const_place _ = false
 -- A name where a type or a constant is expected.
 abbrev pub name_cells : Sight → Sort → List ℕ → ℕ → List ResolvedCell → List ResolvedCell
 name_cells v of_const n k cs = const_cell (params v) n ∷ cs
-name_cells v p n k cs = resolved.named_cell (items v) (params v) n k ∷ cs
+name_cells v p n k cs = resolved.named_cell (seen_items v) (params v) n k ∷ cs
 
 abbrev pub leaf_step : Sight → Place → List WalkFrame → List (List (List ℕ)) → Label → List Cell → Found → WalkState
 leaf_step v pl fs s l r a = going fs s r (using v (sort_misfits pl.kind) (deepening pl.room (keeping pl.is_kept (λ cs. resolved.node_cell l 0 ∷ cs) a)))
@@ -157,7 +157,7 @@ abbrev pub named_step : Sight → Place → List WalkFrame → List (List (List 
 named_step v pl fs s n start r a =
     let k = count_above start r in
     going
-    (record { start = start; inner = start; binds = false; holds = args_inside (kinds_of_struct (known (items v) n)) k; room = deeper pl.room; is_kept = pl.is_kept && not (is_const_place pl.kind) } ∷ fs)
+    (record { start = start; inner = start; binds = false; holds = args_inside (kinds_of_struct (known (seen_items v) n)) k; room = deeper pl.room; is_kept = pl.is_kept && not (is_const_place pl.kind) } ∷ fs)
     s r (using v (name_misfits pl.kind ++ name_use pl.kind n k ∷ []) (deepening pl.room (keeping pl.is_kept (name_cells v pl.kind n k) a)))
 
 -- A type with one type inside. The cells are its own.
@@ -221,7 +221,7 @@ dyn_step v pl fs s start r a =
     going
     (record { start = start; inner = start; binds = false; holds = items_inside; room = deeper pl.room; is_kept = pl.is_kept } ∷ fs)
     s r (using v (sort_misfits pl.kind ++ dyn_use is ∷ [])
-    (deepening pl.room (keeping pl.is_kept (dyn_before (last_item_region (params v) s r) (shape_autos (items v) is) (shape_principals (items v) is)) a)))
+    (deepening pl.room (keeping pl.is_kept (dyn_before (last_item_region (params v) s r) (shape_autos (seen_items v) is) (shape_principals (seen_items v) is)) a)))
 
 -- ---- arguments that are no types
 abbrev pub lifetime_step : Sight → Place → List WalkFrame → List (List (List ℕ)) → List ℕ → List Cell → Found → WalkState
@@ -252,10 +252,10 @@ abbrev pub bound_step : Sight → WalkFrame → List WalkFrame → List (List (L
 bound_step v f fs s n start inner r a =
     let b = names_between start inner r in
     let k = count_above inner r in
-    let kept = f.is_kept && not (is_auto_name (items v) n) in
+    let kept = f.is_kept && not (is_auto_name (seen_items v) n) in
     going
-    (record { start = start; inner = inner; binds = true; holds = args_inside (kinds_of_trait (known (items v) n)) k; room = f.room; is_kept = kept } ∷ f ∷ fs)
-    (b ∷ s) r (using v (binder_uses s b ++ trait_use n k ∷ []) (keeping kept (λ cs. resolved.node_cell (principal (length b) (trait_number (known (items v) n))) k ∷ cs) a))
+    (record { start = start; inner = inner; binds = true; holds = args_inside (kinds_of_trait (known (seen_items v) n)) k; room = f.room; is_kept = kept } ∷ f ∷ fs)
+    (b ∷ s) r (using v (binder_uses s b ++ trait_use n k ∷ []) (keeping kept (λ cs. resolved.node_cell (principal (length b) (trait_number (known (seen_items v) n))) k ∷ cs) a))
 
 abbrev pub item_step : Sight → WalkFrame → List WalkFrame → List (List (List ℕ)) → List Cell → Found → WalkState
 item_step v f fs s (bound_cell n start inner ∷ r) a = bound_step v f fs s n start inner r a

@@ -2,7 +2,7 @@
 use Rattle.std.specs.Prelude.{ℕ, suc, ◌+◌, Bool, List, [], ◌∷◌, length, Option, Some, None, if◌then◌else◌}
 use Rattle.std.specs.Str.{bytes_eq}
 use Rattle.type_terms.specs.Promised.Label.{Label, Sort, of_type, of_const, never, array, slice, tuple, dynamic, fn_ptr, auto_trait, value, raw_pointer, principal}
-use Rattle.text_language.specs.Promised.Syntax.{TypeTree, of_primitive, never_type, variable_type, named, reference_to, pointer_to, slice_of, array_of, tuple_of, fn_of, fn_to, dyn_of, Types, no_types, and_type, Args, no_args, and_arg, Arg, lifetime_arg, number_arg, type_arg, Item, bound_item, lifetime_item, Items, no_items, and_item, Length, number_length, name_length, variable_length, Params}
+use Rattle.text_language.specs.Promised.Syntax.{TypeTree, of_primitive, never_type, variable_type, named, reference_to, pointer_to, slice_of, array_of, tuple_of, fn_of, fn_to, dyn_of, Types, no_types, and_type, Args, no_args, and_arg, Arg, lifetime_arg, number_arg, type_arg, Item, bound_item, lifetime_item, DynBounds, no_items, and_item, Length, number_length, name_length, variable_length, Params}
 use Rattle.text_language.specs.Promised.Declarations.{Declarations, known}
 use Rattle.text_language.specs.Uses.{next_kind, other_kinds, kinds_of_struct, kinds_of_trait, types_count, args_count}
 use Rattle.text_language.specs.Promised.Faults.{is_among, is_auto_name}
@@ -62,7 +62,7 @@ abbrev pub principals_count : Declarations → Item → ℕ → ℕ
 principals_count d (bound_item b n args) k = if is_auto_name d n then k else suc k
 principals_count d (lifetime_item n) k = k
 
-abbrev pub principals : Declarations → Items → ℕ
+abbrev pub principals : Declarations → DynBounds → ℕ
 principals d no_items = 0
 principals d (and_item i is) = principals_count d i (principals d is)
 
@@ -70,7 +70,7 @@ abbrev pub item_region : Params → List (List (List ℕ)) → Item → Region
 item_region ps s (bound_item b n args) = static_region
 item_region ps s (lifetime_item n) = region_of ps s n
 
-abbrev pub last_region : Params → List (List (List ℕ)) → Item → Items → Region
+abbrev pub last_region : Params → List (List (List ℕ)) → Item → DynBounds → Region
 last_region ps s i no_items = item_region ps s i
 last_region ps s i (and_item j is) = last_region ps s j is
 
@@ -117,6 +117,6 @@ abbrev mutual
       if is_auto_name d n then cs else args_before d ps (b ∷ s) (kinds_of_trait (known d n)) args (node_cell (principal (length b) (trait_number (known d n))) (args_count args) ∷ cs)
   item_before d ps s (lifetime_item n) cs = cs
 
-  pub items_before : Declarations → Params → List (List (List ℕ)) → Items → List ResolvedCell → List ResolvedCell
+  pub items_before : Declarations → Params → List (List (List ℕ)) → DynBounds → List ResolvedCell → List ResolvedCell
   items_before d ps s no_items cs = cs
   items_before d ps s (and_item i is) cs = item_before d ps s i (items_before d ps s is cs)

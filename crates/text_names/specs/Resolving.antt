@@ -7,7 +7,7 @@ use Rattle.text_language.specs.Faults.{variables_in, depth_limit}
 use Rattle.text_language.specs.Lowering.{trait_number}
 use Rattle.text_language.specs.Uses.{type_uses, type_depth, bound_uses, bound_depth, kinds_of_trait}
 use Rattle.text_lines.specs.Cells.{Cell, type_onto}
-use Rattle.text_names.specs.Machine.{Sight, items, params, findings, Found}
+use Rattle.text_names.specs.Machine.{Sight, seen_items, params, findings, Found}
 use Rattle.text_names.specs.Resolved.{type_before, args_before}
 use Rattle.text_names.specs.Views.{variable_in, resolved_in}
 use Rattle.text_names.specs.declared.resolve.Resolved.{Resolved}
@@ -24,19 +24,19 @@ nothing_found = record {
 -- what the definitions say of a type
 abbrev pub type_found : Sight → TypeTree → Found
 type_found v t = record {
-  faults = findings v (type_uses (items v) [] of_type t);
-  variables = variables_in (type_uses (items v) [] of_type t);
-  is_deep = nat_lt depth_limit (type_depth (items v) t);
-  cells = type_before (items v) (params v) [] of_type t [];
+  faults = findings v (type_uses (seen_items v) [] of_type t);
+  variables = variables_in (type_uses (seen_items v) [] of_type t);
+  is_deep = nat_lt depth_limit (type_depth (seen_items v) t);
+  cells = type_before (seen_items v) (params v) [] of_type t [];
 }
 
 -- What the definitions say of a bound. The cells are those of its arguments.
 abbrev pub bound_found : Sight → Bound → Found
 bound_found v b = record {
-  faults = findings v (bound_uses (items v) b);
-  variables = variables_in (bound_uses (items v) b);
-  is_deep = nat_lt depth_limit (bound_depth (items v) b);
-  cells = args_before (items v) (params v) [] (kinds_of_trait (known (items v) b.trait)) b.args [];
+  faults = findings v (bound_uses (seen_items v) b);
+  variables = variables_in (bound_uses (seen_items v) b);
+  is_deep = nat_lt depth_limit (bound_depth (seen_items v) b);
+  cells = args_before (seen_items v) (params v) [] (kinds_of_trait (known (seen_items v) b.trait)) b.args [];
 }
 
 abbrev pub found_in : Resolved → Found
@@ -49,4 +49,4 @@ ResolvesType v cells r = (t : TypeTree) (before : List Cell) → cells ≡ type_
 -- Whichever bound is the last among the cells, as the type of its name and arguments, this was found of it.
 abbrev pub ResolvesBound : Sight → List Cell → ResolvedBound → Type 0
 ResolvesBound v cells r =
-    (b : Bound) (before : List Cell) → cells ≡ type_onto (named b.trait b.args) before → (found_in r.resolved ≡ bound_found v b) × (r.trait_number ≡ trait_number (known (items v) b.trait))
+    (b : Bound) (before : List Cell) → cells ≡ type_onto (named b.trait b.args) before → (found_in r.resolved ≡ bound_found v b) × (r.trait_number ≡ trait_number (known (seen_items v) b.trait))

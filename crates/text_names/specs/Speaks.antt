@@ -16,13 +16,13 @@ Speaks (supers_line n) (supers_statement m) = n ≡ m
 Speaks _ _ = ⊥
 
 -- the crates that it names
-abbrev pub crates_named : Statement → List (List ℕ)
-crates_named (crate_statement n us) = us
-crates_named (prove_statement c ps k ks) = c ∷ []
-crates_named (refute_statement c ps k) = c ∷ []
-crates_named (later_statement n) = n ∷ []
-crates_named (supers_statement n) = n ∷ []
-crates_named s = []
+abbrev pub crates_mentioned : Statement → List (List ℕ)
+crates_mentioned (crate_statement n us) = us
+crates_mentioned (prove_statement c ps k ks) = c ∷ []
+crates_mentioned (refute_statement c ps k) = c ∷ []
+crates_mentioned (later_statement n) = n ∷ []
+crates_mentioned (supers_statement n) = n ∷ []
+crates_mentioned s = []
 
 abbrev pub is_trait_said : Statement → Bool
 is_trait_said (trait_statement f a n ps ss) = true

@@ -12,10 +12,10 @@ first_of_sort e of_lifetime = e.first
 first_of_sort e of_type = e.first + length e.params.lifetimes
 first_of_sort e of_const = e.first + length e.params.lifetimes + length e.params.types
 
-abbrev pub region_label : Meanings → Region → Label
-region_label e static_region = static
-region_label e (param_region i) = e.parameter of_lifetime (first_of_sort e of_lifetime + i)
-region_label e (bound_region k i) = bound of_lifetime k i
+abbrev pub written_region_label : Meanings → Region → Label
+written_region_label e static_region = static
+written_region_label e (param_region i) = e.parameter of_lifetime (first_of_sort e of_lifetime + i)
+written_region_label e (bound_region k i) = bound of_lifetime k i
 
 -- The k topmost terms, the last of them on top, before others.
 abbrev pub gathered : ℕ → List Trees → Trees → Trees
@@ -41,8 +41,8 @@ abbrev pub trees_behind : Meanings → ResolvedCell → List Trees → List Tree
 trees_behind e (node_cell l k) S = over l k S
 trees_behind e (param_cell p i k) S = over (e.parameter p (first_of_sort e p + i)) k S
 trees_behind e (variable_cell p n) S = leaf (variable_label e p n) ∷ S
-trees_behind e (lifetime_cell r) S = leaf (region_label e r) ∷ S
-trees_behind e (reference_cell r m) S = referring (ref m) (region_label e r) S
+trees_behind e (lifetime_cell r) S = leaf (written_region_label e r) ∷ S
+trees_behind e (reference_cell r m) S = referring (ref m) (written_region_label e r) S
 
 -- the stack after all cells
 abbrev pub standing : Meanings → List ResolvedCell → List Trees → List Trees

@@ -10,7 +10,7 @@ ghost use Rattle.text_lines.specs.TokenViews.{text_of};
 ghost use Rattle.text_lines.specs.TypeViews.{cell_of, cells_in};
 ghost use Rattle.text_lines.specs.Lines.{ReadsLine};
 ghost use Rattle.text_lines.specs.Views.{statement_of};
-ghost use Rattle.text_names.specs.Machine.{items};
+ghost use Rattle.text_names.specs.Machine.{seen_items};
 ghost use Rattle.text_names.specs.UsedNames.{Holds, names_with};
 ghost use Rattle.text_names.specs.Header.{header_said, name_of, last_name, names_own_struct, names_foreign_auto, names_in_header};
 ghost use Rattle.text_names.specs.Speaks.{Speaks};
@@ -56,7 +56,7 @@ fn last_name<'a>(cells: &[Cell<'a>], end: usize) -> Option<&'a [u8]>
 
 /// Whether this is the name of an auto trait.
 fn is_auto<N: Names>(names: &N, name: &[u8]) -> bool
-    ensures { result ≡ is_auto_name (items (N.sight names.now)) name.now }
+    ensures { result ≡ is_auto_name (seen_items (N.sight names.now)) name.now }
 {
     match names.known(name) {
         Some(Known::Trait { is_auto, .. }) => is_auto,
@@ -66,7 +66,7 @@ fn is_auto<N: Names>(names: &N, name: &[u8]) -> bool
 
 /// Whether this is the name of a trait that has built-in rules alone.
 fn is_built_in<N: Names>(names: &N, name: &[u8]) -> bool
-    ensures { result ≡ option_map_or is_built_in (known (items (N.sight names.now)) name.now) false }
+    ensures { result ≡ option_map_or is_built_in (known (seen_items (N.sight names.now)) name.now) false }
 {
     match names.known(name) {
         Some(Known::Trait { id, .. }) => BUILT_IN_TRAITS.contains(&id.index),
@@ -76,7 +76,7 @@ fn is_built_in<N: Names>(names: &N, name: &[u8]) -> bool
 
 /// Whether a declared name is that of a struct of the impl's crate.
 fn is_struct_of_crate<N: LineNames>(names: &N, name: &[u8]) -> bool
-    ensures { result ≡ option_map_or (is_struct_in (impl_owner (N.sight names.now).before)) (known (items (N.sight names.now)) name.now) false }
+    ensures { result ≡ option_map_or (is_struct_in (impl_owner (N.sight names.now).before)) (known (seen_items (N.sight names.now)) name.now) false }
 {
     match names.known(name) {
         Some(Known::Struct { owner, .. }) => owner.index == names.impl_owner().index,
@@ -92,7 +92,7 @@ fn names_own_struct<N: LineNames>(names: &N, name: &[u8]) -> bool
 }
 
 fn is_auto_trait<N: Names>(names: &N, name: Option<&[u8]>) -> bool
-    ensures { result ≡ option_map_or (is_auto_name (items (N.sight names.now))) (option_map text_of name.entry) false }
+    ensures { result ≡ option_map_or (is_auto_name (seen_items (N.sight names.now))) (option_map text_of name.entry) false }
 {
     match name {
         Some(name) => is_auto(names, name),
@@ -101,7 +101,7 @@ fn is_auto_trait<N: Names>(names: &N, name: Option<&[u8]>) -> bool
 }
 
 fn is_built_in_trait<N: Names>(names: &N, name: Option<&[u8]>) -> bool
-    ensures { result ≡ option_map_or (λ n. option_map_or is_built_in (known (items (N.sight names.now)) n) false) (option_map text_of name.entry) false }
+    ensures { result ≡ option_map_or (λ n. option_map_or is_built_in (known (seen_items (N.sight names.now)) n) false) (option_map text_of name.entry) false }
 {
     match name {
         Some(name) => is_built_in(names, name),

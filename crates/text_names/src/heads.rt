@@ -7,7 +7,7 @@ ghost use Rattle.text_language.specs.Promised.Faults.{is_auto_name};
 ghost use Rattle.text_language.specs.Lowering.{place_among, struct_label, trait_number};
 ghost use Rattle.text_lines.specs.TypeViews.{length_of};
 ghost use Rattle.text_names.specs.LookUps.{params_of_sort};
-ghost use Rattle.text_names.specs.Machine.{items, params, name_cells};
+ghost use Rattle.text_names.specs.Machine.{seen_items, params, name_cells};
 ghost use Rattle.text_names.specs.Resolved as resolved;
 ghost use Rattle.text_names.specs.Resolved.{const_cell, length_cell, named_cell};
 ghost use Rattle.workspace.specs.Views.{sort_of_kind, sorts_of, known_of};
@@ -73,8 +73,8 @@ fn type_cell<'a, N: Names>(
     count: usize,
     meaning: Option<Known<'_>>,
 ) -> ResolvedCell<'a>
-    requires { option_map known_of meaning ≡ known (items (N.sight names.now)) name.now }
-    ensures { resolved_in result ≡ named_cell (items (N.sight names.now)) (params (N.sight names.now)) name.now count }
+    requires { option_map known_of meaning ≡ known (seen_items (N.sight names.now)) name.now }
+    ensures { resolved_in result ≡ named_cell (seen_items (N.sight names.now)) (params (N.sight names.now)) name.now count }
 {
     match names.param_place(ParamKind::Type, name) {
         Some(place) => ResolvedCell::Param {
@@ -97,7 +97,7 @@ pub(crate) fn named_cell<'a, N: Names>(
     count: usize,
     meaning: Option<Known<'_>>,
 ) -> ResolvedCell<'a>
-    requires { option_map known_of meaning ≡ known (items (N.sight names.now)) name.now }
+    requires { option_map known_of meaning ≡ known (seen_items (N.sight names.now)) name.now }
     ensures { (cs : List resolved.ResolvedCell) → name_cells (N.sight names.now) (sort_of_kind sort) name.now count cs ≡ resolved_in result ∷ cs }
 {
     match sort {
@@ -140,8 +140,8 @@ pub(crate) fn trait_number(meaning: Option<Known<'_>>) -> usize
 /// Whether this is the name of an auto trait.
 #[tactic(auto, using(crate::proofs::Meanings::auto_by))]
 pub(crate) fn is_auto<N: Names>(names: &N, name: &[u8], meaning: Option<Known<'_>>) -> bool
-    requires { option_map known_of meaning ≡ known (items (N.sight names.now)) name.now }
-    ensures { result ≡ is_auto_name (items (N.sight names.now)) name.now }
+    requires { option_map known_of meaning ≡ known (seen_items (N.sight names.now)) name.now }
+    ensures { result ≡ is_auto_name (seen_items (N.sight names.now)) name.now }
 {
     match meaning {
         Some(Known::Trait { is_auto, .. }) => is_auto,

@@ -8,7 +8,7 @@ ghost use Rattle.text_language.specs.Faults.{is_any, tests, first_of, fault_of};
 ghost use Rattle.text_lines.specs.Lines.{ReadsLine};
 ghost use Rattle.text_lines.specs.Says.{name_said};
 ghost use Rattle.text_lines.specs.Views.{statement_of};
-ghost use Rattle.text_names.specs.Machine.{Sight, items};
+ghost use Rattle.text_names.specs.Machine.{Sight, seen_items};
 ghost use Rattle.text_names.specs.Views.{variable_in};
 ghost use Rattle.text_names.specs.FaultNumbers.{fault_number, numbered};
 ghost use Rattle.text_names.specs.Judged.{fault_in, HandsOn};
@@ -63,7 +63,7 @@ fn takes_names<N: LineNames>(
     alloc: Global,
     statement: &Statement<'_>,
 ) -> Result<bool, AllocError>
-    ensures { IfOk result (λ b. b ≡ takes_said (N.sight names.now).before (items (N.sight names.now)) (statement_of statement.now)) }
+    ensures { IfOk result (λ b. b ≡ takes_said (N.sight names.now).before (seen_items (N.sight names.now)) (statement_of statement.now)) }
 {
     if declares_taken(names, statement) {
         return Ok(true);

@@ -7,14 +7,14 @@ ghost use Rattle.text_lines.specs.TokenViews.{text_of};
 ghost use Rattle.text_lines.specs.TypeViews.{length_of};
 ghost use Rattle.text_language.specs.Tokens.{number_from};
 ghost use Rattle.text_language.specs.Uses.{crate_use, name_use, trait_use, lifetime_use, lifetime_uses, variable_use, misfit_use, items_use, number_use, number_arg_uses, length_uses, binder_uses};
-ghost use Rattle.text_language.specs.Faults.{is_crate, is_unknown_use, is_other_sort, is_param, home_of, is_known_name, is_hidden_name, looking_crate, is_param_of, is_type_of, is_trait_of, is_in_scope, is_long, static_name};
+ghost use Rattle.text_language.specs.Faults.{is_crate, is_unknown_use, is_other_sort, is_line_param, home_of, is_known_name, is_hidden_name, looking_crate, is_param_of, is_type_of, is_trait_of, is_in_scope, is_long, static_name};
 ghost use Rattle.text_language.specs.Promised.Faults.{is_among, repeats};
 ghost use Rattle.text_language.specs.Promised.Declarations.{Known, known};
 ghost use Rattle.text_names.specs.LookUps.{is_hidden_home};
 ghost use Rattle.workspace.specs.Views.{known_of, sort_of_kind};
 ghost use Rattle.text_names.specs.Views.{region_in};
 ghost use Rattle.text_names.specs.Resolved.{region_of, optional_region};
-ghost use Rattle.text_names.specs.Machine.{Sight, findings, items, params, sort_misfits, name_misfits, lifetime_misfits};
+ghost use Rattle.text_names.specs.Machine.{Sight, findings, seen_items, params, sort_misfits, name_misfits, lifetime_misfits};
 
 use crate::binders::{Binders, place_in};
 use crate::findings::Findings;
@@ -194,7 +194,7 @@ pub(crate) fn optional_region<N: Names>(
 
 /// Whether a name is a type or constant parameter of the line.
 pub fn is_param<N: Names>(names: &N, name: &[u8]) -> bool
-    ensures { result ≡ is_param (N.sight names.now).line name.now }
+    ensures { result ≡ is_line_param (N.sight names.now).line name.now }
 {
     if let Some(_) = names.param_place(ParamKind::Type, name) {
         return true;
@@ -228,7 +228,7 @@ fn is_hidden<N: Names>(names: &N, meaning: Option<Known<'_>>) -> bool
 
 /// Whether a name is not declared.
 fn is_unknown<N: Names>(names: &N, name: &[u8], meaning: Option<Known<'_>>) -> bool
-    requires { option_map known_of meaning ≡ known (items (N.sight names.now)) name.now }
+    requires { option_map known_of meaning ≡ known (seen_items (N.sight names.now)) name.now }
     ensures { result ≡ not (is_known_name (N.sight names.now).before (N.sight names.now).line name.now) }
 {
     if is_param(names, name) {
@@ -242,7 +242,7 @@ fn is_unknown<N: Names>(names: &N, name: &[u8], meaning: Option<Known<'_>>) -> b
 
 /// Whether the line's crate does not see what a name stands for, and the name is no parameter.
 fn is_hidden_known<N: Names>(names: &N, name: &[u8], meaning: Option<Known<'_>>) -> bool
-    requires { option_map known_of meaning ≡ known (items (N.sight names.now)) name.now }
+    requires { option_map known_of meaning ≡ known (seen_items (N.sight names.now)) name.now }
     ensures { result ≡ option_map_or (λ c. is_hidden_name (N.sight names.now).before (N.sight names.now).line c name.now)
         (looking_crate (N.sight names.now).before (N.sight names.now).line) false }
 {
@@ -303,7 +303,7 @@ fn is_other_name<N: Names>(
     count: usize,
     meaning: Option<Known<'_>>,
 ) -> bool
-    requires { option_map known_of meaning ≡ known (items (N.sight names.now)) name.now }
+    requires { option_map known_of meaning ≡ known (seen_items (N.sight names.now)) name.now }
     ensures { result ≡ is_other_sort (N.sight names.now).before (N.sight names.now).line (name_use (sort_of_kind sort) name.now count) }
 {
     if is_param(names, name) {
@@ -320,7 +320,7 @@ fn is_other_trait<N: Names>(
     count: usize,
     meaning: Option<Known<'_>>,
 ) -> bool
-    requires { option_map known_of meaning ≡ known (items (N.sight names.now)) name.now }
+    requires { option_map known_of meaning ≡ known (seen_items (N.sight names.now)) name.now }
     ensures { result ≡ is_other_sort (N.sight names.now).before (N.sight names.now).line (trait_use name.now count) }
 {
     if is_param(names, name) {
@@ -338,7 +338,7 @@ pub(crate) fn name<N: Names>(
     count: usize,
     meaning: Option<Known<'_>>,
 ) -> Findings
-    requires { option_map known_of meaning ≡ known (items (N.sight names.now)) name.now }
+    requires { option_map known_of meaning ≡ known (seen_items (N.sight names.now)) name.now }
     ensures { result ≡ findings (N.sight names.now) (name_use (sort_of_kind sort) name.now count ∷ []) }
 {
     Findings {
@@ -358,7 +358,7 @@ pub(crate) fn bound<N: Names>(
     count: usize,
     meaning: Option<Known<'_>>,
 ) -> Findings
-    requires { option_map known_of meaning ≡ known (items (N.sight names.now)) name.now }
+    requires { option_map known_of meaning ≡ known (seen_items (N.sight names.now)) name.now }
     ensures { result ≡ findings (N.sight names.now) (trait_use name.now count ∷ []) }
 {
     Findings {
@@ -382,7 +382,7 @@ fn is_crate(meaning: Option<Known<'_>>) -> bool
 /// What is wrong with the name of a crate, on a line that declares no struct and no trait.
 #[tactic(auto, using(crate::proofs::Judged::one_crate))]
 pub fn crate_name<N: Names>(names: &N, name: &[u8]) -> Findings
-    requires { items (N.sight names.now) ≡ (N.sight names.now).before }
+    requires { seen_items (N.sight names.now) ≡ (N.sight names.now).before }
     ensures { result ≡ findings (N.sight names.now) (crate_use name.now ∷ []) }
 {
     let meaning = names.known(name);

@@ -3,8 +3,8 @@ ghost use Rattle.std.specs.Prelude.{◌≡◌, [], map, IfOk};
 ghost use Rattle.text_lines.specs.TokenViews.{text_of};
 ghost use Rattle.text_language.specs.Uses.{crate_use};
 ghost use Rattle.text_lines.specs.Views.{statement_of};
-ghost use Rattle.text_names.specs.Machine.{Sight, items, findings, either};
-ghost use Rattle.text_names.specs.Speaks.{Speaks, crates_named};
+ghost use Rattle.text_names.specs.Machine.{Sight, seen_items, findings, either};
+ghost use Rattle.text_names.specs.Speaks.{Speaks, crates_mentioned};
 ghost use Rattle.text_names.specs.LineFound.{asked_count, FindsLine};
 
 use crate::findings::Findings;
@@ -27,7 +27,7 @@ pub struct LineFound<'a> {
 
 /// What is wrong with names of crates, on a line that declares no struct and no trait.
 fn crate_names<N: Names>(names: &N, crates: &[&[u8]]) -> Findings
-    requires { items (N.sight names.now) ≡ (N.sight names.now).before }
+    requires { seen_items (N.sight names.now) ≡ (N.sight names.now).before }
     ensures { result ≡ findings (N.sight names.now) (map crate_use (map text_of crates.now)) }
 {
     let mut faults = Findings::NONE;
@@ -47,7 +47,7 @@ fn no_names() -> Findings
 /// What is wrong with the crates that a line names.
 fn named_crates<N: Names>(names: &N, statement: &Statement<'_>) -> Findings
     requires { Speaks (N.sight names.now).line (statement_of statement.now) }
-    ensures { result ≡ findings (N.sight names.now) (map crate_use (crates_named (statement_of statement.now))) }
+    ensures { result ≡ findings (N.sight names.now) (map crate_use (crates_mentioned (statement_of statement.now))) }
 {
     match statement {
         Statement::Crate { uses, .. } => crate_names(names, uses),

@@ -2,7 +2,7 @@
 ghost use Rattle.std.specs.Prelude.{◌≡◌, length};
 ghost use Rattle.std.specs.Option.{option_map};
 ghost use Rattle.text_language.specs.Promised.Declarations.{known};
-ghost use Rattle.text_names.specs.Machine.{Sight, items, params};
+ghost use Rattle.text_names.specs.Machine.{Sight, seen_items, params};
 ghost use Rattle.text_names.specs.LookUps.{is_hidden_home, is_own_name, place_in, params_of_sort};
 ghost use Rattle.workspace.specs.Views.{known_of, sort_of_kind};
 
@@ -17,7 +17,7 @@ pub trait Names {
 
     /// What a name stands for: a crate, a struct or a trait. `None` if it was not declared.
     fn known(&self, name: &[u8]) -> Option<Known<'_>>
-        ensures { option_map known_of result ≡ known (items (sight self.now)) name.now };
+        ensures { option_map known_of result ≡ known (seen_items (sight self.now)) name.now };
 
     /// Whether the crate of the line does not see this crate.
     fn hides(&self, home: CrateId) -> bool

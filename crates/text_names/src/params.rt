@@ -4,7 +4,7 @@ ghost use Rattle.std.specs.List.{list_any};
 ghost use Rattle.text_language.specs.Promised.Declarations.{known};
 ghost use Rattle.text_lines.specs.TokenViews.{text_of};
 ghost use Rattle.text_lines.specs.Views.{param_of, params_in};
-ghost use Rattle.text_names.specs.Machine.{items};
+ghost use Rattle.text_names.specs.Machine.{seen_items};
 ghost use Rattle.text_names.specs.Params.{lifetimes_said, others_said, lifetime_name, other_name, names_taken, are_taken};
 
 use crate::judge_use::{has_static, repeats};
@@ -53,7 +53,7 @@ impl<'a> ParamNames<'a> {
 
 /// Whether one of the names is that of a crate, a struct or a trait.
 fn any_known<N: Names>(names: &N, params: &[&[u8]]) -> bool
-    ensures { result ≡ list_any (λ n. is_some (known (items (N.sight names.now)) n)) (map text_of params.now) }
+    ensures { result ≡ list_any (λ n. is_some (known (seen_items (N.sight names.now)) n)) (map text_of params.now) }
 {
     for name in params {
         if let Some(_) = names.known(name) {
@@ -65,7 +65,7 @@ fn any_known<N: Names>(names: &N, params: &[&[u8]]) -> bool
 
 impl<'a> ParamNames<'a> {
     fn are_taken<N: Names>(&self, names: &N, alloc: Global) -> Result<bool, AllocError>
-        ensures { IfOk result (λ b. b ≡ names_taken (items (N.sight names.now)) (map text_of self.now.lifetimes.items) (map text_of self.now.others.items)) }
+        ensures { IfOk result (λ b. b ≡ names_taken (seen_items (N.sight names.now)) (map text_of self.now.lifetimes.items) (map text_of self.now.others.items)) }
     {
         if repeats(alloc, &self.lifetimes)? {
             return Ok(true);
@@ -86,7 +86,7 @@ pub fn is_taken_param<N: Names>(
     alloc: Global,
     params: &[Param<'_>],
 ) -> Result<bool, AllocError>
-    ensures { IfOk result (λ b. b ≡ are_taken (items (N.sight names.now)) (params_in params.now)) }
+    ensures { IfOk result (λ b. b ≡ are_taken (seen_items (N.sight names.now)) (params_in params.now)) }
 {
     let own = ParamNames::of(alloc, params)?;
     own.are_taken(names, alloc)

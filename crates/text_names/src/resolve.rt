@@ -6,7 +6,7 @@ ghost use Rattle.text_language.specs.Lowering.{trait_number};
 ghost use Rattle.text_lines.specs.Cells as cell;
 ghost use Rattle.text_lines.specs.TypeViews.{cells_in};
 ghost use Rattle.text_names.specs.Back.{args_back};
-ghost use Rattle.text_names.specs.Machine.{items};
+ghost use Rattle.text_names.specs.Machine.{seen_items};
 ghost use Rattle.text_names.specs.WalkViews.{frames_in};
 ghost use Rattle.text_names.specs.Resolving.{ResolvesType, ResolvesBound, nothing_found, bound_found};
 
@@ -75,7 +75,7 @@ fn run_bound<'n, 'c, 'a, N: Names>(
     requires frames { frames_in walk.old.frames.items ≡ [] }
     requires binders { walk.old.binders ≡ [] }
     requires found { walk.old.found ≡ nothing_found }
-    ensures number { IfOk result (λ n. n ≡ trait_number (known (items (N.sight names.now)) name.now)) }
+    ensures number { IfOk result (λ n. n ≡ trait_number (known (seen_items (N.sight names.now)) name.now)) }
     // It holds for each bound, with any cells before it.
     ensures found { OnOk result ((b : Bound) (r : List cell.Cell) → name.now ≡ b.trait → start ≡ length r → walk.old.rest ≡ args_back b.args r
         → walk.new.found ≡ bound_found (N.sight names.now) b) }

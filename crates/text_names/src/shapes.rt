@@ -4,7 +4,7 @@ ghost use Rattle.text_language.specs.Lowering.{inserted};
 ghost use Rattle.text_language.specs.Uses.{dyn_use, ItemShape};
 ghost use Rattle.text_lines.specs.TypeViews.{cell_of};
 ghost use Rattle.text_names.specs.Back.{parts_above, shape_of};
-ghost use Rattle.text_names.specs.Machine.{Sight, dyn_step, findings, items, keeping, last_item_region, params};
+ghost use Rattle.text_names.specs.Machine.{Sight, dyn_step, findings, seen_items, keeping, last_item_region, params};
 ghost use Rattle.text_names.specs.Resolved.{autos_before};
 ghost use Rattle.text_names.specs.Shapes.{dyn_cells, summary, with_shape};
 ghost use Rattle.text_names.specs.Views.{region_in};
@@ -135,7 +135,7 @@ impl Shapes {
     fn add<N: Names>(&mut self, names: &N, cell: Cell<'_>) -> Result<(), AllocError>
         requires bounds { self.old.bounds + 1 < 2 ^ 64 }
         requires principals { self.old.principals + 1 < 2 ^ 64 }
-        ensures { OnOk result (self.new ≡ with_shape (items (N.sight names.now)) (shape_of (cell_of cell.entry)) self.old) }
+        ensures { OnOk result (self.new ≡ with_shape (seen_items (N.sight names.now)) (shape_of (cell_of cell.entry)) self.old) }
     {
         match cell {
             Cell::Bound { name, start, inner } => {
@@ -160,7 +160,7 @@ impl Shapes {
 
     /// What is wrong with them.
     fn faults(&self) -> Findings
-        ensures { (v : Sight) (is : List ItemShape) → self.now ≡ summary (items v) is → result ≡ findings v (dyn_use is ∷ []) }
+        ensures { (v : Sight) (is : List ItemShape) → self.now ≡ summary (seen_items v) is → result ≡ findings v (dyn_use is ∷ []) }
     {
         Findings {
             has_bad_dyn: self.is_bad(),
@@ -207,7 +207,7 @@ impl<'a> Found<'a> {
 impl<'n, 'c, 'a> Walk<'n, 'c, 'a> {
     /// The summary of the `dyn` that begins at this index.
     fn shapes<N: Names>(&self, names: &N, alloc: Global, start: usize) -> Result<Shapes, AllocError>
-        ensures { IfOk result (λ x. x ≡ summary (items (N.sight names.now)) (map shape_of (parts_above start self.now.rest))) }
+        ensures { IfOk result (λ x. x ≡ summary (seen_items (N.sight names.now)) (map shape_of (parts_above start self.now.rest))) }
     {
         let end = self.rest.len();
         let mut rest = self.rest.fork();

@@ -16,7 +16,7 @@ use Rattle.workspace.specs.Views.{cell_of, cells_of}
 use Rattle.workspace.specs.declared.cell.TermCell.{TermCell}
 use Rattle.text_parser.proofs.Each.{Every}
 use Rattle.text_parser.specs.Making.{Makes, label_autos, next_autos, term_of}
-use Rattle.text_parser.specs.Keeping.{pushed, PutsTrees, AddsCells}
+use Rattle.text_parser.specs.Keeping.{pushed_on, PutsTrees, AddsCells}
 use Rattle.text_parser.specs.Numbering.{CellStands}
 use Rattle.text_parser.proofs.Standing.{cells-same, pushed-append, pushed-back}
 
@@ -40,29 +40,29 @@ trees-both (c ∷ a) b S = trees-both a b (behind_cell (cell_of c) S)
 pub keeps-both : (a b : List TermCell) (ts us : List Trees) (xs ys : List StackPart) → PutsTrees a ts xs → PutsTrees b us ys → PutsTrees (a ++ b) (ts ++ us) (xs ++ ys)
 keeps-both a b ts us xs ys h g = record {
   held = held-both a b h.held g.held;
-  trees = λ S. trees-both a b S ∙ ap (behind_cells (cells_of b)) (h.trees S) ∙ g.trees (pushed ts S) ∙ sym (pushed-append ts us S);
-  parts = λ S. parts-both a b S ∙ ap (option_and_then (parts_of b)) (h.parts S) ∙ g.parts (pushed xs S) ∙ ap Some (sym (pushed-append xs ys S));
+  trees = λ S. trees-both a b S ∙ ap (behind_cells (cells_of b)) (h.trees S) ∙ g.trees (pushed_on ts S) ∙ sym (pushed-append ts us S);
+  parts = λ S. parts-both a b S ∙ ap (option_and_then (parts_of b)) (h.parts S) ∙ g.parts (pushed_on xs S) ∙ ap Some (sym (pushed-append xs ys S));
 }
 
 pub keeps-none : PutsTrees [] [] []
 keeps-none = record { held = tt; trees = λ S. refl; parts = λ S. refl }
 
 -- what was added stands for trees behind the others
-pub kept-more : (e : Meanings) (cs : List ResolvedCell) (old new : List TermCell) (us : List Trees) (ys : List StackPart) → AddsCells e cs old new → ((S : List StackPart) → Makes e 0 cs S (pushed ys S)) → ((S : List Trees) → standing e cs S ≡ pushed us S)
+pub kept-more : (e : Meanings) (cs : List ResolvedCell) (old new : List TermCell) (us : List Trees) (ys : List StackPart) → AddsCells e cs old new → ((S : List StackPart) → Makes e 0 cs S (pushed_on ys S)) → ((S : List Trees) → standing e cs S ≡ pushed_on us S)
     → (ts : List Trees) (xs : List StackPart) → PutsTrees old ts xs → PutsTrees new (ts ++ us) (xs ++ ys)
 kept-more e cs old new us ys h makes stands ts xs k =
     subst (λ z. PutsTrees z (ts ++ us) (xs ++ ys)) (sym h.behind)
     (keeps-both old h.added ts us xs ys k (record {
       held = h.held;
-      trees = λ S. ap (λ z. behind_cells z S) (h.cells [] (pushed ys []) (makes [])) ∙ cells-same e cs S ∙ stands S;
-      parts = λ S. h.parts S (pushed ys S) (makes S);
+      trees = λ S. ap (λ z. behind_cells z S) (h.cells [] (pushed_on ys []) (makes [])) ∙ cells-same e cs S ∙ stands S;
+      parts = λ S. h.parts S (pushed_on ys S) (makes S);
     }))
 
 -- ---- made
 and-true : (a b : Bool) → a ≡ true → b ≡ true → a && b ≡ true
 and-true a b h g = ap (λ x. x && b) h ∙ g
 
-all-pushed : (p : StackPart → Bool) (xs S : List StackPart) → Every (λ x. p x ≡ true) xs → list_all p S ≡ true → list_all p (pushed xs S) ≡ true
+all-pushed : (p : StackPart → Bool) (xs S : List StackPart) → Every (λ x. p x ≡ true) xs → list_all p S ≡ true → list_all p (pushed_on xs S) ≡ true
 all-pushed p [] S h g = g
 all-pushed p (x ∷ xs) S h g = all-pushed p xs (x ∷ S) h.1 (and-true (p x) (list_all p S) h.0 g)
 

@@ -41,7 +41,7 @@ use Rattle.workspace.specs.declared.cell.TermCell.{TermCell}
 use Rattle.workspace.specs.declared.cell.TermCell.TheVariants as term
 use Rattle.workspace.specs.declared.declared.ReferenceCells.{ReferenceCells}
 use Rattle.text_parser.proofs.Each.{Every}
-use Rattle.text_parser.specs.Keeping.{pushed, PutsTrees, AddsCells}
+use Rattle.text_parser.specs.Keeping.{pushed_on, PutsTrees, AddsCells}
 use Rattle.text_parser.specs.Kept.{IsSightOf, HasSmallNumbers, NumberingFits, HasSmallPlaces, IsReadAs, IsOfLine, KeepsType, MeansBound, MeansReference}
 use Rattle.text_parser.specs.Laws.{AllOf, ClauseFits}
 use Rattle.text_parser.specs.Meant.{FewNames, UsesMean}
@@ -182,7 +182,7 @@ bound-kept v e f self r adds small l b t o is u k =
     let kept : PutsTrees r.args.items (t ∷ args_list e [] ks b.args) (type_part ∷ arg_kinds ks b.args) =
     kept-more e (args_before e.items e.params [] ks b.args []) self r.args.items (args_list e [] ks b.args) (arg_kinds ks b.args)
     (subst (λ cs. AddsCells e cs self r.args.items) same adds)
-    (λ S. args-make e [] ks b.args [] S (pushed (arg_kinds ks b.args) S) around from.plain all.1 (kinds-pushed ks b.args S))
+    (λ S. args-make e [] ks b.args [] S (pushed_on (arg_kinds ks b.args) S) around from.plain all.1 (kinds-pushed ks b.args S))
     (λ S. args-stand e [] ks b.args [] S) (t ∷ []) (type_part ∷ []) k in
     let trees : joined (trees_of (cells_of r.args.items)) ≡ t +++ args_trees e [] ks b.args = ap joined (kept-trees r.args.items _ _ kept) ∙ ap (λ x. t +++ x) (args-joined e [] ks b.args) in
     (reference-same r (trait_number (known e.items b.trait)) (t +++ args_trees e [] ks b.args) (small fits ∙ number) trees, kept-made is_arg r.args.items _ _ kept (refl, kinds-args ks b.args))

@@ -10,7 +10,7 @@ use Rattle.text_language.specs.Promised.Declarations.{Declarations, kinds_of}
 use Rattle.text_language.specs.Uses.{asked_uses, params_of}
 use Rattle.text_language.specs.Promised.Faults.{with_own}
 use Rattle.text_language.specs.Faults.{fault_of, variables_in, once, param_limit}
-use Rattle.text_language.specs.Lowering.{Meanings, field_trees, clause_reference, with_self}
+use Rattle.text_language.specs.Lowering.{Meanings, field_trees, clause_reference, bound_with_self}
 use Rattle.text_language.specs.Adding.{item_meanings, question_meanings}
 use Rattle.text_lines.proofs.FittingUses.{faultless-limits}
 use Rattle.text_lines.specs.LineParts.{LinePart, type_part, bound_part, clause_parts, header_parts, PartStands, places_in, asked_parts}
@@ -27,7 +27,7 @@ use Rattle.text_names.proofs.LineTests.{asked-variables}
 use Rattle.text_names.proofs.Splitting.{read-split}
 use Rattle.text_names.specs.Found.{Resolves}
 use Rattle.text_names.specs.LineFound.{other_parts, asked_count, IsLineFound}
-use Rattle.text_names.specs.Machine.{Sight, items, params}
+use Rattle.text_names.specs.Machine.{Sight, seen_items, params}
 use Rattle.text_names.specs.Views.{variable_in}
 use Rattle.text_names.specs.declared.line.LineFound.{LineFound}
 use Rattle.text_names.specs.declared.parts.ResolvedPart.{ResolvedPart}
@@ -56,7 +56,7 @@ sight-of d read v l s r = record { items = s.items l r ∙ ap (λ x. with_own x 
 made : Declarations → Params → ℕ → (Sort → ℕ → Label) → List (List ℕ × Sort) → Meanings
 made d ps n p vs = record { items = d; params = ps; first = n; parameter = p; variables = vs }
 
-item-means : (d : Declarations) (v : Sight) (l : Line) (n : ℕ) → items v ≡ with_own d l → params v ≡ params_of l → meanings v (Item n) ≡ item_meanings d l n
+item-means : (d : Declarations) (v : Sight) (l : Line) (n : ℕ) → seen_items v ≡ with_own d l → params v ≡ params_of l → meanings v (Item n) ≡ item_meanings d l n
 unfolding made
 item-means d v l n i p = ap (λ x. made x (params v) n param []) i ∙ ap (λ x. made (with_own d l) x n param []) p
 
@@ -72,7 +72,7 @@ each-with P Q R f (t ∷ ts) (y ∷ ys) (z ∷ zs) p q = (f t y z p.0 q.0, each-
 -- what is known of a line without a fault that was read
 pub record Known (d : Declarations) (read : LineRead) (v : Sight) (l : Line) (found : LineFound) : Type 0 where
   pub before : v.before ≡ d
-  pub items_are : items v ≡ with_own d l
+  pub items_are : seen_items v ≡ with_own d l
   pub params_are : params v ≡ params_of l
   pub sight : IsSightOf v l
   pub none : fault_of d l ≡ None
@@ -123,7 +123,7 @@ bounds-at : (d : Declarations) (read : LineRead) (v : Sight) (l : Line) (found :
 bounds-at d read v (trait_line g b m qs bs) found out known says means =
     let l = trait_line g b m qs bs in
     let h = means l bs known.sight known.others (faultless-parts v.before l (fits-line d read v l found known)) in
-    (h.0 ∙ ap (λ e. map (with_self e (leaf (param of_type 0))) bs) (item-means d v l 1 known.items_are known.params_are), h.1)
+    (h.0 ∙ ap (λ e. map (bound_with_self e (leaf (param of_type 0))) bs) (item-means d v l 1 known.items_are known.params_are), h.1)
 bounds-at d read v l found out known says means = absurd says
 
 pub bounds-are : (d : Declarations) (read : LineRead) (v : Sight) (found : LineFound) (out : List ReferenceCells) → IsSightOfRead d read v → IsFaultless d read → length read.cells.items ≤ 1048576
@@ -175,7 +175,7 @@ clauses-are d read v found b s rest out sight none short finds says same means l
     clauses-at d read v l found b s rest out (line-known d read v found sight none short finds l r) (subst IsImpl r.0 says) same means
 
 -- ---- questions
-question-means : (d : Declarations) (v : Sight) (l : Line) (vs : Bor (List Variable)) → items v ≡ d → params v ≡ params_of l → map variable_in vs.now ≡ once (variables_in (asked_uses d l))
+question-means : (d : Declarations) (v : Sight) (l : Line) (vs : Bor (List Variable)) → seen_items v ≡ d → params v ≡ params_of l → map variable_in vs.now ≡ once (variables_in (asked_uses d l))
     → meanings v (Question vs) ≡ question_meanings d l
 unfolding made
 question-means d v l vs i p e =

@@ -1,7 +1,7 @@
 -- The primitive types among the cells of a line are such.
 use Rattle.std.proofs.Common.{ℕ, List, [], ◌∷◌, ◌++◌, length}
 use Rattle.type_terms.specs.Promised.Label.{Label, bool, char, str, int, uint}
-use Rattle.text_language.specs.Promised.Syntax.{TypeTree, of_primitive, never_type, variable_type, named, reference_to, pointer_to, slice_of, array_of, tuple_of, fn_of, fn_to, dyn_of, Types, no_types, and_type, Args, no_args, and_arg, Arg, lifetime_arg, number_arg, type_arg, Item, bound_item, lifetime_item, Items, no_items, and_item}
+use Rattle.text_language.specs.Promised.Syntax.{TypeTree, of_primitive, never_type, variable_type, named, reference_to, pointer_to, slice_of, array_of, tuple_of, fn_of, fn_to, dyn_of, Types, no_types, and_type, Args, no_args, and_arg, Arg, lifetime_arg, number_arg, type_arg, Item, bound_item, lifetime_item, DynBounds, no_items, and_item}
 use Rattle.text_lines.specs.Cells.{Cell, primitive_cell, never_cell, slice_cell, variable_cell, lifetime_cell, number_cell, named_cell, reference_cell, pointer_cell, array_cell, tuple_cell, dyn_cell, fn_cell, fn_to_cell, bound_cell, binder_onto, binder_cell, type_onto, types_onto, args_onto, arg_onto, item_onto, items_onto}
 
 abbrev pub IsPrimitive : Label → Type 0
@@ -105,6 +105,6 @@ mutual
       (k.0, binder-front b o k.1)
   item-plain (lifetime_item n) o h = (tt, front o (lifetime_cell n) h)
 
-  items-front : (is : Items) (o : List Cell) → PlainCells (items_onto is o) → PlainCells o
+  items-front : (is : DynBounds) (o : List Cell) → PlainCells (items_onto is o) → PlainCells o
   items-front no_items o h = h
   items-front (and_item i is) o h = (item-plain i o (items-front is (item_onto i o) h)).1

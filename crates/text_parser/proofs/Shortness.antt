@@ -3,7 +3,7 @@ use Rattle.std.proofs.Common.{◌≡◌, ℕ, suc, ◌+◌, ◌≤◌, Bool, tru
 use Rattle.std.specs.Prelude.{◌==◌, ◌&&◌}
 use Rattle.text_language.specs.Words.{Sign, comma, open_angle, close_angle, close_square, semicolon, open_round, plus, colon, fundamental_word, struct_word, auto_word, trait_word, impl_word, for_word, where_word, prove_word, refute_word, in_word, fn_word, is_word_byte}
 use Rattle.text_language.specs.Tokens.{Token, keyword, name, sign, LinePiece, word, quoted, queried, pointing, byte, onto, before, pieces, word_token, as_lifetime, as_variable, sign_token, arrow, in_front, tokens_from, tokens_of}
-use Rattle.text_language.specs.Promised.Syntax.{TypeTree, of_primitive, never_type, variable_type, named, reference_to, pointer_to, slice_of, array_of, tuple_of, fn_of, fn_to, dyn_of, Types, no_types, and_type, Args, no_args, and_arg, Arg, lifetime_arg, number_arg, type_arg, Item, bound_item, lifetime_item, Items, no_items, and_item, Bound, Clause, Line, crate_line, struct_line, trait_line, impl_line, prove_line, refute_line, later_line, supers_line}
+use Rattle.text_language.specs.Promised.Syntax.{TypeTree, of_primitive, never_type, variable_type, named, reference_to, pointer_to, slice_of, array_of, tuple_of, fn_of, fn_to, dyn_of, Types, no_types, and_type, Args, no_args, and_arg, Arg, lifetime_arg, number_arg, type_arg, Item, bound_item, lifetime_item, DynBounds, no_items, and_item, Bound, Clause, Line, crate_line, struct_line, trait_line, impl_line, prove_line, refute_line, later_line, supers_line}
 use Rattle.text_language.specs.Syntax.{more_lifetimes, binder_spelling, lifetime_spelling, mut_spelling, length_token, type_spelling, tuple_spelling, second_item, inputs_spelling, more_types, args_spelling, more_args, arg_spelling, item_spelling, more_items, behind, params_spelling, bound_spelling, clause_spelling, bounds_spelling, where_spelling, fields_spelling, if_so, spelling}
 use Rattle.text_language.specs.Written.{IsWritten}
 use Rattle.text_lines.specs.Cells.{Cell, binder_cell, binder_onto, type_onto, types_onto, args_onto, arg_onto, item_onto, items_onto}
@@ -173,7 +173,7 @@ mutual
       (last-more (args_onto args x) x _ (length (args_spelling args)) (args-few args x))
   item-few (lifetime_item n) o = last-more o o _ 0 (omega arith)
 
-  items-few : (is : Items) (o : List Cell) → length (items_onto is o) ≤ length o + length (more_items is)
+  items-few : (is : DynBounds) (o : List Cell) → length (items_onto is o) ≤ length o + length (more_items is)
   items-few no_items o = omega arith
   items-few (and_item i is) o =
       one-more (sign plus) (item_spelling i ++ more_items is) o (items_onto is (item_onto i o))

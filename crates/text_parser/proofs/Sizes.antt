@@ -1,6 +1,6 @@
 -- How many cells a type has.
 use Rattle.std.proofs.Common.{◌≡◌, ℕ, suc, ◌+◌, ◌≤◌, List, [], ◌∷◌, ◌++◌, length, ◌∙◌, arith, length-append}
-use Rattle.text_language.specs.Promised.Syntax.{TypeTree, of_primitive, never_type, variable_type, named, reference_to, pointer_to, slice_of, array_of, tuple_of, fn_of, fn_to, dyn_of, Types, no_types, and_type, Args, no_args, and_arg, Arg, lifetime_arg, number_arg, type_arg, Item, bound_item, lifetime_item, Items, no_items, and_item}
+use Rattle.text_language.specs.Promised.Syntax.{TypeTree, of_primitive, never_type, variable_type, named, reference_to, pointer_to, slice_of, array_of, tuple_of, fn_of, fn_to, dyn_of, Types, no_types, and_type, Args, no_args, and_arg, Arg, lifetime_arg, number_arg, type_arg, Item, bound_item, lifetime_item, DynBounds, no_items, and_item}
 use Rattle.text_language.specs.Uses.{types_count, args_count}
 use Rattle.text_lines.specs.Cells.{Cell, primitive_cell, never_cell, slice_cell, variable_cell, lifetime_cell, number_cell, named_cell, reference_cell, pointer_cell, array_cell, tuple_cell, dyn_cell, fn_cell, fn_to_cell, bound_cell, binder_onto, binder_cell, type_onto, types_onto, args_onto, arg_onto, item_onto, items_onto}
 
@@ -36,7 +36,7 @@ abbrev mutual
   item_size (bound_item b n args) = suc (length b + args_size args)
   item_size (lifetime_item n) = 1
 
-  pub items_size : Items → ℕ
+  pub items_size : DynBounds → ℕ
   items_size no_items = 0
   items_size (and_item i is) = item_size i + items_size is
 
@@ -81,7 +81,7 @@ mutual
   item-length (bound_item b n args) o = omega (arith, one-more (bound_cell n (length o) (length (binder_onto b o))) (args_onto args (binder_onto b o)), args-length args (binder_onto b o), binder-length b o)
   item-length (lifetime_item n) o = omega (arith, one-more (lifetime_cell n) o)
 
-  items-length : (is : Items) (o : List Cell) → length (items_onto is o) ≡ length o + items_size is
+  items-length : (is : DynBounds) (o : List Cell) → length (items_onto is o) ≡ length o + items_size is
   items-length no_items o = omega arith
   items-length (and_item i is) o = omega (arith, items-length is (item_onto i o), item-length i o)
 

@@ -15,7 +15,7 @@ use Rattle.workspace.specs.TermCells as term
 use Rattle.workspace.specs.TermCells.{behind_cell, behind_cells, joined}
 use Rattle.workspace.specs.Made.{StackPart, is_arg}
 use Rattle.text_parser.specs.Making.{term_of}
-use Rattle.text_parser.specs.Keeping.{pushed}
+use Rattle.text_parser.specs.Keeping.{pushed_on}
 use Rattle.text_parser.proofs.Each.{Every}
 use Rattle.text_parser.proofs.Stacks.{arg_part, args_parts, arg-is}
 use Rattle.type_terms.proofs.ListBasics.{rev-cons}
@@ -56,7 +56,7 @@ arg-stands e s p (number_arg n) cs S = refl
 arg-stands e s p (type_arg t) cs S = at-type e s p t cs S
 
 pub args-stand : (e : Meanings) (s : List (List (List ℕ))) (ks : List Sort) (args : Args) (cs : List ResolvedCell) (S : List Trees)
-    → standing e (args_before e.items e.params s ks args cs) S ≡ standing e cs (pushed (args_list e s ks args) S)
+    → standing e (args_before e.items e.params s ks args cs) S ≡ standing e cs (pushed_on (args_list e s ks args) S)
 unfolding args_list
 args-stand e s ks no_args cs S = refl
 args-stand e s ks (and_arg a args) cs S =
@@ -71,7 +71,7 @@ pub arg_kinds : List Sort → Args → List StackPart
 arg_kinds ks no_args = []
 arg_kinds ks (and_arg a args) = arg_part (next_kind ks) a ∷ arg_kinds (other_kinds ks) args
 
-pub kinds-pushed : (ks : List Sort) (args : Args) (S : List StackPart) → args_parts ks args S ≡ pushed (arg_kinds ks args) S
+pub kinds-pushed : (ks : List Sort) (args : Args) (S : List StackPart) → args_parts ks args S ≡ pushed_on (arg_kinds ks args) S
 unfolding arg_kinds
 kinds-pushed ks no_args S = refl
 kinds-pushed ks (and_arg a args) S = kinds-pushed (other_kinds ks) args (arg_part (next_kind ks) a ∷ S)
@@ -81,14 +81,14 @@ unfolding arg_kinds
 kinds-args ks no_args = tt
 kinds-args ks (and_arg a args) = (arg-is (next_kind ks) a, kinds-args (other_kinds ks) args)
 
--- ---- pushed one after the other
-pub pushed-append : {A : Type 0} (xs ys S : List A) → pushed (xs ++ ys) S ≡ pushed ys (pushed xs S)
+-- ---- pushed_on one after the other
+pub pushed-append : {A : Type 0} (xs ys S : List A) → pushed_on (xs ++ ys) S ≡ pushed_on ys (pushed_on xs S)
 pushed-append [] ys S = refl
 pushed-append (x ∷ xs) ys S = pushed-append xs ys (x ∷ S)
 
-pushed-on : {A : Type 0} (xs S : List A) → pushed xs S ≡ reverse xs ++ S
+pushed-on : {A : Type 0} (xs S : List A) → pushed_on xs S ≡ reverse xs ++ S
 pushed-on [] S = refl
 pushed-on (x ∷ xs) S = pushed-on xs (x ∷ S) ∙ sym (append_assoc (reverse xs) (x ∷ []) S) ∙ sym (ap (λ z. z ++ S) (rev-cons x xs))
 
-pub pushed-back : {A : Type 0} (xs : List A) → reverse (pushed xs []) ≡ xs
+pub pushed-back : {A : Type 0} (xs : List A) → reverse (pushed_on xs []) ≡ xs
 pushed-back xs = ap reverse (pushed-on xs [] ∙ append-nil (reverse xs)) ∙ reverse-reverse xs

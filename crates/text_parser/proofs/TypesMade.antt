@@ -7,7 +7,7 @@ use Rattle.std.specs.Str.{bytes_eq}
 use Rattle.type_terms.specs.Promised.Label.{Label, bool, char, str, int, uint, Sort, of_type, of_const, of_lifetime, array, slice, tuple, dynamic, fn_ptr, raw_pointer, principal}
 use Rattle.type_terms.specs.Promised.Trees.{is_sort}
 use Rattle.type_terms.specs.declared.TheConstants.{MAX_INDEX}
-use Rattle.text_language.specs.Promised.Syntax.{TypeTree, of_primitive, never_type, variable_type, named, reference_to, pointer_to, slice_of, array_of, tuple_of, fn_of, fn_to, dyn_of, Types, no_types, and_type, Args, no_args, and_arg, Arg, lifetime_arg, number_arg, type_arg, Item, bound_item, lifetime_item, Items, no_items, and_item, Length, number_length, name_length, variable_length}
+use Rattle.text_language.specs.Promised.Syntax.{TypeTree, of_primitive, never_type, variable_type, named, reference_to, pointer_to, slice_of, array_of, tuple_of, fn_of, fn_to, dyn_of, Types, no_types, and_type, Args, no_args, and_arg, Arg, lifetime_arg, number_arg, type_arg, Item, bound_item, lifetime_item, DynBounds, no_items, and_item, Length, number_length, name_length, variable_length}
 use Rattle.text_language.specs.Promised.Declarations.{Declarations, Known, a_crate, a_struct, a_trait, known}
 use Rattle.text_language.specs.Uses.{Use, items_use, trait_use, next_kind, other_kinds, kinds_of_struct, kinds_of_trait, types_count, args_count, lifetime_uses, length_uses, binder_uses, item_shape, item_shapes, type_uses, types_uses, args_uses, arg_uses, item_uses, items_uses}
 use Rattle.text_language.specs.Promised.Faults.{is_among, is_auto_name}
@@ -84,7 +84,7 @@ item-small : (e : Meanings) (s : List (List (List ℕ))) (n : ℕ) (i : Item) �
 item-small e s n (bound_item b x args) w = tt
 item-small e s n (lifetime_item x) w = region-small e s n x w
 
-last-small : (e : Meanings) (s : List (List (List ℕ))) (n : ℕ) (i : Item) (is : Items) → Around e s n → RegionSmall e (last_region e.params s i is)
+last-small : (e : Meanings) (s : List (List (List ℕ))) (n : ℕ) (i : Item) (is : DynBounds) → Around e s n → RegionSmall e (last_region e.params s i is)
 last-small e s n i no_items w = item-small e s n i w
 last-small e s n i (and_item j is) w = last-small e s n j is w
 
@@ -178,13 +178,13 @@ late-count : (d : Declarations) (i : Item) (k : ℕ) → is_late d (item_shape i
 late-count d (bound_item b n args) k h = ap (λ v. if v then k else suc k) (if-not (is_auto_name d n) h)
 late-count d (lifetime_item n) k h = refl
 
-others-cells : (e : Meanings) (s : List (List (List ℕ))) (is : Items) (cs : List ResolvedCell) → list_any (is_late e.items) (item_shapes is) ≡ false → items_before e.items e.params s is cs ≡ cs
+others-cells : (e : Meanings) (s : List (List (List ℕ))) (is : DynBounds) (cs : List ResolvedCell) → list_any (is_late e.items) (item_shapes is) ≡ false → items_before e.items e.params s is cs ≡ cs
 others-cells e s no_items cs h = refl
 others-cells e s (and_item i is) cs h =
     late-cells e s i (items_before e.items e.params s is cs) (or-first (is_late e.items (item_shape i)) (list_any (is_late e.items) (item_shapes is)) h)
     ∙ others-cells e s is cs (or-second (is_late e.items (item_shape i)) (list_any (is_late e.items) (item_shapes is)) h)
 
-others-count : (d : Declarations) (is : Items) → list_any (is_late d) (item_shapes is) ≡ false → principals d is ≡ 0
+others-count : (d : Declarations) (is : DynBounds) → list_any (is_late d) (item_shapes is) ≡ false → principals d is ≡ 0
 others-count d no_items h = refl
 others-count d (and_item i is) h =
     late-count d i (principals d is) (or-first (is_late d (item_shape i)) (list_any (is_late d) (item_shapes is)) h)
@@ -224,15 +224,15 @@ with-length d (bound_item b n args) ns k h =
     (omega (arith, inserted-length (trait_number (known d n)) ns, h)) (omega (arith, h))
 with-length d (lifetime_item n) ns k h = omega (arith, h)
 
-autos-rise : (d : Declarations) (is : Items) → Rises (autos d is)
+autos-rise : (d : Declarations) (is : DynBounds) → Rises (autos d is)
 autos-rise d no_items = tt
 autos-rise d (and_item i is) = with-rises d i (autos d is) (autos-rise d is)
 
-autos-small : (e : Meanings) (is : Items) → NumbersFit e.items → AllSmall (autos e.items is)
+autos-small : (e : Meanings) (is : DynBounds) → NumbersFit e.items → AllSmall (autos e.items is)
 autos-small e no_items w = tt
 autos-small e (and_item i is) w = with-small e i (autos e.items is) w (autos-small e is w)
 
-autos-length : (d : Declarations) (is : Items) → length (autos d is) ≤ items_size is
+autos-length : (d : Declarations) (is : DynBounds) → length (autos d is) ≤ items_size is
 autos-length d no_items = omega arith
 autos-length d (and_item i is) = with-length d i (autos d is) (items_size is) (autos-length d is)
 

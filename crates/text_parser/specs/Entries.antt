@@ -7,7 +7,7 @@ use Rattle.text_language.specs.Promised.Syntax.{Line, struct_line, trait_line, i
 use Rattle.text_language.specs.Promised.Declarations.{Declarations, known}
 use Rattle.text_language.specs.Uses.{asked_uses}
 use Rattle.text_language.specs.Faults.{variables_in, once}
-use Rattle.text_language.specs.Lowering.{crate_number, field_trees, with_self, clause_reference}
+use Rattle.text_language.specs.Lowering.{crate_number, field_trees, bound_with_self, clause_reference}
 use Rattle.text_language.specs.Adding.{item_meanings, question_meanings}
 use Rattle.text_lines.specs.Lines.{ReadsLine}
 use Rattle.text_lines.specs.Statement.{Param, Statement, struct_statement, trait_statement, impl_statement, prove_statement, refute_statement}
@@ -25,7 +25,7 @@ AreFields d _ fields = Unit {0}
 
 -- The bounds of a trait, for its Self.
 abbrev pub AreBoundsOfLine : Declarations → Line → List Reference → Type 0
-AreBoundsOfLine d (trait_line f a n ps bs) bounds = bounds ≡ map (with_self (item_meanings d (trait_line f a n ps bs) 1) (leaf (param of_type 0))) bs
+AreBoundsOfLine d (trait_line f a n ps bs) bounds = bounds ≡ map (bound_with_self (item_meanings d (trait_line f a n ps bs) 1) (leaf (param of_type 0))) bs
 AreBoundsOfLine d _ bounds = Unit {0}
 
 -- The header of an impl, or the bound of a query.

@@ -10,15 +10,15 @@ use Rattle.workspace.specs.declared.cell.TermCell.{TermCell}
 use Rattle.text_parser.specs.Making.{Makes, term_of}
 
 -- put on a stack one after the other
-abbrev pub pushed : {A : Type 0} → List A → List A → List A
-pushed [] S = S
-pushed (x ∷ xs) S = pushed xs (x ∷ S)
+abbrev pub pushed_on : {A : Type 0} → List A → List A → List A
+pushed_on [] S = S
+pushed_on (x ∷ xs) S = pushed_on xs (x ∷ S)
 
 -- The cells put these terms, of these kinds, on any stack.
 pub record PutsTrees (cs : List TermCell) (ts : List Trees) (xs : List StackPart) : Type 0 where
   pub held : CellsHeld cs
-  pub trees : (S : List Trees) → behind_cells (cells_of cs) S ≡ pushed ts S
-  pub parts : (S : List StackPart) → parts_of cs S ≡ Some (pushed xs S)
+  pub trees : (S : List Trees) → behind_cells (cells_of cs) S ≡ pushed_on ts S
+  pub parts : (S : List StackPart) → parts_of cs S ≡ Some (pushed_on xs S)
 
 -- The cells that are stored for these were appended to others.
 pub record AddsCells (e : Meanings) (cs : List ResolvedCell) (old new : List TermCell) : Type 0 where

@@ -9,7 +9,7 @@ use Rattle.text_language.specs.Promised.Declarations.{kinds_of}
 use Rattle.text_language.specs.Uses.{type_uses, types_uses, params_of}
 use Rattle.text_language.specs.Promised.Faults.{with_own}
 use Rattle.text_language.specs.Faults.{param_limit, variable_limit}
-use Rattle.text_language.specs.Lowering.{Meanings, type_tree, field_trees, with_self, clause_reference}
+use Rattle.text_language.specs.Lowering.{Meanings, type_tree, field_trees, bound_with_self, clause_reference}
 use Rattle.text_lines.specs.Faultless.{UsesFit}
 use Rattle.text_lines.specs.LineParts as line
 use Rattle.text_lines.specs.LineParts.{LinePart, PartStands}
@@ -19,7 +19,7 @@ use Rattle.text_lines.specs.TypeViews.{cells_in}
 use Rattle.text_lines.specs.declared.cell.Cell.{Cell}
 use Rattle.text_lines.specs.declared.parts.LinePart as places
 use Rattle.text_names.specs.Found.{Resolves}
-use Rattle.text_names.specs.Machine.{Sight, items, params}
+use Rattle.text_names.specs.Machine.{Sight, seen_items, params}
 use Rattle.text_names.specs.declared.parts.ResolvedPart.{ResolvedPart}
 use Rattle.workspace.specs.TermCells.{trees_of}
 use Rattle.workspace.specs.Made.{StackPart, AreMade, ReferenceMade, ReferencesMade, type_part, is_type}
@@ -35,17 +35,17 @@ use Rattle.text_parser.specs.declared.numbering.Numbering.TheVariants.{Item, Que
 
 -- The names are looked up in what this line knows.
 pub record IsSightOf (v : Sight) (l : Line) : Type 0 where
-  pub items : items v ≡ with_own v.before l
+  pub seen_items : seen_items v ≡ with_own v.before l
   pub params : params v ≡ params_of l
 
--- A trait's own parameters count from 1, those of other items from 0. A query has few variables.
+-- A trait's own parameters count from 1, those of other seen_items from 0. A query has few variables.
 abbrev pub NumberingFits : Numbering → Type 0
 NumberingFits (Item first) = first ≤ 1
 NumberingFits (Question vs) = length vs.now ≤ variable_limit
 
 -- What the names of the line stand for has small numbers.
 pub record HasSmallNumbers (v : Sight) (n : Numbering) : Type 0 where
-  pub numbers : NumbersFit (items v)
+  pub numbers : NumbersFit (seen_items v)
   pub params : length (kinds_of (params v)) ≤ param_limit
   pub numbering : NumberingFits n
 
@@ -79,13 +79,13 @@ MeansClauses v n rs out =
 abbrev pub MeansBounds : Sight → List ResolvedPart → List ReferenceCells → Type 0
 MeansBounds v rs out =
     (l : Line) (bs : List Bound) → IsSightOf v l → EachOf (IsReadAs v) (map line.bound_part bs) rs → AllOf (BoundFits v.before l) bs
-    → (map reference_of out ≡ map (with_self (meanings v (Item 1)) (leaf (param of_type 0))) bs) × ReferencesMade out
+    → (map reference_of out ≡ map (bound_with_self (meanings v (Item 1)) (leaf (param of_type 0))) bs) × ReferencesMade out
 
 -- ---- one type, and one bound
 -- The line, and what its names stand for.
 pub record IsOfLine (v : Sight) (e : Meanings) (l : Line) : Type 0 where
   pub sight : IsSightOf v l
-  pub items : e.items ≡ items v
+  pub seen_items : e.items ≡ seen_items v
   pub params : e.params ≡ params v
   pub few : FewNames e
   pub numbers : NumbersFit e.items
@@ -100,7 +100,7 @@ KeepsType v e r old new =
 abbrev pub MeansBound : Sight → Meanings → ResolvedPart → (self : List TermCell) → ReferenceCells → Type 0
 MeansBound v e b self r =
     (l : Line) (bound : Bound) (t : Trees) → IsOfLine v e l → IsReadAs v (line.bound_part bound) b → BoundFits v.before l bound → PutsTrees self (t ∷ []) (type_part ∷ [])
-    → (reference_of r ≡ with_self e t bound) × ReferenceMade r
+    → (reference_of r ≡ bound_with_self e t bound) × ReferenceMade r
 
 abbrev pub MeansReference : Sight → Meanings → (subject bound : ResolvedPart) → ReferenceCells → Type 0
 MeansReference v e s b r =

@@ -6,9 +6,9 @@ use Rattle.type_terms.specs.Promised.Trees.{is_sort}
 use Rattle.type_terms.specs.declared.TheConstants.{MAX_INDEX}
 use Rattle.text_language.specs.Lowering.{Meanings, place_among, variable_label}
 use Rattle.text_names.specs.Resolved.{Region, static_region, param_region, bound_region, ResolvedCell, node_cell, param_cell, variable_cell, lifetime_cell, reference_cell}
-use Rattle.text_names.specs.Standing.{first_of_sort, region_label}
+use Rattle.text_names.specs.Standing.{first_of_sort, written_region_label}
 use Rattle.workspace.specs.TermCells as term
-use Rattle.workspace.specs.Made.{StackPart, type_part, const_part, lifetime_part, principal_part, auto_part, is_type, is_const, is_lifetime, is_arg, off, off_autos, off_principal, putting}
+use Rattle.workspace.specs.Made.{StackPart, type_part, const_part, lifetime_part, principal_part, auto_part, is_type, is_const, is_lifetime_on_stack, is_arg, off, off_autos, off_principal, putting}
 
 abbrev pub IsSmall : ℕ → Type 0
 IsSmall n = n < MAX_INDEX
@@ -48,7 +48,7 @@ LabelMakes a (fn_ptr b) k S M = (j : ℕ) × (k ≡ suc j) × IsSmall b × IsSma
 LabelMakes a (adt n) k S M = IsSmall n × IsSmall k × (putting type_part (off is_arg k S) ≡ Some M)
 LabelMakes a (principal b t) k S M = IsSmall b × IsSmall t × IsSmall k × (putting principal_part (off is_arg k S) ≡ Some M)
 LabelMakes a dynamic k S M =
-    (p : Bool) × (k ≡ how_many p + suc a) × IsSmall a × (putting type_part (option_and_then (off_principal p) (option_and_then (off_autos a None) (off is_lifetime 1 S))) ≡ Some M)
+    (p : Bool) × (k ≡ how_many p + suc a) × IsSmall a × (putting type_part (option_and_then (off_principal p) (option_and_then (off_autos a None) (off is_lifetime_on_stack 1 S))) ≡ Some M)
 LabelMakes a _ k S M = ⊥
 
 abbrev pub ParamMakes : Sort → List StackPart → List StackPart → Type 0
@@ -86,5 +86,5 @@ abbrev pub term_of : Meanings → ResolvedCell → term.TermCell
 term_of e (node_cell l k) = term.node_cell l k
 term_of e (param_cell p i k) = term.node_cell (e.parameter p (first_of_sort e p + i)) k
 term_of e (variable_cell p n) = term.node_cell (variable_label e p n) 0
-term_of e (lifetime_cell r) = term.node_cell (region_label e r) 0
-term_of e (reference_cell r m) = term.reference_cell (region_label e r) m
+term_of e (lifetime_cell r) = term.node_cell (written_region_label e r) 0
+term_of e (reference_cell r m) = term.reference_cell (written_region_label e r) m

@@ -5,9 +5,9 @@ use Rattle.type_terms.specs.Promised.Trees.{is_sort}
 use Rattle.type_terms.specs.Promised.Handles as kinds
 use Rattle.type_terms.specs.declared.region.RegionKind.{RegionKind}
 use Rattle.text_language.specs.Lowering.{Meanings}
-use Rattle.text_names.specs.Machine.{Sight, items, params}
+use Rattle.text_names.specs.Machine.{Sight, seen_items, params}
 use Rattle.text_names.specs.Resolved.{Region, ResolvedCell}
-use Rattle.text_names.specs.Standing.{first_of_sort, region_label}
+use Rattle.text_names.specs.Standing.{first_of_sort, written_region_label}
 use Rattle.text_names.specs.Views.{variable_in}
 use Rattle.workspace.specs.TermCells.{node_cell}
 use Rattle.workspace.specs.Made.{StackPart, type_part, parts_behind, CellHeld}
@@ -32,7 +32,7 @@ first_number (Question vs) = 0
 
 -- what the names of a line stand for
 abbrev pub meanings : Sight → Numbering → Meanings
-meanings v n = record { items = items v; params = params v; first = first_number n; parameter = parameter_of n; variables = variables_of n }
+meanings v n = record { items = seen_items v; params = params v; first = first_number n; parameter = parameter_of n; variables = variables_of n }
 
 -- the names of those of this kind
 abbrev pub names_of_sort : Sort → List (List ℕ × Sort) → List (List ℕ)
@@ -60,7 +60,7 @@ abbrev pub LabelStands : (autos : ℕ) → Label → ℕ → TermCell → Type 0
 LabelStands a l k x = (S M : List StackPart) → LabelMakes a l k S M → (parts_behind x S ≡ Some M) × (cell_of x ≡ node_cell l k)
 
 abbrev pub RegionStands : Meanings → Region → RegionKind → Type 0
-RegionStands e r x = RegionSmall e r → kinds.region_label x ≡ region_label e r
+RegionStands e r x = RegionSmall e r → kinds.region_label x ≡ written_region_label e r
 
 -- The cell that is stored for a resolved one, if this finds its parts.
 abbrev pub CellStands : Meanings → (autos : ℕ) → ResolvedCell → TermCell → Type 0

@@ -7,7 +7,7 @@ use Rattle.text_language.specs.Uses.{params_of}
 use Rattle.text_lines.specs.Lines.{ReadsLine}
 use Rattle.text_lines.specs.Views.{statement_of}
 use Rattle.text_lines.specs.declared.statement.LineRead.{LineRead}
-use Rattle.text_names.specs.Machine.{Sight, items, params}
+use Rattle.text_names.specs.Machine.{Sight, seen_items, params}
 use Rattle.text_parser.specs.BareLines.{bare_line}
 use Rattle.text_parser.specs.declared.line_tables.LineTables.{LineTables}
 
@@ -26,5 +26,5 @@ HasReadLine read = (l : Line) × ReadsLine l read
 pub record IsSightOfRead (d : Declarations) (read : LineRead) (v : Sight) : Type 0 where
   pub before : v.before ≡ d
   pub line : v.line ≡ bare_line (statement_of read.statement)
-  pub items : (l : Line) → ReadsLine l read → items v ≡ with_own d l
+  pub seen_items : (l : Line) → ReadsLine l read → seen_items v ≡ with_own d l
   pub params : (l : Line) → ReadsLine l read → params v ≡ params_of l

@@ -8,7 +8,7 @@ use Rattle.type_terms.specs.Promised.Trees.{is_sort}
 use Rattle.std.specs.Fmt.{decimal}
 use Rattle.text_language.specs.Output.{place_in, unknown_text}
 use Rattle.text_language.specs.Promised.Declarations.{Variable}
-use Rattle.text_language.specs.Names.{of_kind, text_at, param_texts}
+use Rattle.text_language.specs.Names.{variables_of_kind, text_at, param_texts}
 use Rattle.workspace.specs.Views.{sort_of_kind, sorted_params, variable_of}
 use Rattle.workspace.specs.declared.declared.Param.{Param}
 use Rattle.type_terms.proofs.NumberBasics.{plus-one as one-up}
@@ -43,7 +43,7 @@ header-called s ps i o e =
     ∙ ap (λ z. option_map_or (λ n. n) z []) (sym (slice_get-map (λ (p : Param). p.name.items) (of_sort s ps) i)) ∙ ap (λ l. text_at l i) (sym (texts-same s ps))
 
 pub question-called : (s : Sort) (vs : List Param) (i : ℕ) (other : List ℕ) (o : Option Param) → o ≡ slice_get (of_sort s vs) i
-    → option_map_or (λ p. codes "?" ++ p.name.items) o other ≡ option_map_or (λ v. codes "?" ++ v.text) (slice_get (of_kind s (map variable_of vs)) i) other
+    → option_map_or (λ p. codes "?" ++ p.name.items) o other ≡ option_map_or (λ v. codes "?" ++ v.text) (slice_get (variables_of_kind s (map variable_of vs)) i) other
 question-called s vs i other o e =
     ap (λ z. option_map_or (λ (p : Param). codes "?" ++ p.name.items) z other) e ∙ read-or variable_of (λ (v : Variable). codes "?" ++ v.text) (slice_get (of_sort s vs) i) other
     ∙ ap (λ z. option_map_or (λ (v : Variable). codes "?" ++ v.text) z other) (sym (slice_get-map variable_of (of_sort s vs) i))
@@ -57,5 +57,5 @@ length-map f [] = refl
 length-map f (x ∷ xs) = ap suc (length-map f xs)
 
 -- as many parameters are of a sort as variables
-pub own-read : (s : Sort) (vs : List Param) → length (of_sort s vs) ≡ length (of_kind s (map variable_of vs))
+pub own-read : (s : Sort) (vs : List Param) → length (of_sort s vs) ≡ length (variables_of_kind s (map variable_of vs))
 own-read s vs = length-map variable_of (of_sort s vs) ∙ ap length (sym (filter-read variable_of (λ (v : Variable). is_sort v.kind s) vs))

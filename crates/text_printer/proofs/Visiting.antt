@@ -7,12 +7,12 @@ use Rattle.type_terms.specs.Promised.Label.{Label, Sort, infer}
 use Rattle.type_terms.specs.Promised.Trees.{Trees, none, tree}
 use Rattle.type_terms.specs.Visits.{Visits, ended, passed, broken, entered, broken_below}
 use Rattle.text_language.specs.Promised.Declarations.{Question}
-use Rattle.text_language.specs.Names.{of_kind, with_free}
+use Rattle.text_language.specs.Names.{variables_of_kind, with_free}
 use Rattle.workspace.specs.Views.{variable_of, question_of}
 use Rattle.workspace.specs.declared.declared.Param.{Param}
 use Rattle.workspace.specs.declared.declared.QuestionEntry.{QuestionEntry}
 use Rattle.text_printer.specs.Called.{unknowns_of}
-use Rattle.text_printer.specs.Listing.{is_unknown, Lists}
+use Rattle.text_printer.specs.Listing.{is_inference_variable, Lists}
 use Rattle.text_printer.specs.declared.free.ListsFree.{ListsFree}
 use Rattle.text_printer.proofs.Called.{of_sort, own-read}
 
@@ -29,7 +29,7 @@ got {A = A} xs i = by (slice_get_cases xs i).1
     by (inl h) = ap is_some h.2 ∙ sym (less-is i (length xs) h.1)
     by (inr h) = ap is_some h.1 ∙ sym (not-less i (length xs) h.0)
 
-pub own : (s : Sort) (vs : List Param) (i : ℕ) (o : Option Param) → o ≡ slice_get (of_sort s vs) i → is_some o ≡ nat_lt i (length (of_kind s (map variable_of vs)))
+pub own : (s : Sort) (vs : List Param) (i : ℕ) (o : Option Param) → o ≡ slice_get (of_sort s vs) i → is_some o ≡ nat_lt i (length (variables_of_kind s (map variable_of vs)))
 own s vs i o e = ap is_some e ∙ got (of_sort s vs) i ∙ ap (nat_lt i) (own-read s vs)
 
 -- ---- a visit
@@ -37,7 +37,7 @@ split : (q : Question) (l : Label) (c o : Trees) (us : List (Sort × ℕ)) → w
 split q (infer s i) c o us = refl
 split q l c o us = refl
 
-split-entered : (q : Question) (l : Label) (c o : Trees) (us : List (Sort × ℕ)) → is_unknown l ≡ false → with_free q (tree l c o) us ≡ with_free q o (with_free q c us)
+split-entered : (q : Question) (l : Label) (c o : Trees) (us : List (Sort × ℕ)) → is_inference_variable l ≡ false → with_free q (tree l c o) us ≡ with_free q o (with_free q c us)
 split-entered q (infer s i) c o us e = cc
 split-entered q l c o us e = refl
 

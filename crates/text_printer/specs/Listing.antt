@@ -10,13 +10,13 @@ use Rattle.workspace.specs.Views.{question_of}
 use Rattle.text_printer.specs.Called.{unknowns_of}
 use Rattle.text_printer.specs.declared.free.ListsFree.{ListsFree}
 
-abbrev pub is_unknown : Label → Bool
-is_unknown (infer s i) = true
-is_unknown _ = false
+abbrev pub is_inference_variable : Label → Bool
+is_inference_variable (infer s i) = true
+is_inference_variable _ = false
 
 abbrev pub is_unknown_root : Trees → Bool
 is_unknown_root none = false
-is_unknown_root (tree l c o) = is_unknown l
+is_unknown_root (tree l c o) = is_inference_variable l
 
 -- It enters each node that is no inference variable, and lists one that it does not enter. It breaks if memory is refused.
 abbrev pub ListsAt : {B : Type 0} → Trees → ListsFree → ListsFree → Seen B → Type 0

@@ -8,8 +8,8 @@ use Rattle.text_printer.specs.Called.{unknowns_of}
 use Rattle.text_printer.specs.declared.question.QuestionNames.{QuestionNames}
 
 -- The names in the values of a query.
-abbrev pub names_of : QuestionNames → output.Names
-names_of n = question_names n.workspace.now (question_of n.question.now) (unknowns_of n.free.now)
+abbrev pub printed_names : QuestionNames → output.Names
+printed_names n = question_names n.workspace.now (question_of n.question.now) (unknowns_of n.free.now)
 
 -- a variable with its value, as text
 abbrev pub text_by : output.Names → Variable × Trees → output.ValueText

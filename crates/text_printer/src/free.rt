@@ -3,7 +3,7 @@ ghost use Rattle.std.specs.Prelude.{◌≡◌, length, nat_lt, OnOk, IfOk, map, 
 ghost use Rattle.type_terms.specs.Promised.Label.{infer};
 ghost use Rattle.type_terms.specs.Promised.Trees.{leaf};
 ghost use Rattle.text_language.specs.Names as names;
-ghost use Rattle.text_language.specs.Names.{of_kind, with_free};
+ghost use Rattle.text_language.specs.Names.{variables_of_kind, with_free};
 ghost use Rattle.text_language.specs.Output.{is_in};
 ghost use Rattle.text_printer.specs.Kinds.{sort_of_kind};
 ghost use Rattle.type_terms.specs.Promised.Handles.{Has, consts, trees_at};
@@ -27,7 +27,7 @@ use workspace::QuestionEntry;
 
 /// Whether an inference variable stands for a variable of the query.
 fn is_own(question: &QuestionEntry, kind: TermKind, index: u32) -> bool
-    ensures { result ≡ nat_lt index (length (of_kind (sort_of_kind kind) (question_of question.now).variables)) }
+    ensures { result ≡ nat_lt index (length (variables_of_kind (sort_of_kind kind) (question_of question.now).variables)) }
 {
     match nth_of_kind(&question.variables, kind, index) {
         Some(_) => true,

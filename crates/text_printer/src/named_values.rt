@@ -6,7 +6,7 @@ ghost use Rattle.text_printer.specs.Answers.{value_of};
 ghost use Rattle.type_terms.specs.Promised.Handles.{arg_trees, ArgHeld, ArgsHeld};
 ghost use Rattle.workspace.specs.Views.{question_of};
 ghost use Rattle.text_printer.specs.Listed.{listed_of, ListHeld};
-ghost use Rattle.text_printer.specs.Valued.{names_of, text_by};
+ghost use Rattle.text_printer.specs.Valued.{printed_names, text_by};
 
 use crate::answer::ValueText;
 use crate::free::free_unknowns;
@@ -26,7 +26,7 @@ fn value_term(
     value: GenericArgKind,
 ) -> Result<Vec<u8>, AllocError>
     requires { ArgHeld cx.now.entries value }
-    ensures { IfOk result (λ text. text.items ≡ type_text (names_of names.now) (arg_trees cx.now.entries value)) }
+    ensures { IfOk result (λ text. text.items ≡ type_text (printed_names names.now) (arg_trees cx.now.entries value)) }
 {
     let mut text = Vec::new(alloc);
     match value {
@@ -50,7 +50,7 @@ fn value_text(
     listed: Listed<'_>,
 ) -> Result<ValueText, AllocError>
     requires { ArgHeld cx.now.entries listed.value }
-    ensures { IfOk result (λ text. value_of text ≡ text_by (names_of names.now) (listed_of cx.now.entries listed.entry)) }
+    ensures { IfOk result (λ text. value_of text ≡ text_by (printed_names names.now) (listed_of cx.now.entries listed.entry)) }
 {
     let mut variable = Vec::new(alloc);
     variable.extend_from_slice(&listed.variable.name)?;
@@ -65,7 +65,7 @@ fn value_texts(
     listed: &[Listed<'_>],
 ) -> Result<Vec<ValueText>, AllocError>
     requires { ListHeld cx.now.entries listed.now }
-    ensures { IfOk result (λ texts. map value_of texts.items ≡ map (text_by (names_of names.now)) (map (listed_of cx.now.entries) listed.now)) }
+    ensures { IfOk result (λ texts. map value_of texts.items ≡ map (text_by (printed_names names.now)) (map (listed_of cx.now.entries) listed.now)) }
 {
     let mut texts = Vec::new(alloc);
     for one in listed {

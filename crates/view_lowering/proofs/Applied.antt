@@ -15,7 +15,7 @@ use Rattle.text_language.specs.Promised.Declarations.{Declarations, NamedTrait, 
 use Rattle.text_language.specs.Uses.{Use, args_count, kinds_of_trait, type_uses, args_uses, arg_uses, bound_uses, params_of}
 use Rattle.text_language.specs.Promised.Faults.{with_own, own_trait, is_among}
 use Rattle.text_language.specs.Faults.{is_use_of, is_trait_of, static_name}
-use Rattle.text_language.specs.Lowering.{Meanings, place_among, type_label, struct_label, lifetime_under, lifetime_label, type_tree, args_trees, arg_tree, with_self}
+use Rattle.text_language.specs.Lowering.{Meanings, place_among, type_label, struct_label, lifetime_under, lifetime_label, type_tree, args_trees, arg_tree, bound_with_self}
 use Rattle.text_language.specs.Adding.{item_meanings}
 use Rattle.view_lowering.proofs.Begins.{is_scalar}
 use Rattle.view_lowering.proofs.Trees.{or-left, or-right}
@@ -150,7 +150,7 @@ as-many (Some (a_struct i h ks)) k e = absurd cc
 as-many None k e = absurd cc
 
 pub bounds-fit : (d : Declarations) (f a : Bool) (n : List ℕ) (ps : Params) (all bs : List Bound) → let l = trait_line f a n ps all in TraitsNumbered d → ScalarBounds bs → AllFit d l (flat_map (bound_uses (with_own d l)) bs)
-    → list_any (is_use_of n) (flat_map (bound_uses d) bs) ≡ false → Each (BoundFits d.traits) (map (with_self (item_meanings d l 1) (leaf (param of_type 0))) bs)
+    → list_any (is_use_of n) (flat_map (bound_uses d) bs) ≡ false → Each (BoundFits d.traits) (map (bound_with_self (item_meanings d l 1) (leaf (param of_type 0))) bs)
 bounds-fit d f a n ps all [] k s h u = tt
 bounds-fit d f a n ps all (b ∷ bs) k s h u =
     let l = trait_line f a n ps all in

@@ -17,11 +17,11 @@ use Rattle.text_language.specs.Declarations.{sorted_names, with_sort}
 use Rattle.text_language.specs.Uses.{Use, variable_use, kinds_of_trait, args_count, type_uses, types_uses, bound_uses, clause_uses, header_uses}
 use Rattle.text_language.specs.Promised.Faults.{with_own, own_trait, is_among, repeats}
 use Rattle.text_language.specs.Faults.{is_any, variables_in, has_free_param, bounds_use_own, is_use_of, is_name_use, is_trait_of}
-use Rattle.text_language.specs.Lowering.{trait_number, type_tree, args_trees, with_self, clause_reference}
+use Rattle.text_language.specs.Lowering.{trait_number, type_tree, args_trees, bound_with_self, clause_reference}
 use Rattle.text_language.specs.Adding.{item_meanings, struct_of, trait_of, impl_of}
 use Rattle.text_lines.specs.Faultless.{UsesFit}
 use Rattle.view_lowering.specs.Promised.SeenWorlds.{all_kept, none_kept, stands_in}
-use Rattle.candidate_model.specs.Candidates.{is_param as is_label_of}
+use Rattle.candidate_model.specs.Candidates.{is_this_param as is_label_of}
 use Rattle.view_lowering.proofs.Tests.{is_good, is_good_struct, is_good_trait, is_good_impl, all_stand}
 use Rattle.view_lowering.proofs.Trees.{good-append, good-param, and, or-left, or-right}
 use Rattle.view_lowering.proofs.Types.{AllFit, first-fit, rest-fit, good-type, good-args}
@@ -98,7 +98,7 @@ known-below d own m k numbered apart h = let t = known-at d own m k numbered apa
 
 bounds-good : (d : Declarations) (f a : Bool) (n : List ℕ) (ps : Params) (all bs : List Bound) → let l = trait_line f a n ps all in TraitsNumbered d → ScalarBounds bs → AllFit d l (flat_map (bound_uses (with_own d l)) bs)
     → list_any (is_use_of n) (flat_map (bound_uses d) bs) ≡ false
-    → list_all (λ (b : Reference). is_good none_kept (of_type ∷ kinds_of ps) b.args && nat_lt b.trait (length d.traits)) (map (with_self (item_meanings d l 1) (leaf (param of_type 0))) bs) ≡ true
+    → list_all (λ (b : Reference). is_good none_kept (of_type ∷ kinds_of ps) b.args && nat_lt b.trait (length d.traits)) (map (bound_with_self (item_meanings d l 1) (leaf (param of_type 0))) bs) ≡ true
 bounds-good d f a n ps all [] k s h u = refl
 bounds-good d f a n ps all (b ∷ bs) k s h u =
     let l = trait_line f a n ps all in

@@ -9,7 +9,7 @@ use Rattle.type_terms.specs.Promised.Label.{Label, Sort, of_lifetime, of_type, o
 use Rattle.type_terms.specs.Promised.Trees.{Trees, none, tree, some_node, is_sort}
 use Rattle.type_terms.specs.Promised.Worlds.{Reference}
 use Rattle.text_language.specs.Promised.Declarations.{NamedImpl}
-use Rattle.candidate_model.specs.Candidates.{is_param}
+use Rattle.candidate_model.specs.Candidates.{is_this_param}
 use Rattle.candidate_model.specs.Declared.{is_otherwise, is_unsorted}
 use Rattle.candidate_model.specs.DeclaredWell.{is_loose}
 use Rattle.view_lowering.specs.Promised.SeenWorlds.{plain_label, plain, plain_reference, plain_impl, all_kept, is_lifetime, stands_in}
@@ -22,7 +22,7 @@ use Rattle.type_terms.proofs.NumberBasics.{zero-first}
 use Rattle.type_terms.proofs.BooleanBasics.{not-true as not-loose}
 
 -- ---- a parameter stands in the plain header as in the header
-label-kept : (s : Sort) (i : ℕ) (l : Label) → is_param s i l ≡ true → is_param s i (plain_label all_kept l) ≡ true
+label-kept : (s : Sort) (i : ℕ) (l : Label) → is_this_param s i l ≡ true → is_this_param s i (plain_label all_kept l) ≡ true
 label-kept s i (param of_lifetime j) h = h
 label-kept s i (param of_type j) h = h
 label-kept s i (param of_const j) h = h
@@ -31,9 +31,9 @@ label-kept s i (fn_ptr n) h = absurd cc
 label-kept s i (principal n t) h = absurd cc
 label-kept s i l h = h
 
-pub still : (s : Sort) (i : ℕ) (t : Trees) → some_node (is_param s i) t ≡ true → some_node (is_param s i) (plain all_kept t) ≡ true
+pub still : (s : Sort) (i : ℕ) (t : Trees) → some_node (is_this_param s i) t ≡ true → some_node (is_this_param s i) (plain all_kept t) ≡ true
 still s i none h = h
-still s i (tree l c o) h = by (is_param s i l) (some_node (is_param s i) c) (some_node (is_param s i) o) (label-kept s i l) (still s i c) (still s i o) h
+still s i (tree l c o) h = by (is_this_param s i l) (some_node (is_this_param s i) c) (some_node (is_this_param s i) o) (label-kept s i l) (still s i c) (still s i o) h
   where
     by : (a b d : Bool) {x y z : Bool} → (a ≡ true → x ≡ true) → (b ≡ true → y ≡ true) → (d ≡ true → z ≡ true) → a || b || d ≡ true → x || y || z ≡ true
     by a b d {x = true} f g k q = refl
@@ -44,11 +44,11 @@ still s i (tree l c o) h = by (is_param s i l) (some_node (is_param s i) c) (som
     by false false true {x = false} {y = false} {z = false} f g k q = k refl
     by false false false {x = false} {y = false} {z = false} f g k q = q
 
-lifetime-param : (i : ℕ) (t : Trees) → some_node (is_lifetime i) t ≡ true → some_node (is_param of_lifetime i) t ≡ true
+lifetime-param : (i : ℕ) (t : Trees) → some_node (is_lifetime i) t ≡ true → some_node (is_this_param of_lifetime i) t ≡ true
 lifetime-param i none h = h
 lifetime-param i (tree l c o) h = by (is_lifetime i l) (some_node (is_lifetime i) c) (some_node (is_lifetime i) o) (label l) (lifetime-param i c) (lifetime-param i o) h
   where
-    label : (m : Label) → is_lifetime i m ≡ true → is_param of_lifetime i m ≡ true
+    label : (m : Label) → is_lifetime i m ≡ true → is_this_param of_lifetime i m ≡ true
     label (param of_lifetime j) q = q
     label (param of_type j) q = absurd cc
     label (param of_const j) q = absurd cc
@@ -64,8 +64,8 @@ lifetime-param i (tree l c o) h = by (is_lifetime i l) (some_node (is_lifetime i
     by false false false {x = false} {y = false} {z = false} f g k q = q
 
 module _ (header : Trees) (sorts : List Sort) (stand : all_stand header 0 sorts ≡ true) where
-  in-header : (s : Sort) (i : ℕ) → (s ≡ of_lifetime → ⊥) → is_bad sorts (param s i) ≡ false → some_node (is_param s i) (plain all_kept header) ≡ true
-  in-header s i n h = still s i header (subst (λ k. some_node (is_param s k) header ≡ true) (zero-first i) (stands-by header 0 sorts s i stand (sort-there sorts s i h) n))
+  in-header : (s : Sort) (i : ℕ) → (s ≡ of_lifetime → ⊥) → is_bad sorts (param s i) ≡ false → some_node (is_this_param s i) (plain all_kept header) ≡ true
+  in-header s i n h = still s i header (subst (λ k. some_node (is_this_param s k) header ≡ true) (zero-first i) (stands-by header 0 sorts s i stand (sort-there sorts s i h) n))
 
   label-tight : (l : Label) → is_bad sorts (plain_label (stands_in header) l) ≡ false → is_loose (plain all_kept header) (plain_label (stands_in header) l) ≡ false
   label-tight (param of_type i) h = not-loose _ (in-header of_type i (λ e. absurd cc) h)

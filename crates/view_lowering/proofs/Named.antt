@@ -13,7 +13,7 @@ use Rattle.type_terms.specs.declared.kinds.ConstKind.{ConstKind}
 use Rattle.type_terms.specs.declared.kinds.ConstKind.TheVariants as consts
 use Rattle.type_terms.specs.declared.number.BoundVarIndexKind.TheVariants as binder
 use Rattle.workspace.specs.TermCells.{TermCell as Cell, node_cell, reference_cell, gathered, below, behind_cell, behind_cells, trees_of, joined}
-use Rattle.workspace.specs.Made.{StackPart, type_part, const_part, lifetime_part, principal_part, auto_part, is_type, is_const, is_lifetime as is_lifetime_part, is_principal, is_arg, is_below, off, off_autos, off_principal, putting, parts_behind, parts_of, AreMade}
+use Rattle.workspace.specs.Made.{StackPart, type_part, const_part, lifetime_part, principal_part, auto_part, is_type, is_const, is_lifetime_on_stack as is_lifetime_part, is_principal, is_arg, is_below, off, off_autos, off_principal, putting, parts_behind, parts_of, AreMade}
 use Rattle.workspace.specs.Views.{cell_of, cells_of}
 use Rattle.workspace.specs.declared.cell.TermCell.{TermCell}
 use Rattle.workspace.specs.declared.cell.TermCell.TheVariants as cells

@@ -11,10 +11,10 @@ use Rattle.text_language.specs.Promised.Syntax.{Params, Line}
 use Rattle.text_language.specs.Promised.Declarations.{Declarations, known, kinds_of}
 use Rattle.text_language.specs.Uses.{Use, crate_use, name_use, trait_use, lifetime_use, binder_use, variable_use, misfit_use, dyn_use, items_use, number_use, params_of}
 use Rattle.text_language.specs.Promised.Faults.{with_own, is_among, repeats}
-use Rattle.text_language.specs.Faults.{is_param, is_param_of, is_type_of, is_name_use}
+use Rattle.text_language.specs.Faults.{is_line_param, is_param_of, is_type_of, is_name_use}
 use Rattle.text_language.specs.Lowering.{place_among}
 use Rattle.text_lines.specs.Faultless.{UseFits}
-use Rattle.candidate_model.specs.Candidates.{is_param as is_label_of}
+use Rattle.candidate_model.specs.Candidates.{is_this_param as is_label_of}
 use Rattle.view_lowering.proofs.Tests.{all_stand}
 use Rattle.view_lowering.proofs.Trees.{and, and-left, or-left, or-right}
 use Rattle.view_lowering.proofs.Types.{AllFit}
@@ -161,8 +161,8 @@ module _ (d : Declarations) (l : Line) (apart : repeats ((params_of l).types ++ 
       by false e q w = w q
 
   -- whose uses are as the sort: of a parameter
-  told : (p s : Sort) (n m : List ℕ) (k : ℕ) → is_param l n ≡ true → bytes_eq m n ≡ true → UseFits d l (name_use s m k) → is_param_of l s n k ≡ true
-  told p s n m k h e f = subst (λ x. is_param_of l s x k ≡ true) (same-names m n e) (by (is_param l m) (subst (λ x. is_param l x ≡ true) (sym (same-names m n e)) h) f)
+  told : (p s : Sort) (n m : List ℕ) (k : ℕ) → is_line_param l n ≡ true → bytes_eq m n ≡ true → UseFits d l (name_use s m k) → is_param_of l s n k ≡ true
+  told p s n m k h e f = subst (λ x. is_param_of l s x k ≡ true) (same-names m n e) (by (is_line_param l m) (subst (λ x. is_line_param l x ≡ true) (sym (same-names m n e)) h) f)
     where
       by : (b : Bool) → b ≡ true → (if b then is_param_of l s m k else option_map_or (is_type_of s k) (known (with_own d l) m) false) ≡ true → is_param_of l s m k ≡ true
       by true q g = g

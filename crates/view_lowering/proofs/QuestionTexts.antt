@@ -20,7 +20,7 @@ use Rattle.text_lines.specs.Faultless.{UsesFit}
 use Rattle.text_lines.proofs.NoFault.{passes-tests}
 use Rattle.text_lines.proofs.FittingUses.{faultless-uses}
 use Rattle.view_lowering.specs.Promised.SeenWorlds.{plain, plain_label, all_kept}
-use Rattle.view_lowering.specs.QuestionVariables.{is_stray, HasVariablesAlone, RefutationsHaveVariablesAlone}
+use Rattle.view_lowering.specs.QuestionVariables.{is_undeclared_variable, HasVariablesAlone, RefutationsHaveVariablesAlone}
 use Rattle.view_lowering.proofs.Applied.{each-more}
 use Rattle.view_lowering.proofs.ScalarTokens.{refute-scalars}
 use Rattle.view_lowering.proofs.Variables.{ArePlaced, are-placed}
@@ -46,7 +46,7 @@ module _ (d : Declarations) (c : List ℕ) (a : Clause) (all : List (List ℕ ×
   uses-in (u ∷ us) h f = ((f.0, tt), uses-in us h f.1)
 
 -- ---- lifetimes change nothing
-label-stray : (ks : List Sort) (l : Label) → is_stray ks (plain_label all_kept l) ≡ is_stray ks l
+label-stray : (ks : List Sort) (l : Label) → is_undeclared_variable ks (plain_label all_kept l) ≡ is_undeclared_variable ks l
 label-stray ks (param of_lifetime i) = refl
 label-stray ks (bound of_lifetime j i) = refl
 label-stray ks (fn_ptr n) = refl
@@ -56,7 +56,7 @@ label-stray ks l = refl
 same-or : (x y z a b e : Bool) → x ≡ a → y ≡ b → z ≡ e → x || y || z ≡ a || b || e
 same-or x y z a b e p q r = cc
 
-plain-stray : (ks : List Sort) (t : Trees) → some_node (is_stray ks) (plain all_kept t) ≡ some_node (is_stray ks) t
+plain-stray : (ks : List Sort) (t : Trees) → some_node (is_undeclared_variable ks) (plain all_kept t) ≡ some_node (is_undeclared_variable ks) t
 plain-stray ks none = refl
 plain-stray ks (tree l c o) = same-or _ _ _ _ _ _ (label-stray ks l) (plain-stray ks c) (plain-stray ks o)
 
@@ -90,7 +90,7 @@ bare-alone d text c a w f =
     let all = variables_in (clause_uses d a) in
     let p = passes-tests d (refute_line c bare a) f in
     let good = good-asked d c a (once all) (refute-scalars text c bare a w) (uses-in d c a all (clause_uses d a) (are-placed all all (λ n q h. h) p.has_asked_variables) (faultless-uses d (refute_line c bare a) f).1) in
-    ap (λ ks. some_node (is_stray ks) (plain all_kept (clause_reference (means d c a (once all)) a).args)) (sym (map-twice (once all)))
+    ap (λ ks. some_node (is_undeclared_variable ks) (plain all_kept (clause_reference (means d c a (once all)) a).args)) (sym (map-twice (once all)))
     ∙ plain-stray (map (λ v. v.1) (once all)) (clause_reference (means d c a (once all)) a).args ∙ good
 
 refute-alone : (d : Declarations) (text : List ℕ) (c : List ℕ) (ps : Params) (a : Clause) → IsWritten text (refute_line c ps a) → fault_of d (refute_line c ps a) ≡ None

@@ -5,7 +5,7 @@ use Rattle.std.specs.Str.{bytes_eq}
 use Rattle.type_terms.specs.Promised.Label.{Label, Sort, of_lifetime, of_type, of_const, bool, char, str, never, array, slice, tuple, dynamic, static, int, uint, adt, fn_ptr, auto_trait, value, ref, raw_pointer, principal, param, placeholder, infer, canonical, bound, predicate}
 use Rattle.type_terms.specs.Promised.Trees.{Trees, none, tree, leaf, ◌+++◌, some_node}
 use Rattle.type_terms.proofs.Fitting.{append-shut, or-no}
-use Rattle.text_language.specs.Promised.Syntax.{TypeTree, of_primitive, never_type, variable_type, named, reference_to, pointer_to, slice_of, array_of, tuple_of, fn_of, fn_to, dyn_of, Types, no_types, and_type, Args, no_args, and_arg, Arg, lifetime_arg, number_arg, type_arg, Item, bound_item, lifetime_item, Items, no_items, and_item, Length, number_length, name_length, variable_length, Params, Clause, Line, refute_line}
+use Rattle.text_language.specs.Promised.Syntax.{TypeTree, of_primitive, never_type, variable_type, named, reference_to, pointer_to, slice_of, array_of, tuple_of, fn_of, fn_to, dyn_of, Types, no_types, and_type, Args, no_args, and_arg, Arg, lifetime_arg, number_arg, type_arg, Item, bound_item, lifetime_item, DynBounds, no_items, and_item, Length, number_length, name_length, variable_length, Params, Clause, Line, refute_line}
 use Rattle.text_language.specs.Promised.Declarations.{Declarations, Known, a_crate, a_struct, a_trait, known}
 use Rattle.text_language.specs.Uses.{Use, trait_use, variable_use, name_use, items_use, args_count, types_count, kinds_of_struct, kinds_of_trait, next_kind, other_kinds, length_uses, lifetime_uses, binder_uses, type_uses, types_uses, args_uses, arg_uses, item_uses, items_uses, bound_uses, clause_uses}
 use Rattle.text_language.specs.Promised.Faults.{is_among, is_auto_name}
@@ -13,7 +13,7 @@ use Rattle.text_language.specs.Faults.{is_type_of, static_name}
 use Rattle.text_language.specs.Lowering.{Meanings, place_among, variable_label, lifetime_under, lifetime_label, optional_lifetime, length_label, struct_label, trait_number, auto_leaves, autos, with_auto, item_lifetime, last_lifetime, type_tree, types_trees, args_trees, arg_tree, item_tree, items_trees, clause_reference}
 use Rattle.text_lines.specs.Faultless.{UseFits}
 use Rattle.view_lowering.proofs.Begins.{is_scalar}
-use Rattle.view_lowering.specs.QuestionVariables.{is_stray}
+use Rattle.view_lowering.specs.QuestionVariables.{is_undeclared_variable}
 use Rattle.view_lowering.proofs.Scalars.{Scalars, ScalarTypes, ScalarArgs, ScalarArg, ScalarItem, ScalarItems}
 use Rattle.view_lowering.proofs.ScalarTokens.{ScalarClause}
 
@@ -32,12 +32,12 @@ module _ (d : Declarations) (c : List ℕ) (a : Clause) (vars : List (List ℕ �
   kinds = map (λ v. v.1) vars
 
   abbrev pub Good : Trees → Type 0
-  Good t = some_node (is_stray kinds) t ≡ false
+  Good t = some_node (is_undeclared_variable kinds) t ≡ false
 
   -- a variable that is a type or a constant has its place
   abbrev pub HasPlace : Use → Type 0
-  HasPlace (variable_use of_type n) = is_stray kinds (variable_label means of_type n) ≡ false
-  HasPlace (variable_use of_const n) = is_stray kinds (variable_label means of_const n) ≡ false
+  HasPlace (variable_use of_type n) = is_undeclared_variable kinds (variable_label means of_type n) ≡ false
+  HasPlace (variable_use of_const n) = is_undeclared_variable kinds (variable_label means of_const n) ≡ false
   HasPlace u = Unit {0}
 
   abbrev pub AllIn : List Use → Type 0
@@ -52,25 +52,25 @@ module _ (d : Declarations) (c : List ℕ) (a : Clause) (vars : List (List ℕ �
   rest-in [] vs h = h
   rest-in (u ∷ us) vs h = rest-in us vs h.1
 
-  node : (l : Label) (t : Trees) → is_stray kinds l ≡ false → Good t → Good (tree l t none)
-  node l t h g = or-no (is_stray kinds l || some_node (is_stray kinds) t) false (or-no (is_stray kinds l) (some_node (is_stray kinds) t) h g) refl
+  node : (l : Label) (t : Trees) → is_undeclared_variable kinds l ≡ false → Good t → Good (tree l t none)
+  node l t h g = or-no (is_undeclared_variable kinds l || some_node (is_undeclared_variable kinds) t) false (or-no (is_undeclared_variable kinds l) (some_node (is_undeclared_variable kinds) t) h g) refl
 
   both : (x y : Trees) → Good x → Good y → Good (x +++ y)
-  both x y h g = append-shut (is_stray kinds) x y h g
+  both x y h g = append-shut (is_undeclared_variable kinds) x y h g
 
   -- ---- names
-  under : (j : ℕ) (s : List (List (List ℕ))) (n : List ℕ) → is_stray kinds (lifetime_under means j s n) ≡ false
+  under : (j : ℕ) (s : List (List (List ℕ))) (n : List ℕ) → is_undeclared_variable kinds (lifetime_under means j s n) ≡ false
   under j [] n = refl
   under j (ns ∷ s) n = by (is_among n ns) (under (suc j) s n)
     where
-      by : (b : Bool) → is_stray kinds (lifetime_under means (suc j) s n) ≡ false → is_stray kinds (if b then bound of_lifetime j (place_among n ns) else lifetime_under means (suc j) s n) ≡ false
+      by : (b : Bool) → is_undeclared_variable kinds (lifetime_under means (suc j) s n) ≡ false → is_undeclared_variable kinds (if b then bound of_lifetime j (place_among n ns) else lifetime_under means (suc j) s n) ≡ false
       by true e = refl
       by false e = e
 
   good-lifetime : (s : List (List (List ℕ))) (n : List ℕ) → Good (leaf (lifetime_label means s n))
   good-lifetime s n = node (lifetime_label means s n) none (by (bytes_eq n static_name)) refl
     where
-      by : (b : Bool) → is_stray kinds (if b then static else lifetime_under means 0 s n) ≡ false
+      by : (b : Bool) → is_undeclared_variable kinds (if b then static else lifetime_under means 0 s n) ≡ false
       by true = refl
       by false = under 0 s n
 
@@ -100,13 +100,13 @@ module _ (d : Declarations) (c : List ℕ) (a : Clause) (vars : List (List ℕ �
 
   good-autos : (ns : List ℕ) → Good (auto_leaves ns)
   good-autos [] = refl
-  good-autos (n ∷ ns) = or-no false (some_node (is_stray kinds) (auto_leaves ns)) refl (good-autos ns)
+  good-autos (n ∷ ns) = or-no false (some_node (is_undeclared_variable kinds) (auto_leaves ns)) refl (good-autos ns)
 
   good-end : (s : List (List (List ℕ))) (i : Item) → Good (item_lifetime means s i)
   good-end s (bound_item b n args) = refl
   good-end s (lifetime_item n) = good-lifetime s n
 
-  good-last : (s : List (List (List ℕ))) (i : Item) (is : Items) → Good (last_lifetime means s i is)
+  good-last : (s : List (List (List ℕ))) (i : Item) (is : DynBounds) → Good (last_lifetime means s i is)
   good-last s i no_items = good-end s i
   good-last s i (and_item j is) = good-last s j is
 
@@ -175,7 +175,7 @@ module _ (d : Declarations) (c : List ℕ) (a : Clause) (vars : List (List ℕ �
         by true g = refl
         by false g = node (principal (length b) (trait_number (known d n))) (args_trees means (b ∷ s) (kinds_of_trait (known d n)) args) refl g
 
-    good-items : (s : List (List (List ℕ))) (is : Items) → ScalarItems is → AllIn (items_uses d s is) → Good (items_trees means s is)
+    good-items : (s : List (List (List ℕ))) (is : DynBounds) → ScalarItems is → AllIn (items_uses d s is) → Good (items_trees means s is)
     good-items s no_items f h = refl
     good-items s (and_item i is) f h =
         both (item_tree means s i) (items_trees means s is) (good-item s i f.0 (first-in (item_uses d s i) (items_uses d s is) h)) (good-items s is f.1 (rest-in (item_uses d s i) (items_uses d s is) h))

@@ -25,7 +25,7 @@ use Rattle.candidate_model.specs.Candidates.{kinds_of_params}
 use Rattle.candidate_model.specs.DeclaredWell.{is_single}
 use Rattle.view_lowering.specs.Promised.SeenWorlds.{plain, plain_reference, plain_struct, plain_trait, plain_impl, all_kept, none_kept, stands_in}
 use Rattle.view_lowering.specs.Seen.{struct_sorts, trait_sorts, impl_sorts, param_sorts}
-use Rattle.view_lowering.specs.Ready.{AreSeen, OfTexts, FieldsSpeak, kind_of_sort, TellsKinds, SpeaksOfOwn, HeadersTell, ImplsSpeak}
+use Rattle.view_lowering.specs.Ready.{AreSeen, OfTexts, FieldsSpeak, kind_of_sort, TellsKinds, ImplSpeaksOfOwn, HeadersTell, ImplsSpeak}
 use Rattle.view_lowering.proofs.Tests.{is_good, is_good_struct, is_good_trait, is_good_impl, all_stand}
 use Rattle.view_lowering.proofs.Trees.{and-left, and-right}
 use Rattle.view_lowering.proofs.SeenViews.{good-fits}
@@ -60,7 +60,7 @@ module _ (es : List Entry) (i : HeldImpl) (n : NamedImpl) (good : is_good_impl n
       subst (λ t. map kind_of_sort (impl_sorts i) ≡ kinds_of_params t 0 (length (impl_sorts i))) (sym same_header)
       (subst (λ z. map kind_of_sort z ≡ kinds_of_params (plain all_kept H) 0 (length z)) (sym sorts) (kinds-told H own (and-left (all_stand H 0 own) _ good-rest) (good-fits all_kept own H good-header)))
 
-  pub impl-speaks-of-own : map (reference_in es) i.def.clauses.items ≡ map (plain_reference (stands_in H)) n.item.clauses → impl_sorts i ≡ own → SpeaksOfOwn es i
+  pub impl-speaks-of-own : map (reference_in es) i.def.clauses.items ≡ map (plain_reference (stands_in H)) n.item.clauses → impl_sorts i ≡ own → ImplSpeaksOfOwn es i
   impl-speaks-of-own same_clauses sorts =
       let Q = λ (r : Reference). is_good (stands_in H) own r.args ≡ true in
       record {
@@ -104,14 +104,14 @@ module _ (d : text.Declarations) (c : ℕ) (w : Well d) (es : List Entry) (decls
   impl-tells : (i : HeldImpl) → IsImpl i → TellsKinds es i
   impl-tells i n = header-tells es i n.0 n.1 (ap (λ (x : ImplDecl). x.header.args) n.2) n.3
 
-  impl-speaks : (i : HeldImpl) → IsImpl i → SpeaksOfOwn es i
+  impl-speaks : (i : HeldImpl) → IsImpl i → ImplSpeaksOfOwn es i
   impl-speaks i n = impl-speaks-of-own es i n.0 n.1 (ap (λ (x : ImplDecl). x.header.args) n.2) (ap (λ (x : ImplDecl). x.clauses) n.2) n.3
 
   pub headers-tell : HeadersTell es decls
   headers-tell = each-map IsImpl (TellsKinds es) impl-tells decls.impls impls-matched
 
   pub impls-speak : ImplsSpeak es decls
-  impls-speak = each-map IsImpl (SpeaksOfOwn es) impl-speaks decls.impls impls-matched
+  impls-speak = each-map IsImpl (ImplSpeaksOfOwn es) impl-speaks decls.impls impls-matched
 
   -- ---- traits
   -- a trait that is declared at its number, with its bounds

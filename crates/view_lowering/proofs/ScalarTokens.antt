@@ -3,7 +3,7 @@ use Rattle.std.proofs.Common.{ℕ, Bool, List, [], ◌∷◌, ◌++◌, map}
 use Rattle.text_language.specs.Words.{comma, for_word, fundamental_word, auto_word, colon}
 use Rattle.text_language.specs.Words as words
 use Rattle.text_language.specs.Tokens.{sign, keyword, arrow, name, tokens_of, pieces}
-use Rattle.text_language.specs.Promised.Syntax.{TypeTree, of_primitive, never_type, variable_type, named, reference_to, pointer_to, slice_of, array_of, tuple_of, fn_of, fn_to, dyn_of, Types, no_types, and_type, Args, no_args, and_arg, Arg, lifetime_arg, number_arg, type_arg, Item, bound_item, lifetime_item, Items, no_items, and_item, Params, Bound, Clause, struct_line, trait_line, impl_line, prove_line, refute_line}
+use Rattle.text_language.specs.Promised.Syntax.{TypeTree, of_primitive, never_type, variable_type, named, reference_to, pointer_to, slice_of, array_of, tuple_of, fn_of, fn_to, dyn_of, Types, no_types, and_type, Args, no_args, and_arg, Arg, lifetime_arg, number_arg, type_arg, Item, bound_item, lifetime_item, DynBounds, no_items, and_item, Params, Bound, Clause, struct_line, trait_line, impl_line, prove_line, refute_line}
 use Rattle.text_language.specs.Syntax.{type_spelling, lifetime_spelling, mut_spelling, binder_spelling, tuple_spelling, second_item, inputs_spelling, more_types, args_spelling, more_args, arg_spelling, item_spelling, more_items, params_spelling, bound_spelling, clause_spelling, bounds_spelling, where_spelling, fields_spelling, behind, spelling, if_so}
 use Rattle.text_language.specs.Written.{IsWritten}
 use Rattle.view_lowering.proofs.Begins.{AllFine, tokens-fine, fine-front, fine-behind}
@@ -59,7 +59,7 @@ mutual
   scalar-item (bound_item b n args) f = scalar-args args (fine-behind (binder_spelling b) (name n ∷ args_spelling args) f).1
   scalar-item (lifetime_item n) f = tt
 
-  scalar-items : (is : Items) → AllFine (more_items is) → ScalarItems is
+  scalar-items : (is : DynBounds) → AllFine (more_items is) → ScalarItems is
   scalar-items no_items f = tt
   scalar-items (and_item i is) f = (scalar-item i (fine-front (item_spelling i) (more_items is) f.1), scalar-items is (fine-behind (item_spelling i) (more_items is) f.1))
 

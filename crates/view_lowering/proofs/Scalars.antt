@@ -1,7 +1,7 @@
 -- Primitive types of written lines are scalars, or `str`.
 use Rattle.std.proofs.Common.{◌≡◌, true}
 use Rattle.view_lowering.proofs.Begins.{is_scalar}
-use Rattle.text_language.specs.Promised.Syntax.{TypeTree, of_primitive, never_type, variable_type, named, reference_to, pointer_to, slice_of, array_of, tuple_of, fn_of, fn_to, dyn_of, Types, no_types, and_type, Args, no_args, and_arg, Arg, lifetime_arg, number_arg, type_arg, Item, bound_item, lifetime_item, Items, no_items, and_item}
+use Rattle.text_language.specs.Promised.Syntax.{TypeTree, of_primitive, never_type, variable_type, named, reference_to, pointer_to, slice_of, array_of, tuple_of, fn_of, fn_to, dyn_of, Types, no_types, and_type, Args, no_args, and_arg, Arg, lifetime_arg, number_arg, type_arg, Item, bound_item, lifetime_item, DynBounds, no_items, and_item}
 
 abbrev mutual
   pub Scalars : TypeTree → Type 0
@@ -35,6 +35,6 @@ abbrev mutual
   ScalarItem (bound_item b n args) = ScalarArgs args
   ScalarItem (lifetime_item n) = Unit {0}
 
-  pub ScalarItems : Items → Type 0
+  pub ScalarItems : DynBounds → Type 0
   ScalarItems no_items = Unit {0}
   ScalarItems (and_item i is) = ScalarItem i × ScalarItems is

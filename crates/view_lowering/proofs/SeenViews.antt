@@ -9,8 +9,8 @@ use Rattle.type_terms.specs.Promised.Trees.{Trees, none, tree, some_node, is_sor
 use Rattle.type_terms.specs.Promised.Worlds.{Reference}
 use Rattle.type_terms.specs.Made.{terms, is_made}
 use Rattle.text_language.specs.Promised.Declarations.{NamedStruct, NamedTrait, NamedImpl}
-use Rattle.candidate_model.specs.Candidates.{is_param}
-use Rattle.candidate_model.specs.Declared.{is_declared, is_counted, are_terms, are_references, is_lifetime_parameter}
+use Rattle.candidate_model.specs.Candidates.{is_this_param}
+use Rattle.candidate_model.specs.Declared.{is_declared_leaf, is_counted, are_terms, are_references, is_lifetime_parameter}
 use Rattle.candidate_model.specs.DeclaredWell.{is_single}
 use Rattle.view_lowering.specs.Promised.SeenWorlds.{plain_label, plain, plain_reference, plain_struct, plain_trait, plain_impl, all_kept, none_kept, stands_in}
 use Rattle.view_lowering.specs.Seen.{param_sorts}
@@ -47,10 +47,10 @@ some-weaker p q f (tree l c o) h =
 -- ---- terms
 good-terms : (kept : ℕ → Bool) (sorts : List Sort) (t : Trees) → is_good kept sorts t ≡ true → are_terms (plain kept t) ≡ true
 good-terms kept sorts t h =
-    and _ _ (and-left _ _ h) (not-true _ (some-weaker (is_bad sorts) is_counted (λ l e. or-left (is_counted l) _ e) (plain kept t) (not-false _ (and-right (is_made is_declared terms (plain kept t)) _ h))))
+    and _ _ (and-left _ _ h) (not-true _ (some-weaker (is_bad sorts) is_counted (λ l e. or-left (is_counted l) _ e) (plain kept t) (not-false _ (and-right (is_made is_declared_leaf terms (plain kept t)) _ h))))
 
 pub good-fits : (kept : ℕ → Bool) (sorts : List Sort) (t : Trees) → is_good kept sorts t ≡ true → some_node (is_bad sorts) (plain kept t) ≡ false
-good-fits kept sorts t h = not-false _ (and-right (is_made is_declared terms (plain kept t)) _ h)
+good-fits kept sorts t h = not-false _ (and-right (is_made is_declared_leaf terms (plain kept t)) _ h)
 
 pub struct-terms : (x : NamedStruct) → is_good_struct x ≡ true → list_all are_terms (plain_struct x.item).fields ≡ true
 struct-terms x h = all-mapped (plain none_kept) are_terms (λ t. is_good none_kept x.kinds t && is_single t) (λ t g. good-terms none_kept x.kinds t (and-left _ _ g)) x.item.fields h
@@ -112,26 +112,26 @@ sort-there sorts s i h = by (slice_get sorts i) refl (drop h)
     by None e g = absurd cc
     by (Some r) e g = e ∙ ap Some (sym (sort-same s r g))
 
-pub stands-by : (t : Trees) (first : ℕ) (sorts : List Sort) (s : Sort) (i : ℕ) → all_stand t first sorts ≡ true → slice_get sorts i ≡ Some s → (s ≡ of_lifetime → ⊥) → some_node (is_param s (first + i)) t ≡ true
+pub stands-by : (t : Trees) (first : ℕ) (sorts : List Sort) (s : Sort) (i : ℕ) → all_stand t first sorts ≡ true → slice_get sorts i ≡ Some s → (s ≡ of_lifetime → ⊥) → some_node (is_this_param s (first + i)) t ≡ true
 stands-by t first [] s i h e n = absurd cc
 stands-by t first (of_lifetime ∷ ss) s zero h e n = absurd (n (sym (same_Some of_lifetime s e)))
-stands-by t first (of_type ∷ ss) s zero h e n = subst (λ r. some_node (is_param r (first + zero)) t ≡ true) (same_Some of_type s e) (subst (λ k. some_node (is_param of_type k) t ≡ true) (no-more first) (and-left _ _ h))
+stands-by t first (of_type ∷ ss) s zero h e n = subst (λ r. some_node (is_this_param r (first + zero)) t ≡ true) (same_Some of_type s e) (subst (λ k. some_node (is_this_param of_type k) t ≡ true) (no-more first) (and-left _ _ h))
   where
     no-more : (k : ℕ) → k ≡ k + zero
     no-more k = omega arith
-stands-by t first (of_const ∷ ss) s zero h e n = subst (λ r. some_node (is_param r (first + zero)) t ≡ true) (same_Some of_const s e) (subst (λ k. some_node (is_param of_const k) t ≡ true) (no-more first) (and-left _ _ h))
+stands-by t first (of_const ∷ ss) s zero h e n = subst (λ r. some_node (is_this_param r (first + zero)) t ≡ true) (same_Some of_const s e) (subst (λ k. some_node (is_this_param of_const k) t ≡ true) (no-more first) (and-left _ _ h))
   where
     no-more : (k : ℕ) → k ≡ k + zero
     no-more k = omega arith
-stands-by t first (of_lifetime ∷ ss) s (suc i) h e n = subst (λ k. some_node (is_param s k) t ≡ true) (more first i) (stands-by t (suc first) ss s i h e n)
+stands-by t first (of_lifetime ∷ ss) s (suc i) h e n = subst (λ k. some_node (is_this_param s k) t ≡ true) (more first i) (stands-by t (suc first) ss s i h e n)
   where
     more : (a b : ℕ) → suc a + b ≡ a + suc b
     more a b = omega arith
-stands-by t first (of_type ∷ ss) s (suc i) h e n = subst (λ k. some_node (is_param s k) t ≡ true) (more first i) (stands-by t (suc first) ss s i (and-right (some_node (is_param of_type first) t) _ h) e n)
+stands-by t first (of_type ∷ ss) s (suc i) h e n = subst (λ k. some_node (is_this_param s k) t ≡ true) (more first i) (stands-by t (suc first) ss s i (and-right (some_node (is_this_param of_type first) t) _ h) e n)
   where
     more : (a b : ℕ) → suc a + b ≡ a + suc b
     more a b = omega arith
-stands-by t first (of_const ∷ ss) s (suc i) h e n = subst (λ k. some_node (is_param s k) t ≡ true) (more first i) (stands-by t (suc first) ss s i (and-right (some_node (is_param of_const first) t) _ h) e n)
+stands-by t first (of_const ∷ ss) s (suc i) h e n = subst (λ k. some_node (is_this_param s k) t ≡ true) (more first i) (stands-by t (suc first) ss s i (and-right (some_node (is_this_param of_const first) t) _ h) e n)
   where
     more : (a b : ℕ) → suc a + b ≡ a + suc b
     more a b = omega arith

@@ -7,15 +7,15 @@ use Rattle.std.specs.Option.{option_map_or}
 use Rattle.std.specs.Str.{bytes_eq}
 use Rattle.type_terms.specs.Promised.Label.{Label, Sort, of_lifetime, of_type, of_const, tuple, dynamic, fn_ptr, ref, raw_pointer, slice, array, principal, param}
 use Rattle.type_terms.specs.Promised.Trees.{Trees, none, tree, leaf, some_node, is_sort, ◌+++◌}
-use Rattle.text_language.specs.Promised.Syntax.{TypeTree, of_primitive, never_type, variable_type, named, reference_to, pointer_to, slice_of, array_of, tuple_of, fn_of, fn_to, dyn_of, Types, no_types, and_type, Args, no_args, and_arg, Arg, lifetime_arg, number_arg, type_arg, Item, bound_item, lifetime_item, Items, no_items, and_item, Length, number_length, name_length, variable_length, Line}
+use Rattle.text_language.specs.Promised.Syntax.{TypeTree, of_primitive, never_type, variable_type, named, reference_to, pointer_to, slice_of, array_of, tuple_of, fn_of, fn_to, dyn_of, Types, no_types, and_type, Args, no_args, and_arg, Arg, lifetime_arg, number_arg, type_arg, Item, bound_item, lifetime_item, DynBounds, no_items, and_item, Length, number_length, name_length, variable_length, Line}
 use Rattle.text_language.specs.Promised.Declarations.{Declarations, Known, a_crate, a_struct, a_trait, known}
 use Rattle.text_language.specs.Uses.{Use, name_use, trait_use, dyn_use, items_use, item_shape, item_shapes, args_count, types_count, kinds_of_struct, kinds_of_trait, next_kind, other_kinds, length_uses, lifetime_uses, binder_uses, type_uses, types_uses, args_uses, arg_uses, item_uses, items_uses, params_of}
 use Rattle.text_language.specs.Promised.Faults.{with_own, is_among, is_auto_name}
-use Rattle.text_language.specs.Faults.{is_param, is_param_of, is_type_of, is_trait_of, is_late}
+use Rattle.text_language.specs.Faults.{is_line_param, is_param_of, is_type_of, is_trait_of, is_late}
 use Rattle.text_language.specs.Lowering.{Meanings, place_among, type_label, const_label, optional_lifetime, length_label, struct_label, trait_number, auto_leaves, autos, with_auto, last_lifetime, type_tree, types_trees, args_trees, arg_tree, item_tree, items_trees}
 use Rattle.text_language.specs.Adding.{item_meanings}
 use Rattle.text_lines.specs.Faultless.{UseFits}
-use Rattle.candidate_model.specs.Candidates.{is_param as is_label_of}
+use Rattle.candidate_model.specs.Candidates.{is_this_param as is_label_of}
 use Rattle.view_lowering.proofs.Trees.{or-left, or-right}
 use Rattle.view_lowering.proofs.Types.{AllFit, first-fit, rest-fit}
 
@@ -169,7 +169,7 @@ module _ (d : Declarations) (l : Line) (first : ℕ) (bare : AutosAreBare (with_
       by (this g) = no-binder s b g
       by (that g) = false-true (subst (λ x. used (args_uses (with_own d l) (b ∷ s) (kinds_of_trait (known (with_own d l) m)) x) ≡ true) bare-args g)
 
-  late-items-unused : (s : List (List (List ℕ))) (is : Items) → AllFit d l (items_uses (with_own d l) s is) → list_any (is_late (with_own d l)) (item_shapes is) ≡ false → used (items_uses (with_own d l) s is) ≡ true → ⊥
+  late-items-unused : (s : List (List (List ℕ))) (is : DynBounds) → AllFit d l (items_uses (with_own d l) s is) → list_any (is_late (with_own d l)) (item_shapes is) ≡ false → used (items_uses (with_own d l) s is) ≡ true → ⊥
   late-items-unused s no_items f e h = absurd cc
   late-items-unused s (and_item i is) f e h = by (any-split (is_use_as p n) (item_uses (with_own d l) s i) (items_uses (with_own d l) s is) h) (late-items-unused s is (rest-fit d l (item_uses (with_own d l) s i) (items_uses (with_own d l) s is) f) (second (is_late (with_own d l) (item_shape i)) _ e))
     where
@@ -185,12 +185,12 @@ module _ (d : Declarations) (l : Line) (first : ℕ) (bare : AutosAreBare (with_
       by (this g) r = late-unused s i (first-fit d l (item_uses (with_own d l) s i) (items_uses (with_own d l) s is) f) (one (is_late (with_own d l) (item_shape i)) _ e) g
       by (that g) r = r g
 
-  late-none : (i : Item) (is : Items) → UseFits d l (dyn_use (item_shape i ∷ item_shapes is)) → list_any (is_late (with_own d l)) (item_shapes is) ≡ false
+  late-none : (i : Item) (is : DynBounds) → UseFits d l (dyn_use (item_shape i ∷ item_shapes is)) → list_any (is_late (with_own d l)) (item_shapes is) ≡ false
   late-none i is f = or-left _ _ (or-right _ _ f.0)
 
   -- a const parameter has no arguments
   const-bare : (s : List (List (List ℕ))) (ks : List Sort) (m : List ℕ) (args : Args) → UseFits d l (name_use of_const m (args_count args)) → used (args_uses (with_own d l) s ks args) ≡ true → ⊥
-  const-bare s ks m args f h = false-true (subst (λ x. used (args_uses (with_own d l) s ks x) ≡ true) (none-counted args (by (is_param l m) (known (with_own d l) m) f)) h)
+  const-bare s ks m args f h = false-true (subst (λ x. used (args_uses (with_own d l) s ks x) ≡ true) (none-counted args (by (is_line_param l m) (known (with_own d l) m) f)) h)
     where
       none-counted : (xs : Args) → (args_count xs == 0) ≡ true → xs ≡ no_args
       none-counted no_args g = refl

@@ -6,7 +6,7 @@ use Rattle.std.specs.Prelude.{if◌then◌else◌, ◌==◌, slice_get}
 use Rattle.type_terms.specs.Promised.Label.{Label, Sort, of_lifetime, of_type, of_const, param}
 use Rattle.type_terms.specs.Promised.Trees.{Trees, some_node, is_sort}
 use Rattle.infer_table.specs.declared.canonical.CanonicalVarKind.TheVariants.{Ty, Const, Region}
-use Rattle.candidate_model.specs.Candidates.{is_param, kind_of_param, kinds_of_params}
+use Rattle.candidate_model.specs.Candidates.{is_this_param, kind_of_param, kinds_of_params}
 use Rattle.view_lowering.specs.Promised.SeenWorlds.{plain, all_kept}
 use Rattle.view_lowering.specs.Ready.{kind_of_sort}
 use Rattle.view_lowering.proofs.Sorts.{is_bad}
@@ -21,10 +21,10 @@ not-both false p q = absurd cc
 
 module _ (sorts : List Sort) (t : Trees) (good : some_node (is_bad sorts) t ≡ false) where
   -- a parameter does not stand there with another sort
-  none-of : (r s : Sort) (i : ℕ) → slice_get sorts i ≡ Some s → is_sort r s ≡ false → some_node (is_param r i) t ≡ false
-  none-of r s i e n = some-weaker (is_bad sorts) (is_param r i) not-here t good
+  none-of : (r s : Sort) (i : ℕ) → slice_get sorts i ≡ Some s → is_sort r s ≡ false → some_node (is_this_param r i) t ≡ false
+  none-of r s i e n = some-weaker (is_bad sorts) (is_this_param r i) not-here t good
     where
-      not-here : (l : Label) → is_bad sorts l ≡ false → is_param r i l ≡ false
+      not-here : (l : Label) → is_bad sorts l ≡ false → is_this_param r i l ≡ false
       not-here (param q j) h = by (is_sort r q) refl (i == j) refl
         where
           by : (a : Bool) → is_sort r q ≡ a → (b : Bool) → (i == j) ≡ b → a && b ≡ false
@@ -38,18 +38,18 @@ module _ (header : Trees) (sorts : List Sort) (stand : all_stand header 0 sorts 
   abbrev H : Trees
   H = plain all_kept header
 
-  stands : (s : Sort) (i : ℕ) → slice_get sorts i ≡ Some s → (s ≡ of_lifetime → ⊥) → some_node (is_param s i) H ≡ true
-  stands s i e n = still s i header (subst (λ k. some_node (is_param s k) header ≡ true) (zero-first i) (stands-by header 0 sorts s i stand e n))
+  stands : (s : Sort) (i : ℕ) → slice_get sorts i ≡ Some s → (s ≡ of_lifetime → ⊥) → some_node (is_this_param s i) H ≡ true
+  stands s i e n = still s i header (subst (λ k. some_node (is_this_param s k) header ≡ true) (zero-first i) (stands-by header 0 sorts s i stand e n))
 
   kind-is : (i : ℕ) (s : Sort) → slice_get sorts i ≡ Some s → kind_of_sort s ≡ kind_of_param H i
-  kind-is i of_type e = sym (ap (λ b. if b then Ty else if some_node (is_param of_const i) H then Const else Region) (stands of_type i e (λ q. absurd cc)))
+  kind-is i of_type e = sym (ap (λ b. if b then Ty else if some_node (is_this_param of_const i) H then Const else Region) (stands of_type i e (λ q. absurd cc)))
   kind-is i of_const e =
       sym
-      (ap (λ b. if b then Ty else if some_node (is_param of_const i) H then Const else Region) (none-of sorts H good of_type of_const i e refl)
+      (ap (λ b. if b then Ty else if some_node (is_this_param of_const i) H then Const else Region) (none-of sorts H good of_type of_const i e refl)
       ∙ ap (λ b. if b then Const else Region) (stands of_const i e (λ q. absurd cc)))
   kind-is i of_lifetime e =
       sym
-      (ap (λ b. if b then Ty else if some_node (is_param of_const i) H then Const else Region) (none-of sorts H good of_type of_lifetime i e refl)
+      (ap (λ b. if b then Ty else if some_node (is_this_param of_const i) H then Const else Region) (none-of sorts H good of_type of_lifetime i e refl)
       ∙ ap (λ b. if b then Const else Region) (none-of sorts H good of_const of_lifetime i e refl))
 
   kinds-from : (first : ℕ) (ss : List Sort) → ((k : ℕ) (s : Sort) → slice_get ss k ≡ Some s → kind_of_sort s ≡ kind_of_param H (first + k)) → map kind_of_sort ss ≡ kinds_of_params H first (length ss)

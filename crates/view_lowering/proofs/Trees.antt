@@ -5,7 +5,7 @@ use Rattle.type_terms.specs.Promised.Label.{Label, Sort, of_lifetime, of_type, o
 use Rattle.type_terms.specs.Promised.Trees.{Trees, none, tree, leaf, some_node, ◌+++◌}
 use Rattle.type_terms.specs.Trees.{is_no_tree}
 use Rattle.type_terms.specs.Made.{terms, bounds, traits, is_made}
-use Rattle.candidate_model.specs.Declared.{is_declared}
+use Rattle.candidate_model.specs.Declared.{is_declared_leaf}
 use Rattle.view_lowering.specs.Promised.SeenWorlds.{plain_label, plain}
 use Rattle.view_lowering.proofs.Sorts.{has_sort, is_bad}
 use Rattle.type_terms.proofs.BooleanBasics.{and-end}
@@ -37,45 +37,45 @@ or-right true b h = absurd cc
 -- the trees are made, and each node's label is good for parameters of these sorts
 module _ (kept : ℕ → Bool) (sorts : List Sort) where
   pub record Good (t : Trees) : Type 0 where
-    pub made : is_made is_declared terms (plain kept t) ≡ true
+    pub made : is_made is_declared_leaf terms (plain kept t) ≡ true
     pub fits : some_node (is_bad sorts) (plain kept t) ≡ false
 
   pub good-none : Good none
   good-none = record { made = refl; fits = refl }
 
-  made-append : (x y : Trees) → is_made is_declared terms (plain kept x) ≡ true → is_made is_declared terms (plain kept y) ≡ true → is_made is_declared terms (plain kept (x +++ y)) ≡ true
+  made-append : (x y : Trees) → is_made is_declared_leaf terms (plain kept x) ≡ true → is_made is_declared_leaf terms (plain kept y) ≡ true → is_made is_declared_leaf terms (plain kept (x +++ y)) ≡ true
   made-append none y h g = g
   made-append (tree l c o) y h g = by (plain_label kept l) h (λ q. made-append o y q g)
     where
-      last : (a b d : Bool) → (is_made is_declared terms (plain kept o) ≡ true → is_made is_declared terms (plain kept (o +++ y)) ≡ true) → a && (b && (d && is_made is_declared terms (plain kept o))) ≡ true
-          → a && (b && (d && is_made is_declared terms (plain kept (o +++ y)))) ≡ true
+      last : (a b d : Bool) → (is_made is_declared_leaf terms (plain kept o) ≡ true → is_made is_declared_leaf terms (plain kept (o +++ y)) ≡ true) → a && (b && (d && is_made is_declared_leaf terms (plain kept o))) ≡ true
+          → a && (b && (d && is_made is_declared_leaf terms (plain kept (o +++ y)))) ≡ true
       last true true true r q = r q
       last true true false r q = absurd cc
       last true false d r q = absurd cc
       last false b d r q = absurd cc
 
-      by : (m : Label) → is_made is_declared terms (tree m (plain kept c) (plain kept o)) ≡ true → (is_made is_declared terms (plain kept o) ≡ true → is_made is_declared terms (plain kept (o +++ y)) ≡ true)
-          → is_made is_declared terms (tree m (plain kept c) (plain kept (o +++ y))) ≡ true
-      by dynamic q r = last true true (is_made is_declared bounds (plain kept c)) r q
+      by : (m : Label) → is_made is_declared_leaf terms (tree m (plain kept c) (plain kept o)) ≡ true → (is_made is_declared_leaf terms (plain kept o) ≡ true → is_made is_declared_leaf terms (plain kept (o +++ y)) ≡ true)
+          → is_made is_declared_leaf terms (tree m (plain kept c) (plain kept (o +++ y))) ≡ true
+      by dynamic q r = last true true (is_made is_declared_leaf bounds (plain kept c)) r q
       by (principal n t) q r = absurd cc
       by (auto_trait i) q r = absurd cc
       by (predicate k) q r = absurd cc
-      by bool q r = last true true (is_made is_declared terms (plain kept c)) r q
-      by char q r = last true true (is_made is_declared terms (plain kept c)) r q
-      by str q r = last true true (is_made is_declared terms (plain kept c)) r q
-      by never q r = last true true (is_made is_declared terms (plain kept c)) r q
-      by array q r = last true true (is_made is_declared terms (plain kept c)) r q
-      by slice q r = last true true (is_made is_declared terms (plain kept c)) r q
-      by tuple q r = last true true (is_made is_declared terms (plain kept c)) r q
-      by static q r = last true (is_no_tree (plain kept c)) (is_made is_declared terms (plain kept c)) r q
-      by (int n) q r = last true true (is_made is_declared terms (plain kept c)) r q
-      by (uint n) q r = last true true (is_made is_declared terms (plain kept c)) r q
-      by (adt n) q r = last true true (is_made is_declared terms (plain kept c)) r q
-      by (fn_ptr n) q r = last true true (is_made is_declared terms (plain kept c)) r q
-      by (value n) q r = last true (is_no_tree (plain kept c)) (is_made is_declared terms (plain kept c)) r q
-      by (ref n) q r = last true true (is_made is_declared terms (plain kept c)) r q
-      by (raw_pointer n) q r = last true true (is_made is_declared terms (plain kept c)) r q
-      by (param s i) q r = last true (is_no_tree (plain kept c)) (is_made is_declared terms (plain kept c)) r q
+      by bool q r = last true true (is_made is_declared_leaf terms (plain kept c)) r q
+      by char q r = last true true (is_made is_declared_leaf terms (plain kept c)) r q
+      by str q r = last true true (is_made is_declared_leaf terms (plain kept c)) r q
+      by never q r = last true true (is_made is_declared_leaf terms (plain kept c)) r q
+      by array q r = last true true (is_made is_declared_leaf terms (plain kept c)) r q
+      by slice q r = last true true (is_made is_declared_leaf terms (plain kept c)) r q
+      by tuple q r = last true true (is_made is_declared_leaf terms (plain kept c)) r q
+      by static q r = last true (is_no_tree (plain kept c)) (is_made is_declared_leaf terms (plain kept c)) r q
+      by (int n) q r = last true true (is_made is_declared_leaf terms (plain kept c)) r q
+      by (uint n) q r = last true true (is_made is_declared_leaf terms (plain kept c)) r q
+      by (adt n) q r = last true true (is_made is_declared_leaf terms (plain kept c)) r q
+      by (fn_ptr n) q r = last true true (is_made is_declared_leaf terms (plain kept c)) r q
+      by (value n) q r = last true (is_no_tree (plain kept c)) (is_made is_declared_leaf terms (plain kept c)) r q
+      by (ref n) q r = last true true (is_made is_declared_leaf terms (plain kept c)) r q
+      by (raw_pointer n) q r = last true true (is_made is_declared_leaf terms (plain kept c)) r q
+      by (param s i) q r = last true (is_no_tree (plain kept c)) (is_made is_declared_leaf terms (plain kept c)) r q
       by (placeholder s i) q r = absurd cc
       by (infer s i) q r = absurd cc
       by (canonical s i) q r = absurd cc
@@ -110,13 +110,13 @@ module _ (kept : ℕ → Bool) (sorts : List Sort) where
   or-end true h = absurd cc
 
   pub good-node : (l : Label) (c : Trees) → is_plain_node l ≡ true → Good c → Good (tree l c none)
-  good-node array c h g = record { made = and-end (is_made is_declared terms (plain kept c)) g.made; fits = or-end (some_node (is_bad sorts) (plain kept c)) g.fits }
-  good-node slice c h g = record { made = and-end (is_made is_declared terms (plain kept c)) g.made; fits = or-end (some_node (is_bad sorts) (plain kept c)) g.fits }
-  good-node tuple c h g = record { made = and-end (is_made is_declared terms (plain kept c)) g.made; fits = or-end (some_node (is_bad sorts) (plain kept c)) g.fits }
-  good-node (adt n) c h g = record { made = and-end (is_made is_declared terms (plain kept c)) g.made; fits = or-end (some_node (is_bad sorts) (plain kept c)) g.fits }
-  good-node (fn_ptr n) c h g = record { made = and-end (is_made is_declared terms (plain kept c)) g.made; fits = or-end (some_node (is_bad sorts) (plain kept c)) g.fits }
-  good-node (ref n) c h g = record { made = and-end (is_made is_declared terms (plain kept c)) g.made; fits = or-end (some_node (is_bad sorts) (plain kept c)) g.fits }
-  good-node (raw_pointer n) c h g = record { made = and-end (is_made is_declared terms (plain kept c)) g.made; fits = or-end (some_node (is_bad sorts) (plain kept c)) g.fits }
+  good-node array c h g = record { made = and-end (is_made is_declared_leaf terms (plain kept c)) g.made; fits = or-end (some_node (is_bad sorts) (plain kept c)) g.fits }
+  good-node slice c h g = record { made = and-end (is_made is_declared_leaf terms (plain kept c)) g.made; fits = or-end (some_node (is_bad sorts) (plain kept c)) g.fits }
+  good-node tuple c h g = record { made = and-end (is_made is_declared_leaf terms (plain kept c)) g.made; fits = or-end (some_node (is_bad sorts) (plain kept c)) g.fits }
+  good-node (adt n) c h g = record { made = and-end (is_made is_declared_leaf terms (plain kept c)) g.made; fits = or-end (some_node (is_bad sorts) (plain kept c)) g.fits }
+  good-node (fn_ptr n) c h g = record { made = and-end (is_made is_declared_leaf terms (plain kept c)) g.made; fits = or-end (some_node (is_bad sorts) (plain kept c)) g.fits }
+  good-node (ref n) c h g = record { made = and-end (is_made is_declared_leaf terms (plain kept c)) g.made; fits = or-end (some_node (is_bad sorts) (plain kept c)) g.fits }
+  good-node (raw_pointer n) c h g = record { made = and-end (is_made is_declared_leaf terms (plain kept c)) g.made; fits = or-end (some_node (is_bad sorts) (plain kept c)) g.fits }
   good-node bool c h g = absurd cc
   good-node char c h g = absurd cc
   good-node str c h g = absurd cc
@@ -154,7 +154,7 @@ module _ (kept : ℕ → Bool) (sorts : List Sort) where
   good-param of_const i h = record { made = refl; fits = param-fits of_const i h }
   good-param of_lifetime i h = record { made = made (kept i); fits = fits (kept i) }
     where
-      made : (b : Bool) → is_made is_declared terms (leaf (if b then param of_lifetime i else static)) ≡ true
+      made : (b : Bool) → is_made is_declared_leaf terms (leaf (if b then param of_lifetime i else static)) ≡ true
       made true = refl
       made false = refl
 
@@ -167,8 +167,8 @@ module _ (kept : ℕ → Bool) (sorts : List Sort) where
 
   -- a lifetime is one too where the bounds of a `dyn` end
   pub record Ends (t : Trees) : Type 0 where
-    pub after_none : is_made is_declared bounds (plain kept t) ≡ true
-    pub after_some : is_made is_declared traits (plain kept t) ≡ true
+    pub after_none : is_made is_declared_leaf bounds (plain kept t) ≡ true
+    pub after_some : is_made is_declared_leaf traits (plain kept t) ≡ true
     pub fits : some_node (is_bad sorts) (plain kept t) ≡ false
 
   pub ends-static : Ends (leaf static)
@@ -180,11 +180,11 @@ module _ (kept : ℕ → Bool) (sorts : List Sort) where
   pub ends-param : (i : ℕ) → has_sort sorts (param of_lifetime i) ≡ true → Ends (leaf (param of_lifetime i))
   ends-param i h = record { after_none = none-first (kept i); after_some = some-first (kept i); fits = fits (kept i) }
     where
-      none-first : (b : Bool) → is_made is_declared bounds (leaf (if b then param of_lifetime i else static)) ≡ true
+      none-first : (b : Bool) → is_made is_declared_leaf bounds (leaf (if b then param of_lifetime i else static)) ≡ true
       none-first true = refl
       none-first false = refl
 
-      some-first : (b : Bool) → is_made is_declared traits (leaf (if b then param of_lifetime i else static)) ≡ true
+      some-first : (b : Bool) → is_made is_declared_leaf traits (leaf (if b then param of_lifetime i else static)) ≡ true
       some-first true = refl
       some-first false = refl
 
@@ -198,9 +198,9 @@ module _ (kept : ℕ → Bool) (sorts : List Sort) where
   pub good-dyn : (n t : ℕ) (c o : Trees) → Good c → Ends o → Good (tree dynamic (tree (principal n t) c o) none)
   good-dyn n t c o g e =
       record {
-        made = and-end _ (and (is_made is_declared terms (plain kept c)) (is_made is_declared traits (plain kept o)) g.made e.after_some);
+        made = and-end _ (and (is_made is_declared_leaf terms (plain kept c)) (is_made is_declared_leaf traits (plain kept o)) g.made e.after_some);
         fits = or-end _ (or (some_node (is_bad sorts) (plain kept c)) (some_node (is_bad sorts) (plain kept o)) g.fits e.fits);
       }
 
   pub good-bare-dyn : (o : Trees) → Ends o → Good (tree dynamic o none)
-  good-bare-dyn o e = record { made = and-end (is_made is_declared bounds (plain kept o)) e.after_none; fits = or-end (some_node (is_bad sorts) (plain kept o)) e.fits }
+  good-bare-dyn o e = record { made = and-end (is_made is_declared_leaf bounds (plain kept o)) e.after_none; fits = or-end (some_node (is_bad sorts) (plain kept o)) e.fits }

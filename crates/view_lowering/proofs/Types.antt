@@ -6,11 +6,11 @@ use Rattle.std.specs.Option.{option_map_or}
 use Rattle.std.specs.Str.{bytes_eq}
 use Rattle.type_terms.specs.Promised.Label.{Label, Sort, of_lifetime, of_type, of_const, bool, char, str, never, array, slice, tuple, dynamic, static, int, uint, adt, fn_ptr, auto_trait, value, ref, raw_pointer, principal, param, placeholder, infer, canonical, bound, predicate}
 use Rattle.type_terms.specs.Promised.Trees.{Trees, none, tree, leaf, ◌+++◌}
-use Rattle.text_language.specs.Promised.Syntax.{TypeTree, of_primitive, never_type, variable_type, named, reference_to, pointer_to, slice_of, array_of, tuple_of, fn_of, fn_to, dyn_of, Types, no_types, and_type, Args, no_args, and_arg, Arg, lifetime_arg, number_arg, type_arg, Item, bound_item, lifetime_item, Items, no_items, and_item, Length, number_length, name_length, variable_length, Params, Line}
+use Rattle.text_language.specs.Promised.Syntax.{TypeTree, of_primitive, never_type, variable_type, named, reference_to, pointer_to, slice_of, array_of, tuple_of, fn_of, fn_to, dyn_of, Types, no_types, and_type, Args, no_args, and_arg, Arg, lifetime_arg, number_arg, type_arg, Item, bound_item, lifetime_item, DynBounds, no_items, and_item, Length, number_length, name_length, variable_length, Params, Line}
 use Rattle.text_language.specs.Promised.Declarations.{Declarations, Known, a_crate, a_struct, a_trait, known}
 use Rattle.text_language.specs.Uses.{Use, name_use, trait_use, variable_use, dyn_use, items_use, item_shape, item_shapes, args_count, types_count, kinds_of_struct, kinds_of_trait, next_kind, other_kinds, length_uses, lifetime_uses, binder_uses, type_uses, types_uses, args_uses, arg_uses, item_uses, items_uses, params_of}
 use Rattle.text_language.specs.Promised.Faults.{with_own, is_among, is_auto_name}
-use Rattle.text_language.specs.Faults.{is_param, is_param_of, is_type_of, is_in_scope, static_name, is_late}
+use Rattle.text_language.specs.Faults.{is_line_param, is_param_of, is_type_of, is_in_scope, static_name, is_late}
 use Rattle.text_language.specs.Lowering.{Meanings, place_among, type_label, const_label, lifetime_under, lifetime_label, optional_lifetime, length_label, struct_label, trait_number, auto_leaves, autos, with_auto, item_lifetime, last_lifetime, type_tree, types_trees, args_trees, arg_tree, item_tree, items_trees}
 use Rattle.text_language.specs.Adding.{item_meanings}
 use Rattle.text_lines.specs.Faultless.{UseFits}
@@ -102,7 +102,7 @@ module _ (kept : ℕ → Bool) (sorts : List Sort) (d : Declarations) (l : Line)
   good-struct (Some (a_trait i h a ks)) c g = good-never c g
 
   param-bare : (n : List ℕ) (args : Args) → is_among n (params_of l).types ≡ true → UseFits d l (name_use of_type n (args_count args)) → args ≡ no_args
-  param-bare n args h f = no-count args (by (is_param l n) (among-first n (params_of l).types (params_of l).consts h) f)
+  param-bare n args h f = no-count args (by (is_line_param l n) (among-first n (params_of l).types (params_of l).consts h) f)
     where
       by : (b : Bool) → b ≡ true → (if b then is_param_of l of_type n (args_count args) else option_map_or (is_type_of of_type (args_count args)) (known (with_own d l) n) false) ≡ true → (args_count args == 0) ≡ true
       by true e g = and-right (is_among n (params_of l).types) _ g
@@ -120,7 +120,7 @@ module _ (kept : ℕ → Bool) (sorts : List Sort) (d : Declarations) (l : Line)
       by false e = good-struct (known (with_own d l) n) _ g
 
   const-named : (n : List ℕ) (k : ℕ) → UseFits d l (name_use of_const n k) → is_among n (params_of l).consts ≡ true
-  const-named n k f = by (is_param l n) (known (with_own d l) n) f
+  const-named n k f = by (is_line_param l n) (known (with_own d l) n) f
     where
       by : (b : Bool) (o : Option Known) → (if b then is_param_of l of_const n k else option_map_or (is_type_of of_const k) o false) ≡ true → is_among n (params_of l).consts ≡ true
       by true o g = and-left _ _ g
@@ -146,7 +146,7 @@ module _ (kept : ℕ → Bool) (sorts : List Sort) (d : Declarations) (l : Line)
   ends-item s (bound_item b n args) h = ends-static kept sorts
   ends-item s (lifetime_item n) h = ends-lifetime s n h.0.0
 
-  ends-last : (s : List (List (List ℕ))) (i : Item) (is : Items) → AllFit d l (item_uses (with_own d l) s i) → AllFit d l (items_uses (with_own d l) s is) → Ends kept sorts (last_lifetime means s i is)
+  ends-last : (s : List (List (List ℕ))) (i : Item) (is : DynBounds) → AllFit d l (item_uses (with_own d l) s i) → AllFit d l (items_uses (with_own d l) s is) → Ends kept sorts (last_lifetime means s i is)
   ends-last s i no_items h g = ends-item s i h
   ends-last s i (and_item j is) h g =
       ends-last s j is (first-fit d l (item_uses (with_own d l) s j) (items_uses (with_own d l) s is) g) (rest-fit d l (item_uses (with_own d l) s j) (items_uses (with_own d l) s is) g)
@@ -161,12 +161,12 @@ module _ (kept : ℕ → Bool) (sorts : List Sort) (d : Declarations) (l : Line)
       by false g = absurd cc
   bare-item s (lifetime_item n) h = refl
 
-  bare-items : (s : List (List (List ℕ))) (is : Items) → list_any (is_late (with_own d l)) (item_shapes is) ≡ false → items_trees means s is ≡ none
+  bare-items : (s : List (List (List ℕ))) (is : DynBounds) → list_any (is_late (with_own d l)) (item_shapes is) ≡ false → items_trees means s is ≡ none
   bare-items s no_items h = refl
   bare-items s (and_item i is) h =
       ap (λ t. t +++ items_trees means s is) (bare-item s i (or-left (is_late (with_own d l) (item_shape i)) _ h)) ∙ bare-items s is (or-right (is_late (with_own d l) (item_shape i)) _ h)
 
-  late-none : (i : Item) (is : Items) → UseFits d l (dyn_use (item_shape i ∷ item_shapes is)) → list_any (is_late (with_own d l)) (item_shapes is) ≡ false
+  late-none : (i : Item) (is : DynBounds) → UseFits d l (dyn_use (item_shape i ∷ item_shapes is)) → list_any (is_late (with_own d l)) (item_shapes is) ≡ false
   late-none i is f = or-left _ _ (or-right _ _ f.0)
 
   -- the types

@@ -13,22 +13,22 @@ number_of s [] = zero
 number_of s (k ∷ ks) = if is_sort k s then suc (number_of s ks) else number_of s ks
 
 -- A parameter or inference variable that is none of these kinds. In a query it cannot get a value.
-abbrev pub is_stray : List Sort → Label → Bool
-is_stray ks (infer of_type i) = not (ltb i (number_of of_type ks))
-is_stray ks (infer of_const i) = not (ltb i (number_of of_const ks))
-is_stray ks (infer of_lifetime i) = true
-is_stray ks (canonical s i) = true
-is_stray ks (param of_lifetime i) = false
-is_stray ks (param s i) = true
-is_stray ks (placeholder of_lifetime i) = false
-is_stray ks (placeholder s i) = true
-is_stray ks (bound of_lifetime j i) = false
-is_stray ks (bound s j i) = true
-is_stray ks l = false
+abbrev pub is_undeclared_variable : List Sort → Label → Bool
+is_undeclared_variable ks (infer of_type i) = not (ltb i (number_of of_type ks))
+is_undeclared_variable ks (infer of_const i) = not (ltb i (number_of of_const ks))
+is_undeclared_variable ks (infer of_lifetime i) = true
+is_undeclared_variable ks (canonical s i) = true
+is_undeclared_variable ks (param of_lifetime i) = false
+is_undeclared_variable ks (param s i) = true
+is_undeclared_variable ks (placeholder of_lifetime i) = false
+is_undeclared_variable ks (placeholder s i) = true
+is_undeclared_variable ks (bound of_lifetime j i) = false
+is_undeclared_variable ks (bound s j i) = true
+is_undeclared_variable ks l = false
 
 -- The query's trait reference holds no parameter that is a type or a constant, and no inference variable but those of the query.
 abbrev pub HasVariablesAlone : Question → Type 0
-HasVariablesAlone q = some_node (is_stray (variable_kinds q)) (unbound_reference q.asked).args ≡ false
+HasVariablesAlone q = some_node (is_undeclared_variable (variable_kinds q)) (unbound_reference q.asked).args ≡ false
 
 -- This holds for each `refute` query of a text without a fault.
 abbrev pub RefutationsHaveVariablesAlone : Type 0

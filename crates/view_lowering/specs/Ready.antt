@@ -44,7 +44,7 @@ abbrev pub TellsKinds : List Entry → HeldImpl → Type 0
 TellsKinds es i = map kind_of_sort (impl_sorts i) ≡ kinds_of_params (trees_at es i.def.header.args.0) 0 (length (impl_sorts i))
 
 -- The header and the where-clauses of an impl hold its own parameters alone.
-pub record SpeaksOfOwn (es : List Entry) (i : HeldImpl) : Type 0 where
+pub record ImplSpeaksOfOwn (es : List Entry) (i : HeldImpl) : Type 0 where
   pub header : SpeaksOf (impl_sorts i) (trees_at es i.def.header.args.0)
   pub clauses : Each (λ (r : TraitRef). SpeaksOf (impl_sorts i) (trees_at es r.args.0)) i.def.clauses.items
 
@@ -52,4 +52,4 @@ abbrev pub HeadersTell : List Entry → Items → Type 0
 HeadersTell es decls = Each (TellsKinds es) decls.impls
 
 abbrev pub ImplsSpeak : List Entry → Items → Type 0
-ImplsSpeak es decls = Each (SpeaksOfOwn es) decls.impls
+ImplsSpeak es decls = Each (ImplSpeaksOfOwn es) decls.impls

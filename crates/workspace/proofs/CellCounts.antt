@@ -14,7 +14,7 @@ use Rattle.workspace.specs.TermCells as cell
 use Rattle.workspace.specs.TermCells.{gathered, below, behind_cell, behind_cells, trees_of, joined}
 use Rattle.workspace.specs.declared.cell.TermCell.{TermCell}
 use Rattle.workspace.specs.declared.cell.TermCell.TheVariants as cells
-use Rattle.workspace.specs.Made.{StackPart, type_part, const_part, lifetime_part, principal_part, auto_part, off, off_autos, off_principal, putting, is_below, is_type, is_const, is_lifetime, is_principal, is_arg, parts_behind, parts_of, AreMade}
+use Rattle.workspace.specs.Made.{StackPart, type_part, const_part, lifetime_part, principal_part, auto_part, off, off_autos, off_principal, putting, is_below, is_type, is_const, is_lifetime_on_stack, is_principal, is_arg, parts_behind, parts_of, AreMade}
 use Rattle.workspace.specs.Views.{cell_of, cells_of}
 use Rattle.workspace.specs.TermCounts.{parts}
 use Rattle.type_terms.proofs.TypeBasics.{mapped-some as map-some}
@@ -104,23 +104,23 @@ array-long P R e =
     let b = off-long is_type 1 x.0 R x.2 in
     omega (arith, a, b)
 
-bounds-long : (n : ℕ) (P R : List StackPart) → option_and_then (off_autos n None) (off is_lifetime 1 P) ≡ Some R → length R + suc n ≡ length P
+bounds-long : (n : ℕ) (P R : List StackPart) → option_and_then (off_autos n None) (off is_lifetime_on_stack 1 P) ≡ Some R → length R + suc n ≡ length P
 bounds-long n P R e =
-    let x = then-some (off_autos n None) (off is_lifetime 1 P) R e in
-    let a = off-long is_lifetime 1 P x.0 x.1 in
+    let x = then-some (off_autos n None) (off is_lifetime_on_stack 1 P) R e in
+    let a = off-long is_lifetime_on_stack 1 P x.0 x.1 in
     let b = autos-long n None x.0 R x.2 in
     omega (arith, a, b)
 
-object-long : (n : ℕ) (P R : List StackPart) → option_and_then (off_principal true) (option_and_then (off_autos n None) (off is_lifetime 1 P)) ≡ Some R → length R + suc (suc n) ≡ length P
+object-long : (n : ℕ) (P R : List StackPart) → option_and_then (off_principal true) (option_and_then (off_autos n None) (off is_lifetime_on_stack 1 P)) ≡ Some R → length R + suc (suc n) ≡ length P
 object-long n P R e =
-    let x = then-some (off_principal true) (option_and_then (off_autos n None) (off is_lifetime 1 P)) R e in
+    let x = then-some (off_principal true) (option_and_then (off_autos n None) (off is_lifetime_on_stack 1 P)) R e in
     let a = bounds-long n P x.0 x.1 in
     let b = off-long is_principal 1 x.0 R x.2 in
     omega (arith, a, b)
 
-autos-alone-long : (n : ℕ) (P R : List StackPart) → option_and_then (off_principal false) (option_and_then (off_autos n None) (off is_lifetime 1 P)) ≡ Some R → length R + suc n ≡ length P
+autos-alone-long : (n : ℕ) (P R : List StackPart) → option_and_then (off_principal false) (option_and_then (off_autos n None) (off is_lifetime_on_stack 1 P)) ≡ Some R → length R + suc n ≡ length P
 autos-alone-long n P R e =
-    let x = then-some (off_principal false) (option_and_then (off_autos n None) (off is_lifetime 1 P)) R e in
+    let x = then-some (off_principal false) (option_and_then (off_autos n None) (off is_lifetime_on_stack 1 P)) R e in
     let a = bounds-long n P x.0 x.1 in
     let b = ap length (same_Some x.0 R x.2) in
     omega (arith, a, b)
@@ -172,8 +172,8 @@ step (cells.FnPtr b zero) P Q S e h = absurd cc
 step (cells.FnPtr b (suc n)) P Q S e h = on-list (fn_ptr b) (suc n) type_part (off is_type (suc n) P) P Q S (off-long is_type (suc n) P) e h
 step (cells.Principal b t n) P Q S e h = on-list (principal b t.index) n principal_part (off is_arg n P) P Q S (off-long is_arg n P) e h
 step (cells.Auto t) P Q S e h = on-leaf (auto_trait t.index) (auto_part t.index) P Q S e h
-step (cells.Dynamic false n) P Q S e h = on-list dynamic (suc n) type_part (option_and_then (off_principal false) (option_and_then (off_autos n None) (off is_lifetime 1 P))) P Q S (autos-alone-long n P) e h
-step (cells.Dynamic true n) P Q S e h = on-list dynamic (suc (suc n)) type_part (option_and_then (off_principal true) (option_and_then (off_autos n None) (off is_lifetime 1 P))) P Q S (object-long n P) e h
+step (cells.Dynamic false n) P Q S e h = on-list dynamic (suc n) type_part (option_and_then (off_principal false) (option_and_then (off_autos n None) (off is_lifetime_on_stack 1 P))) P Q S (autos-alone-long n P) e h
+step (cells.Dynamic true n) P Q S e h = on-list dynamic (suc (suc n)) type_part (option_and_then (off_principal true) (option_and_then (off_autos n None) (off is_lifetime_on_stack 1 P))) P Q S (object-long n P) e h
 
 -- ---- all cells
 all-steps : (cs : List TermCell) (P R : List StackPart) (S : List Trees) → length P ≡ length S → parts_of cs P ≡ Some R → length cs + sum_by parts S ≤ sum_by parts (behind_cells (cells_of cs) S)

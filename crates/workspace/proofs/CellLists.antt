@@ -17,7 +17,7 @@ use Rattle.workspace.specs.declared.stack.Lowered.{Lowered}
 use Rattle.workspace.specs.declared.stack.Lowered.TheVariants as lowered
 use Rattle.type_terms.specs.declared.kinds.Const.{Const}
 use Rattle.type_terms.specs.declared.region.Region.{Region}
-use Rattle.workspace.specs.Stack.{pushed, stack_of, part_of, parts_in, tree_of, trees_of_stack, StackHeld, AllParts, lowered_arg, lowered_type}
+use Rattle.workspace.specs.Stack.{pushed_parts, stack_of, part_of, parts_in, tree_of, trees_of_stack, StackHeld, AllParts, lowered_arg, lowered_type}
 use Rattle.workspace.specs.Lowers.{Lowers}
 use Rattle.workspace.proofs.Lowering.{first-made, trees_joined, args-joined, held-pushed}
 use Rattle.type_terms.proofs.ListBasics.{rev-cons}
@@ -45,7 +45,7 @@ pub trees-further : (c : TermCell) (cs : List TermCell) (old new : List Entry) (
 trees-further c cs old new S R x l = sym (ap (behind_cells (cells_of cs)) l.trees)
 
 -- ---- the stack from its bottom
-bottom : {A : Type 0} (f : Lowered → A) (xs S : List Lowered) → reverse (map f (pushed xs S)) ≡ reverse (map f S) ++ map f xs
+bottom : {A : Type 0} (f : Lowered → A) (xs S : List Lowered) → reverse (map f (pushed_parts xs S)) ≡ reverse (map f S) ++ map f xs
 bottom f [] S = sym (append-nil (reverse (map f S)))
 bottom f (x ∷ xs) S = bottom f xs (x ∷ S) ∙ ap (λ r. r ++ map f xs) (rev-cons (f x) (map f S)) ∙ append_assoc (reverse (map f S)) (f x ∷ []) (map f xs)
 
@@ -75,7 +75,7 @@ and-both : (a b : Bool) → (a && b) ≡ true → (a ≡ true) × (b ≡ true)
 and-both true b e = (refl, e)
 and-both false b e = absurd cc
 
-all-pushed : (p : StackPart → Bool) (xs S : List Lowered) → list_all p (map part_of (pushed xs S)) ≡ true → AllParts p xs × (list_all p (map part_of S) ≡ true)
+all-pushed : (p : StackPart → Bool) (xs S : List Lowered) → list_all p (map part_of (pushed_parts xs S)) ≡ true → AllParts p xs × (list_all p (map part_of S) ≡ true)
 all-pushed p [] S e = (tt, e)
 all-pushed p (x ∷ xs) S e =
     let r = all-pushed p xs (x ∷ S) e in

@@ -28,10 +28,10 @@ use Rattle.workspace.specs.declared.declared.ImplEntry.{ImplEntry}
 use Rattle.workspace.specs.declared.declared.QuestionEntry.{QuestionEntry}
 use Rattle.workspace.specs.declared.declared.Asked.{Asked}
 use Rattle.workspace.specs.declared.declared.Named.{Named}
-use Rattle.workspace.specs.Views.{crate_of, struct_of, trait_of, impl_of, question_of, asker_of, later_of, check_of, numbers_of, sorts_of, cells_of, reference_of, sort_of_kind, sorted_params}
+use Rattle.workspace.specs.Views.{crate_of, struct_of, trait_of, impl_of, question_of, asker_of, later_impl_of, check_of, numbers_of, sorts_of, cells_of, reference_of, sort_of_kind, sorted_params}
 use Rattle.workspace.specs.TermCells.{trees_of}
 use Rattle.workspace.specs.Parts.{new_struct, new_trait, new_impl}
-use Rattle.workspace.specs.Tables.{IsConsistent, declared, impls_of, will_see, with_crate, with_struct, with_trait, with_impl, with_question, NamedItem, crate_item, struct_item, trait_item, item_of, item_named, core_alone}
+use Rattle.workspace.specs.Tables.{IsConsistent, declared, impls_of, will_see, with_crate, with_struct, with_trait, with_impl, with_question, NamedItem, crate_item, struct_item, trait_item, named_item, item_named, core_alone}
 use Rattle.workspace.proofs.Each.{Each-weaken, Each-push, Each-of_map, Each-from_map, Every-from_Each, count_by-push, count_by-none, self-number, take-push, take-pushed, list_any-map, slice_get-there, within_list, at_end, past_end, place_of}
 use Rattle.workspace.proofs.Names.{Names, names-crate, names-struct, names-trait, bytes-updated, no-item}
 use Rattle.workspace.proofs.Crates.{IsOrdered, sees-same, old-sees, new-sees, later-unseen, seen_by}
@@ -114,12 +114,12 @@ NameTable = HashMap (Vec ℕ Global) Named (BuildHasherDefault FoldHasher)
 abbrev standing : NameTable → List ℕ → Option Named
 standing names n = get_by (λ k. bytes_eq n k.items) names
 
-names-kept : (old new : NameTable) (d e : Declarations) (key n : List ℕ) (v : Named) (k : NamedItem) → key ≡ n → item_of v ≡ k
+names-kept : (old new : NameTable) (d e : Declarations) (key n : List ℕ) (v : Named) (k : NamedItem) → key ≡ n → named_item v ≡ k
     → UpdatesBy (λ x y. bytes_eq x.items y.items) (λ x. bytes_eq key x.items) old new (Some v)
-    → ((m : List ℕ) → option_map item_of (standing old m) ≡ item_named d m) → Names (item_named d) (item_named e) n k → (m : List ℕ) → option_map item_of (standing new m) ≡ item_named e m
+    → ((m : List ℕ) → option_map named_item (standing old m) ≡ item_named d m) → Names (item_named d) (item_named e) n k → (m : List ℕ) → option_map named_item (standing new m) ≡ item_named e m
 names-kept old new d e key n v k same value updated before names m =
-    ap (option_map item_of) (bytes-updated key old new (Some v) updated m) ∙ cond-map item_of (bytes_eq key m) v (standing old m)
-    ∙ ap (cond (bytes_eq key m) (Some (item_of v))) (before m) ∙ ap (λ l. cond (bytes_eq l m) (Some (item_of v)) (item_named d m)) same ∙ ap (λ w. cond (bytes_eq n m) (Some w) (item_named d m)) value ∙ sym (names m)
+    ap (option_map named_item) (bytes-updated key old new (Some v) updated m) ∙ cond-map named_item (bytes_eq key m) v (standing old m)
+    ∙ ap (cond (bytes_eq key m) (Some (named_item v))) (before m) ∙ ap (λ l. cond (bytes_eq l m) (Some (named_item v)) (item_named d m)) same ∙ ap (λ w. cond (bytes_eq n m) (Some w) (item_named d m)) value ∙ sym (names m)
 
 -- ---- rows, where no crate comes
 pub rows-kept : (t : Tables) (d : Declarations) → IsConsistent t → (world_of d).crates ≡ (world_of (declared t)).crates
@@ -129,7 +129,7 @@ rows-kept t d i s = Each-weaken t.crates.items (λ c x p e. p e ∙ sym (sees-sa
 -- ---- a struct
 pub struct-consistent : (t : Tables) (structs : Vec StructEntry Global) (names : NameTable) (items : ℕ) (s : StructEntry) (key n : List ℕ) (v : Named) → IsConsistent t → AreMade is_type s.fields.items
     → structs.items ≡ t.structs.items ++ s ∷ [] → s.name.items ≡ n → s.id.index ≡ length t.structs.items → s.owner.index ≡ last_crate (declared t) → items ≡ t.last_items + 1
-    → known (declared t) n ≡ None → key ≡ n → item_of v ≡ struct_item s.id.index → UpdatesBy (λ x y. bytes_eq x.items y.items) (λ x. bytes_eq key x.items) t.names names (Some v)
+    → known (declared t) n ≡ None → key ≡ n → named_item v ≡ struct_item s.id.index → UpdatesBy (λ x y. bytes_eq x.items y.items) (λ x. bytes_eq key x.items) t.names names (Some v)
     → IsConsistent (record t { structs = structs; names = names; last_items = items })
 struct-consistent t structs names items s key n v i good behind text number home more new same value updated =
     let d = declared t in
@@ -163,7 +163,7 @@ struct-declared t structs s n behind text number home =
 -- ---- a trait
 pub trait-consistent : (t : Tables) (traits : Vec TraitEntry Global) (names : NameTable) (items : ℕ) (s : TraitEntry) (key n : List ℕ) (v : Named) → IsConsistent t → ReferencesMade s.bounds.items
     → traits.items ≡ t.traits.items ++ s ∷ [] → s.name.items ≡ n → s.id.index ≡ length t.traits.items → s.owner.index ≡ last_crate (declared t) → items ≡ t.last_items + 1
-    → known (declared t) n ≡ None → key ≡ n → item_of v ≡ trait_item s.id.index → UpdatesBy (λ x y. bytes_eq x.items y.items) (λ x. bytes_eq key x.items) t.names names (Some v)
+    → known (declared t) n ≡ None → key ≡ n → named_item v ≡ trait_item s.id.index → UpdatesBy (λ x y. bytes_eq x.items y.items) (λ x. bytes_eq key x.items) t.names names (Some v)
     → IsConsistent (record t { traits = traits; names = names; last_items = items })
 trait-consistent t traits names items s key n v i good behind text number home more new same value updated =
     let d = declared t in
@@ -271,7 +271,7 @@ world-length t = length-map (declared t).crates (λ c. c.item) ∙ length-map t.
 pub crate-consistent : (t : Tables) (crates : Vec CrateEntry Global) (ids : Vec CrateId Global) (names : NameTable) (x : CrateEntry) (y : CrateId) (key n : List ℕ) (v : Named) → IsConsistent t
     → crates.items ≡ t.crates.items ++ x ∷ [] → ids.items ≡ t.ids.items ++ y ∷ [] → y.index ≡ x.id.index → x.name.items ≡ n → x.id.index ≡ length t.crates.items → All (λ u. u.index < length t.crates.items) x.uses.items
     → ((e : ℕ) → unwrap_or (slice_get x.sees.items e) false ≡ sees (world_of (with_crate (declared t) (record { text = n; item = record { name = length t.crates.items; uses = numbers_of x.uses.items } }))) (length t.crates.items) e)
-    → known (declared t) n ≡ None → key ≡ n → item_of v ≡ crate_item x.id.index → UpdatesBy (λ y z. bytes_eq y.items z.items) (λ y. bytes_eq key y.items) t.names names (Some v)
+    → known (declared t) n ≡ None → key ≡ n → named_item v ≡ crate_item x.id.index → UpdatesBy (λ y z. bytes_eq y.items z.items) (λ y. bytes_eq key y.items) t.names names (Some v)
     → IsConsistent (record t { crates = crates; ids = ids; names = names; last_impls = 0; last_items = 0; in_section = false })
 crate-consistent t crates ids names x y key n v i behind also same-number text number earlier row new same value updated =
     let d = declared t in
@@ -394,7 +394,7 @@ no-section : (t : Tables) → HasNoSection t → declared t ≡ record (declared
 no-section t h =
     let d = declared t in
     ap (λ ss. record d { sections = numbers_of ss }) h.sections
-    ∙ ap (λ is. record d { sections = []; later_impls = map later_of is }) h.later
+    ∙ ap (λ is. record d { sections = []; later_impls = map later_impl_of is }) h.later
     ∙ ap (λ cs. record d { sections = []; later_impls = []; checks = map check_of cs }) h.checks
     ∙ ap (λ b. record d { sections = []; later_impls = []; checks = []; in_section = b }) h.outside
 
@@ -416,7 +416,7 @@ pub core-consistent : (t : Tables) (old : NameTable) (zs : List CrateEntry) (x :
     → t.crates.items ≡ zs ++ x ∷ [] → t.ids.items ≡ y ∷ [] → UpdatesBy (λ a b. bytes_eq a.items b.items) (λ a. bytes_eq key a.items) old t.names (Some v) → zs ≡ []
     → x.id.index ≡ 0 → x.name.items ≡ codes "core" → x.uses.items ≡ [] → t.structs.items ≡ [] → t.traits.items ≡ [] → x.sees.items ≡ true ∷ [] → y.index ≡ 0 → t.impls.items ≡ [] → t.questions.items ≡ [] → t.asked.items ≡ []
     → t.last_impls ≡ 0 → t.last_items ≡ 0 → HasNoSection t
-    → old.entries ≡ [] → key ≡ codes "core" → item_of v ≡ crate_item 0 → IsConsistent t
+    → old.entries ≡ [] → key ≡ codes "core" → named_item v ≡ crate_item 0 → IsConsistent t
 unfolding nobody
 core-consistent t old zs x y key v behind ids updated none number name uses structs traits marked number-too impls questions asked no-impls no-items bare empty same value =
     let crates : t.crates.items ≡ x ∷ [] = behind ∙ ap (λ ws. ws ++ x ∷ []) none in
@@ -427,7 +427,7 @@ core-consistent t old zs x y key v behind ids updated none number name uses stru
       ids = ap numbers_of ids ∙ ap (λ k. k ∷ []) (number-too ∙ sym number) ∙ sym (ap (map (λ c. c.id.index)) crates);
       asked = asked ∙ sym (ap (map (λ q. q.asked_how)) questions);
       rows = subst (EachNumbered Row) (sym crates) (Each-push [] x (Each-nothing Row) (λ m. ap (λ r. unwrap_or (slice_get r m) false) marked ∙ core-row m ∙ sym (ap (λ d. sees (world_of d) 0 m) e)));
-      names = names-kept old t.names nobody (declared t) key (codes "core") v (crate_item 0) same value updated (λ m. ap (λ es. option_map item_of (lookup (λ k. bytes_eq m k.items) es)) empty)
+      names = names-kept old t.names nobody (declared t) key (codes "core") v (crate_item 0) same value updated (λ m. ap (λ es. option_map named_item (lookup (λ k. bytes_eq m k.items) es)) empty)
           (subst (λ d. Names (item_named nobody) (item_named d) (codes "core") (crate_item 0)) (sym e) (names-crate nobody (record { text = codes "core"; item = record { name = core; uses = [] } }) refl));
       numbers = subst (λ is. EachNumbered (λ k i. i.number_in_crate ≡ impls_of i.owner.index (take (suc k) is)) is) (sym impls) (Each-nothing (λ k i. i.number_in_crate ≡ impls_of i.owner.index (take (suc k) [])));
       last_impls = no-impls ∙ sym (ap (impls_of (last_crate (declared t))) impls);

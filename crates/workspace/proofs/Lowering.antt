@@ -29,7 +29,7 @@ use Rattle.workspace.specs.Made.{StackPart, type_part, const_part, lifetime_part
 use Rattle.workspace.specs.Views.{cell_of}
 use Rattle.workspace.specs.declared.stack.Lowered.{Lowered}
 use Rattle.workspace.specs.declared.stack.Lowered.TheVariants as lowered
-use Rattle.workspace.specs.Stack.{pushed, part_of, tree_of, trees_of_stack, LoweredHeld, StackHeld, lowered_arg, lowered_type, lowered_auto, PopsPrincipal}
+use Rattle.workspace.specs.Stack.{pushed_parts, part_of, tree_of, trees_of_stack, LoweredHeld, StackHeld, lowered_arg, lowered_type, lowered_auto, PopsPrincipal}
 use Rattle.workspace.proofs.Stacks.{pushed-push}
 use Rattle.workspace.specs.Lowers.{Lowers, IsLeafOf}
 use Rattle.type_terms.proofs.TermBasics.{and-none, assoc}
@@ -66,8 +66,8 @@ kept-stack old new (x ∷ S) keeps h = (kept-held old new x keeps h.0, kept-stac
 pub keeps-then : (a b c : List Entry) → Keeps a b → Keeps b c → Keeps a c
 keeps-then a b c p q = λ i e h. q i e (p i e h)
 
--- ---- what was pushed is the interner's
-pub held-pushed : (es : List Entry) (xs S : List Lowered) → StackHeld es (pushed xs S) → StackHeld es xs × StackHeld es S
+-- ---- what was pushed_parts is the interner's
+pub held-pushed : (es : List Entry) (xs S : List Lowered) → StackHeld es (pushed_parts xs S) → StackHeld es xs × StackHeld es S
 held-pushed es [] S h = (tt, h)
 held-pushed es (x ∷ xs) S h = let r = held-pushed es xs (x ∷ S) h in ((r.1.0, r.0), r.1.1)
 
@@ -89,24 +89,24 @@ abbrev pub trees_joined : List Entry → List Lowered → Trees
 trees_joined es [] = none
 trees_joined es (x ∷ xs) = tree_of es x +++ trees_joined es xs
 
-gathered-pushed : (es : List Entry) (xs : List Lowered) (j : ℕ) (S : List Lowered) (o : Trees) → gathered (length xs + j) (trees_of_stack es (pushed xs S)) o ≡ gathered j (trees_of_stack es S) (trees_joined es xs +++ o)
+gathered-pushed : (es : List Entry) (xs : List Lowered) (j : ℕ) (S : List Lowered) (o : Trees) → gathered (length xs + j) (trees_of_stack es (pushed_parts xs S)) o ≡ gathered j (trees_of_stack es S) (trees_joined es xs +++ o)
 gathered-pushed es [] j S o = let e : 0 + j ≡ j = omega arith in ap (λ k. gathered k (trees_of_stack es S) o) e
 gathered-pushed es (x ∷ xs) j S o =
     let e : suc (length xs) + j ≡ length xs + suc j = omega arith in
-    ap (λ k. gathered k (trees_of_stack es (pushed xs (x ∷ S))) o) e ∙ gathered-pushed es xs (suc j) (x ∷ S) o ∙ ap (gathered j (trees_of_stack es S)) (sym (assoc (tree_of es x) (trees_joined es xs) o))
+    ap (λ k. gathered k (trees_of_stack es (pushed_parts xs (x ∷ S))) o) e ∙ gathered-pushed es xs (suc j) (x ∷ S) o ∙ ap (gathered j (trees_of_stack es S)) (sym (assoc (tree_of es x) (trees_joined es xs) o))
 
-below-pushed : (es : List Entry) (xs : List Lowered) (j : ℕ) (S : List Lowered) → below (length xs + j) (trees_of_stack es (pushed xs S)) ≡ below j (trees_of_stack es S)
+below-pushed : (es : List Entry) (xs : List Lowered) (j : ℕ) (S : List Lowered) → below (length xs + j) (trees_of_stack es (pushed_parts xs S)) ≡ below j (trees_of_stack es S)
 below-pushed es [] j S = let e : 0 + j ≡ j = omega arith in ap (λ k. below k (trees_of_stack es S)) e
 below-pushed es (x ∷ xs) j S =
     let e : suc (length xs) + j ≡ length xs + suc j = omega arith in
-    ap (λ k. below k (trees_of_stack es (pushed xs (x ∷ S)))) e ∙ below-pushed es xs (suc j) (x ∷ S)
+    ap (λ k. below k (trees_of_stack es (pushed_parts xs (x ∷ S)))) e ∙ below-pushed es xs (suc j) (x ∷ S)
 
 node-pushed : (es : List Entry) (l : Label) (n : ℕ) (xs S : List Lowered) → length xs ≡ n
-    → behind_cell (cell.node_cell l n) (trees_of_stack es (pushed xs S)) ≡ tree l (trees_joined es xs) none ∷ trees_of_stack es S
+    → behind_cell (cell.node_cell l n) (trees_of_stack es (pushed_parts xs S)) ≡ tree l (trees_joined es xs) none ∷ trees_of_stack es S
 node-pushed es l n xs S long =
     let e : n ≡ length xs + 0 = omega (arith, long) in
-    ap (λ k. behind_cell (cell.node_cell l k) (trees_of_stack es (pushed xs S))) e
-    ∙ ap (λ c. tree l c none ∷ below (length xs + 0) (trees_of_stack es (pushed xs S))) (gathered-pushed es xs 0 S none ∙ and-none (trees_joined es xs))
+    ap (λ k. behind_cell (cell.node_cell l k) (trees_of_stack es (pushed_parts xs S))) e
+    ∙ ap (λ c. tree l c none ∷ below (length xs + 0) (trees_of_stack es (pushed_parts xs S))) (gathered-pushed es xs 0 S none ∙ and-none (trees_joined es xs))
     ∙ ap (λ r. tree l (trees_joined es xs) none ∷ r) (below-pushed es xs 0 S)
 
 pub args-joined : (es : List Entry) (xs : List GenericArgKind) → trees_joined es (map lowered_arg xs) ≡ args_trees es xs
@@ -120,21 +120,21 @@ tys-joined es [] = refl
 tys-joined es (t ∷ ts) = ap (λ o. trees_at es t.0 +++ o) (tys-joined es ts)
 
 -- ---- their parts
-off-args : (xs : List GenericArgKind) (j : ℕ) (S : List Lowered) → off is_arg (length xs + j) (map part_of (pushed (map lowered_arg xs) S)) ≡ off is_arg j (map part_of S)
+off-args : (xs : List GenericArgKind) (j : ℕ) (S : List Lowered) → off is_arg (length xs + j) (map part_of (pushed_parts (map lowered_arg xs) S)) ≡ off is_arg j (map part_of S)
 off-args [] j S = let e : 0 + j ≡ j = omega arith in ap (λ k. off is_arg k (map part_of S)) e
-off-args (args.Ty t ∷ xs) j S = let e : suc (length xs) + j ≡ length xs + suc j = omega arith in ap (λ k. off is_arg k (map part_of (pushed (map lowered_arg xs) (lowered.Type t ∷ S)))) e ∙ off-args xs (suc j) (lowered.Type t ∷ S)
-off-args (args.Const c ∷ xs) j S = let e : suc (length xs) + j ≡ length xs + suc j = omega arith in ap (λ k. off is_arg k (map part_of (pushed (map lowered_arg xs) (lowered.Const c ∷ S)))) e ∙ off-args xs (suc j) (lowered.Const c ∷ S)
-off-args (args.Lifetime r ∷ xs) j S = let e : suc (length xs) + j ≡ length xs + suc j = omega arith in ap (λ k. off is_arg k (map part_of (pushed (map lowered_arg xs) (lowered.Lifetime r ∷ S)))) e ∙ off-args xs (suc j) (lowered.Lifetime r ∷ S)
+off-args (args.Ty t ∷ xs) j S = let e : suc (length xs) + j ≡ length xs + suc j = omega arith in ap (λ k. off is_arg k (map part_of (pushed_parts (map lowered_arg xs) (lowered.Type t ∷ S)))) e ∙ off-args xs (suc j) (lowered.Type t ∷ S)
+off-args (args.Const c ∷ xs) j S = let e : suc (length xs) + j ≡ length xs + suc j = omega arith in ap (λ k. off is_arg k (map part_of (pushed_parts (map lowered_arg xs) (lowered.Const c ∷ S)))) e ∙ off-args xs (suc j) (lowered.Const c ∷ S)
+off-args (args.Lifetime r ∷ xs) j S = let e : suc (length xs) + j ≡ length xs + suc j = omega arith in ap (λ k. off is_arg k (map part_of (pushed_parts (map lowered_arg xs) (lowered.Lifetime r ∷ S)))) e ∙ off-args xs (suc j) (lowered.Lifetime r ∷ S)
 
-off-types : (ts : List Ty) (j : ℕ) (S : List Lowered) → off is_type (length ts + j) (map part_of (pushed (map lowered_type ts) S)) ≡ off is_type j (map part_of S)
+off-types : (ts : List Ty) (j : ℕ) (S : List Lowered) → off is_type (length ts + j) (map part_of (pushed_parts (map lowered_type ts) S)) ≡ off is_type j (map part_of S)
 off-types [] j S = let e : 0 + j ≡ j = omega arith in ap (λ k. off is_type k (map part_of S)) e
-off-types (t ∷ ts) j S = let e : suc (length ts) + j ≡ length ts + suc j = omega arith in ap (λ k. off is_type k (map part_of (pushed (map lowered_type ts) (lowered.Type t ∷ S)))) e ∙ off-types ts (suc j) (lowered.Type t ∷ S)
+off-types (t ∷ ts) j S = let e : suc (length ts) + j ≡ length ts + suc j = omega arith in ap (λ k. off is_type k (map part_of (pushed_parts (map lowered_type ts) (lowered.Type t ∷ S)))) e ∙ off-types ts (suc j) (lowered.Type t ∷ S)
 
-all-args : (xs : List GenericArgKind) (n : ℕ) (S R : List Lowered) → length xs ≡ n → S ≡ pushed (map lowered_arg xs) R → off is_arg n (map part_of S) ≡ Some (map part_of R)
-all-args xs n S R long is = let e : n ≡ length xs + 0 = omega (arith, long) in ap (λ T. off is_arg n (map part_of T)) is ∙ ap (λ k. off is_arg k (map part_of (pushed (map lowered_arg xs) R))) e ∙ off-args xs 0 R
+all-args : (xs : List GenericArgKind) (n : ℕ) (S R : List Lowered) → length xs ≡ n → S ≡ pushed_parts (map lowered_arg xs) R → off is_arg n (map part_of S) ≡ Some (map part_of R)
+all-args xs n S R long is = let e : n ≡ length xs + 0 = omega (arith, long) in ap (λ T. off is_arg n (map part_of T)) is ∙ ap (λ k. off is_arg k (map part_of (pushed_parts (map lowered_arg xs) R))) e ∙ off-args xs 0 R
 
-all-types : (ts : List Ty) (n : ℕ) (S R : List Lowered) → length ts ≡ n → S ≡ pushed (map lowered_type ts) R → off is_type n (map part_of S) ≡ Some (map part_of R)
-all-types ts n S R long is = let e : n ≡ length ts + 0 = omega (arith, long) in ap (λ T. off is_type n (map part_of T)) is ∙ ap (λ k. off is_type k (map part_of (pushed (map lowered_type ts) R))) e ∙ off-types ts 0 R
+all-types : (ts : List Ty) (n : ℕ) (S R : List Lowered) → length ts ≡ n → S ≡ pushed_parts (map lowered_type ts) R → off is_type n (map part_of S) ≡ Some (map part_of R)
+all-types ts n S R long is = let e : n ≡ length ts + 0 = omega (arith, long) in ap (λ T. off is_type n (map part_of T)) is ∙ ap (λ k. off is_type k (map part_of (pushed_parts (map lowered_type ts) R))) e ∙ off-types ts 0 R
 
 -- what holds of what is inside
 pub inside-made : {A B : Type 0} (f : A → B) (o : Option A) → IsSome (option_map f o) → IsSome o
@@ -146,8 +146,8 @@ first-made f None h = absurd cc
 first-made f (Some x) h = refl
 
 -- ---- one cell
--- a node over what was pushed
-pub node-lowers : (c : TermCell) (l : Label) (n : ℕ) (xs : List Lowered) (old new : List Entry) (S R : List Lowered) (x : Lowered) → cell_of c ≡ cell.node_cell l n → S ≡ pushed xs R → length xs ≡ n
+-- a node over what was pushed_parts
+pub node-lowers : (c : TermCell) (l : Label) (n : ℕ) (xs : List Lowered) (old new : List Entry) (S R : List Lowered) (x : Lowered) → cell_of c ≡ cell.node_cell l n → S ≡ pushed_parts xs R → length xs ≡ n
     → parts_behind c (map part_of S) ≡ Some (part_of x ∷ map part_of R) → StackHeld old S → Keeps old new → LoweredHeld new x → tree_of new x ≡ tree l (trees_joined old xs) none
     → Lowers c old new S x R
 node-lowers c l n xs old new S R x node is long parts held keeps there made =
@@ -189,14 +189,14 @@ pub const-lowers : (k : ConstKind) (old new : List Entry) (h : Const) → Is new
 const-lowers k old new h is keeps S held = node-lowers (cells.Const k) (const_label k) 0 [] old new S S (lowered.Const h) refl refl refl refl held keeps (leaf (const_label k), is) (is-tree new consts h.0 (leaf (const_label k)) is)
 
 -- a type over arguments, which were made a list first
-pub adt-lowers : (s : AdtId) (n : ℕ) (xs : List GenericArgKind) (old mid new : List Entry) (S R : List Lowered) (k : ℕ) (h : Ty) → S ≡ pushed (map lowered_arg xs) R → length xs ≡ n → StackHeld old S
+pub adt-lowers : (s : AdtId) (n : ℕ) (xs : List GenericArgKind) (old mid new : List Entry) (S R : List Lowered) (k : ℕ) (h : Ty) → S ≡ pushed_parts (map lowered_arg xs) R → length xs ≡ n → StackHeld old S
     → Is mid args_lists k (args_trees old xs) → Keeps old mid → Is new types h.0 (tree (adt s.index) (trees_at mid k) none) → Keeps mid new → Lowers (cells.Adt s n) old new S (lowered.Type h) R
 adt-lowers s n xs old mid new S R k h is long held list first made second =
     node-lowers (cells.Adt s n) (adt s.index) n (map lowered_arg xs) old new S R (lowered.Type h) refl is (length-map xs lowered_arg ∙ long)
     (ap (option_map (λ T. type_part ∷ T)) (all-args xs n S R long is)) held (keeps-then old mid new first second) (_, made)
     (is-tree new types h.0 _ made ∙ ap (λ t. tree (adt s.index) t none) (is-tree mid args_lists k _ list ∙ sym (args-joined old xs)))
 
-pub tuple-lowers : (n : ℕ) (ts : List Ty) (old mid new : List Entry) (S R : List Lowered) (k : ℕ) (h : Ty) → S ≡ pushed (map lowered_type ts) R → length ts ≡ n → StackHeld old S
+pub tuple-lowers : (n : ℕ) (ts : List Ty) (old mid new : List Entry) (S R : List Lowered) (k : ℕ) (h : Ty) → S ≡ pushed_parts (map lowered_type ts) R → length ts ≡ n → StackHeld old S
     → Is mid type_lists k (tys_trees old ts) → Keeps old mid → Is new types h.0 (tree tuple (trees_at mid k) none) → Keeps mid new → Lowers (cells.Tuple n) old new S (lowered.Type h) R
 tuple-lowers n ts old mid new S R k h is long held list first made second =
     node-lowers (cells.Tuple n) tuple n (map lowered_type ts) old new S R (lowered.Type h) refl is (length-map ts lowered_type ∙ long)
@@ -234,7 +234,7 @@ array-lowers t k old new S T R h top next held made keeps =
     (ap (λ U. parts_behind cells.Array (map part_of U)) is) held keeps (_, made)
     (is-tree new types h.0 _ made ∙ ap (λ o. tree array (trees_at old t.0 +++ o) none) (sym (and-none (trees_at old k.0))))
 
-pub fn-lowers : (b n : ℕ) (ts : List Ty) (old mid new : List Entry) (S R : List Lowered) (k : ℕ) (h : Ty) → IsSome (parts_behind (cells.FnPtr b n) (map part_of S)) → S ≡ pushed (map lowered_type ts) R → length ts ≡ n → StackHeld old S
+pub fn-lowers : (b n : ℕ) (ts : List Ty) (old mid new : List Entry) (S R : List Lowered) (k : ℕ) (h : Ty) → IsSome (parts_behind (cells.FnPtr b n) (map part_of S)) → S ≡ pushed_parts (map lowered_type ts) R → length ts ≡ n → StackHeld old S
     → Is mid type_lists k (tys_trees old ts) → Keeps old mid → Is new types h.0 (tree (fn_ptr b) (trees_at mid k) none) → Keeps mid new → Lowers (cells.FnPtr b n) old new S (lowered.Type h) R
 fn-lowers b zero ts old mid new S R k h some is long held list first made second = absurd cc
 fn-lowers b (suc n) ts old mid new S R k h some is long held list first made second =
@@ -257,7 +257,7 @@ pub fn-made : (b n : ℕ) (P : List StackPart) → IsSome (parts_behind (cells.F
 fn-made b zero P some = absurd cc
 fn-made b (suc n) P some = inside-made (λ T. type_part ∷ T) (off is_type (suc n) P) some
 
-pub principal-lowers : (b : ℕ) (t : TraitId) (n : ℕ) (xs : List GenericArgKind) (p : Principal) (old new : List Entry) (S R : List Lowered) → p.bound_vars ≡ b → p.def_id ≡ t → S ≡ pushed (map lowered_arg xs) R → length xs ≡ n → StackHeld old S
+pub principal-lowers : (b : ℕ) (t : TraitId) (n : ℕ) (xs : List GenericArgKind) (p : Principal) (old new : List Entry) (S R : List Lowered) → p.bound_vars ≡ b → p.def_id ≡ t → S ≡ pushed_parts (map lowered_arg xs) R → length xs ≡ n → StackHeld old S
     → Is new args_lists p.args.0 (args_trees old xs) → Keeps old new → Lowers (cells.Principal b t n) old new S (lowered.Principal p) R
 principal-lowers b t n xs p old new S R vars def is long held list keeps =
     node-lowers (cells.Principal b t n) (principal b t.index) n (map lowered_arg xs) old new S R (lowered.Principal p) refl is (length-map xs lowered_arg ∙ long)
@@ -279,17 +279,17 @@ autos-left (suc n) u (const_part ∷ P) some = absurd cc
 autos-left (suc n) u (lifetime_part ∷ P) some = absurd cc
 autos-left (suc n) u (principal_part ∷ P) some = absurd cc
 
-drop-pushed : (xs : List Lowered) (j : ℕ) (S : List Lowered) → drop (length xs + j) (map part_of (pushed xs S)) ≡ drop j (map part_of S)
+drop-pushed : (xs : List Lowered) (j : ℕ) (S : List Lowered) → drop (length xs + j) (map part_of (pushed_parts xs S)) ≡ drop j (map part_of S)
 drop-pushed [] j S = let e : 0 + j ≡ j = omega arith in ap (λ k. drop k (map part_of S)) e
 drop-pushed (x ∷ xs) j S =
     let e : suc (length xs) + j ≡ length xs + suc j = omega arith in
-    ap (λ k. drop k (map part_of (pushed xs (x ∷ S)))) e ∙ drop-pushed xs (suc j) (x ∷ S)
+    ap (λ k. drop k (map part_of (pushed_parts xs (x ∷ S)))) e ∙ drop-pushed xs (suc j) (x ∷ S)
 
 -- what is left below the auto traits
-pub autos-off : (n : ℕ) (ts : List TraitId) (S R : List Lowered) → IsSome (off_autos n None (map part_of S)) → length ts ≡ n → S ≡ pushed (map lowered_auto ts) R → off_autos n None (map part_of S) ≡ Some (map part_of R)
+pub autos-off : (n : ℕ) (ts : List TraitId) (S R : List Lowered) → IsSome (off_autos n None (map part_of S)) → length ts ≡ n → S ≡ pushed_parts (map lowered_auto ts) R → off_autos n None (map part_of S) ≡ Some (map part_of R)
 autos-off n ts S R some long is =
     let e : n ≡ length (map lowered_auto ts) + 0 = omega (arith, long, length-map ts lowered_auto) in
-    autos-left n None (map part_of S) some ∙ ap Some (ap (λ T. drop n (map part_of T)) is ∙ ap (λ k. drop k (map part_of (pushed (map lowered_auto ts) R))) e ∙ drop-pushed (map lowered_auto ts) 0 R)
+    autos-left n None (map part_of S) some ∙ ap Some (ap (λ T. drop n (map part_of T)) is ∙ ap (λ k. drop k (map part_of (pushed_parts (map lowered_auto ts) R))) e ∙ drop-pushed (map lowered_auto ts) 0 R)
 
 joined-append : (es : List Entry) (xs ys : List Lowered) → trees_joined es (xs ++ ys) ≡ trees_joined es xs +++ trees_joined es ys
 joined-append es [] ys = refl
@@ -303,7 +303,7 @@ bounds-joined : (es : List Entry) (ts : List TraitId) (r : Region) → trees_joi
 bounds-joined es ts r = joined-append es (map lowered_auto ts) (lowered.Lifetime r ∷ []) ∙ ap (λ o. o +++ region_trees r) (autos-joined es ts)
 
 -- the stack of a `dyn`: its auto traits, its lifetime
-below-lifetime : (ts : List TraitId) (r : Region) (S T R : List Lowered) → S ≡ lowered.Lifetime r ∷ T → T ≡ pushed (map lowered_auto ts) R → S ≡ pushed (map lowered_auto ts ++ lowered.Lifetime r ∷ []) R
+below-lifetime : (ts : List TraitId) (r : Region) (S T R : List Lowered) → S ≡ lowered.Lifetime r ∷ T → T ≡ pushed_parts (map lowered_auto ts) R → S ≡ pushed_parts (map lowered_auto ts ++ lowered.Lifetime r ∷ []) R
 below-lifetime ts r S T R top next = top ∙ ap (λ U. lowered.Lifetime r ∷ U) next ∙ sym (pushed-push (map lowered_auto ts) (lowered.Lifetime r) R)
 
 pub autos-made : (p : Bool) (n : ℕ) (r : Region) (S T : List Lowered) → IsSome (parts_behind (cells.Dynamic p n) (map part_of S)) → S ≡ lowered.Lifetime r ∷ T → IsSome (off_autos n None (map part_of T))
@@ -311,7 +311,7 @@ autos-made p n r S T some top =
     let g : IsSome (parts_behind (cells.Dynamic p n) (lifetime_part ∷ map part_of T)) = subst (λ U. IsSome (parts_behind (cells.Dynamic p n) (map part_of U))) top some in
     first-made (off_principal p) (off_autos n None (map part_of T)) (inside-made (λ U. type_part ∷ U) (option_and_then (off_principal p) (off_autos n None (map part_of T))) g)
 
-pub principal-made : (p : Bool) (n : ℕ) (ts : List TraitId) (r : Region) (S T U : List Lowered) → IsSome (parts_behind (cells.Dynamic p n) (map part_of S)) → S ≡ lowered.Lifetime r ∷ T → length ts ≡ n → T ≡ pushed (map lowered_auto ts) U
+pub principal-made : (p : Bool) (n : ℕ) (ts : List TraitId) (r : Region) (S T U : List Lowered) → IsSome (parts_behind (cells.Dynamic p n) (map part_of S)) → S ≡ lowered.Lifetime r ∷ T → length ts ≡ n → T ≡ pushed_parts (map lowered_auto ts) U
     → IsSome (off_principal p (map part_of U))
 principal-made p n ts r S T U some top long next =
     let g : IsSome (parts_behind (cells.Dynamic p n) (lifetime_part ∷ map part_of T)) = subst (λ V. IsSome (parts_behind (cells.Dynamic p n) (map part_of V))) top some in
@@ -319,11 +319,11 @@ principal-made p n ts r S T U some top long next =
     subst (λ o. IsSome (option_and_then (off_principal p) o)) (autos-off n ts T U (autos-made p n r S T some top) long next) inner
 
 pub dyn-lowers : (p : Bool) (n : ℕ) (ts : List TraitId) (r : Region) (q : Option Principal) (old mid new : List Entry) (S T U R : List Lowered) (k : ℕ) (h : Ty) → IsSome (parts_behind (cells.Dynamic p n) (map part_of S))
-    → S ≡ lowered.Lifetime r ∷ T → length ts ≡ n → T ≡ pushed (map lowered_auto ts) U → PopsPrincipal p U q R → StackHeld old S
+    → S ≡ lowered.Lifetime r ∷ T → length ts ≡ n → T ≡ pushed_parts (map lowered_auto ts) U → PopsPrincipal p U q R → StackHeld old S
     → Is mid bounds_lists k (principal_trees old q +++ autos_trees ts) → Keeps old mid → Is new types h.0 (tree dynamic (trees_at mid k +++ region_trees r) none) → Keeps mid new
     → Lowers (cells.Dynamic p n) old new S (lowered.Type h) R
 dyn-lowers false n ts r q old mid new S T U R k h some top long next pops held list first made second =
-    let is = below-lifetime ts r S T R top (next ∙ ap (pushed (map lowered_auto ts)) pops.1) in
+    let is = below-lifetime ts r S T R top (next ∙ ap (pushed_parts (map lowered_auto ts)) pops.1) in
     let count : length (map lowered_auto ts ++ lowered.Lifetime r ∷ []) ≡ suc n = length-append (map lowered_auto ts) (lowered.Lifetime r ∷ []) ∙ omega (arith, length-map ts lowered_auto, long) in
     let parts : parts_behind (cells.Dynamic false n) (map part_of S) ≡ Some (type_part ∷ map part_of R) =
     ap (λ V. parts_behind (cells.Dynamic false n) (map part_of V)) top
@@ -334,7 +334,7 @@ dyn-lowers false n ts r q old mid new S T U R k h some top long next pops held l
     (is-tree new types h.0 _ made ∙ ap (λ b. tree dynamic (b +++ region_trees r) none) bounds ∙ ap (λ o. tree dynamic o none) (sym (bounds-joined old ts r)))
 dyn-lowers true n ts r None old mid new S T U R k h some top long next pops held list first made second = absurd pops
 dyn-lowers true n ts r (Some p) old mid new S T U R k h some top long next pops held list first made second =
-    let is = below-lifetime ts r S T U top next ∙ ap (pushed (map lowered_auto ts ++ lowered.Lifetime r ∷ [])) pops in
+    let is = below-lifetime ts r S T U top next ∙ ap (pushed_parts (map lowered_auto ts ++ lowered.Lifetime r ∷ [])) pops in
     let count : length (lowered.Principal p ∷ (map lowered_auto ts ++ lowered.Lifetime r ∷ [])) ≡ suc (suc n) = ap suc (length-append (map lowered_auto ts) (lowered.Lifetime r ∷ []) ∙ omega (arith, length-map ts lowered_auto, long)) in
     let parts : parts_behind (cells.Dynamic true n) (map part_of S) ≡ Some (type_part ∷ map part_of R) =
     ap (λ V. parts_behind (cells.Dynamic true n) (map part_of V)) top
@@ -345,7 +345,7 @@ dyn-lowers true n ts r (Some p) old mid new S T U R k h some top long next pops 
     (is-tree new types h.0 _ made ∙ ap (λ b. tree dynamic (b +++ region_trees r) none) (is-tree mid bounds_lists k _ list)
     ∙ ap (λ o. tree dynamic o none) (assoc root (autos_trees ts) (region_trees r) ∙ ap (λ o. root +++ o) (sym (bounds-joined old ts r))))
 
-pub principal-held : (es : List Entry) (p : Bool) (ts : List TraitId) (r : Region) (q : Option Principal) (S T U R : List Lowered) → S ≡ lowered.Lifetime r ∷ T → T ≡ pushed (map lowered_auto ts) U → PopsPrincipal p U q R → StackHeld es S
+pub principal-held : (es : List Entry) (p : Bool) (ts : List TraitId) (r : Region) (q : Option Principal) (S T U R : List Lowered) → S ≡ lowered.Lifetime r ∷ T → T ≡ pushed_parts (map lowered_auto ts) U → PopsPrincipal p U q R → StackHeld es S
     → PrincipalHeld es q
 principal-held es false ts r q S T U R top next pops held = subst (PrincipalHeld es) (sym pops.0) tt
 principal-held es true ts r None S T U R top next pops held = absurd pops

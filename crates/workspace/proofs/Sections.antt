@@ -16,7 +16,7 @@ use Rattle.workspace.specs.declared.tables.Tables.{Tables}
 use Rattle.workspace.specs.declared.declared.LaterEntry.{LaterEntry}
 use Rattle.workspace.specs.declared.declared.Check as InCode
 use Rattle.workspace.specs.declared.declared.Check.TheVariants as checked
-use Rattle.workspace.specs.Views.{crate_of, numbers_of, later_of, check_of, reference_of, sorted_params, sort_of_kind}
+use Rattle.workspace.specs.Views.{crate_of, numbers_of, later_impl_of, check_of, reference_of, sorted_params, sort_of_kind}
 use Rattle.workspace.specs.Tables.{IsConsistent, declared, with_later}
 use Rattle.workspace.specs.Parts.{new_later}
 use Rattle.workspace.proofs.Each.{Each-weaken, Each-push, Each-from_map, below-at, Every-from_Each, count_by-push, count_by-none, slice_get-there}
@@ -162,15 +162,15 @@ supers-consistent t checks asked i there also =
 -- ---- an impl of a section
 pub later-declared : (t : Tables) (is : List LaterEntry) (m : LaterEntry)
     → is ≡ t.later_impls.items ++ m ∷ [] → m.section ≡ length t.sections.items - 1 → m.entry.id.index ≡ t.last_later → m.entry.owner.index ≡ last_changed (declared t) → IsConsistent t
-    → record (declared t) { later_impls = map later_of is }
+    → record (declared t) { later_impls = map later_impl_of is }
     ≡ with_later (declared t) (new_later (declared t) (sorted_params m.entry.params.items) (reference_of m.entry.header) (map reference_of m.entry.clauses.items))
 later-declared t is m behind section number home i =
     let d = declared t in
-    ap (λ ms. record d { later_impls = ms }) (ap (map later_of) behind ∙ map_push later_of t.later_impls.items m)
-    ∙ ap (λ k. with_later d (record { section = k; added = (later_of m).added })) (section ∙ ap (λ n. n - 1) (sym (length-map t.sections.items (λ c. c.index))))
-    ∙ ap (λ k. with_later d (record { section = length d.sections - 1; added = record { params = sorted_params m.entry.params.items; item = record (later_of m).added.item { name = k } } })) (number ∙ i.last_later)
-    ∙ ap (λ h. with_later d (record { section = length d.sections - 1; added = record { params = sorted_params m.entry.params.items; item = record (later_of m).added.item { name = last_later d; home = h } } })) home
-    ∙ ap (λ k. with_later d (record { section = length d.sections - 1; added = record { params = sorted_params m.entry.params.items; item = record (later_of m).added.item { name = last_later d; home = last_changed d; params = k } } }))
+    ap (λ ms. record d { later_impls = ms }) (ap (map later_impl_of) behind ∙ map_push later_impl_of t.later_impls.items m)
+    ∙ ap (λ k. with_later d (record { section = k; added = (later_impl_of m).added })) (section ∙ ap (λ n. n - 1) (sym (length-map t.sections.items (λ c. c.index))))
+    ∙ ap (λ k. with_later d (record { section = length d.sections - 1; added = record { params = sorted_params m.entry.params.items; item = record (later_impl_of m).added.item { name = k } } })) (number ∙ i.last_later)
+    ∙ ap (λ h. with_later d (record { section = length d.sections - 1; added = record { params = sorted_params m.entry.params.items; item = record (later_impl_of m).added.item { name = last_later d; home = h } } })) home
+    ∙ ap (λ k. with_later d (record { section = length d.sections - 1; added = record { params = sorted_params m.entry.params.items; item = record (later_impl_of m).added.item { name = last_later d; home = last_changed d; params = k } } }))
     (sym (length-map m.entry.params.items (λ p. (p.name.items, sort_of_kind p.kind))))
 
 pub later-consistent : (t : Tables) (later : Vec LaterEntry Global) (last : ℕ) (m : LaterEntry) → IsConsistent t → (declared t).in_section ≡ true → ReferenceMade m.entry.header → ReferencesMade m.entry.clauses.items
@@ -179,10 +179,10 @@ pub later-consistent : (t : Tables) (later : Vec LaterEntry Global) (last : ℕ)
 later-consistent t later last m i inside good goods behind section home more =
     let d = declared t in
     let u : Tables = record t { later_impls = later; last_later = last } in
-    let e : declared u ≡ with_later d (later_of m) = ap (λ ms. record d { later_impls = ms }) (ap (map later_of) behind ∙ map_push later_of t.later_impls.items m) in
+    let e : declared u ≡ with_later d (later_impl_of m) = ap (λ ms. record d { later_impls = ms }) (ap (map later_impl_of) behind ∙ map_push later_impl_of t.later_impls.items m) in
     let place : m.section ≡ length d.sections - 1 = section ∙ ap (λ n. n - 1) (sym (length-map t.sections.items (λ c. c.index))) in
     record {
-      numbered = subst IsNumbered (sym e) (numbered-later d (later_of m) i.numbered (ap (slice_get d.sections) place ∙ changed-there d (i.numbered.has_section inside) ∙ ap Some (sym home)));
+      numbered = subst IsNumbered (sym e) (numbered-later d (later_impl_of m) i.numbered (ap (slice_get d.sections) place ∙ changed-there d (i.numbered.has_section inside) ∙ ap Some (sym home)));
       ids = i.ids;
       asked = i.asked;
       rows = rows-kept t (declared u) i refl;
@@ -191,7 +191,7 @@ later-consistent t later last m i inside good goods behind section home more =
       last_impls = i.last_impls;
       last_items = i.last_items;
       last_later = more ∙ ap (λ k. k + 1) i.last_later
-          ∙ sym (ap last_later e ∙ count_by-push (λ x. x.section == (length d.sections - 1)) d.later_impls (later_of m) ∙ ap (λ n. last_later d + n) (counted m.section (length d.sections - 1) place));
+          ∙ sym (ap last_later e ∙ count_by-push (λ x. x.section == (length d.sections - 1)) d.later_impls (later_impl_of m) ∙ ap (λ n. last_later d + n) (counted m.section (length d.sections - 1) place));
       sections_rise = subst (IsNonDecreasingBy (λ x. x.section)) (sym behind) (IsNonDecreasingBy-push (λ x. x.section) t.later_impls.items m i.sections_rise (λ x some. omega (arith, place, last-below x some)));
       made = record {
         fields = i.made.fields;
@@ -213,5 +213,5 @@ later-consistent t later last m i inside good goods behind section home more =
     last-below x some =
         below-at (λ (y : LaterEntry). y.section) (length old.sections) t.later_impls.items
         (Each-weaken t.later_impls.items (λ k y p. slice_get_within old.sections y.section y.entry.owner.index p)
-        (Each-from_map (λ k y. slice_get old.sections y.section ≡ Some y.added.item.home) later_of t.later_impls.items i.numbered.later_impls))
+        (Each-from_map (λ k y. slice_get old.sections y.section ≡ Some y.added.item.home) later_impl_of t.later_impls.items i.numbered.later_impls))
         (length t.later_impls.items - 1) x (omega (arith, some))

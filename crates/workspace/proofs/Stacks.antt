@@ -9,9 +9,9 @@ use Rattle.std.specs.Option.{option_to_list}
 use Rattle.type_terms.specs.declared.TraitId.{TraitId}
 use Rattle.workspace.specs.Made.{StackPart, type_part, const_part, lifetime_part, principal_part, auto_part, off, off_autos, is_below}
 use Rattle.workspace.specs.declared.stack.Lowered.{Lowered}
-use Rattle.workspace.specs.Stack.{pushed, stack_of}
+use Rattle.workspace.specs.Stack.{pushed_parts, stack_of}
 
-pub pushed-push : (xs : List Lowered) (x : Lowered) (S : List Lowered) → pushed (xs ++ x ∷ []) S ≡ x ∷ pushed xs S
+pub pushed-push : (xs : List Lowered) (x : Lowered) (S : List Lowered) → pushed_parts (xs ++ x ∷ []) S ≡ x ∷ pushed_parts xs S
 pushed-push [] x S = refl
 pushed-push (y ∷ xs) x S = pushed-push xs x (y ∷ S)
 
@@ -21,9 +21,9 @@ pushed-pop (x ∷ xs) ys None e v = let some : 0 < length (x ∷ xs) = omega ari
 pushed-pop xs ys (Some x) e v = ap stack_of e ∙ pushed-push ys x []
 
 -- one more popped, which stands before those that were popped before
-pub popped-more : {A : Type 0} (f : A → Lowered) (rs : List A) (a : A) (S T R : List Lowered) → S ≡ f a ∷ R → T ≡ pushed (map f (reverse rs)) S → T ≡ pushed (map f (reverse (rs ++ a ∷ []))) R
+pub popped-more : {A : Type 0} (f : A → Lowered) (rs : List A) (a : A) (S T R : List Lowered) → S ≡ f a ∷ R → T ≡ pushed_parts (map f (reverse rs)) S → T ≡ pushed_parts (map f (reverse (rs ++ a ∷ []))) R
 popped-more f rs a S T R top all =
-    all ∙ ap (pushed (map f (reverse rs))) top ∙ ap (λ xs. pushed (map f xs) R) (sym (reverse-append rs (a ∷ [])))
+    all ∙ ap (pushed_parts (map f (reverse rs))) top ∙ ap (λ xs. pushed_parts (map f xs) R) (sym (reverse-append rs (a ∷ [])))
 
 -- ---- what has to be on top
 abbrev pub first_number : List ℕ → Option ℕ

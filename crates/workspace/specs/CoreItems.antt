@@ -47,12 +47,12 @@ core_bounds takes_type None = []
 core_bounds takes_type (Some t) = record { trait = t.index; args = core_args takes_type } ∷ []
 
 -- a trait of `core`
-abbrev pub core_trait : Declarations → List ℕ → Bool → Bool → Option TraitId → NamedTrait
-core_trait d n is_fundamental takes_type bound = new_trait d n is_fundamental false (core_kinds takes_type) (core_bounds takes_type bound)
+abbrev pub core_trait_entry : Declarations → List ℕ → Bool → Bool → Option TraitId → NamedTrait
+core_trait_entry d n is_fundamental takes_type bound = new_trait d n is_fundamental false (core_kinds takes_type) (core_bounds takes_type bound)
 
 -- more impls after the others
-abbrev pub with_impls : Declarations → List NamedImpl → Declarations
-with_impls d is = record d { impls = d.impls ++ is }
+abbrev pub with_core_impls : Declarations → List NamedImpl → Declarations
+with_core_impls d is = record d { impls = d.impls ++ is }
 
 -- the impls of a trait for scalars, numbered from n on
 abbrev pub scalar_impls : ℕ → ℕ → List NamedImpl

@@ -22,9 +22,9 @@ abbrev pub is_const : StackPart → Bool
 is_const const_part = true
 is_const _ = false
 
-abbrev pub is_lifetime : StackPart → Bool
-is_lifetime lifetime_part = true
-is_lifetime _ = false
+abbrev pub is_lifetime_on_stack : StackPart → Bool
+is_lifetime_on_stack lifetime_part = true
+is_lifetime_on_stack _ = false
 
 abbrev pub is_principal : StackPart → Bool
 is_principal principal_part = true
@@ -75,7 +75,7 @@ parts_behind (cells.FnPtr b zero) S = None
 parts_behind (cells.FnPtr b (suc n)) S = putting type_part (off is_type (suc n) S)
 parts_behind (cells.Principal b t n) S = putting principal_part (off is_arg n S)
 parts_behind (cells.Auto t) S = Some (auto_part t.index ∷ S)
-parts_behind (cells.Dynamic p n) S = putting type_part (option_and_then (off_principal p) (option_and_then (off_autos n None) (off is_lifetime 1 S)))
+parts_behind (cells.Dynamic p n) S = putting type_part (option_and_then (off_principal p) (option_and_then (off_autos n None) (off is_lifetime_on_stack 1 S)))
 parts_behind _ S = Some (type_part ∷ S)
 
 -- the stack after all cells

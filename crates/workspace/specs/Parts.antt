@@ -6,7 +6,7 @@ use Rattle.type_terms.specs.Promised.Worlds.{Reference}
 use Rattle.text_language.specs.Promised.Syntax.{Line, struct_line, trait_line, impl_line, prove_line, refute_line}
 use Rattle.text_language.specs.Promised.Declarations.{Declarations, NamedStruct, NamedTrait, NamedImpl, LaterImpl, Question, kinds_of, last_crate, last_changed, last_later}
 use Rattle.text_language.specs.Declarations.{sorted_names}
-use Rattle.text_language.specs.Lowering.{field_trees, with_self, clause_reference}
+use Rattle.text_language.specs.Lowering.{field_trees, bound_with_self, clause_reference}
 use Rattle.text_language.specs.Adding.{item_meanings, question_meanings, question_of, added}
 use Rattle.workspace.specs.declared.cell.ParamKind.{ParamKind}
 use Rattle.workspace.specs.declared.cell.TermCell.{TermCell}
@@ -25,7 +25,7 @@ IsStructLine d n f kinds fields _ = ⊥
 -- `fundamental auto trait n<...>: ...`: parameters of these kinds, and bounds that are these trait references of Self.
 abbrev pub IsTraitLine : Declarations → List ℕ → Bool → Bool → List Sort → List Reference → Line → Type 0
 IsTraitLine d n f a kinds bounds (trait_line g b m ps bs) =
-    (n ≡ m) × (f ≡ g) × (a ≡ b) × (kinds ≡ kinds_of ps) × (bounds ≡ map (with_self (item_meanings d (trait_line g b m ps bs) 1) (leaf (param of_type 0))) bs)
+    (n ≡ m) × (f ≡ g) × (a ≡ b) × (kinds ≡ kinds_of ps) × (bounds ≡ map (bound_with_self (item_meanings d (trait_line g b m ps bs) 1) (leaf (param of_type 0))) bs)
 IsTraitLine d n f a kinds bounds _ = ⊥
 
 -- `impl<...> h where ...`

@@ -14,14 +14,14 @@ use Rattle.workspace.specs.Made.{StackPart, type_part, const_part, lifetime_part
 use Rattle.workspace.specs.declared.stack.Lowered.{Lowered}
 use Rattle.workspace.specs.declared.stack.Lowered.TheVariants as lowered
 
--- pushed one after the other
-abbrev pub pushed : List Lowered → List Lowered → List Lowered
-pushed [] S = S
-pushed (x ∷ xs) S = pushed xs (x ∷ S)
+-- pushed_parts one after the other
+abbrev pub pushed_parts : List Lowered → List Lowered → List Lowered
+pushed_parts [] S = S
+pushed_parts (x ∷ xs) S = pushed_parts xs (x ∷ S)
 
 -- the top first
 abbrev pub stack_of : List Lowered → List Lowered
-stack_of xs = pushed xs []
+stack_of xs = pushed_parts xs []
 
 abbrev pub part_of : Lowered → StackPart
 part_of (lowered.Type t) = type_part

@@ -15,7 +15,7 @@ use Rattle.workspace.specs.declared.declared.Named.{Named}
 use Rattle.workspace.specs.declared.declared.Named.TheVariants as named
 use Rattle.workspace.specs.Numbered.{EachNumbered, IsNumbered}
 use Rattle.workspace.specs.Made.{AreMade, ReferenceMade, ReferencesMade, is_type}
-use Rattle.workspace.specs.Views.{crate_of, struct_of, trait_of, impl_of, question_of, numbers_of, later_of, check_of}
+use Rattle.workspace.specs.Views.{crate_of, struct_of, trait_of, impl_of, question_of, numbers_of, later_impl_of, check_of}
 
 -- what the tables declare
 abbrev pub declared : Tables → Declarations
@@ -26,7 +26,7 @@ declared t = record {
   impls = map impl_of t.impls.items;
   questions = map question_of t.questions.items;
   sections = numbers_of t.sections.items;
-  later_impls = map later_of t.later_impls.items;
+  later_impls = map later_impl_of t.later_impls.items;
   checks = map check_of t.checks.items;
   in_section = t.in_section;
 }
@@ -62,10 +62,10 @@ new_crate c n us = record { text = n; item = record { name = c; uses = numbers_o
 pub data NamedItem : Type 0 where
   crate_item struct_item trait_item : (number : ℕ) → NamedItem
 
-abbrev pub item_of : Named → NamedItem
-item_of (named.Crate k) = crate_item k.index
-item_of (named.Struct k) = struct_item k.index
-item_of (named.Trait k) = trait_item k.index
+abbrev pub named_item : Named → NamedItem
+named_item (named.Crate k) = crate_item k.index
+named_item (named.Struct k) = struct_item k.index
+named_item (named.Trait k) = trait_item k.index
 
 abbrev pub crate_named : List NamedCrate → List ℕ → Option NamedItem
 crate_named cs n = option_map (λ c. crate_item c.item.name) (find (λ c. bytes_eq c.text n) cs)
@@ -113,7 +113,7 @@ pub record IsConsistent (t : Tables) : Type 0 where
   pub ids : numbers_of t.ids.items ≡ map (λ c. c.id.index) t.crates.items
   pub asked : t.asked.items ≡ map (λ q. q.asked_how) t.questions.items
   pub rows : EachNumbered (λ c entry. MarksSeen (world_of (declared t)) c entry.sees.items) t.crates.items
-  pub names : (n : List ℕ) → option_map item_of (get_by (λ k. bytes_eq n k.items) t.names) ≡ item_named (declared t) n
+  pub names : (n : List ℕ) → option_map named_item (get_by (λ k. bytes_eq n k.items) t.names) ≡ item_named (declared t) n
   pub numbers : EachNumbered (λ k i. i.number_in_crate ≡ impls_of i.owner.index (take (suc k) t.impls.items)) t.impls.items
   pub last_impls : t.last_impls ≡ impls_of (last_crate (declared t)) t.impls.items
   pub last_items : t.last_items ≡ last_items (declared t)

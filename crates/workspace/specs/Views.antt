@@ -104,8 +104,8 @@ impl_of i = record {
   item = record { name = i.id.index; home = i.owner.index; params = length i.params.items; header = reference_of i.header; clauses = map reference_of i.clauses.items };
 }
 
-abbrev pub later_of : LaterEntry → text.LaterImpl
-later_of i = record { section = i.section; added = impl_of i.entry }
+abbrev pub later_impl_of : LaterEntry → text.LaterImpl
+later_impl_of i = record { section = i.section; added = impl_of i.entry }
 
 abbrev pub check_of : Check → text.Check
 check_of (checked.Later k c) = text.of_later k c.index

@@ -10,7 +10,7 @@ ghost use Rattle.workspace.specs.Made.{AreMade, ReferenceMade, ReferencesMade, i
 ghost use Rattle.workspace.specs.Parts.{new_trait};
 ghost use Rattle.workspace.specs.Views.{sort_of_kind, reference_of, cells_of};
 ghost use Rattle.workspace.specs.TermCells.{trees_of, joined};
-ghost use Rattle.workspace.specs.CoreItems.{core_kinds, core_bounds, core_trait, core_structs, core_traits_to, HasRoom, IsInCore, with_impls, scalar_impls, impl_for, ref_impl, pointer_impl, array_impl, boxed_impl};
+ghost use Rattle.workspace.specs.CoreItems.{core_kinds, core_bounds, core_trait_entry, core_structs, core_traits_to, HasRoom, IsInCore, with_core_impls, scalar_impls, impl_for, ref_impl, pointer_impl, array_impl, boxed_impl};
 ghost use Rattle.type_terms.specs.Kinds.{is_mut};
 
 use crate::cell::{ParamKind, TermCell};
@@ -124,7 +124,7 @@ impl Tables {
         requires consistent { IsConsistent self.old }
         requires new { known (declared self.old) name.now ≡ None }
         requires room { HasRoom (declared self.old) }
-        ensures declared { OnOk result (declared self.new ≡ with_trait (declared self.old) (core_trait (declared self.old) name.now is_fundamental takes_type bound)) }
+        ensures declared { OnOk result (declared self.new ≡ with_trait (declared self.old) (core_trait_entry (declared self.old) name.now is_fundamental takes_type bound)) }
         ensures consistent { OnOk result (IsConsistent self.new) }
     {
         let params = core_params(self.alloc, takes_type)?;
@@ -206,7 +206,7 @@ impl Tables {
     fn add_scalar_impls(&mut self, trait_id: TraitId) -> Result<(), AllocError>
         requires consistent { IsConsistent self.old }
         requires core { IsInCore (declared self.old) }
-        ensures declared { OnOk result (declared self.new ≡ with_impls (declared self.old) (scalar_impls (length (declared self.old).impls) trait_id.index)) }
+        ensures declared { OnOk result (declared self.new ≡ with_core_impls (declared self.old) (scalar_impls (length (declared self.old).impls) trait_id.index)) }
         ensures consistent { OnOk result (IsConsistent self.new) }
     {
         for scalar in &SCALARS {
@@ -307,7 +307,7 @@ impl Tables {
     fn add_copied(&mut self, trait_id: TraitId) -> Result<(), AllocError>
         requires consistent { IsConsistent self.old }
         requires core { IsInCore (declared self.old) }
-        ensures declared { OnOk result (declared self.new ≡ with_impls (declared self.old) (copied (length (declared self.old).impls) trait_id.index)) }
+        ensures declared { OnOk result (declared self.new ≡ with_core_impls (declared self.old) (copied (length (declared self.old).impls) trait_id.index)) }
         ensures consistent { OnOk result (IsConsistent self.new) }
     {
         self.add_scalar_impls(trait_id)?;

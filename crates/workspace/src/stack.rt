@@ -1,8 +1,8 @@
 //! The stack of the terms made so far.
 ghost use Rattle.std.specs.Prelude.{◌≡◌, ◌∷◌, [], None, map, length, IsSome, MatchOption, IfOk, OnOk};
-ghost use Rattle.workspace.specs.Made.{off, off_autos, off_principal, is_type, is_const, is_lifetime, is_arg};
+ghost use Rattle.workspace.specs.Made.{off, off_autos, off_principal, is_type, is_const, is_lifetime_on_stack, is_arg};
 ghost use Rattle.std.specs.List.Sorted.{IsStrictlyIncreasing};
-ghost use Rattle.workspace.specs.Stack.{stack_of, pushed, parts_in, lowered_arg, lowered_type, lowered_auto, PopsPrincipal};
+ghost use Rattle.workspace.specs.Stack.{stack_of, pushed_parts, parts_in, lowered_arg, lowered_type, lowered_auto, PopsPrincipal};
 
 use std::alloc::{AllocError, Global};
 use type_terms::TraitId;
@@ -63,7 +63,7 @@ pub(crate) fn pop_const(stack: &mut Vec<Lowered>) -> Const
 
 /// The lifetime on top.
 pub(crate) fn pop_lifetime(stack: &mut Vec<Lowered>) -> Region
-    requires { IsSome (off is_lifetime 1 (parts_in stack.old.items)) }
+    requires { IsSome (off is_lifetime_on_stack 1 (parts_in stack.old.items)) }
     ensures { stack_of stack.old.items ≡ Lowered.Lifetime result ∷ stack_of stack.new.items }
 {
     let Some(top) = pop(stack) else {
@@ -114,7 +114,7 @@ pub(crate) fn pop_args(
     count: u32,
 ) -> Result<Vec<GenericArgKind>, AllocError>
     requires { IsSome (off is_arg count (parts_in stack.old.items)) }
-    ensures pushed { IfOk result (λ args. stack_of stack.old.items ≡ pushed (map lowered_arg args.items) (stack_of stack.new.items)) }
+    ensures pushed_parts { IfOk result (λ args. stack_of stack.old.items ≡ pushed_parts (map lowered_arg args.items) (stack_of stack.new.items)) }
     ensures count { IfOk result (λ args. length args.items ≡ count) }
 {
     let mut args = Vec::new(alloc);
@@ -134,7 +134,7 @@ pub(crate) fn pop_types(
     count: u32,
 ) -> Result<Vec<Ty>, AllocError>
     requires { IsSome (off is_type count (parts_in stack.old.items)) }
-    ensures pushed { IfOk result (λ tys. stack_of stack.old.items ≡ pushed (map lowered_type tys.items) (stack_of stack.new.items)) }
+    ensures pushed_parts { IfOk result (λ tys. stack_of stack.old.items ≡ pushed_parts (map lowered_type tys.items) (stack_of stack.new.items)) }
     ensures count { IfOk result (λ tys. length tys.items ≡ count) }
 {
     let mut tys = Vec::new(alloc);
@@ -167,7 +167,7 @@ pub(crate) fn pop_autos(
     count: u32,
 ) -> Result<Vec<TraitId>, AllocError>
     requires { IsSome (off_autos count None (parts_in stack.old.items)) }
-    ensures pushed { IfOk result (λ autos. stack_of stack.old.items ≡ pushed (map lowered_auto autos.items) (stack_of stack.new.items)) }
+    ensures pushed_parts { IfOk result (λ autos. stack_of stack.old.items ≡ pushed_parts (map lowered_auto autos.items) (stack_of stack.new.items)) }
     ensures count { IfOk result (λ autos. length autos.items ≡ count) }
     ensures rise { IfOk result (λ autos. IsStrictlyIncreasing (map (λ t. t.index) autos.items)) }
 {

@@ -9,7 +9,7 @@ ghost use Rattle.text_language.specs.Promised.Faults.{last_items};
 ghost use Rattle.text_language.specs.Lowering.{crate_number};
 ghost use Rattle.text_language.specs.Adding.{added};
 ghost use Rattle.workspace.specs.Numbered.{IsFew};
-ghost use Rattle.workspace.specs.Tables.{declared, with_crate, with_question, new_crate, will_see, item_of, item_named, core_alone, number_of_crate, IsConsistent, MarksSeen};
+ghost use Rattle.workspace.specs.Tables.{declared, with_crate, with_question, new_crate, will_see, named_item, item_named, core_alone, number_of_crate, IsConsistent, MarksSeen};
 ghost use Rattle.workspace.specs.Unasked.{without_last_question};
 ghost use Rattle.workspace.specs.Made.{AreMade, ReferenceMade, ReferencesMade, is_type};
 ghost use Rattle.workspace.specs.Parts.{AddsStruct, AddsStructLine, AddsTrait, AddsTraitLine, AddsImpl, AddsLaterImpl, AddsImplLine, AddsQuestionLine};
@@ -126,7 +126,7 @@ impl Tables {
 
     fn named(&self, name: &[u8]) -> Option<Named>
         requires { IsConsistent self.now }
-        ensures { option_map item_of result ≡ item_named (declared self.now) name.now }
+        ensures { option_map named_item result ≡ item_named (declared self.now) name.now }
     {
         self.names.get(name).copied()
     }

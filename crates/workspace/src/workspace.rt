@@ -6,7 +6,7 @@ ghost use Rattle.type_terms.specs.Promised.Worlds.{sees, view_of};
 ghost use Rattle.text_language.specs.Promised.Declarations.{known, world_of};
 ghost use Rattle.workspace.specs.Numbered.{EachNumbered, IsNumbered, IsFew};
 ghost use Rattle.workspace.specs.Made.{AreMade, ReferenceMade, ReferencesMade, is_type};
-ghost use Rattle.workspace.specs.Views.{known_of, struct_of, trait_of, impl_of, question_of, numbers_of, asked_of, asker_of, later_of, check_of};
+ghost use Rattle.workspace.specs.Views.{known_of, struct_of, trait_of, impl_of, question_of, numbers_of, asked_of, asker_of, later_impl_of, check_of};
 
 use crate::declared::{
     Asked, Check, ImplEntry, Known, LaterEntry, QuestionEntry, StructEntry, TraitEntry,
@@ -184,7 +184,7 @@ impl Workspace {
 
     /// The impls of a section, in the order of the text. Sections count from 0. If the text has no such section, the list is empty.
     pub fn later_impls_of(&self, section: u32) -> &[LaterEntry]
-        ensures items { map later_of result.now ≡ filter (λ i. i.section == section) self.now.later_impls }
+        ensures items { map later_impl_of result.now ≡ filter (λ i. i.section == section) self.now.later_impls }
         ensures headers { EachNumbered (λ k i. ReferenceMade i.entry.header) result.now }
         ensures clauses { EachNumbered (λ k i. ReferencesMade i.entry.clauses.items) result.now }
     {

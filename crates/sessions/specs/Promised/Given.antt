@@ -41,10 +41,10 @@ later_of Compatible = releases.compatible
 later_of (Breaking n) = releases.breaking n
 
 -- The answer to `supers`, as the definitions name it.
-abbrev pub supers_of : SupersAnswer → releases.SupersAnswer
-supers_of Held = releases.held
-supers_of (Missing k j) = releases.missing k.index j
-supers_of (Undecided k j) = releases.undecided k.index j
+abbrev pub supers_answer_of : SupersAnswer → releases.SupersAnswer
+supers_answer_of Held = releases.held
+supers_answer_of (Missing k j) = releases.missing k.index j
+supers_answer_of (Undecided k j) = releases.undecided k.index j
 
 -- The types of a verdict's error are the interner's.
 abbrev pub VerdictHeld : List Entry → Verdict → Type 0

@@ -20,18 +20,18 @@ is_same_param (placeholder of_const i) (placeholder of_const k) = i == k
 is_same_param l m = false
 
 -- It stands in one of the references.
-abbrev pub stands_in : List Reference → Label → Bool
-stands_in rs l = list_any (λ r. some_node (λ m. is_same_param m l) r.args) rs
+abbrev pub occurs_among : List Reference → Label → Bool
+occurs_among rs l = list_any (λ r. some_node (λ m. is_same_param m l) r.args) rs
 
 -- An open place that is neither an unknown nor a parameter that stands in the question's references.
-abbrev pub is_stray : List Reference → Label → Bool
-is_stray rs (infer s i) = false
-is_stray rs (placeholder s i) = not (stands_in rs (placeholder s i))
-is_stray rs l = is_open l
+abbrev pub is_stray_place : List Reference → Label → Bool
+is_stray_place rs (infer s i) = false
+is_stray_place rs (placeholder s i) = not (occurs_among rs (placeholder s i))
+is_stray_place rs l = is_open l
 
 -- That, or a struct or trait that the crate does not see.
 abbrev pub is_foreign : World → List Reference → Label → Bool
-is_foreign V rs l = is_undeclared V l || is_stray rs l
+is_foreign V rs l = is_undeclared V l || is_stray_place rs l
 
 -- No parameter stands in the reference, nor anything bound.
 abbrev pub HasNoParameter : Reference → Type 0

@@ -8,7 +8,7 @@ use Rattle.std.specs.Str.Parse.{digits_value}
 use Prim.Native.String.{String}
 use Rattle.type_terms.specs.Promised.Label.{Label, bool, char, str, int, uint}
 use Rattle.type_terms.specs.Codes.{same_label}
-use Rattle.text_language.specs.Promised.Syntax.{TypeTree, of_primitive, never_type, variable_type, named, reference_to, pointer_to, slice_of, array_of, tuple_of, fn_of, fn_to, dyn_of, number_length, name_length, variable_length, Types, no_types, and_type, Args, no_args, and_arg, lifetime_arg, number_arg, type_arg, Item, bound_item, lifetime_item, Items, no_items, and_item, Params, Bound, Clause, Line, crate_line, struct_line, trait_line, impl_line, prove_line, refute_line, later_line, supers_line}
+use Rattle.text_language.specs.Promised.Syntax.{TypeTree, of_primitive, never_type, variable_type, named, reference_to, pointer_to, slice_of, array_of, tuple_of, fn_of, fn_to, dyn_of, number_length, name_length, variable_length, Types, no_types, and_type, Args, no_args, and_arg, lifetime_arg, number_arg, type_arg, Item, bound_item, lifetime_item, DynBounds, no_items, and_item, Params, Bound, Clause, Line, crate_line, struct_line, trait_line, impl_line, prove_line, refute_line, later_line, supers_line}
 
 -- ---- the pieces of a line
 
@@ -109,7 +109,7 @@ abbrev mutual
   item_tests (lifetime_item n) = name_with "'" n
 
   -- The tests of each bound of a `dyn`.
-  pub items_tests : Items → List PieceTests
+  pub items_tests : DynBounds → List PieceTests
   items_tests no_items = []
   items_tests (and_item i is) = item_tests i ∷ items_tests is
 

@@ -9,7 +9,7 @@ use Rattle.type_terms.specs.Promised.Label.{Label, Sort, of_type, of_const, of_l
 use Rattle.type_terms.specs.Promised.Trees.{Trees, none, tree, leaf, ◌+++◌, is_sort}
 use Rattle.type_terms.specs.Promised.Worlds.{Reference, StructDecl, TraitDecl, ImplDecl}
 use Rattle.type_terms.specs.Promised.Rules.{together}
-use Rattle.text_language.specs.Promised.Syntax.{TypeTree, of_primitive, variable_type, named, reference_to, pointer_to, slice_of, array_of, tuple_of, fn_of, fn_to, dyn_of, Types, no_types, and_type, Args, and_arg, lifetime_arg, number_arg, type_arg, bound_item, lifetime_item, Items, no_items, and_item, number_length, name_length, variable_length, Params, Bound, Clause, Line, crate_line, struct_line, trait_line, impl_line, prove_line, refute_line, later_line, supers_line}
+use Rattle.text_language.specs.Promised.Syntax.{TypeTree, of_primitive, variable_type, named, reference_to, pointer_to, slice_of, array_of, tuple_of, fn_of, fn_to, dyn_of, Types, no_types, and_type, Args, and_arg, lifetime_arg, number_arg, type_arg, bound_item, lifetime_item, DynBounds, no_items, and_item, number_length, name_length, variable_length, Params, Bound, Clause, Line, crate_line, struct_line, trait_line, impl_line, prove_line, refute_line, later_line, supers_line}
 use Rattle.text_language.specs.Promised.Declarations.{Declarations, NamedImpl, Variable, of_later, of_supers, a_crate, a_struct, a_trait, known, last_crate, last_later, impl_owner}
 use Rattle.text_language.specs.Promised.Faults.{is_auto_name}
 use Rattle.text_language.specs.Promised.LineFaults.{variables_among}
@@ -42,7 +42,7 @@ life_label own k (b ∷ s) n = option_map_or (bound of_lifetime k) (position (λ
 -- binders around, innermost first.
 -- What is behind the principal of a `dyn`: the auto traits in the order of their numbers, each once, of which there are ns so far; and the
 -- lifetime, `'static` if none is written.
-abbrev pub dyn_end : Declarations → (Sort → List ℕ → Option Label) → List (List (List ℕ)) → List ℕ → Items → Trees
+abbrev pub dyn_end : Declarations → (Sort → List ℕ → Option Label) → List (List (List ℕ)) → List ℕ → DynBounds → Trees
 dyn_end d own s ns no_items = together (map (λ i. leaf (auto_trait i)) ns) +++ leaf static
 dyn_end d own s ns (and_item (lifetime_item n) is) = together (map (λ i. leaf (auto_trait i)) ns) +++ leaf (life_label own 0 s n)
 dyn_end d own s ns (and_item (bound_item b n a) is) = let i = (means d n).0 in dyn_end d own s (filter (λ m. nat_lt m i) ns ++ i ∷ filter (nat_lt i) ns) is

@@ -3,7 +3,7 @@ use Rattle.std.specs.Prelude.{ℕ, suc, List, [], ◌∷◌, ◌++◌, map, leng
 use Rattle.std.specs.List.{flat_map}
 use Rattle.std.specs.Option.{option_to_list, option_map_or}
 use Rattle.type_terms.specs.Promised.Label.{Sort, of_type, of_const, of_lifetime}
-use Rattle.text_language.specs.Promised.Syntax.{TypeTree, variable_type, named, reference_to, pointer_to, slice_of, array_of, tuple_of, fn_of, fn_to, dyn_of, Types, no_types, and_type, Args, no_args, and_arg, Arg, lifetime_arg, number_arg, type_arg, Item, bound_item, lifetime_item, Items, no_items, and_item, number_length, name_length, variable_length, Params, Bound, Clause, Line, crate_line, struct_line, trait_line, impl_line, prove_line, refute_line, later_line, supers_line}
+use Rattle.text_language.specs.Promised.Syntax.{TypeTree, variable_type, named, reference_to, pointer_to, slice_of, array_of, tuple_of, fn_of, fn_to, dyn_of, Types, no_types, and_type, Args, no_args, and_arg, Arg, lifetime_arg, number_arg, type_arg, Item, bound_item, lifetime_item, DynBounds, no_items, and_item, number_length, name_length, variable_length, Params, Bound, Clause, Line, crate_line, struct_line, trait_line, impl_line, prove_line, refute_line, later_line, supers_line}
 use Rattle.text_language.specs.Promised.Declarations.{Declarations, a_struct, a_trait, known}
 
 -- What a line mentions, with what is needed to judge it.
@@ -36,7 +36,7 @@ abbrev pub trait_kinds : Declarations → List ℕ → List Sort
 trait_kinds d n = option_map_or (λ w. elim w [ a_trait i h a kinds ↦ kinds | _ ↦ [] ]) (known d n) []
 
 -- The bounds of a `dyn` as a list.
-abbrev pub item_list : Items → List Item
+abbrev pub item_list : DynBounds → List Item
 item_list no_items = []
 item_list (and_item i is) = i ∷ item_list is
 
@@ -90,7 +90,7 @@ abbrev mutual
   item_mentions d s k (lifetime_item n) = lifetime_mention s n ∷ []
 
   -- What the bounds of a `dyn` mention, from left to right.
-  pub items_mentions : Declarations → List (List (List ℕ)) → ℕ → Items → List Mention
+  pub items_mentions : Declarations → List (List (List ℕ)) → ℕ → DynBounds → List Mention
   items_mentions d s k no_items = []
   items_mentions d s k (and_item i is) = item_mentions d s k i ++ items_mentions d s k is
 

@@ -26,7 +26,7 @@ mutual
     tuple_of : Types → TypeTree
     fn_of : (binder : List (List ℕ)) → Types → TypeTree
     fn_to : (binder : List (List ℕ)) → Types → TypeTree → TypeTree
-    dyn_of : Item → Items → TypeTree
+    dyn_of : Item → DynBounds → TypeTree
 
   -- A list of types.
   pub data Types : Type 0 where
@@ -50,9 +50,9 @@ mutual
     lifetime_item : List ℕ → Item
 
   -- The bounds of a `dyn` after its first.
-  pub data Items : Type 0 where
-    no_items : Items
-    and_item : Item → Items → Items
+  pub data DynBounds : Type 0 where
+    no_items : DynBounds
+    and_item : Item → DynBounds → DynBounds
 
 -- ---- parts of lines
 

@@ -6,7 +6,7 @@ use Rattle.candidate_model.specs.Knowing.{is_knowable}
 use Rattle.candidate_model.specs.Solver.{holds_from}
 use Rattle.built_in_candidates.specs.Goals.{asked_of}
 use Rattle.candidate_assembly.specs.Nexts.{until}
-use Rattle.candidate_assembly.specs.Sections.{is_first, is_unknowable}
+use Rattle.candidate_assembly.specs.Sections.{is_first_step, is_unknowable}
 use Rattle.candidate_assembly.proofs.DecidedGoals.{inside-same, inside-none}
 use Rattle.candidate_assembly.proofs.Shown.{holds}
 use Rattle.candidate_assembly.proofs.trait_goals.candidate_in_coherence.Goals as goal
@@ -18,7 +18,7 @@ returns-then-unknowable_holds-clause-is c = λ seen s t.
     let g = c.args.goal.now in
     let V = written es d in
     let a = asked_of es g in
-    inside-none (is_first seen && not (is_knowable V d.local a.reference)) (holds_from is_unknowable seen) (Some (unknowable V a)) (until false es d g seen)
+    inside-none (is_first_step seen && not (is_knowable V d.local a.reference)) (holds_from is_unknowable seen) (Some (unknowable V a)) (until false es d g seen)
     (sym (c.in_ok-begins_unknowable.ensures.is seen s) ∙ c.if-branch.false) (sym (holds is_unknowable es c.args.done.now seen s) ∙ sym c.unknowable_holds.ensures ∙ c.if-unknowable_holds.true)
 
 pub returns-clause-is : goal.returns-clause-is
@@ -31,6 +31,6 @@ returns-clause-is c =
     IfOk-weaker c.candidate_until.result _ _
     (λ o p seen s t.
     p seen s t
-    ∙ inside-same (is_first seen && not (is_knowable V d.local a.reference)) (holds_from is_unknowable seen) (Some (unknowable V a)) (until false es d g seen)
+    ∙ inside-same (is_first_step seen && not (is_knowable V d.local a.reference)) (holds_from is_unknowable seen) (Some (unknowable V a)) (until false es d g seen)
     (sym (c.in_ok-begins_unknowable.ensures.is seen s) ∙ c.if-branch.false) (sym (holds is_unknowable es c.args.done.now seen s) ∙ sym c.unknowable_holds.ensures ∙ c.if-unknowable_holds.false))
     c.candidate_until.ensures.is

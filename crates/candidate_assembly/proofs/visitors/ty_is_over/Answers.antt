@@ -1,7 +1,7 @@
 use Rattle.std.proofs.Common.{ap, ◌∙◌, sym, is_some, not}
 use Rattle.std.specs.ControlFlow.{break_value}
 use Rattle.type_terms.specs.Promised.Handles.{trees_at}
-use Rattle.candidate_assembly.specs.Finding.{is_foreign}
+use Rattle.candidate_assembly.specs.Finding.{is_foreign_tree}
 use Rattle.candidate_assembly.specs.declared.visitors.FindsForeign.{FindsForeign}
 use Rattle.candidate_assembly.proofs.Finding.{own-terms, type-made}
 use Rattle.candidate_assembly.proofs.FindingOnce.{once-finds}
@@ -17,12 +17,12 @@ pub returns-in-Break : goal.returns-in-Break
 returns-in-Break c =
     let es = c.args.cx.now.entries in
     ap (λ z. not (is_some (break_value z))) (sym c.in-Break.is)
-    ∙ ap not (once-finds (λ (v : FindsForeign) t. is_foreign v.kinds.now t) es c.visit_ty.ensures.visited c.new-finds.ensures.visitor (c.new-finds.ensures.entered es))
+    ∙ ap not (once-finds (λ (v : FindsForeign) t. is_foreign_tree v.kinds.now t) es c.visit_ty.ensures.visited c.new-finds.ensures.visitor (c.new-finds.ensures.entered es))
     ∙ sym (own-terms c.args.kinds.now (trees_at es c.args.ty.0) (type-made es c.lawful.ensures c.args.ty.0 c.requires))
 
 pub returns : goal.returns
 returns c =
     let es = c.args.cx.now.entries in
     ap (λ z. not (is_some (break_value z))) (sym c.in-Continue.is)
-    ∙ ap not (once-finds (λ (v : FindsForeign) t. is_foreign v.kinds.now t) es c.visit_ty.ensures.visited c.new-finds.ensures.visitor (c.new-finds.ensures.entered es))
+    ∙ ap not (once-finds (λ (v : FindsForeign) t. is_foreign_tree v.kinds.now t) es c.visit_ty.ensures.visited c.new-finds.ensures.visitor (c.new-finds.ensures.entered es))
     ∙ sym (own-terms c.args.kinds.now (trees_at es c.args.ty.0) (type-made es c.lawful.ensures c.args.ty.0 c.requires))

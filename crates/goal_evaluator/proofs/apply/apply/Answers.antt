@@ -8,7 +8,7 @@ use Rattle.infer_table.specs.Growth.{grows-trans, counts-kept}
 use Rattle.infer_table.specs.Unification.{TableTrees, all_recorded, table_trees}
 use Rattle.infer_table.specs.Kept.{content-kept, ready-later, constraints-kept}
 use Rattle.infer_table.specs.Constraints.{constraints_trees}
-use Rattle.infer_table.specs.Values.{values_of, filled}
+use Rattle.infer_table.specs.Values.{values_of, filled_values}
 use Rattle.infer_table.specs.Responses.{answer_trees}
 use Rattle.infer_table.specs.Applying.{unknowns_of, applied_values, applied_table}
 use Rattle.infer_table.specs.Applied.{trees_of}
@@ -74,10 +74,10 @@ returns-in-Ok-clause-equates c =
     let vs = applied_values (table_trees first t) (values_of first os) (answer_trees first r) in
     let to-end : Keeps first end = (λ i x h. c.fill_response.ensures.terms.grew.keeps i x (c.values_to_apply.ensures.terms.grew.keeps i x h)) in
     let chosen : values_of taken c.deref.result.now ≡ vs = ap (values_of taken) c.deref.ensures.value ∙ c.in_ok-values.ensures.values in
-    let values : args_trees end c.deref-2.result.now ≡ filled vs (args_trees first r.var_values.items) =
+    let values : args_trees end c.deref-2.result.now ≡ filled_values vs (args_trees first r.var_values.items) =
     ap (args_trees end) c.deref-2.ensures.value ∙ c.in_ok-filled.ensures.values
-    ∙ ap (λ z. filled z (args_trees taken r.var_values.items)) chosen
-    ∙ ap (filled vs) (args-trees-later first taken c.values_to_apply.ensures.terms.grew.keeps r.var_values.items c.requires.response.values) in
+    ∙ ap (λ z. filled_values z (args_trees taken r.var_values.items)) chosen
+    ∙ ap (filled_values vs) (args-trees-later first taken c.values_to_apply.ensures.terms.grew.keeps r.var_values.items c.requires.response.values) in
     let before : content end u.values ≡ content first t.values = ap (content end) c.values_to_apply.ensures.bindings ∙ content-kept first end t.values to-end c.requires.ready.held in
     let originals : args_trees end os ≡ args_trees first os = args-trees-later first end to-end os c.requires.values in
     equates-at _ _ _ _ _ _ _ _ before (ap (content c.equate_values.new.cx.entries) (sym (ap (λ t. t.values) c.record_constraints.ensures.kept))) originals values c.in-Ok.ensures.equates
@@ -94,10 +94,10 @@ returns-clause-never c = λ e.
     let vs = applied_values (table_trees first t) (values_of first os) (answer_trees first r) in
     let to-end : Keeps first end = (λ i x h. c.fill_response.ensures.terms.grew.keeps i x (c.values_to_apply.ensures.terms.grew.keeps i x h)) in
     let chosen : values_of taken c.deref.result.now ≡ vs = ap (values_of taken) c.deref.ensures.value ∙ c.in_ok-values.ensures.values in
-    let values : args_trees end c.deref-2.result.now ≡ filled vs (args_trees first r.var_values.items) =
+    let values : args_trees end c.deref-2.result.now ≡ filled_values vs (args_trees first r.var_values.items) =
     ap (args_trees end) c.deref-2.ensures.value ∙ c.in_ok-filled.ensures.values
-    ∙ ap (λ z. filled z (args_trees taken r.var_values.items)) chosen
-    ∙ ap (filled vs) (args-trees-later first taken c.values_to_apply.ensures.terms.grew.keeps r.var_values.items c.requires.response.values) in
+    ∙ ap (λ z. filled_values z (args_trees taken r.var_values.items)) chosen
+    ∙ ap (filled_values vs) (args-trees-later first taken c.values_to_apply.ensures.terms.grew.keeps r.var_values.items c.requires.response.values) in
     let before : content end u.values ≡ content first t.values = ap (content end) c.values_to_apply.ensures.bindings ∙ content-kept first end t.values to-end c.requires.ready.held in
     let originals : args_trees end os ≡ args_trees first os = args-trees-later first end to-end os c.requires.values in
     never-at _ _ _ _ _ _ before originals values (c.in-Err.ensures.never e)
@@ -114,22 +114,22 @@ returns-in-Ok-clause-exact c =
     let vs = applied_values (table_trees first t) (values_of first os) (answer_trees first r) in
     let to-end : Keeps first end = (λ i x h. c.fill_response.ensures.terms.grew.keeps i x (c.values_to_apply.ensures.terms.grew.keeps i x h)) in
     let chosen : values_of taken c.deref.result.now ≡ vs = ap (values_of taken) c.deref.ensures.value ∙ c.in_ok-values.ensures.values in
-    let values : args_trees end c.deref-2.result.now ≡ filled vs (args_trees first r.var_values.items) =
+    let values : args_trees end c.deref-2.result.now ≡ filled_values vs (args_trees first r.var_values.items) =
     ap (args_trees end) c.deref-2.ensures.value ∙ c.in_ok-filled.ensures.values
-    ∙ ap (λ z. filled z (args_trees taken r.var_values.items)) chosen
-    ∙ ap (filled vs) (args-trees-later first taken c.values_to_apply.ensures.terms.grew.keeps r.var_values.items c.requires.response.values) in
+    ∙ ap (λ z. filled_values z (args_trees taken r.var_values.items)) chosen
+    ∙ ap (filled_values vs) (args-trees-later first taken c.values_to_apply.ensures.terms.grew.keeps r.var_values.items c.requires.response.values) in
     let originals : args_trees end os ≡ trees_of (values_of first os) = args-trees-later first end to-end os c.requires.values ∙ sym (row-of first os) in
     let start : table_trees end u ≡ applied_table (table_trees first t) (values_of first os) (answer_trees first r) =
     same-trees first end to-end t u c.requires.ready c.values_to_apply.ensures.bindings c.values_to_apply.ensures.constraints ∙ c.in_ok-values.ensures.made in
-    let put-in : args_trees end c.deref-2.result.now ≡ filled vs (trees_of (values_of first r.var_values.items)) = values ∙ ap (filled vs) (sym (row-of first r.var_values.items)) in
+    let put-in : args_trees end c.deref-2.result.now ≡ filled_values vs (trees_of (values_of first r.var_values.items)) = values ∙ ap (filled_values vs) (sym (row-of first r.var_values.items)) in
     let now = c.equate_values.new.cx.entries in
     let cs = c.in_ok-filled.filled.region_constraints.items in
     let held : AllConstraintsHeld now c.deref-in-Ok.result.now = rw c.deref-in-Ok.ensures.value (constraints-kept end now cs c.equate_values.ensures.terms.grew.keeps c.in_ok-filled.ensures.constraints_held) in
-    let recorded : constraints_trees now c.deref-in-Ok.result.now ≡ filled vs (constraints_trees first r.region_constraints.items) =
+    let recorded : constraints_trees now c.deref-in-Ok.result.now ≡ filled_values vs (constraints_trees first r.region_constraints.items) =
     ap (constraints_trees now) c.deref-in-Ok.ensures.value ∙ constraints-later end now c.equate_values.ensures.terms.grew.keeps cs c.in_ok-filled.ensures.constraints_held
     ∙ c.in_ok-filled.ensures.constraints
-    ∙ ap (λ z. filled z (constraints_trees taken r.region_constraints.items)) chosen
-    ∙ ap (filled vs) (constraints-later first taken c.values_to_apply.ensures.terms.grew.keeps r.region_constraints.items c.requires.response.constraints) in
+    ∙ ap (λ z. filled_values z (constraints_trees taken r.region_constraints.items)) chosen
+    ∙ ap (filled_values vs) (constraints-later first taken c.values_to_apply.ensures.terms.grew.keeps r.region_constraints.items c.requires.response.constraints) in
     applied-leaves (table_trees first t) (values_of first os) (answer_trees first r) (table_trees end u) (args_trees end os) (args_trees end c.deref-2.result.now) start originals put-in
     (table_trees now c.equate_values.new.table) (table_trees now c.record_constraints.new.table) c.in-Ok.ensures.exact
     (constraints-recorded now c.lawful.ensures c.equate_values.new.table c.record_constraints.new.table c.deref-in-Ok.result.now _ c.equate_values.ensures.ready held c.in_ok-record_constraints-in-Ok.ensures.recorded recorded)
@@ -146,14 +146,14 @@ returns-clause-refusal c = λ e.
     let vs = applied_values (table_trees first t) (values_of first os) (answer_trees first r) in
     let to-end : Keeps first end = (λ i x h. c.fill_response.ensures.terms.grew.keeps i x (c.values_to_apply.ensures.terms.grew.keeps i x h)) in
     let chosen : values_of taken c.deref.result.now ≡ vs = ap (values_of taken) c.deref.ensures.value ∙ c.in_ok-values.ensures.values in
-    let values : args_trees end c.deref-2.result.now ≡ filled vs (args_trees first r.var_values.items) =
+    let values : args_trees end c.deref-2.result.now ≡ filled_values vs (args_trees first r.var_values.items) =
     ap (args_trees end) c.deref-2.ensures.value ∙ c.in_ok-filled.ensures.values
-    ∙ ap (λ z. filled z (args_trees taken r.var_values.items)) chosen
-    ∙ ap (filled vs) (args-trees-later first taken c.values_to_apply.ensures.terms.grew.keeps r.var_values.items c.requires.response.values) in
+    ∙ ap (λ z. filled_values z (args_trees taken r.var_values.items)) chosen
+    ∙ ap (filled_values vs) (args-trees-later first taken c.values_to_apply.ensures.terms.grew.keeps r.var_values.items c.requires.response.values) in
     let originals : args_trees end os ≡ trees_of (values_of first os) = args-trees-later first end to-end os c.requires.values ∙ sym (row-of first os) in
     let start : table_trees end u ≡ applied_table (table_trees first t) (values_of first os) (answer_trees first r) =
     same-trees first end to-end t u c.requires.ready c.values_to_apply.ensures.bindings c.values_to_apply.ensures.constraints ∙ c.in_ok-values.ensures.made in
-    let put-in : args_trees end c.deref-2.result.now ≡ filled vs (trees_of (values_of first r.var_values.items)) = values ∙ ap (filled vs) (sym (row-of first r.var_values.items)) in
+    let put-in : args_trees end c.deref-2.result.now ≡ filled_values vs (trees_of (values_of first r.var_values.items)) = values ∙ ap (filled_values vs) (sym (row-of first r.var_values.items)) in
     applied-refused (table_trees first t) (values_of first os) (answer_trees first r) (table_trees end u) (args_trees end os) (args_trees end c.deref-2.result.now) start originals put-in
     (c.in-Err.ensures.refusal e)
 
@@ -172,11 +172,11 @@ returns-in-Ok-clause-constraints c =
     let now = c.equate_values.new.cx.entries in
     let cs = c.in_ok-filled.filled.region_constraints.items in
     let held : AllConstraintsHeld now c.deref-in-Ok.result.now = rw c.deref-in-Ok.ensures.value (constraints-kept end now cs c.equate_values.ensures.terms.grew.keeps c.in_ok-filled.ensures.constraints_held) in
-    let recorded : constraints_trees now c.deref-in-Ok.result.now ≡ filled vs (constraints_trees first r.region_constraints.items) =
+    let recorded : constraints_trees now c.deref-in-Ok.result.now ≡ filled_values vs (constraints_trees first r.region_constraints.items) =
     ap (constraints_trees now) c.deref-in-Ok.ensures.value ∙ constraints-later end now c.equate_values.ensures.terms.grew.keeps cs c.in_ok-filled.ensures.constraints_held
     ∙ c.in_ok-filled.ensures.constraints
-    ∙ ap (λ z. filled z (constraints_trees taken r.region_constraints.items)) chosen
-    ∙ ap (filled vs) (constraints-later first taken c.values_to_apply.ensures.terms.grew.keeps r.region_constraints.items c.requires.response.constraints) in
+    ∙ ap (λ z. filled_values z (constraints_trees taken r.region_constraints.items)) chosen
+    ∙ ap (filled_values vs) (constraints-later first taken c.values_to_apply.ensures.terms.grew.keeps r.region_constraints.items c.requires.response.constraints) in
     let w = c.equate_values.new.table in
     let grown : w.constraints ≡ t.constraints ++ drop (length u.constraints) w.constraints =
     sym (take-drop (length u.constraints) w.constraints) ∙ ap (λ z. z ++ drop (length u.constraints) w.constraints) (c.equate_values.ensures.grows.constraints_kept ∙ c.values_to_apply.ensures.constraints) in
@@ -185,7 +185,7 @@ returns-in-Ok-clause-constraints c =
       recorded = ap (λ t. constraints_trees now t.constraints) c.in_ok-record_constraints-in-Ok.ensures.recorded
           ∙ all-inserted now c.lawful.ensures w.constraints c.deref-in-Ok.result.now c.equate_values.ensures.ready.constraints_held held
           ∙ ap (λ z. all_recorded z (constraints_trees now w.constraints)) recorded
-          ∙ ap (λ z. all_recorded (filled vs (constraints_trees first r.region_constraints.items)) (constraints_trees now z)) grown;
+          ∙ ap (λ z. all_recorded (filled_values vs (constraints_trees first r.region_constraints.items)) (constraints_trees now z)) grown;
     }
 
 pub returns-in-Ok-clause-grows : goal.returns-in-Ok-clause-grows

@@ -3,7 +3,7 @@ use Rattle.type_terms.specs.Kinds.{args_trees}
 use Rattle.type_terms.specs.Kept.{args-held-later, args-trees-later}
 use Rattle.infer_table.specs.Constraints.{constraints_trees}
 use Rattle.infer_table.specs.Kept.{constraints-kept}
-use Rattle.infer_table.specs.Values.{values_of, filled, values-later}
+use Rattle.infer_table.specs.Values.{values_of, filled_values, values-later}
 use Rattle.infer_table.proofs.ConstraintLists.{constraints-later, constraints-filled}
 use Rattle.type_terms.proofs.FailFacts.{only-tables, at-limit}
 use Rattle.type_terms.proofs.Grown.{grew-on}
@@ -25,7 +25,7 @@ returns-clause-values c =
     let es = c.args.cx.now.entries in
     args-trees-later c.fill_values.new.cx.entries c.fold_constraints.new.cx.entries c.fold_constraints.ensures.grew.keeps c.in_ok-var_values.var_values.items c.in_ok-var_values.ensures.held
     ∙ c.in_ok-var_values.ensures.filled
-    ∙ ap (λ z. filled (values_of es c.args.values.now) (args_trees es z)) c.deref.ensures.value
+    ∙ ap (λ z. filled_values (values_of es c.args.values.now) (args_trees es z)) c.deref.ensures.value
 
 pub returns-clause-constraints : goal.returns-clause-constraints
 returns-clause-constraints c =
@@ -33,9 +33,9 @@ returns-clause-constraints c =
     let put = c.fill_values.new.cx.entries in
     let vs = c.args.values.now in
     constraints-filled (values_of put vs) put c.fold_constraints.new.cx.entries c.deref-2.result.now c.in_ok-region_constraints.region_constraints.items c.in_ok-region_constraints.ensures.folded
-    ∙ ap (λ z. filled z (constraints_trees put c.deref-2.result.now)) (values-later es put c.fill_values.ensures.terms.grew.keeps vs c.requires.values)
-    ∙ ap (λ z. filled (values_of es vs) (constraints_trees put z)) c.deref-2.ensures.value
-    ∙ ap (filled (values_of es vs)) (constraints-later es put c.fill_values.ensures.terms.grew.keeps c.args.response.now.region_constraints.items c.requires.response.constraints)
+    ∙ ap (λ z. filled_values z (constraints_trees put c.deref-2.result.now)) (values-later es put c.fill_values.ensures.terms.grew.keeps vs c.requires.values)
+    ∙ ap (λ z. filled_values (values_of es vs) (constraints_trees put z)) c.deref-2.ensures.value
+    ∙ ap (filled_values (values_of es vs)) (constraints-later es put c.fill_values.ensures.terms.grew.keeps c.args.response.now.region_constraints.items c.requires.response.constraints)
 
 pub returns-in_err-region_constraints-clause-terms : goal.returns-in_err-region_constraints-clause-terms
 returns-in_err-region_constraints-clause-terms c = record {

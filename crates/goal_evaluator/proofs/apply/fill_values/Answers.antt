@@ -3,7 +3,7 @@ use Rattle.type_terms.specs.Terms.{args_lists}
 use Rattle.type_terms.specs.Promised.Handles.{trees_at}
 use Rattle.type_terms.specs.Kinds.{args_trees}
 use Rattle.type_terms.specs.Kept.{args-held-later, trees-is}
-use Rattle.infer_table.specs.Values.{values_of, filled, values-later}
+use Rattle.infer_table.specs.Values.{values_of, filled_values, values-later}
 use Rattle.infer_table.proofs.Fillings.{filled-fold}
 use Rattle.type_terms.proofs.FailFacts.{refused-term, only-tables, at-limit}
 use Rattle.type_terms.proofs.Grown.{grew-on}
@@ -21,8 +21,8 @@ returns-clause-filled c =
     ap (args_trees end) c.in_ok-from_slice-2.ensures.items
     ∙ sym (trees-is end args_lists c.in_ok-filled.filled.0 _ c.args-2.ensures.is)
     ∙ filled-fold (values_of made vs) _ _ c.in_ok-filled.ensures.folded.1
-    ∙ ap (λ z. filled z (trees_at made c.in_ok-terms.terms.0)) (values-later es made c.mk_args.ensures.grew.keeps vs c.requires.values)
-    ∙ ap (filled (values_of es vs)) (trees-is made args_lists c.in_ok-terms.terms.0 _ c.in_ok-terms.ensures.is ∙ ap (args_trees es) c.in_ok-from_slice.ensures.items)
+    ∙ ap (λ z. filled_values z (trees_at made c.in_ok-terms.terms.0)) (values-later es made c.mk_args.ensures.grew.keeps vs c.requires.values)
+    ∙ ap (filled_values (values_of es vs)) (trees-is made args_lists c.in_ok-terms.terms.0 _ c.in_ok-terms.ensures.is ∙ ap (args_trees es) c.in_ok-from_slice.ensures.items)
 
 pub returns-in_err-terms-clause-terms : goal.returns-in_err-terms-clause-terms
 returns-in_err-terms-clause-terms c = record {

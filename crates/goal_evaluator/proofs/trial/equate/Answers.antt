@@ -5,7 +5,7 @@ use Rattle.type_terms.specs.Kept.{arg-held-later, args-held-later, arg-trees-lat
 use Rattle.infer_table.specs.Kept.{ready-later}
 use Rattle.infer_table.specs.Unification.{table_trees}
 use Rattle.infer_table.proofs.PairFacts.{table-kept}
-use Rattle.infer_table.specs.Values.{values_of, filled, values-later}
+use Rattle.infer_table.specs.Values.{values_of, filled_values, values-later}
 use Rattle.type_terms.proofs.Grown.{grew-on}
 use Rattle.goal_evaluator.proofs.Handed.{no-refusal, refused-by}
 use Rattle.goal_evaluator.proofs.Turns.{same-sides}
@@ -50,8 +50,8 @@ returns-in-Ok-clause-solved c =
     let e = c.args.equation.now in
     let left = arg-trees-later mid now l c.in_ok-left.left c.in_ok-left.ensures.held ∙ c.in_ok-left.ensures.filled in
     let right = c.in_ok-right.ensures.filled
-    ∙ ap (λ ws. filled ws (arg_trees mid e.right)) (values-later es mid k vs c.requires.values)
-    ∙ ap (filled (values_of es vs)) (arg-trees-later es mid k e.right c.requires.equation.1) in
+    ∙ ap (λ ws. filled_values ws (arg_trees mid e.right)) (values-later es mid k vs c.requires.values)
+    ∙ ap (filled_values (values_of es vs)) (arg-trees-later es mid k e.right c.requires.equation.1) in
     same-sides (table_trees now c.args.table.now) (table_trees es c.args.table.now) _ _ _ _ _ (table-kept es now both c.args.table.now c.requires.ready) left right c.in-Ok.ensures.exact
 
 pub returns-in-Err-clause-refused : goal.returns-in-Err-clause-refused
@@ -66,8 +66,8 @@ returns-in-Err-clause-refused c = λ q.
     let e = c.args.equation.now in
     let left = arg-trees-later mid now l c.in_ok-left.left c.in_ok-left.ensures.held ∙ c.in_ok-left.ensures.filled in
     let right = c.in_ok-right.ensures.filled
-    ∙ ap (λ ws. filled ws (arg_trees mid e.right)) (values-later es mid k vs c.requires.values)
-    ∙ ap (filled (values_of es vs)) (arg-trees-later es mid k e.right c.requires.equation.1) in
+    ∙ ap (λ ws. filled_values ws (arg_trees mid e.right)) (values-later es mid k vs c.requires.values)
+    ∙ ap (filled_values (values_of es vs)) (arg-trees-later es mid k e.right c.requires.equation.1) in
     same-sides (table_trees now c.args.table.now) (table_trees es c.args.table.now) _ _ _ _ _ (table-kept es now both c.args.table.now c.requires.ready) left right
     (c.in-Err.ensures.refusal (ap Err (refused-by c.in-Err.error _ c.from.ensures q)))
 

@@ -4,7 +4,7 @@ use Rattle.infer_table.specs.Constraints.{constraints_trees}
 use Rattle.infer_table.specs.Kept.{ready-later}
 use Rattle.infer_table.specs.Unification.{table_trees}
 use Rattle.infer_table.proofs.PairFacts.{table-kept}
-use Rattle.infer_table.specs.Values.{values_of, filled}
+use Rattle.infer_table.specs.Values.{values_of, filled_values}
 use Rattle.infer_table.specs.Applied.{with_constraints}
 use Rattle.infer_table.specs.contracts.terms.RegionConstraintPartialEq.TheImpl.{ghosts as constraint}
 use Rattle.infer_table.proofs.ConstraintLists.{constraints-filled}
@@ -32,8 +32,8 @@ returns-clause-recorded c =
     let vs = values_of es c.args.values.now in
     let put = constraints-filled vs es end (x ∷ []) (y ∷ []) (c.in_ok-constraint.ensures.outline, c.in_ok-constraint.ensures.folded, tt) in
     let ready = ready-later es end t c.fold_with.ensures.grew.keeps c.requires.ready in
-    on-ok (u ≡ record t { constraints = insert_key constraint.eq t.constraints y }) (table_trees end u ≡ with_constraints (filled vs (constraints_trees es (x ∷ []))) (table_trees es t)) c.register_region_constraint.result
-    (λ e. sym (constraints-recorded end c.lawful.ensures t u (y ∷ []) _ ready (c.in_ok-constraint.ensures.held, tt) e put) ∙ ap (with_constraints (filled vs (constraints_trees es (x ∷ [])))) (table-kept es end c.fold_with.ensures.grew.keeps t c.requires.ready))
+    on-ok (u ≡ record t { constraints = insert_key constraint.eq t.constraints y }) (table_trees end u ≡ with_constraints (filled_values vs (constraints_trees es (x ∷ []))) (table_trees es t)) c.register_region_constraint.result
+    (λ e. sym (constraints-recorded end c.lawful.ensures t u (y ∷ []) _ ready (c.in_ok-constraint.ensures.held, tt) e put) ∙ ap (with_constraints (filled_values vs (constraints_trees es (x ∷ [])))) (table-kept es end c.fold_with.ensures.grew.keeps t c.requires.ready))
     c.register_region_constraint.ensures.recorded
 
 pub returns-in_err-constraint-clause-terms : goal.returns-in_err-constraint-clause-terms

@@ -5,7 +5,7 @@ use Rattle.type_terms.specs.Kept.{args-held-later}
 use Rattle.infer_table.specs.Kept.{constraints-kept}
 use Rattle.infer_table.specs.Constraints.{constraints_trees}
 use Rattle.infer_table.specs.Unification.{table_trees}
-use Rattle.infer_table.specs.Values.{values_of, values-later, filled}
+use Rattle.infer_table.specs.Values.{values_of, values-later, filled_values}
 use Rattle.infer_table.specs.Applied.{with_constraints}
 use Rattle.infer_table.proofs.ConstraintLists.{constraints-later}
 use Rattle.type_terms.proofs.Grown.{grew-on}
@@ -67,7 +67,7 @@ returns-clause-tried c =
     let constraints : constraints_trees es2 c.deref-5.result.now ≡ s.constraints = ap (constraints_trees es2) c.deref-5.ensures.value ∙ constraints-later es es2 k2 spec.region_constraints.items c.requires.spec.constraints in
     let ended : end ≡ recorded (record t { table = u }) s.constraints =
     same-frame input.variables.items _ _ _ _ _ _ (values-later es1 es3 own-later trial.own.items c.in_ok-trial.ensures.own) (values-later es1 es3 own-later trial.values.items c.in_ok-trial.ensures.values)
-    (c.in_ok-record_constraints.ensures.recorded ∙ ap (λ z. with_constraints (filled z (constraints_trees es2 c.deref-5.result.now)) u) values ∙ ap (λ z. with_constraints (filled t.values z) u) constraints) in
+    (c.in_ok-record_constraints.ensures.recorded ∙ ap (λ z. with_constraints (filled_values z (constraints_trees es2 c.deref-5.result.now)) u) values ∙ ap (λ z. with_constraints (filled_values t.values z) u) constraints) in
     record {
       solved = record t { table = u };
       holds = ap (λ (z : FrameTrees). equate z s.equations) (sym begun-so) ∙ ap (option_map (λ w. record t { table = w })) (sym same ∙ c.in_ok-equate_all.ensures.solved);

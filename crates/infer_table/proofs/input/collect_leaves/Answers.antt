@@ -3,7 +3,7 @@ use Rattle.type_terms.specs.Promised.Handles.{trees_at}
 use Rattle.term_folds.specs.Clauses.{ClauseHeld}
 use Rattle.infer_table.specs.Canonical.{kind_in_clause, kind_of_leaf, leaves}
 use Rattle.infer_table.specs.Goals.{ClausesHeld, environment_trees, predicate_trees}
-use Rattle.infer_table.specs.Leaves.{labels, OpenAreLeaves, are_closed_flags, is_closed}
+use Rattle.infer_table.specs.Leaves.{labels, OpenAreLeaves, are_closed_flags, is_closed_by}
 use Rattle.infer_table.specs.declared.canonicalizer.LeafCollector.{LeafCollector}
 use Rattle.infer_table.proofs.Numbers.{clause-held-at}
 use Rattle.infer_table.proofs.Collections.{clause-collected, predicate-collected, one-more-clause, one-more-only, drop-past}
@@ -51,7 +51,7 @@ returns-clause-leaves c =
           let k = predicate-collected es args v w.in_ok-collector-2.collector w.in_ok-collector-2.ensures.visited in
           ap (λ (u : LeafCollector). labels es u.leaves.keys) w.collector-is ∙ k.listed ∙ ap (λ z. leaves kind_of_leaf z args) before
       | else-not-is_closed w ↦
-          let closed : is_closed false (predicate_trees es predicate) ≡ true = sym (w.if-not-is_closed.ensures ∙ ap (are_closed_flags false) c.flags.ensures) in
+          let closed : is_closed_by false (predicate_trees es predicate) ≡ true = sym (w.if-not-is_closed.ensures ∙ ap (are_closed_flags false) c.flags.ensures) in
           ap (λ (u : LeafCollector). labels es u.leaves.keys) w.collector-is ∙ before ∙ sym (closed-leaves false (leaves kind_in_clause [] environment) (predicate_trees es predicate) closed)
     ]
 

@@ -1,7 +1,7 @@
 use Rattle.std.proofs.Common.{◌≡◌, ◌≤◌, Bool, true, false, ◌&&◌, ◌+◌, drop, length, ap, sym, ◌∙◌, arith, refl}
 use Rattle.term_folds.specs.Clauses.{ClauseHeld}
 use Rattle.infer_table.specs.Goals.{ClausesHeld, environment_trees, predicate_trees}
-use Rattle.infer_table.specs.Leaves.{are_closed_flags, is_closed}
+use Rattle.infer_table.specs.Leaves.{are_closed_flags, is_closed_by}
 use Rattle.infer_table.proofs.ClosedGoals.{closed-from}
 use Rattle.infer_table.proofs.Collections.{drop-past}
 use Rattle.infer_table.proofs.Numbers.{clause-held-at}
@@ -27,10 +27,10 @@ returns-then-not-is_closed c =
     let xs = c.deref-clause-items.result.now in
     let i = c.clauses.clause-index in
     let marked = sym (c.if-not-is_closed.ensures ∙ ap (are_closed_flags true) c.flags.ensures) in
-    let environment : is_closed true (environment_trees es c.args.goal.now.param_env.items) ≡ false =
-    ap (λ z. is_closed true (environment_trees es z)) (sym inv.items) ∙ sym inv.closed
-    ∙ closed-from es xs i c.clause-item.result c.clauses-test.true c.clause-item.is ∙ not-both _ (is_closed true (environment_trees es (drop (i + 1) xs))) marked in
-    sym (not-both _ (is_closed false (predicate_trees es c.args.goal.now.predicate)) environment)
+    let environment : is_closed_by true (environment_trees es c.args.goal.now.param_env.items) ≡ false =
+    ap (λ z. is_closed_by true (environment_trees es z)) (sym inv.items) ∙ sym inv.closed
+    ∙ closed-from es xs i c.clause-item.result c.clauses-test.true c.clause-item.is ∙ not-both _ (is_closed_by true (environment_trees es (drop (i + 1) xs))) marked in
+    sym (not-both _ (is_closed_by false (predicate_trees es c.args.goal.now.predicate)) environment)
 
 pub clauses-preserved : goal.clauses-preserved
 clauses-preserved c =
@@ -41,7 +41,7 @@ clauses-preserved c =
     let unmarked = sym (c.if-not-is_closed.ensures ∙ ap (are_closed_flags true) c.flags.ensures) in
     record {
       items = inv.items;
-      closed = sym (closed-from es xs i c.clause-item.result c.clauses-test.true c.clause-item.is ∙ other _ (is_closed true (environment_trees es (drop (i + 1) xs))) unmarked) ∙ inv.closed;
+      closed = sym (closed-from es xs i c.clause-item.result c.clauses-test.true c.clause-item.is ∙ other _ (is_closed_by true (environment_trees es (drop (i + 1) xs))) unmarked) ∙ inv.closed;
     }
 
 pub returns : goal.returns
@@ -50,6 +50,6 @@ returns c =
     let inv = c.clauses.invariant in
     let xs = c.deref-clause-items.result.now in
     let past : length xs ≤ c.clauses.clause-index = omega arith in
-    let environment : is_closed true (environment_trees es c.args.goal.now.param_env.items) ≡ true =
-    ap (λ z. is_closed true (environment_trees es z)) (sym inv.items) ∙ sym inv.closed ∙ ap (λ z. is_closed true (environment_trees es z)) (drop-past xs c.clauses.clause-index past) in
-    c.is_closed-2.ensures ∙ ap (are_closed_flags false) c.flags-2.ensures ∙ sym (other _ (is_closed false (predicate_trees es c.args.goal.now.predicate)) environment)
+    let environment : is_closed_by true (environment_trees es c.args.goal.now.param_env.items) ≡ true =
+    ap (λ z. is_closed_by true (environment_trees es z)) (sym inv.items) ∙ sym inv.closed ∙ ap (λ z. is_closed_by true (environment_trees es z)) (drop-past xs c.clauses.clause-index past) in
+    c.is_closed-2.ensures ∙ ap (are_closed_flags false) c.flags-2.ensures ∙ sym (other _ (is_closed_by false (predicate_trees es c.args.goal.now.predicate)) environment)

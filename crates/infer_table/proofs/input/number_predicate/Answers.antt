@@ -4,7 +4,7 @@ use Rattle.type_terms.specs.Promised.Handles.{trees_at}
 use Rattle.type_terms.specs.declared.Fault.{Fault}
 use Rattle.infer_table.specs.Canonical.{canonical_label}
 use Rattle.infer_table.specs.Goals.{predicate_trees}
-use Rattle.infer_table.specs.Leaves.{labels, are_closed_flags, is_closed}
+use Rattle.infer_table.specs.Leaves.{labels, are_closed_flags, is_closed_by}
 use Rattle.infer_table.proofs.ClosedFacts.{closed-stays}
 use Rattle.infer_table.proofs.Numbers.{predicate-numbered}
 use Rattle.type_terms.proofs.FailFacts.{fold-at-limit}
@@ -19,7 +19,7 @@ pub returns-then-is_closed-clause-numbered : goal.returns-then-is_closed-clause-
 returns-then-is_closed-clause-numbered c =
     let es = c.args.cx.now.entries in
     let p = c.args.predicate in
-    let closed : is_closed false (predicate_trees es p) ≡ true = sym (c.if-is_closed.ensures ∙ ap (are_closed_flags false) c.flags.ensures) in
+    let closed : is_closed_by false (predicate_trees es p) ≡ true = sym (c.if-is_closed.ensures ∙ ap (are_closed_flags false) c.flags.ensures) in
     sym (closed-stays false (canonical_label (labels es c.args.leaves.now.keys)) (predicate_trees es p) closed)
 
 pub returns-clause-numbered : goal.returns-clause-numbered

@@ -6,7 +6,7 @@ use Rattle.text_names.specs.Machine.{findings}
 use Rattle.text_lines.specs.LineParts.{asked_parts}
 use Rattle.text_lines.specs.Views.{statement_of}
 use Rattle.text_names.specs.LineFound.{other_parts, asked_count}
-use Rattle.text_names.specs.Speaks.{crates_named}
+use Rattle.text_names.specs.Speaks.{crates_mentioned}
 use Rattle.text_names.proofs.Crates.{crates-are-named}
 use Rattle.text_names.proofs.Finding.{finds-at}
 use Rattle.text_names.proofs.Splitting.{read-split, rest-is}
@@ -22,7 +22,7 @@ returns g c l h =
     let count : k ≡ min (asked_count (statement_of r.statement)) (length ys) = c.min-count.ensures ∙ ap (λ z. min z c.len.result) c.asked_count.ensures ∙ ap (min (asked_count (statement_of r.statement))) n in
     let split = read-split l r k ys h count c.in_ok-parts.ensures in
     record {
-      crates = c.named_crates.ensures ∙ ap (λ s. findings v (map crate_use (crates_named s))) h.0 ∙ ap (λ z. findings v (map crate_use z)) (crates-are-named l);
+      crates = c.named_crates.ensures ∙ ap (λ s. findings v (map crate_use (crates_mentioned s))) h.0 ∙ ap (λ z. findings v (map crate_use z)) (crates-are-named l);
       asked = finds-at v (cells_in r.cells.items) (cells_in c.deref.result.now) (asked_parts l) (take k c.deref-2.result.now) (take k ys) c.in_ok-asked.asked c.in_ok-asked.ensures (ap cells_in c.deref.ensures.value) (ap (take k) c.deref-2.ensures.value) split.0;
       others = finds-at v (cells_in r.cells.items) (cells_in c.deref-3.result.now) (other_parts l) (take (length c.deref-4.result.now - k) (drop k c.deref-4.result.now)) (drop k ys) c.in_ok-others.others c.in_ok-others.ensures (ap cells_in c.deref-3.ensures.value)
           (rest-is k c.deref-4.result.now ∙ ap (drop k) c.deref-4.ensures.value) split.1;

@@ -4,7 +4,7 @@ use Rattle.text_language.specs.Promised.Declarations.{known}
 use Rattle.text_language.specs.Lowering.{trait_number}
 use Rattle.text_lines.specs.TypeViews.{cells_in}
 use Rattle.text_names.specs.Back.{args_back}
-use Rattle.text_names.specs.Machine.{items}
+use Rattle.text_names.specs.Machine.{seen_items}
 use Rattle.text_names.proofs.Resolving.{bound-begins}
 use Rattle.text_names.proofs.Turned.{type-turned}
 use Rattle.text_names.proofs.resolve.resolve_bound.Goals as goal
@@ -14,7 +14,7 @@ returns-in_ok-trait_number-in-Some g c b before h =
     let v = g.N.Names.sight c.args.names.now in
     let at = bound-begins b before (cells_in c.args.cells.now) c.next_named.new.self c.in-Some.name.now c.in-Some.start h (sym c.new-walk.ensures.rest ∙ c.in-Some.ensures) in (
       c.finish-in-Some.ensures ∙ c.into_found-in-Some.ensures ∙ c.in_ok-trait_number-in-Some.ensures.found b (reverse before) at.0 at.1 at.2,
-      c.in_ok-trait_number-in-Some.ensures.number ∙ ap (λ m. trait_number (known (items v) m)) at.0,
+      c.in_ok-trait_number-in-Some.ensures.number ∙ ap (λ m. trait_number (known (seen_items v) m)) at.0,
     )
 
 pub run_bound-requires-clause-frames : goal.run_bound-requires-clause-frames

@@ -3,7 +3,7 @@ use Rattle.type_terms.specs.Promised.Label.{Sort}
 use Rattle.text_language.specs.Promised.Declarations.{known}
 use Rattle.text_language.specs.Uses.{trait_use, args_count, kinds_of_trait}
 use Rattle.text_names.specs.Back.{count_above}
-use Rattle.text_names.specs.Machine.{WalkFrame, items, findings, noting, args_inside}
+use Rattle.text_names.specs.Machine.{WalkFrame, seen_items, findings, noting, args_inside}
 use Rattle.workspace.specs.Views.{sorts_of}
 use Rattle.text_names.specs.WalkViews.{frames_in}
 use Rattle.text_names.proofs.Counting.{count-args}
@@ -15,11 +15,11 @@ returns-clause-found g c b r hn hs hr =
     let v = g.N.Names.sight c.args.names.now in
     let w = c.args.walk.now in
     let k = c.count_above-count.result in
-    let ks = kinds_of_trait (known (items v) b.trait) in
+    let ks = kinds_of_trait (known (seen_items v) b.trait) in
     let many : k ≡ args_count b.args =
     c.count_above-count.ensures ∙ ap (λ i. count_above i w.rest) hs ∙ ap (count_above (length r)) hr ∙ count-args b.args r in
     let kinds : sorts_of c.trait_kinds-kinds.result.now ≡ ks =
-    c.trait_kinds-kinds.ensures ∙ ap kinds_of_trait c.known-meaning.ensures ∙ ap (λ m. kinds_of_trait (known (items v) m)) hn in
+    c.trait_kinds-kinds.ensures ∙ ap kinds_of_trait c.known-meaning.ensures ∙ ap (λ m. kinds_of_trait (known (seen_items v) m)) hn in
     let frame : ℕ → List Sort → ℕ → WalkFrame = λ i ks j. record { start = i; inner = i; binds = false; holds = args_inside ks j; room = Some 64; is_kept = true } in
     let opened = frame c.args.start (sorts_of c.trait_kinds-kinds.result.now) k in
     let frames : opened ∷ frames_in w.frames.items ≡ frame (length r) ks (args_count b.args) ∷ [] =

@@ -3,7 +3,7 @@ use Rattle.std.proofs.Common.{◌≡◌, ℕ, ◌+◌, ◌<◌, ◌≤◌, List,
 use Rattle.std.proofs.lemmas.List.{at_drop_more, at_drop_all, map-append}
 use Rattle.text_printer.specs.Answers.{value_of}
 use Rattle.text_printer.specs.Listed.{listed_of}
-use Rattle.text_printer.specs.Valued.{names_of, text_by}
+use Rattle.text_printer.specs.Valued.{printed_names, text_by}
 use Rattle.text_printer.proofs.Listing.{list-held-at}
 use Rattle.text_printer.proofs.named_values.value_texts.Goals as goal
 
@@ -25,9 +25,9 @@ pub loop-one-preserved : goal.loop-one-preserved
 loop-one-preserved c =
     record {
       texts =
-          one-more value_of (listed_of c.args.cx.now.entries) (text_by (names_of c.args.names.now)) _ c.loop-one.texts.items c.push.new.self.items c.in_ok-text.text c.args.listed.now c.loop-one.one-index c.one-item.result
+          one-more value_of (listed_of c.args.cx.now.entries) (text_by (printed_names c.args.names.now)) _ c.loop-one.texts.items c.push.new.self.items c.in_ok-text.text c.args.listed.now c.loop-one.one-index c.one-item.result
           c.loop-one-test.true c.one-item.is c.in_ok-text.ensures c.in_ok-push.ensures.items c.loop-one.invariant.texts;
     }
 
 pub returns : goal.returns
-returns c = no-more value_of (listed_of c.args.cx.now.entries) (text_by (names_of c.args.names.now)) _ c.loop-one.texts.items c.args.listed.now c.loop-one.one-index c.loop-one-test.false c.loop-one.invariant.texts
+returns c = no-more value_of (listed_of c.args.cx.now.entries) (text_by (printed_names c.args.names.now)) _ c.loop-one.texts.items c.args.listed.now c.loop-one.one-index c.loop-one-test.false c.loop-one.invariant.texts

@@ -3,7 +3,7 @@ use Rattle.std.proofs.lemmas.List.{reverse-append}
 use Rattle.std.specs.Prelude.{reverse, IsSome}
 use Rattle.std.specs.List.Sorted.{IsStrictlyIncreasing}
 use Rattle.workspace.specs.Made.{off_autos}
-use Rattle.workspace.specs.Stack.{part_of, parts_in, pushed, stack_of, lowered_auto}
+use Rattle.workspace.specs.Stack.{part_of, parts_in, pushed_parts, stack_of, lowered_auto}
 use Rattle.workspace.proofs.Stacks.{autos-one, autos-more, popped-more, lowest, first_number, rising-cons}
 use Rattle.workspace.proofs.stack.pop_autos.Goals as goal
 
@@ -21,7 +21,7 @@ loop-left-preserved c =
       made = subst (λ ns. IsSome (off_autos (c.loop-left.left - 1) (first_number ns) S)) (sym turned) more.0;
       popped =
           popped-more lowered_auto old t _ _ _ c.pop_auto.ensures c.loop-left.invariant.popped
-          ∙ ap (λ xs. pushed (map lowered_auto (reverse xs)) (stack_of c.pop_auto.new.stack.items)) (sym c.in_ok-push.ensures.items);
+          ∙ ap (λ xs. pushed_parts (map lowered_auto (reverse xs)) (stack_of c.pop_auto.new.stack.items)) (sym c.in_ok-push.ensures.items);
       counted = omega (arith, ap length c.in_ok-push.ensures.items, length-append old (t ∷ []), c.loop-left.invariant.counted, c.loop-left-test.true);
       rise = subst IsStrictlyIncreasing (sym turned) (rising-cons t.index (map (λ x. x.index) (reverse old)) more.1 c.loop-left.invariant.rise);
     }

@@ -2,14 +2,14 @@ use Rattle.std.proofs.Common.{◌≡◌, ◌+◌, length, map, IsSome}
 use Rattle.std.specs.Prelude.{reverse}
 use Rattle.std.specs.List.Sorted.{IsStrictlyIncreasing}
 use Rattle.workspace.specs.Made.{off_autos}
-use Rattle.workspace.specs.Stack.{stack_of, pushed, parts_in, lowered_auto}
+use Rattle.workspace.specs.Stack.{stack_of, pushed_parts, parts_in, lowered_auto}
 use Rattle.workspace.proofs.Stacks.{lowest}
 use Rattle.workspace.proofs.stack.pop_autos.Given as goal
 
 abbrev pub invariant-loop-left : goal.invariant-loop-left
 invariant-loop-left l = record {
   made : IsSome (off_autos l.left (lowest l.autos.items) (parts_in l.stack.items));
-  popped : stack_of l.fn.stack.items ≡ pushed (map lowered_auto (reverse l.autos.items)) (stack_of l.stack.items);
+  popped : stack_of l.fn.stack.items ≡ pushed_parts (map lowered_auto (reverse l.autos.items)) (stack_of l.stack.items);
   counted : length l.autos.items + l.left ≡ l.count;
   rise : IsStrictlyIncreasing (map (λ t. t.index) (reverse l.autos.items));
 }

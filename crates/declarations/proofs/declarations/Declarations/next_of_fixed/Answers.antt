@@ -6,7 +6,7 @@ use Rattle.declarations.specs.declared.heads.ImplKey.TheVariants.{Open, Fixed}
 use Rattle.declarations.specs.Index.{has_key, has_open_head, ids_of}
 use Rattle.declarations.specs.Items.{HeldImpl}
 use Rattle.declarations.specs.Merges.{IsMerge, Rises}
-use Rattle.declarations.specs.Relevant.{next_above, names_of, smaller_of}
+use Rattle.declarations.specs.Relevant.{next_above, impl_indices, smaller_of}
 use Rattle.declarations.proofs.Above.{first, next-either}
 use Rattle.declarations.proofs.Matched.{is_open_of, open-lists, can_meet, fixed-matching}
 use Rattle.declarations.proofs.Merging.{rises-filtered}
@@ -43,7 +43,7 @@ returns-clause-is c =
     let merged = subst (λ l. IsMerge l c.open_with_head-open_same_head.result.now all) (sym c.with_key-open_blanket.ensures.is) second in
     let walked : number c.next_meeting-open.result ≡ first last (λ i. is_open_of t s i && meets es args i) d.impls =
     ap number (c.next_meeting-open.ensures all merged (rises-filtered (λ (i : HeldImpl). i.id) (is_open_of t s) d.impls rises)) ∙ walk-finds last es d args (is_open_of t s) rises in
-    let own : number c.first_above.result ≡ first last (has_key (Fixed r)) d.impls = c.first_above.ensures ∙ ap (λ l. next_above last (names_of l)) c.with_key-own.ensures.is in
+    let own : number c.first_above.result ≡ first last (has_key (Fixed r)) d.impls = c.first_above.ensures ∙ ap (λ l. next_above last (impl_indices l)) c.with_key-own.ensures.is in
     c.smaller.ensures
     ∙ ap (λ o. smaller_of o (number c.first_above.result)) walked
     ∙ ap (smaller_of (first last (λ i. is_open_of t s i && meets es args i) d.impls)) own

@@ -8,7 +8,7 @@ use Rattle.type_terms.specs.declared.ImplId.{ImplId}
 use Rattle.declarations.specs.Heads.{head_of}
 use Rattle.declarations.specs.Items.{ids_with, ids_headed}
 use Rattle.declarations.specs.Merges.{Rises}
-use Rattle.declarations.specs.Relevant.{names_of, next_above, smaller_of}
+use Rattle.declarations.specs.Relevant.{impl_indices, next_above, smaller_of}
 use Rattle.declarations.proofs.Relevance.{all-relevant}
 use Rattle.declarations.proofs.Above.{rises-with, rises-headed, next-headed}
 use Rattle.declarations.proofs.declarations.Declarations.next_relevant_impl.Goals as goal
@@ -31,8 +31,8 @@ returns-clause-is c =
     let term = trees-is es types c.args.self_ty.0 c.requires.self_held.0 c.requires.self_held.1 in
     let number = option_map (λ (i : ImplId). i.index) in
     c.smaller.ensures
-    ∙ ap (λ o. smaller_of o (number c.first_above-2.result)) (c.first_above.ensures ∙ ap (λ l. next_above last (names_of l)) c.impls_with.ensures.is)
-    ∙ ap (smaller_of (next_above last (names_of (ids_with t None d.impls))))
-    (c.first_above-2.ensures ∙ ap (λ l. next_above last (names_of l)) (c.with_head-same_head.ensures ∙ ap (λ k. ids_headed t k d.impls) c.simplify_type.ensures))
+    ∙ ap (λ o. smaller_of o (number c.first_above-2.result)) (c.first_above.ensures ∙ ap (λ l. next_above last (impl_indices l)) c.impls_with.ensures.is)
+    ∙ ap (smaller_of (next_above last (impl_indices (ids_with t None d.impls))))
+    (c.first_above-2.ensures ∙ ap (λ l. next_above last (impl_indices l)) (c.with_head-same_head.ensures ∙ ap (λ k. ids_headed t k d.impls) c.simplify_type.ensures))
     ∙ sym (next-headed last t h d.impls c.impls_with.ensures.rises)
     ∙ ap (next_above last) (all-relevant es d t S (subst (IsA of_type) (sym term) typed) c.requires.held)

@@ -6,7 +6,7 @@ use Rattle.type_terms.specs.Binders.{counts_of}
 use Rattle.type_terms.specs.Kept.{is-at}
 use Rattle.term_folds.proofs.FoldFacts.{TyIs}
 use Rattle.type_terms.proofs.FailFacts.{faulted, refused-term}
-use Rattle.infer_table.specs.Leaves.{labels, root_label, are_closed_flags, is_closed, is_type_label, numbering}
+use Rattle.infer_table.specs.Leaves.{labels, root_label, are_closed_flags, is_closed_by, is_type_label, numbering}
 use Rattle.infer_table.proofs.Numbers.{enters-at, stays-at, says-stays, says-enters}
 use Rattle.infer_table.proofs.canonicalizer.CanonicalizerTypeFolder.fold_ty.Goals as goal
 
@@ -25,9 +25,9 @@ returns-then-is_closed-clause-answer c =
     let ls = labels es c.args.self.now.leaves.now.keys in
     let bs = counts_of c.args._binders.now in
     let s : Single t = type-single es c.lawful.ensures.sorted c.args.ty.0 c.requires.held in
-    let closed : is_closed b t ≡ true = sym (c.if-is_closed.ensures ∙ ap (are_closed_flags b) c.flags.ensures) in
+    let closed : is_closed_by b t ≡ true = sym (c.if-is_closed.ensures ∙ ap (are_closed_flags b) c.flags.ensures) in
     says-stays (TyIs es) (numbering b ls bs t) t c.args.ty
-    (stays-at b ls bs t s (c.if-not-is_open_ty.ensures.open b) (both-true (is_type_label (root_label t)) (is_closed b t) c.is_open_ty.ensures.type_label closed))
+    (stays-at b ls bs t s (c.if-not-is_open_ty.ensures.open b) (both-true (is_type_label (root_label t)) (is_closed_by b t) c.is_open_ty.ensures.type_label closed))
     (is-at es types c.args.ty.0 c.requires.held)
 
 pub returns-else-is_closed-clause-answer : goal.returns-else-is_closed-clause-answer
@@ -38,9 +38,9 @@ returns-else-is_closed-clause-answer c =
     let ls = labels es c.args.self.now.leaves.now.keys in
     let bs = counts_of c.args._binders.now in
     let s : Single t = type-single es c.lawful.ensures.sorted c.args.ty.0 c.requires.held in
-    let marked : is_closed b t ≡ false = sym (c.if-is_closed.ensures ∙ ap (are_closed_flags b) c.flags.ensures) in
+    let marked : is_closed_by b t ≡ false = sym (c.if-is_closed.ensures ∙ ap (are_closed_flags b) c.flags.ensures) in
     says-enters (TyIs es) (numbering b ls bs t)
-    (enters-at b ls bs t s (c.if-not-is_open_ty.ensures.open b) (last-false (is_type_label (root_label t)) (is_closed b t) marked))
+    (enters-at b ls bs t s (c.if-not-is_open_ty.ensures.open b) (last-false (is_type_label (root_label t)) (is_closed_by b t) marked))
 
 pub returns-in_err-variable-clause-full : goal.returns-in_err-variable-clause-full
 returns-in_err-variable-clause-full c =

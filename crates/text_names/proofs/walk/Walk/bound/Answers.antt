@@ -9,7 +9,7 @@ use Rattle.text_language.specs.Lowering.{trait_number}
 use Rattle.text_language.specs.Uses.{trait_use, binder_uses, kinds_of_trait}
 use Rattle.text_names.specs.Resolved as resolved
 use Rattle.text_names.specs.Back.{count_above}
-use Rattle.text_names.specs.Machine.{WalkFrame, Found, WalkState, items, findings, going, keeping, using, noting, args_inside}
+use Rattle.text_names.specs.Machine.{WalkFrame, Found, WalkState, seen_items, findings, going, keeping, using, noting, args_inside}
 use Rattle.text_names.specs.WalkViews.{frame_of, frames_in}
 use Rattle.text_names.proofs.Walking.{noted, bound-variables, together, going-same}
 use Rattle.text_names.proofs.walk.Walk.bound.Goals as goal
@@ -23,10 +23,10 @@ returns g c =
     let s = w.binders in
     let names = map text_of c.in_ok-bound.bound.items in
     let l = c.len.result in
-    let o = known (items v) n in
+    let o = known (seen_items v) n in
     let frame : List Sort → ℕ → Bool → WalkFrame = λ ks k b. record { start = c.args.start; inner = c.args.inner; binds = true; holds = args_inside ks k; room = c.args.outer.room; is_kept = b } in
     let outer = frame_of c.args.outer ∷ frames_in w.frames.items in
-    let kept = c.args.outer.is_kept && not (is_auto_name (items v) n) in
+    let kept = c.args.outer.is_kept && not (is_auto_name (seen_items v) n) in
     let held = c.is_kept_but-is_kept.result in
     let is-held : held ≡ kept = c.is_kept_but-is_kept.ensures ∙ ap (λ b. c.args.outer.is_kept && not b) c.is_auto.ensures in
     let number : c.trait_number.result ≡ trait_number o = c.trait_number.ensures ∙ ap trait_number c.known-meaning.ensures in

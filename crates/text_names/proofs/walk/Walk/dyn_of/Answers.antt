@@ -2,7 +2,7 @@ use Rattle.std.proofs.Common.{◌≡◌, ℕ, ◌+◌, ◌<◌, List, ◌∷◌,
 use Rattle.text_language.specs.Uses.{dyn_use}
 use Rattle.text_names.specs.Back.{parts_above, shape_of}
 use Rattle.text_names.specs.Resolved.{Region}
-use Rattle.text_names.specs.Machine.{WalkFrame, Found, items, params, going, using, noting, keeping, deepening, deeper, sort_misfits, items_inside, shape_autos, shape_principals, last_item_region}
+use Rattle.text_names.specs.Machine.{WalkFrame, Found, seen_items, params, going, using, noting, keeping, deepening, deeper, sort_misfits, items_inside, shape_autos, shape_principals, last_item_region}
 use Rattle.text_names.specs.Shapes.{dyn_cells, summary}
 use Rattle.workspace.specs.Views.{sort_of_kind}
 use Rattle.text_names.specs.Views.{region_in}
@@ -14,7 +14,7 @@ use Rattle.text_names.proofs.walk.Walk.dyn_of.Goals as goal
 pub overflow_add-inside-2 : goal.overflow_add-inside-2
 overflow_add-inside-2 g c =
     let x = c.in_ok-shapes.shapes in
-    let room : x.principals + (length x.autos + 1) < 18446744073709551616 = cells-room (items (g.N.Names.sight c.args.names.now)) c.args.start c.args.self.now.rest 18446744073709551616 x c.in_ok-shapes.ensures c.requires in
+    let room : x.principals + (length x.autos + 1) < 18446744073709551616 = cells-room (seen_items (g.N.Names.sight c.args.names.now)) c.args.start c.args.self.now.rest 18446744073709551616 x c.in_ok-shapes.ensures c.requires in
     let one : c.shapes-2.inside.principals ≡ x.principals = ap (λ z. z.principals) c.shapes-2.view_is in
     let two : c.len.result ≡ length x.autos = c.len.ensures ∙ c.shapes-2.inside.autos.ok.0 ∙ ap (λ z. length z.autos) c.shapes-2.view_is in
     omega (arith, room, one, two)
@@ -22,7 +22,7 @@ overflow_add-inside-2 g c =
 pub returns : goal.returns
 returns g c =
     let v = g.N.Names.sight c.args.names.now in
-    let d = items v in
+    let d = seen_items v in
     let p = sort_of_kind c.args.place.sort in
     let b = c.args.place.is_kept in
     let room = c.args.place.room in

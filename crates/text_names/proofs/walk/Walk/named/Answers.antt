@@ -5,7 +5,7 @@ use Rattle.text_language.specs.Promised.Declarations.{known}
 use Rattle.text_language.specs.Uses.{name_use, kinds_of_struct}
 use Rattle.workspace.specs.Views.{sort_of_kind}
 use Rattle.text_names.specs.Views.{resolved_in}
-use Rattle.text_names.specs.Machine.{WalkFrame, Found, items, going, keeping, deepening, deeper, using, name_misfits, name_cells, is_const_place, args_inside}
+use Rattle.text_names.specs.Machine.{WalkFrame, Found, seen_items, going, keeping, deepening, deeper, using, name_misfits, name_cells, is_const_place, args_inside}
 use Rattle.text_names.specs.WalkViews.{frames_in}
 use Rattle.text_names.proofs.Walking.{noted, name-variables, kept-same, together, going-same}
 use Rattle.text_names.proofs.walk.Walk.named.Goals as goal
@@ -21,7 +21,7 @@ returns g c =
     let w = c.args.self.now in
     let fs = frames_in w.frames.items in
     let us = name_misfits p ++ name_use p n k ∷ [] in
-    let ks = kinds_of_struct (known (items v) n) in
+    let ks = kinds_of_struct (known (seen_items v) n) in
     let frame : List Sort → ℕ → Option ℕ → Bool → WalkFrame = λ ks k r b. record { start = c.args.start; inner = c.args.start; binds = false; holds = args_inside ks k; room = r; is_kept = b } in
     let own = b && not (is_const_place p) in
     let cell = resolved_in c.named_cell-cell.result in

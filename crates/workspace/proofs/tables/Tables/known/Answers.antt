@@ -3,7 +3,7 @@ use Rattle.std.proofs.lemmas.List.{length-map}
 use Rattle.std.proofs.lemmas.Option.{slice_get_within, slice_get_read, slice_get-map, same_Some}
 use Rattle.std.specs.Option.{option_map}
 use Rattle.text_language.specs.Promised.Declarations.{a_struct, a_trait}
-use Rattle.workspace.specs.Tables.{declared, item_of}
+use Rattle.workspace.specs.Tables.{declared, named_item}
 use Rattle.workspace.specs.Views.{struct_of, trait_of, sorts_of}
 use Rattle.workspace.proofs.Names.{struct-known, trait-known}
 use Rattle.workspace.proofs.tables.Tables.known.Goals as goal
@@ -11,14 +11,14 @@ use Rattle.workspace.proofs.tables.Tables.known.Goals as goal
 pub index-entry-requires : goal.index-entry-requires
 index-entry-requires c =
     let t = c.args.self.now in
-    let stands = sym c.named.ensures ∙ ap (option_map item_of) (c.in-Some-Struct.is ∙ ap Some c.in-Some-Struct.field-0-is) in
+    let stands = sym c.named.ensures ∙ ap (option_map named_item) (c.in-Some-Struct.is ∙ ap Some c.in-Some-Struct.field-0-is) in
     let found = struct-known (declared t) c.args.name.now c.in-Some-Struct.id.index c.requires.numbered stands in
     omega (arith, slice_get_within (declared t).structs c.in-Some-Struct.id.index found.0 found.1, length-map t.structs.items struct_of)
 
 pub index-entry-requires-in-Some-Trait : goal.index-entry-requires-in-Some-Trait
 index-entry-requires-in-Some-Trait c =
     let t = c.args.self.now in
-    let stands = sym c.named.ensures ∙ ap (option_map item_of) (c.in-Some-Trait.is ∙ ap Some c.in-Some-Trait.field-0-is) in
+    let stands = sym c.named.ensures ∙ ap (option_map named_item) (c.in-Some-Trait.is ∙ ap Some c.in-Some-Trait.field-0-is) in
     let found = trait-known (declared t) c.args.name.now c.in-Some-Trait.id.index c.requires.numbered stands in
     omega (arith, slice_get_within (declared t).traits c.in-Some-Trait.id.index found.0 found.1, length-map t.traits.items trait_of)
 
@@ -27,7 +27,7 @@ returns-in-Some-Struct c =
     let t = c.args.self.now in
     let k = c.in-Some-Struct.id.index in
     let entry = c.index-entry.result.now in
-    let stands = sym c.named.ensures ∙ ap (option_map item_of) (c.in-Some-Struct.is ∙ ap Some c.in-Some-Struct.field-0-is) in
+    let stands = sym c.named.ensures ∙ ap (option_map named_item) (c.in-Some-Struct.is ∙ ap Some c.in-Some-Struct.field-0-is) in
     let found = struct-known (declared t) c.args.name.now k c.requires.numbered stands in
     let within = slice_get_within (declared t).structs k found.0 found.1 in
     let there = slice_get_read t.structs.items _ k entry refl (omega (arith, within, length-map t.structs.items struct_of)) c.index-entry.ensures in
@@ -39,7 +39,7 @@ returns-in-Some-Trait c =
     let t = c.args.self.now in
     let k = c.in-Some-Trait.id.index in
     let entry = c.index-entry-in-Some-Trait.result.now in
-    let stands = sym c.named.ensures ∙ ap (option_map item_of) (c.in-Some-Trait.is ∙ ap Some c.in-Some-Trait.field-0-is) in
+    let stands = sym c.named.ensures ∙ ap (option_map named_item) (c.in-Some-Trait.is ∙ ap Some c.in-Some-Trait.field-0-is) in
     let found = trait-known (declared t) c.args.name.now k c.requires.numbered stands in
     let within = slice_get_within (declared t).traits k found.0 found.1 in
     let there = slice_get_read t.traits.items _ k entry refl (omega (arith, within, length-map t.traits.items trait_of)) c.index-entry-in-Some-Trait.ensures in

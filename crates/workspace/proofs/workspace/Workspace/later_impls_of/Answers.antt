@@ -4,15 +4,15 @@ use Rattle.text_language.specs.Promised.Declarations.{LaterImpl}
 use Rattle.workspace.specs.declared.declared.LaterEntry.{LaterEntry}
 use Rattle.workspace.specs.Numbered.{EachNumbered}
 use Rattle.workspace.specs.Made.{ReferenceMade, ReferencesMade}
-use Rattle.workspace.specs.Views.{later_of}
+use Rattle.workspace.specs.Views.{later_impl_of}
 use Rattle.workspace.proofs.Each.{Each-filter, filter-map}
 use Rattle.workspace.proofs.workspace.Workspace.later_impls_of.Goals as goal
 
 pub returns-clause-items : goal.returns-clause-items
 returns-clause-items c =
     let n = c.args.section in
-    ap (map later_of) (c.impls_of_section.ensures ∙ ap (filter (λ (x : LaterEntry). x.section == n)) c.deref.ensures.value)
-    ∙ sym (filter-map (λ (i : LaterImpl). i.section == n) later_of c.self.inside.tables.later_impls.items)
+    ap (map later_impl_of) (c.impls_of_section.ensures ∙ ap (filter (λ (x : LaterEntry). x.section == n)) c.deref.ensures.value)
+    ∙ sym (filter-map (λ (i : LaterImpl). i.section == n) later_impl_of c.self.inside.tables.later_impls.items)
     ∙ ap (λ d. filter (λ (i : LaterImpl). i.section == n) d.later_impls) c.self.view_is
 
 -- all are made well, so those of the section are
