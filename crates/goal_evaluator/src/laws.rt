@@ -1,11 +1,31 @@
-//! The tables of frames keep the laws of tables: what frames are proved to keep holds over them. And evaluations in code do what
-//! is proved of the tables of frames: their rounds and candidates ask the same questions and end alike.
+//! Laws of evaluations. The tables of frames keep the laws of tables, so what frames are proved to keep holds over them. Evaluations in
+//! code do what is proved of the tables of frames: their rounds and candidates ask the same questions and end alike.
 
+ghost use Rattle.goal_evaluator.specs.FrameTables.{InstanceOfQuestion};
+ghost use Rattle.goal_evaluator.specs.Equations.{EquationsNarrow, EquationsKeep, EquationsStayMade};
 ghost use Rattle.goal_evaluator.specs.Table.{IsTable};
 ghost use Rattle.goal_evaluator.specs.Tables.{frame_tables};
 ghost use Rattle.goal_evaluator.specs.Candidates.{CandidatesAreOne};
 ghost use Rattle.goal_evaluator.specs.RoundLaws.{RoundsAreOne, RoundsEndAlike};
 ghost use Rattle.goal_evaluator.specs.AnswerLaws.{AnswersAreWellFormed, AnswersAnswerTheirGoals};
+
+// ---- the tables in which frames are evaluated, as trees: which terms they allow for unknowns
+
+/// An instance of a canonical question, by what a table allows for the leaves of the goal that was asked, is an instance of that goal.
+pub fn question_laws()
+    ensures { InstanceOfQuestion }
+{}
+
+/// What equations leave of a table holds only where the table and all equations held; where these hold, and different placeholders
+/// stand for different terms, the equations are not refused, and what they leave holds. What equations leave is what
+/// `InferCtxt::eq` leaves.
+pub fn equation_laws()
+    ensures narrows { EquationsNarrow }
+    ensures keeps { EquationsKeep }
+    ensures made { EquationsStayMade }
+{}
+
+// ---- what frames and evaluations keep
 
 /// The tables of frames are lawful: those that are made of terms stay so; an instance of a canonical question is one of its goal;
 /// equations, answers and constraints that are put in allow nothing new, and lose no terms that meet them and tell placeholders

@@ -13,9 +13,8 @@ pub mod intersection;
 pub mod laws;
 pub mod orphans;
 pub mod partners;
-mod session_laws;
 
-pub use session_laws::{
+pub use laws::{
     a_refused_clause_clears, accepted_sets_have_one_impl, accepted_texts_in_any_order,
     answers_hold_in_linked_sets, apart_is_cleared, bounded_is_refuted, decided_is_answered,
     held_sets_have_one_impl, impl_rules_are_instances, passed_is_accepted, refused_is_real,

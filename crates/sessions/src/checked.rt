@@ -15,9 +15,8 @@ ghost use Rattle.solver_graph.specs.Contexts.{KeepsLimits};
 ghost use Rattle.solver_graph.specs.Shortages.{ContextFullAtLimit};
 
 use crate::asked::rest_laws;
+use crate::laws::{open_pair_goals_are_possible, ready_impls_are_written_well};
 use crate::obligations::has_impossible_obligation;
-use crate::pair_laws::open_pair_goals_are_possible;
-use crate::written::ready_impls_are_written_well;
 use candidate_assembly::solver::Solver;
 use orphan_check::errors::OrphanCheckErr;
 use overlap_check::heads::headers_differ;

@@ -11,60 +11,46 @@
 #![tactic(auto)]
 
 mod answers;
-mod applying;
 mod asked;
 mod by_trait;
 mod checked;
-mod decided_answers;
 mod impossible;
 mod later;
 pub mod laws;
 mod limits;
 mod obligations;
 mod own_values;
-mod pair_laws;
 mod placeholders;
-mod proved_questions;
 mod proving;
-mod question_laws;
 mod refuted;
 mod seen_view;
 mod session;
 pub mod settling;
 mod shown;
-mod supertrait_laws;
 mod supertraits;
 pub mod table;
-mod text_laws;
 pub mod values;
 mod view;
-mod written;
 
 pub use answers::{LaterAnswer, ProveAnswer, RefuteAnswer, SupersAnswer, Verdict};
-pub use applying::clauses_apply;
 pub use asked::lower_in;
 pub use checked::intersection_at;
 pub use impossible::is_impossible;
 pub use later::{added_impls, added_impls_break_no_user, trait_is_relied_on};
+pub use laws::{
+    SolverSearch, accepted_texts_are_coherent, answered_sets_are_linked, clauses_apply,
+    crates_of_two_texts_are_a_set, decided_are_answered, formed_questions_are_goals,
+    held_texts_are_coherent, impls_apply, impls_are_in_scope, joined_sets_are_four_records,
+    open_pair_goals_are_possible, pair_goals_are_formed, questions_are_answered_as_written,
+    questions_are_answered_exactly, questions_are_elaborated, questions_are_formed,
+    ready_impls_are_written_well, references_are_goals, refusals_are_exact, sorts_tell_fits,
+    texts_are_formed, texts_are_joined, texts_list_in_order,
+};
 pub use limits::Limits;
 pub use obligations::has_impossible_obligation;
 pub use orphan_check::errors::{OrphanCheckErr, UncoveredTyParams};
-pub use pair_laws::{open_pair_goals_are_possible, pair_goals_are_formed};
 pub use proving::{elaborate_in, goal_under, question_table_in};
-pub use question_laws::{
-    SolverSearch, decided_are_answered, formed_questions_are_goals,
-    questions_are_answered_as_written, questions_are_answered_exactly, questions_are_elaborated,
-    questions_are_formed, references_are_goals, refusals_are_exact, sorts_tell_fits,
-    texts_are_formed,
-};
 pub use seen_view::SeenView;
 pub use session::Session;
-pub use supertrait_laws::impls_apply;
 pub use supertraits::{SupertraitGoals, own_goals_in};
-pub use text_laws::{
-    accepted_texts_are_coherent, answered_sets_are_linked, crates_of_two_texts_are_a_set,
-    held_texts_are_coherent, impls_are_in_scope, joined_sets_are_four_records, texts_are_joined,
-    texts_list_in_order,
-};
 pub use view::{declarations_are_ready, impls_are_numbered};
-pub use written::ready_impls_are_written_well;

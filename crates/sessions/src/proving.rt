@@ -32,8 +32,8 @@ ghost use Rattle.sessions.specs.Tables.{table_of};
 
 use crate::answers::ProveAnswer;
 use crate::asked::{lower_in, rest_laws};
+use crate::laws::references_are_goals;
 use crate::own_values::own_answer;
-use crate::question_laws::references_are_goals;
 use crate::settling::{Outcome, ask_until_settled};
 use crate::table::question_table;
 use crate::values::values_of;

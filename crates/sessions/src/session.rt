@@ -27,21 +27,20 @@ ghost use Rattle.sessions.specs.Supertraits.{IsCheckedAt};
 ghost use Rattle.sessions.specs.Promised.Subjects.{IsOfText, AsksProof, AsksRefutation, StaysOn};
 
 use crate::answers::{LaterAnswer, ProveAnswer, RefuteAnswer, SupersAnswer, Verdict};
-use crate::applying::clauses_apply;
 use crate::asked::rest_laws;
 use crate::by_trait::ImplsByTrait;
 use crate::checked::{first_broken_header, overlap_at};
-use crate::decided_answers::other_answers_are_right;
 use crate::later::{added_impls_break_no_user, later_answer};
+use crate::laws::{
+    answered_sets_are_linked, clauses_apply, held_texts_are_coherent, impls_apply,
+    other_answers_are_right, yes_is_proved,
+};
 use crate::limits::Limits;
-use crate::proved_questions::yes_is_proved;
 use crate::proving::prove_question;
 use crate::refuted::refute_question;
 use crate::seen_view::SeenView;
 use crate::shown::is_proof_of_question;
-use crate::supertrait_laws::impls_apply;
 use crate::supertraits::{HeaderAnswer, header_answer_at};
-use crate::text_laws::{answered_sets_are_linked, held_texts_are_coherent};
 use candidate_assembly::solver::Solver;
 use declarations::declarations::Declarations;
 use orphan_check::errors::OrphanCheckErr;

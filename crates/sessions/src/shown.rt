@@ -18,8 +18,8 @@ ghost use Rattle.sessions.specs.Checking.{IsReadySolver, SolverStaysReady, rules
 ghost use Rattle.sessions.specs.Shown.{IsResolved, IsShown};
 
 use crate::asked::{lower_in, rest_laws};
+use crate::laws::ready_impls_are_written_well;
 use crate::proving::question_table_in;
-use crate::written::ready_impls_are_written_well;
 use candidate_assembly::solver::Solver;
 use infer_table::certainty::EqError;
 use infer_table::infer_ctxt::InferCtxt;

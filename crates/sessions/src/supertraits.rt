@@ -19,11 +19,10 @@ ghost use Rattle.solver_graph.specs.Shortages.{ContextFullAtLimit};
 
 use crate::answers::ProveAnswer;
 use crate::asked::rest_laws;
+use crate::laws::{ready_impls_are_written_well, supertraits_are_told};
 use crate::placeholders::{next_number, opaque_impl};
 use crate::proving::prove_under;
 use crate::settling::Outcome;
-use crate::supertrait_laws::supertraits_are_told;
-use crate::written::ready_impls_are_written_well;
 use candidate_assembly::solver::Solver;
 use declarations::declarations::Declarations;
 use declarations::items::ImplDef;

@@ -1,5 +1,0 @@
-use Rattle.goal_evaluator.proofs.Questions.{instance_of_question}
-use Rattle.goal_evaluator.proofs.table_laws.question_laws.Goals as goal
-
-pub returns : goal.returns
-returns c = instance_of_question

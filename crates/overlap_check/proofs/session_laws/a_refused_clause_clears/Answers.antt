@@ -1,5 +1,0 @@
-use Rattle.overlap_check.proofs.Contracts.{refused-clears}
-use Rattle.overlap_check.proofs.session_laws.a_refused_clause_clears.Goals as goal
-
-pub returns : goal.returns
-returns c = refused-clears

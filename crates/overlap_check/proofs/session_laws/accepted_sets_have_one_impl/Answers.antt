@@ -1,5 +1,0 @@
-use Rattle.overlap_check.proofs.Contracts.{headline}
-use Rattle.overlap_check.proofs.session_laws.accepted_sets_have_one_impl.Goals as goal
-
-pub returns : goal.returns
-returns c = headline

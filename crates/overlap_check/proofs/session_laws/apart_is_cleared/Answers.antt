@@ -1,5 +1,0 @@
-use Rattle.overlap_check.proofs.Contracts.{apart-cleared}
-use Rattle.overlap_check.proofs.session_laws.apart_is_cleared.Goals as goal
-
-pub returns : goal.returns
-returns c = apart-cleared

@@ -1,5 +1,0 @@
-use Rattle.overlap_check.proofs.Contracts.{decided-answered}
-use Rattle.overlap_check.proofs.session_laws.decided_is_answered.Goals as goal
-
-pub returns : goal.returns
-returns c = decided-answered

@@ -1,5 +1,0 @@
-use Rattle.overlap_check.proofs.Contracts.{refused-real}
-use Rattle.overlap_check.proofs.session_laws.refused_is_real.Goals as goal
-
-pub returns : goal.returns
-returns c = refused-real

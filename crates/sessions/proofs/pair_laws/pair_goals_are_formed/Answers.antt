@@ -1,5 +1,0 @@
-use Rattle.sessions.proofs.PairGoals.{pair-goals-are-formed}
-use Rattle.sessions.proofs.pair_laws.pair_goals_are_formed.Goals as goal
-
-pub returns : goal.returns
-returns c = pair-goals-are-formed

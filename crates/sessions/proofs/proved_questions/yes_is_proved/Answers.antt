@@ -1,5 +1,0 @@
-use Rattle.sessions.proofs.ProvedQuestions as Lemmas
-use Rattle.sessions.proofs.proved_questions.yes_is_proved.Goals as goal
-
-pub returns : goal.returns
-returns c = Lemmas.yes-is-right

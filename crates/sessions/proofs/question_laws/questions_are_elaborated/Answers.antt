@@ -1,5 +1,0 @@
-use Rattle.sessions.proofs.TextQuestions as Lemmas
-use Rattle.sessions.proofs.question_laws.questions_are_elaborated.Goals as goal
-
-pub returns : goal.returns
-returns c = Lemmas.texts-questions-are-elaborated

@@ -1,5 +1,0 @@
-use Rattle.sessions.proofs.ReferenceGoals as Lemmas
-use Rattle.sessions.proofs.question_laws.references_are_goals.Goals as goal
-
-pub returns : goal.returns
-returns c = Lemmas.references-are-goals

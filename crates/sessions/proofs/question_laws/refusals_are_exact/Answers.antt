@@ -1,5 +1,0 @@
-use Rattle.sessions.proofs.ExactRefusals as Lemmas
-use Rattle.sessions.proofs.question_laws.refusals_are_exact.Goals as goal
-
-pub returns : goal.returns
-returns c = Lemmas.refusals-are-exact

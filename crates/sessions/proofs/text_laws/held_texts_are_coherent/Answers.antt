@@ -1,6 +1,0 @@
-use Rattle.overlap_check.proofs.Contracts.{headline, answers-hold}
-use Rattle.sessions.proofs.CoherentTexts.{held-texts-are-coherent}
-use Rattle.sessions.proofs.text_laws.held_texts_are_coherent.Goals as goal
-
-pub returns : goal.returns
-returns c = held-texts-are-coherent headline answers-hold

@@ -1,5 +1,0 @@
-use Rattle.sessions.proofs.JoinedTexts.{texts-are-joined}
-use Rattle.sessions.proofs.text_laws.texts_are_joined.Goals as goal
-
-pub returns : goal.returns
-returns c = texts-are-joined

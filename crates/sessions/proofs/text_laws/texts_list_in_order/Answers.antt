@@ -1,5 +1,0 @@
-use Rattle.sessions.proofs.JoinedTexts.{texts-list-in-order}
-use Rattle.sessions.proofs.text_laws.texts_list_in_order.Goals as goal
-
-pub returns : goal.returns
-returns c = texts-list-in-order
