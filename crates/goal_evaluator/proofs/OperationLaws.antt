@@ -126,7 +126,7 @@ answer-keeps t n a e s h g =
     let r = further t s q known a.kinds in
     let sorted : IsSorted r.unknowns = extended-sorted s.unknowns q known t.content 0 a.kinds h.allowed.sorted g.1 in
     let picks : ArePicked q a.values (map (reading_of r) ls) = subst (ArePicked q a.values) (sym (further-map t s q known a.kinds ls theirs)) g.2 in
-    let ones = pairs-one t.kinds t.content ls theirs a e r q sorted (all-agree r q ls a.values picks) (λ k i x. x.stands s.unknowns q ∙ ap (q k) (zero-plus t.kinds t.content ls theirs a e i)) in
+    let ones = pairs-one t.kinds t.content ls theirs a e r q sorted (all-agree r q ls a.values picks) (λ k i x. x.stands s.unknowns q ∙ ap (q k) (zero-plus i)) in
     let hold : Hold r grown = subst (Every (UnknownStands r)) (sym (for-bindings known t.content 0 a.kinds)) (further-holds t s q known a.kinds t.content.bindings made.table.values h.allowed.hold) in
     let x = in-turn-keeps (better_in t made n a e) (opens t made n a e) (todo t made n a e) grown r (grown-made t.kinds t.content ls theirs a e made.table) (pairs-made t.kinds t.content ls theirs a e)
     (further-apart t s r grown.ty_vars grown.const_vars h refl sorted) hold ones in
