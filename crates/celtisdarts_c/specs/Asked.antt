@@ -1,9 +1,9 @@
 -- What is asked behind a handle: the text that was read there, if one was.
 use Rattle.std.specs.Prelude.{◌≡◌, ◌≤◌, ℕ, List, length, Some, Ok, slice_get}
 use Rattle.std.specs.Option.{option_map}
-use Rattle.text_names.specs.FaultNumbers.{fault_number}
-use Rattle.text_language.specs.Text.{TextGives}
-use Rattle.text_parser.specs.Behind.{FitsBehind, behind}
+use Rattle.coherence.specs.TextNames.FaultNumbers.{fault_number}
+use Rattle.coherence.specs.TextLanguage.Text.{TextGives}
+use Rattle.coherence.specs.TextParser.Behind.{FitsBehind, behind}
 use Rattle.coherence.specs.Asking.{AskedText, IsAskFault, IsLastLine}
 use Rattle.coherence.specs.LineByLine.{IsVerdictLine}
 use Rattle.coherence.specs.declared.ask_fault.AskFault.{AskFault}

@@ -1,7 +1,7 @@
 //! Texts that are read once, and asked at run time.
 
 ghost use Rattle.std.specs.Prelude.{◌≡◌, ◌≢◌, ◌≤◌, ◌↔◌, ◌⊎◌, Err, Some, None};
-ghost use Rattle.text_language.specs.Text.{TextGives};
+ghost use Rattle.coherence.specs.TextLanguage.Text.{TextGives};
 ghost use Rattle.celtisdarts_c.specs.Asked.{HasRead, HasNoCrate, IsCrateName, IsCrateLine, IsAnswer, IsUnanswered};
 ghost use Rattle.celtisdarts_c.specs.Told.{Tells, TellsLength};
 

@@ -1,14 +1,14 @@
 -- What the texts state as checked, in addition to the claims of traces.
 use Rattle.std.specs.Prelude.{◌≡◌, ℕ, true}
-use Rattle.type_terms.specs.declared.ImplId.{ImplId}
-use Rattle.text_language.specs.Promised.Declarations.{Question}
-use Rattle.proof_checker.specs.Steps.{term_of}
-use Rattle.sessions.specs.Promised.Promises.{view_in}
-use Rattle.sessions.specs.Shown.{AreProofOfQuestion}
-use Rattle.sessions.specs.Promised.Subjects.{Subject, AsksProof}
-use Rattle.explain_sessions.specs.Rules.{HasRulesByBoth}
-use Rattle.explain_sessions.specs.declared.walks.PairWalk.{PairWalk}
-use Rattle.explain_sessions.specs.declared.walks.ProofWalk.{ProofWalk}
+use Rattle.explain_texts.specs.TypeTerms.declared.ImplId.{ImplId}
+use Rattle.explain_texts.specs.TextLanguage.Promised.Declarations.{Question}
+use Rattle.explain_texts.specs.ProofChecker.Steps.{term_of}
+use Rattle.explain_texts.specs.Sessions.Promised.Promises.{view_in}
+use Rattle.explain_texts.specs.Sessions.Shown.{AreProofOfQuestion}
+use Rattle.explain_texts.specs.Sessions.Promised.Subjects.{Subject, AsksProof}
+use Rattle.explain_texts.specs.ExplainSessions.Rules.{HasRulesByBoth}
+use Rattle.explain_texts.specs.ExplainSessions.declared.walks.PairWalk.{PairWalk}
+use Rattle.explain_texts.specs.ExplainSessions.declared.walks.ProofWalk.{ProofWalk}
 
 -- Steps that are displayed as checked are a proof of the bound of the query with this number.
 abbrev pub ShowsProofOf : Subject → ℕ → ProofWalk → Type 0

@@ -1,12 +1,12 @@
 //! The text for a section that is breaking.
 
-use explain_diagnostics::{Diagnostic, Level};
-use explain_sessions::BreakingCause;
+use explain_texts::explain_diagnostics::{Diagnostic, Level};
+use explain_texts::explain_sessions::BreakingCause;
+use explain_texts::type_terms::{CrateId, TraitId};
 use explain_texts::{
     Piece, Sentence, Telling, Texts, crate_name, is_fundamental, plain, trait_name, with_one,
 };
 use std::alloc::{AllocError, Global};
-use type_terms::{CrateId, TraitId};
 
 /// The trait of the impl of a section with this number.
 fn added_trait(texts: Texts<'_>, section: u32, number: u32) -> Option<TraitId> {

@@ -4,9 +4,9 @@
 //! One session for each crate explains all its lines. No contract says that a sentence is true.
 
 ghost use Rattle.std.specs.Prelude.{◌≡◌, ◌<◌, length, IfSome, OnOk};
-ghost use Rattle.sessions.specs.SeenViews.{IsLeftView};
-ghost use Rattle.sessions.specs.Promised.Subjects.{IsOfText, StaysOn};
-ghost use Rattle.workspace.specs.Numbered.{IsFew};
+ghost use Rattle.explain_texts.specs.Sessions.SeenViews.{IsLeftView};
+ghost use Rattle.explain_texts.specs.Sessions.Promised.Subjects.{IsOfText, StaysOn};
+ghost use Rattle.explain_texts.specs.Workspace.Numbered.{IsFew};
 
 use crate::checks::explain_checked;
 use crate::overlaps::overlap;
@@ -15,14 +15,14 @@ use crate::places::{
 };
 use crate::questions::{Questioned, explain_asked};
 use crate::spending::Spending;
-use explain_diagnostics::{Diagnostic, SourceFile};
-use explain_sessions::impl_header;
+use explain_texts::explain_diagnostics::{Diagnostic, SourceFile};
+use explain_texts::explain_sessions::impl_header;
+use explain_texts::sessions::{Limits, SeenView, Session, Verdict};
+use explain_texts::text_parser::{TextError, parse};
+use explain_texts::type_terms::{CrateId, Fault, ImplId};
+use explain_texts::workspace::{ENTRY_LIMIT, Workspace};
 use explain_texts::{Texts, fault_diagnostic, item_lines, orphan};
-use sessions::{Limits, SeenView, Session, Verdict};
 use std::alloc::{AllocError, Global};
-use text_parser::{TextError, parse};
-use type_terms::{CrateId, Fault, ImplId};
-use workspace::{ENTRY_LIMIT, Workspace};
 
 /// Room for this many diagnostics, with none in it.
 fn reserve(count: usize, found: &mut Vec<Option<Diagnostic>>) -> Result<(), AllocError> {

@@ -32,13 +32,13 @@ use crate::input::read_text;
 use crate::printed::{Lack, Shown, Told, write_told};
 use crate::words::{ColorConfig, Options, read_words};
 use coherence::{Limits, RunFault, Status, run};
-use explain_diagnostics::{Diagnostic, SourceFile};
+use explain_texts::explain_diagnostics::{Diagnostic, SourceFile};
+use explain_texts::type_terms::Fault;
 use std::alloc::{AllocError, Global};
 use std::fs::File;
 use std::io::IsTerminal;
 use std::process::ExitCode;
 use std::{env, io};
-use type_terms::Fault;
 
 /// How many handles of each kind a session holds at most.
 const HANDLES: u32 = 16_777_216;

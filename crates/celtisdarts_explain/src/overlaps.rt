@@ -2,21 +2,23 @@
 
 ghost use Rattle.std.specs.Prelude.{◌≡◌, IfOk};
 ghost use Rattle.celtisdarts_explain.specs.Told.{ShowsCommonOf};
-ghost use Rattle.sessions.specs.Promised.Subjects.{StaysOn};
-ghost use Rattle.explain_sessions.specs.Claims.{ClaimsHold};
-ghost use Rattle.explain_sessions.specs.Walked.{PairWalkHeld};
+ghost use Rattle.explain_texts.specs.Sessions.Promised.Subjects.{StaysOn};
+ghost use Rattle.explain_texts.specs.ExplainSessions.Claims.{ClaimsHold};
+ghost use Rattle.explain_texts.specs.ExplainSessions.Walked.{PairWalkHeld};
 
 use crate::explaining::seen_impls;
-use explain_diagnostics::{Diagnostic, ErrCode, Level, Span};
-use explain_sessions::{Claims, PairWalk, explain_overlap, impl_header, pair_claims};
+use explain_texts::explain_diagnostics::{Diagnostic, ErrCode, Level, Span};
+use explain_texts::explain_sessions::{
+    Claims, PairWalk, explain_overlap, impl_header, pair_claims,
+};
+use explain_texts::sessions::Session;
+use explain_texts::text_printer::ShownNames;
+use explain_texts::type_terms::{Fault, ImplId};
 use explain_texts::{
     Asking, Piece, Sentence, Spoken, Story, Telling, Texts, impl_line, plain, speak, tell,
     tell_clause, with_four, with_one, with_three, with_two,
 };
-use sessions::Session;
 use std::alloc::{AllocError, Global};
-use text_printer::ShownNames;
-use type_terms::{Fault, ImplId};
 
 /// A where-clause of one of the impls.
 #[derive(Clone, Copy)]

@@ -3,8 +3,8 @@
 ghost use Rattle.std.specs.Prelude.{◌≡◌, ◌+◌, ◌<◌, length};
 ghost use Rattle.celtisdarts_explain.specs.Asked.{IsAskedOf, IsCheckOf};
 
-use type_terms::CrateId;
-use workspace::{Asked, Check, Workspace};
+use explain_texts::type_terms::CrateId;
+use explain_texts::workspace::{Asked, Check, Workspace};
 
 /// How many crates a text has, with `core`.
 pub(crate) fn crate_count(workspace: &Workspace) -> usize

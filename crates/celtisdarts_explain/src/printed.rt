@@ -3,7 +3,7 @@
 ghost use Rattle.std.specs.Prelude.{◌≤◌};
 
 use crate::lines::{is_best, split_line};
-use explain_diagnostics::{Diagnostic, SourceFile, json_line, render};
+use explain_texts::explain_diagnostics::{Diagnostic, SourceFile, json_line, render};
 use std::alloc::{AllocError, Global};
 use std::io;
 use std::io::Write;

@@ -2,20 +2,20 @@
 
 ghost use Rattle.std.specs.Prelude.{ℕ};
 ghost use Rattle.celtisdarts_explain.specs.Told.{ShowsProofOf};
-ghost use Rattle.explain_sessions.specs.Claims.{ClaimsHold};
-ghost use Rattle.explain_sessions.specs.Walked.{AllStepsHeld, ProofWalkHeld};
+ghost use Rattle.explain_texts.specs.ExplainSessions.Claims.{ClaimsHold};
+ghost use Rattle.explain_texts.specs.ExplainSessions.Walked.{AllStepsHeld, ProofWalkHeld};
 
-use explain_diagnostics::{Diagnostic, Level, Span};
-use explain_sessions::{Claims, ProofWalk, Step, Way};
+use explain_texts::explain_diagnostics::{Diagnostic, Level, Span};
+use explain_texts::explain_sessions::{Claims, ProofWalk, Step, Way};
+use explain_texts::sessions::Session;
+use explain_texts::text_printer::ShownNames;
+use explain_texts::type_terms::ImplId;
+use explain_texts::type_terms::interner::Interner;
 use explain_texts::{
     Piece, Sentence, Spoken, Story, Telling, Texts, impl_piece, plain, source_piece, speak, tell,
     with_one,
 };
-use sessions::Session;
 use std::alloc::{AllocError, Global};
-use text_printer::ShownNames;
-use type_terms::ImplId;
-use type_terms::interner::Interner;
 
 /// How many rows a proof has at most.
 const ROW_LIMIT: usize = 128;

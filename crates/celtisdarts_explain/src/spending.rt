@@ -2,7 +2,7 @@
 
 ghost use Rattle.std.specs.Prelude.{◌≡◌, ◌≤◌, ◌+◌, false};
 
-use explain_diagnostics::{Diagnostic, Level};
+use explain_texts::explain_diagnostics::{Diagnostic, Level};
 use explain_texts::{Telling, plain};
 use std::alloc::{AllocError, Global};
 

@@ -1,18 +1,18 @@
 //! The text for an unproved supertrait.
 
 ghost use Rattle.std.specs.Prelude.{◌≡◌};
-ghost use Rattle.explain_sessions.specs.Claims.{ClaimsHold};
-ghost use Rattle.explain_sessions.specs.Walked.{WalkHeld};
-ghost use Rattle.sessions.specs.Promised.Subjects.{StaysOn};
+ghost use Rattle.explain_texts.specs.ExplainSessions.Claims.{ClaimsHold};
+ghost use Rattle.explain_texts.specs.ExplainSessions.Walked.{WalkHeld};
+ghost use Rattle.explain_texts.specs.Sessions.Promised.Subjects.{StaysOn};
 
-use explain_diagnostics::{Diagnostic, Place, Span, on_line};
-use explain_sessions::{Claims, GoalWalk, explain_supertrait, question_claims};
+use explain_texts::explain_diagnostics::{Diagnostic, Place, Span, on_line};
+use explain_texts::explain_sessions::{Claims, GoalWalk, explain_supertrait, question_claims};
+use explain_texts::sessions::{Session, SupersAnswer};
+use explain_texts::text_printer::ShownNames;
+use explain_texts::type_terms::{Fault, ImplId};
+use explain_texts::workspace::Param;
 use explain_texts::{Asking, Texts, impl_line, tell, unproved, unsettled};
-use sessions::{Session, SupersAnswer};
 use std::alloc::{AllocError, Global};
-use text_printer::ShownNames;
-use type_terms::{Fault, ImplId};
-use workspace::Param;
 
 /// A supertrait of the header of an impl that is not proved, by its number from 1.
 #[derive(Clone, Copy)]

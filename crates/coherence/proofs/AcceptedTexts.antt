@@ -3,7 +3,7 @@ use Rattle.std.proofs.Common.{◌≡◌, ◌++◌, ℕ, List, Ok, refl, sym}
 use Rattle.std.specs.Prelude.{codes}
 use Rattle.std.specs.List.{AllZip}
 use Rattle.std.proofs.lemmas.List.{append_cancel_left}
-use Rattle.text_language.specs.Promised.Declarations.{Declarations, of_supers}
+use Rattle.sessions.specs.TextLanguage.Promised.Declarations.{Declarations, of_supers}
 use Rattle.sessions.specs.Promised.CoherentTexts.{CratesAreAccepted, CratesAreHeld, HeldTextsAreCoherent}
 use Rattle.sessions.specs.CoherentTexts.{AcceptedTextsAreCoherent}
 use Rattle.coherence.specs.Promised.CrateAnswers.{crate_text}

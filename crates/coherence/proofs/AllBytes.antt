@@ -1,9 +1,9 @@
 -- What a text gives is known from its first 1,048,577 bytes.
 use Rattle.std.proofs.Common.{◌≡◌, ℕ, List, take, Result, subst, Option, Some, None, inl, inr, IfSome}
-use Rattle.text_language.specs.Promised.Declarations.{Declarations}
+use Rattle.sessions.specs.TextLanguage.Promised.Declarations.{Declarations}
 use Rattle.text_parser.specs.Prefixes.{FirstBytesDecide}
-use Rattle.text_language.specs.Promised.TextSays.{TextSays}
-use Rattle.text_language.proofs.SameTexts.{text-says, text-gives}
+use Rattle.sessions.specs.TextLanguage.Promised.TextSays.{TextSays}
+use Rattle.sessions.proofs.TextLanguage.SameTexts.{text-says, text-gives}
 use Rattle.coherence.specs.Promised.Told.{IsToldText, BeginsToldText, TellsAll, TellsSome}
 use Rattle.coherence.specs.declared.status.Status.{Status}
 

@@ -3,13 +3,13 @@ use Rattle.std.proofs.Common.{◌≡◌, ℕ, List, [], Option, Some, None, map,
 use Rattle.std.specs.List.{slice_get}
 use Rattle.std.specs.Option.{option_map, option_map_or}
 use Rattle.std.proofs.lemmas.Option.{same_Some}
-use Rattle.type_terms.specs.Promised.Trees.{erase}
-use Rattle.text_language.specs.Promised.Declarations.{Declarations, NamedCrate, Question}
-use Rattle.text_language.specs.Names.{answer_values}
-use Rattle.text_language.specs.Output.{Answer, yes, output_text}
-use Rattle.type_terms.specs.Promised.Handles.{arg_trees}
-use Rattle.type_terms.specs.Promised.Handles.{Entry}
-use Rattle.type_terms.specs.declared.kinds.GenericArgKind.{GenericArgKind}
+use Rattle.sessions.specs.TypeTerms.Promised.Trees.{erase}
+use Rattle.sessions.specs.TextLanguage.Promised.Declarations.{Declarations, NamedCrate, Question}
+use Rattle.sessions.specs.TextLanguage.Names.{answer_values}
+use Rattle.sessions.specs.TextLanguage.Output.{Answer, yes, output_text}
+use Rattle.sessions.specs.TypeTerms.Promised.Handles.{arg_trees}
+use Rattle.sessions.specs.TypeTerms.Promised.Handles.{Entry}
+use Rattle.sessions.specs.TypeTerms.declared.kinds.GenericArgKind.{GenericArgKind}
 use Rattle.sessions.specs.Promised.Promises.{IsVerdictOf, IsProved, IsRefutation}
 use Rattle.sessions.specs.QuestionAnswers as answers
 use Rattle.sessions.specs.Promised.Releases as releases

@@ -1,18 +1,18 @@
 -- The supertraits of a header that a check asks for, read from the erased traits of the view.
 use Rattle.std.proofs.Common.{◌≡◌, ℕ, true, List, [], ◌∷◌, map, refl, sym, ap, ◌∙◌}
-use Rattle.type_terms.specs.Promised.Erased.{erased_reference, erased_trait}
-use Rattle.type_terms.specs.Promised.Proofs.{In}
-use Rattle.type_terms.specs.Promised.Supers.{opaque_reference}
-use Rattle.type_terms.specs.Promised.Worlds.{World, Reference, TraitDecl, ImplDecl, view_of}
-use Rattle.type_terms.proofs.Members.{here, there, in-map}
-use Rattle.type_terms.proofs.TermRules.{erased-views}
-use Rattle.type_terms.proofs.Walking.{left}
-use Rattle.text_language.specs.Promised.Declarations.{Declarations, world_of}
-use Rattle.candidate_model.specs.Declared.{is_declared_view}
-use Rattle.candidate_model.proofs.DeclaredParts.{header-declared, bound-declared}
-use Rattle.candidate_model.proofs.PlainRules.{tame}
-use Rattle.view_lowering.specs.Promised.SeenWorlds.{plain, all_kept, none_kept, plain_reference, plain_trait, plain_impl, plainly_seen_from, unbound_reference}
-use Rattle.view_lowering.proofs.WellSeen.{texts-seen-well}
+use Rattle.sessions.specs.TypeTerms.Promised.Erased.{erased_reference, erased_trait}
+use Rattle.sessions.specs.TypeTerms.Promised.Proofs.{In}
+use Rattle.sessions.specs.TypeTerms.Promised.Supers.{opaque_reference}
+use Rattle.sessions.specs.TypeTerms.Promised.Worlds.{World, Reference, TraitDecl, ImplDecl, view_of}
+use Rattle.sessions.proofs.TypeTerms.Members.{here, there, in-map}
+use Rattle.sessions.proofs.TypeTerms.TermRules.{erased-views}
+use Rattle.sessions.proofs.TypeTerms.Walking.{left}
+use Rattle.sessions.specs.TextLanguage.Promised.Declarations.{Declarations, world_of}
+use Rattle.sessions.specs.CandidateModel.Declared.{is_declared_view}
+use Rattle.sessions.proofs.CandidateModel.DeclaredParts.{header-declared, bound-declared}
+use Rattle.sessions.proofs.CandidateModel.PlainRules.{tame}
+use Rattle.sessions.specs.ViewLowering.Promised.SeenWorlds.{plain, all_kept, none_kept, plain_reference, plain_trait, plain_impl, plainly_seen_from, unbound_reference}
+use Rattle.sessions.proofs.ViewLowering.WellSeen.{texts-seen-well}
 use Rattle.sessions.specs.Promised.Promises.{view_in}
 use Rattle.sessions.specs.Promised.Releases.{asked_supers}
 use Rattle.sessions.specs.Promised.Subjects.{IsOfText}

@@ -4,20 +4,20 @@ use Rattle.std.specs.Prelude.{IfOk, IfErr, IfSome, IsErrAnd, map, slice_get}
 use Rattle.std.proofs.Math.Seq.{take-append_seam}
 use Rattle.std.proofs.lemmas.List.{length-map}
 use Rattle.std.proofs.lemmas.Option.{same_Some}
-use Rattle.text_language.specs.Promised.Declarations.{Declarations, Question}
-use Rattle.text_language.specs.Text.{TextGives}
-use Rattle.text_language.specs.Promised.Text.{text_limit}
-use Rattle.type_terms.specs.declared.CrateId.{CrateId}
+use Rattle.sessions.specs.TextLanguage.Promised.Declarations.{Declarations, Question}
+use Rattle.sessions.specs.TextLanguage.Text.{TextGives}
+use Rattle.sessions.specs.TextLanguage.Promised.Text.{text_limit}
+use Rattle.sessions.specs.TypeTerms.declared.CrateId.{CrateId}
 use Rattle.text_parser.specs.Behind.{FitsBehind, LinesBehindTexts, behind}
 use Rattle.text_parser.specs.Queries.{IsQueryLine}
 use Rattle.text_parser.specs.declared.query_line.QueryLine.{QueryLine}
-use Rattle.workspace.specs.Numbered.{IsFew}
-use Rattle.workspace.specs.Tables.{declared, with_question}
-use Rattle.workspace.specs.Unasked.{without_last_question}
-use Rattle.workspace.specs.Views.{asked_of, asker_of, crate_of, question_of}
-use Rattle.workspace.specs.declared.declared.Asked.{Asked}
-use Rattle.workspace.specs.declared.declared.QuestionEntry.{QuestionEntry}
-use Rattle.workspace.specs.declared.tables.Tables.{Tables}
+use Rattle.sessions.specs.Workspace.Numbered.{IsFew}
+use Rattle.sessions.specs.Workspace.Tables.{declared, with_question}
+use Rattle.sessions.specs.Workspace.Unasked.{without_last_question}
+use Rattle.sessions.specs.Workspace.Views.{asked_of, asker_of, crate_of, question_of}
+use Rattle.sessions.specs.Workspace.declared.declared.Asked.{Asked}
+use Rattle.sessions.specs.Workspace.declared.declared.QuestionEntry.{QuestionEntry}
+use Rattle.sessions.specs.Workspace.declared.tables.Tables.{Tables}
 use Rattle.sessions.specs.SeenViews.{IsViewOf, IsLeftView}
 use Rattle.sessions.specs.Promised.Subjects.{IsOfText}
 use Rattle.sessions.specs.declared.seen_view.SeenView.{SeenView}
@@ -30,7 +30,7 @@ use Rattle.coherence.specs.declared.ask_fault.AskFault.TheVariants as faults
 use Rattle.coherence.specs.declared.status.RunFault.{RunFault}
 use Rattle.coherence.specs.declared.status.RunFault.TheVariants as run_faults
 use Rattle.sessions.proofs.GivenTexts.{given-text}
-use Rattle.text_language.proofs.TypeBasics.{text-short}
+use Rattle.sessions.proofs.TextLanguage.TypeBasics.{text-short}
 
 -- ---- the view of a crate, which no question is of
 view-asked : (d : Declarations) (q : Question) (c handles : ℕ) (v : SeenView) → IsViewOf d c handles v → IsViewOf (with_question d q) c handles v

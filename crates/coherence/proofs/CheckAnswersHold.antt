@@ -4,18 +4,18 @@ use Rattle.std.specs.Fmt.{decimal}
 use Rattle.std.specs.Prelude.{codes, slice_get}
 use Rattle.std.proofs.lemmas.List.{append_cancel_left}
 use Rattle.std.proofs.lemmas.Option.{same_Some}
-use Rattle.type_terms.specs.Promised.Answers.{IsDeterminate}
-use Rattle.type_terms.specs.Promised.Erased.{erased_reference, erased_impl, erased_world}
-use Rattle.type_terms.specs.Promised.Proofs.{In, Every, HasProof}
-use Rattle.type_terms.specs.Promised.Supers.{opaque_reference, IsHeld}
-use Rattle.type_terms.specs.Promised.Worlds.{World, Reference, ImplDecl, sees, view_of}
-use Rattle.type_terms.proofs.Members.{in-filter, filter-in, in-map}
-use Rattle.type_terms.proofs.ProofEntries.{map-in}
-use Rattle.type_terms.proofs.ViewLaws.{sees-itself}
-use Rattle.text_language.specs.Promised.Declarations.{Declarations, NamedImpl, Check, of_later, of_supers, Question, world_of}
-use Rattle.text_language.specs.Names.{answer_values}
-use Rattle.text_language.specs.Output.{Answer, answer_text, values_text}
-use Rattle.text_language.proofs.SamePrinted.{yes-values-text-is}
+use Rattle.sessions.specs.TypeTerms.Promised.Answers.{IsDeterminate}
+use Rattle.sessions.specs.TypeTerms.Promised.Erased.{erased_reference, erased_impl, erased_world}
+use Rattle.sessions.specs.TypeTerms.Promised.Proofs.{In, Every, HasProof}
+use Rattle.sessions.specs.TypeTerms.Promised.Supers.{opaque_reference, IsHeld}
+use Rattle.sessions.specs.TypeTerms.Promised.Worlds.{World, Reference, ImplDecl, sees, view_of}
+use Rattle.sessions.proofs.TypeTerms.Members.{in-filter, filter-in, in-map}
+use Rattle.sessions.proofs.TypeTerms.ProofEntries.{map-in}
+use Rattle.sessions.proofs.TypeTerms.ViewLaws.{sees-itself}
+use Rattle.sessions.specs.TextLanguage.Promised.Declarations.{Declarations, NamedImpl, Check, of_later, of_supers, Question, world_of}
+use Rattle.sessions.specs.TextLanguage.Names.{answer_values}
+use Rattle.sessions.specs.TextLanguage.Output.{Answer, answer_text, values_text}
+use Rattle.sessions.proofs.TextLanguage.SamePrinted.{yes-values-text-is}
 use Rattle.sessions.specs.QuestionAnswers as answers
 use Rattle.sessions.specs.Promised.Promises.{view_in}
 use Rattle.sessions.specs.Promised.Releases as releases

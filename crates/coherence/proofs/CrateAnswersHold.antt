@@ -4,32 +4,32 @@ use Rattle.std.specs.Prelude.{find, slice_get}
 use Rattle.std.specs.Fmt.{decimal}
 use Rattle.std.specs.Option.{option_map, option_map_or}
 use Rattle.std.proofs.lemmas.Option.{same_Some}
-use Rattle.type_terms.specs.Promised.Erased.{erased_impl, erased_world}
-use Rattle.type_terms.specs.Promised.Trees.{erase}
-use Rattle.type_terms.specs.Promised.Proofs.{In}
-use Rattle.type_terms.specs.Promised.Walks.{keeps_orphan_rule}
-use Rattle.type_terms.specs.Promised.Worlds.{World, ImplDecl, sees, core}
-use Rattle.type_terms.proofs.Members.{in-filter, filter-in, same-number, self-number, so-false}
-use Rattle.type_terms.proofs.Walking.{left, right}
-use Rattle.text_language.specs.Promised.Declarations.{Declarations, NamedImpl, world_of}
-use Rattle.text_language.specs.Output.{answer_text, crate_start, before_text}
-use Rattle.type_terms.specs.Promised.OrphanErrors.{OrphanError, nonlocal, uncovered, orphan_error}
-use Rattle.type_terms.specs.Promised.OpenedHeaders.{opened}
-use Rattle.type_terms.specs.Promised.Verdicts as verdicts
-use Rattle.type_terms.specs.Promised.Verdicts.{IsAccepted}
+use Rattle.sessions.specs.TypeTerms.Promised.Erased.{erased_impl, erased_world}
+use Rattle.sessions.specs.TypeTerms.Promised.Trees.{erase}
+use Rattle.sessions.specs.TypeTerms.Promised.Proofs.{In}
+use Rattle.sessions.specs.TypeTerms.Promised.Walks.{keeps_orphan_rule}
+use Rattle.sessions.specs.TypeTerms.Promised.Worlds.{World, ImplDecl, sees, core}
+use Rattle.sessions.proofs.TypeTerms.Members.{in-filter, filter-in, same-number, self-number, so-false}
+use Rattle.sessions.proofs.TypeTerms.Walking.{left, right}
+use Rattle.sessions.specs.TextLanguage.Promised.Declarations.{Declarations, NamedImpl, world_of}
+use Rattle.sessions.specs.TextLanguage.Output.{answer_text, crate_start, before_text}
+use Rattle.sessions.specs.TypeTerms.Promised.OrphanErrors.{OrphanError, nonlocal, uncovered, orphan_error}
+use Rattle.sessions.specs.TypeTerms.Promised.OpenedHeaders.{opened}
+use Rattle.sessions.specs.TypeTerms.Promised.Verdicts as verdicts
+use Rattle.sessions.specs.TypeTerms.Promised.Verdicts.{IsAccepted}
 use Rattle.coherence.specs.Lines.{header_text, orphan_line, verdict_line}
 use Rattle.coherence.specs.Promised.CrateAnswers.{crate_text, impl_home, number_in_crate}
 use Rattle.sessions.specs.Promised.Promises.{view_in, IsVerdictOf}
 use Rattle.sessions.specs.Promised.Subjects.{IsOfText}
 use Rattle.coherence.specs.Promised.CrateAnswers.{orphan_reason, first_orphan, CrateAnswer, is_accepted, is_orphan, is_overlap}
-use Rattle.view_lowering.proofs.Tests.{is_good_impl}
+use Rattle.sessions.proofs.ViewLowering.Tests.{is_good_impl}
 use Rattle.coherence.proofs.HeaderNames.{KnowsParams, AllOk}
-use Rattle.view_lowering.proofs.Texts.{texts-are-well}
-use Rattle.type_terms.proofs.NoHolds.{member-each}
+use Rattle.sessions.proofs.ViewLowering.Texts.{texts-are-well}
+use Rattle.sessions.proofs.TypeTerms.NoHolds.{member-each}
 use Rattle.coherence.proofs.ImplParams.{unmapped, knows, header-ok}
 use Rattle.coherence.proofs.ImplPlaces.{HaveNumbers, impls-have-numbers}
 use Rattle.coherence.proofs.OrphanReasons.{params_at, error_text, reason-is}
-use Rattle.text_language.proofs.SameTexts.{text-gives}
+use Rattle.sessions.proofs.TextLanguage.SameTexts.{text-gives}
 
 -- ---- an impl that a crate sees, in the text
 numbered : (d : Declarations) → IsOfText d → HaveNumbers d.impls

@@ -1,10 +1,10 @@
 -- Texts of types without their lifetimes.
 use Rattle.std.proofs.Common.{◌≡◌, ℕ, Bool, true, false, List, [], ◌∷◌, ◌++◌, refl, ap, ◌∙◌, codes}
 use Rattle.std.specs.Prelude.{if◌then◌else◌}
-use Rattle.type_terms.specs.Promised.Label.{Label, of_lifetime, fn_ptr, principal, param, placeholder, infer, canonical, bound, tuple, ref, raw_pointer}
-use Rattle.type_terms.specs.Promised.Trees.{Trees, none, tree, erase, erase_label, sort_of, is_sort}
-use Rattle.text_language.specs.Output.{Names, texts, type_text, node_text, last_text, inputs, between, ends_in_unit, is_unit}
-use Rattle.type_terms.proofs.TermBasics.{erased-empty as erased-none}
+use Rattle.sessions.specs.TypeTerms.Promised.Label.{Label, of_lifetime, fn_ptr, principal, param, placeholder, infer, canonical, bound, tuple, ref, raw_pointer}
+use Rattle.sessions.specs.TypeTerms.Promised.Trees.{Trees, none, tree, erase, erase_label, sort_of, is_sort}
+use Rattle.sessions.specs.TextLanguage.Output.{Names, texts, type_text, node_text, last_text, inputs, between, ends_in_unit, is_unit}
+use Rattle.sessions.proofs.TypeTerms.TermBasics.{erased-empty as erased-none}
 
 erased-sort : (l : Label) → sort_of (erase_label l) ≡ sort_of l
 erased-sort (fn_ptr n) = refl

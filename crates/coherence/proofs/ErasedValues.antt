@@ -1,20 +1,20 @@
 -- The values of a question without their lifetimes print as they are.
 use Rattle.std.proofs.Common.{◌≡◌, ℕ, suc, Bool, true, false, ◌&&◌, List, [], ◌∷◌, map, refl, sym, ap, ◌∙◌}
 use Rattle.std.specs.Prelude.{if◌then◌else◌, nat_lt, length}
-use Rattle.type_terms.specs.Codes.{same, same_label}
-use Rattle.type_terms.specs.Promised.Label.{Label, Sort, of_type, of_const, of_lifetime, infer, param, placeholder, canonical, bound, principal, auto_trait, predicate, dynamic}
-use Rattle.type_terms.specs.Promised.Trees.{Trees, none, tree, leaf, erase, erase_label, sort_of, is_sort}
-use Rattle.type_terms.specs.Trees.{is_no_tree}
-use Rattle.type_terms.specs.Promised.Handles.{arg_trees, ArgsHeld}
-use Rattle.type_terms.specs.Made.{terms, bounds, traits, is_made, is_in_range}
-use Rattle.type_terms.specs.Promised.Handles.{Entry}
-use Rattle.type_terms.specs.Terms.{Lawful}
-use Rattle.type_terms.specs.declared.kinds.GenericArgKind.{GenericArgKind}
-use Rattle.type_terms.proofs.Made.{left, right, false-true, no-tree, made-ordinary}
-use Rattle.type_terms.proofs.MadeFacts.{arg-made}
-use Rattle.text_language.specs.Promised.Declarations.{Declarations, Question, Variable}
-use Rattle.text_language.specs.Names.{variables_of_kind, own_from, own_unknowns, valued, with_free, free_unknowns, question_names, value_texts, answer_values}
-use Rattle.text_language.specs.Output.{Names, ValueText, type_text}
+use Rattle.sessions.specs.TypeTerms.Codes.{same, same_label}
+use Rattle.sessions.specs.TypeTerms.Promised.Label.{Label, Sort, of_type, of_const, of_lifetime, infer, param, placeholder, canonical, bound, principal, auto_trait, predicate, dynamic}
+use Rattle.sessions.specs.TypeTerms.Promised.Trees.{Trees, none, tree, leaf, erase, erase_label, sort_of, is_sort}
+use Rattle.sessions.specs.TypeTerms.Trees.{is_no_tree}
+use Rattle.sessions.specs.TypeTerms.Promised.Handles.{arg_trees, ArgsHeld}
+use Rattle.sessions.specs.TypeTerms.Made.{terms, bounds, traits, is_made, is_in_range}
+use Rattle.sessions.specs.TypeTerms.Promised.Handles.{Entry}
+use Rattle.sessions.specs.TypeTerms.Terms.{Lawful}
+use Rattle.sessions.specs.TypeTerms.declared.kinds.GenericArgKind.{GenericArgKind}
+use Rattle.sessions.proofs.TypeTerms.Made.{left, right, false-true, no-tree, made-ordinary}
+use Rattle.sessions.proofs.TypeTerms.MadeFacts.{arg-made}
+use Rattle.sessions.specs.TextLanguage.Promised.Declarations.{Declarations, Question, Variable}
+use Rattle.sessions.specs.TextLanguage.Names.{variables_of_kind, own_from, own_unknowns, valued, with_free, free_unknowns, question_names, value_texts, answer_values}
+use Rattle.sessions.specs.TextLanguage.Output.{Names, ValueText, type_text}
 use Rattle.coherence.proofs.ErasedTexts.{text-same}
 use Rattle.coherence.proofs.TermVariables.{IsTerm, AreTermVariables}
 

@@ -1,8 +1,8 @@
 -- A session's fault is handed on as the run's that it stands for.
 use Rattle.std.proofs.Common.{◌≡◌, ◌∙◌, refl, sym}
 use Rattle.std.specs.Prelude.{Result, Ok, Err, IsErrAnd, IfErr}
-use Rattle.type_terms.specs.declared.Fault.{Fault}
-use Rattle.type_terms.specs.declared.Fault.TheVariants as wants
+use Rattle.sessions.specs.TypeTerms.declared.Fault.{Fault}
+use Rattle.sessions.specs.TypeTerms.declared.Fault.TheVariants as wants
 use Rattle.sessions.specs.Promised.Shortages.{SessionFullAtLimit}
 use Rattle.sessions.specs.Promised.Subjects.{Subject}
 use Rattle.coherence.specs.Faults.{of_fault, IsFullAtLimit}

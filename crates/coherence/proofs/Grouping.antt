@@ -4,8 +4,8 @@ use Rattle.std.specs.List.{slice_get}
 use Rattle.std.proofs.lemmas.Bool.{cases_eq, cases_lt}
 use Rattle.std.proofs.lemmas.List.{length-set}
 use Rattle.std.proofs.lemmas.Option.{same_Some, slice_get_within}
-use Rattle.type_terms.proofs.Lists.{slice_get-append, slice_get-last}
-use Rattle.text_language.specs.Promised.Declarations.{Declarations, Check, Question}
+use Rattle.sessions.proofs.TypeTerms.Lists.{slice_get-append, slice_get-last}
+use Rattle.sessions.specs.TextLanguage.Promised.Declarations.{Declarations, Check, Question}
 use Rattle.coherence.specs.Groups.{checked_crate, IsCheckedIn, IsAskedIn, ArePlacesWhere, IsGroup, AreGroups}
 use Rattle.coherence.specs.declared.groups.Group.{Group}
 use Rattle.coherence.proofs.Sets.{set-here, set-elsewhere, snoc-get}

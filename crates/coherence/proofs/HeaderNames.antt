@@ -3,17 +3,17 @@ use Rattle.std.proofs.Common.{◌≡◌, ℕ, zero, suc, refl, sym, ap, ◌∙�
 use Rattle.std.specs.Prelude.{cond, slice_get, codes}
 use Rattle.std.specs.Option.{option_map_or}
 use Rattle.std.proofs.lemmas.Option.{same_Some}
-use Rattle.type_terms.proofs.Members.{so-false}
-use Rattle.type_terms.specs.Promised.Label.{Label, Sort, of_type, of_const, of_lifetime, placeholder, tuple, fn_ptr, ref, raw_pointer, param, infer}
-use Rattle.type_terms.specs.Promised.Supers.{opaque}
-use Rattle.type_terms.specs.Promised.Trees.{Trees, none, tree, sort_of, is_sort, some_node}
-use Rattle.type_terms.specs.Trees.{is_no_tree}
-use Rattle.text_language.specs.Promised.Declarations.{Declarations}
-use Rattle.text_language.specs.Names.{struct_text, trait_text, text_at, param_texts, header_names}
-use Rattle.text_language.specs.Output.{Names, texts, type_text, node_text, last_text, inputs, between, ends_in_unit}
-use Rattle.type_terms.specs.Promised.OpenedHeaders.{is_param, params_below, with_variables}
-use Rattle.type_terms.proofs.Made.{false-true as no-true}
-use Rattle.type_terms.proofs.TermBasics.{sort-self, sort-equal}
+use Rattle.sessions.proofs.TypeTerms.Members.{so-false}
+use Rattle.sessions.specs.TypeTerms.Promised.Label.{Label, Sort, of_type, of_const, of_lifetime, placeholder, tuple, fn_ptr, ref, raw_pointer, param, infer}
+use Rattle.sessions.specs.TypeTerms.Promised.Supers.{opaque}
+use Rattle.sessions.specs.TypeTerms.Promised.Trees.{Trees, none, tree, sort_of, is_sort, some_node}
+use Rattle.sessions.specs.TypeTerms.Trees.{is_no_tree}
+use Rattle.sessions.specs.TextLanguage.Promised.Declarations.{Declarations}
+use Rattle.sessions.specs.TextLanguage.Names.{struct_text, trait_text, text_at, param_texts, header_names}
+use Rattle.sessions.specs.TextLanguage.Output.{Names, texts, type_text, node_text, last_text, inputs, between, ends_in_unit}
+use Rattle.sessions.specs.TypeTerms.Promised.OpenedHeaders.{is_param, params_below, with_variables}
+use Rattle.sessions.proofs.TypeTerms.Made.{false-true as no-true}
+use Rattle.sessions.proofs.TypeTerms.TermBasics.{sort-self, sort-equal}
 
 -- ---- places in a filtered list
 abbrev passes : {A : Type 0} → (A → Bool) → Option A → Bool

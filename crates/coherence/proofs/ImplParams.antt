@@ -3,23 +3,23 @@ use Rattle.std.proofs.Common.{◌≡◌, ℕ, zero, suc, ◌+◌, Bool, true, fa
 use Rattle.std.specs.Prelude.{slice_get}
 use Rattle.std.specs.Option.{option_map_or}
 use Rattle.std.proofs.lemmas.Option.{same_Some}
-use Rattle.type_terms.specs.Promised.Label.{Label, Sort, of_type, of_const, of_lifetime, dynamic, principal, auto_trait, predicate, fn_ptr, param, placeholder, infer, canonical, bound}
-use Rattle.type_terms.specs.Promised.Trees.{Trees, none, tree, erase, erase_label, is_sort, some_node}
-use Rattle.type_terms.specs.Trees.{is_no_tree}
-use Rattle.type_terms.specs.Promised.LinkedSet.{is_stray}
-use Rattle.type_terms.specs.Made.{Standing, terms, bounds, traits, is_made}
-use Rattle.type_terms.proofs.Made.{left, right, false-true, no-tree, made-ordinary, last-bound, last-trait, never-dynamic, never-dynamic-bound, never-principal}
-use Rattle.type_terms.proofs.Members.{same-number, self-number}
-use Rattle.text_language.specs.Promised.Declarations.{NamedImpl}
-use Rattle.candidate_model.specs.Declared.{is_declared_leaf}
-use Rattle.view_lowering.proofs.Sorts.{is_bad}
-use Rattle.view_lowering.proofs.Tests.{is_good, all_stand, is_good_impl}
-use Rattle.view_lowering.specs.Promised.SeenWorlds.{plain, plain_label, all_kept}
-use Rattle.view_lowering.specs.Seen.{param_sorts}
-use Rattle.type_terms.specs.Promised.OpenedHeaders.{is_param}
+use Rattle.sessions.specs.TypeTerms.Promised.Label.{Label, Sort, of_type, of_const, of_lifetime, dynamic, principal, auto_trait, predicate, fn_ptr, param, placeholder, infer, canonical, bound}
+use Rattle.sessions.specs.TypeTerms.Promised.Trees.{Trees, none, tree, erase, erase_label, is_sort, some_node}
+use Rattle.sessions.specs.TypeTerms.Trees.{is_no_tree}
+use Rattle.sessions.specs.TypeTerms.Promised.LinkedSet.{is_stray}
+use Rattle.sessions.specs.TypeTerms.Made.{Standing, terms, bounds, traits, is_made}
+use Rattle.sessions.proofs.TypeTerms.Made.{left, right, false-true, no-tree, made-ordinary, last-bound, last-trait, never-dynamic, never-dynamic-bound, never-principal}
+use Rattle.sessions.proofs.TypeTerms.Members.{same-number, self-number}
+use Rattle.sessions.specs.TextLanguage.Promised.Declarations.{NamedImpl}
+use Rattle.sessions.specs.CandidateModel.Declared.{is_declared_leaf}
+use Rattle.sessions.proofs.ViewLowering.Sorts.{is_bad}
+use Rattle.sessions.proofs.ViewLowering.Tests.{is_good, all_stand, is_good_impl}
+use Rattle.sessions.specs.ViewLowering.Promised.SeenWorlds.{plain, plain_label, all_kept}
+use Rattle.sessions.specs.ViewLowering.Seen.{param_sorts}
+use Rattle.sessions.specs.TypeTerms.Promised.OpenedHeaders.{is_param}
 use Rattle.coherence.proofs.HeaderNames.{KnowsParams, AllOk, mapped-at}
-use Rattle.type_terms.proofs.TermBasics.{sort-self, sort-equal}
-use Rattle.type_terms.proofs.BooleanBasics.{same-three}
+use Rattle.sessions.proofs.TypeTerms.TermBasics.{sort-self, sort-equal}
+use Rattle.sessions.proofs.TypeTerms.BooleanBasics.{same-three}
 
 -- ---- truth values
 or-all : (a b c : Bool) → a ≡ false → b ≡ false → c ≡ false → a || b || c ≡ false

@@ -2,14 +2,14 @@
 use Rattle.std.proofs.Common.{◌≡◌, inl, inr, ℕ, zero, suc, ◌+◌, ◌-◌, Bool, true, false, ◌&&◌, ◌==◌, if◌then◌else◌, List, [], ◌∷◌, ◌++◌, length, Some, Result, Ok, Err, refl, sym, ap, ◌∙◌, arith}
 use Rattle.std.specs.Prelude.{slice_get}
 use Rattle.std.proofs.lemmas.Option.{same_Some}
-use Rattle.type_terms.proofs.Members.{same-number}
-use Rattle.type_terms.proofs.Walking.{left, right}
-use Rattle.text_language.specs.Adding.{added, impl_of, item_meanings}
-use Rattle.text_language.specs.Promised.Declarations.{Declarations, NamedImpl, last_later}
-use Rattle.text_language.specs.Declarations.{nothing_declared}
-use Rattle.text_language.specs.Promised.Syntax.{Line, crate_line, struct_line, trait_line, impl_line, prove_line, refute_line, later_line, supers_line}
+use Rattle.sessions.proofs.TypeTerms.Members.{same-number}
+use Rattle.sessions.proofs.TypeTerms.Walking.{left, right}
+use Rattle.sessions.specs.TextLanguage.Adding.{added, impl_of, item_meanings}
+use Rattle.sessions.specs.TextLanguage.Promised.Declarations.{Declarations, NamedImpl, last_later}
+use Rattle.sessions.specs.TextLanguage.Declarations.{nothing_declared}
+use Rattle.sessions.specs.TextLanguage.Promised.Syntax.{Line, crate_line, struct_line, trait_line, impl_line, prove_line, refute_line, later_line, supers_line}
 use Rattle.coherence.proofs.Sets.{snoc-at}
-use Rattle.text_language.specs.Text.{LineGives, other_byte, blank, unwritten, faulty, adds, LinesGive, ends, fails, goes_on, TextGives, too_long, fits}
+use Rattle.sessions.specs.TextLanguage.Text.{LineGives, other_byte, blank, unwritten, faulty, adds, LinesGive, ends, fails, goes_on, TextGives, too_long, fits}
 
 abbrev pub HaveNumbers : List NamedImpl → Type 0
 HaveNumbers xs = (k : ℕ) (x : NamedImpl) → slice_get xs k ≡ Some x → x.item.name ≡ k

@@ -3,14 +3,14 @@ use Rattle.std.proofs.Common.{◌≡◌, ℕ, List, [], ◌∷◌, map, refl}
 use Rattle.std.specs.Prelude.{slice_get}
 use Rattle.std.specs.List.{AllByRecursion}
 use Rattle.std.specs.Option.{option_map_or}
-use Rattle.type_terms.specs.Promised.Label.{Label, of_type, of_const, of_lifetime, infer}
-use Rattle.type_terms.specs.Promised.Supers.{opaque}
-use Rattle.type_terms.specs.Promised.Trees.{Trees}
-use Rattle.text_language.specs.Promised.Declarations.{Declarations}
-use Rattle.text_language.specs.Names.{struct_text, trait_text, text_at}
-use Rattle.text_language.specs.Output.{type_text}
-use Rattle.text_language.specs.Promised.PrintedTypes.{unknowns_within}
-use Rattle.text_language.proofs.SamePrintedTypes.{Agrees, type-same}
+use Rattle.sessions.specs.TypeTerms.Promised.Label.{Label, of_type, of_const, of_lifetime, infer}
+use Rattle.sessions.specs.TypeTerms.Promised.Supers.{opaque}
+use Rattle.sessions.specs.TypeTerms.Promised.Trees.{Trees}
+use Rattle.sessions.specs.TextLanguage.Promised.Declarations.{Declarations}
+use Rattle.sessions.specs.TextLanguage.Names.{struct_text, trait_text, text_at}
+use Rattle.sessions.specs.TextLanguage.Output.{type_text}
+use Rattle.sessions.specs.TextLanguage.Promised.PrintedTypes.{unknowns_within}
+use Rattle.sessions.proofs.TextLanguage.SamePrintedTypes.{Agrees, type-same}
 use Rattle.coherence.specs.Promised.CrateAnswers.{impl_type_text}
 
 abbrev pub named_type_text : Declarations → ℕ → Trees → List ℕ

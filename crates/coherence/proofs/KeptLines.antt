@@ -3,8 +3,8 @@ use Rattle.std.proofs.Common.{◌≡◌, ℕ, zero, suc, ◌+◌, ◌<◌, ◌�
 use Rattle.std.specs.List.{slice_get}
 use Rattle.std.proofs.lemmas.Bool.{cases_eq, cases_lt}
 use Rattle.std.proofs.lemmas.Option.{same_Some, slice_get_within}
-use Rattle.text_language.specs.Promised.Declarations.{Declarations, Check, of_later, of_supers}
-use Rattle.workspace.specs.Numbered.{IsNumbered, IsCheckIn}
+use Rattle.sessions.specs.TextLanguage.Promised.Declarations.{Declarations, Check, of_later, of_supers}
+use Rattle.sessions.specs.Workspace.Numbered.{IsNumbered, IsCheckIn}
 use Rattle.sessions.specs.Promised.Subjects.{Subject, StaysOn}
 use Rattle.coherence.specs.Groups.{checked_crate, IsCheckedIn, IsAskedIn, ArePlacesWhere}
 use Rattle.coherence.specs.KeptLines.{IsCheckLineOf, IsLineOf, IsKeptLine, KeepsEach, KeepsChecks, KeepsQuestions}

@@ -5,7 +5,7 @@ use Rattle.std.specs.Io.KnownBytes.{Appends}
 use Rattle.std.proofs.Math.Seq.{take-length, take-append-add}
 use Rattle.std.proofs.KnownBytes.{Appends-trans}
 use Rattle.std.proofs.lemmas.List.Concat.{flat_map-cons, flat_map-append}
-use Rattle.text_language.specs.Output.{Answer, output_text}
+use Rattle.sessions.specs.TextLanguage.Output.{Answer, output_text}
 use Rattle.coherence.specs.Promised.Streams.{AppendsPrefix}
 
 -- ---- whole lines

@@ -2,12 +2,12 @@
 use Rattle.std.proofs.Common.{◌≡◌, ℕ, zero, suc, ◌<◌, List, [], ◌∷◌, map, length, Some, refl, sym, ap, ◌∙◌, subst}
 use Rattle.std.specs.List.{slice_get}
 use Rattle.std.proofs.lemmas.Option.{slice_get_within, same_Some}
-use Rattle.type_terms.specs.Promised.Worlds.{ImplDecl, sees, view_of}
-use Rattle.type_terms.specs.Promised.Erased.{erased_world, erased_impl}
-use Rattle.type_terms.specs.Promised.Proofs.{In}
-use Rattle.type_terms.proofs.Members.{in-filter}
-use Rattle.text_language.specs.Promised.Declarations.{Declarations, NamedImpl, world_of}
-use Rattle.workspace.specs.Numbered.{IsNumbered}
+use Rattle.sessions.specs.TypeTerms.Promised.Worlds.{ImplDecl, sees, view_of}
+use Rattle.sessions.specs.TypeTerms.Promised.Erased.{erased_world, erased_impl}
+use Rattle.sessions.specs.TypeTerms.Promised.Proofs.{In}
+use Rattle.sessions.proofs.TypeTerms.Members.{in-filter}
+use Rattle.sessions.specs.TextLanguage.Promised.Declarations.{Declarations, NamedImpl, world_of}
+use Rattle.sessions.specs.Workspace.Numbered.{IsNumbered}
 use Rattle.sessions.specs.Promised.Promises.{IsVerdictOf, view_in}
 use Rattle.sessions.specs.Promised.Releases.{StopsAt}
 use Rattle.sessions.specs.Verdicts.{Verdict, accepted, orphan, overlap}

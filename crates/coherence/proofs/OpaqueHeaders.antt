@@ -1,12 +1,12 @@
 -- Terms without binders: a header with placeholders for its parameters is the one that is asked, and without any lifetime parameter they are erased.
 use Rattle.std.proofs.Common.{◌≡◌, Bool, true, false, ◌||◌, refl}
-use Rattle.type_terms.specs.Promised.Label.{Label, of_type, of_const, of_lifetime, static, fn_ptr, principal, param, placeholder, infer, canonical, bound}
-use Rattle.type_terms.specs.Promised.Supers.{opaque}
-use Rattle.type_terms.specs.Promised.Trees.{Trees, none, tree, erase, some_node}
-use Rattle.candidate_model.proofs.PlainRules.{is_wild}
-use Rattle.view_lowering.specs.Promised.SeenWorlds.{plain, plain_label, all_kept, none_kept}
+use Rattle.sessions.specs.TypeTerms.Promised.Label.{Label, of_type, of_const, of_lifetime, static, fn_ptr, principal, param, placeholder, infer, canonical, bound}
+use Rattle.sessions.specs.TypeTerms.Promised.Supers.{opaque}
+use Rattle.sessions.specs.TypeTerms.Promised.Trees.{Trees, none, tree, erase, some_node}
+use Rattle.sessions.proofs.CandidateModel.PlainRules.{is_wild}
+use Rattle.sessions.specs.ViewLowering.Promised.SeenWorlds.{plain, plain_label, all_kept, none_kept}
 use Rattle.coherence.specs.Promised.CheckAnswers.{asked_header}
-use Rattle.type_terms.proofs.BooleanBasics.{true-false as refuse}
+use Rattle.sessions.proofs.TypeTerms.BooleanBasics.{true-false as refuse}
 
 node : (l : Label) {c d o p : Trees} → c ≡ d → o ≡ p → tree l c o ≡ tree l d p
 node l e f = cc

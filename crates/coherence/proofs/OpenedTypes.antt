@@ -4,14 +4,14 @@ use Rattle.std.specs.Prelude.{find, cond}
 use Rattle.std.specs.Option.{option_map}
 use Rattle.std.proofs.lemmas.List.{map-append}
 use Rattle.std.proofs.lemmas.Option.{same_Some}
-use Rattle.type_terms.specs.Promised.Label.{Sort, adt, ref, param}
-use Rattle.type_terms.specs.Promised.Trees.{Trees, none, tree}
-use Rattle.type_terms.specs.Promised.Proofs.{Every}
-use Rattle.type_terms.specs.Promised.Worlds.{World}
-use Rattle.type_terms.specs.Promised.Walks.{Met, struct_is, visited}
-use Rattle.type_terms.specs.Promised.OpenedHeaders.{with_variables}
+use Rattle.sessions.specs.TypeTerms.Promised.Label.{Sort, adt, ref, param}
+use Rattle.sessions.specs.TypeTerms.Promised.Trees.{Trees, none, tree}
+use Rattle.sessions.specs.TypeTerms.Promised.Proofs.{Every}
+use Rattle.sessions.specs.TypeTerms.Promised.Worlds.{World}
+use Rattle.sessions.specs.TypeTerms.Promised.Walks.{Met, struct_is, visited}
+use Rattle.sessions.specs.TypeTerms.Promised.OpenedHeaders.{with_variables}
 use Rattle.coherence.specs.Promised.CrateAnswers.{types_met}
-use Rattle.overlap_check.proofs.Opened.{opened-visits}
+use Rattle.sessions.proofs.OverlapCheck.Opened.{opened-visits}
 use Rattle.coherence.proofs.HeaderNames.{KnowsParams, AllOk}
 
 -- ---- what is found of a list

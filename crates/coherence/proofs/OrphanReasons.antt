@@ -4,15 +4,15 @@ use Rattle.std.specs.Prelude.{find, slice_get}
 use Rattle.std.specs.List.{list_any}
 use Rattle.std.specs.Option.{option_map, option_map_or}
 use Rattle.std.proofs.lemmas.Option.{same_Some}
-use Rattle.type_terms.specs.Promised.Label.{Sort}
-use Rattle.type_terms.specs.Promised.Trees.{Trees}
-use Rattle.type_terms.specs.Promised.Worlds.{World, ImplDecl}
-use Rattle.type_terms.specs.Promised.Walks.{Met, visited, ends_local}
-use Rattle.type_terms.specs.Promised.Versions.{is_open_place}
-use Rattle.text_language.specs.Promised.Declarations.{Declarations}
-use Rattle.text_language.specs.Output.{before_text}
-use Rattle.type_terms.specs.Promised.OpenedHeaders.{opened, with_variables}
-use Rattle.type_terms.specs.Promised.OrphanErrors.{OrphanError, nonlocal, uncovered, orphan_error}
+use Rattle.sessions.specs.TypeTerms.Promised.Label.{Sort}
+use Rattle.sessions.specs.TypeTerms.Promised.Trees.{Trees}
+use Rattle.sessions.specs.TypeTerms.Promised.Worlds.{World, ImplDecl}
+use Rattle.sessions.specs.TypeTerms.Promised.Walks.{Met, visited, ends_local}
+use Rattle.sessions.specs.TypeTerms.Promised.Versions.{is_open_place}
+use Rattle.sessions.specs.TextLanguage.Promised.Declarations.{Declarations}
+use Rattle.sessions.specs.TextLanguage.Output.{before_text}
+use Rattle.sessions.specs.TypeTerms.Promised.OpenedHeaders.{opened, with_variables}
+use Rattle.sessions.specs.TypeTerms.Promised.OrphanErrors.{OrphanError, nonlocal, uncovered, orphan_error}
 use Rattle.coherence.specs.Lines.{header_text}
 use Rattle.sessions.specs.Promised.Promises.{view_in}
 use Rattle.coherence.specs.Promised.CrateAnswers.{types_met, impl_type_text, orphan_reason}

@@ -4,13 +4,13 @@ use Rattle.std.specs.List.{slice_get}
 use Rattle.std.specs.Option.{option_map}
 use Rattle.std.proofs.lemmas.List.{length-map}
 use Rattle.std.proofs.lemmas.Option.{same_Some, slice_get-get_or, slice_get-map, slice_get_within}
-use Rattle.type_terms.specs.declared.CrateId.{CrateId}
+use Rattle.sessions.specs.TypeTerms.declared.CrateId.{CrateId}
 use Rattle.sessions.specs.Promised.Subjects.{Asks, AsksProof, AsksRefutation}
-use Rattle.text_language.specs.Promised.Declarations.{Declarations, NamedCrate, Question}
-use Rattle.workspace.specs.Numbered.{IsNumbered}
-use Rattle.workspace.specs.Views.{numbers_of, asked_of, asker_of, is_refute, check_of}
-use Rattle.workspace.specs.declared.declared.Asked.{Asked}
-use Rattle.workspace.specs.declared.declared.Check.{Check}
+use Rattle.sessions.specs.TextLanguage.Promised.Declarations.{Declarations, NamedCrate, Question}
+use Rattle.sessions.specs.Workspace.Numbered.{IsNumbered}
+use Rattle.sessions.specs.Workspace.Views.{numbers_of, asked_of, asker_of, is_refute, check_of}
+use Rattle.sessions.specs.Workspace.declared.declared.Asked.{Asked}
+use Rattle.sessions.specs.Workspace.declared.declared.Check.{Check}
 
 -- an element of a list has one that stands for it
 pub map-get : {A B C : Type 0} (f : A → C) (g : B → C) (xs : List A) (ys : List B) → map f xs ≡ map g ys → (k : ℕ) (x : A) → slice_get xs k ≡ Some x → (y : B) × (slice_get ys k ≡ Some y) × (f x ≡ g y)

@@ -2,13 +2,13 @@
 use Rattle.std.proofs.Common.{◌≡◌, ℕ, Bool, true, false, List, [], ◌∷◌, map, refl, sym, ap, ◌∙◌, subst}
 use Rattle.std.specs.Prelude.{filter, unwrap_or, if◌then◌else◌}
 use Rattle.std.specs.List.{slice_get, AllZip, zip}
-use Rattle.type_terms.specs.Promised.Proofs.{HasElaboratedProof}
-use Rattle.type_terms.specs.Promised.Label.{Label, Sort, infer}
-use Rattle.type_terms.specs.Promised.Proofs.{HasProof}
-use Rattle.type_terms.specs.Promised.Renumbering.{renumbered_reference}
-use Rattle.type_terms.specs.Promised.Trees.{Trees, none, tree, leaf, ◌+++◌, IsA, is_sort}
-use Rattle.type_terms.specs.Promised.Worlds.{Reference}
-use Rattle.text_language.specs.Promised.Declarations.{Declarations}
+use Rattle.sessions.specs.TypeTerms.Promised.Proofs.{HasElaboratedProof}
+use Rattle.sessions.specs.TypeTerms.Promised.Label.{Label, Sort, infer}
+use Rattle.sessions.specs.TypeTerms.Promised.Proofs.{HasProof}
+use Rattle.sessions.specs.TypeTerms.Promised.Renumbering.{renumbered_reference}
+use Rattle.sessions.specs.TypeTerms.Promised.Trees.{Trees, none, tree, leaf, ◌+++◌, IsA, is_sort}
+use Rattle.sessions.specs.TypeTerms.Promised.Worlds.{Reference}
+use Rattle.sessions.specs.TextLanguage.Promised.Declarations.{Declarations}
 use Rattle.sessions.specs.QuestionAnswers.{FitKinds, of_kind, filled, filled_reference, SolutionBy, IsProveAnswer, yes, IsRefuteAnswer, no}
 use Rattle.sessions.specs.Promised.CoherentTexts.{TextIsCoherent}
 use Rattle.sessions.specs.Promised.CoherentTexts.{text_world}

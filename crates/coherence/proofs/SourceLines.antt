@@ -1,9 +1,9 @@
 -- What is given next, of declarations.
 use Rattle.std.proofs.Common.{◌≡◌, ℕ, zero, suc, ◌+◌, ◌-◌, ◌<◌, ◌⊎◌, inl, inr, List, length, Option, Some, None, Ok, Err, refl, ◌∙◌, subst, arith}
 use Rattle.std.specs.Prelude.{IfSome}
-use Rattle.text_language.specs.Promised.Declarations.{Declarations}
-use Rattle.text_language.specs.Output.{fault, output_text}
-use Rattle.workspace.specs.Numbered.{IsNumbered}
+use Rattle.sessions.specs.TextLanguage.Promised.Declarations.{Declarations}
+use Rattle.sessions.specs.TextLanguage.Output.{fault, output_text}
+use Rattle.sessions.specs.Workspace.Numbered.{IsNumbered}
 use Rattle.coherence.specs.KeptLines.{HasKeptLineAt, IsCheckLineOf, IsLineOf, KeepsLines}
 use Rattle.coherence.specs.LineByLine.{CountsLine, IsLineAt, IsVerdictLine, of_crate, of_check, of_question}
 use Rattle.coherence.specs.LineSources.{IsGivenInOrder, lines_given}

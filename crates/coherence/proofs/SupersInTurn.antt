@@ -3,12 +3,12 @@ use Rattle.std.proofs.Common.{◌≡◌, ℕ, zero, suc, Bool, true, false, ◌|
 use Rattle.std.specs.Prelude.{◌==◌, if◌then◌else◌, filter}
 use Rattle.std.specs.List.{fold, list_any, flat_map}
 use Rattle.std.proofs.lemmas.List.Folds.{list_any-append}
-use Rattle.type_terms.specs.Promised.Worlds.{World, Reference, TraitDecl, all_with_args}
-use Rattle.type_terms.specs.Promised.Rules.{same_reference, elaborated, written_supertraits, strict_supertraits, strict_supertraits_within}
-use Rattle.type_terms.proofs.Supertraits.{flat-same}
-use Rattle.declarations.specs.Promised.Elaboration.{is_put, new_of, pushed, off_stack, supertraits}
+use Rattle.sessions.specs.TypeTerms.Promised.Worlds.{World, Reference, TraitDecl, all_with_args}
+use Rattle.sessions.specs.TypeTerms.Promised.Rules.{same_reference, elaborated, written_supertraits, strict_supertraits, strict_supertraits_within}
+use Rattle.sessions.proofs.TypeTerms.Supertraits.{flat-same}
+use Rattle.sessions.specs.Declarations.Promised.Elaboration.{is_put, new_of, pushed, off_stack, supertraits}
 use Rattle.coherence.specs.Promised.CheckAnswers.{supers_in_turn}
-use Rattle.type_terms.proofs.BooleanBasics.{either-deep}
+use Rattle.sessions.proofs.TypeTerms.BooleanBasics.{either-deep}
 
 -- A reference's strict supertraits in turn.
 abbrev pub turns_of : World → Reference → List Reference

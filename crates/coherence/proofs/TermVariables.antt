@@ -3,16 +3,16 @@ use Rattle.std.proofs.Common.{◌≡◌, refl, subst, ℕ, zero, suc, Bool, true
 use Rattle.std.specs.Prelude.{slice_get, filter}
 use Rattle.std.specs.List.{flat_map}
 use Rattle.std.proofs.lemmas.Option.{same_Some}
-use Rattle.type_terms.specs.Promised.Label.{Sort, of_type, of_const, of_lifetime}
-use Rattle.text_language.specs.Promised.Syntax.{TypeTree, of_primitive, never_type, variable_type, named, reference_to, pointer_to, slice_of, array_of, tuple_of, fn_of, fn_to, dyn_of, Types, no_types, and_type, Args, no_args, and_arg, Arg, lifetime_arg, number_arg, type_arg, Item, bound_item, lifetime_item, DynBounds, no_items, and_item, Length, number_length, name_length, variable_length, Bound, Clause, Line, crate_line, struct_line, trait_line, impl_line, prove_line, refute_line, later_line, supers_line}
-use Rattle.text_language.specs.Promised.Declarations.{Declarations, NamedImpl, Question, Variable, known}
-use Rattle.text_language.specs.Declarations.{nothing_declared}
-use Rattle.text_language.specs.Uses.{Use, variable_use, misfit_use, kinds_of_struct, kinds_of_trait, next_kind, other_kinds, length_uses, lifetime_uses, binder_uses, type_uses, types_uses, args_uses, arg_uses, item_uses, items_uses, bound_uses, clause_uses}
-use Rattle.text_language.specs.Faults.{fault_of, variables_in, once}
-use Rattle.text_language.specs.Adding.{added, impl_of, item_meanings}
-use Rattle.text_language.specs.Text.{LineGives, other_byte, blank, unwritten, faulty, adds, LinesGive, ends, fails, goes_on, TextGives, too_long, fits}
-use Rattle.text_lines.specs.Faultless.{UsesFit}
-use Rattle.text_lines.proofs.FittingUses.{faultless-uses}
+use Rattle.sessions.specs.TypeTerms.Promised.Label.{Sort, of_type, of_const, of_lifetime}
+use Rattle.sessions.specs.TextLanguage.Promised.Syntax.{TypeTree, of_primitive, never_type, variable_type, named, reference_to, pointer_to, slice_of, array_of, tuple_of, fn_of, fn_to, dyn_of, Types, no_types, and_type, Args, no_args, and_arg, Arg, lifetime_arg, number_arg, type_arg, Item, bound_item, lifetime_item, DynBounds, no_items, and_item, Length, number_length, name_length, variable_length, Bound, Clause, Line, crate_line, struct_line, trait_line, impl_line, prove_line, refute_line, later_line, supers_line}
+use Rattle.sessions.specs.TextLanguage.Promised.Declarations.{Declarations, NamedImpl, Question, Variable, known}
+use Rattle.sessions.specs.TextLanguage.Declarations.{nothing_declared}
+use Rattle.sessions.specs.TextLanguage.Uses.{Use, variable_use, misfit_use, kinds_of_struct, kinds_of_trait, next_kind, other_kinds, length_uses, lifetime_uses, binder_uses, type_uses, types_uses, args_uses, arg_uses, item_uses, items_uses, bound_uses, clause_uses}
+use Rattle.sessions.specs.TextLanguage.Faults.{fault_of, variables_in, once}
+use Rattle.sessions.specs.TextLanguage.Adding.{added, impl_of, item_meanings}
+use Rattle.sessions.specs.TextLanguage.Text.{LineGives, other_byte, blank, unwritten, faulty, adds, LinesGive, ends, fails, goes_on, TextGives, too_long, fits}
+use Rattle.sessions.specs.TextLines.Faultless.{UsesFit}
+use Rattle.sessions.proofs.TextLines.FittingUses.{faultless-uses}
 
 abbrev pub IsTerm : Sort → Type 0
 IsTerm of_type = Unit {0}

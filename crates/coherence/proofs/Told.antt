@@ -4,11 +4,11 @@ use Rattle.std.specs.List.{flat_map, slice_get, range_with_len, enumerate_from, 
 use Rattle.std.proofs.lemmas.List.{length-append, length-map, take_all}
 use Rattle.std.proofs.lemmas.List.FromFn.{length-map-range_with_len, length-enumerate_from}
 use Rattle.std.proofs.lemmas.List.Folds.{flat_map-map}
-use Rattle.type_terms.proofs.Lists.{slice_get-append, slice_get-map}
-use Rattle.text_language.specs.Promised.Declarations.{Declarations}
-use Rattle.text_language.specs.Output.{Answer, answer_text, output_text}
-use Rattle.text_language.specs.Text.{TextGives}
-use Rattle.text_language.proofs.SameTexts.{text-says}
+use Rattle.sessions.proofs.TypeTerms.Lists.{slice_get-append, slice_get-map}
+use Rattle.sessions.specs.TextLanguage.Promised.Declarations.{Declarations}
+use Rattle.sessions.specs.TextLanguage.Output.{Answer, answer_text, output_text}
+use Rattle.sessions.specs.TextLanguage.Text.{TextGives}
+use Rattle.sessions.proofs.TextLanguage.SameTexts.{text-says}
 use Rattle.sessions.specs.Promised.Subjects.{IsOfText}
 use Rattle.coherence.specs.LineByLine.{OutputProgress, HasNoMore, line_count, IsAnswerOf, of_crate, of_check, of_question, IsAnswerAt}
 use Rattle.coherence.specs.Promised.Told.{status_of}

@@ -4,13 +4,13 @@ use Rattle.std.specs.Prelude.{find}
 use Rattle.std.specs.List.{list_any}
 use Rattle.std.specs.Option.{option_or}
 use Rattle.std.proofs.lemmas.List.Folds.{find-append}
-use Rattle.type_terms.specs.Promised.Label.{of_type, of_const, of_lifetime, adt, ref, dynamic, principal, param, placeholder, infer, canonical, bound, value, static}
-use Rattle.type_terms.specs.Promised.Trees.{Trees, none, tree}
-use Rattle.type_terms.specs.Promised.Worlds.{World}
-use Rattle.type_terms.specs.Promised.Walks.{struct_is, trait_is, is_home, visited, ends_local}
-use Rattle.type_terms.specs.Promised.Versions.{is_open_place}
-use Rattle.type_terms.specs.Promised.OrphanErrors.{local_type, leaf_type, passage, dyn_look}
-use Rattle.type_terms.specs.Promised.OrphanErrors.{WalkItem, local_item, open_item, foreign_item, item_of, items, decisive, first_local, OrphanError, nonlocal, uncovered, error_at, orphan_error}
+use Rattle.sessions.specs.TypeTerms.Promised.Label.{of_type, of_const, of_lifetime, adt, ref, dynamic, principal, param, placeholder, infer, canonical, bound, value, static}
+use Rattle.sessions.specs.TypeTerms.Promised.Trees.{Trees, none, tree}
+use Rattle.sessions.specs.TypeTerms.Promised.Worlds.{World}
+use Rattle.sessions.specs.TypeTerms.Promised.Walks.{struct_is, trait_is, is_home, visited, ends_local}
+use Rattle.sessions.specs.TypeTerms.Promised.Versions.{is_open_place}
+use Rattle.sessions.specs.TypeTerms.Promised.OrphanErrors.{local_type, leaf_type, passage, dyn_look}
+use Rattle.sessions.specs.TypeTerms.Promised.OrphanErrors.{WalkItem, local_item, open_item, foreign_item, item_of, items, decisive, first_local, OrphanError, nonlocal, uncovered, error_at, orphan_error}
 use Rattle.coherence.specs.Promised.CrateAnswers.{types_met}
 
 -- the first open place

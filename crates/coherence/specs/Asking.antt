@@ -1,16 +1,16 @@
 -- A text that is asked at run time.
 use Rattle.std.specs.Prelude.{◌≡◌, ℕ, ◌+◌, ◌-◌, ◌<◌, ◌≤◌, List, length, Option, Ok, Err, IfSome, refl}
 use Rattle.std.specs.Coded.{Coded, code_by, coded_ℕ, coded×}
-use Rattle.text_names.specs.FaultNumbers.{fault_number}
-use Rattle.text_language.specs.Promised.Declarations.{Declarations, Question}
-use Rattle.text_language.specs.Text.{LineGives, TextGives}
-use Rattle.text_language.specs.Promised.Text.{text_limit}
+use Rattle.text_parser.specs.TextNames.FaultNumbers.{fault_number}
+use Rattle.sessions.specs.TextLanguage.Promised.Declarations.{Declarations, Question}
+use Rattle.sessions.specs.TextLanguage.Text.{LineGives, TextGives}
+use Rattle.sessions.specs.TextLanguage.Promised.Text.{text_limit}
 use Rattle.text_parser.specs.Behind.{IsOneLine}
 use Rattle.text_parser.specs.Queries.{FitsTables}
-use Rattle.workspace.specs.Stored.{declarations_code}
-use Rattle.workspace.specs.Tables.{with_question}
-use Rattle.workspace.specs.Views.{question_of}
-use Rattle.workspace.specs.declared.declared.QuestionEntry.{QuestionEntry}
+use Rattle.sessions.specs.Workspace.Stored.{declarations_code}
+use Rattle.sessions.specs.Workspace.Tables.{with_question}
+use Rattle.sessions.specs.Workspace.Views.{question_of}
+use Rattle.sessions.specs.Workspace.declared.declared.QuestionEntry.{QuestionEntry}
 use Rattle.sessions.specs.SeenViews.{IsLeftView}
 use Rattle.sessions.specs.declared.seen_view.SeenView.{SeenView}
 use Rattle.coherence.specs.KeptLines.{HasLine}

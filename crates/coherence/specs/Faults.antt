@@ -1,7 +1,7 @@
 -- The fault of a run if a session has one, and when it is `Full`.
 use Rattle.std.specs.Prelude.{◌≡◌}
-use Rattle.type_terms.specs.declared.Fault.{Fault}
-use Rattle.type_terms.specs.declared.Fault.TheVariants as wants
+use Rattle.sessions.specs.TypeTerms.declared.Fault.{Fault}
+use Rattle.sessions.specs.TypeTerms.declared.Fault.TheVariants as wants
 use Rattle.sessions.specs.Promised.Shortages.{IsAtLimit}
 use Rattle.sessions.specs.Promised.Subjects.{Subject}
 use Rattle.coherence.specs.declared.status.RunFault.{RunFault}

@@ -1,6 +1,6 @@
 -- The checks and queries of a text, grouped by their crates, by their indices.
 use Rattle.std.specs.Prelude.{◌≡◌, ℕ, ◌<◌, List, length, Some, slice_get}
-use Rattle.text_language.specs.Promised.Declarations.{Declarations, Check, of_later, of_supers, Question}
+use Rattle.sessions.specs.TextLanguage.Promised.Declarations.{Declarations, Check, of_later, of_supers, Question}
 use Rattle.coherence.specs.declared.groups.Group.{Group}
 
 -- The crate that is checked.

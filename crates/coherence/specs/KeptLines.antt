@@ -1,7 +1,7 @@
 -- Lines that are stored: definitions for the crate's own functions.
 use Rattle.std.specs.Prelude.{◌≡◌, ℕ, ◌+◌, ◌<◌, List, length, Some, slice_get}
-use Rattle.text_language.specs.Promised.Declarations.{Declarations, Check, Question}
-use Rattle.text_language.specs.Output.{Answer, output_text}
+use Rattle.sessions.specs.TextLanguage.Promised.Declarations.{Declarations, Check, Question}
+use Rattle.sessions.specs.TextLanguage.Output.{Answer, output_text}
 use Rattle.sessions.specs.Verdicts.{Verdict, accepted, orphan, overlap}
 use Rattle.coherence.specs.Groups.{IsAskedIn, IsCheckedIn}
 use Rattle.coherence.specs.Lines.{IsCheckLine, IsQuestionLine}

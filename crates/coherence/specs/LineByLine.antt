@@ -1,9 +1,9 @@
 -- The output for a text, line by line.
 use Rattle.std.specs.Prelude.{◌≡◌, ℕ, ◌+◌, ◌-◌, ◌<◌, ◌⊎◌, Bool, true, false, List, length, Option, Some, None, Result, Ok, Err, slice_get, refl}
 use Rattle.std.specs.Coded.{Coded, code_by, coded_ℕ, coded_bool, coded×, coded_result}
-use Rattle.text_language.specs.Promised.Declarations.{Declarations, Check, Question}
-use Rattle.text_language.specs.Output.{Answer, fault, output_text}
-use Rattle.workspace.specs.Stored.{declarations_code}
+use Rattle.sessions.specs.TextLanguage.Promised.Declarations.{Declarations, Check, Question}
+use Rattle.sessions.specs.TextLanguage.Output.{Answer, fault, output_text}
+use Rattle.sessions.specs.Workspace.Stored.{declarations_code}
 use Rattle.sessions.specs.Promised.Promises.{IsVerdictOf}
 use Rattle.sessions.specs.Verdicts.{Verdict}
 use Rattle.coherence.specs.Lines.{verdict_line, IsCheckLine, IsQuestionLine}

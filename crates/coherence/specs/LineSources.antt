@@ -1,8 +1,8 @@
 -- What the lines of a text are made of, while they are given one after the other.
 use Rattle.std.specs.Prelude.{◌≡◌, ℕ, ◌+◌, ◌-◌, ◌≤◌, ◌<◌, Bool, false, length, Result, Ok, Err, IfSome}
-use Rattle.text_names.specs.FaultNumbers.{fault_number}
-use Rattle.text_language.specs.Promised.Declarations.{Declarations}
-use Rattle.workspace.specs.Numbered.{IsNumbered, IsFew}
+use Rattle.text_parser.specs.TextNames.FaultNumbers.{fault_number}
+use Rattle.sessions.specs.TextLanguage.Promised.Declarations.{Declarations}
+use Rattle.sessions.specs.Workspace.Numbered.{IsNumbered, IsFew}
 use Rattle.sessions.specs.SeenViews.{IsLeftView}
 use Rattle.sessions.specs.Promised.Subjects.{IsOfText}
 use Rattle.coherence.specs.Groups.{AreGroups}

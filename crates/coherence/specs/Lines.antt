@@ -1,10 +1,10 @@
 -- The lines of the output as data, which the functions of this crate make of what a session answers. `Told` says what a run writes.
 use Rattle.std.specs.Prelude.{◌≡◌, ℕ, true, false, List, [], slice_get}
 use Rattle.std.specs.Option.{option_map, option_map_or}
-use Rattle.type_terms.specs.Promised.Trees.{Trees}
-use Rattle.text_language.specs.Promised.Declarations.{Declarations, Check, of_later, of_supers, Question}
-use Rattle.text_language.specs.Names.{header_names, answer_values}
-use Rattle.text_language.specs.Output.{Answer, accepted, nonlocal, uncovered, overlap, compatible, breaking, held, missing, undecided, yes, maybe, unproved, no, unrefuted, type_text}
+use Rattle.sessions.specs.TypeTerms.Promised.Trees.{Trees}
+use Rattle.sessions.specs.TextLanguage.Promised.Declarations.{Declarations, Check, of_later, of_supers, Question}
+use Rattle.sessions.specs.TextLanguage.Names.{header_names, answer_values}
+use Rattle.sessions.specs.TextLanguage.Output.{Answer, accepted, nonlocal, uncovered, overlap, compatible, breaking, held, missing, undecided, yes, maybe, unproved, no, unrefuted, type_text}
 use Rattle.sessions.specs.OrphanErrors as errors
 use Rattle.sessions.specs.Promised.Promises.{IsProved, IsRefutation}
 use Rattle.sessions.specs.QuestionAnswers as answers

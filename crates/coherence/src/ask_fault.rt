@@ -5,7 +5,7 @@ ghost use Rattle.coherence.specs.declared.ask_fault.AskFault.TheVariants.{Memory
 
 use crate::status::RunFault;
 use std::alloc::AllocError;
-use text_names::FaultKind;
+use text_parser::text_names::FaultKind;
 
 /// Why a line that is asked behind a text has no answer.
 #[derive(Clone, Copy, Debug, PartialEq, Eq, thiserror::Error)]

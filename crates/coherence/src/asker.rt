@@ -2,14 +2,14 @@
 
 ghost use Rattle.std.specs.Prelude.{◌≡◌, ◌<◌, ◌≤◌, ℕ, List, length, Ok, IfOk, IfErr, IfSome};
 ghost use Rattle.std.specs.Option.{option_map, option_and_then};
-ghost use Rattle.text_language.specs.Promised.Declarations.{known};
-ghost use Rattle.text_language.specs.Text.{TextGives};
+ghost use Rattle.sessions.specs.TextLanguage.Promised.Declarations.{known};
+ghost use Rattle.sessions.specs.TextLanguage.Text.{TextGives};
 ghost use Rattle.text_parser.specs.Behind.{FitsBehind, behind};
 ghost use Rattle.text_parser.specs.Outcomes.{IsTextError};
 ghost use Rattle.text_parser.specs.Queries.{FitsTables};
-ghost use Rattle.workspace.specs.Numbered.{IsNumbered, IsFew};
-ghost use Rattle.workspace.specs.Tables.{with_question, number_of_crate};
-ghost use Rattle.workspace.specs.Views.{asker_of, question_of};
+ghost use Rattle.sessions.specs.Workspace.Numbered.{IsNumbered, IsFew};
+ghost use Rattle.sessions.specs.Workspace.Tables.{with_question, number_of_crate};
+ghost use Rattle.sessions.specs.Workspace.Views.{asker_of, question_of};
 ghost use Rattle.sessions.specs.SeenViews.{IsLeftView};
 ghost use Rattle.sessions.specs.Promised.Subjects.{IsOfText, StaysOn};
 ghost use Rattle.coherence.specs.Asking.{IsAnswerBehind, IsAskFault, IsLastLine, IsQueryBehind, IsShortage};
@@ -20,6 +20,8 @@ ghost use Rattle.coherence.specs.LineByLine.{IsVerdictLine};
 use crate::ask_fault::AskFault;
 use crate::lines::{question_line, verdict_line};
 use crate::status::RunFault;
+use sessions::type_terms::CrateId;
+use sessions::workspace::{Asked, ENTRY_LIMIT, QuestionEntry, Workspace};
 use sessions::{Limits, SeenView, Session};
 use std::alloc::Global;
 use std::marker::Model;
@@ -27,8 +29,6 @@ use text_parser::{
     QueryLine, TEXT_LIMIT, TextError, is_one_line, lines_behind_texts, parse, read_query,
     texts_are_few,
 };
-use type_terms::CrateId;
-use workspace::{Asked, ENTRY_LIMIT, QuestionEntry, Workspace};
 
 /// The line of a session's crate.
 fn judged_line(

@@ -2,7 +2,7 @@
 //! session makes all lines of its crate.
 
 ghost use Rattle.std.specs.Prelude.{◌≡◌, ◌≢◌, ◌+◌, ◌<◌, ◌≤◌, ℕ, length, IfOk, IfErr, IfSome, OnOk};
-ghost use Rattle.workspace.specs.Numbered.{IsNumbered, IsFew};
+ghost use Rattle.sessions.specs.Workspace.Numbered.{IsNumbered, IsFew};
 ghost use Rattle.sessions.specs.Promised.Subjects.{IsOfText, StaysOn};
 ghost use Rattle.coherence.specs.Faults.{IsFullAtLimit};
 ghost use Rattle.coherence.specs.Groups.{IsAskedIn, IsCheckedIn, ArePlacesWhere, IsGroup};
@@ -13,8 +13,8 @@ use crate::groups::Group;
 use crate::lines::{check_line, question_line};
 use crate::status::RunFault;
 use sessions::Session;
+use sessions::workspace::{ENTRY_LIMIT, Workspace};
 use std::alloc::{AllocError, Global};
-use workspace::{ENTRY_LIMIT, Workspace};
 
 /// A line as text, with its line end. It is empty before it is known.
 #[derive(Drop)]

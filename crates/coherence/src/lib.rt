@@ -22,14 +22,14 @@ pub use coherent::{accepted_lines_tell, held_lines_tell};
 pub use depths::parse_depth;
 pub use output_lines::OutputLines;
 pub use outputs::{Output, answer};
+pub use sessions::type_terms::{CrateId, Fault, ImplId};
+pub use sessions::workspace::Workspace;
 pub use sessions::{
     LaterAnswer, Limits, OrphanCheckErr, ProveAnswer, RefuteAnswer, SeenView, Session,
     SupersAnswer, UncoveredTyParams, Verdict,
 };
 pub use status::{RunFault, Status};
-pub use text_names::FaultKind;
+pub use text_parser::text_names::FaultKind;
 pub use text_parser::{TextError, TextFault, parse};
 pub use text_printer::print_type;
 pub use text_run::run;
-pub use type_terms::{CrateId, Fault, ImplId};
-pub use workspace::Workspace;

@@ -3,12 +3,12 @@
 ghost use Rattle.std.specs.Prelude.{◌≡◌, ◌≢◌, ◌<◌, length, map, IfOk, IfErr, IfSome};
 ghost use Rattle.std.specs.Option.{option_map};
 ghost use Rattle.text_printer.specs.Answers.{text_of};
-ghost use Rattle.type_terms.specs.Promised.Trees.{erase};
-ghost use Rattle.text_language.specs.Promised.Declarations.{Question, of_later, of_supers};
-ghost use Rattle.text_language.specs.Names as names;
-ghost use Rattle.text_language.specs.Output.{uncovered, yes, output_text};
-ghost use Rattle.type_terms.specs.Promised.Handles.{arg_trees, ArgsHeld};
-ghost use Rattle.workspace.specs.Numbered.{IsNumbered, IsFew};
+ghost use Rattle.sessions.specs.TypeTerms.Promised.Trees.{erase};
+ghost use Rattle.sessions.specs.TextLanguage.Promised.Declarations.{Question, of_later, of_supers};
+ghost use Rattle.sessions.specs.TextLanguage.Names as names;
+ghost use Rattle.sessions.specs.TextLanguage.Output.{uncovered, yes, output_text};
+ghost use Rattle.sessions.specs.TypeTerms.Promised.Handles.{arg_trees, ArgsHeld};
+ghost use Rattle.sessions.specs.Workspace.Numbered.{IsNumbered, IsFew};
 ghost use Rattle.sessions.specs.ErrorTerms.{error_in, type_in};
 ghost use Rattle.sessions.specs.HeldErrors.{ErrorHeld, TypeHeld};
 ghost use Rattle.sessions.specs.OrphanErrors as errors;
@@ -23,16 +23,16 @@ ghost use Rattle.coherence.specs.Lines.{header_text, orphan_line, verdict_line};
 ghost use Rattle.coherence.specs.KeptLines.{NamesImpls, HasCheckLine, IsCheckLineOf, HasLine, IsLineOf};
 
 use crate::status::RunFault;
+use sessions::type_terms::interner::Interner;
+use sessions::type_terms::kinds::{GenericArgKind, Ty};
+use sessions::type_terms::{CrateId, ImplId};
+use sessions::workspace::{Asked, Check, ENTRY_LIMIT, Workspace};
 use sessions::{
     LaterAnswer, OrphanCheckErr, ProveAnswer, RefuteAnswer, Session, SupersAnswer,
     UncoveredTyParams, Verdict,
 };
 use std::alloc::{AllocError, Global};
 use text_printer::{Answer, HeaderNames, answer_values, print_line, print_type};
-use type_terms::interner::Interner;
-use type_terms::kinds::{GenericArgKind, Ty};
-use type_terms::{CrateId, ImplId};
-use workspace::{Asked, Check, ENTRY_LIMIT, Workspace};
 
 /// The number of an impl among those of its crate, from 1.
 fn number_in_crate(workspace: &Workspace, id: ImplId) -> u32

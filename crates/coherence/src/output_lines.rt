@@ -1,10 +1,10 @@
 //! The output for a text in memory, line by line.
 
 ghost use Rattle.std.specs.Prelude.{◌≡◌, ◌≢◌, ◌+◌, ◌-◌, ◌<◌, ℕ, true, false, None, Ok, length, IfOk, IfErr, IfSome, OnOk, OnErr};
-ghost use Rattle.text_names.specs.FaultNumbers.{fault_number};
-ghost use Rattle.text_language.specs.Output.{fault, output_text};
-ghost use Rattle.text_language.specs.Text.{TextGives};
-ghost use Rattle.workspace.specs.Numbered.{IsNumbered, IsFew};
+ghost use Rattle.text_parser.specs.TextNames.FaultNumbers.{fault_number};
+ghost use Rattle.sessions.specs.TextLanguage.Output.{fault, output_text};
+ghost use Rattle.sessions.specs.TextLanguage.Text.{TextGives};
+ghost use Rattle.sessions.specs.Workspace.Numbered.{IsNumbered, IsFew};
 ghost use Rattle.sessions.specs.SeenViews.{IsLeftView};
 ghost use Rattle.sessions.specs.Promised.Subjects.{IsOfText, StaysOn};
 ghost use Rattle.coherence.specs.Faults.{IsFullAtLimit};
@@ -19,13 +19,13 @@ use crate::groups::{Group, groups_by_crate};
 use crate::kept::{KeptLines, keep_answers, next_line, no_lines};
 use crate::lines::verdict_line;
 use crate::status::{RunFault, Status};
+use sessions::type_terms::{CrateId, Fault};
+use sessions::workspace::{ENTRY_LIMIT, Workspace};
 use sessions::{Limits, SeenView, Session};
 use std::alloc::{AllocError, Global};
 use std::marker::Model;
 use text_parser::{TextError, TextFault, parse};
 use text_printer::{Answer, print_line};
-use type_terms::{CrateId, Fault};
-use workspace::{ENTRY_LIMIT, Workspace};
 
 /// The crate at this index of the text.
 fn crate_at(workspace: &Workspace, place: usize) -> CrateId

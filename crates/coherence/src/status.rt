@@ -3,8 +3,8 @@
 ghost use Rattle.std.specs.Prelude.{◌≡◌};
 ghost use Rattle.coherence.specs.declared.status.RunFault.TheVariants.{Memory};
 
+use sessions::type_terms::Fault;
 use std::alloc::AllocError;
-use type_terms::Fault;
 
 /// What a run wrote.
 #[derive(Clone, Copy, PartialEq, Eq)]

@@ -1,18 +1,18 @@
 -- What is claimed of a walk, while a session goes on.
 use Rattle.std.proofs.Common.{◌≡◌, ℕ, Bool, true, false, List, [], ◌∷◌, ◌++◌, Option, Some, sym, ◌∙◌, subst}
 use Rattle.std.specs.List.{slice_get}
-use Rattle.type_terms.specs.Promised.Proofs.{HasProof}
-use Rattle.type_terms.specs.Promised.Handles.{Entry, Keeps}
-use Rattle.type_terms.specs.Promised.Worlds.{World, Reference}
-use Rattle.term_folds.specs.declared.predicate.TraitRef.{TraitRef}
-use Rattle.text_language.specs.Promised.Declarations.{Declarations}
-use Rattle.declarations.specs.Promised.Elaboration.{Each}
-use Rattle.orphan_check.specs.declared.errors.Conflict.{Conflict}
+use Rattle.sessions.specs.TypeTerms.Promised.Proofs.{HasProof}
+use Rattle.sessions.specs.TypeTerms.Promised.Handles.{Entry, Keeps}
+use Rattle.sessions.specs.TypeTerms.Promised.Worlds.{World, Reference}
+use Rattle.sessions.specs.TermFolds.declared.predicate.TraitRef.{TraitRef}
+use Rattle.sessions.specs.TextLanguage.Promised.Declarations.{Declarations}
+use Rattle.sessions.specs.Declarations.Promised.Elaboration.{Each}
+use Rattle.sessions.specs.OrphanCheck.declared.errors.Conflict.{Conflict}
 use Rattle.explain_traces.specs.Walking.{ReferencesHeld}
 use Rattle.explain_traces.specs.declared.nodes.GoalWalk.{GoalWalk}
-use Rattle.proof_checker.specs.Checked.{IsConcludedFrom}
-use Rattle.proof_checker.specs.Steps.{term_of, terms_of}
-use Rattle.proof_checker.proofs.Later.{term-same, terms-same}
+use Rattle.sessions.specs.ProofChecker.Checked.{IsConcludedFrom}
+use Rattle.sessions.specs.ProofChecker.Steps.{term_of, terms_of}
+use Rattle.sessions.proofs.ProofChecker.Later.{term-same, terms-same}
 use Rattle.sessions.specs.Promised.Promises.{view_in}
 use Rattle.sessions.specs.Promised.Subjects.{Subject, StaysOn}
 use Rattle.explain_sessions.specs.Claims.{AddersHold, ClaimsHold, IsUnseenAt, MayAddAt, UnseenHold}
@@ -22,8 +22,8 @@ use Rattle.explain_sessions.specs.declared.walks.CheckedCandidates.{CheckedCandi
 use Rattle.explain_sessions.specs.declared.adding.Adder.{Adder}
 use Rattle.explain_sessions.specs.declared.claims.Claims.{Claims}
 use Rattle.explain_sessions.proofs.RuleCandidates.{there-held, all-held}
-use Rattle.declarations.proofs.Growth.{each-kept as each-map}
-use Rattle.declarations.proofs.Basics.{each-push as each-put}
+use Rattle.sessions.proofs.Declarations.Growth.{each-kept as each-map}
+use Rattle.sessions.proofs.Declarations.Basics.{each-push as each-put}
 
 -- ---- while the interner grows
 module _ (es now : List Entry) (k : Keeps es now) (V : World) (c : ℕ) (w : GoalWalk) (held : ReferencesHeld es w.references.items) where

@@ -1,35 +1,35 @@
 -- An impl whose header no values make equal to a reference has no rule for any instance of it.
 use Rattle.std.proofs.Common.{◌≡◌, ◌≢◌, ℕ, zero, suc, ◌<◌, arith, Bool, true, false, ◌||◌, if◌then◌else◌, List, [], ◌∷◌, take, length, refl, sym, ap, ◌∙◌, subst, ◌⊎◌, inl, inr}
-use Rattle.type_terms.specs.Promised.Label.{Label, Sort, of_type, of_const, of_lifetime, param, infer, canonical, bound, inside, shift_label}
-use Rattle.type_terms.specs.Promised.Trees.{Trees, none, tree, ◌+++◌, IsA, Fits, erase, erase_label, nth, shift, instantiate, sort_of, some_node}
-use Rattle.type_terms.specs.Promised.Answers.{is_open}
-use Rattle.type_terms.specs.Promised.Erased.{erased_reference, erased_impl}
-use Rattle.type_terms.specs.Promised.LinkedSet.{is_stray}
-use Rattle.type_terms.specs.Promised.Rules.{by_impl, impl_rules}
-use Rattle.type_terms.specs.Promised.Worlds.{Reference, ImplDecl, with_args, all_with_args}
-use Rattle.type_terms.specs.Promised.Handles.{Entry, Keeps, trees_at}
-use Rattle.type_terms.proofs.Fitting.{child-shut, next-shut}
-use Rattle.term_folds.specs.declared.predicate.TraitRef.{TraitRef}
-use Rattle.declarations.specs.Held.{ReferenceHeld}
-use Rattle.declarations.specs.declared.items.ImplDef.{ImplDef}
-use Rattle.declarations.proofs.Growth.{args-same}
-use Rattle.infer_table.specs.Content.{Table, Grows, content, variables_of}
-use Rattle.infer_table.specs.Covers.{AreKnown}
-use Rattle.infer_table.specs.Solutions.{Assignment, IsSorted, HasNoSolution, instance}
-use Rattle.infer_table.proofs.SolutionLaws.{instance-erase}
-use Rattle.overlap_check.specs.Fresh.{with_unknowns, fresh_unknowns, HasArguments}
-use Rattle.overlap_check.specs.Headers.{sorts_of_impl, unknowns_for, with_unknowns_for, args_at, IsHeaderOver}
-use Rattle.type_terms.specs.Promised.ReadByLaws.{ImplRulesAreInstances}
-use Rattle.overlap_check.specs.declared.header.ImplHeader.{ImplHeader}
-use Rattle.overlap_check.proofs.Instances.{node, shut-stays, nth-shut, instance-put, closing, closed_off, shut_by, shut-by-sorted, closing-stays, closed-shut}
-use Rattle.overlap_check.proofs.Standing.{default_node, default-sorted, assigned as taking, assigned-sorted, assigned-older, fresh-gives, all-no-fewer}
+use Rattle.sessions.specs.TypeTerms.Promised.Label.{Label, Sort, of_type, of_const, of_lifetime, param, infer, canonical, bound, inside, shift_label}
+use Rattle.sessions.specs.TypeTerms.Promised.Trees.{Trees, none, tree, ◌+++◌, IsA, Fits, erase, erase_label, nth, shift, instantiate, sort_of, some_node}
+use Rattle.sessions.specs.TypeTerms.Promised.Answers.{is_open}
+use Rattle.sessions.specs.TypeTerms.Promised.Erased.{erased_reference, erased_impl}
+use Rattle.sessions.specs.TypeTerms.Promised.LinkedSet.{is_stray}
+use Rattle.sessions.specs.TypeTerms.Promised.Rules.{by_impl, impl_rules}
+use Rattle.sessions.specs.TypeTerms.Promised.Worlds.{Reference, ImplDecl, with_args, all_with_args}
+use Rattle.sessions.specs.TypeTerms.Promised.Handles.{Entry, Keeps, trees_at}
+use Rattle.sessions.proofs.TypeTerms.Fitting.{child-shut, next-shut}
+use Rattle.sessions.specs.TermFolds.declared.predicate.TraitRef.{TraitRef}
+use Rattle.sessions.specs.Declarations.Held.{ReferenceHeld}
+use Rattle.sessions.specs.Declarations.declared.items.ImplDef.{ImplDef}
+use Rattle.sessions.proofs.Declarations.Growth.{args-same}
+use Rattle.sessions.specs.InferTable.Content.{Table, Grows, content, variables_of}
+use Rattle.sessions.specs.InferTable.Covers.{AreKnown}
+use Rattle.sessions.specs.InferTable.Solutions.{Assignment, IsSorted, HasNoSolution, instance}
+use Rattle.sessions.proofs.InferTable.SolutionLaws.{instance-erase}
+use Rattle.sessions.specs.OverlapCheck.Fresh.{with_unknowns, fresh_unknowns, HasArguments}
+use Rattle.sessions.specs.OverlapCheck.Headers.{sorts_of_impl, unknowns_for, with_unknowns_for, args_at, IsHeaderOver}
+use Rattle.sessions.specs.TypeTerms.Promised.ReadByLaws.{ImplRulesAreInstances}
+use Rattle.sessions.specs.OverlapCheck.declared.header.ImplHeader.{ImplHeader}
+use Rattle.sessions.proofs.OverlapCheck.Instances.{node, shut-stays, nth-shut, instance-put, closing, closed_off, shut_by, shut-by-sorted, closing-stays, closed-shut}
+use Rattle.sessions.proofs.OverlapCheck.Standing.{default_node, default-sorted, assigned as taking, assigned-sorted, assigned-older, fresh-gives, all-no-fewer}
 use Rattle.explain_sessions.specs.Rules.{HasNoRuleBy}
 use Rattle.explain_sessions.specs.Unknowns.{speaks_of_known}
 use Rattle.explain_sessions.proofs.OwnTerms.{IsOwn, here, below, behind, own, speaks-known}
-use Rattle.type_terms.proofs.TermBasics.{joined}
-use Rattle.type_terms.proofs.Matching.{or-false-left as no-left}
-use Rattle.type_terms.proofs.BooleanBasics.{true-false as no-true}
-use Rattle.overlap_check.proofs.Unknowns.{fresh-constraints as same-constraints, fresh-values as same-values}
+use Rattle.sessions.proofs.TypeTerms.TermBasics.{joined}
+use Rattle.sessions.proofs.TypeTerms.Matching.{or-false-left as no-left}
+use Rattle.sessions.proofs.TypeTerms.BooleanBasics.{true-false as no-true}
+use Rattle.sessions.proofs.OverlapCheck.Unknowns.{fresh-constraints as same-constraints, fresh-values as same-values}
 
 -- ---- open places closed
 closing-sort : (l : Label) → sort_of (closing l) ≡ sort_of l

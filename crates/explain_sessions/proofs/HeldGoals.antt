@@ -1,14 +1,14 @@
 -- Goals that have a proof with nothing taken for granted.
 use Rattle.std.proofs.Common.{◌≡◌, List, [], ◌∷◌, ◌++◌, sym, subst, ap, ◌∙◌, ℕ}
 use Rattle.std.specs.List.{flat_map}
-use Rattle.type_terms.specs.Promised.Proofs.{ProofEntry, In, Follows, IsProof, HasProof}
-use Rattle.type_terms.specs.Promised.Handles.{Entry, Keeps}
-use Rattle.type_terms.specs.Promised.Worlds.{World, CrateDecl, Reference}
-use Rattle.term_folds.specs.declared.predicate.TraitRef.{TraitRef}
+use Rattle.sessions.specs.TypeTerms.Promised.Proofs.{ProofEntry, In, Follows, IsProof, HasProof}
+use Rattle.sessions.specs.TypeTerms.Promised.Handles.{Entry, Keeps}
+use Rattle.sessions.specs.TypeTerms.Promised.Worlds.{World, CrateDecl, Reference}
+use Rattle.sessions.specs.TermFolds.declared.predicate.TraitRef.{TraitRef}
 use Rattle.explain_traces.specs.Walking.{ReferencesHeld}
-use Rattle.proof_checker.specs.declared.steps.Step.{Step}
-use Rattle.proof_checker.specs.Steps.{AreProofOf, assumed_by, assumed_in, term_of}
-use Rattle.proof_checker.proofs.Later.{term-same}
+use Rattle.sessions.specs.ProofChecker.declared.steps.Step.{Step}
+use Rattle.sessions.specs.ProofChecker.Steps.{AreProofOf, assumed_by, assumed_in, term_of}
+use Rattle.sessions.proofs.ProofChecker.Later.{term-same}
 use Rattle.sessions.specs.Promised.Promises.{view_in}
 use Rattle.sessions.specs.Promised.Subjects.{Subject, StaysOn}
 use Rattle.sessions.proofs.ProofsAside.{rules-aside}

@@ -1,22 +1,22 @@
 -- What a table resolves a reference to is an instance of it.
 use Rattle.std.proofs.Common.{◌≡◌, ℕ, Bool, true, false, List, refl, sym, ap, ◌∙◌, Option, Some, None}
-use Rattle.type_terms.specs.Promised.Label.{Label, Sort}
-use Rattle.type_terms.specs.Promised.Trees.{Trees, erase}
-use Rattle.type_terms.specs.Promised.Handles.{Entry, Has, trees_at}
-use Rattle.type_terms.specs.Terms.{Lawful, args_lists}
-use Rattle.type_terms.specs.Promised.Worlds.{Reference}
-use Rattle.infer_table.specs.WellFormed.{is_numbered}
-use Rattle.term_folds.specs.declared.predicate.TraitRef.{TraitRef}
-use Rattle.infer_table.specs.Solutions.{Assignment, IsSorted, Binding, instance, resolved, value_in, occurs}
-use Rattle.infer_table.specs.Content.{Table, content, Ready, IsProper}
-use Rattle.infer_table.proofs.EquationFacts.{solved-sorted}
-use Rattle.infer_table.proofs.SolutionLaws.{instance-erase}
-use Rattle.infer_table.proofs.SolvableLaws.{itself, instance-itself}
-use Rattle.infer_table.proofs.Places.{in_terms, trees-proper}
-use Rattle.overlap_check.proofs.Solved.{Facts, ready-facts}
-use Rattle.overlap_check.proofs.Values.{instance-agrees}
-use Rattle.overlap_check.proofs.Posed.{made}
-use Rattle.proof_checker.specs.Steps.{term_of}
+use Rattle.sessions.specs.TypeTerms.Promised.Label.{Label, Sort}
+use Rattle.sessions.specs.TypeTerms.Promised.Trees.{Trees, erase}
+use Rattle.sessions.specs.TypeTerms.Promised.Handles.{Entry, Has, trees_at}
+use Rattle.sessions.specs.TypeTerms.Terms.{Lawful, args_lists}
+use Rattle.sessions.specs.TypeTerms.Promised.Worlds.{Reference}
+use Rattle.sessions.specs.InferTable.WellFormed.{is_numbered}
+use Rattle.sessions.specs.TermFolds.declared.predicate.TraitRef.{TraitRef}
+use Rattle.sessions.specs.InferTable.Solutions.{Assignment, IsSorted, Binding, instance, resolved, value_in, occurs}
+use Rattle.sessions.specs.InferTable.Content.{Table, content, Ready, IsProper}
+use Rattle.sessions.proofs.InferTable.EquationFacts.{solved-sorted}
+use Rattle.sessions.proofs.InferTable.SolutionLaws.{instance-erase}
+use Rattle.sessions.proofs.InferTable.SolvableLaws.{itself, instance-itself}
+use Rattle.sessions.proofs.InferTable.Places.{in_terms, trees-proper}
+use Rattle.sessions.proofs.OverlapCheck.Solved.{Facts, ready-facts}
+use Rattle.sessions.proofs.OverlapCheck.Values.{instance-agrees}
+use Rattle.sessions.proofs.OverlapCheck.Posed.{made}
+use Rattle.sessions.specs.ProofChecker.Steps.{term_of}
 use Rattle.explain_sessions.specs.Rules.{IsInstanceOf}
 
 -- some values for the unknowns give what the table resolves each term to

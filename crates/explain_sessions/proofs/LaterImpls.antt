@@ -1,12 +1,12 @@
 -- Why impls of a section may not be added.
 use Rattle.std.proofs.Common.{◌≡◌, ◌-◌, ℕ, List, Option, Some, None, subst}
 use Rattle.std.specs.List.{slice_get}
-use Rattle.type_terms.specs.Promised.Worlds.{World, Reference}
-use Rattle.declarations.specs.Items.{declared}
-use Rattle.declarations.proofs.Growth.{all-declared}
-use Rattle.solver_graph.specs.Contexts.{entries_of}
-use Rattle.solver_graph.specs.declared.context.SolverCx.{SolverCx}
-use Rattle.candidate_assembly.specs.declared.solver.Solver.{Solver}
+use Rattle.sessions.specs.TypeTerms.Promised.Worlds.{World, Reference}
+use Rattle.sessions.specs.Declarations.Items.{declared}
+use Rattle.sessions.proofs.Declarations.Growth.{all-declared}
+use Rattle.sessions.specs.SolverGraph.Contexts.{entries_of}
+use Rattle.sessions.specs.SolverGraph.declared.context.SolverCx.{SolverCx}
+use Rattle.sessions.specs.CandidateAssembly.declared.solver.Solver.{Solver}
 use Rattle.sessions.specs.Checking.{IsReadySolver, SolverStaysReady, rules_in}
 use Rattle.explain_sessions.specs.Causes.{IsCauseAt, IsCauseOf}
 use Rattle.explain_sessions.specs.declared.breaking.BreakingCause.{BreakingCause}

@@ -1,13 +1,13 @@
 -- Proofs over the terms of an interner that has grown.
 use Rattle.std.proofs.Common.{◌∙◌, List, [], ◌∷◌, ◌++◌, sym, subst}
-use Rattle.type_terms.specs.Promised.Worlds.{World, Reference}
-use Rattle.type_terms.specs.Promised.Proofs.{ProofEntry, IsProof}
-use Rattle.type_terms.specs.Promised.Handles.{Entry, Keeps}
-use Rattle.declarations.specs.Held.{ReferenceHeld}
-use Rattle.declarations.specs.Promised.Elaboration.{Each}
-use Rattle.proof_checker.specs.Steps.{AreEntriesOf, AreProofOf, IsEntryOf, StepHeld, steps_say}
-use Rattle.proof_checker.specs.declared.steps.Step.{Step}
-use Rattle.proof_checker.proofs.Later.{assumed-same, say-same, term-same}
+use Rattle.sessions.specs.TypeTerms.Promised.Worlds.{World, Reference}
+use Rattle.sessions.specs.TypeTerms.Promised.Proofs.{ProofEntry, IsProof}
+use Rattle.sessions.specs.TypeTerms.Promised.Handles.{Entry, Keeps}
+use Rattle.sessions.specs.Declarations.Held.{ReferenceHeld}
+use Rattle.sessions.specs.Declarations.Promised.Elaboration.{Each}
+use Rattle.sessions.specs.ProofChecker.Steps.{AreEntriesOf, AreProofOf, IsEntryOf, StepHeld, steps_say}
+use Rattle.sessions.specs.ProofChecker.declared.steps.Step.{Step}
+use Rattle.sessions.proofs.ProofChecker.Later.{assumed-same, say-same, term-same}
 
 module _ (es fs : List Entry) (k : Keeps es fs) where
   entry-later : (rs : List Reference) (s : Step) (e : ProofEntry) → ReferenceHeld es s.reference → IsEntryOf es rs s e → IsEntryOf fs rs s e

@@ -14,3 +14,7 @@ mod HeldGoals
 mod ClaimsLater
 mod HeadersApart
 mod PassedImpls
+-- The crates below whose names the crates above need too: these list this crate alone.
+pub use Rattle.sessions.proofs as Sessions
+pub use Rattle.sessions.proofs.ProofChecker
+pub use Rattle.sessions.proofs.TypeTerms

@@ -2,16 +2,16 @@
 use Rattle.std.proofs.Common.{◌≡◌, ℕ, ◌<◌, true, false, not, ◌||◌, refl, ◌∙◌, ap, arith}
 use Rattle.std.proofs.lemmas.Bool.Decides.{nat_tests}
 use Rattle.std.specs.Prelude.{nat_lt}
-use Rattle.type_terms.specs.Promised.Label.{Label, Sort, of_type, of_const, of_lifetime, infer, canonical}
-use Rattle.type_terms.specs.Promised.Trees.{Trees, none, tree, some_node}
-use Rattle.type_terms.proofs.Fitting.{child-shut, next-shut, not-true}
-use Rattle.infer_table.specs.Canonical.{HasNoCanonical}
-use Rattle.infer_table.specs.Content.{Table, variables_of, place_in}
-use Rattle.infer_table.specs.Covers.{AreKnown}
-use Rattle.infer_table.specs.declared.terms.Snapshot.{Snapshot}
+use Rattle.sessions.specs.TypeTerms.Promised.Label.{Label, Sort, of_type, of_const, of_lifetime, infer, canonical}
+use Rattle.sessions.specs.TypeTerms.Promised.Trees.{Trees, none, tree, some_node}
+use Rattle.sessions.proofs.TypeTerms.Fitting.{child-shut, next-shut, not-true}
+use Rattle.sessions.specs.InferTable.Canonical.{HasNoCanonical}
+use Rattle.sessions.specs.InferTable.Content.{Table, variables_of, place_in}
+use Rattle.sessions.specs.InferTable.Covers.{AreKnown}
+use Rattle.sessions.specs.InferTable.declared.terms.Snapshot.{Snapshot}
 use Rattle.explain_sessions.specs.Unknowns.{is_other_place, known_to, speaks_of_known}
 use Rattle.explain_sessions.specs.declared.unknowns.FindsOther.{FindsOther}
-use Rattle.type_terms.proofs.Matching.{or-false-left as no-left}
+use Rattle.sessions.proofs.TypeTerms.Matching.{or-false-left as no-left}
 
 -- ---- what a visit finds
 abbrev pub visitor_at : Snapshot → FindsOther

@@ -3,21 +3,21 @@ use Rattle.std.proofs.Common.{◌≡◌, ℕ, ◌-◌, ◌<◌, ◌≤◌, arith
 use Rattle.std.proofs.lemmas.Bool.Decides.{nat_tests}
 use Rattle.std.specs.Option.{is_some, option_map}
 use Rattle.std.specs.Prelude.{filter, nat_lt}
-use Rattle.type_terms.specs.Promised.Erased.{erased_reference, erased_impl}
-use Rattle.type_terms.specs.Promised.Proofs.{In}
-use Rattle.type_terms.specs.Promised.Handles.{Entry}
-use Rattle.type_terms.specs.Promised.Worlds.{World, Reference, ImplDecl}
-use Rattle.type_terms.specs.declared.ImplId.{ImplId}
-use Rattle.type_terms.proofs.Members.{in-cases, in-nothing, in-map}
-use Rattle.type_terms.proofs.ProofEntries.{map-in}
-use Rattle.term_folds.specs.declared.predicate.TraitRef.{TraitRef}
-use Rattle.declarations.specs.Items.{Items, HeldImpl, declared, written, impl_in, reference_in}
-use Rattle.declarations.specs.Merges.{Rises}
-use Rattle.declarations.specs.Relevant.{is_above, is_match, matches_in, next_above}
-use Rattle.overlap_check.proofs.Written.{each-in}
+use Rattle.sessions.specs.TypeTerms.Promised.Erased.{erased_reference, erased_impl}
+use Rattle.sessions.specs.TypeTerms.Promised.Proofs.{In}
+use Rattle.sessions.specs.TypeTerms.Promised.Handles.{Entry}
+use Rattle.sessions.specs.TypeTerms.Promised.Worlds.{World, Reference, ImplDecl}
+use Rattle.sessions.specs.TypeTerms.declared.ImplId.{ImplId}
+use Rattle.sessions.proofs.TypeTerms.Members.{in-cases, in-nothing, in-map}
+use Rattle.sessions.proofs.TypeTerms.ProofEntries.{map-in}
+use Rattle.sessions.specs.TermFolds.declared.predicate.TraitRef.{TraitRef}
+use Rattle.sessions.specs.Declarations.Items.{Items, HeldImpl, declared, written, impl_in, reference_in}
+use Rattle.sessions.specs.Declarations.Merges.{Rises}
+use Rattle.sessions.specs.Declarations.Relevant.{is_above, is_match, matches_in, next_above}
+use Rattle.sessions.proofs.OverlapCheck.Written.{each-in}
 use Rattle.explain_sessions.specs.Rules.{HasNoImpl, HasNoRuleBy, HasNoRuleByImpl, begins_known}
 use Rattle.explain_sessions.proofs.Unmatched.{HasInstance, no-match}
-use Rattle.type_terms.proofs.BooleanBasics.{no-both as not-both}
+use Rattle.sessions.proofs.TypeTerms.BooleanBasics.{no-both as not-both}
 
 module _ (last : Option ImplId) where
   abbrev next : List ImplDecl → Option ℕ

@@ -3,33 +3,33 @@ use Rattle.std.proofs.Common.{◌≡◌, ◌≤◌, ◌+◌, arith, ℕ, zero, s
 use Rattle.std.proofs.lemmas.Bool.Decides.{nat_tests}
 use Rattle.std.specs.Prelude.{IfOk, nat_lt, ltb}
 use Rattle.std.specs.List.{slice_get}
-use Rattle.type_terms.specs.Promised.Label.{Label, Sort, of_type, of_const, of_lifetime, param, placeholder, infer, canonical, bound}
-use Rattle.type_terms.specs.Promised.Trees.{Trees, none, tree, erase, erase_label, some_node}
-use Rattle.type_terms.specs.Promised.Handles.{Entry, Keeps, trees_at}
-use Rattle.type_terms.specs.Promised.Worlds.{World, Reference}
-use Rattle.term_folds.specs.declared.predicate.TraitRef.{TraitRef}
-use Rattle.declarations.specs.Held.{ReferenceHeld}
-use Rattle.declarations.specs.Items.{reference_in}
-use Rattle.declarations.specs.Promised.Elaboration.{Each}
-use Rattle.infer_table.specs.Canonical.{HasNoCanonical, canonical_form}
-use Rattle.infer_table.specs.Content.{Table, Ready, content, variables_of}
-use Rattle.infer_table.specs.Covers.{AreKnown, IsOfKnown}
-use Rattle.infer_table.specs.Solutions.{Binding, resolved}
-use Rattle.infer_table.proofs.Covers.{known-empty}
-use Rattle.solver_graph.specs.declared.context.SolverCx.{SolverCx}
-use Rattle.solver_graph.specs.Contexts.{entries_of}
-use Rattle.candidate_assembly.specs.declared.solver.Solver.{Solver}
-use Rattle.candidate_assembly.specs.Solving.{meaning_for}
-use Rattle.candidate_assembly.specs.SolverMeaning.{solver_by_view}
-use Rattle.type_terms.specs.Promised.Erased.{erased_world}
-use Rattle.goal_frames.specs.Handlers.{same_answer, applies_always}
-use Rattle.overlap_check.specs.Goals.{repeated, unknown_kinds}
-use Rattle.overlap_check.specs.Headers.{IsOfTable, resolved_reference}
-use Rattle.type_terms.specs.Promised.Questions.{IsRefuted}
-use Rattle.proof_checker.specs.Steps.{term_of}
-use Rattle.proof_checker.proofs.Later.{term-same}
-use Rattle.text_language.specs.Promised.Declarations.{Declarations}
-use Rattle.view_lowering.specs.QuestionVariables.{number_of, is_undeclared_variable}
+use Rattle.sessions.specs.TypeTerms.Promised.Label.{Label, Sort, of_type, of_const, of_lifetime, param, placeholder, infer, canonical, bound}
+use Rattle.sessions.specs.TypeTerms.Promised.Trees.{Trees, none, tree, erase, erase_label, some_node}
+use Rattle.sessions.specs.TypeTerms.Promised.Handles.{Entry, Keeps, trees_at}
+use Rattle.sessions.specs.TypeTerms.Promised.Worlds.{World, Reference}
+use Rattle.sessions.specs.TermFolds.declared.predicate.TraitRef.{TraitRef}
+use Rattle.sessions.specs.Declarations.Held.{ReferenceHeld}
+use Rattle.sessions.specs.Declarations.Items.{reference_in}
+use Rattle.sessions.specs.Declarations.Promised.Elaboration.{Each}
+use Rattle.sessions.specs.InferTable.Canonical.{HasNoCanonical, canonical_form}
+use Rattle.sessions.specs.InferTable.Content.{Table, Ready, content, variables_of}
+use Rattle.sessions.specs.InferTable.Covers.{AreKnown, IsOfKnown}
+use Rattle.sessions.specs.InferTable.Solutions.{Binding, resolved}
+use Rattle.sessions.proofs.InferTable.Covers.{known-empty}
+use Rattle.sessions.specs.SolverGraph.declared.context.SolverCx.{SolverCx}
+use Rattle.sessions.specs.SolverGraph.Contexts.{entries_of}
+use Rattle.sessions.specs.CandidateAssembly.declared.solver.Solver.{Solver}
+use Rattle.sessions.specs.CandidateAssembly.Solving.{meaning_for}
+use Rattle.sessions.specs.CandidateAssembly.SolverMeaning.{solver_by_view}
+use Rattle.sessions.specs.TypeTerms.Promised.Erased.{erased_world}
+use Rattle.sessions.specs.GoalFrames.Handlers.{same_answer, applies_always}
+use Rattle.sessions.specs.OverlapCheck.Goals.{repeated, unknown_kinds}
+use Rattle.sessions.specs.OverlapCheck.Headers.{IsOfTable, resolved_reference}
+use Rattle.sessions.specs.TypeTerms.Promised.Questions.{IsRefuted}
+use Rattle.sessions.specs.ProofChecker.Steps.{term_of}
+use Rattle.sessions.proofs.ProofChecker.Later.{term-same}
+use Rattle.sessions.specs.TextLanguage.Promised.Declarations.{Declarations}
+use Rattle.sessions.specs.ViewLowering.QuestionVariables.{number_of, is_undeclared_variable}
 use Rattle.sessions.specs.Checking.{solving_in}
 use Rattle.sessions.specs.Impossible.{IsImpossible, resolved_alone}
 use Rattle.sessions.specs.Promised.Promises.{view_in}

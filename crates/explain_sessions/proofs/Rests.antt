@@ -1,17 +1,17 @@
 -- What walks keep, one call after the other.
 use Rattle.std.proofs.Common.{◌≡◌, ◌∙◌, ap, refl, ℕ}
-use Rattle.search_graph.specs.SearchState.{SearchState}
-use Rattle.declarations.specs.Items.{declared}
-use Rattle.declarations.proofs.Growth.{all-declared}
-use Rattle.goal_frames.specs.Stores.{limit_of}
-use Rattle.solver_graph.specs.Contexts.{entries_of, InternerGrows}
-use Rattle.solver_graph.specs.Searching.{solver_meaning, of_limits}
-use Rattle.solver_graph.specs.declared.context.SolverCx.{SolverCx}
-use Rattle.solver_graph.proofs.Caches.{justified-later}
-use Rattle.solver_graph.proofs.Growing.{further, keeps, later}
-use Rattle.candidate_assembly.specs.SolverLaws.{solver-laws}
-use Rattle.candidate_assembly.specs.SolverMeaning.{solver_by_view}
-use Rattle.candidate_assembly.specs.declared.solver.Solver.{Solver}
+use Rattle.sessions.specs.SearchGraph.SearchState.{SearchState}
+use Rattle.sessions.specs.Declarations.Items.{declared}
+use Rattle.sessions.proofs.Declarations.Growth.{all-declared}
+use Rattle.sessions.specs.GoalFrames.Stores.{limit_of}
+use Rattle.sessions.specs.SolverGraph.Contexts.{entries_of, InternerGrows}
+use Rattle.sessions.specs.SolverGraph.Searching.{solver_meaning, of_limits}
+use Rattle.sessions.specs.SolverGraph.declared.context.SolverCx.{SolverCx}
+use Rattle.sessions.proofs.SolverGraph.Caches.{justified-later}
+use Rattle.sessions.proofs.SolverGraph.Growing.{further, keeps, later}
+use Rattle.sessions.specs.CandidateAssembly.SolverLaws.{solver-laws}
+use Rattle.sessions.specs.CandidateAssembly.SolverMeaning.{solver_by_view}
+use Rattle.sessions.specs.CandidateAssembly.declared.solver.Solver.{Solver}
 use Rattle.explain_traces.specs.Walking.{WalkIsAskable, WalkHasAsked}
 use Rattle.sessions.specs.Checking.{rules_in}
 use Rattle.sessions.specs.Proving.{SolverAdvances, SolverIsReady}

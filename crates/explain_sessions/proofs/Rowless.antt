@@ -1,22 +1,22 @@
 -- References that no built-in row concludes, whatever their unknowns stand for.
 use Rattle.std.proofs.Common.{◌≡◌, ◌==◌, ◌++◌, ℕ, Bool, true, false, ◌||◌, List, [], Some, None, refl, sym, ap, ◌∙◌, subst, if◌then◌else◌}
-use Rattle.type_terms.specs.Promised.Label.{Label, tuple, fn_ptr, dynamic, infer}
-use Rattle.type_terms.specs.Promised.Trees.{Trees, none, tree, erase, erase_label}
-use Rattle.type_terms.specs.Promised.Rules.{Rule, sized, copy, clone, tuple_trait, fn_ptr_trait, is_fn_trait, unsize, is_auto, copy_rules, tuple_rules, fn_ptr_rules, call_rules, sized_rules, auto_rules, unsize_rules, object_rules, built_in_rules}
-use Rattle.type_terms.specs.Promised.Handles.{Entry, trees_at}
-use Rattle.type_terms.specs.Promised.Worlds.{World, Reference, CrateDecl}
-use Rattle.type_terms.proofs.Members.{same-number}
-use Rattle.term_folds.specs.declared.predicate.TraitRef.{TraitRef}
-use Rattle.type_terms.proofs.Made.{false-true}
-use Rattle.infer_table.specs.Solutions.{Assignment, instance}
-use Rattle.infer_table.proofs.SolutionLaws.{instance-erase}
-use Rattle.declarations.specs.Heads.{head_of, label_of, is_rigid}
-use Rattle.declarations.specs.Items.{Items, declared, written}
-use Rattle.declarations.specs.declared.simplify.SimplifiedType.{SimplifiedType}
-use Rattle.candidate_assembly.proofs.Knowing.{traits-erased}
-use Rattle.proof_checker.specs.Steps.{term_of}
+use Rattle.sessions.specs.TypeTerms.Promised.Label.{Label, tuple, fn_ptr, dynamic, infer}
+use Rattle.sessions.specs.TypeTerms.Promised.Trees.{Trees, none, tree, erase, erase_label}
+use Rattle.sessions.specs.TypeTerms.Promised.Rules.{Rule, sized, copy, clone, tuple_trait, fn_ptr_trait, is_fn_trait, unsize, is_auto, copy_rules, tuple_rules, fn_ptr_rules, call_rules, sized_rules, auto_rules, unsize_rules, object_rules, built_in_rules}
+use Rattle.sessions.specs.TypeTerms.Promised.Handles.{Entry, trees_at}
+use Rattle.sessions.specs.TypeTerms.Promised.Worlds.{World, Reference, CrateDecl}
+use Rattle.sessions.proofs.TypeTerms.Members.{same-number}
+use Rattle.sessions.specs.TermFolds.declared.predicate.TraitRef.{TraitRef}
+use Rattle.sessions.proofs.TypeTerms.Made.{false-true}
+use Rattle.sessions.specs.InferTable.Solutions.{Assignment, instance}
+use Rattle.sessions.proofs.InferTable.SolutionLaws.{instance-erase}
+use Rattle.sessions.specs.Declarations.Heads.{head_of, label_of, is_rigid}
+use Rattle.sessions.specs.Declarations.Items.{Items, declared, written}
+use Rattle.sessions.specs.Declarations.declared.simplify.SimplifiedType.{SimplifiedType}
+use Rattle.sessions.proofs.CandidateAssembly.Knowing.{traits-erased}
+use Rattle.sessions.specs.ProofChecker.Steps.{term_of}
 use Rattle.explain_sessions.specs.Rules.{HasNoRow, is_bare}
-use Rattle.type_terms.proofs.TypeBasics.{some-not-none}
+use Rattle.sessions.proofs.TypeTerms.TypeBasics.{some-not-none}
 
 -- ---- by the label of the self type
 bare-copy : (t : ℕ) (l : Label) (c o : Trees) → is_bare l ≡ true → copy_rules t (tree l c o) ≡ []

@@ -1,27 +1,27 @@
 -- Candidates that are rules, while the interner grows.
 use Rattle.std.proofs.Common.{◌≡◌, ◌+◌, ℕ, zero, suc, Bool, true, false, if◌then◌else◌, List, [], ◌∷◌, ◌++◌, take, refl, sym, subst, Some, arith}
 use Rattle.std.specs.List.{AllZip, slice_get}
-use Rattle.type_terms.specs.Promised.Rules.{by_impl}
-use Rattle.type_terms.specs.Promised.Rules as rule
-use Rattle.type_terms.specs.Promised.Proofs.{In}
-use Rattle.type_terms.specs.Promised.Handles.{Entry, Keeps}
-use Rattle.type_terms.specs.Promised.Worlds.{World, Reference, CrateDecl}
-use Rattle.term_folds.specs.declared.predicate.TraitRef.{TraitRef}
-use Rattle.declarations.specs.Applied.{TraitRefsHeld}
-use Rattle.declarations.specs.Held.{ReferenceHeld}
-use Rattle.declarations.specs.Promised.Elaboration.{Each}
-use Rattle.goal_evaluator.specs.declared.candidate.CandidateSource.{CandidateSource}
+use Rattle.sessions.specs.TypeTerms.Promised.Rules.{by_impl}
+use Rattle.sessions.specs.TypeTerms.Promised.Rules as rule
+use Rattle.sessions.specs.TypeTerms.Promised.Proofs.{In}
+use Rattle.sessions.specs.TypeTerms.Promised.Handles.{Entry, Keeps}
+use Rattle.sessions.specs.TypeTerms.Promised.Worlds.{World, Reference, CrateDecl}
+use Rattle.sessions.specs.TermFolds.declared.predicate.TraitRef.{TraitRef}
+use Rattle.sessions.specs.Declarations.Applied.{TraitRefsHeld}
+use Rattle.sessions.specs.Declarations.Held.{ReferenceHeld}
+use Rattle.sessions.specs.Declarations.Promised.Elaboration.{Each}
+use Rattle.sessions.specs.GoalEvaluator.declared.candidate.CandidateSource.{CandidateSource}
 use Rattle.explain_traces.specs.Walking.{ReferencesHeld}
 use Rattle.explain_traces.specs.declared.nodes.CandidateNode.{CandidateNode}
 use Rattle.explain_traces.specs.declared.nodes.GoalWalk.{GoalWalk}
-use Rattle.proof_checker.specs.Checked.{IsConcludedFrom}
-use Rattle.proof_checker.specs.Steps.{term_of, terms_of}
-use Rattle.proof_checker.proofs.Later.{term-same, terms-same}
+use Rattle.sessions.specs.ProofChecker.Checked.{IsConcludedFrom}
+use Rattle.sessions.specs.ProofChecker.Steps.{term_of, terms_of}
+use Rattle.sessions.proofs.ProofChecker.Later.{term-same, terms-same}
 use Rattle.sessions.proofs.ProofsAside.{rules-aside}
 use Rattle.explain_sessions.specs.Rules.{AreChecked, Concludes, IsRuleCandidate, IsRuleAt, MayApplyAt, MayHaveRule, HasRulesByBoth}
 use Rattle.explain_sessions.specs.declared.walks.CheckedCandidates.{CheckedCandidates}
 use Rattle.explain_sessions.proofs.ShownSteps.{every-there}
-use Rattle.declarations.proofs.Basics.{each-push as each-put}
+use Rattle.sessions.proofs.Declarations.Basics.{each-push as each-put}
 
 -- one more item stands beside its own
 pub zip-push : {A B : Type 0} (R : A → B → Type 0) (xs : List A) (i j : ℕ) (x : A) (ys : List B) (y : B) → j ≡ i + 1 → AllZip R (take i xs) ys → slice_get xs i ≡ Some x → R x y → AllZip R (take j xs) (ys ++ y ∷ [])

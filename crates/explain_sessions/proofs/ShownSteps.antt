@@ -1,13 +1,13 @@
 -- Steps of a proof, and how they are shown.
 use Rattle.std.proofs.Common.{◌≡◌, ◌+◌, ℕ, zero, suc, List, [], ◌∷◌, ◌++◌, take, sym, subst, Some, arith}
 use Rattle.std.specs.List.{slice_get}
-use Rattle.type_terms.specs.Promised.Handles.{Entry}
-use Rattle.declarations.specs.Promised.Elaboration.{Each}
-use Rattle.goal_evaluator.specs.Lists.{Every}
-use Rattle.term_folds.specs.declared.predicate.TraitRef.{TraitRef}
-use Rattle.proof_checker.specs.Steps.{StepHeld}
-use Rattle.proof_checker.specs.declared.steps.Step.{Step}
-use Rattle.proof_checker.proofs.Places.{each-at}
+use Rattle.sessions.specs.TypeTerms.Promised.Handles.{Entry}
+use Rattle.sessions.specs.Declarations.Promised.Elaboration.{Each}
+use Rattle.sessions.specs.GoalEvaluator.Lists.{Every}
+use Rattle.sessions.specs.TermFolds.declared.predicate.TraitRef.{TraitRef}
+use Rattle.sessions.specs.ProofChecker.Steps.{StepHeld}
+use Rattle.sessions.specs.ProofChecker.declared.steps.Step.{Step}
+use Rattle.sessions.proofs.ProofChecker.Places.{each-at}
 use Rattle.explain_sessions.specs.Shown.{StepIsShown, StepsAreShown}
 use Rattle.explain_sessions.specs.declared.walks.ShownStep.{ShownStep}
 

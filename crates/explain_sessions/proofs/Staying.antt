@@ -1,11 +1,11 @@
 -- Sessions that walks leave as they were.
 use Rattle.std.proofs.Common.{◌≡◌, ◌∙◌, ℕ, refl, subst, length}
-use Rattle.type_terms.specs.Promised.Handles.{Keeps}
-use Rattle.goal_frames.specs.Stores.{kept_inputs, kept_responses}
-use Rattle.search_graph.specs.SearchState.{SearchState}
-use Rattle.solver_graph.specs.declared.context.SolverCx.{SolverCx}
-use Rattle.candidate_assembly.specs.declared.solver.Solver.{Solver}
-use Rattle.text_language.specs.Promised.Declarations.{Declarations}
+use Rattle.sessions.specs.TypeTerms.Promised.Handles.{Keeps}
+use Rattle.sessions.specs.GoalFrames.Stores.{kept_inputs, kept_responses}
+use Rattle.sessions.specs.SearchGraph.SearchState.{SearchState}
+use Rattle.sessions.specs.SolverGraph.declared.context.SolverCx.{SolverCx}
+use Rattle.sessions.specs.CandidateAssembly.declared.solver.Solver.{Solver}
+use Rattle.sessions.specs.TextLanguage.Promised.Declarations.{Declarations}
 use Rattle.sessions.specs.Resting.{Cached}
 use Rattle.sessions.specs.Sessions.{IsSessionWithin}
 use Rattle.sessions.specs.Promised.Subjects.{Subject, StaysOn}

@@ -1,35 +1,35 @@
 -- An impl that cannot match a reference has no rule for any instance of it.
 use Rattle.std.proofs.Common.{◌≡◌, ◌==◌, ℕ, zero, true, false, not, List, [], ◌∷◌, Some, refl, sym, ap, ◌∙◌, subst, ◌⊎◌, inl, inr}
-use Rattle.type_terms.specs.Promised.Label.{Label, Sort, of_type, of_const, of_lifetime, param, placeholder, infer, canonical, bound}
-use Rattle.type_terms.specs.Promised.Trees.{Trees, none, tree, ◌+++◌, IsA, Fits, erase, erase_label, instantiate}
-use Rattle.type_terms.specs.Trees.{flags, label_flags}
-use Rattle.type_terms.specs.Codes.{same_label}
-use Rattle.type_terms.specs.Promised.Rules.{by_impl, impl_rules}
-use Rattle.type_terms.specs.Promised.Handles.{Entry, Has, Is, trees_at, types}
-use Rattle.type_terms.specs.Terms.{Lawful, args_lists}
-use Rattle.type_terms.specs.Promised.Handles.{ArgHeld, ArgsHeld, arg_trees}
-use Rattle.type_terms.specs.Kinds.{args_trees}
-use Rattle.type_terms.specs.declared.kinds.Ty.{Ty}
-use Rattle.type_terms.specs.declared.kinds.GenericArgKind.{GenericArgKind}
-use Rattle.type_terms.specs.declared.kinds.GenericArgKind.TheVariants.{Ty as AType}
-use Rattle.term_folds.specs.Signatures.{StartsWithType}
+use Rattle.sessions.specs.TypeTerms.Promised.Label.{Label, Sort, of_type, of_const, of_lifetime, param, placeholder, infer, canonical, bound}
+use Rattle.sessions.specs.TypeTerms.Promised.Trees.{Trees, none, tree, ◌+++◌, IsA, Fits, erase, erase_label, instantiate}
+use Rattle.sessions.specs.TypeTerms.Trees.{flags, label_flags}
+use Rattle.sessions.specs.TypeTerms.Codes.{same_label}
+use Rattle.sessions.specs.TypeTerms.Promised.Rules.{by_impl, impl_rules}
+use Rattle.sessions.specs.TypeTerms.Promised.Handles.{Entry, Has, Is, trees_at, types}
+use Rattle.sessions.specs.TypeTerms.Terms.{Lawful, args_lists}
+use Rattle.sessions.specs.TypeTerms.Promised.Handles.{ArgHeld, ArgsHeld, arg_trees}
+use Rattle.sessions.specs.TypeTerms.Kinds.{args_trees}
+use Rattle.sessions.specs.TypeTerms.declared.kinds.Ty.{Ty}
+use Rattle.sessions.specs.TypeTerms.declared.kinds.GenericArgKind.{GenericArgKind}
+use Rattle.sessions.specs.TypeTerms.declared.kinds.GenericArgKind.TheVariants.{Ty as AType}
+use Rattle.sessions.specs.TermFolds.Signatures.{StartsWithType}
 use Rattle.std.specs.List.{slice_get}
-use Rattle.type_terms.specs.Promised.ReadByLaws.{ImplRulesAreInstances}
-use Rattle.type_terms.specs.Promised.Worlds.{Reference, ImplDecl, with_args, all_with_args}
-use Rattle.type_terms.specs.Promised.Erased.{erased_reference, erased_impl}
-use Rattle.type_terms.proofs.Applies.{same-complete, same-label-itself}
-use Rattle.type_terms.proofs.Made.{false-true}
-use Rattle.type_terms.proofs.Members.{self-number}
-use Rattle.type_terms.proofs.Walking.{both}
-use Rattle.declarations.specs.Apart.{levels, are_apart}
-use Rattle.declarations.specs.Heads.{head_of}
-use Rattle.declarations.specs.Relevant.{is_relevant_to, is_match}
-use Rattle.declarations.proofs.Fixed.{no-flags, top, child, next, fixed-label, fixed-erased, fixed-instance}
-use Rattle.declarations.proofs.MeetingLaws.{Reads, ReadNode, erased-again, instantiate-reads, meet, not-apart}
-use Rattle.infer_table.specs.Solutions.{Assignment, instance}
-use Rattle.overlap_check.proofs.Tops.{erased-reads}
+use Rattle.sessions.specs.TypeTerms.Promised.ReadByLaws.{ImplRulesAreInstances}
+use Rattle.sessions.specs.TypeTerms.Promised.Worlds.{Reference, ImplDecl, with_args, all_with_args}
+use Rattle.sessions.specs.TypeTerms.Promised.Erased.{erased_reference, erased_impl}
+use Rattle.sessions.proofs.TypeTerms.Applies.{same-complete, same-label-itself}
+use Rattle.sessions.proofs.TypeTerms.Made.{false-true}
+use Rattle.sessions.proofs.TypeTerms.Members.{self-number}
+use Rattle.sessions.proofs.TypeTerms.Walking.{both}
+use Rattle.sessions.specs.Declarations.Apart.{levels, are_apart}
+use Rattle.sessions.specs.Declarations.Heads.{head_of}
+use Rattle.sessions.specs.Declarations.Relevant.{is_relevant_to, is_match}
+use Rattle.sessions.proofs.Declarations.Fixed.{no-flags, top, child, next, fixed-label, fixed-erased, fixed-instance}
+use Rattle.sessions.proofs.Declarations.MeetingLaws.{Reads, ReadNode, erased-again, instantiate-reads, meet, not-apart}
+use Rattle.sessions.specs.InferTable.Solutions.{Assignment, instance}
+use Rattle.sessions.proofs.OverlapCheck.Tops.{erased-reads}
 use Rattle.explain_sessions.specs.Rules.{HasNoRuleBy, assigned, begins_known}
-use Rattle.type_terms.proofs.TermBasics.{three, type-is, trees-of as at-is}
+use Rattle.sessions.proofs.TypeTerms.TermBasics.{three, type-is, trees-of as at-is}
 
 -- ---- what is apart
 -- an unknown is a variable of types, constants or lifetimes

@@ -1,17 +1,17 @@
 -- What the walks tell of crates that are not seen.
 use Rattle.std.proofs.Common.{◌≡◌, ◌<◌, ◌∙◌, ℕ, ap, subst, arith, List, [], Some, None, Result, Ok, Err}
-use Rattle.type_terms.specs.Promised.Handles.{Entry, trees_at}
-use Rattle.type_terms.specs.Trees.{depth}
-use Rattle.type_terms.specs.Promised.Worlds.{World, Reference}
-use Rattle.term_folds.specs.declared.predicate.TraitRef.{TraitRef}
-use Rattle.infer_table.specs.Content.{Table, content}
-use Rattle.infer_table.specs.Solutions.{resolved}
-use Rattle.declarations.specs.Items.{reference_in}
-use Rattle.orphan_check.specs.Exact.{reference_read, WalkTellsKnown}
-use Rattle.orphan_check.specs.declared.errors.Conflict.{Conflict}
-use Rattle.orphan_check.specs.declared.errors.Conflict.TheVariants.{Upstream, Downstream}
-use Rattle.orphan_check.specs.declared.errors.WalkError.{WalkError}
-use Rattle.orphan_check.specs.declared.errors.WalkError.TheVariants.{Deep}
+use Rattle.sessions.specs.TypeTerms.Promised.Handles.{Entry, trees_at}
+use Rattle.sessions.specs.TypeTerms.Trees.{depth}
+use Rattle.sessions.specs.TypeTerms.Promised.Worlds.{World, Reference}
+use Rattle.sessions.specs.TermFolds.declared.predicate.TraitRef.{TraitRef}
+use Rattle.sessions.specs.InferTable.Content.{Table, content}
+use Rattle.sessions.specs.InferTable.Solutions.{resolved}
+use Rattle.sessions.specs.Declarations.Items.{reference_in}
+use Rattle.sessions.specs.OrphanCheck.Exact.{reference_read, WalkTellsKnown}
+use Rattle.sessions.specs.OrphanCheck.declared.errors.Conflict.{Conflict}
+use Rattle.sessions.specs.OrphanCheck.declared.errors.Conflict.TheVariants.{Upstream, Downstream}
+use Rattle.sessions.specs.OrphanCheck.declared.errors.WalkError.{WalkError}
+use Rattle.sessions.specs.OrphanCheck.declared.errors.WalkError.TheVariants.{Deep}
 use Rattle.explain_sessions.specs.Unseen.{IsUnseen}
 
 -- no variable has a value in an empty table

@@ -1,11 +1,11 @@
 -- Who may write an impl that is not seen, so that its line has no fault of its trait, and keeps the orphan rule of its crate.
 use Rattle.std.specs.Prelude.{◌≡◌, ℕ, Bool, true, false, not, ◌&&◌, ◌==◌}
 use Rattle.std.specs.List.{list_any}
-use Rattle.type_terms.specs.Promised.Rules.{is_auto}
-use Rattle.type_terms.specs.Promised.Walks.{keeps_orphan_rule}
-use Rattle.type_terms.specs.Promised.Worlds.{World, Reference}
-use Rattle.text_language.specs.Promised.Faults.{built_in_traits}
-use Rattle.orphan_check.specs.Knowing.{meets_open}
+use Rattle.sessions.specs.TypeTerms.Promised.Rules.{is_auto}
+use Rattle.sessions.specs.TypeTerms.Promised.Walks.{keeps_orphan_rule}
+use Rattle.sessions.specs.TypeTerms.Promised.Worlds.{World, Reference}
+use Rattle.sessions.specs.TextLanguage.Promised.Faults.{built_in_traits}
+use Rattle.sessions.specs.OrphanCheck.Knowing.{meets_open}
 use Rattle.explain_sessions.specs.declared.adding.Adder.{Adder}
 use Rattle.explain_sessions.specs.declared.adding.Adder.TheVariants.{User, Owner}
 

@@ -1,8 +1,8 @@
 -- Why a later version of a crate may not add an impl.
 use Rattle.std.specs.Prelude.{◌≡◌, ◌-◌, ℕ, true, false, ◌||◌, List, Option, Some, None, slice_get}
-use Rattle.type_terms.specs.Promised.Versions.{is_addable, open_walk_meets_param}
-use Rattle.type_terms.specs.Promised.Walks.{keeps_orphan_rule, trait_is}
-use Rattle.type_terms.specs.Promised.Worlds.{World, Reference}
+use Rattle.sessions.specs.TypeTerms.Promised.Versions.{is_addable, open_walk_meets_param}
+use Rattle.sessions.specs.TypeTerms.Promised.Walks.{keeps_orphan_rule, trait_is}
+use Rattle.sessions.specs.TypeTerms.Promised.Worlds.{World, Reference}
 use Rattle.explain_sessions.specs.declared.breaking.BreakingCause.{BreakingCause}
 use Rattle.explain_sessions.specs.declared.breaking.BreakingCause.TheVariants.{Orphan, ReliedOn, OpenWalk}
 

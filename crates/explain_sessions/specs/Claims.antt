@@ -1,12 +1,12 @@
 -- What is claimed of a trace: all that is stated of its goals and candidates as checked.
 use Rattle.std.specs.Prelude.{◌≡◌, ℕ, true, List, Option, Some}
 use Rattle.std.specs.List.{slice_get}
-use Rattle.type_terms.specs.Promised.Handles.{Entry}
-use Rattle.type_terms.specs.Promised.Worlds.{World}
-use Rattle.term_folds.specs.declared.predicate.TraitRef.{TraitRef}
-use Rattle.declarations.specs.Items.{reference_in}
-use Rattle.declarations.specs.Promised.Elaboration.{Each}
-use Rattle.orphan_check.specs.declared.errors.Conflict.{Conflict}
+use Rattle.sessions.specs.TypeTerms.Promised.Handles.{Entry}
+use Rattle.sessions.specs.TypeTerms.Promised.Worlds.{World}
+use Rattle.sessions.specs.TermFolds.declared.predicate.TraitRef.{TraitRef}
+use Rattle.sessions.specs.Declarations.Items.{reference_in}
+use Rattle.sessions.specs.Declarations.Promised.Elaboration.{Each}
+use Rattle.sessions.specs.OrphanCheck.declared.errors.Conflict.{Conflict}
 use Rattle.explain_traces.specs.declared.nodes.GoalWalk.{GoalWalk}
 use Rattle.sessions.specs.Promised.Promises.{view_in}
 use Rattle.sessions.specs.Promised.Subjects.{Subject}

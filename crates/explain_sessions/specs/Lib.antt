@@ -7,3 +7,11 @@ pub mod Shown
 pub mod Unknowns
 pub mod Unseen
 pub mod Walked
+-- The crates below whose names the crates above need too: these list this crate alone.
+pub use Rattle.explain_traces.specs as ExplainTraces
+pub use Rattle.sessions.specs as Sessions
+pub use Rattle.sessions.specs.OrphanCheck
+pub use Rattle.sessions.specs.ProofChecker
+pub use Rattle.sessions.specs.TextLanguage
+pub use Rattle.sessions.specs.TypeTerms
+pub use Rattle.sessions.specs.Workspace

@@ -1,15 +1,15 @@
 -- Which goals have a proof by what a crate sees, and which have none in any linked set with it.
 use Rattle.std.specs.Prelude.{◌≡◌, ℕ, false, List, [], Some}
 use Rattle.std.specs.List.{slice_get}
-use Rattle.type_terms.specs.Promised.Label.{Sort}
-use Rattle.type_terms.specs.Promised.Trees.{some_node}
-use Rattle.type_terms.specs.Promised.Proofs.{HasProof}
-use Rattle.type_terms.specs.Promised.Handles.{Entry}
-use Rattle.type_terms.specs.Promised.Worlds.{World, Reference}
-use Rattle.term_folds.specs.declared.predicate.TraitRef.{TraitRef}
-use Rattle.view_lowering.specs.QuestionVariables.{is_undeclared_variable}
-use Rattle.type_terms.specs.Promised.Questions.{IsRefuted}
-use Rattle.proof_checker.specs.Steps.{term_of}
+use Rattle.sessions.specs.TypeTerms.Promised.Label.{Sort}
+use Rattle.sessions.specs.TypeTerms.Promised.Trees.{some_node}
+use Rattle.sessions.specs.TypeTerms.Promised.Proofs.{HasProof}
+use Rattle.sessions.specs.TypeTerms.Promised.Handles.{Entry}
+use Rattle.sessions.specs.TypeTerms.Promised.Worlds.{World, Reference}
+use Rattle.sessions.specs.TermFolds.declared.predicate.TraitRef.{TraitRef}
+use Rattle.sessions.specs.ViewLowering.QuestionVariables.{is_undeclared_variable}
+use Rattle.sessions.specs.TypeTerms.Promised.Questions.{IsRefuted}
+use Rattle.sessions.specs.ProofChecker.Steps.{term_of}
 
 -- It is refused like a query with the answer `no`. It holds no parameter that is a type or a constant, and no inference variable but those
 -- of these kinds. Whatever they stand for, it has no proof in a linked set with crate c, whose view is V.

@@ -2,23 +2,23 @@
 -- common.
 use Rattle.std.specs.Prelude.{◌≡◌, ℕ, Bool, true, false, List, [], Some}
 use Rattle.std.specs.List.{AllZip, slice_get}
-use Rattle.type_terms.specs.Promised.Label.{Label, tuple, fn_ptr, dynamic, infer}
-use Rattle.type_terms.specs.Promised.Trees.{Trees, none, tree}
-use Rattle.type_terms.specs.Promised.Proofs.{In}
-use Rattle.type_terms.specs.Promised.Rules.{Way, BuiltIn, by_impl, built_in, built_in_rules, impl_rules}
-use Rattle.type_terms.specs.Promised.Handles.{Entry}
-use Rattle.type_terms.specs.Promised.Worlds.{World, Reference, ImplDecl}
-use Rattle.type_terms.specs.declared.ImplId.{ImplId}
-use Rattle.term_folds.specs.declared.predicate.TraitRef.{TraitRef}
-use Rattle.infer_table.specs.Solutions.{Assignment, IsSorted, instance}
-use Rattle.goal_evaluator.specs.declared.candidate.CandidateSource.{CandidateSource}
-use Rattle.goal_evaluator.specs.declared.candidate.CandidateSource.TheVariants.{Impl, BuiltinImpl}
+use Rattle.sessions.specs.TypeTerms.Promised.Label.{Label, tuple, fn_ptr, dynamic, infer}
+use Rattle.sessions.specs.TypeTerms.Promised.Trees.{Trees, none, tree}
+use Rattle.sessions.specs.TypeTerms.Promised.Proofs.{In}
+use Rattle.sessions.specs.TypeTerms.Promised.Rules.{Way, BuiltIn, by_impl, built_in, built_in_rules, impl_rules}
+use Rattle.sessions.specs.TypeTerms.Promised.Handles.{Entry}
+use Rattle.sessions.specs.TypeTerms.Promised.Worlds.{World, Reference, ImplDecl}
+use Rattle.sessions.specs.TypeTerms.declared.ImplId.{ImplId}
+use Rattle.sessions.specs.TermFolds.declared.predicate.TraitRef.{TraitRef}
+use Rattle.sessions.specs.InferTable.Solutions.{Assignment, IsSorted, instance}
+use Rattle.sessions.specs.GoalEvaluator.declared.candidate.CandidateSource.{CandidateSource}
+use Rattle.sessions.specs.GoalEvaluator.declared.candidate.CandidateSource.TheVariants.{Impl, BuiltinImpl}
 use Rattle.explain_traces.specs.declared.nodes.CandidateNode.{CandidateNode}
 use Rattle.explain_traces.specs.declared.nodes.Node.{Node}
 use Rattle.explain_traces.specs.declared.nodes.GoalWalk.{GoalWalk}
-use Rattle.declarations.specs.Promised.Elaboration.{Each}
-use Rattle.proof_checker.specs.Checked.{IsConcludedFrom}
-use Rattle.proof_checker.specs.Steps.{term_of, terms_of}
+use Rattle.sessions.specs.Declarations.Promised.Elaboration.{Each}
+use Rattle.sessions.specs.ProofChecker.Checked.{IsConcludedFrom}
+use Rattle.sessions.specs.ProofChecker.Steps.{term_of, terms_of}
 use Rattle.explain_sessions.specs.declared.walks.CheckedCandidates.{CheckedCandidates}
 
 -- The source is this rule instance. It does not say which built-in rule it is.

@@ -1,10 +1,10 @@
 -- How the steps of a proof are displayed.
 use Rattle.std.specs.Prelude.{◌≡◌, ℕ, List, [], ◌∷◌, Some}
 use Rattle.std.specs.List.{slice_get}
-use Rattle.term_folds.specs.declared.predicate.TraitRef.{TraitRef}
-use Rattle.proof_checker.specs.declared.steps.Step.{Step}
-use Rattle.proof_checker.specs.declared.steps.Way.{Way}
-use Rattle.proof_checker.specs.declared.steps.Way.TheVariants.{Impl, BuiltIn, Clause, Supertrait, Assumed}
+use Rattle.sessions.specs.TermFolds.declared.predicate.TraitRef.{TraitRef}
+use Rattle.sessions.specs.ProofChecker.declared.steps.Step.{Step}
+use Rattle.sessions.specs.ProofChecker.declared.steps.Way.{Way}
+use Rattle.sessions.specs.ProofChecker.declared.steps.Way.TheVariants.{Impl, BuiltIn, Clause, Supertrait, Assumed}
 use Rattle.explain_sessions.specs.declared.walks.ProofWalk.{ProofWalk}
 use Rattle.explain_sessions.specs.declared.walks.ShownStep.{ShownStep}
 

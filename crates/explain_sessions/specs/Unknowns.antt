@@ -1,11 +1,11 @@
 -- Terms that hold a table's own variables alone.
 use Rattle.std.specs.Prelude.{ℕ, Bool, true, not, nat_lt}
-use Rattle.type_terms.specs.Promised.Label.{Label, Sort, of_type, of_const, of_lifetime, infer, canonical, principal, auto_trait}
-use Rattle.type_terms.specs.Promised.Trees.{Trees, none, tree, erase_label, some_node}
-use Rattle.type_terms.specs.Promised.Answers.{is_open}
-use Rattle.type_terms.specs.Visits.{IsBound}
-use Rattle.type_terms.specs.declared.visit.Seen.TheVariants.{Enter}
-use Rattle.candidate_assembly.specs.Finding.{BreaksAt, at_root}
+use Rattle.sessions.specs.TypeTerms.Promised.Label.{Label, Sort, of_type, of_const, of_lifetime, infer, canonical, principal, auto_trait}
+use Rattle.sessions.specs.TypeTerms.Promised.Trees.{Trees, none, tree, erase_label, some_node}
+use Rattle.sessions.specs.TypeTerms.Promised.Answers.{is_open}
+use Rattle.sessions.specs.TypeTerms.Visits.{IsBound}
+use Rattle.sessions.specs.TypeTerms.declared.visit.Seen.TheVariants.{Enter}
+use Rattle.sessions.specs.CandidateAssembly.Finding.{BreaksAt, at_root}
 use Rattle.explain_sessions.specs.declared.unknowns.FindsOther.{FindsOther}
 
 -- A parameter, placeholder or variable that is no variable with a number below these. Lifetimes that a binder binds or a declaration names

@@ -1,10 +1,10 @@
 -- Which crates outside the view may have an impl for a trait reference.
 use Rattle.std.specs.Prelude.{◌≡◌, ℕ, true, false, Option, Some, None}
-use Rattle.type_terms.specs.Promised.Walks.{is_known_in}
-use Rattle.type_terms.specs.Promised.Worlds.{World, Reference}
-use Rattle.orphan_check.specs.Knowing.{meets_open, is_knowable, is_written_in}
-use Rattle.orphan_check.specs.declared.errors.Conflict.{Conflict}
-use Rattle.orphan_check.specs.declared.errors.Conflict.TheVariants.{Upstream, Downstream}
+use Rattle.sessions.specs.TypeTerms.Promised.Walks.{is_known_in}
+use Rattle.sessions.specs.TypeTerms.Promised.Worlds.{World, Reference}
+use Rattle.sessions.specs.OrphanCheck.Knowing.{meets_open, is_knowable, is_written_in}
+use Rattle.sessions.specs.OrphanCheck.declared.errors.Conflict.{Conflict}
+use Rattle.sessions.specs.OrphanCheck.declared.errors.Conflict.TheVariants.{Upstream, Downstream}
 
 -- None: the trait reference is knowable in crate c of V. Or a crate that uses c: a parameter or variable comes before any type of c. Or a
 -- later version of another crate: no parameter or variable comes first, and the trait reference is not knowable.

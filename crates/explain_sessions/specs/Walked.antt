@@ -1,17 +1,17 @@
 -- What traces of a session preserve, and what they hold.
 use Rattle.std.specs.Prelude.{ℕ, List}
-use Rattle.type_terms.specs.Promised.Handles.{Entry, Has, Keeps}
-use Rattle.type_terms.specs.Terms.{args_lists}
-use Rattle.declarations.specs.Held.{ReferenceHeld}
-use Rattle.declarations.specs.Promised.Elaboration.{Each}
-use Rattle.search_graph.specs.SearchState.{SearchState}
-use Rattle.solver_graph.specs.Contexts.{entries_of, KeepsLimits}
-use Rattle.solver_graph.specs.declared.context.SolverCx.{SolverCx}
-use Rattle.candidate_assembly.specs.declared.solver.Solver.{Solver}
+use Rattle.sessions.specs.TypeTerms.Promised.Handles.{Entry, Has, Keeps}
+use Rattle.sessions.specs.TypeTerms.Terms.{args_lists}
+use Rattle.sessions.specs.Declarations.Held.{ReferenceHeld}
+use Rattle.sessions.specs.Declarations.Promised.Elaboration.{Each}
+use Rattle.sessions.specs.SearchGraph.SearchState.{SearchState}
+use Rattle.sessions.specs.SolverGraph.Contexts.{entries_of, KeepsLimits}
+use Rattle.sessions.specs.SolverGraph.declared.context.SolverCx.{SolverCx}
+use Rattle.sessions.specs.CandidateAssembly.declared.solver.Solver.{Solver}
 use Rattle.explain_traces.specs.Walking.{ReferencesHeld}
 use Rattle.explain_traces.specs.declared.nodes.GoalWalk.{GoalWalk}
-use Rattle.proof_checker.specs.Steps.{StepHeld}
-use Rattle.proof_checker.specs.declared.steps.Step.{Step}
+use Rattle.sessions.specs.ProofChecker.Steps.{StepHeld}
+use Rattle.sessions.specs.ProofChecker.declared.steps.Step.{Step}
 use Rattle.sessions.specs.Proving.{SolvesTheSame}
 use Rattle.sessions.specs.Resting.{Cached}
 use Rattle.sessions.specs.Sessions.{SolverRests}

@@ -2,30 +2,30 @@
 
 ghost use Rattle.std.specs.Prelude.{◌≡◌, ◌==◌, true, false, not, List, Some, IfSome};
 ghost use Rattle.std.specs.List.{list_any};
-ghost use Rattle.text_language.specs.Promised.Faults.{built_in_traits};
-ghost use Rattle.type_terms.specs.Promised.Handles.{Entry};
-ghost use Rattle.type_terms.specs.Promised.Walks.{keeps_orphan_rule, trait_is};
-ghost use Rattle.type_terms.specs.Promised.Worlds.{Reference};
-ghost use Rattle.declarations.specs.Held.{ReferenceHeld};
-ghost use Rattle.declarations.specs.Items.{declared, reference_in};
+ghost use Rattle.sessions.specs.TextLanguage.Promised.Faults.{built_in_traits};
+ghost use Rattle.sessions.specs.TypeTerms.Promised.Handles.{Entry};
+ghost use Rattle.sessions.specs.TypeTerms.Promised.Walks.{keeps_orphan_rule, trait_is};
+ghost use Rattle.sessions.specs.TypeTerms.Promised.Worlds.{Reference};
+ghost use Rattle.sessions.specs.Declarations.Held.{ReferenceHeld};
+ghost use Rattle.sessions.specs.Declarations.Items.{declared, reference_in};
 ghost use Rattle.sessions.specs.Promised.Promises.{view_in};
 ghost use Rattle.explain_sessions.specs.Adding.{MayAdd, may_have_impls};
 ghost use Rattle.explain_sessions.specs.Unseen.{IsUnseen};
 
 use built_in_candidates::built_in_rules::is_auto;
-use declarations::declarations::Declarations;
-use orphan_check::errors::Conflict;
 use sessions::Session;
+use sessions::declarations::declarations::Declarations;
+use sessions::orphan_check::errors::Conflict;
+use sessions::term_folds::predicate::TraitRef;
+use sessions::type_terms::binders::Binders;
+use sessions::type_terms::interner::Interner;
+use sessions::type_terms::kinds::{Const, Ty, TyKind};
+use sessions::type_terms::once::Once;
+use sessions::type_terms::region::Region;
+use sessions::type_terms::visit::{Seen, TypeVisitor, visit_args};
+use sessions::type_terms::{AdtId, CrateId, TraitId};
+use sessions::workspace::Workspace;
 use std::ops::ControlFlow;
-use term_folds::predicate::TraitRef;
-use type_terms::binders::Binders;
-use type_terms::interner::Interner;
-use type_terms::kinds::{Const, Ty, TyKind};
-use type_terms::once::Once;
-use type_terms::region::Region;
-use type_terms::visit::{Seen, TypeVisitor, visit_args};
-use type_terms::{AdtId, CrateId, TraitId};
-use workspace::Workspace;
 
 /// Traits of `core` that have built-in rules alone: `Sized`, `Tuple`, `FnPtr`, `FnOnce`, `FnMut`, `Fn`, `Unsize`.
 const BUILT_IN_TRAITS: [u32; 7] = [0, 3, 4, 5, 6, 7, 8];

@@ -1,9 +1,9 @@
 //! Which goals of a walk hold, asked alone outside coherence.
 
 ghost use Rattle.std.specs.Prelude.{◌≡◌, [], true, IfOk, IfSome};
-ghost use Rattle.type_terms.specs.Promised.Proofs.{HasProof};
-ghost use Rattle.declarations.specs.Held.{ReferenceHeld};
-ghost use Rattle.proof_checker.specs.Steps.{term_of};
+ghost use Rattle.sessions.specs.TypeTerms.Promised.Proofs.{HasProof};
+ghost use Rattle.sessions.specs.Declarations.Held.{ReferenceHeld};
+ghost use Rattle.sessions.specs.ProofChecker.Steps.{term_of};
 ghost use Rattle.sessions.specs.Checking.{rules_in};
 ghost use Rattle.sessions.specs.Promised.Promises.{view_in};
 ghost use Rattle.sessions.specs.Sessions.{SolverRests};
@@ -18,14 +18,14 @@ use crate::steps::with_steps;
 use crate::unknowns::is_of_table;
 use crate::walking::{bare_goal, walk_alone};
 use crate::walks::ProofWalk;
-use candidate_assembly::solver::Solver;
 use explain_traces::GoalWalk;
-use goal_evaluator::TypingMode;
-use search_graph::{GlobalCache, SearchGraph};
 use sessions::Session;
-use solver_graph::{SolverCx, SolverGraph};
-use term_folds::predicate::TraitRef;
-use type_terms::Fault;
+use sessions::candidate_assembly::solver::Solver;
+use sessions::goal_evaluator::TypingMode;
+use sessions::search_graph::{GlobalCache, SearchGraph};
+use sessions::solver_graph::{SolverCx, SolverGraph};
+use sessions::term_folds::predicate::TraitRef;
+use sessions::type_terms::Fault;
 
 /// Walks a reference outside coherence, without where-clauses, and finds the steps of its proof. They are not checked. Of one with other
 /// open places than unknowns, or with too many of these, that is not done.

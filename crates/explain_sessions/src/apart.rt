@@ -2,32 +2,32 @@
 //! `impl<T> Show for (T, T)` is ruled out, though both begin with a tuple of two types.
 
 ghost use Rattle.std.specs.Prelude.{◌≡◌, true, [], IfOk, OnOk};
-ghost use Rattle.type_terms.specs.Promised.Erased.{erased_impl};
-ghost use Rattle.type_terms.specs.Growth.{Grew};
-ghost use Rattle.type_terms.specs.Promised.Handles.{trees_at};
-ghost use Rattle.term_folds.specs.Signatures.{StartsWithType};
-ghost use Rattle.declarations.specs.Held.{ImplHeld, ReferenceHeld};
-ghost use Rattle.declarations.specs.Items.{declared, impl_in};
-ghost use Rattle.infer_table.specs.Content.{Ready, variables_of};
-ghost use Rattle.overlap_check.specs.Written.{IsWrittenWell};
-ghost use Rattle.candidate_assembly.specs.Ready.{AreReadyDeclarations};
-ghost use Rattle.proof_checker.specs.Steps.{term_of};
+ghost use Rattle.sessions.specs.TypeTerms.Promised.Erased.{erased_impl};
+ghost use Rattle.sessions.specs.TypeTerms.Growth.{Grew};
+ghost use Rattle.sessions.specs.TypeTerms.Promised.Handles.{trees_at};
+ghost use Rattle.sessions.specs.TermFolds.Signatures.{StartsWithType};
+ghost use Rattle.sessions.specs.Declarations.Held.{ImplHeld, ReferenceHeld};
+ghost use Rattle.sessions.specs.Declarations.Items.{declared, impl_in};
+ghost use Rattle.sessions.specs.InferTable.Content.{Ready, variables_of};
+ghost use Rattle.sessions.specs.OverlapCheck.Written.{IsWrittenWell};
+ghost use Rattle.sessions.specs.CandidateAssembly.Ready.{AreReadyDeclarations};
+ghost use Rattle.sessions.specs.ProofChecker.Steps.{term_of};
 ghost use Rattle.explain_sessions.specs.Rules.{HasNoImpl, HasNoRuleBy, HasNoRuleByImpl, begins_known};
 ghost use Rattle.explain_sessions.specs.Unknowns.{speaks_of_known};
 
-use declarations::declarations::Declarations;
-use declarations::items::ImplDef;
-use declarations::laws::declarations_are_kept;
-use infer_table::certainty::EqError;
-use infer_table::infer_ctxt::InferCtxt;
-use overlap_check::equate::equate_impl_headers;
-use overlap_check::header::{ImplHeader, fresh_impl_header};
-use overlap_check::impl_rules_are_instances;
+use sessions::declarations::declarations::Declarations;
+use sessions::declarations::items::ImplDef;
+use sessions::declarations::laws::declarations_are_kept;
+use sessions::infer_table::certainty::EqError;
+use sessions::infer_table::infer_ctxt::InferCtxt;
+use sessions::overlap_check::equate::equate_impl_headers;
+use sessions::overlap_check::header::{ImplHeader, fresh_impl_header};
+use sessions::overlap_check::impl_rules_are_instances;
 use sessions::ready_impls_are_written_well;
+use sessions::term_folds::predicate::TraitRef;
+use sessions::type_terms::interner::Interner;
+use sessions::type_terms::{Fault, ImplId};
 use std::alloc::Global;
-use term_folds::predicate::TraitRef;
-use type_terms::interner::Interner;
-use type_terms::{Fault, ImplId};
 
 /// Whether no values make the header of an impl equal to a trait reference over the table's variables. The table is as before.
 fn is_apart(

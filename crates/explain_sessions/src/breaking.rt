@@ -1,27 +1,27 @@
 //! Why a later version of a crate may not add an impl.
 
 ghost use Rattle.std.specs.Prelude.{IfOk, map};
-ghost use Rattle.type_terms.specs.Promised.Erased.{erased_reference};
-ghost use Rattle.declarations.specs.Held.{ImplHeld, ReferenceHeld};
-ghost use Rattle.declarations.specs.Items.{declared, reference_in};
-ghost use Rattle.declarations.specs.Promised.Elaboration.{Each};
+ghost use Rattle.sessions.specs.TypeTerms.Promised.Erased.{erased_reference};
+ghost use Rattle.sessions.specs.Declarations.Held.{ImplHeld, ReferenceHeld};
+ghost use Rattle.sessions.specs.Declarations.Items.{declared, reference_in};
+ghost use Rattle.sessions.specs.Declarations.Promised.Elaboration.{Each};
 ghost use Rattle.sessions.specs.Checking.{IsReadySolver, SolverStaysReady, rules_in};
 ghost use Rattle.sessions.specs.Later.{header_in, section_headers};
 ghost use Rattle.sessions.specs.Promised.Subjects.{IsOfText};
 ghost use Rattle.explain_sessions.specs.Causes.{IsCauseAt, IsCauseOf};
 
-use candidate_assembly::solver::Solver;
-use declarations::declarations::Declarations;
-use declarations::items::ImplDef;
-use orphan_check::laws::walks_and_errors;
-use orphan_check::open_walk::open_walk_meets_param;
-use orphan_check::orphan::keeps_orphan_rule;
+use sessions::candidate_assembly::solver::Solver;
+use sessions::declarations::declarations::Declarations;
+use sessions::declarations::items::ImplDef;
+use sessions::orphan_check::laws::walks_and_errors;
+use sessions::orphan_check::open_walk::open_walk_meets_param;
+use sessions::orphan_check::orphan::keeps_orphan_rule;
+use sessions::solver_graph::SolverCx;
+use sessions::term_folds::predicate::TraitRef;
+use sessions::type_terms::Fault;
+use sessions::type_terms::interner::Interner;
+use sessions::workspace::Workspace;
 use sessions::{added_impls, trait_is_relied_on};
-use solver_graph::SolverCx;
-use term_folds::predicate::TraitRef;
-use type_terms::Fault;
-use type_terms::interner::Interner;
-use workspace::Workspace;
 
 /// Why a later version of a crate may not add an impl.
 #[derive(Clone, Copy)]

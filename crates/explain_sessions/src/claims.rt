@@ -2,8 +2,8 @@
 
 ghost use Rattle.std.specs.Prelude.{◌≡◌, [], false, IfOk, Some};
 ghost use Rattle.std.specs.List.{slice_get};
-ghost use Rattle.declarations.specs.Held.{ReferenceHeld};
-ghost use Rattle.declarations.specs.Items.{reference_in};
+ghost use Rattle.sessions.specs.Declarations.Held.{ReferenceHeld};
+ghost use Rattle.sessions.specs.Declarations.Items.{reference_in};
 ghost use Rattle.explain_traces.specs.declared.nodes.GoalWalk.{GoalWalk};
 ghost use Rattle.sessions.specs.Promised.Promises.{view_in};
 ghost use Rattle.sessions.specs.Promised.Subjects.{StaysOn, Subject};
@@ -20,11 +20,11 @@ use crate::rules::checked_candidates;
 use crate::unseen::unseen_crates;
 use crate::walks::{CheckedCandidates, PairWalk};
 use explain_traces::GoalWalk;
-use orphan_check::errors::Conflict;
 use sessions::Session;
+use sessions::orphan_check::errors::Conflict;
+use sessions::term_folds::predicate::TraitRef;
+use sessions::type_terms::Fault;
 use std::alloc::Global;
-use term_folds::predicate::TraitRef;
-use type_terms::Fault;
 
 /// What is claimed of a trace. Each claim is checked. What is not claimed may hold too.
 ///

@@ -2,9 +2,9 @@
 //! too.
 
 ghost use Rattle.std.specs.Prelude.{◌≡◌, true, IfOk, IfSome};
-ghost use Rattle.type_terms.specs.Promised.Handles.{ArgsHeld};
-ghost use Rattle.text_language.specs.Promised.Declarations.{Question};
-ghost use Rattle.proof_checker.specs.Steps.{term_of};
+ghost use Rattle.sessions.specs.TypeTerms.Promised.Handles.{ArgsHeld};
+ghost use Rattle.sessions.specs.TextLanguage.Promised.Declarations.{Question};
+ghost use Rattle.sessions.specs.ProofChecker.Steps.{term_of};
 ghost use Rattle.sessions.specs.Later.{section_headers};
 ghost use Rattle.sessions.specs.Promised.Promises.{view_in};
 ghost use Rattle.sessions.specs.Promised.Releases.{IsSectionOf};
@@ -20,11 +20,11 @@ use crate::pairs::walk_pair;
 use crate::questions::{walk_proof, walk_question, walk_refutation};
 use crate::supertraits::walk_supertrait;
 use crate::walks::{PairWalk, ProofWalk};
-use candidate_assembly::solver::Solver;
 use explain_traces::GoalWalk;
+use sessions::candidate_assembly::solver::Solver;
+use sessions::type_terms::kinds::GenericArgKind;
+use sessions::type_terms::{Fault, ImplId};
 use sessions::{Session, clauses_apply, impls_apply};
-use type_terms::kinds::GenericArgKind;
-use type_terms::{Fault, ImplId};
 
 /// Traces the goal of a `prove` query of the session's crate as it is evaluated first. It explains why the query was not proved, or is not
 /// known. Queries count from 1.

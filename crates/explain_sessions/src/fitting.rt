@@ -2,16 +2,16 @@
 //! impl fits `bool: Show` and none fits `&?x: Show`.
 
 ghost use Rattle.std.specs.Prelude.{◌≡◌, true, List, IfOk, IfSome};
-ghost use Rattle.type_terms.specs.Promised.Handles.{Has, types, trees_at};
-ghost use Rattle.type_terms.specs.Growth.{Grew};
-ghost use Rattle.type_terms.specs.Promised.Worlds.{CrateDecl};
-ghost use Rattle.term_folds.specs.Signatures.{StartsWithType};
-ghost use Rattle.declarations.specs.Heads.{head_of, label_of};
-ghost use Rattle.declarations.specs.Held.{ReferenceHeld};
-ghost use Rattle.declarations.specs.Items.{declared};
-ghost use Rattle.candidate_assembly.specs.Ready.{AreReadyDeclarations};
+ghost use Rattle.sessions.specs.TypeTerms.Promised.Handles.{Has, types, trees_at};
+ghost use Rattle.sessions.specs.TypeTerms.Growth.{Grew};
+ghost use Rattle.sessions.specs.TypeTerms.Promised.Worlds.{CrateDecl};
+ghost use Rattle.sessions.specs.TermFolds.Signatures.{StartsWithType};
+ghost use Rattle.sessions.specs.Declarations.Heads.{head_of, label_of};
+ghost use Rattle.sessions.specs.Declarations.Held.{ReferenceHeld};
+ghost use Rattle.sessions.specs.Declarations.Items.{declared};
+ghost use Rattle.sessions.specs.CandidateAssembly.Ready.{AreReadyDeclarations};
 ghost use Rattle.explain_traces.specs.Walking.{ReferencesHeld};
-ghost use Rattle.proof_checker.specs.Steps.{term_of};
+ghost use Rattle.sessions.specs.ProofChecker.Steps.{term_of};
 ghost use Rattle.sessions.specs.Checking.{rules_in};
 ghost use Rattle.sessions.specs.Promised.Promises.{view_in};
 ghost use Rattle.sessions.specs.Proving.{SolverAdvances, SolverIsReady};
@@ -26,19 +26,19 @@ use crate::unknowns::is_of_table;
 use built_in_candidates::built_in::SIZED;
 use built_in_candidates::built_in_rules::is_auto;
 use built_in_candidates::unsize_struct::UNSIZE;
-use candidate_assembly::solver::Solver;
-use declarations::declarations::Declarations;
-use declarations::laws::declarations_are_kept;
-use declarations::simplify::{SimplifiedType, simplify_type};
 use explain_traces::GoalWalk;
-use overlap_check::impl_rules_are_instances;
 use sessions::Session;
-use solver_graph::SolverCx;
+use sessions::candidate_assembly::solver::Solver;
+use sessions::declarations::declarations::Declarations;
+use sessions::declarations::laws::declarations_are_kept;
+use sessions::declarations::simplify::{SimplifiedType, simplify_type};
+use sessions::overlap_check::impl_rules_are_instances;
+use sessions::solver_graph::SolverCx;
+use sessions::term_folds::predicate::TraitRef;
+use sessions::type_terms::Fault;
+use sessions::type_terms::interner::Interner;
+use sessions::type_terms::kinds::{GenericArgKind, Ty, TyKind};
 use std::alloc::Global;
-use term_folds::predicate::TraitRef;
-use type_terms::Fault;
-use type_terms::interner::Interner;
-use type_terms::kinds::{GenericArgKind, Ty, TyKind};
 
 /// The self type of a trait reference, if it has one.
 fn self_type(cx: &Interner, reference: TraitRef) -> Option<Ty>

@@ -1,20 +1,20 @@
 //! Headers of impls, equated.
 
 ghost use Rattle.std.specs.Prelude.{IfOk, IfSome};
-ghost use Rattle.type_terms.specs.Promised.Handles.{Has};
-ghost use Rattle.type_terms.specs.Terms.{args_lists};
-ghost use Rattle.type_terms.specs.Growth.{Grew};
-ghost use Rattle.declarations.specs.Held.{ReferenceHeld};
-ghost use Rattle.infer_table.specs.Content.{Ready};
+ghost use Rattle.sessions.specs.TypeTerms.Promised.Handles.{Has};
+ghost use Rattle.sessions.specs.TypeTerms.Terms.{args_lists};
+ghost use Rattle.sessions.specs.TypeTerms.Growth.{Grew};
+ghost use Rattle.sessions.specs.Declarations.Held.{ReferenceHeld};
+ghost use Rattle.sessions.specs.InferTable.Content.{Ready};
 
-use infer_table::certainty::EqError;
-use infer_table::infer_ctxt::InferCtxt;
-use overlap_check::equate::equate_impl_headers;
-use overlap_check::header::ImplHeader;
+use sessions::infer_table::certainty::EqError;
+use sessions::infer_table::infer_ctxt::InferCtxt;
+use sessions::overlap_check::equate::equate_impl_headers;
+use sessions::overlap_check::header::ImplHeader;
+use sessions::type_terms::Fault;
+use sessions::type_terms::interner::Interner;
+use sessions::type_terms::kinds::GenericArgs;
 use std::alloc::Global;
-use type_terms::Fault;
-use type_terms::interner::Interner;
-use type_terms::kinds::GenericArgs;
 
 /// The value of these arguments over the table where two headers are equal. `None` if they cannot be equal.
 pub(crate) fn args_where_equal(

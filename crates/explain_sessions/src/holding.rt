@@ -2,12 +2,12 @@
 //! `impl Show for u8`, `V<u8>: Show` is one, and `V<T>: Show` is none.
 
 ghost use Rattle.std.specs.Prelude.{◌≡◌, [], true, false, List, IfOk};
-ghost use Rattle.type_terms.specs.Promised.Handles.{Entry};
-ghost use Rattle.type_terms.specs.Promised.Proofs.{HasProof};
-ghost use Rattle.term_folds.specs.declared.predicate.TraitRef.{TraitRef};
-ghost use Rattle.declarations.specs.Held.{ReferenceHeld};
-ghost use Rattle.declarations.specs.Promised.Elaboration.{Each};
-ghost use Rattle.proof_checker.specs.Steps.{StepHeld, assumed_by, assumed_in, term_of};
+ghost use Rattle.sessions.specs.TypeTerms.Promised.Handles.{Entry};
+ghost use Rattle.sessions.specs.TypeTerms.Promised.Proofs.{HasProof};
+ghost use Rattle.sessions.specs.TermFolds.declared.predicate.TraitRef.{TraitRef};
+ghost use Rattle.sessions.specs.Declarations.Held.{ReferenceHeld};
+ghost use Rattle.sessions.specs.Declarations.Promised.Elaboration.{Each};
+ghost use Rattle.sessions.specs.ProofChecker.Steps.{StepHeld, assumed_by, assumed_in, term_of};
 ghost use Rattle.explain_traces.specs.Walking.{ReferencesHeld};
 ghost use Rattle.sessions.specs.Checking.{rules_in};
 ghost use Rattle.sessions.specs.Promised.Promises.{view_in};
@@ -20,16 +20,16 @@ use crate::alone::is_held_alone_at;
 use crate::places::{TOLD_LIMIT, is_answered, push_if, reference_at};
 use crate::shown::shown_steps;
 use crate::steps::steps_in;
-use candidate_assembly::solver::Solver;
 use explain_traces::{Answer, GoalWalk};
-use goal_evaluator::MaybeCause;
-use infer_table::infer_ctxt::InferCtxt;
-use proof_checker::checker::is_proof_of;
-use proof_checker::steps::{Step, Way};
+use sessions::candidate_assembly::solver::Solver;
+use sessions::goal_evaluator::MaybeCause;
+use sessions::infer_table::infer_ctxt::InferCtxt;
+use sessions::proof_checker::checker::is_proof_of;
+use sessions::proof_checker::steps::{Step, Way};
+use sessions::solver_graph::SolverCx;
+use sessions::term_folds::predicate::TraitRef;
+use sessions::type_terms::Fault;
 use sessions::{Session, ready_impls_are_written_well};
-use solver_graph::SolverCx;
-use term_folds::predicate::TraitRef;
-use type_terms::Fault;
 
 /// Whether a step by this rule instance is assumed.
 fn is_assumed(way: Way) -> bool

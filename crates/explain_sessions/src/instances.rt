@@ -1,24 +1,24 @@
 //! Impls that may apply: they have rules for instances of goals.
 
 ghost use Rattle.std.specs.Prelude.{◌≡◌, true, [], IfOk};
-ghost use Rattle.type_terms.specs.Growth.{Grew};
-ghost use Rattle.declarations.specs.Held.{ReferenceHeld};
-ghost use Rattle.declarations.specs.Items.{declared};
-ghost use Rattle.infer_table.specs.Content.{Ready};
-ghost use Rattle.candidate_assembly.specs.Ready.{AreReadyDeclarations};
-ghost use Rattle.proof_checker.specs.Steps.{term_of};
+ghost use Rattle.sessions.specs.TypeTerms.Growth.{Grew};
+ghost use Rattle.sessions.specs.Declarations.Held.{ReferenceHeld};
+ghost use Rattle.sessions.specs.Declarations.Items.{declared};
+ghost use Rattle.sessions.specs.InferTable.Content.{Ready};
+ghost use Rattle.sessions.specs.CandidateAssembly.Ready.{AreReadyDeclarations};
+ghost use Rattle.sessions.specs.ProofChecker.Steps.{term_of};
 ghost use Rattle.explain_sessions.specs.Rules.{IsInstanceOf, MayHaveRule};
 
 use crate::steps::impl_args;
-use declarations::declarations::Declarations;
-use declarations::laws::declarations_are_kept;
-use infer_table::infer_ctxt::InferCtxt;
-use proof_checker::links::follows_by_impl;
+use sessions::declarations::declarations::Declarations;
+use sessions::declarations::laws::declarations_are_kept;
+use sessions::infer_table::infer_ctxt::InferCtxt;
+use sessions::proof_checker::links::follows_by_impl;
 use sessions::ready_impls_are_written_well;
+use sessions::term_folds::predicate::TraitRef;
+use sessions::type_terms::interner::Interner;
+use sessions::type_terms::{Fault, ImplId};
 use std::alloc::Global;
-use term_folds::predicate::TraitRef;
-use type_terms::interner::Interner;
-use type_terms::{Fault, ImplId};
 
 /// How many variables of each kind a goal may have, so that an impl's parameters are not confused with them. If it has more, an impl that
 /// may apply can be missed, and one that is ruled out is not reported.

@@ -42,5 +42,10 @@ pub use walks::{CheckedCandidates, PairWalk, ProofWalk, ShownStep};
 
 // What traces are made of, so that users of this crate need no other.
 pub use explain_traces::{Answer, GoalWalk};
-pub use orphan_check::errors::Conflict;
-pub use proof_checker::steps::{Step, Way};
+pub use sessions::orphan_check::errors::Conflict;
+pub use sessions::proof_checker::steps::{Step, Way};
+
+// The crates below whose names the crates above need too: these list this crate alone.
+pub use explain_traces;
+pub use sessions;
+pub use sessions::{goal_evaluator, orphan_check, term_folds, text_lines, type_terms, workspace};

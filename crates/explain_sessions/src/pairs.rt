@@ -1,14 +1,14 @@
 //! The where-clauses of two impls, traced where their headers are equal.
 
 ghost use Rattle.std.specs.Prelude.{◌≡◌, true, IfOk, IfSome};
-ghost use Rattle.type_terms.specs.Growth.{Grew};
-ghost use Rattle.declarations.specs.Applied.{TraitRefsHeld};
-ghost use Rattle.declarations.specs.Held.{ImplHeld, ReferenceHeld};
-ghost use Rattle.declarations.specs.Items.{declared};
-ghost use Rattle.infer_table.specs.Content.{Ready};
-ghost use Rattle.candidate_assembly.specs.Ready.{AreReadyDeclarations};
-ghost use Rattle.overlap_check.specs.Written.{IsWrittenWell};
-ghost use Rattle.proof_checker.specs.Steps.{term_of};
+ghost use Rattle.sessions.specs.TypeTerms.Growth.{Grew};
+ghost use Rattle.sessions.specs.Declarations.Applied.{TraitRefsHeld};
+ghost use Rattle.sessions.specs.Declarations.Held.{ImplHeld, ReferenceHeld};
+ghost use Rattle.sessions.specs.Declarations.Items.{declared};
+ghost use Rattle.sessions.specs.InferTable.Content.{Ready};
+ghost use Rattle.sessions.specs.CandidateAssembly.Ready.{AreReadyDeclarations};
+ghost use Rattle.sessions.specs.OverlapCheck.Written.{IsWrittenWell};
+ghost use Rattle.sessions.specs.ProofChecker.Steps.{term_of};
 ghost use Rattle.explain_traces.specs.Walking.{ReferencesHeld};
 ghost use Rattle.sessions.specs.Checking.{HaveOwnNumbers, rules_in};
 ghost use Rattle.sessions.specs.Proving.{SolverAdvances, SolverIsReady};
@@ -18,25 +18,25 @@ ghost use Rattle.explain_sessions.specs.Walked.{CommonHeld, PairWalkHeld, RestsA
 
 use crate::headers::args_where_equal;
 use crate::walks::PairWalk;
-use candidate_assembly::solver::Solver;
-use declarations::declarations::Declarations;
-use declarations::items::ImplDef;
-use declarations::laws::declarations_are_kept;
 use explain_traces::{GoalWalk, walk_goal};
-use goal_evaluator::TypingMode;
-use infer_table::infer_ctxt::InferCtxt;
-use overlap_check::header::fresh_impl_header;
-use overlap_check::intersection::ImplIntersection;
-use overlap_check::partners::pair_at;
-use proof_checker::links::follows_by_impl;
-use search_graph::{GlobalCache, SearchGraph};
+use sessions::candidate_assembly::solver::Solver;
+use sessions::declarations::declarations::Declarations;
+use sessions::declarations::items::ImplDef;
+use sessions::declarations::laws::declarations_are_kept;
+use sessions::goal_evaluator::TypingMode;
+use sessions::infer_table::infer_ctxt::InferCtxt;
+use sessions::overlap_check::header::fresh_impl_header;
+use sessions::overlap_check::intersection::ImplIntersection;
+use sessions::overlap_check::partners::pair_at;
+use sessions::proof_checker::links::follows_by_impl;
+use sessions::search_graph::{GlobalCache, SearchGraph};
+use sessions::solver_graph::{SolverCx, SolverGraph};
+use sessions::term_folds::predicate::TraitRef;
+use sessions::type_terms::interner::Interner;
+use sessions::type_terms::kinds::GenericArgs;
+use sessions::type_terms::{Fault, ImplId};
 use sessions::{goal_under, intersection_at, ready_impls_are_written_well};
-use solver_graph::{SolverCx, SolverGraph};
 use std::alloc::Global;
-use term_folds::predicate::TraitRef;
-use type_terms::interner::Interner;
-use type_terms::kinds::GenericArgs;
-use type_terms::{Fault, ImplId};
 
 /// The common instance of the headers of two impls, and the arguments with which each is that.
 #[derive(Clone, Copy)]

@@ -3,8 +3,8 @@
 ghost use Rattle.std.specs.Prelude.{◌≡◌, ◌++◌, ◌∷◌, [], IfSome, OnOk, Some, slice_get, if◌then◌else◌};
 
 use explain_traces::{Answer, GoalWalk};
+use sessions::term_folds::predicate::TraitRef;
 use std::alloc::AllocError;
-use term_folds::predicate::TraitRef;
 
 /// Of how many goals of a walk it is told, at most, whether they hold though they are not settled, and who may write impls for them.
 pub(crate) const TOLD_LIMIT: usize = 64;

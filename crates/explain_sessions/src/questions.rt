@@ -1,12 +1,12 @@
 //! The goals of queries, traced as a session evaluates them.
 
 ghost use Rattle.std.specs.Prelude.{◌≡◌, IfOk};
-ghost use Rattle.text_language.specs.Promised.Declarations.{Question};
-ghost use Rattle.declarations.specs.Applied.{AreApplied};
-ghost use Rattle.infer_table.specs.Content.{Ready};
-ghost use Rattle.infer_table.specs.Goals.{GoalHeld};
-ghost use Rattle.view_lowering.specs.Questions.{IsLowered};
-ghost use Rattle.view_lowering.specs.Promised.Questions.{IsQuestion};
+ghost use Rattle.sessions.specs.TextLanguage.Promised.Declarations.{Question};
+ghost use Rattle.sessions.specs.Declarations.Applied.{AreApplied};
+ghost use Rattle.sessions.specs.InferTable.Content.{Ready};
+ghost use Rattle.sessions.specs.InferTable.Goals.{GoalHeld};
+ghost use Rattle.sessions.specs.ViewLowering.Questions.{IsLowered};
+ghost use Rattle.sessions.specs.ViewLowering.Promised.Questions.{IsQuestion};
 ghost use Rattle.explain_traces.specs.Walking.{ReferencesHeld};
 ghost use Rattle.sessions.specs.Proving.{ClausesApply, SolverAdvances, SolverIsReady};
 ghost use Rattle.sessions.specs.Sessions.{SolverRests};
@@ -16,16 +16,16 @@ ghost use Rattle.explain_sessions.specs.Walked.{ProofWalkHeld, RestsAfter};
 use crate::steps::with_steps;
 use crate::walking::{bare_goal, elaborated_goal, walk_alone, walk_settled};
 use crate::walks::ProofWalk;
-use candidate_assembly::solver::Solver;
 use explain_traces::GoalWalk;
-use goal_evaluator::{Goal, TypingMode};
-use infer_table::infer_ctxt::InferCtxt;
-use search_graph::{GlobalCache, SearchGraph};
+use sessions::candidate_assembly::solver::Solver;
+use sessions::goal_evaluator::{Goal, TypingMode};
+use sessions::infer_table::infer_ctxt::InferCtxt;
+use sessions::search_graph::{GlobalCache, SearchGraph};
+use sessions::solver_graph::{SolverCx, SolverGraph};
+use sessions::type_terms::Fault;
+use sessions::view_lowering::LoweredQuestion;
+use sessions::workspace::Workspace;
 use sessions::{lower_in, question_table_in};
-use solver_graph::{SolverCx, SolverGraph};
-use type_terms::Fault;
-use view_lowering::LoweredQuestion;
-use workspace::Workspace;
 
 /// The goal of a query of the context's terms, under its where-clauses with all their supertraits, and a table for its variables.
 fn pose(cx: &mut SolverCx<Solver>, lowered: &LoweredQuestion) -> Result<(Goal, InferCtxt), Fault>

@@ -1,29 +1,29 @@
 //! The goals that have no proof in any linked set with the session's crate.
 
 ghost use Rattle.std.specs.Prelude.{◌≡◌, ℕ, true, [], IfOk};
-ghost use Rattle.declarations.specs.Held.{ReferenceHeld};
-ghost use Rattle.declarations.specs.Promised.Elaboration.{Each};
-ghost use Rattle.infer_table.specs.Content.{Ready};
-ghost use Rattle.proof_checker.specs.Steps.{term_of};
+ghost use Rattle.sessions.specs.Declarations.Held.{ReferenceHeld};
+ghost use Rattle.sessions.specs.Declarations.Promised.Elaboration.{Each};
+ghost use Rattle.sessions.specs.InferTable.Content.{Ready};
+ghost use Rattle.sessions.specs.ProofChecker.Steps.{term_of};
 ghost use Rattle.sessions.specs.Promised.Promises.{view_in};
 ghost use Rattle.sessions.specs.Proving.{SolverAdvances, SolverIsReady};
 ghost use Rattle.sessions.specs.Sessions.{SolverRests, SolvesView};
 ghost use Rattle.sessions.specs.Promised.Subjects.{StaysOn};
 ghost use Rattle.explain_sessions.specs.Refusals.{IsRefusedAt, IsRefusedGoal};
 ghost use Rattle.explain_sessions.specs.Walked.{RestsAfter, WalkHeld};
-ghost use Rattle.text_language.specs.Promised.Declarations.{Declarations};
+ghost use Rattle.sessions.specs.TextLanguage.Promised.Declarations.{Declarations};
 
 use crate::instances::table_for_goals;
 use crate::places::{is_answered, push_if, reference_at};
 use crate::unknowns::is_of_table;
-use candidate_assembly::solver::Solver;
 use explain_traces::{Answer, GoalWalk};
-use infer_table::infer_ctxt::InferCtxt;
-use search_graph::{GlobalCache, SearchGraph};
+use sessions::candidate_assembly::solver::Solver;
+use sessions::infer_table::infer_ctxt::InferCtxt;
+use sessions::search_graph::{GlobalCache, SearchGraph};
+use sessions::solver_graph::{SolverCx, SolverGraph};
+use sessions::term_folds::predicate::TraitRef;
+use sessions::type_terms::Fault;
 use sessions::{Session, is_impossible};
-use solver_graph::{SolverCx, SolverGraph};
-use term_folds::predicate::TraitRef;
-use type_terms::Fault;
 
 /// A table in which the numbers of a goal's variables are taken, over the interner of a context.
 pub(crate) fn goal_table_in(cx: &mut SolverCx<Solver>) -> Result<InferCtxt, Fault>

@@ -6,17 +6,17 @@
 
 ghost use Rattle.std.specs.Prelude.{◌≡◌, true, List, [], ◌∷◌, ◌++◌, if◌then◌else◌, Some, IfOk, IfSome, OnOk};
 ghost use Rattle.std.specs.List.{AllZip, slice_get};
-ghost use Rattle.type_terms.specs.Promised.Rules.{by_impl};
-ghost use Rattle.type_terms.specs.Promised.Worlds.{Reference};
-ghost use Rattle.type_terms.specs.Growth.{Grew};
-ghost use Rattle.declarations.specs.Applied.{TraitRefsHeld};
-ghost use Rattle.declarations.specs.Held.{ReferenceHeld};
-ghost use Rattle.declarations.specs.Items.{declared};
-ghost use Rattle.infer_table.specs.Content.{Ready};
-ghost use Rattle.candidate_assembly.specs.Ready.{AreReadyDeclarations};
+ghost use Rattle.sessions.specs.TypeTerms.Promised.Rules.{by_impl};
+ghost use Rattle.sessions.specs.TypeTerms.Promised.Worlds.{Reference};
+ghost use Rattle.sessions.specs.TypeTerms.Growth.{Grew};
+ghost use Rattle.sessions.specs.Declarations.Applied.{TraitRefsHeld};
+ghost use Rattle.sessions.specs.Declarations.Held.{ReferenceHeld};
+ghost use Rattle.sessions.specs.Declarations.Items.{declared};
+ghost use Rattle.sessions.specs.InferTable.Content.{Ready};
+ghost use Rattle.sessions.specs.CandidateAssembly.Ready.{AreReadyDeclarations};
 ghost use Rattle.explain_traces.specs.Walking.{ReferencesHeld};
-ghost use Rattle.proof_checker.specs.Checked.{IsConcludedFrom};
-ghost use Rattle.proof_checker.specs.Steps.{term_of, terms_of};
+ghost use Rattle.sessions.specs.ProofChecker.Checked.{IsConcludedFrom};
+ghost use Rattle.sessions.specs.ProofChecker.Steps.{term_of, terms_of};
 ghost use Rattle.sessions.specs.Checking.{rules_in};
 ghost use Rattle.sessions.specs.Promised.Promises.{view_in};
 ghost use Rattle.sessions.specs.Proving.{SolverAdvances, SolverIsReady};
@@ -28,19 +28,19 @@ use crate::instances::may_follow;
 use crate::places::{push_if, reference_at};
 use crate::steps::impl_args;
 use crate::walks::CheckedCandidates;
-use candidate_assembly::solver::Solver;
-use declarations::declarations::Declarations;
-use declarations::laws::declarations_are_kept;
 use explain_traces::{CandidateNode, GoalWalk};
-use goal_evaluator::CandidateSource;
-use infer_table::infer_ctxt::InferCtxt;
-use proof_checker::links::{follows_by_built_in, follows_by_impl};
+use sessions::candidate_assembly::solver::Solver;
+use sessions::declarations::declarations::Declarations;
+use sessions::declarations::laws::declarations_are_kept;
+use sessions::goal_evaluator::CandidateSource;
+use sessions::infer_table::infer_ctxt::InferCtxt;
+use sessions::proof_checker::links::{follows_by_built_in, follows_by_impl};
+use sessions::solver_graph::SolverCx;
+use sessions::term_folds::predicate::TraitRef;
+use sessions::type_terms::interner::Interner;
+use sessions::type_terms::{Fault, ImplId};
 use sessions::{Session, ready_impls_are_written_well};
-use solver_graph::SolverCx;
 use std::alloc::{AllocError, Global};
-use term_folds::predicate::TraitRef;
-use type_terms::interner::Interner;
-use type_terms::{Fault, ImplId};
 
 /// The trait references at these indices. `None` if there is none at one of them.
 fn references_at(

@@ -1,16 +1,16 @@
 //! The steps of a proof that a trace found. How they are found needs no proof, because the checker accepts or refuses them.
 
 ghost use Rattle.std.specs.Prelude.{IfOk, IfSome};
-ghost use Rattle.type_terms.specs.Promised.Handles.{Has};
-ghost use Rattle.type_terms.specs.Terms.{args_lists};
-ghost use Rattle.type_terms.specs.Growth.{Grew};
-ghost use Rattle.declarations.specs.Applied.{TraitRefsHeld, HaveBounds};
-ghost use Rattle.declarations.specs.Held.{AreHeld, ImplHeld, ReferenceHeld};
-ghost use Rattle.declarations.specs.Promised.Elaboration.{Each};
-ghost use Rattle.infer_table.specs.Content.{Ready};
-ghost use Rattle.candidate_assembly.specs.Ready.{AreReadyDeclarations};
-ghost use Rattle.overlap_check.specs.Written.{IsWrittenWell};
-ghost use Rattle.proof_checker.specs.Steps.{StepHeld, WayHeld};
+ghost use Rattle.sessions.specs.TypeTerms.Promised.Handles.{Has};
+ghost use Rattle.sessions.specs.TypeTerms.Terms.{args_lists};
+ghost use Rattle.sessions.specs.TypeTerms.Growth.{Grew};
+ghost use Rattle.sessions.specs.Declarations.Applied.{TraitRefsHeld, HaveBounds};
+ghost use Rattle.sessions.specs.Declarations.Held.{AreHeld, ImplHeld, ReferenceHeld};
+ghost use Rattle.sessions.specs.Declarations.Promised.Elaboration.{Each};
+ghost use Rattle.sessions.specs.InferTable.Content.{Ready};
+ghost use Rattle.sessions.specs.CandidateAssembly.Ready.{AreReadyDeclarations};
+ghost use Rattle.sessions.specs.OverlapCheck.Written.{IsWrittenWell};
+ghost use Rattle.sessions.specs.ProofChecker.Steps.{StepHeld, WayHeld};
 ghost use Rattle.explain_traces.specs.Walking.{ReferencesHeld};
 ghost use Rattle.sessions.specs.Proving.{SolverAdvances, SolverIsReady};
 ghost use Rattle.explain_sessions.specs.Shown.{AreShownPremises, ShowsItsSteps, StepIsShown, StepsAreShown};
@@ -20,24 +20,24 @@ use crate::headers::args_where_equal;
 use crate::places::reference_at;
 use crate::shown::shown_steps;
 use crate::walks::{ProofWalk, ShownStep};
-use candidate_assembly::solver::Solver;
-use declarations::declarations::Declarations;
-use declarations::items::ImplDef;
 use explain_traces::GoalWalk;
-use goal_evaluator::CandidateSource;
-use infer_table::infer_ctxt::InferCtxt;
-use overlap_check::header::{ImplHeader, fresh_impl_header};
-use proof_checker::rows::by_built_in;
-use proof_checker::rules::by_clause;
-use proof_checker::steps::{Step, Way};
-use proof_checker::supertraits::by_supertrait;
+use sessions::candidate_assembly::solver::Solver;
+use sessions::declarations::declarations::Declarations;
+use sessions::declarations::items::ImplDef;
+use sessions::goal_evaluator::CandidateSource;
+use sessions::infer_table::infer_ctxt::InferCtxt;
+use sessions::overlap_check::header::{ImplHeader, fresh_impl_header};
+use sessions::proof_checker::rows::by_built_in;
+use sessions::proof_checker::rules::by_clause;
+use sessions::proof_checker::steps::{Step, Way};
+use sessions::proof_checker::supertraits::by_supertrait;
 use sessions::ready_impls_are_written_well;
-use solver_graph::SolverCx;
+use sessions::solver_graph::SolverCx;
+use sessions::term_folds::predicate::TraitRef;
+use sessions::type_terms::interner::Interner;
+use sessions::type_terms::kinds::GenericArgs;
+use sessions::type_terms::{Fault, ImplId};
 use std::alloc::{AllocError, Global};
-use term_folds::predicate::TraitRef;
-use type_terms::interner::Interner;
-use type_terms::kinds::GenericArgs;
-use type_terms::{Fault, ImplId};
 
 /// The arguments with which the header of an impl is the trait reference. `None` if there are none.
 pub(crate) fn impl_args(

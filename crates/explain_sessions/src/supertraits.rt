@@ -1,9 +1,9 @@
 //! A supertrait of an impl's header, traced as a session evaluates it.
 
 ghost use Rattle.std.specs.Prelude.{◌≡◌, IfOk, IfSome};
-ghost use Rattle.declarations.specs.Applied.{TraitRefsHeld};
-ghost use Rattle.declarations.specs.Held.{ReferenceHeld};
-ghost use Rattle.declarations.specs.Items.{written};
+ghost use Rattle.sessions.specs.Declarations.Applied.{TraitRefsHeld};
+ghost use Rattle.sessions.specs.Declarations.Held.{ReferenceHeld};
+ghost use Rattle.sessions.specs.Declarations.Items.{written};
 ghost use Rattle.explain_traces.specs.Walking.{ReferencesHeld};
 ghost use Rattle.sessions.specs.Sessions.{SolverRests};
 ghost use Rattle.sessions.specs.Supertraits.{ImplsApply};
@@ -11,14 +11,14 @@ ghost use Rattle.explain_sessions.specs.Walked.{RestsAfter};
 
 use crate::places::reference_at;
 use crate::walking::walk_alone;
-use candidate_assembly::solver::Solver;
 use explain_traces::GoalWalk;
-use goal_evaluator::TypingMode;
-use search_graph::{GlobalCache, SearchGraph};
+use sessions::candidate_assembly::solver::Solver;
+use sessions::goal_evaluator::TypingMode;
+use sessions::search_graph::{GlobalCache, SearchGraph};
+use sessions::solver_graph::{SolverCx, SolverGraph};
+use sessions::term_folds::predicate::TraitRef;
+use sessions::type_terms::{Fault, ImplId};
 use sessions::{SupertraitGoals, goal_under, own_goals_in, question_table_in};
-use solver_graph::{SolverCx, SolverGraph};
-use term_folds::predicate::TraitRef;
-use type_terms::{Fault, ImplId};
 
 /// Traces the goal for a trait reference without variables outside coherence, under just these where-clauses.
 fn walk_under(

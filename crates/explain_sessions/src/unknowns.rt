@@ -1,21 +1,21 @@
 //! Whether terms hold a table's own variables alone.
 
 ghost use Rattle.std.specs.Prelude.{◌≡◌};
-ghost use Rattle.type_terms.specs.Promised.Handles.{Has, trees_at};
-ghost use Rattle.type_terms.specs.Terms.{args_lists};
-ghost use Rattle.infer_table.specs.Content.{variables_of};
-ghost use Rattle.candidate_assembly.specs.Finding.{BreaksAt};
+ghost use Rattle.sessions.specs.TypeTerms.Promised.Handles.{Has, trees_at};
+ghost use Rattle.sessions.specs.TypeTerms.Terms.{args_lists};
+ghost use Rattle.sessions.specs.InferTable.Content.{variables_of};
+ghost use Rattle.sessions.specs.CandidateAssembly.Finding.{BreaksAt};
 ghost use Rattle.explain_sessions.specs.Unknowns.{speaks_of_known};
 
-use infer_table::infer_ctxt::InferCtxt;
+use sessions::infer_table::infer_ctxt::InferCtxt;
+use sessions::type_terms::binders::Binders;
+use sessions::type_terms::interner::Interner;
+use sessions::type_terms::kinds::{Const, ConstKind, GenericArgs, Ty, TyKind};
+use sessions::type_terms::number::BoundVarIndexKind;
+use sessions::type_terms::once::Once;
+use sessions::type_terms::region::{Region, RegionKind};
+use sessions::type_terms::visit::{Seen, TypeVisitor, visit_args};
 use std::ops::ControlFlow;
-use type_terms::binders::Binders;
-use type_terms::interner::Interner;
-use type_terms::kinds::{Const, ConstKind, GenericArgs, Ty, TyKind};
-use type_terms::number::BoundVarIndexKind;
-use type_terms::once::Once;
-use type_terms::region::{Region, RegionKind};
-use type_terms::visit::{Seen, TypeVisitor, visit_args};
 
 fn break_if(found: bool) -> Seen<()>
     ensures { BreaksAt found result }
@@ -36,7 +36,7 @@ impl TypeVisitor for FindsOther {
     type Break = ();
 
     ghost use Rattle.std.proofs.Common.{refl};
-    ghost use Rattle.candidate_assembly.specs.Finding.{BreaksAt, at_root};
+    ghost use Rattle.sessions.specs.CandidateAssembly.Finding.{BreaksAt, at_root};
     ghost use Rattle.explain_sessions.specs.Unknowns.{is_other_place, known_to, bounds-are-closed};
 
     ghost ready = { λ _ _. Unit {0} };

@@ -4,24 +4,24 @@
 //! - Upstream: for `Vec<u8>: Foreign`, a later version of the crate of `Foreign` may add the impl.
 
 ghost use Rattle.std.specs.Prelude.{◌≡◌, IfOk, IfSome};
-ghost use Rattle.declarations.specs.Held.{ReferenceHeld};
-ghost use Rattle.declarations.specs.Items.{declared, reference_in};
+ghost use Rattle.sessions.specs.Declarations.Held.{ReferenceHeld};
+ghost use Rattle.sessions.specs.Declarations.Items.{declared, reference_in};
 ghost use Rattle.sessions.specs.Promised.Promises.{view_in};
 ghost use Rattle.explain_sessions.specs.Unseen.{IsUnseen};
 ghost use Rattle.explain_sessions.specs.Walked.{WalkHeld};
 
 use crate::places::reference_at;
-use declarations::declarations::Declarations;
 use explain_traces::GoalWalk;
-use infer_table::infer_ctxt::InferCtxt;
-use orphan_check::errors::{Conflict, WalkError};
-use orphan_check::knowable::trait_ref_is_knowable;
-use orphan_check::normalize::AlreadyNormal;
 use sessions::Session;
+use sessions::declarations::declarations::Declarations;
+use sessions::infer_table::infer_ctxt::InferCtxt;
+use sessions::orphan_check::errors::{Conflict, WalkError};
+use sessions::orphan_check::knowable::trait_ref_is_knowable;
+use sessions::orphan_check::normalize::AlreadyNormal;
+use sessions::term_folds::predicate::TraitRef;
+use sessions::type_terms::interner::Interner;
+use sessions::type_terms::{Fault, ImplId};
 use std::alloc::Global;
-use term_folds::predicate::TraitRef;
-use type_terms::interner::Interner;
-use type_terms::{Fault, ImplId};
 
 /// Which crates outside the view may have an impl for a trait reference, if any may. Fails only with `Memory`.
 fn conflict_of(

@@ -1,25 +1,25 @@
 //! Traces of the solver's goals that begin without any goal.
 
 ghost use Rattle.std.specs.Prelude.{◌≡◌, [], IfOk};
-ghost use Rattle.declarations.specs.Applied.{TraitRefsHeld, AreApplied};
-ghost use Rattle.declarations.specs.Held.{ReferenceHeld};
-ghost use Rattle.infer_table.specs.Content.{Ready};
-ghost use Rattle.infer_table.specs.Goals.{GoalHeld};
+ghost use Rattle.sessions.specs.Declarations.Applied.{TraitRefsHeld, AreApplied};
+ghost use Rattle.sessions.specs.Declarations.Held.{ReferenceHeld};
+ghost use Rattle.sessions.specs.InferTable.Content.{Ready};
+ghost use Rattle.sessions.specs.InferTable.Goals.{GoalHeld};
 ghost use Rattle.explain_traces.specs.Walking.{ReferencesHeld};
 ghost use Rattle.sessions.specs.Proving.{SolverAdvances, SolverIsReady};
 ghost use Rattle.sessions.specs.Sessions.{SolverRests};
 ghost use Rattle.explain_sessions.specs.Walked.{RestsAfter};
 
-use candidate_assembly::solver::Solver;
 use explain_traces::{GoalWalk, settle, walk_goal};
-use goal_evaluator::{Goal, TypingMode};
-use infer_table::infer_ctxt::InferCtxt;
-use search_graph::{GlobalCache, SearchGraph};
+use sessions::candidate_assembly::solver::Solver;
+use sessions::goal_evaluator::{Goal, TypingMode};
+use sessions::infer_table::infer_ctxt::InferCtxt;
+use sessions::search_graph::{GlobalCache, SearchGraph};
+use sessions::solver_graph::{SolverCx, SolverGraph};
+use sessions::term_folds::predicate::{TraitPredicate, TraitRef};
+use sessions::type_terms::Fault;
 use sessions::{elaborate_in, goal_under};
-use solver_graph::{SolverCx, SolverGraph};
 use std::alloc::Global;
-use term_folds::predicate::{TraitPredicate, TraitRef};
-use type_terms::Fault;
 
 /// The goal for a trait reference under where-clauses with all their supertraits.
 pub(crate) fn elaborated_goal(

@@ -1,8 +1,8 @@
 //! What is displayed of an answer.
 
 use explain_traces::GoalWalk;
-use proof_checker::steps::Step;
-use term_folds::predicate::TraitRef;
+use sessions::proof_checker::steps::Step;
+use sessions::term_folds::predicate::TraitRef;
 
 /// A step of a proof as it is displayed.
 #[derive(Drop)]

@@ -11,8 +11,8 @@ use crate::sources::source_piece;
 use crate::story::{Story, unsure_premise};
 use crate::telling::Telling;
 use explain_diagnostics::{Diagnostic, ErrCode, LIST_LIMIT, Level};
-use explain_traces::{Answer, CandidateNode};
-use goal_evaluator::{CandidateSource, MaybeCause};
+use explain_sessions::explain_traces::{Answer, CandidateNode};
+use explain_sessions::goal_evaluator::{CandidateSource, MaybeCause};
 use std::alloc::{AllocError, Global};
 
 /// Why a goal is ambiguous.

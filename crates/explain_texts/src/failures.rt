@@ -9,9 +9,9 @@ use crate::spoken::Spoken;
 use crate::story::{Story, refused_premise};
 use crate::telling::Telling;
 use explain_diagnostics::{Diagnostic, ErrCode, LIST_LIMIT, Level, Span};
-use explain_traces::Standing;
+use explain_sessions::explain_traces::Standing;
+use explain_sessions::type_terms::{ImplId, TraitId};
 use std::alloc::{AllocError, Global};
-use type_terms::{ImplId, TraitId};
 
 /// What requires a goal: a query, or the header of an impl.
 #[derive(Clone, Copy)]

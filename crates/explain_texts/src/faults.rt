@@ -5,8 +5,8 @@ use crate::sentences::{Piece, plain, with_one};
 use crate::telling::Telling;
 use explain_diagnostics::{Diagnostic, ErrCode, Level, SourceFile};
 use std::alloc::{AllocError, Global};
-use text_names::FaultKind;
 use text_parser::TextFault;
+use text_parser::text_names::FaultKind;
 
 /// The message for a fault.
 fn message(kind: FaultKind) -> &'static str {

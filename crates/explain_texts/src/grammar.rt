@@ -2,8 +2,8 @@
 //! go on, with what could stand there. That a line has a fault is said by the answer, and no more is claimed of this reading.
 
 use explain_diagnostics::{Place, text_of, token_places};
+use explain_sessions::text_lines::{Token, tokens};
 use std::alloc::{AllocError, Global};
-use text_lines::{Token, tokens};
 
 /// Each way in which a part of a line is written, behind the name of the part: the statements of docs/FORMAT.md.
 ///

@@ -4,8 +4,8 @@ use crate::lines::{ImplLine, ItemLines};
 use crate::sentences::Piece;
 use crate::telling::Telling;
 use explain_diagnostics::{Place, SourceFile, on_line, text_of};
-use type_terms::{CrateId, ImplId, TraitId};
-use workspace::Workspace;
+use explain_sessions::type_terms::{CrateId, ImplId, TraitId};
+use explain_sessions::workspace::Workspace;
 
 /// A text, with what it declares and where that is.
 #[derive(Clone, Copy)]

@@ -44,3 +44,10 @@ pub use sources::source_piece;
 pub use spoken::{Spoken, speak};
 pub use story::{Story, tell};
 pub use telling::Telling;
+
+// The crates below whose names the crates above need too: these list this crate alone.
+pub use explain_diagnostics;
+pub use explain_sessions;
+pub use explain_sessions::{sessions, type_terms, workspace};
+pub use text_parser;
+pub use text_printer;

@@ -3,8 +3,8 @@
 use explain_diagnostics::{
     LineParts, Place, SourceFile, Span, on_line, parts_of_impl, parts_of_question,
 };
+use explain_sessions::text_lines::Statement;
 use std::alloc::{AllocError, Global};
-use text_lines::Statement;
 use text_parser::{LineForm, line_form};
 
 /// The line of an impl, counted from 1, with its parts.

@@ -5,9 +5,9 @@ use crate::sentences::{Piece, Sentence, plain, with_one, with_three, with_two};
 use crate::sources::source_piece;
 use crate::story::Story;
 use crate::telling::Telling;
-use explain_traces::CandidateNode;
-use goal_evaluator::CandidateSource;
-use type_terms::ImplId;
+use explain_sessions::explain_traces::CandidateNode;
+use explain_sessions::goal_evaluator::CandidateSource;
+use explain_sessions::type_terms::ImplId;
 
 /// The last goal of a path.
 pub(crate) fn last_of(path: &[usize]) -> usize {

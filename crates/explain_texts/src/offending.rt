@@ -10,12 +10,12 @@ use crate::similar::{similar_name, similar_word};
 use crate::sorts::tell_other_sort;
 use crate::telling::Telling;
 use explain_diagnostics::{SourceFile, Span, TextWriter, on_line, parts_of_impl};
+use explain_sessions::text_lines::{LineRead, Statement};
+use explain_sessions::type_terms::CrateId;
+use explain_sessions::workspace::{Known, Workspace};
 use std::alloc::{AllocError, Global};
-use text_lines::{LineRead, Statement};
-use text_names::FaultKind;
+use text_parser::text_names::FaultKind;
 use text_parser::{LineForm, TEXT_LIMIT, TextFault, line_form, parse};
-use type_terms::CrateId;
-use workspace::{Known, Workspace};
 
 /// What a line says, if the grammar has it.
 pub(crate) fn reading(alloc: Global, line: &[u8]) -> Result<Option<LineRead<'_>>, AllocError> {

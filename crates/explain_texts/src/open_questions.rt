@@ -7,8 +7,8 @@ use crate::sources::source_piece;
 use crate::story::Story;
 use crate::telling::Telling;
 use explain_diagnostics::{Diagnostic, LIST_LIMIT, Level};
-use explain_traces::{Answer, CandidateNode};
-use goal_evaluator::Certainty;
+use explain_sessions::explain_traces::{Answer, CandidateNode};
+use explain_sessions::goal_evaluator::Certainty;
 use std::alloc::{AllocError, Global};
 
 /// The sentence for a candidate that may apply, which says so if that was not checked.

@@ -1,8 +1,8 @@
 //! The text for a header that breaks the orphan rule.
 
 ghost use Rattle.std.specs.Prelude.{IfSome};
-ghost use Rattle.type_terms.specs.Promised.Handles.{Has, types};
-ghost use Rattle.orphan_check.specs.Promised.Errors.{ErrorHeld, LeavesHeld, TypeHeld};
+ghost use Rattle.explain_sessions.specs.TypeTerms.Promised.Handles.{Has, types};
+ghost use Rattle.explain_sessions.specs.OrphanCheck.Promised.Errors.{ErrorHeld, LeavesHeld, TypeHeld};
 
 use crate::failures::has_params;
 use crate::items::{Texts, crate_name, impl_line, name_of, trait_home};
@@ -10,13 +10,13 @@ use crate::sentences::{Piece, Sentence, plain, with_one, with_two};
 use crate::telling::Telling;
 use crate::words::type_text;
 use explain_diagnostics::{Diagnostic, ErrCode, LIST_LIMIT, Level, on_line};
-use orphan_check::errors::{IsFirstInputType, OrphanCheckErr, UncoveredTyParams};
+use explain_sessions::orphan_check::errors::{IsFirstInputType, OrphanCheckErr, UncoveredTyParams};
+use explain_sessions::type_terms::interner::Interner;
+use explain_sessions::type_terms::kinds::{Ty, TyKind};
+use explain_sessions::type_terms::{CrateId, ImplId};
+use explain_sessions::workspace::{ImplEntry, TermCell};
 use std::alloc::{AllocError, Global};
 use text_printer::HeaderNames;
-use type_terms::interner::Interner;
-use type_terms::kinds::{Ty, TyKind};
-use type_terms::{CrateId, ImplId};
-use workspace::{ImplEntry, TermCell};
 
 /// An impl that is refused.
 #[derive(Clone, Copy)]

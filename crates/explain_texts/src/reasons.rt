@@ -10,11 +10,11 @@ use crate::spoken::Spoken;
 use crate::story::Story;
 use crate::telling::Telling;
 use explain_sessions::Adder;
-use explain_traces::{Answer, CandidateNode};
-use goal_evaluator::{CandidateSource, MaybeCause};
-use orphan_check::errors::Conflict;
+use explain_sessions::explain_traces::{Answer, CandidateNode};
+use explain_sessions::goal_evaluator::{CandidateSource, MaybeCause};
+use explain_sessions::orphan_check::errors::Conflict;
+use explain_sessions::type_terms::ImplId;
 use std::alloc::{AllocError, Global};
-use type_terms::ImplId;
 
 /// Why a goal is not refused, where no goal below it tells.
 #[derive(Clone, Copy)]

@@ -5,8 +5,8 @@ use crate::sources::source_piece;
 use crate::story::{Story, refused_premise};
 use crate::telling::Telling;
 use explain_diagnostics::LIST_LIMIT;
-use explain_traces::CandidateNode;
-use goal_evaluator::CandidateSource;
+use explain_sessions::explain_traces::CandidateNode;
+use explain_sessions::goal_evaluator::CandidateSource;
 
 /// In which sense goals are refused.
 #[derive(Clone, Copy)]

@@ -8,7 +8,7 @@ use crate::story::Story;
 use crate::telling::Telling;
 use explain_diagnostics::{Diagnostic, Level, Span};
 use explain_sessions::Adder;
-use orphan_check::errors::Conflict;
+use explain_sessions::orphan_check::errors::Conflict;
 use std::alloc::{AllocError, Global};
 
 /// The sentence that nothing fits. It says so if that was not checked.

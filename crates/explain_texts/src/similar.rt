@@ -2,9 +2,9 @@
 
 use crate::items::{Name, name_of};
 use explain_diagnostics::{TYPE_LIMIT, cut_text};
+use explain_sessions::workspace::Workspace;
 use std::alloc::{AllocError, Global};
 use strsim::osa_distance;
-use workspace::Workspace;
 
 /// How many edits a name that is alike may be away: one for each three bytes, and at least one, as in the original. One letter is like nothing.
 fn near(name: &str) -> usize {

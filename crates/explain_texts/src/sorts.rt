@@ -7,8 +7,8 @@ use crate::offending::{Faulty, kind_of, line_declaring};
 use crate::sentences::{Piece, plain, with_four, with_two};
 use crate::telling::Telling;
 use explain_diagnostics::on_line;
+use explain_sessions::workspace::{Known, ParamKind};
 use std::alloc::{AllocError, Global};
-use workspace::{Known, ParamKind};
 
 /// What a place needs, by what is used there.
 fn needed(used_as: &str) -> &'static str {

@@ -2,7 +2,7 @@
 
 use crate::items::{Texts, impl_piece};
 use crate::sentences::Piece;
-use goal_evaluator::{BuiltinImplSource, CandidateSource};
+use explain_sessions::goal_evaluator::{BuiltinImplSource, CandidateSource};
 
 /// What a built-in rule is called.
 fn rule_name(source: BuiltinImplSource) -> &'static str {

@@ -1,20 +1,20 @@
 //! Trait references, rendered as text.
 
 ghost use Rattle.std.specs.Prelude.{IfSome};
-ghost use Rattle.type_terms.specs.Promised.Handles.{ArgHeld};
-ghost use Rattle.type_terms.specs.Promised.Handles.{Has, types};
-ghost use Rattle.type_terms.specs.Terms.{args_lists};
+ghost use Rattle.explain_sessions.specs.TypeTerms.Promised.Handles.{ArgHeld};
+ghost use Rattle.explain_sessions.specs.TypeTerms.Promised.Handles.{Has, types};
+ghost use Rattle.explain_sessions.specs.TypeTerms.Terms.{args_lists};
 
 use crate::items::Name;
 use crate::sentences::Piece;
 use crate::words::type_text;
 use explain_diagnostics::{TYPE_LIMIT, cut_text};
+use explain_sessions::term_folds::predicate::TraitRef;
+use explain_sessions::type_terms::TraitId;
+use explain_sessions::type_terms::interner::Interner;
+use explain_sessions::type_terms::kinds::{GenericArgKind, Ty, TyKind};
 use std::alloc::{AllocError, Global};
-use term_folds::predicate::TraitRef;
 use text_printer::{PrintNames, ShownNames, print_const, print_type_within};
-use type_terms::TraitId;
-use type_terms::interner::Interner;
-use type_terms::kinds::{GenericArgKind, Ty, TyKind};
 
 /// A rendered trait reference: its self type and its bound as texts.
 pub struct Spoken {

@@ -1,20 +1,20 @@
 //! A trace with its trait references rendered.
 
-ghost use Rattle.explain_traces.specs.Walking.{ReferencesHeld};
+ghost use Rattle.explain_sessions.specs.ExplainTraces.Walking.{ReferencesHeld};
 ghost use Rattle.explain_sessions.specs.Claims.{ClaimsHold};
 ghost use Rattle.explain_sessions.specs.Walked.{WalkHeld};
 
 use crate::items::Texts;
 use crate::sentences::{NONE, Piece};
 use crate::spoken::{Spoken, speak};
+use explain_sessions::explain_traces::{Answer, CandidateNode, GoalWalk, Standing};
+use explain_sessions::orphan_check::errors::Conflict;
+use explain_sessions::sessions::Session;
+use explain_sessions::term_folds::predicate::TraitRef;
+use explain_sessions::type_terms::interner::Interner;
 use explain_sessions::{Adder, Claims};
-use explain_traces::{Answer, CandidateNode, GoalWalk, Standing};
-use orphan_check::errors::Conflict;
-use sessions::Session;
 use std::alloc::{AllocError, Global};
-use term_folds::predicate::TraitRef;
 use text_printer::ShownNames;
-use type_terms::interner::Interner;
 
 /// A trace of a text's goal, with its trait references rendered, and what is claimed of it. Goals are named by their indices.
 pub struct Story<'w> {

@@ -1,12 +1,12 @@
 //! Types as text.
 
-ghost use Rattle.type_terms.specs.Promised.Handles.{Has, types};
+ghost use Rattle.explain_sessions.specs.TypeTerms.Promised.Handles.{Has, types};
 
 use explain_diagnostics::{TYPE_LIMIT, cut_text};
+use explain_sessions::type_terms::interner::Interner;
+use explain_sessions::type_terms::kinds::Ty;
 use std::alloc::{AllocError, Global};
 use text_printer::{PrintNames, print_type_within};
-use type_terms::interner::Interner;
-use type_terms::kinds::Ty;
 
 /// A type as text, cut if it is long.
 pub(crate) fn type_text<N: PrintNames>(

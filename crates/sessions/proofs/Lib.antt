@@ -99,3 +99,15 @@ pub mod LinkedTexts
 pub mod WorkedSets
 pub mod ScopedTexts
 pub mod LaterChecks
+-- The crates below whose names the crates above need too: these list this crate alone.
+pub use Rattle.candidate_assembly.proofs as CandidateAssembly
+pub use Rattle.candidate_model.proofs as CandidateModel
+pub use Rattle.declarations.proofs as Declarations
+pub use Rattle.infer_table.proofs as InferTable
+pub use Rattle.overlap_check.proofs as OverlapCheck
+pub use Rattle.proof_checker.proofs as ProofChecker
+pub use Rattle.solver_graph.proofs as SolverGraph
+pub use Rattle.text_language.proofs as TextLanguage
+pub use Rattle.text_lines.proofs as TextLines
+pub use Rattle.type_terms.proofs as TypeTerms
+pub use Rattle.view_lowering.proofs as ViewLowering

@@ -47,3 +47,21 @@ pub use Rattle.type_terms.specs.Promised.Verdicts
 pub use Rattle.view_lowering.specs.Promised.Questions as TextQuestions
 pub mod Shown
 pub mod ByTrait
+-- The crates below whose names the crates above need too: these list this crate alone.
+pub use Rattle.candidate_assembly.specs as CandidateAssembly
+pub use Rattle.candidate_model.specs as CandidateModel
+pub use Rattle.declarations.specs as Declarations
+pub use Rattle.goal_evaluator.specs as GoalEvaluator
+pub use Rattle.goal_frames.specs as GoalFrames
+pub use Rattle.infer_table.specs as InferTable
+pub use Rattle.orphan_check.specs as OrphanCheck
+pub use Rattle.overlap_check.specs as OverlapCheck
+pub use Rattle.proof_checker.specs as ProofChecker
+pub use Rattle.search_graph.specs as SearchGraph
+pub use Rattle.solver_graph.specs as SolverGraph
+pub use Rattle.term_folds.specs as TermFolds
+pub use Rattle.text_language.specs as TextLanguage
+pub use Rattle.text_lines.specs as TextLines
+pub use Rattle.type_terms.specs as TypeTerms
+pub use Rattle.view_lowering.specs as ViewLowering
+pub use Rattle.workspace.specs as Workspace

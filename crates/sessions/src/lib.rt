@@ -54,3 +54,19 @@ pub use seen_view::SeenView;
 pub use session::Session;
 pub use supertraits::{SupertraitGoals, own_goals_in};
 pub use view::{declarations_are_ready, impls_are_numbered};
+
+// The crates below whose names the crates above need too: these list this crate alone.
+pub use candidate_assembly;
+pub use declarations;
+pub use goal_evaluator;
+pub use infer_table;
+pub use orphan_check;
+pub use overlap_check;
+pub use proof_checker;
+pub use search_graph;
+pub use solver_graph;
+pub use term_folds;
+pub use text_lines;
+pub use type_terms;
+pub use view_lowering;
+pub use workspace;

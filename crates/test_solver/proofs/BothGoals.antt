@@ -1,6 +1,6 @@
 -- A context to which two goals were added together.
 use Rattle.std.proofs.Common.{◌≡◌, List, [], ◌∷◌, ◌++◌, map, sym, subst}
-use Rattle.type_terms.specs.Promised.Handles.{Entry}
+use Rattle.text_parser.specs.TypeTerms.Promised.Handles.{Entry}
 use Rattle.infer_table.specs.Goals.{GoalHeld}
 use Rattle.infer_table.specs.declared.goal.Goal.{Goal}
 use Rattle.goal_evaluator.specs.Lists.{Every}

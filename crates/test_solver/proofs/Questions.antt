@@ -4,14 +4,14 @@ use Rattle.std.specs.Prelude.{get_or}
 use Rattle.std.specs.List.{slice_get}
 use Rattle.std.proofs.lemmas.Option.{slice_get-get_or}
 use Rattle.std.proofs.lemmas.List.{length-map}
-use Rattle.type_terms.specs.Promised.Trees.{none}
-use Rattle.type_terms.specs.Promised.Handles.{Entry}
+use Rattle.text_parser.specs.TypeTerms.Promised.Trees.{none}
+use Rattle.text_parser.specs.TypeTerms.Promised.Handles.{Entry}
 use Rattle.term_folds.specs.declared.predicate.TraitRef.{TraitRef}
 use Rattle.infer_table.specs.Goals.{ClausesHeld}
 use Rattle.declarations.specs.Applied.{TraitRefsHeld}
-use Rattle.text_language.specs.Promised.Declarations.{Declarations, Question}
-use Rattle.workspace.specs.Views.{question_of}
-use Rattle.workspace.specs.declared.declared.QuestionEntry.{QuestionEntry}
+use Rattle.text_parser.specs.TextLanguage.Promised.Declarations.{Declarations, Question}
+use Rattle.text_parser.specs.Workspace.Views.{question_of}
+use Rattle.text_parser.specs.Workspace.declared.declared.QuestionEntry.{QuestionEntry}
 use Rattle.view_lowering.specs.Promised.Questions.{IsQuestion}
 use Rattle.test_solver.specs.Clauses.{where_clauses}
 

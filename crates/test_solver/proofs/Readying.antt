@@ -1,6 +1,6 @@
 -- What a crate sees of a text is ready for the solver, as a session finds it.
 use Rattle.std.proofs.Common.{◌≡◌, true, List, [], ◌∷◌, map, refl, ap, ◌∙◌}
-use Rattle.type_terms.specs.Promised.Handles.{Entry, trees_at}
+use Rattle.text_parser.specs.TypeTerms.Promised.Handles.{Entry, trees_at}
 use Rattle.declarations.specs.declared.items.GenericParamKind.{GenericParamKind}
 use Rattle.declarations.specs.declared.items.GenericParamKind.TheVariants.{Lifetime, «Type» as TypeParam, Const}
 use Rattle.declarations.specs.Applied.{sort_of_param}

@@ -1,7 +1,7 @@
 -- Two responses whose values the interner holds.
 use Rattle.std.proofs.Common.{zero, suc, List, [], ◌∷◌, arith}
 use Rattle.std.specs.List.{All}
-use Rattle.type_terms.specs.Promised.Handles.{Entry}
+use Rattle.text_parser.specs.TypeTerms.Promised.Handles.{Entry}
 use Rattle.infer_table.specs.declared.response.CanonicalResponse.{CanonicalResponse}
 use Rattle.goal_evaluator.specs.Responses.{ValuesHeld}
 

@@ -1,7 +1,7 @@
 -- Goals that are told to be decided.
 use Rattle.std.proofs.Common.{◌≡◌, ◌∙◌, ap, Bool, true, if◌then◌else◌, List, Some, None, Result, Ok, Err, IsTrue}
 use Rattle.std.specs.Prelude.{IfOk}
-use Rattle.type_terms.specs.Promised.Handles.{Entry}
+use Rattle.text_parser.specs.TypeTerms.Promised.Handles.{Entry}
 use Rattle.infer_table.specs.Goals.{GoalHeld}
 use Rattle.infer_table.specs.Inputs.{form_of}
 use Rattle.infer_table.specs.declared.input.CanonicalInput.{CanonicalInput}

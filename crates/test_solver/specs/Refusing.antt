@@ -1,7 +1,7 @@
 -- What a normalizer of the tests answers.
 use Rattle.std.specs.Prelude.{ℕ, Bool, true, Result, Ok, Err}
-use Rattle.type_terms.specs.Promised.Label.{uint}
-use Rattle.type_terms.specs.Promised.Trees.{Trees, tree}
+use Rattle.text_parser.specs.TypeTerms.Promised.Label.{uint}
+use Rattle.text_parser.specs.TypeTerms.Promised.Trees.{Trees, tree}
 
 -- Each type is answered as it is; if it refuses bytes, unsigned integers are refused with the error 5.
 abbrev pub unless_byte : Bool → Trees → Result Trees ℕ

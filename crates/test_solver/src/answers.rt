@@ -1,12 +1,12 @@
 //! What the solver answers to the first question of a text, asked twice, and the frames that it takes.
 ghost use Rattle.std.specs.Prelude.{◌≡◌, ℕ, List, Ok, IfOk};
-ghost use Rattle.type_terms.specs.Promised.Handles.{Keeps};
+ghost use Rattle.text_parser.specs.TypeTerms.Promised.Handles.{Keeps};
 ghost use Rattle.infer_table.specs.Content.{Ready};
 ghost use Rattle.infer_table.specs.Goals.{GoalHeld};
 ghost use Rattle.search_graph.specs.Cache.{AreJustified};
 ghost use Rattle.solver_graph.specs.Contexts.{IsReady};
 ghost use Rattle.solver_graph.specs.Searching.{solver_meaning};
-ghost use Rattle.text_language.specs.Text.{TextGives};
+ghost use Rattle.text_parser.specs.TextLanguage.Text.{TextGives};
 ghost use Rattle.candidate_assembly.specs.Ready as solver;
 
 use crate::handlers::HandsOn;
@@ -18,10 +18,10 @@ use goal_frames::GoalHandler;
 use infer_table::goal::Goal;
 use infer_table::infer_ctxt::InferCtxt;
 use std::alloc::Global;
-use type_terms::Fault;
-use type_terms::interner::Interner;
-use type_terms::kinds::GenericArgs;
-use workspace::Workspace;
+use text_parser::type_terms::Fault;
+use text_parser::type_terms::interner::Interner;
+use text_parser::type_terms::kinds::GenericArgs;
+use text_parser::workspace::Workspace;
 
 /// What is found of a goal that is asked twice: what is there after each time, and whether the goal is as it is wanted, with
 /// the values that its unknowns have got.

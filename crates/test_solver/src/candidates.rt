@@ -1,10 +1,10 @@
 //! The candidates of goals that a text asks: the one that is assembled, and the one that the call of its own rule makes.
 ghost use Rattle.std.specs.Prelude.{ℕ, List, Ok, IfOk};
-ghost use Rattle.type_terms.specs.Promised.Handles.{Entry, Keeps};
+ghost use Rattle.text_parser.specs.TypeTerms.Promised.Handles.{Entry, Keeps};
 ghost use Rattle.infer_table.specs.Goals.{GoalHeld};
 ghost use Rattle.goal_evaluator.specs.Readings.{ConsideredHeld};
 ghost use Rattle.goal_frames.specs.Fitting.{ConsideredFits};
-ghost use Rattle.text_language.specs.Text.{TextGives};
+ghost use Rattle.text_parser.specs.TextLanguage.Text.{TextGives};
 ghost use Rattle.candidate_assembly.specs.Ready.{AreReadyDeclarations, IsWellPosedGoal};
 
 use crate::samples::empty_table;
@@ -30,9 +30,9 @@ use infer_table::goal::Goal;
 use infer_table::input::{CanonicalInput, canonicalize_goal};
 use std::alloc::Global;
 use term_folds::predicate::Clause;
-use type_terms::Fault;
-use type_terms::interner::Interner;
-use workspace::Workspace;
+use text_parser::type_terms::Fault;
+use text_parser::type_terms::interner::Interner;
+use text_parser::workspace::Workspace;
 
 /// Where a candidate comes from: an impl, by its number, or a built-in rule.
 #[derive(Clone, Copy)]

@@ -1,5 +1,5 @@
 //! Evaluations: their goals, their equations, and the answers that they give up with.
-ghost use Rattle.type_terms.specs.Promised.Handles.{Keeps};
+ghost use Rattle.text_parser.specs.TypeTerms.Promised.Handles.{Keeps};
 ghost use Rattle.goal_evaluator.specs.Context.{IsReadyContext};
 ghost use Rattle.goal_evaluator.specs.Probes.{ContextContinues};
 
@@ -7,10 +7,10 @@ use crate::goals::{Sample, begun, make, shown};
 use goal_evaluator::{EvalCtxt, EvalError, GoalSource};
 use infer_table::certainty::{Certainty, MaybeCause, TypingMode};
 use std::alloc::Global;
-use type_terms::Fault;
-use type_terms::interner::Interner;
-use type_terms::kinds::GenericArgKind;
-use type_terms::variance::Variance;
+use text_parser::type_terms::Fault;
+use text_parser::type_terms::interner::Interner;
+use text_parser::type_terms::kinds::GenericArgKind;
+use text_parser::type_terms::variance::Variance;
 
 /// Equates two types.
 fn equate(

@@ -1,10 +1,10 @@
 //! The first step of a goal whose self type is unknown, and what is made of candidates that were considered.
 ghost use Rattle.std.specs.Prelude.{ℕ, List, Ok, Some, IfOk};
-ghost use Rattle.type_terms.specs.Promised.Handles.{Entry};
+ghost use Rattle.text_parser.specs.TypeTerms.Promised.Handles.{Entry};
 ghost use Rattle.infer_table.specs.Goals.{GoalHeld};
 ghost use Rattle.goal_evaluator.specs.Readings.{ConsideredHeld, ResultHeld};
 ghost use Rattle.goal_frames.specs.Fitting.{ConsideredFits, ResultFits};
-ghost use Rattle.text_language.specs.Text.{TextGives};
+ghost use Rattle.text_parser.specs.TextLanguage.Text.{TextGives};
 ghost use Rattle.candidate_assembly.specs.Ready.{AreReadyDeclarations};
 
 use crate::candidates::question;
@@ -20,9 +20,9 @@ use infer_table::certainty::MaybeCause;
 use infer_table::input::CanonicalInput;
 use infer_table::response::CanonicalResponse;
 use std::alloc::{AllocError, Global};
-use type_terms::interner::Interner;
-use type_terms::{Fault, ImplId};
-use workspace::Workspace;
+use text_parser::type_terms::interner::Interner;
+use text_parser::type_terms::{Fault, ImplId};
+use text_parser::workspace::Workspace;
 
 /// A goal whose self type is unknown.
 const UNKNOWN: &[u8] = b"crate here

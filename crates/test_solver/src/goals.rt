@@ -1,6 +1,6 @@
 //! Types, goals and evaluations of the tests.
 ghost use Rattle.std.specs.Prelude.{List, IfOk, Some};
-ghost use Rattle.type_terms.specs.Promised.Handles.{Entry, Has, Keeps, types};
+ghost use Rattle.text_parser.specs.TypeTerms.Promised.Handles.{Entry, Has, Keeps, types};
 ghost use Rattle.infer_table.specs.Goals.{GoalHeld};
 ghost use Rattle.goal_evaluator.specs.Context.{IsReadyContext};
 ghost use Rattle.goal_evaluator.specs.Readings.{ResultHeld};
@@ -13,10 +13,10 @@ use infer_table::infer_ctxt::InferCtxt;
 use infer_table::response::CanonicalResponse;
 use std::alloc::Global;
 use term_folds::predicate::{TraitPredicate, TraitRef};
-use type_terms::interner::Interner;
-use type_terms::kinds::{GenericArgKind, Ty, TyKind, UintTy};
-use type_terms::number::TyVid;
-use type_terms::{Fault, TraitId};
+use text_parser::type_terms::interner::Interner;
+use text_parser::type_terms::kinds::{GenericArgKind, Ty, TyKind, UintTy};
+use text_parser::type_terms::number::TyVid;
+use text_parser::type_terms::{Fault, TraitId};
 
 /// A type of the tests.
 #[derive(Clone, Copy)]

@@ -1,6 +1,6 @@
 //! A handler beside the solver, whose goals are evaluated by the same calls.
 ghost use Rattle.std.specs.Prelude.{List};
-ghost use Rattle.type_terms.specs.Promised.Handles.{Entry};
+ghost use Rattle.text_parser.specs.TypeTerms.Promised.Handles.{Entry};
 
 use crate::answers::found_by_another;
 use crate::solver::{Evaluated, Said, YES};
@@ -9,8 +9,8 @@ use goal_evaluator::{Considered, HandlerStep, TypingMode};
 use goal_frames::GoalHandler;
 use infer_table::input::CanonicalInput;
 use std::alloc::Global;
-use type_terms::interner::Interner;
-use type_terms::{Fault, TraitId};
+use text_parser::type_terms::interner::Interner;
+use text_parser::type_terms::{Fault, TraitId};
 
 /// A handler that hands on to a solver what it is asked: it means what that one means.
 #[derive(Drop)]
@@ -19,7 +19,7 @@ pub(crate) struct HandsOn {
 }
 
 impl GoalHandler for HandsOn {
-    ghost use Rattle.type_terms.specs.Promised.Handles.{Entry};
+    ghost use Rattle.text_parser.specs.TypeTerms.Promised.Handles.{Entry};
     ghost use Rattle.std.specs.Prelude.{List};
     ghost use Rattle.candidate_assembly.specs.Fitting.{solving_of};
     ghost use Rattle.candidate_assembly.specs.Ready.{AreReadyDeclarations};

@@ -1,7 +1,7 @@
 //! What responses say, and their merges.
 ghost use Rattle.std.specs.Prelude.{IfOk};
 ghost use Rattle.std.specs.List.{All};
-ghost use Rattle.type_terms.specs.Promised.Handles.{Keeps};
+ghost use Rattle.text_parser.specs.TypeTerms.Promised.Handles.{Keeps};
 ghost use Rattle.goal_evaluator.specs.Responses.{ValuesHeld};
 
 use crate::goals::{Sample, make};
@@ -12,9 +12,9 @@ use infer_table::canonical::CanonicalVarKind;
 use infer_table::certainty::{Certainty, MaybeCause};
 use infer_table::response::CanonicalResponse;
 use std::alloc::Global;
-use type_terms::Fault;
-use type_terms::interner::Interner;
-use type_terms::kinds::GenericArgKind;
+use text_parser::type_terms::Fault;
+use text_parser::type_terms::interner::Interner;
+use text_parser::type_terms::kinds::GenericArgKind;
 
 /// A yes by which the goal's one unknown type has this value.
 fn response(alloc: Global, cx: &mut Interner, value: Sample) -> Result<CanonicalResponse, Fault>

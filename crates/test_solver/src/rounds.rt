@@ -8,8 +8,8 @@ use goal_evaluator::{EvalCtxt, EvalError, EvalStep, GoalSource};
 use infer_table::certainty::Certainty;
 use infer_table::response::CanonicalResponse;
 use std::alloc::Global;
-use type_terms::Fault;
-use type_terms::interner::Interner;
+use text_parser::type_terms::Fault;
+use text_parser::type_terms::interner::Interner;
 
 /// An evaluation with the goal that the type is `Show`.
 fn begun_with(alloc: Global, cx: &mut Interner, sample: Sample) -> Result<EvalCtxt, Fault>

@@ -4,7 +4,7 @@
 
 use crate::candidates::{Row, Source, Told, first_place_that_differs};
 use goal_evaluator::{BuiltinImplSource, Certainty, MaybeCause};
-use type_terms::Fault;
+use text_parser::type_terms::Fault;
 
 /// What the rows are asked over. The impls stand behind the 39 of `core`.
 const DECLARED: &[u8] = b"crate here

@@ -1,7 +1,7 @@
 //! Types and references of tests, as terms of an interner, and the declarations that they speak of.
 ghost use Rattle.std.specs.Prelude.{IfOk};
-ghost use Rattle.type_terms.specs.Promised.Handles.{Has, Keeps, types};
-ghost use Rattle.type_terms.specs.Terms.{args_lists};
+ghost use Rattle.text_parser.specs.TypeTerms.Promised.Handles.{Has, Keeps, types};
+ghost use Rattle.text_parser.specs.TypeTerms.Terms.{args_lists};
 ghost use Rattle.infer_table.specs.Content.{Ready};
 
 use declarations::declarations::Declarations;
@@ -9,11 +9,11 @@ use declarations::items::{AdtDef, TraitDef};
 use infer_table::infer_ctxt::InferCtxt;
 use std::alloc::Global;
 use term_folds::predicate::TraitRef;
-use type_terms::interner::Interner;
-use type_terms::kinds::{GenericArgKind, Mutability, Ty, TyKind, UintTy};
-use type_terms::number::TyVid;
-use type_terms::region::{Region, RegionKind};
-use type_terms::{AdtId, CrateId, Fault, TraitId};
+use text_parser::type_terms::interner::Interner;
+use text_parser::type_terms::kinds::{GenericArgKind, Mutability, Ty, TyKind, UintTy};
+use text_parser::type_terms::number::TyVid;
+use text_parser::type_terms::region::{Region, RegionKind};
+use text_parser::type_terms::{AdtId, CrateId, Fault, TraitId};
 
 /// A table without variables.
 pub fn empty_table(alloc: Global, cx: &Interner) -> InferCtxt

@@ -1,6 +1,6 @@
 //! A candidate for `^0: Show`: that `[T]` is `Show` if `T` is.
 ghost use Rattle.std.specs.Prelude.{IfOk};
-ghost use Rattle.type_terms.specs.Promised.Handles.{Has, Keeps, types};
+ghost use Rattle.text_parser.specs.TypeTerms.Promised.Handles.{Has, Keeps, types};
 ghost use Rattle.infer_table.specs.Goals.{GoalHeld};
 ghost use Rattle.goal_evaluator.specs.Lists.{Every};
 ghost use Rattle.goal_evaluator.specs.Readings.{EquationHeld, SpecHeld, ResultHeld};
@@ -18,10 +18,10 @@ use infer_table::response::CanonicalResponse;
 use infer_table::terms::Equation;
 use std::alloc::Global;
 use term_folds::predicate::{TraitPredicate, TraitRef};
-use type_terms::interner::Interner;
-use type_terms::kinds::{GenericArgKind, Ty, TyKind, UintTy};
-use type_terms::number::{BoundVar, BoundVarIndexKind};
-use type_terms::{Fault, TraitId};
+use text_parser::type_terms::interner::Interner;
+use text_parser::type_terms::kinds::{GenericArgKind, Ty, TyKind, UintTy};
+use text_parser::type_terms::number::{BoundVar, BoundVarIndexKind};
+use text_parser::type_terms::{Fault, TraitId};
 
 /// The goal's variable `^0`.
 const OF_GOAL: BoundVar = BoundVar { index: 0 };

@@ -1,6 +1,6 @@
 //! Evaluations of goals, and what they show.
 ghost use Rattle.std.specs.Prelude.{◌≡◌, ◌≤◌, IfOk};
-ghost use Rattle.type_terms.specs.Promised.Handles.{Keeps};
+ghost use Rattle.text_parser.specs.TypeTerms.Promised.Handles.{Keeps};
 ghost use Rattle.infer_table.specs.Content.{Ready};
 ghost use Rattle.infer_table.specs.Goals.{GoalHeld};
 ghost use Rattle.search_graph.specs.Cache.{AreJustified};
@@ -15,8 +15,8 @@ use infer_table::infer_ctxt::InferCtxt;
 use search_graph::{GlobalCache, SearchGraph};
 use solver_graph::{GoalEvaluation, RootError, SolverCx, SolverGraph, evaluate_root_goal};
 use std::alloc::Global;
-use type_terms::Fault;
-use type_terms::interner::Interner;
+use text_parser::type_terms::Fault;
+use text_parser::type_terms::interner::Interner;
 
 /// That a goal holds, and nothing is said of unknown types.
 pub(crate) const YES: Said = Said::Evaluated(Certainty::Yes, HasChanged::No);

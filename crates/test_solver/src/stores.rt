@@ -8,8 +8,8 @@ use infer_table::certainty::{Certainty, MaybeCause, TypingMode};
 use infer_table::input::CanonicalInput;
 use infer_table::response::CanonicalResponse;
 use std::alloc::Global;
-use type_terms::Fault;
-use type_terms::interner::Interner;
+use text_parser::type_terms::Fault;
+use text_parser::type_terms::interner::Interner;
 
 /// That the type, which is not unknown, is `Show`, as a question of a search.
 fn question(alloc: Global, cx: &mut Interner, sample: Sample) -> Result<CanonicalInput, Fault>

@@ -1,8 +1,8 @@
 //! Texts of tests: what a crate sees of one, and the questions that it asks as goals.
 ghost use Rattle.std.specs.Prelude.{◌≡◌, ◌<◌, ℕ, List, length, Ok, IfOk};
-ghost use Rattle.type_terms.specs.Promised.Handles.{Keeps};
+ghost use Rattle.text_parser.specs.TypeTerms.Promised.Handles.{Keeps};
 ghost use Rattle.infer_table.specs.Goals.{GoalHeld};
-ghost use Rattle.text_language.specs.Text.{TextGives};
+ghost use Rattle.text_parser.specs.TextLanguage.Text.{TextGives};
 ghost use Rattle.test_solver.specs.Clauses.{where_clauses};
 ghost use Rattle.candidate_assembly.specs.Ready.{AreReadyDeclarations};
 
@@ -10,15 +10,15 @@ use declarations::declarations::Declarations;
 use infer_table::goal::Goal;
 use std::alloc::{AllocError, Global};
 use term_folds::predicate::{Clause, TraitPredicate, TraitRef};
+use text_parser::type_terms::interner::Interner;
+use text_parser::type_terms::{CrateId, Fault};
+use text_parser::workspace::{Asked, Workspace};
 use text_parser::{TextError, parse};
-use type_terms::interner::Interner;
-use type_terms::{CrateId, Fault};
 use view_lowering::laws::impls_begin_declared;
 use view_lowering::{
     bounds_are_applied, fields_speak_of_parameters, impls_speak_of_parameters, lower,
     lower_question, texts_are_declared_well,
 };
-use workspace::{Asked, Workspace};
 
 /// Writes one more question behind a text.
 pub(crate) fn add_question(text: &mut Vec<u8>, question: &[u8]) -> Result<(), AllocError> {

@@ -1,6 +1,6 @@
 //! What unsizing records of lifetimes.
 ghost use Rattle.std.specs.Prelude.{ℕ, List, Ok};
-ghost use Rattle.text_language.specs.Text.{TextGives};
+ghost use Rattle.text_parser.specs.TextLanguage.Text.{TextGives};
 ghost use Rattle.candidate_assembly.specs.Ready.{IsWellPosedGoal};
 
 use crate::candidates::{by_trait, question};
@@ -10,11 +10,11 @@ use declarations::declarations::Declarations;
 use infer_table::input::CanonicalInput;
 use infer_table::terms::RegionConstraint;
 use std::alloc::Global;
-use type_terms::Fault;
-use type_terms::interner::Interner;
-use type_terms::number::BoundVarIndexKind;
-use type_terms::region::{Region, RegionKind};
-use workspace::Workspace;
+use text_parser::type_terms::Fault;
+use text_parser::type_terms::interner::Interner;
+use text_parser::type_terms::number::BoundVarIndexKind;
+use text_parser::type_terms::region::{Region, RegionKind};
+use text_parser::workspace::Workspace;
 
 /// Types that unsize to a `dyn`, or to a slice.
 const UNSIZED: &[u8] = b"crate here

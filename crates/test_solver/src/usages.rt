@@ -2,7 +2,7 @@
 
 use search_graph::{CandidateHeadUsages, PathKind, PathsToNested};
 use std::alloc::Global;
-use type_terms::Fault;
+use text_parser::type_terms::Fault;
 
 /// How often a head is used on an unknown path, where one usage and two are merged.
 fn merged_usages(alloc: Global) -> Result<u32, Fault> {

@@ -1,6 +1,6 @@
 //! What a crate sees of a text: crates, the supertraits of a reference, and the impls that a type can have.
 ghost use Rattle.std.specs.Prelude.{ℕ, List, Ok};
-ghost use Rattle.text_language.specs.Text.{TextGives};
+ghost use Rattle.text_parser.specs.TextLanguage.Text.{TextGives};
 ghost use Rattle.candidate_assembly.specs.Ready.{AreReadyDeclarations, IsWellPosedGoal};
 
 use crate::candidates::question;
@@ -10,9 +10,9 @@ use declarations::declarations::Declarations;
 use infer_table::input::CanonicalInput;
 use std::alloc::Global;
 use term_folds::predicate::TraitRef;
-use type_terms::interner::Interner;
-use type_terms::{CrateId, Fault, ImplId};
-use workspace::Workspace;
+use text_parser::type_terms::interner::Interner;
+use text_parser::type_terms::{CrateId, Fault, ImplId};
+use text_parser::workspace::Workspace;
 
 /// The asking crate does not see the crate `apart`.
 const ASKED: &[u8] = b"crate base

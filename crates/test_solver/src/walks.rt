@@ -1,6 +1,6 @@
 //! Headers and references of a crate that sees another one.
-ghost use Rattle.type_terms.specs.Promised.Handles.{Has};
-ghost use Rattle.type_terms.specs.Terms.{args_lists};
+ghost use Rattle.text_parser.specs.TypeTerms.Promised.Handles.{Has};
+ghost use Rattle.text_parser.specs.TypeTerms.Terms.{args_lists};
 
 use crate::samples::{Around, Asked, Inmost, Sample, empty_table, make, make_reference, shop};
 use declarations::declarations::Declarations;
@@ -13,9 +13,9 @@ use orphan_check::open_walk::open_walk_meets_param;
 use orphan_check::orphan::{keeps_orphan_rule, orphan_check_trait_ref};
 use std::alloc::Global;
 use term_folds::predicate::TraitRef;
-use type_terms::Fault;
-use type_terms::interner::Interner;
-use type_terms::kinds::{Ty, TyKind};
+use text_parser::type_terms::Fault;
+use text_parser::type_terms::interner::Interner;
+use text_parser::type_terms::kinds::{Ty, TyKind};
 
 /// Answers its input, or refuses unsigned integers with the error 5.
 #[derive(Clone, Copy)]

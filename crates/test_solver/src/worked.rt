@@ -7,7 +7,7 @@ use crate::answers::found;
 use crate::solver::{AMBIGUOUS, Evaluated, OVERFLOW, Said, YES, YES_WITH_VALUES};
 use goal_evaluator::TypingMode;
 use std::alloc::Global;
-use type_terms::Fault;
+use text_parser::type_terms::Fault;
 
 /// A goal, what is said of it, and the frames that it takes. Where it gets values also what it becomes by them, and the frames that it
 /// takes until it is asked again as that, which is a yes. Another goal takes no frame where it is asked again: its answer is known.

@@ -16,3 +16,8 @@ pub mod Parsing
 pub mod Sights
 pub mod Queries
 pub mod Behind
+-- The crates below whose names the crates above need too: these list this crate alone.
+pub use Rattle.text_language.specs as TextLanguage
+pub use Rattle.text_names.specs as TextNames
+pub use Rattle.type_terms.specs as TypeTerms
+pub use Rattle.workspace.specs as Workspace

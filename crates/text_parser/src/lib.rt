@@ -40,6 +40,11 @@ pub use query_line::{QueryLine, read_query};
 pub use text::read_text;
 use workspace::ENTRY_LIMIT;
 
+// The crates below whose names the crates above need too: these list this crate alone.
+pub use text_names;
+pub use type_terms;
+pub use workspace;
+
 /// What the types and bounds of a line without a fault use fits, part by part.
 pub fn faultless_parts()
     ensures { FaultlessParts }

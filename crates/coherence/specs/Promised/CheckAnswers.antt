@@ -2,16 +2,16 @@
 use Rattle.std.specs.Prelude.{◌≡◌, ℕ, suc, ◌+◌, ◌<◌, false, if◌then◌else◌, List, [], ◌∷◌, ◌++◌, map, length, take, drop, Some, slice_get, codes}
 use Rattle.std.specs.Fmt.{decimal}
 use Rattle.std.specs.List.{fold, list_any}
-use Rattle.type_terms.specs.Promised.Answers.{IsDeterminate}
-use Rattle.type_terms.specs.Promised.Erased.{erased_reference, erased_impl}
-use Rattle.type_terms.specs.Promised.Label.{param, placeholder}
-use Rattle.type_terms.specs.Promised.Proofs.{In, Every, HasProof}
-use Rattle.type_terms.specs.Promised.Rules.{same_reference, elaborated, written_supertraits}
-use Rattle.type_terms.specs.Promised.Supers.{opaque_reference, SupersHold, IsHeld}
-use Rattle.type_terms.specs.Promised.Trees.{Trees, none, tree, erase_label}
-use Rattle.type_terms.specs.Promised.Versions.{Added, is_addable}
-use Rattle.type_terms.specs.Promised.Worlds.{World, Reference, ImplDecl}
-use Rattle.text_language.specs.Promised.Declarations.{Declarations, NamedImpl, Check, of_later, of_supers, section_impls}
+use Rattle.sessions.specs.TypeTerms.Promised.Answers.{IsDeterminate}
+use Rattle.sessions.specs.TypeTerms.Promised.Erased.{erased_reference, erased_impl}
+use Rattle.sessions.specs.TypeTerms.Promised.Label.{param, placeholder}
+use Rattle.sessions.specs.TypeTerms.Promised.Proofs.{In, Every, HasProof}
+use Rattle.sessions.specs.TypeTerms.Promised.Rules.{same_reference, elaborated, written_supertraits}
+use Rattle.sessions.specs.TypeTerms.Promised.Supers.{opaque_reference, SupersHold, IsHeld}
+use Rattle.sessions.specs.TypeTerms.Promised.Trees.{Trees, none, tree, erase_label}
+use Rattle.sessions.specs.TypeTerms.Promised.Versions.{Added, is_addable}
+use Rattle.sessions.specs.TypeTerms.Promised.Worlds.{World, Reference, ImplDecl}
+use Rattle.sessions.specs.TextLanguage.Promised.Declarations.{Declarations, NamedImpl, Check, of_later, of_supers, section_impls}
 use Rattle.sessions.specs.Promised.Promises.{view_in}
 use Rattle.coherence.specs.Promised.CrateAnswers.{crate_text, number_in_crate}
 

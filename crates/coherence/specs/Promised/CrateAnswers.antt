@@ -3,19 +3,19 @@ use Rattle.std.specs.Prelude.{◌≡◌, ◌⊎◌, ℕ, true, Bool, ◌&&◌, �
 use Rattle.std.specs.Fmt.{decimal}
 use Rattle.std.specs.List.{list_any}
 use Rattle.std.specs.Option.{option_map_or}
-use Rattle.type_terms.specs.Promised.Answers.{CommonInstance, is_bounded, is_possible}
-use Rattle.type_terms.specs.Promised.Proofs.{HasElaboratedProof, In, HasProof}
-use Rattle.type_terms.specs.Promised.Label.{adt, ref}
-use Rattle.type_terms.specs.Promised.LinkedSet.{IsPair}
-use Rattle.type_terms.specs.Promised.Renumbering.{renumbered_impl}
-use Rattle.type_terms.specs.Promised.Supers.{opaque}
-use Rattle.type_terms.specs.Promised.Trees.{Trees, none, tree}
-use Rattle.type_terms.specs.Promised.Versions.{is_open_place}
-use Rattle.type_terms.specs.Promised.Walks.{Met, struct_is, visited, ends_local, keeps_orphan_rule}
-use Rattle.type_terms.specs.Promised.Worlds.{World, Reference, ImplDecl, with_args, core}
-use Rattle.text_language.specs.Promised.Declarations.{Declarations}
-use Rattle.text_language.specs.Promised.PrintedTypes.{final_text, printed_trees}
-use Rattle.type_terms.specs.Promised.Verdicts.{ClausesNeverMeet, InEverySetWith}
+use Rattle.sessions.specs.TypeTerms.Promised.Answers.{CommonInstance, is_bounded, is_possible}
+use Rattle.sessions.specs.TypeTerms.Promised.Proofs.{HasElaboratedProof, In, HasProof}
+use Rattle.sessions.specs.TypeTerms.Promised.Label.{adt, ref}
+use Rattle.sessions.specs.TypeTerms.Promised.LinkedSet.{IsPair}
+use Rattle.sessions.specs.TypeTerms.Promised.Renumbering.{renumbered_impl}
+use Rattle.sessions.specs.TypeTerms.Promised.Supers.{opaque}
+use Rattle.sessions.specs.TypeTerms.Promised.Trees.{Trees, none, tree}
+use Rattle.sessions.specs.TypeTerms.Promised.Versions.{is_open_place}
+use Rattle.sessions.specs.TypeTerms.Promised.Walks.{Met, struct_is, visited, ends_local, keeps_orphan_rule}
+use Rattle.sessions.specs.TypeTerms.Promised.Worlds.{World, Reference, ImplDecl, with_args, core}
+use Rattle.sessions.specs.TextLanguage.Promised.Declarations.{Declarations}
+use Rattle.sessions.specs.TextLanguage.Promised.PrintedTypes.{final_text, printed_trees}
+use Rattle.sessions.specs.TypeTerms.Promised.Verdicts.{ClausesNeverMeet, InEverySetWith}
 use Rattle.sessions.specs.Promised.Promises.{view_in}
 
 -- ---- an orphan

@@ -3,16 +3,16 @@
 use Rattle.std.specs.Prelude.{◌≡◌, ℕ, true, false, IsTrue, List, [], ◌++◌, map, filter, unwrap_or, codes}
 use Rattle.std.specs.Fmt.{decimal}
 use Rattle.std.specs.List.{slice_get, AllZip, zip}
-use Rattle.type_terms.specs.Promised.Label.{Sort, infer}
-use Rattle.type_terms.specs.Promised.Trees.{Trees, none, tree, leaf, ◌+++◌, IsA, is_sort}
-use Rattle.type_terms.specs.Promised.Worlds.{Reference}
-use Rattle.type_terms.specs.Promised.Proofs.{Every, HasProof, HasProofByImpl, HasElaboratedProof}
-use Rattle.type_terms.specs.Promised.Erased.{erased_reference}
-use Rattle.type_terms.specs.Promised.Answers.{is_closed, is_bounded, is_possible, IsUnambiguous, IsDeterminate}
-use Rattle.type_terms.specs.Promised.Renumbering.{renumbered_reference}
+use Rattle.sessions.specs.TypeTerms.Promised.Label.{Sort, infer}
+use Rattle.sessions.specs.TypeTerms.Promised.Trees.{Trees, none, tree, leaf, ◌+++◌, IsA, is_sort}
+use Rattle.sessions.specs.TypeTerms.Promised.Worlds.{Reference}
+use Rattle.sessions.specs.TypeTerms.Promised.Proofs.{Every, HasProof, HasProofByImpl, HasElaboratedProof}
+use Rattle.sessions.specs.TypeTerms.Promised.Erased.{erased_reference}
+use Rattle.sessions.specs.TypeTerms.Promised.Answers.{is_closed, is_bounded, is_possible, IsUnambiguous, IsDeterminate}
+use Rattle.sessions.specs.TypeTerms.Promised.Renumbering.{renumbered_reference}
 use Rattle.sessions.specs.Verdicts.{InEverySetWith}
-use Rattle.text_language.specs.Promised.Declarations.{Declarations, Question}
-use Rattle.text_language.specs.Promised.PrintedTypes.{yes_values_text}
+use Rattle.sessions.specs.TextLanguage.Promised.Declarations.{Declarations, Question}
+use Rattle.sessions.specs.TextLanguage.Promised.PrintedTypes.{yes_values_text}
 use Rattle.sessions.specs.QuestionAnswers.{HoldUnknownsAlone}
 use Rattle.sessions.specs.Promised.CoherentTexts.{text_world}
 use Rattle.sessions.specs.Promised.OwnValues.{HasNoParameter, SpeakOfOwn}

@@ -1,14 +1,14 @@
 -- What a run writes: one line for each topic of a text, with what the line promises.
 use Rattle.std.specs.Prelude.{◌≡◌, ℕ, ◌-◌, ◌<◌, ◌⊎◌, List, length, Option, Some, Result, Ok, Err, slice_get, [], ◌∷◌, ◌++◌, map, take, codes}
-use Rattle.text_language.specs.Promised.Declarations.{Declarations, Check, Question, of_supers}
+use Rattle.sessions.specs.TextLanguage.Promised.Declarations.{Declarations, Check, Question, of_supers}
 use Rattle.coherence.specs.declared.status.Status.{Status}
 use Rattle.coherence.specs.declared.status.Status.TheVariants as statuses
 use Rattle.std.specs.Fmt.{decimal}
 use Rattle.std.specs.List.{flat_map, range_with_len, enumerate_from, AllZip}
 use Rattle.std.specs.Io.KnownBytes.{Appends, Keeps}
-use Rattle.type_terms.specs.Promised.LinkedSet.{HeadersHaveSupertraits}
-use Rattle.type_terms.specs.Promised.Worlds.{core}
-use Rattle.text_language.specs.Promised.TextSays.{TextSays}
+use Rattle.sessions.specs.TypeTerms.Promised.LinkedSet.{HeadersHaveSupertraits}
+use Rattle.sessions.specs.TypeTerms.Promised.Worlds.{core}
+use Rattle.sessions.specs.TextLanguage.Promised.TextSays.{TextSays}
 use Rattle.sessions.specs.Promised.CoherentTexts.{text_world}
 use Rattle.coherence.specs.Promised.CheckAnswers.{CheckAnswer}
 use Rattle.coherence.specs.Promised.CrateAnswers.{CrateAnswer, crate_text}

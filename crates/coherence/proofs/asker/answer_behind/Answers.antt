@@ -1,10 +1,10 @@
 use Rattle.std.proofs.Common.{◌∙◌, ◌<◌, ap, arith, length, subst, sym}
 use Rattle.std.specs.Prelude.{IfSome}
-use Rattle.text_language.specs.Promised.Declarations.{Declarations}
-use Rattle.workspace.specs.Numbered.{IsFew}
-use Rattle.workspace.specs.Tables.{with_question}
-use Rattle.workspace.specs.Unasked.{without_last_question}
-use Rattle.workspace.specs.Views.{question_of}
+use Rattle.sessions.specs.TextLanguage.Promised.Declarations.{Declarations}
+use Rattle.sessions.specs.Workspace.Numbered.{IsFew}
+use Rattle.sessions.specs.Workspace.Tables.{with_question}
+use Rattle.sessions.specs.Workspace.Unasked.{without_last_question}
+use Rattle.sessions.specs.Workspace.Views.{question_of}
 use Rattle.sessions.specs.SeenViews.{IsLeftView}
 use Rattle.sessions.specs.Promised.Subjects.{IsOfText}
 use Rattle.coherence.specs.Groups.{IsAskedIn}

@@ -3,13 +3,13 @@ use Rattle.std.proofs.lemmas.List.{length-map}
 use Rattle.std.proofs.lemmas.Option.{slice_get_read}
 use Rattle.std.specs.List.{slice_get}
 use Rattle.std.specs.Option.{option_map_or}
-use Rattle.type_terms.specs.Promised.Label.{Sort}
-use Rattle.text_language.specs.Promised.Declarations.{NamedImpl}
-use Rattle.text_language.specs.Names.{header_names}
-use Rattle.text_language.specs.Output.{type_text}
-use Rattle.type_terms.specs.Promised.Handles.{trees_at}
-use Rattle.workspace.specs.declared.declared.ImplEntry.{ImplEntry}
-use Rattle.workspace.specs.Views.{impl_of, sorted_params}
+use Rattle.sessions.specs.TypeTerms.Promised.Label.{Sort}
+use Rattle.sessions.specs.TextLanguage.Promised.Declarations.{NamedImpl}
+use Rattle.sessions.specs.TextLanguage.Names.{header_names}
+use Rattle.sessions.specs.TextLanguage.Output.{type_text}
+use Rattle.sessions.specs.TypeTerms.Promised.Handles.{trees_at}
+use Rattle.sessions.specs.Workspace.declared.declared.ImplEntry.{ImplEntry}
+use Rattle.sessions.specs.Workspace.Views.{impl_of, sorted_params}
 use Rattle.coherence.proofs.ErasedTexts.{text-same}
 use Rattle.coherence.proofs.Places.{entry-of}
 use Rattle.coherence.proofs.lines.header_text.Goals as goal

@@ -1,6 +1,6 @@
 use Rattle.sessions.specs.Promised.Given.{later_of}
 use Rattle.sessions.specs.declared.answers.LaterAnswer.TheVariants.{Compatible, Breaking}
-use Rattle.text_language.specs.Output.{compatible, breaking}
+use Rattle.sessions.specs.TextLanguage.Output.{compatible, breaking}
 use Rattle.coherence.specs.Lines.{of_version}
 use Rattle.coherence.proofs.Answered.{section-of, later-of, named-line}
 use Rattle.coherence.proofs.lines.later_line.Goals as goal

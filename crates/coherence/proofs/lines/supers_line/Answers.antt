@@ -1,6 +1,6 @@
 use Rattle.sessions.specs.Promised.Given.{supers_answer_of}
 use Rattle.sessions.specs.declared.answers.SupersAnswer.TheVariants.{Held, Missing, Undecided}
-use Rattle.text_language.specs.Output.{held, missing, undecided}
+use Rattle.sessions.specs.TextLanguage.Output.{held, missing, undecided}
 use Rattle.coherence.specs.Lines.{of_headers}
 use Rattle.coherence.proofs.Answered.{supers-of, named-line, numbered-line}
 use Rattle.coherence.proofs.Named.{names-stopped}

@@ -2,11 +2,11 @@ use Rattle.std.proofs.Common.{◌≡◌, List, length, map, refl, sym, ap, ◌�
 use Rattle.std.proofs.lemmas.List.{length-map}
 use Rattle.std.proofs.lemmas.Option.{same_Some, slice_get_read, slice_get_within}
 use Rattle.text_printer.specs.Answers.{value_of}
-use Rattle.text_language.specs.Promised.Declarations.{Question}
-use Rattle.text_language.specs.Names.{answer_values}
-use Rattle.text_language.specs.Output as output
-use Rattle.type_terms.specs.Promised.Handles.{arg_trees}
-use Rattle.workspace.specs.Views.{question_of}
+use Rattle.sessions.specs.TextLanguage.Promised.Declarations.{Question}
+use Rattle.sessions.specs.TextLanguage.Names.{answer_values}
+use Rattle.sessions.specs.TextLanguage.Output as output
+use Rattle.sessions.specs.TypeTerms.Promised.Handles.{arg_trees}
+use Rattle.sessions.specs.Workspace.Views.{question_of}
 use Rattle.coherence.proofs.ErasedValues.{values-same}
 use Rattle.coherence.proofs.Places.{entry-of}
 use Rattle.coherence.proofs.TermVariables.{term-variables}

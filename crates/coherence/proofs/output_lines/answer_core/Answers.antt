@@ -1,6 +1,6 @@
 use Rattle.std.proofs.Common.{◌∙◌, ◌+◌, ◌==◌, ℕ, length, sym, subst, arith, OnOk}
 use Rattle.std.proofs.lemmas.Bool.{eqb-true}
-use Rattle.type_terms.proofs.Walking.{left, right}
+use Rattle.sessions.proofs.TypeTerms.Walking.{left, right}
 use Rattle.coherence.specs.Groups.{IsCheckedIn, IsAskedIn}
 use Rattle.coherence.specs.KeptLines.{IsCheckLineOf, IsLineOf, KeepsLines}
 use Rattle.coherence.proofs.KeptLines.{one-crate-more, check-there, question-there}

@@ -1,8 +1,8 @@
 use Rattle.std.proofs.Common.{sym, ◌∙◌, ap, Some, length, arith, ◌<◌}
 use Rattle.std.proofs.lemmas.List.{length-map}
 use Rattle.std.proofs.lemmas.Option.{slice_get-get_or}
-use Rattle.text_language.specs.Promised.Declarations.{NamedCrate}
-use Rattle.type_terms.specs.declared.CrateId.{CrateId}
+use Rattle.sessions.specs.TextLanguage.Promised.Declarations.{NamedCrate}
+use Rattle.sessions.specs.TypeTerms.declared.CrateId.{CrateId}
 use Rattle.coherence.proofs.Places.{crate-number}
 use Rattle.coherence.proofs.output_lines.crate_at.Goals as goal
 

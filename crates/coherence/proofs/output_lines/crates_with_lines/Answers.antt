@@ -1,7 +1,7 @@
 use Rattle.std.proofs.Common.{length, ap, arith}
 use Rattle.std.proofs.lemmas.List.{length-map}
-use Rattle.text_language.specs.Promised.Declarations.{NamedCrate}
-use Rattle.type_terms.specs.declared.CrateId.{CrateId}
+use Rattle.sessions.specs.TextLanguage.Promised.Declarations.{NamedCrate}
+use Rattle.sessions.specs.TypeTerms.declared.CrateId.{CrateId}
 use Rattle.coherence.proofs.output_lines.crates_with_lines.Goals as goal
 
 pub returns : goal.returns

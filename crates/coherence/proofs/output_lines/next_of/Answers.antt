@@ -1,5 +1,5 @@
 use Rattle.std.proofs.Common.{ℕ, Vec, Global}
-use Rattle.text_names.specs.FaultNumbers.{fault_number}
+use Rattle.text_parser.specs.TextNames.FaultNumbers.{fault_number}
 use Rattle.coherence.specs.LineSources.{lines_given}
 use Rattle.coherence.proofs.SourceLines.{fault-next}
 use Rattle.coherence.proofs.output_lines.next_of.Goals as goal

@@ -3,9 +3,9 @@ use Rattle.std.specs.Io.KnownBytes.{Appends}
 use Rattle.std.specs.List.{flat_map}
 use Rattle.std.proofs.KnownBytes.{Appends-nil}
 use Rattle.std.proofs.lemmas.Result.{err_from_is_err_and}
-use Rattle.text_language.specs.Promised.Declarations.{Declarations}
-use Rattle.text_language.specs.Output.{output_text}
-use Rattle.text_language.specs.Text.{TextGives}
+use Rattle.sessions.specs.TextLanguage.Promised.Declarations.{Declarations}
+use Rattle.sessions.specs.TextLanguage.Output.{output_text}
+use Rattle.sessions.specs.TextLanguage.Text.{TextGives}
 use Rattle.coherence.specs.LineByLine.{OutputProgress, IsAfterLine, IsLineAt}
 use Rattle.coherence.specs.Promised.Told.{status_of}
 use Rattle.coherence.specs.Promised.Told.{IsToldText}

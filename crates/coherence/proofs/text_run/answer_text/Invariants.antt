@@ -1,8 +1,8 @@
 use Rattle.std.proofs.Common.{◌≡◌, ◌-◌, false, List}
 use Rattle.std.specs.Io.KnownBytes.{Appends}
 use Rattle.std.specs.List.{flat_map}
-use Rattle.text_language.specs.Output.{Answer, output_text}
-use Rattle.text_language.specs.Text.{TextGives}
+use Rattle.sessions.specs.TextLanguage.Output.{Answer, output_text}
+use Rattle.sessions.specs.TextLanguage.Text.{TextGives}
 use Rattle.coherence.specs.LineByLine.{line_count}
 use Rattle.coherence.proofs.Told.{FirstLines}
 use Rattle.coherence.proofs.text_run.answer_text.Given as goal

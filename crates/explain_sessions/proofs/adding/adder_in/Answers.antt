@@ -1,6 +1,6 @@
 use Rattle.std.proofs.Common.{◌∙◌, Some, ap, subst}
 use Rattle.std.specs.Prelude.{IfSome}
-use Rattle.declarations.specs.Items.{declared, reference_in}
+use Rattle.sessions.specs.Declarations.Items.{declared, reference_in}
 use Rattle.explain_sessions.specs.Adding.{MayAdd}
 use Rattle.explain_sessions.proofs.adding.adder_in.Goals as goal
 

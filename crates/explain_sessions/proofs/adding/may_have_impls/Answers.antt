@@ -1,7 +1,7 @@
 use Rattle.std.proofs.Common.{◌∙◌, ◌&&◌, ap, not, refl, sym}
-use Rattle.type_terms.specs.Promised.Rules.{is_auto}
-use Rattle.declarations.specs.Items.{declared, written}
-use Rattle.candidate_assembly.proofs.Knowing.{traits-erased}
+use Rattle.sessions.specs.TypeTerms.Promised.Rules.{is_auto}
+use Rattle.sessions.specs.Declarations.Items.{declared, written}
+use Rattle.sessions.proofs.CandidateAssembly.Knowing.{traits-erased}
 use Rattle.explain_sessions.proofs.adding.may_have_impls.Goals as goal
 
 pub returns-then-not-is_built_in : goal.returns-then-not-is_built_in

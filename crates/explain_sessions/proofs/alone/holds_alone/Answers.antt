@@ -1,9 +1,9 @@
 use Rattle.std.proofs.Common.{ap, sym, subst}
 use Rattle.std.specs.Prelude.{IfSome}
-use Rattle.declarations.proofs.Growth.{reference-kept}
-use Rattle.type_terms.specs.Promised.Erased.{erased_world}
-use Rattle.proof_checker.proofs.Later.{term-same}
-use Rattle.proof_checker.proofs.Results.{mapped}
+use Rattle.sessions.proofs.Declarations.Growth.{reference-kept}
+use Rattle.sessions.specs.TypeTerms.Promised.Erased.{erased_world}
+use Rattle.sessions.proofs.ProofChecker.Later.{term-same}
+use Rattle.sessions.proofs.ProofChecker.Results.{mapped}
 use Rattle.sessions.specs.Checking.{rules_in}
 use Rattle.explain_sessions.specs.Walked.{AllStepsHeld, ProofWalkHeld}
 use Rattle.explain_sessions.proofs.HeldGoals.{proved-before}

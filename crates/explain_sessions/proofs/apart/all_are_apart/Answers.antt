@@ -1,15 +1,15 @@
 use Rattle.std.proofs.Common.{◌≡◌, ◌∙◌, true, ap, sym, subst}
-use Rattle.type_terms.specs.Promised.Handles.{trees_at}
-use Rattle.type_terms.proofs.Grown.{grew-on}
-use Rattle.term_folds.specs.Signatures.{StartsWithType}
-use Rattle.declarations.specs.Items.{declared, reference_in}
-use Rattle.declarations.specs.Relevant.{matches_in, next_above}
-use Rattle.declarations.proofs.Growth.{args-same, reference-kept, reference-same}
-use Rattle.infer_table.specs.Content.{Table, Ready, variables_of}
-use Rattle.infer_table.specs.Kept.{ready-later}
-use Rattle.candidate_assembly.specs.Kept.{ready-kept}
-use Rattle.proof_checker.specs.Steps.{term_of}
-use Rattle.proof_checker.proofs.Later.{term-same}
+use Rattle.sessions.specs.TypeTerms.Promised.Handles.{trees_at}
+use Rattle.sessions.proofs.TypeTerms.Grown.{grew-on}
+use Rattle.sessions.specs.TermFolds.Signatures.{StartsWithType}
+use Rattle.sessions.specs.Declarations.Items.{declared, reference_in}
+use Rattle.sessions.specs.Declarations.Relevant.{matches_in, next_above}
+use Rattle.sessions.proofs.Declarations.Growth.{args-same, reference-kept, reference-same}
+use Rattle.sessions.specs.InferTable.Content.{Table, Ready, variables_of}
+use Rattle.sessions.specs.InferTable.Kept.{ready-later}
+use Rattle.sessions.specs.CandidateAssembly.Kept.{ready-kept}
+use Rattle.sessions.specs.ProofChecker.Steps.{term_of}
+use Rattle.sessions.proofs.ProofChecker.Later.{term-same}
 use Rattle.explain_sessions.specs.Unknowns.{speaks_of_known}
 use Rattle.explain_sessions.proofs.PassedImpls.{one-more, all-considered, same-matches, no-rule-before, fewer-left}
 use Rattle.explain_sessions.proofs.Unmatched.{instance-of}

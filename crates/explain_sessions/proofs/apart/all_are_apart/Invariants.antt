@@ -1,8 +1,8 @@
 use Rattle.std.proofs.Common.{◌≡◌}
-use Rattle.type_terms.specs.Growth.{Grew}
-use Rattle.declarations.specs.Items.{declared}
-use Rattle.infer_table.specs.Content.{Ready}
-use Rattle.proof_checker.specs.Steps.{term_of}
+use Rattle.sessions.specs.TypeTerms.Growth.{Grew}
+use Rattle.sessions.specs.Declarations.Items.{declared}
+use Rattle.sessions.specs.InferTable.Content.{Ready}
+use Rattle.sessions.specs.ProofChecker.Steps.{term_of}
 use Rattle.explain_sessions.proofs.PassedImpls.{HaveNone, numbers_left}
 use Rattle.explain_sessions.proofs.apart.all_are_apart.Given as goal
 

@@ -1,9 +1,9 @@
 use Rattle.std.proofs.Common.{subst}
-use Rattle.type_terms.specs.Promised.Erased.{erased_impl}
-use Rattle.declarations.specs.Items.{declared, impl_in}
-use Rattle.overlap_check.proofs.Judged.{found-well, one-named}
-use Rattle.proof_checker.specs.Steps.{term_of}
-use Rattle.proof_checker.proofs.Results.{mapped}
+use Rattle.sessions.specs.TypeTerms.Promised.Erased.{erased_impl}
+use Rattle.sessions.specs.Declarations.Items.{declared, impl_in}
+use Rattle.sessions.proofs.OverlapCheck.Judged.{found-well, one-named}
+use Rattle.sessions.specs.ProofChecker.Steps.{term_of}
+use Rattle.sessions.proofs.ProofChecker.Results.{mapped}
 use Rattle.explain_sessions.specs.Rules.{HasNoRuleBy}
 use Rattle.explain_sessions.proofs.apart.impl_is_apart.Goals as goal
 

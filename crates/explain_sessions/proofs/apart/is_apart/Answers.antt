@@ -1,10 +1,10 @@
 use Rattle.std.proofs.Common.{◌≡◌, Result, Err, ap, ◌∙◌}
-use Rattle.infer_table.specs.declared.certainty.EqError.{EqError}
-use Rattle.infer_table.specs.declared.certainty.EqError.TheVariants.{NoSolution}
-use Rattle.declarations.proofs.Growth.{reference-kept}
-use Rattle.declarations.specs.Items.{impl_in, reference_in}
-use Rattle.overlap_check.specs.Headers.{sorts_of_impl}
-use Rattle.overlap_check.proofs.Written.{held-instantiable}
+use Rattle.sessions.specs.InferTable.declared.certainty.EqError.{EqError}
+use Rattle.sessions.specs.InferTable.declared.certainty.EqError.TheVariants.{NoSolution}
+use Rattle.sessions.proofs.Declarations.Growth.{reference-kept}
+use Rattle.sessions.specs.Declarations.Items.{impl_in, reference_in}
+use Rattle.sessions.specs.OverlapCheck.Headers.{sorts_of_impl}
+use Rattle.sessions.proofs.OverlapCheck.Written.{held-instantiable}
 use Rattle.explain_sessions.proofs.HeadersApart.{no-rule, grows-to, said-before}
 use Rattle.explain_sessions.proofs.apart.is_apart.Goals as goal
 

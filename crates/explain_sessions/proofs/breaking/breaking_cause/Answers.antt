@@ -1,6 +1,6 @@
 use Rattle.std.proofs.Common.{◌∙◌, ap, map, sym, subst}
-use Rattle.declarations.specs.Held.{ImplHeld}
-use Rattle.declarations.specs.Promised.Elaboration.{Each}
+use Rattle.sessions.specs.Declarations.Held.{ImplHeld}
+use Rattle.sessions.specs.Declarations.Promised.Elaboration.{Each}
 use Rattle.sessions.specs.Later.{header_in, section_headers}
 use Rattle.explain_sessions.proofs.LaterImpls.{cause-grown}
 use Rattle.explain_sessions.proofs.breaking.breaking_cause.Goals as goal

@@ -1,9 +1,9 @@
 use Rattle.std.proofs.Common.{◌-◌, ◌∙◌, ap, Some, get_or, map}
-use Rattle.declarations.specs.Held.{ImplHeld}
-use Rattle.declarations.specs.Items.{declared}
+use Rattle.sessions.specs.Declarations.Held.{ImplHeld}
+use Rattle.sessions.specs.Declarations.Items.{declared}
 use Rattle.sessions.specs.Later.{header_in}
-use Rattle.proof_checker.proofs.Places.{each-at}
-use Rattle.proof_checker.proofs.Ways.{get-at, get-map}
+use Rattle.sessions.proofs.ProofChecker.Places.{each-at}
+use Rattle.sessions.proofs.ProofChecker.Ways.{get-at, get-map}
 use Rattle.explain_sessions.proofs.LaterImpls.{cause-there}
 use Rattle.explain_sessions.proofs.breaking.cause_at.Goals as goal
 

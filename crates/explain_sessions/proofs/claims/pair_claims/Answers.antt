@@ -1,4 +1,4 @@
-use Rattle.declarations.proofs.Growth.{reference-kept}
+use Rattle.sessions.proofs.Declarations.Growth.{reference-kept}
 use Rattle.explain_sessions.proofs.ClaimsLater.{holds-on}
 use Rattle.explain_sessions.proofs.Staying.{stays-further}
 use Rattle.explain_sessions.proofs.claims.pair_claims.Goals as goal

@@ -1,5 +1,5 @@
 use Rattle.std.proofs.Common.{sym, subst}
-use Rattle.declarations.specs.Items.{reference_in}
+use Rattle.sessions.specs.Declarations.Items.{reference_in}
 use Rattle.sessions.specs.Promised.Promises.{view_in}
 use Rattle.explain_sessions.specs.Claims.{AddersHold}
 use Rattle.explain_sessions.specs.Unseen.{IsUnseen}

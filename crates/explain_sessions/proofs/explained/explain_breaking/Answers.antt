@@ -1,6 +1,6 @@
 use Rattle.std.proofs.Common.{subst}
 use Rattle.std.specs.Prelude.{IfOk, ℕ}
-use Rattle.type_terms.specs.Promised.Worlds.{World}
+use Rattle.sessions.specs.TypeTerms.Promised.Worlds.{World}
 use Rattle.sessions.specs.Checking.{rules_in}
 use Rattle.sessions.specs.Later.{section_headers}
 use Rattle.sessions.specs.Promised.Promises.{view_in}

@@ -1,8 +1,8 @@
 use Rattle.std.proofs.Common.{◌≡◌, true, ap, sym, subst}
 use Rattle.std.specs.Prelude.{IfOk, IfSome}
-use Rattle.type_terms.specs.Promised.Worlds.{World}
-use Rattle.proof_checker.specs.Steps.{term_of}
-use Rattle.proof_checker.proofs.Results.{mapped-some}
+use Rattle.sessions.specs.TypeTerms.Promised.Worlds.{World}
+use Rattle.sessions.specs.ProofChecker.Steps.{term_of}
+use Rattle.sessions.proofs.ProofChecker.Results.{mapped-some}
 use Rattle.sessions.specs.Promised.Promises.{view_in}
 use Rattle.sessions.specs.Promised.Subjects.{Subject}
 use Rattle.explain_sessions.specs.Rules.{HasRulesByBoth}

@@ -1,7 +1,7 @@
 use Rattle.std.proofs.Common.{sym, subst}
-use Rattle.type_terms.specs.Kept.{args-held-later}
+use Rattle.sessions.specs.TypeTerms.Kept.{args-held-later}
 use Rattle.explain_traces.proofs.Walks.{references-later}
-use Rattle.proof_checker.proofs.Later.{steps-kept}
+use Rattle.sessions.proofs.ProofChecker.Later.{steps-kept}
 use Rattle.sessions.specs.Shown.{AreProofOfQuestion}
 use Rattle.sessions.specs.Promised.Subjects.{AsksProof}
 use Rattle.explain_sessions.proofs.LaterProofs.{proof-later}

@@ -1,5 +1,5 @@
 use Rattle.std.proofs.Common.{sym, subst}
-use Rattle.text_language.specs.Promised.Declarations.{Question}
+use Rattle.sessions.specs.TextLanguage.Promised.Declarations.{Question}
 use Rattle.sessions.specs.Promised.Subjects.{Subject, AsksProof}
 use Rattle.sessions.proofs.RightAnswers.{is-asked, clauses-apply}
 use Rattle.sessions.proofs.Keeping.{session-rests}

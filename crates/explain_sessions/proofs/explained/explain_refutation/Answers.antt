@@ -1,5 +1,5 @@
 use Rattle.std.proofs.Common.{sym, subst}
-use Rattle.text_language.specs.Promised.Declarations.{Question}
+use Rattle.sessions.specs.TextLanguage.Promised.Declarations.{Question}
 use Rattle.sessions.specs.Promised.Subjects.{Subject, AsksRefutation}
 use Rattle.sessions.proofs.Keeping.{session-rests}
 use Rattle.explain_sessions.proofs.Staying.{kept-within, stays}

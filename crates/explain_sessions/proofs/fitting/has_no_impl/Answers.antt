@@ -1,11 +1,11 @@
 use Rattle.std.proofs.Common.{◌≡◌, ◌∙◌, true, None, sym, subst}
-use Rattle.term_folds.specs.Signatures.{StartsWithType}
-use Rattle.declarations.specs.Items.{declared, reference_in}
-use Rattle.declarations.proofs.Growth.{args-same, reference-kept}
-use Rattle.candidate_assembly.specs.Kept.{ready-kept}
-use Rattle.proof_checker.specs.Steps.{term_of}
-use Rattle.proof_checker.proofs.Later.{term-same}
-use Rattle.proof_checker.proofs.Results.{mapped}
+use Rattle.sessions.specs.TermFolds.Signatures.{StartsWithType}
+use Rattle.sessions.specs.Declarations.Items.{declared, reference_in}
+use Rattle.sessions.proofs.Declarations.Growth.{args-same, reference-kept}
+use Rattle.sessions.specs.CandidateAssembly.Kept.{ready-kept}
+use Rattle.sessions.specs.ProofChecker.Steps.{term_of}
+use Rattle.sessions.proofs.ProofChecker.Later.{term-same}
+use Rattle.sessions.proofs.ProofChecker.Results.{mapped}
 use Rattle.explain_sessions.specs.Rules.{begins_known}
 use Rattle.explain_sessions.proofs.PassedImpls.{all-considered, none-considered, no-impl-before, nothing-next}
 use Rattle.explain_sessions.proofs.Unmatched.{instance-of}

@@ -1,6 +1,6 @@
 use Rattle.std.proofs.Common.{◌≡◌, Some, refl, subst}
 use Rattle.std.specs.List.{slice_get}
-use Rattle.proof_checker.proofs.Results.{mapped}
+use Rattle.sessions.proofs.ProofChecker.Results.{mapped}
 use Rattle.explain_sessions.proofs.Rests.{grown}
 use Rattle.explain_sessions.proofs.RuleCandidates.{there-held}
 use Rattle.explain_sessions.proofs.fitting.has_no_impl_at.Goals as goal

@@ -1,10 +1,10 @@
 use Rattle.std.proofs.Common.{refl, ap, sym, ◌∙◌, subst, ◌≡◌, []}
 use Rattle.std.specs.Option.{option_map}
-use Rattle.type_terms.specs.Promised.Rules.{sized_rules}
-use Rattle.type_terms.specs.Promised.Handles.{trees_at}
-use Rattle.type_terms.specs.Promised.Trees.{tree}
-use Rattle.declarations.specs.Heads.{label_of, head_of}
-use Rattle.declarations.specs.Items.{declared}
+use Rattle.sessions.specs.TypeTerms.Promised.Rules.{sized_rules}
+use Rattle.sessions.specs.TypeTerms.Promised.Handles.{trees_at}
+use Rattle.sessions.specs.TypeTerms.Promised.Trees.{tree}
+use Rattle.sessions.specs.Declarations.Heads.{label_of, head_of}
+use Rattle.sessions.specs.Declarations.Items.{declared}
 use Rattle.explain_sessions.specs.Rules.{is_bare}
 use Rattle.explain_sessions.proofs.Rowless.{rowless, unlike}
 use Rattle.explain_sessions.proofs.fitting.has_no_row.Goals as goal

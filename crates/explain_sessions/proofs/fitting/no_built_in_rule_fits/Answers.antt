@@ -1,8 +1,8 @@
 use Rattle.std.proofs.Common.{◌≡◌, Some, ap, sym, subst}
 use Rattle.std.specs.List.{slice_get}
-use Rattle.type_terms.specs.Promised.Worlds.{World}
-use Rattle.declarations.specs.Held.{ReferenceHeld}
-use Rattle.proof_checker.specs.Steps.{term_of}
+use Rattle.sessions.specs.TypeTerms.Promised.Worlds.{World}
+use Rattle.sessions.specs.Declarations.Held.{ReferenceHeld}
+use Rattle.sessions.specs.ProofChecker.Steps.{term_of}
 use Rattle.sessions.specs.Promised.Promises.{view_in}
 use Rattle.sessions.specs.Promised.Subjects.{Subject}
 use Rattle.explain_sessions.specs.Rules.{HasNoRow, HasNoRowAt}

@@ -1,6 +1,6 @@
-use Rattle.type_terms.specs.Kept.{has-later}
-use Rattle.type_terms.specs.Terms.{args_lists}
-use Rattle.type_terms.proofs.Grown.{grew-on}
+use Rattle.sessions.specs.TypeTerms.Kept.{has-later}
+use Rattle.sessions.specs.TypeTerms.Terms.{args_lists}
+use Rattle.sessions.proofs.TypeTerms.Grown.{grew-on}
 use Rattle.explain_sessions.proofs.headers.args_where_equal.Goals as goal
 
 pub eager_resolve_vars-requires-clause-held : goal.eager_resolve_vars-requires-clause-held

@@ -1,8 +1,8 @@
 use Rattle.std.proofs.Common.{sym, ap, ◌∙◌}
-use Rattle.proof_checker.specs.Steps.{assumed_in}
+use Rattle.sessions.specs.ProofChecker.Steps.{assumed_in}
 use Rattle.explain_sessions.proofs.HeldGoals.{one-less}
 use Rattle.explain_sessions.proofs.holding.assumes_nothing.Goals as goal
-use Rattle.type_terms.proofs.ListBasics.{empty-is}
+use Rattle.sessions.proofs.TypeTerms.ListBasics.{empty-is}
 
 pub steps-preserved : goal.steps-preserved
 steps-preserved c = λ es.

@@ -1,6 +1,6 @@
 use Rattle.std.proofs.Common.{◌≡◌, List, length}
-use Rattle.type_terms.specs.Promised.Handles.{Entry}
-use Rattle.proof_checker.specs.Steps.{assumed_in}
+use Rattle.sessions.specs.TypeTerms.Promised.Handles.{Entry}
+use Rattle.sessions.specs.ProofChecker.Steps.{assumed_in}
 use Rattle.explain_sessions.proofs.holding.assumes_nothing.Given as goal
 
 abbrev pub invariant-steps : goal.invariant-steps

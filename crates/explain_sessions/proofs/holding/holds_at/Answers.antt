@@ -1,12 +1,12 @@
 use Rattle.std.proofs.Common.{◌≡◌, true, Some, subst}
 use Rattle.std.specs.Prelude.{IfSome, slice_get}
-use Rattle.type_terms.specs.Promised.Proofs.{HasProof}
-use Rattle.declarations.specs.Promised.Elaboration.{Each}
-use Rattle.declarations.proofs.Growth.{reference-kept}
-use Rattle.infer_table.proofs.TableFacts.{empty-ready}
-use Rattle.proof_checker.specs.Steps.{StepHeld, term_of}
-use Rattle.proof_checker.proofs.Later.{term-same}
-use Rattle.proof_checker.proofs.Results.{mapped}
+use Rattle.sessions.specs.TypeTerms.Promised.Proofs.{HasProof}
+use Rattle.sessions.specs.Declarations.Promised.Elaboration.{Each}
+use Rattle.sessions.proofs.Declarations.Growth.{reference-kept}
+use Rattle.sessions.proofs.InferTable.TableFacts.{empty-ready}
+use Rattle.sessions.specs.ProofChecker.Steps.{StepHeld, term_of}
+use Rattle.sessions.proofs.ProofChecker.Later.{term-same}
+use Rattle.sessions.proofs.ProofChecker.Results.{mapped}
 use Rattle.sessions.specs.Checking.{rules_in}
 use Rattle.explain_sessions.proofs.HeldGoals.{proved-before}
 use Rattle.explain_sessions.proofs.RuleCandidates.{there-held}

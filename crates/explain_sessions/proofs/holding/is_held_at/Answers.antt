@@ -1,9 +1,9 @@
 use Rattle.std.proofs.Common.{◌≡◌, true, ap, subst, sym}
 use Rattle.std.specs.Prelude.{IfOk}
-use Rattle.type_terms.specs.Promised.Worlds.{World}
+use Rattle.sessions.specs.TypeTerms.Promised.Worlds.{World}
 use Rattle.explain_traces.specs.Walking.{ReferencesHeld}
 use Rattle.explain_traces.proofs.Walks.{references-later}
-use Rattle.proof_checker.proofs.Results.{mapped}
+use Rattle.sessions.proofs.ProofChecker.Results.{mapped}
 use Rattle.sessions.specs.Checking.{rules_in}
 use Rattle.sessions.specs.Promised.Promises.{view_in}
 use Rattle.sessions.specs.Promised.Subjects.{Subject}

@@ -1,6 +1,6 @@
 use Rattle.std.proofs.Common.{[], refl}
-use Rattle.proof_checker.proofs.Results.{mapped}
-use Rattle.proof_checker.specs.Steps.{term_of}
+use Rattle.sessions.proofs.ProofChecker.Results.{mapped}
+use Rattle.sessions.specs.ProofChecker.Steps.{term_of}
 use Rattle.sessions.specs.Checking.{rules_in}
 use Rattle.sessions.proofs.ShownProofs.{covered-of}
 use Rattle.explain_sessions.proofs.HeldGoals.{has-proof}

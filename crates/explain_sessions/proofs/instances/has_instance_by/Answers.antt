@@ -1,18 +1,18 @@
 use Rattle.std.proofs.Common.{[], subst}
 use Rattle.std.specs.Prelude.{IfSome}
-use Rattle.type_terms.specs.Kept.{has-later}
-use Rattle.type_terms.specs.Promised.Rules.{by_impl}
-use Rattle.type_terms.specs.Promised.Handles.{Has}
-use Rattle.type_terms.specs.Terms.{args_lists}
-use Rattle.type_terms.specs.Promised.Worlds.{World}
-use Rattle.type_terms.proofs.Grown.{grew-on}
-use Rattle.declarations.proofs.Growth.{reference-kept}
-use Rattle.candidate_assembly.specs.Kept.{ready-kept}
-use Rattle.overlap_check.proofs.Judged.{found-well}
-use Rattle.proof_checker.specs.Checked.{IsConcludedFrom}
-use Rattle.proof_checker.specs.Steps.{term_of}
-use Rattle.proof_checker.proofs.Later.{term-same}
-use Rattle.proof_checker.proofs.Results.{mapped}
+use Rattle.sessions.specs.TypeTerms.Kept.{has-later}
+use Rattle.sessions.specs.TypeTerms.Promised.Rules.{by_impl}
+use Rattle.sessions.specs.TypeTerms.Promised.Handles.{Has}
+use Rattle.sessions.specs.TypeTerms.Terms.{args_lists}
+use Rattle.sessions.specs.TypeTerms.Promised.Worlds.{World}
+use Rattle.sessions.proofs.TypeTerms.Grown.{grew-on}
+use Rattle.sessions.proofs.Declarations.Growth.{reference-kept}
+use Rattle.sessions.specs.CandidateAssembly.Kept.{ready-kept}
+use Rattle.sessions.proofs.OverlapCheck.Judged.{found-well}
+use Rattle.sessions.specs.ProofChecker.Checked.{IsConcludedFrom}
+use Rattle.sessions.specs.ProofChecker.Steps.{term_of}
+use Rattle.sessions.proofs.ProofChecker.Later.{term-same}
+use Rattle.sessions.proofs.ProofChecker.Results.{mapped}
 use Rattle.sessions.proofs.ShownProofs.{covered-of}
 use Rattle.explain_sessions.specs.Rules.{IsInstanceOf}
 use Rattle.explain_sessions.proofs.instances.has_instance_by.Goals as goal

@@ -1,6 +1,6 @@
 use Rattle.std.proofs.Common.{List, [], ◌∷◌, refl, ap}
-use Rattle.type_terms.specs.Promised.Trees.{Trees, none}
-use Rattle.type_terms.specs.Pieces.{Piece}
+use Rattle.sessions.specs.TypeTerms.Promised.Trees.{Trees, none}
+use Rattle.sessions.specs.TypeTerms.Pieces.{Piece}
 use Rattle.explain_sessions.proofs.InstanceFacts.{resolved-instance}
 use Rattle.explain_sessions.proofs.instances.instance_in.Goals as goal
 

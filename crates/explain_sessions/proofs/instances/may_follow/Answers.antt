@@ -1,9 +1,9 @@
-use Rattle.declarations.specs.Items.{declared}
-use Rattle.declarations.proofs.Growth.{reference-kept}
-use Rattle.candidate_assembly.specs.Kept.{ready-kept}
-use Rattle.proof_checker.specs.Steps.{term_of}
-use Rattle.proof_checker.proofs.Later.{term-same}
-use Rattle.proof_checker.proofs.Results.{mapped}
+use Rattle.sessions.specs.Declarations.Items.{declared}
+use Rattle.sessions.proofs.Declarations.Growth.{reference-kept}
+use Rattle.sessions.specs.CandidateAssembly.Kept.{ready-kept}
+use Rattle.sessions.specs.ProofChecker.Steps.{term_of}
+use Rattle.sessions.proofs.ProofChecker.Later.{term-same}
+use Rattle.sessions.proofs.ProofChecker.Results.{mapped}
 use Rattle.explain_sessions.proofs.RuleCandidates.{may-have-before}
 use Rattle.explain_sessions.proofs.instances.may_follow.Goals as goal
 

@@ -1,6 +1,6 @@
 use Rattle.std.proofs.Common.{◌≡◌, []}
-use Rattle.type_terms.specs.Growth.{Grew}
-use Rattle.infer_table.specs.Content.{Ready}
+use Rattle.sessions.specs.TypeTerms.Growth.{Grew}
+use Rattle.sessions.specs.InferTable.Content.{Ready}
 use Rattle.explain_sessions.proofs.instances.table_for_goals.Given as goal
 
 abbrev pub invariant-taken : goal.invariant-taken

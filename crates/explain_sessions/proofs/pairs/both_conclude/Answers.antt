@@ -1,12 +1,12 @@
 use Rattle.std.proofs.Common.{[]}
-use Rattle.type_terms.specs.Kept.{has-later}
-use Rattle.type_terms.specs.Promised.Rules.{by_impl}
-use Rattle.type_terms.specs.Terms.{args_lists}
-use Rattle.type_terms.proofs.Grown.{grew-on}
-use Rattle.declarations.specs.Items.{declared}
-use Rattle.declarations.proofs.Growth.{reference-kept}
-use Rattle.candidate_assembly.specs.Kept.{ready-kept}
-use Rattle.proof_checker.proofs.Results.{mapped}
+use Rattle.sessions.specs.TypeTerms.Kept.{has-later}
+use Rattle.sessions.specs.TypeTerms.Promised.Rules.{by_impl}
+use Rattle.sessions.specs.TypeTerms.Terms.{args_lists}
+use Rattle.sessions.proofs.TypeTerms.Grown.{grew-on}
+use Rattle.sessions.specs.Declarations.Items.{declared}
+use Rattle.sessions.proofs.Declarations.Growth.{reference-kept}
+use Rattle.sessions.specs.CandidateAssembly.Kept.{ready-kept}
+use Rattle.sessions.proofs.ProofChecker.Results.{mapped}
 use Rattle.sessions.proofs.ShownProofs.{covered-of}
 use Rattle.explain_sessions.proofs.RuleCandidates.{follows-before}
 use Rattle.explain_sessions.proofs.pairs.both_conclude.Goals as goal

@@ -1,11 +1,11 @@
 use Rattle.std.proofs.Common.{sym, subst}
 use Rattle.std.specs.Prelude.{IfSome}
-use Rattle.type_terms.proofs.Grown.{grew-on}
-use Rattle.declarations.specs.Items.{declared}
-use Rattle.declarations.proofs.Growth.{reference-kept}
-use Rattle.candidate_assembly.specs.Kept.{ready-kept}
-use Rattle.proof_checker.specs.Steps.{term_of}
-use Rattle.proof_checker.proofs.Later.{term-same}
+use Rattle.sessions.proofs.TypeTerms.Grown.{grew-on}
+use Rattle.sessions.specs.Declarations.Items.{declared}
+use Rattle.sessions.proofs.Declarations.Growth.{reference-kept}
+use Rattle.sessions.specs.CandidateAssembly.Kept.{ready-kept}
+use Rattle.sessions.specs.ProofChecker.Steps.{term_of}
+use Rattle.sessions.proofs.ProofChecker.Later.{term-same}
 use Rattle.explain_sessions.specs.Walked.{CommonHeld}
 use Rattle.explain_sessions.proofs.RuleCandidates.{both-moved}
 use Rattle.explain_sessions.proofs.pairs.checked_common.Goals as goal

@@ -1,10 +1,10 @@
-use Rattle.type_terms.specs.Kept.{has-later}
+use Rattle.sessions.specs.TypeTerms.Kept.{has-later}
 use Rattle.std.proofs.Common.{subst}
 use Rattle.std.specs.Prelude.{IfSome}
-use Rattle.type_terms.specs.Promised.Handles.{Has}
-use Rattle.type_terms.specs.Terms.{args_lists}
-use Rattle.type_terms.proofs.Grown.{grew-on}
-use Rattle.overlap_check.proofs.Headers.{impl-later, well-later}
+use Rattle.sessions.specs.TypeTerms.Promised.Handles.{Has}
+use Rattle.sessions.specs.TypeTerms.Terms.{args_lists}
+use Rattle.sessions.proofs.TypeTerms.Grown.{grew-on}
+use Rattle.sessions.proofs.OverlapCheck.Headers.{impl-later, well-later}
 use Rattle.explain_sessions.proofs.pairs.common_header.Goals as goal
 
 pub fresh_impl_header-requires-2-clause-held : goal.fresh_impl_header-requires-2-clause-held

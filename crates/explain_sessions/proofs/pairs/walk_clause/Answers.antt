@@ -1,6 +1,6 @@
-use Rattle.term_folds.specs.declared.predicate.TraitRef.{TraitRef}
-use Rattle.type_terms.specs.Promised.Handles.{Has}
-use Rattle.type_terms.specs.Terms.{args_lists}
+use Rattle.sessions.specs.TermFolds.declared.predicate.TraitRef.{TraitRef}
+use Rattle.sessions.specs.TypeTerms.Promised.Handles.{Has}
+use Rattle.sessions.specs.TypeTerms.Terms.{args_lists}
 use Rattle.std.proofs.Common.{[], sym, subst}
 use Rattle.sessions.proofs.Posing.{goal-held}
 use Rattle.explain_sessions.proofs.Rests.{rests-asked, askable-at-rest, rests-none}

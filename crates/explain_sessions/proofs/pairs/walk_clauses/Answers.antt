@@ -1,6 +1,6 @@
 use Rattle.std.proofs.Common.{subst}
-use Rattle.declarations.specs.Applied.{TraitRefsHeld}
-use Rattle.declarations.proofs.Growth.{reference-kept}
+use Rattle.sessions.specs.Declarations.Applied.{TraitRefsHeld}
+use Rattle.sessions.proofs.Declarations.Growth.{reference-kept}
 use Rattle.explain_sessions.proofs.Rests.{rests-further, rests-here, rests-none}
 use Rattle.explain_sessions.proofs.pairs.walk_clauses.Goals as goal
 

@@ -1,6 +1,6 @@
 use Rattle.std.proofs.Common.{length}
-use Rattle.infer_table.specs.Content.{Ready}
-use Rattle.declarations.specs.Applied.{TraitRefsHeld}
+use Rattle.sessions.specs.InferTable.Content.{Ready}
+use Rattle.sessions.specs.Declarations.Applied.{TraitRefsHeld}
 use Rattle.explain_traces.specs.Walking.{ReferencesHeld}
 use Rattle.explain_sessions.specs.Walked.{RestsAfter}
 use Rattle.explain_sessions.proofs.pairs.walk_clauses.Given as goal

@@ -1,8 +1,8 @@
 use Rattle.std.proofs.Common.{sym, subst}
-use Rattle.type_terms.specs.Kept.{has-later}
-use Rattle.type_terms.specs.Terms.{args_lists}
-use Rattle.declarations.specs.Applied.{TraitRefsHeld}
-use Rattle.declarations.proofs.Growth.{references-kept}
+use Rattle.sessions.specs.TypeTerms.Kept.{has-later}
+use Rattle.sessions.specs.TypeTerms.Terms.{args_lists}
+use Rattle.sessions.specs.Declarations.Applied.{TraitRefsHeld}
+use Rattle.sessions.proofs.Declarations.Growth.{references-kept}
 use Rattle.explain_traces.specs.Walking.{ReferencesHeld}
 use Rattle.explain_sessions.proofs.Rests.{rests-further, rests-here}
 use Rattle.explain_sessions.proofs.pairs.walk_intersection.Goals as goal

@@ -1,10 +1,10 @@
 use Rattle.std.proofs.Common.{◌≡◌, true, refl, ap, ◌∙◌, sym, subst}
 use Rattle.std.specs.Prelude.{IfSome}
-use Rattle.type_terms.specs.Kept.{has-later}
-use Rattle.type_terms.specs.Terms.{args_lists}
-use Rattle.declarations.specs.Held.{ReferenceHeld}
-use Rattle.proof_checker.specs.Steps.{term_of}
-use Rattle.proof_checker.proofs.Later.{term-same}
+use Rattle.sessions.specs.TypeTerms.Kept.{has-later}
+use Rattle.sessions.specs.TypeTerms.Terms.{args_lists}
+use Rattle.sessions.specs.Declarations.Held.{ReferenceHeld}
+use Rattle.sessions.specs.ProofChecker.Steps.{term_of}
+use Rattle.sessions.proofs.ProofChecker.Later.{term-same}
 use Rattle.sessions.specs.Checking.{HaveOwnNumbers, IsFoundAt, rules_in}
 use Rattle.explain_sessions.specs.Rules.{HasRulesByBoth}
 use Rattle.explain_sessions.proofs.RuleCandidates.{both-moved}

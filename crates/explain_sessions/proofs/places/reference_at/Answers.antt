@@ -1,4 +1,4 @@
-use Rattle.proof_checker.proofs.Ways.{get-at}
+use Rattle.sessions.proofs.ProofChecker.Ways.{get-at}
 use Rattle.explain_sessions.proofs.places.reference_at.Goals as goal
 
 pub returns-then-place-references : goal.returns-then-place-references

@@ -1,6 +1,6 @@
 use Rattle.std.proofs.Common.{sym, subst}
-use Rattle.declarations.specs.Applied.{AreApplied, TraitRefsHeld}
-use Rattle.infer_table.proofs.Numbers.{goal-held-later}
+use Rattle.sessions.specs.Declarations.Applied.{AreApplied, TraitRefsHeld}
+use Rattle.sessions.proofs.InferTable.Numbers.{goal-held-later}
 use Rattle.explain_sessions.proofs.Rests.{advanced-further}
 use Rattle.explain_sessions.proofs.questions.pose.Goals as goal
 

@@ -1,7 +1,7 @@
 use Rattle.std.proofs.Common.{sym, subst}
-use Rattle.declarations.specs.Applied.{AreApplied, TraitRefsHeld}
-use Rattle.candidate_assembly.specs.declared.solver.Solver.{Solver}
-use Rattle.declarations.proofs.Growth.{references-kept}
+use Rattle.sessions.specs.Declarations.Applied.{AreApplied, TraitRefsHeld}
+use Rattle.sessions.specs.CandidateAssembly.declared.solver.Solver.{Solver}
+use Rattle.sessions.proofs.Declarations.Growth.{references-kept}
 use Rattle.explain_sessions.proofs.Rests.{advanced-further, rests-advanced, rests-further, rests-here}
 use Rattle.explain_sessions.proofs.questions.walk_proof.Goals as goal
 

@@ -1,6 +1,6 @@
 use Rattle.std.proofs.Common.{sym, subst}
-use Rattle.declarations.specs.Applied.{AreApplied}
-use Rattle.candidate_assembly.specs.declared.solver.Solver.{Solver}
+use Rattle.sessions.specs.Declarations.Applied.{AreApplied}
+use Rattle.sessions.specs.CandidateAssembly.declared.solver.Solver.{Solver}
 use Rattle.explain_sessions.proofs.Rests.{advanced-further, rests-advanced, rests-further}
 use Rattle.explain_sessions.proofs.questions.walk_question.Goals as goal
 

@@ -1,8 +1,8 @@
 use Rattle.std.proofs.Common.{[], sym, subst}
-use Rattle.type_terms.specs.Kept.{has-later}
-use Rattle.type_terms.specs.Promised.Handles.{Has}
-use Rattle.type_terms.specs.Terms.{args_lists}
-use Rattle.term_folds.specs.declared.predicate.TraitRef.{TraitRef}
+use Rattle.sessions.specs.TypeTerms.Kept.{has-later}
+use Rattle.sessions.specs.TypeTerms.Promised.Handles.{Has}
+use Rattle.sessions.specs.TypeTerms.Terms.{args_lists}
+use Rattle.sessions.specs.TermFolds.declared.predicate.TraitRef.{TraitRef}
 use Rattle.sessions.proofs.Posing.{goal-held}
 use Rattle.explain_sessions.proofs.Rests.{advanced-further, rests-advanced, rests-further}
 use Rattle.explain_sessions.proofs.questions.walk_refutation.Goals as goal

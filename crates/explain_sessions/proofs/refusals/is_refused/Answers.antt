@@ -1,5 +1,5 @@
 use Rattle.std.proofs.Common.{sym, ◌∙◌}
-use Rattle.declarations.proofs.Growth.{reference-kept}
+use Rattle.sessions.proofs.Declarations.Growth.{reference-kept}
 use Rattle.explain_sessions.proofs.Rests.{rests-advanced, rests-asked, rests-further, rests-here}
 use Rattle.explain_sessions.proofs.RefusedGoals.{when-refused, refused-here, refused-before, solves-later}
 use Rattle.explain_sessions.proofs.refusals.is_refused.Goals as goal

@@ -2,7 +2,7 @@ use Rattle.std.proofs.Common.{◌≡◌, true, Some, sym, subst}
 use Rattle.std.specs.Prelude.{IfOk, slice_get}
 use Rattle.explain_traces.specs.Walking.{ReferencesHeld}
 use Rattle.explain_traces.proofs.Walks.{references-later}
-use Rattle.proof_checker.proofs.Results.{mapped}
+use Rattle.sessions.proofs.ProofChecker.Results.{mapped}
 use Rattle.sessions.specs.Promised.Promises.{view_in}
 use Rattle.sessions.specs.Promised.Subjects.{Subject}
 use Rattle.sessions.proofs.Keeping.{session-rests}

@@ -1,5 +1,5 @@
 use Rattle.std.proofs.Common.{refl, sym, subst}
-use Rattle.declarations.specs.Promised.Elaboration.{Each}
+use Rattle.sessions.specs.Declarations.Promised.Elaboration.{Each}
 use Rattle.sessions.specs.Promised.Promises.{view_in}
 use Rattle.explain_sessions.specs.Refusals.{IsRefusedAt}
 use Rattle.explain_sessions.proofs.RefusedGoals.{at-staying}

@@ -1,4 +1,4 @@
-use Rattle.declarations.specs.Promised.Elaboration.{Each}
+use Rattle.sessions.specs.Declarations.Promised.Elaboration.{Each}
 use Rattle.sessions.specs.Promised.Promises.{view_in}
 use Rattle.sessions.specs.Promised.Subjects.{StaysOn}
 use Rattle.explain_sessions.specs.Refusals.{IsRefusedAt}

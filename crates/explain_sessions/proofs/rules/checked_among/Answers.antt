@@ -1,10 +1,10 @@
 use Rattle.std.proofs.Common.{sym, subst}
-use Rattle.type_terms.proofs.Grown.{grew-on}
-use Rattle.declarations.specs.Items.{declared}
-use Rattle.declarations.specs.Promised.Elaboration.{Each}
-use Rattle.candidate_assembly.specs.Kept.{ready-kept}
+use Rattle.sessions.proofs.TypeTerms.Grown.{grew-on}
+use Rattle.sessions.specs.Declarations.Items.{declared}
+use Rattle.sessions.specs.Declarations.Promised.Elaboration.{Each}
+use Rattle.sessions.specs.CandidateAssembly.Kept.{ready-kept}
 use Rattle.explain_traces.proofs.Walks.{references-later}
-use Rattle.infer_table.specs.Kept.{ready-later}
+use Rattle.sessions.specs.InferTable.Kept.{ready-later}
 use Rattle.explain_sessions.specs.Rules.{IsRuleAt, MayApplyAt}
 use Rattle.explain_sessions.proofs.RuleCandidates.{put-if, at-before, may-before}
 use Rattle.explain_sessions.proofs.rules.checked_among.Goals as goal

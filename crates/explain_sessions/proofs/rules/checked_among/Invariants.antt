@@ -1,7 +1,7 @@
-use Rattle.declarations.specs.Items.{declared}
-use Rattle.declarations.specs.Promised.Elaboration.{Each}
-use Rattle.infer_table.specs.Content.{Ready}
-use Rattle.type_terms.specs.Growth.{Grew}
+use Rattle.sessions.specs.Declarations.Items.{declared}
+use Rattle.sessions.specs.Declarations.Promised.Elaboration.{Each}
+use Rattle.sessions.specs.InferTable.Content.{Ready}
+use Rattle.sessions.specs.TypeTerms.Growth.{Grew}
 use Rattle.explain_sessions.specs.Rules.{IsRuleAt, MayApplyAt}
 use Rattle.explain_sessions.proofs.rules.checked_among.Given as goal
 

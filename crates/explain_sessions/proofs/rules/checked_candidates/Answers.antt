@@ -1,7 +1,7 @@
 use Rattle.std.proofs.Common.{ap, subst, sym}
 use Rattle.std.specs.Prelude.{IfOk}
-use Rattle.type_terms.specs.Promised.Worlds.{World}
-use Rattle.proof_checker.proofs.Results.{mapped}
+use Rattle.sessions.specs.TypeTerms.Promised.Worlds.{World}
+use Rattle.sessions.proofs.ProofChecker.Results.{mapped}
 use Rattle.explain_traces.proofs.Walks.{references-later}
 use Rattle.sessions.specs.Promised.Promises.{view_in}
 use Rattle.sessions.specs.Promised.Subjects.{Subject}

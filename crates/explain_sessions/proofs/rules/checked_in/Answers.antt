@@ -1,5 +1,5 @@
 use Rattle.std.proofs.Common.{refl}
-use Rattle.infer_table.proofs.TableFacts.{empty-ready}
+use Rattle.sessions.proofs.InferTable.TableFacts.{empty-ready}
 use Rattle.explain_sessions.proofs.Rests.{grown}
 use Rattle.explain_sessions.proofs.rules.checked_in.Goals as goal
 

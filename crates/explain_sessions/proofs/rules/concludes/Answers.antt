@@ -1,8 +1,8 @@
 use Rattle.std.proofs.Common.{refl, sym, subst}
-use Rattle.type_terms.specs.Promised.Rules.{by_impl, built_in}
-use Rattle.declarations.specs.Items.{declared}
-use Rattle.infer_table.specs.Kept.{ready-later}
-use Rattle.proof_checker.proofs.Results.{mapped}
+use Rattle.sessions.specs.TypeTerms.Promised.Rules.{by_impl, built_in}
+use Rattle.sessions.specs.Declarations.Items.{declared}
+use Rattle.sessions.specs.InferTable.Kept.{ready-later}
+use Rattle.sessions.proofs.ProofChecker.Results.{mapped}
 use Rattle.explain_sessions.specs.Rules.{Concludes}
 use Rattle.explain_sessions.proofs.rules.concludes.Goals as goal
 

@@ -1,10 +1,10 @@
-use Rattle.type_terms.specs.Promised.Rules.{by_impl}
-use Rattle.declarations.specs.Items.{declared}
-use Rattle.declarations.proofs.Growth.{reference-kept, references-kept}
-use Rattle.infer_table.specs.Kept.{ready-later}
-use Rattle.candidate_assembly.specs.Kept.{ready-kept}
-use Rattle.overlap_check.proofs.Judged.{found-well}
-use Rattle.proof_checker.proofs.Results.{mapped}
+use Rattle.sessions.specs.TypeTerms.Promised.Rules.{by_impl}
+use Rattle.sessions.specs.Declarations.Items.{declared}
+use Rattle.sessions.proofs.Declarations.Growth.{reference-kept, references-kept}
+use Rattle.sessions.specs.InferTable.Kept.{ready-later}
+use Rattle.sessions.specs.CandidateAssembly.Kept.{ready-kept}
+use Rattle.sessions.proofs.OverlapCheck.Judged.{found-well}
+use Rattle.sessions.proofs.ProofChecker.Results.{mapped}
 use Rattle.sessions.proofs.ShownProofs.{covered-of}
 use Rattle.explain_sessions.proofs.RuleCandidates.{follows-before}
 use Rattle.explain_sessions.proofs.rules.follows_by.Goals as goal

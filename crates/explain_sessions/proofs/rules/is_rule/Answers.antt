@@ -1,10 +1,10 @@
 use Rattle.std.proofs.Common.{◌≡◌, ℕ, List, sym, subst, Some}
 use Rattle.std.specs.Prelude.{IfSome}
 use Rattle.std.specs.List.{AllZip, slice_get}
-use Rattle.term_folds.specs.declared.predicate.TraitRef.{TraitRef}
-use Rattle.declarations.specs.Applied.{TraitRefsHeld}
-use Rattle.declarations.specs.Items.{declared}
-use Rattle.proof_checker.proofs.Results.{mapped}
+use Rattle.sessions.specs.TermFolds.declared.predicate.TraitRef.{TraitRef}
+use Rattle.sessions.specs.Declarations.Applied.{TraitRefsHeld}
+use Rattle.sessions.specs.Declarations.Items.{declared}
+use Rattle.sessions.proofs.ProofChecker.Results.{mapped}
 use Rattle.explain_sessions.specs.Rules.{Concludes}
 use Rattle.explain_sessions.proofs.RuleCandidates.{there-held, all-held}
 use Rattle.explain_sessions.proofs.rules.is_rule.Goals as goal

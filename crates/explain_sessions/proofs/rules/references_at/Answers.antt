@@ -1,7 +1,7 @@
 use Rattle.std.proofs.Common.{◌≡◌, ℕ, ◌+◌, refl, sym, subst, Some, take, get_or}
 use Rattle.std.specs.List.{AllZip, slice_get}
 use Rattle.std.proofs.lemmas.Option.{slice_get-get_or}
-use Rattle.term_folds.specs.declared.predicate.TraitRef.{TraitRef}
+use Rattle.sessions.specs.TermFolds.declared.predicate.TraitRef.{TraitRef}
 use Rattle.explain_sessions.proofs.RuleCandidates.{zip-push}
 use Rattle.explain_sessions.proofs.rules.references_at.Goals as goal
 

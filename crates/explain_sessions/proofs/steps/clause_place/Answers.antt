@@ -1,5 +1,5 @@
-use Rattle.type_terms.proofs.Grown.{grew-none, grew-on}
-use Rattle.declarations.proofs.Growth.{reference-kept, references-kept}
+use Rattle.sessions.proofs.TypeTerms.Grown.{grew-none, grew-on}
+use Rattle.sessions.proofs.Declarations.Growth.{reference-kept, references-kept}
 use Rattle.explain_sessions.proofs.steps.clause_place.Goals as goal
 
 pub by_clause-requires-clause-clauses : goal.by_clause-requires-clause-clauses

@@ -1,6 +1,6 @@
-use Rattle.type_terms.proofs.Grown.{grew-on}
-use Rattle.declarations.proofs.Elaborating.{have-bounds-later}
-use Rattle.declarations.proofs.Growth.{all-held, references-kept}
+use Rattle.sessions.proofs.TypeTerms.Grown.{grew-on}
+use Rattle.sessions.proofs.Declarations.Elaborating.{have-bounds-later}
+use Rattle.sessions.proofs.Declarations.Growth.{all-held, references-kept}
 use Rattle.explain_sessions.proofs.steps.clause_way.Goals as goal
 
 pub supertrait_place-requires-clause-declared : goal.supertrait_place-requires-clause-declared

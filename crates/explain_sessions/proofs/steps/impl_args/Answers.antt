@@ -1,6 +1,6 @@
-use Rattle.type_terms.proofs.Grown.{grew-on}
-use Rattle.type_terms.specs.Terms.{args_lists}
-use Rattle.type_terms.specs.Kept.{has-later}
+use Rattle.sessions.proofs.TypeTerms.Grown.{grew-on}
+use Rattle.sessions.specs.TypeTerms.Terms.{args_lists}
+use Rattle.sessions.specs.TypeTerms.Kept.{has-later}
 use Rattle.explain_sessions.proofs.steps.impl_args.Goals as goal
 
 pub fresh_impl_header-requires-clause-ready : goal.fresh_impl_header-requires-clause-ready

@@ -1,5 +1,5 @@
-use Rattle.type_terms.proofs.Grown.{grew-none}
-use Rattle.overlap_check.proofs.Judged.{found-well}
+use Rattle.sessions.proofs.TypeTerms.Grown.{grew-none}
+use Rattle.sessions.proofs.OverlapCheck.Judged.{found-well}
 use Rattle.explain_sessions.proofs.steps.impl_way.Goals as goal
 
 pub impl_args-requires-clause-written : goal.impl_args-requires-clause-written

@@ -1,10 +1,10 @@
-use Rattle.type_terms.proofs.Grown.{grew-none}
+use Rattle.sessions.proofs.TypeTerms.Grown.{grew-none}
 use Rattle.std.proofs.Common.{◌≡◌, Some, subst}
 use Rattle.std.specs.List.{slice_get}
-use Rattle.type_terms.specs.Kept.{has-later}
-use Rattle.type_terms.specs.Promised.Handles.{Has}
-use Rattle.type_terms.specs.Terms.{args_lists}
-use Rattle.term_folds.specs.declared.predicate.TraitRef.{TraitRef}
+use Rattle.sessions.specs.TypeTerms.Kept.{has-later}
+use Rattle.sessions.specs.TypeTerms.Promised.Handles.{Has}
+use Rattle.sessions.specs.TypeTerms.Terms.{args_lists}
+use Rattle.sessions.specs.TermFolds.declared.predicate.TraitRef.{TraitRef}
 use Rattle.explain_sessions.proofs.ShownSteps.{every-there}
 use Rattle.explain_sessions.proofs.steps.step_of.Goals as goal
 

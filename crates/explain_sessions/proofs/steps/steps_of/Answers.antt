@@ -1,15 +1,15 @@
 use Rattle.std.proofs.Common.{◌+◌, [], ◌∙◌, refl, sym, ap, subst, Some, take}
 use Rattle.std.specs.Prelude.{IfSome}
 use Rattle.std.proofs.lemmas.Option.{slice_get-get_or}
-use Rattle.declarations.specs.Promised.Elaboration.{Each}
-use Rattle.declarations.proofs.Growth.{references-kept}
+use Rattle.sessions.specs.Declarations.Promised.Elaboration.{Each}
+use Rattle.sessions.proofs.Declarations.Growth.{references-kept}
 use Rattle.explain_traces.proofs.Walks.{references-later}
-use Rattle.proof_checker.specs.Steps.{StepHeld}
-use Rattle.proof_checker.proofs.Later.{steps-kept}
+use Rattle.sessions.specs.ProofChecker.Steps.{StepHeld}
+use Rattle.sessions.proofs.ProofChecker.Later.{steps-kept}
 use Rattle.explain_sessions.specs.Shown.{StepIsShown, StepsAreShown}
 use Rattle.explain_sessions.proofs.ShownSteps.{each-push, shown-push}
-use Rattle.type_terms.proofs.Grown.{grew-none, grew-on}
-use Rattle.candidate_assembly.specs.Kept.{ready-kept}
+use Rattle.sessions.proofs.TypeTerms.Grown.{grew-none, grew-on}
+use Rattle.sessions.specs.CandidateAssembly.Kept.{ready-kept}
 use Rattle.explain_sessions.proofs.steps.steps_of.Goals as goal
 
 pub loop-next-init : goal.loop-next-init

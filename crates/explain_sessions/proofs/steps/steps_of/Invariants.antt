@@ -1,8 +1,8 @@
 use Rattle.std.proofs.Common.{take}
-use Rattle.declarations.specs.Promised.Elaboration.{Each}
-use Rattle.infer_table.specs.Content.{Ready}
-use Rattle.proof_checker.specs.Steps.{StepHeld}
-use Rattle.type_terms.specs.Growth.{Grew}
+use Rattle.sessions.specs.Declarations.Promised.Elaboration.{Each}
+use Rattle.sessions.specs.InferTable.Content.{Ready}
+use Rattle.sessions.specs.ProofChecker.Steps.{StepHeld}
+use Rattle.sessions.specs.TypeTerms.Growth.{Grew}
 use Rattle.explain_sessions.specs.Shown.{StepsAreShown}
 use Rattle.explain_sessions.proofs.steps.steps_of.Given as goal
 

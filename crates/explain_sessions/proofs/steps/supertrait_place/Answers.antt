@@ -1,6 +1,6 @@
-use Rattle.type_terms.proofs.Grown.{grew-none, grew-on}
-use Rattle.declarations.proofs.Elaborating.{have-bounds-later}
-use Rattle.declarations.proofs.Growth.{all-held, reference-kept, references-kept}
+use Rattle.sessions.proofs.TypeTerms.Grown.{grew-none, grew-on}
+use Rattle.sessions.proofs.Declarations.Elaborating.{have-bounds-later}
+use Rattle.sessions.proofs.Declarations.Growth.{all-held, reference-kept, references-kept}
 use Rattle.explain_sessions.proofs.steps.supertrait_place.Goals as goal
 
 pub by_supertrait-requires-clause-declared : goal.by_supertrait-requires-clause-declared

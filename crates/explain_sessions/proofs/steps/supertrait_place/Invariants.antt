@@ -1,4 +1,4 @@
-use Rattle.type_terms.specs.Growth.{Grew}
+use Rattle.sessions.specs.TypeTerms.Growth.{Grew}
 use Rattle.explain_sessions.proofs.steps.supertrait_place.Given as goal
 
 abbrev pub invariant-loop-place : goal.invariant-loop-place

@@ -1,4 +1,4 @@
-use Rattle.type_terms.proofs.Grown.{grew-none}
+use Rattle.sessions.proofs.TypeTerms.Grown.{grew-none}
 use Rattle.explain_traces.proofs.Walks.{ready-later}
 use Rattle.explain_sessions.proofs.steps.way_by.Goals as goal
 

@@ -1,8 +1,8 @@
 use Rattle.std.proofs.Common.{sym, subst}
 use Rattle.std.specs.Prelude.{IfSome}
-use Rattle.declarations.specs.Promised.Elaboration.{Each}
+use Rattle.sessions.specs.Declarations.Promised.Elaboration.{Each}
 use Rattle.explain_traces.proofs.Walks.{references-later}
-use Rattle.proof_checker.specs.Steps.{StepHeld}
+use Rattle.sessions.specs.ProofChecker.Steps.{StepHeld}
 use Rattle.explain_sessions.proofs.steps.with_steps.Goals as goal
 
 pub returns-in-Some-clause-held : goal.returns-in-Some-clause-held

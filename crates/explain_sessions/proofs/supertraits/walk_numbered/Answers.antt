@@ -1,7 +1,7 @@
 use Rattle.explain_sessions.proofs.Rests.{rests-none}
 use Rattle.std.proofs.Common.{sym, subst}
-use Rattle.declarations.specs.Applied.{TraitRefsHeld}
-use Rattle.declarations.specs.Held.{ReferenceHeld}
+use Rattle.sessions.specs.Declarations.Applied.{TraitRefsHeld}
+use Rattle.sessions.specs.Declarations.Held.{ReferenceHeld}
 use Rattle.explain_sessions.proofs.ShownSteps.{each-moved}
 use Rattle.explain_sessions.proofs.supertraits.walk_numbered.Goals as goal
 

@@ -1,5 +1,5 @@
 use Rattle.std.proofs.Common.{subst}
-use Rattle.declarations.specs.Items.{written}
+use Rattle.sessions.specs.Declarations.Items.{written}
 use Rattle.sessions.specs.Supertraits.{AreOfOwn}
 use Rattle.explain_sessions.proofs.Rests.{rests-advanced, rests-further}
 use Rattle.explain_sessions.proofs.supertraits.walk_supertrait.Goals as goal

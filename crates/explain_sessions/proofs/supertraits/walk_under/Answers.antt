@@ -1,10 +1,10 @@
 use Rattle.std.proofs.Common.{sym, subst}
-use Rattle.type_terms.specs.Kept.{has-later}
-use Rattle.type_terms.specs.Promised.Handles.{Has}
-use Rattle.type_terms.specs.Terms.{args_lists}
-use Rattle.term_folds.specs.declared.predicate.TraitRef.{TraitRef}
+use Rattle.sessions.specs.TypeTerms.Kept.{has-later}
+use Rattle.sessions.specs.TypeTerms.Promised.Handles.{Has}
+use Rattle.sessions.specs.TypeTerms.Terms.{args_lists}
+use Rattle.sessions.specs.TermFolds.declared.predicate.TraitRef.{TraitRef}
 use Rattle.sessions.proofs.Posing.{goal-held}
-use Rattle.declarations.proofs.Growth.{references-kept}
+use Rattle.sessions.proofs.Declarations.Growth.{references-kept}
 use Rattle.explain_sessions.proofs.Rests.{rests-advanced, rests-further, rests-none}
 use Rattle.explain_sessions.proofs.supertraits.walk_under.Goals as goal
 

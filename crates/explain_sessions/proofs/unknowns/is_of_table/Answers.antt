@@ -1,13 +1,13 @@
 use Rattle.std.proofs.Common.{ap, ◌∙◌, sym, is_some, not}
 use Rattle.std.specs.ControlFlow.{break_value}
-use Rattle.type_terms.specs.Promised.Handles.{trees_at}
-use Rattle.candidate_assembly.specs.Finding.{at_root}
-use Rattle.candidate_assembly.proofs.FindingOnce.{once-finds}
+use Rattle.sessions.specs.TypeTerms.Promised.Handles.{trees_at}
+use Rattle.sessions.specs.CandidateAssembly.Finding.{at_root}
+use Rattle.sessions.proofs.CandidateAssembly.FindingOnce.{once-finds}
 use Rattle.explain_sessions.specs.Unknowns.{is_other_place, known_to, speaks_of_known}
 use Rattle.explain_sessions.specs.declared.unknowns.FindsOther.{FindsOther}
 use Rattle.explain_sessions.proofs.OwnTerms.{visitor_at, same-counts}
 use Rattle.explain_sessions.proofs.unknowns.is_of_table.Goals as goal
-use Rattle.candidate_assembly.proofs.Finding.{some-at-root}
+use Rattle.sessions.proofs.CandidateAssembly.Finding.{some-at-root}
 
 pub returns-in-Break : goal.returns-in-Break
 returns-in-Break c =

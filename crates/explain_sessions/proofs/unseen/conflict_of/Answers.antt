@@ -1,7 +1,7 @@
 use Rattle.std.proofs.Common.{refl, ap, subst}
-use Rattle.infer_table.specs.Content.{Table}
-use Rattle.declarations.specs.Items.{declared, reference_in}
-use Rattle.orphan_check.specs.Exact.{WalkTellsKnown}
+use Rattle.sessions.specs.InferTable.Content.{Table}
+use Rattle.sessions.specs.Declarations.Items.{declared, reference_in}
+use Rattle.sessions.specs.OrphanCheck.Exact.{WalkTellsKnown}
 use Rattle.explain_sessions.proofs.UnseenCrates.{unread, told-known, told-conflict, never-deep}
 use Rattle.explain_sessions.proofs.unseen.conflict_of.Goals as goal
 

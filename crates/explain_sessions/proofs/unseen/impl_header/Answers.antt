@@ -1,5 +1,5 @@
 use Rattle.std.proofs.Common.{subst}
-use Rattle.declarations.specs.Held.{ReferenceHeld}
+use Rattle.sessions.specs.Declarations.Held.{ReferenceHeld}
 use Rattle.sessions.specs.Promised.Subjects.{Subject}
 use Rattle.explain_sessions.proofs.unseen.impl_header.Goals as goal
 

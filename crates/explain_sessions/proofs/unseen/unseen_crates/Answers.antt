@@ -1,8 +1,8 @@
 use Rattle.std.proofs.Common.{sym, subst}
 use Rattle.std.specs.Prelude.{IfOk, ℕ}
-use Rattle.type_terms.specs.Promised.Worlds.{World}
-use Rattle.declarations.specs.Held.{ReferenceHeld}
-use Rattle.declarations.specs.Items.{declared, reference_in}
+use Rattle.sessions.specs.TypeTerms.Promised.Worlds.{World}
+use Rattle.sessions.specs.Declarations.Held.{ReferenceHeld}
+use Rattle.sessions.specs.Declarations.Items.{declared, reference_in}
 use Rattle.sessions.specs.Promised.Promises.{view_in}
 use Rattle.sessions.specs.Promised.Subjects.{Subject}
 use Rattle.explain_sessions.specs.Unseen.{IsUnseen}

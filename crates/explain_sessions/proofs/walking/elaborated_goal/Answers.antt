@@ -1,9 +1,9 @@
 use Rattle.std.proofs.Common.{sym, subst}
-use Rattle.type_terms.specs.Kept.{has-later}
-use Rattle.type_terms.specs.Promised.Handles.{Has}
-use Rattle.type_terms.specs.Terms.{args_lists}
-use Rattle.term_folds.specs.declared.predicate.TraitRef.{TraitRef}
-use Rattle.declarations.specs.Applied.{TraitRefsHeld}
+use Rattle.sessions.specs.TypeTerms.Kept.{has-later}
+use Rattle.sessions.specs.TypeTerms.Promised.Handles.{Has}
+use Rattle.sessions.specs.TypeTerms.Terms.{args_lists}
+use Rattle.sessions.specs.TermFolds.declared.predicate.TraitRef.{TraitRef}
+use Rattle.sessions.specs.Declarations.Applied.{TraitRefsHeld}
 use Rattle.sessions.proofs.Posing.{goal-held}
 use Rattle.explain_sessions.proofs.walking.elaborated_goal.Goals as goal
 

@@ -1,5 +1,5 @@
 use Rattle.explain_sessions.proofs.Rests.{rests-asked, rests-further, rests-here, askable-at-rest}
-use Rattle.infer_table.proofs.Numbers.{goal-held-later}
+use Rattle.sessions.proofs.InferTable.Numbers.{goal-held-later}
 use Rattle.explain_sessions.proofs.walking.walk_settled.Goals as goal
 
 pub returns-in_err-settle-clause-rests : goal.returns-in_err-settle-clause-rests

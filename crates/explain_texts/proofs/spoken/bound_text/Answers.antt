@@ -1,5 +1,5 @@
 use Rattle.std.proofs.Common.{sym, subst}
-use Rattle.type_terms.specs.Promised.Handles.{ArgHeld}
+use Rattle.explain_sessions.specs.TypeTerms.Promised.Handles.{ArgHeld}
 use Rattle.explain_texts.proofs.HeldArgs.{arg-held}
 use Rattle.explain_texts.proofs.spoken.bound_text.Goals as goal
 

@@ -1,5 +1,5 @@
 use Rattle.std.proofs.Common.{rules, sym, subst}
-use Rattle.type_terms.specs.declared.interner.Interner.{Interner}
+use Rattle.text_parser.specs.TypeTerms.declared.interner.Interner.{Interner}
 use Rattle.goal_evaluator.specs.Context.{Context, IsReadyContext}
 use Rattle.goal_evaluator.specs.Probes.{ContextContinues}
 use Rattle.test_solver.proofs.contexts.probe_equation.Goals as goal

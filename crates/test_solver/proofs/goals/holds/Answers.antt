@@ -1,5 +1,5 @@
 use Rattle.std.proofs.Common.{sym, subst}
-use Rattle.type_terms.specs.Promised.Handles.{ArgsHeld}
+use Rattle.text_parser.specs.TypeTerms.Promised.Handles.{ArgsHeld}
 use Rattle.infer_table.specs.Content.{AllConstraintsHeld}
 use Rattle.test_solver.proofs.goals.holds.Goals as goal
 

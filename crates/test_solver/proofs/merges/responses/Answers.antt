@@ -1,4 +1,4 @@
-use Rattle.type_terms.specs.Kept.{args-held-later}
+use Rattle.text_parser.specs.TypeTerms.Kept.{args-held-later}
 use Rattle.test_solver.proofs.Responses.{two-held}
 use Rattle.test_solver.proofs.merges.responses.Goals as goal
 

@@ -1,5 +1,5 @@
-use Rattle.type_terms.specs.Promised.Handles.{types}
-use Rattle.type_terms.specs.Kept.{has-later}
+use Rattle.text_parser.specs.TypeTerms.Promised.Handles.{types}
+use Rattle.text_parser.specs.TypeTerms.Kept.{has-later}
 use Rattle.test_solver.proofs.slice_candidates.equation.Goals as goal
 
 pub returns-clause-held : goal.returns-clause-held

@@ -1,8 +1,8 @@
 use Rattle.std.proofs.Common.{ℕ, List, Ok, subst, sym}
 use Rattle.std.specs.Prelude.{IfOk, IfErr}
 use Rattle.std.proofs.lemmas.Result.{err_from_is_err_and}
-use Rattle.text_language.specs.Promised.Declarations.{Declarations}
-use Rattle.text_language.specs.Text.{TextGives}
+use Rattle.sessions.specs.TextLanguage.Promised.Declarations.{Declarations}
+use Rattle.sessions.specs.TextLanguage.Text.{TextGives}
 use Rattle.text_parser.specs.Behind.{FitsBehind, behind}
 use Rattle.coherence.specs.Asking.{AskedText, IsAskFault, IsLastLine, Serves}
 use Rattle.coherence.proofs.Asking.{last-line, length-fits, parsed-behind, same-asked, shortages-are}
