@@ -189,7 +189,7 @@ listing_of book mode f kinds o = record {
   goal = λ v. fact_of (record { form = f; coinductive = false }) v;
   begin = begin kinds;
   specs = candidates_of book o;
-  FrameRule = FollowsByRule book;
+  Rule = FollowsByRule book;
   World = world_of_search mode f;
   Proves = λ w g. HasProofByBook book g;
   coinductive = is_coinductive_trait book (trait_of f.goal.predicate);

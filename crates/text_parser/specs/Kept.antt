@@ -35,7 +35,7 @@ use Rattle.text_parser.specs.declared.numbering.Numbering.TheVariants.{Item, Que
 
 -- The names are looked up in what this line knows.
 pub record IsSightOf (v : Sight) (l : Line) : Type 0 where
-  pub seen_items : seen_items v ≡ with_own v.before l
+  pub items : seen_items v ≡ with_own v.before l
   pub params : params v ≡ params_of l
 
 -- A trait's own parameters count from 1, those of other seen_items from 0. A query has few variables.
@@ -85,7 +85,7 @@ MeansBounds v rs out =
 -- The line, and what its names stand for.
 pub record IsOfLine (v : Sight) (e : Meanings) (l : Line) : Type 0 where
   pub sight : IsSightOf v l
-  pub seen_items : e.items ≡ seen_items v
+  pub items : e.items ≡ seen_items v
   pub params : e.params ≡ params v
   pub few : FewNames e
   pub numbers : NumbersFit e.items

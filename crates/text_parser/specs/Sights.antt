@@ -26,5 +26,5 @@ HasReadLine read = (l : Line) × ReadsLine l read
 pub record IsSightOfRead (d : Declarations) (read : LineRead) (v : Sight) : Type 0 where
   pub before : v.before ≡ d
   pub line : v.line ≡ bare_line (statement_of read.statement)
-  pub seen_items : (l : Line) → ReadsLine l read → seen_items v ≡ with_own d l
+  pub items : (l : Line) → ReadsLine l read → seen_items v ≡ with_own d l
   pub params : (l : Line) → ReadsLine l read → params v ≡ params_of l
