@@ -198,7 +198,7 @@ fn fill_values(
     requires terms { ArgsHeld cx.old.entries terms.now }
     ensures terms { GrewOrFull cx.old cx.new result }
     ensures held { IfOk result (λ r. ArgsHeld cx.new.entries r.items) }
-    ensures filled_values { IfOk result (λ r. args_trees cx.new.entries r.items ≡ filled_values (values_of cx.old.entries values.now) (args_trees cx.old.entries terms.now)) }
+    ensures filled { IfOk result (λ r. args_trees cx.new.entries r.items ≡ filled_values (values_of cx.old.entries values.now) (args_trees cx.old.entries terms.now)) }
 {
     let terms = cx.mk_args(Vec::from_slice(alloc, terms)?)?;
     let filled = terms.fold_with(alloc, cx, &CanonicalInstantiator { values })?;

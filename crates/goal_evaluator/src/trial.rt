@@ -244,7 +244,7 @@ fn fill(
     requires term { ArgHeld cx.old.entries term }
     ensures terms { GrewOrFull cx.old cx.new result }
     ensures held { IfOk result (λ a. ArgHeld cx.new.entries a) }
-    ensures filled_values { IfOk result (λ a. arg_trees cx.new.entries a ≡ filled_values (values_of cx.old.entries values.now) (arg_trees cx.old.entries term)) }
+    ensures filled { IfOk result (λ a. arg_trees cx.new.entries a ≡ filled_values (values_of cx.old.entries values.now) (arg_trees cx.old.entries term)) }
 {
     term.fold_with(alloc, cx, &CanonicalInstantiator { values })
 }
@@ -449,7 +449,7 @@ fn fill_goals(
     requires goals { Every (λ n. GoalHeld cx.old.entries n.1) goals.now }
     ensures terms { GrewOrFull cx.old cx.new result }
     ensures held { IfOk result (λ gs. NestedHeld cx.new.entries (map nested_goal gs.items)) }
-    ensures filled_values { IfOk result (λ gs. premises_trees cx.new.entries gs.items ≡ premises_filled cx.old.entries values.now goals.now) }
+    ensures filled { IfOk result (λ gs. premises_trees cx.new.entries gs.items ≡ premises_filled cx.old.entries values.now goals.now) }
 {
     let mut filled = VecDeque::new(alloc);
     for premise in goals {

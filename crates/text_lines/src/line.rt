@@ -102,7 +102,7 @@ fn read_tokens<'a>(alloc: Global, tokens: &[Token<'a>]) -> Result<LineRead<'a>, 
     Ok(LineRead { cells, statement })
 }
 
-#[tactic(auto, unfolding(crate::specs::Parts::written_in))]
+#[tactic(auto, unfolding(crate::specs::Parts::statement_in))]
 fn read(alloc: Global, line: &[u8]) -> Result<LineRead<'_>, LineError>
     ensures { GivesAlone read_of result (statement_in line.now) }
 {

@@ -114,7 +114,7 @@ pub(crate) fn pop_args(
     count: u32,
 ) -> Result<Vec<GenericArgKind>, AllocError>
     requires { IsSome (off is_arg count (parts_in stack.old.items)) }
-    ensures pushed_parts { IfOk result (λ args. stack_of stack.old.items ≡ pushed_parts (map lowered_arg args.items) (stack_of stack.new.items)) }
+    ensures pushed { IfOk result (λ args. stack_of stack.old.items ≡ pushed_parts (map lowered_arg args.items) (stack_of stack.new.items)) }
     ensures count { IfOk result (λ args. length args.items ≡ count) }
 {
     let mut args = Vec::new(alloc);
@@ -134,7 +134,7 @@ pub(crate) fn pop_types(
     count: u32,
 ) -> Result<Vec<Ty>, AllocError>
     requires { IsSome (off is_type count (parts_in stack.old.items)) }
-    ensures pushed_parts { IfOk result (λ tys. stack_of stack.old.items ≡ pushed_parts (map lowered_type tys.items) (stack_of stack.new.items)) }
+    ensures pushed { IfOk result (λ tys. stack_of stack.old.items ≡ pushed_parts (map lowered_type tys.items) (stack_of stack.new.items)) }
     ensures count { IfOk result (λ tys. length tys.items ≡ count) }
 {
     let mut tys = Vec::new(alloc);
@@ -167,7 +167,7 @@ pub(crate) fn pop_autos(
     count: u32,
 ) -> Result<Vec<TraitId>, AllocError>
     requires { IsSome (off_autos count None (parts_in stack.old.items)) }
-    ensures pushed_parts { IfOk result (λ autos. stack_of stack.old.items ≡ pushed_parts (map lowered_auto autos.items) (stack_of stack.new.items)) }
+    ensures pushed { IfOk result (λ autos. stack_of stack.old.items ≡ pushed_parts (map lowered_auto autos.items) (stack_of stack.new.items)) }
     ensures count { IfOk result (λ autos. length autos.items ≡ count) }
     ensures rise { IfOk result (λ autos. IsStrictlyIncreasing (map (λ t. t.index) autos.items)) }
 {
