@@ -130,5 +130,5 @@ accepted-texts-are-coherent headline answers d (bytes, t) accepted supers limit 
 
 pub held-texts-are-coherent : HeadlineHolds → AnswersHoldEverywhere → HeldTextsAreCoherent
 held-texts-are-coherent headline answers d (bytes, t) accepted held limit =
-    let a = texts-are-kept bytes d t in
+    let a = texts-are-kept bytes d (text-gives bytes (Ok d) t) in
     coherent d a accepted headline answers (held-supertraits d a accepted held) limit

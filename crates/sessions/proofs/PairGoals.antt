@@ -42,6 +42,7 @@ use Rattle.sessions.specs.Goals.{stands_free, HasFormedTerms}
 use Rattle.sessions.specs.PairGoals.{IsImplOf, AreFormedOver, PairGoalsAreFormed}
 use Rattle.sessions.proofs.FormedViews.{texts-views-are-formed, texts-headers-are-formed}
 use Rattle.sessions.proofs.PairTerms.{fresh-are, sorts-put, nodes-put, trees-put, AllFit, IsFormedTerm, IsFormedTable, formed-kept, resolved-formed, are-values}
+use Rattle.sessions.proofs.GivenTexts.{text-given}
 
 abbrev with_terms : Reference → Trees → Reference
 with_terms r t = record { trait = r.trait; args = t }
@@ -132,6 +133,6 @@ pub pair-goals-are-formed : PairGoalsAreFormed
 pair-goals-are-formed d of c es lawful k j w x l r new found is solved at decls seen =
     let V = written at decls in
     let U = plainly_seen_from d c in
-    let well : is_declared_well V ≡ true = ap is_declared_well seen.written ∙ texts-seen-well of.0 d of.1 c in
-    both-formed V (sorts_in decls) (texts-views-are-formed of.0 d of.1 c at decls seen) (tests-tell V well).terms (texts-headers-are-formed of.0 d of.1 c at decls seen)
+    let well : is_declared_well V ≡ true = ap is_declared_well seen.written ∙ texts-seen-well of.0 d (text-given d of) c in
+    both-formed V (sorts_in decls) (texts-views-are-formed of.0 d (text-given d of) c at decls seen) (tests-tell V well).terms (texts-headers-are-formed of.0 d (text-given d of) c at decls seen)
     es lawful k j w x (impl-there U V seen.written es k w l) (impl-there U V seen.written es j x r) new found is solved

@@ -20,6 +20,7 @@ use Rattle.candidate_assembly.specs.Solving.{Solving}
 use Rattle.sessions.specs.Applying.{SolversClausesApply}
 use Rattle.sessions.proofs.ClausesApply.{texts-clauses-apply}
 use Rattle.type_terms.proofs.TermBasics.{sort-self as same-sort}
+use Rattle.sessions.proofs.GivenTexts.{text-given}
 
 -- ---- sorts
 same-ones : (ss : List Sort) → same_sorts ss ss ≡ true
@@ -104,4 +105,4 @@ module _ (es fs : List Entry) (d e : Items) (same : solving_of es d ≡ solving_
 pub solvers-clauses-apply : SolversClausesApply
 solvers-clauses-apply d t n q is es decls solving held l low =
     each-alike es solving.entries decls solving.declarations solving.is held l.clauses.items
-    (texts-clauses-apply t.0 d t.1 n q is solving.entries solving.declarations solving.seen held l low)
+    (texts-clauses-apply t.0 d (text-given d t) n q is solving.entries solving.declarations solving.seen held l low)
