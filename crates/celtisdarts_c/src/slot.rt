@@ -5,7 +5,7 @@ ghost use Rattle.celtisdarts_c.specs.Asked.{fault_word, TellsNumber, HasNoCrate,
 ghost use Rattle.celtisdarts_c.specs.Told.{Tells, TellsLength};
 
 use crate::told::tell;
-use coherence::{AskFault, Asker, CrateId, RunFault};
+use coherence::{AskFault, Asker, CrateId, Fault};
 
 /// A place for a text that is asked: empty until one was read.
 #[derive(Drop)]
@@ -49,7 +49,7 @@ impl Slot {
             return 9;
         }
         match asker.check(CrateId { index: number }) {
-            Err(RunFault::Full) => 4,
+            Err(Fault::Full) => 4,
             Err(_) => 3,
             Ok(line) => { if tell(&line, buffer, needed) { 0 } else { 5 } }
         }

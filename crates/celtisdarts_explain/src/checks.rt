@@ -41,7 +41,6 @@ pub(crate) fn explain_checked(
     texts: Texts<'_>,
     session: &mut Session<'_>,
     check: Check,
-    depth: u32,
     seen: &[ImplId],
 ) -> Result<Option<Diagnostic>, Fault>
     requires { IsCheckOf session.old.declarations session.old.of_crate check }
@@ -49,6 +48,6 @@ pub(crate) fn explain_checked(
 {
     match check {
         Check::Later(section, changed) => explain_later(alloc, texts, session, section, changed),
-        Check::Supers(_) => supertraits(alloc, texts, session, depth, seen),
+        Check::Supers(_) => supertraits(texts, session, seen),
     }
 }

@@ -90,7 +90,6 @@ fn explain_checks(
     texts: Texts<'_>,
     session: &mut Session<'_>,
     id: CrateId,
-    depth: u32,
     seen: &[ImplId],
     found: &mut Vec<Option<Diagnostic>>,
 ) -> Result<(), Fault>
@@ -102,7 +101,7 @@ fn explain_checks(
     for place in 0..check_count(texts.workspace) {
         let (checked, check) = check_at(texts.workspace, place);
         if checked.index == id.index {
-            let told = explain_checked(alloc, texts, session, check, depth, seen)?;
+            let told = explain_checked(alloc, texts, session, check, seen)?;
             put(found, before.saturating_add(place), told);
         }
     }
@@ -111,11 +110,9 @@ fn explain_checks(
 
 /// Explains the queries of the session's crate.
 fn explain_questions(
-    alloc: Global,
     texts: Texts<'_>,
     session: &mut Session<'_>,
     id: CrateId,
-    depth: u32,
     seen: &[ImplId],
     spending: &mut Spending,
     found: &mut Vec<Option<Diagnostic>>,
@@ -125,6 +122,8 @@ fn explain_questions(
     requires few { IsFew texts.workspace.now ENTRY_LIMIT }
     ensures { StaysOn session.old session.new }
 {
+    let alloc = session.cx.alloc;
+    let depth = session.limits.depth;
     let before = first_question(texts.workspace);
     for place in 0..question_count(texts.workspace) {
         let (asker, asked) = question_at(texts.workspace, place);
@@ -149,7 +148,6 @@ fn explain_below(
     texts: Texts<'_>,
     session: &mut Session<'_>,
     id: CrateId,
-    depth: u32,
     spending: &mut Spending,
     found: &mut Vec<Option<Diagnostic>>,
 ) -> Result<(), Fault>
@@ -162,8 +160,8 @@ fn explain_below(
         return Ok(());
     }
     let seen = seen_impls(alloc, texts.workspace, session)?;
-    explain_checks(alloc, texts, session, id, depth, &seen, found)?;
-    explain_questions(alloc, texts, session, id, depth, &seen, spending, found)
+    explain_checks(alloc, texts, session, id, &seen, found)?;
+    explain_questions(texts, session, id, &seen, spending, found)
 }
 
 /// Explains the lines of the session's crate. `core` has no line of its own.
@@ -172,7 +170,6 @@ fn explain_lines(
     texts: Texts<'_>,
     session: &mut Session<'_>,
     id: CrateId,
-    depth: u32,
     spending: &mut Spending,
     found: &mut Vec<Option<Diagnostic>>,
 ) -> Result<(), Fault>
@@ -185,12 +182,11 @@ fn explain_lines(
         let told = explain_verdict(alloc, texts, session, id)?;
         put(found, line, told);
     }
-    explain_below(alloc, texts, session, id, depth, spending, found)
+    explain_below(alloc, texts, session, id, spending, found)
 }
 
 /// Explains the lines of a crate with one session. It begins with the view that is stored, and leaves its own.
 fn explain_crate(
-    alloc: Global,
     texts: Texts<'_>,
     id: CrateId,
     limits: Limits,
@@ -204,23 +200,15 @@ fn explain_crate(
     requires view { IfSome view.old (IsLeftView texts.workspace.now limits.handles) }
     ensures { OnOk result (IfSome view.new (IsLeftView texts.entry.workspace.now limits.handles)) }
 {
+    let alloc = *found.allocator();
     let mut session = Session::on_crate(alloc, texts.workspace, id, limits, view.take())?;
-    explain_lines(
-        alloc,
-        texts,
-        &mut session,
-        id,
-        limits.depth,
-        spending,
-        found,
-    )?;
+    explain_lines(alloc, texts, &mut session, id, spending, found)?;
     *view = Some(session.into_view());
     Ok(())
 }
 
 /// Explains the lines of all crates.
 fn explain_crates(
-    alloc: Global,
     texts: Texts<'_>,
     limits: Limits,
     found: &mut Vec<Option<Diagnostic>>,
@@ -233,7 +221,7 @@ fn explain_crates(
     for place in 0..crate_count(texts.workspace) {
         let id = crate_at(texts.workspace, place);
         if place > 0 || is_asked(texts.workspace, id) {
-            explain_crate(alloc, texts, id, limits, &mut spending, found, &mut view)?;
+            explain_crate(texts, id, limits, &mut spending, found, &mut view)?;
         }
     }
     Ok(())
@@ -258,7 +246,7 @@ fn explain_text(
     let _crates = workspace.crates();
     let count = first_question(workspace).saturating_add(question_count(workspace));
     reserve(count, found)?;
-    explain_crates(alloc, texts, limits, found)
+    explain_crates(texts, limits, found)
 }
 
 /// Finds the explanation of each line of a text's output: for each crate but `core`, then for each `later` and `supers` line, then for each

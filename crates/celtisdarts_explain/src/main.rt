@@ -29,7 +29,7 @@ mod words;
 
 use crate::explaining::explain;
 use crate::input::read_text;
-use crate::printed::{Lack, Shown, Told, write_told};
+use crate::printed::{Explanations, Lack, Shown, Told, write_told};
 use crate::words::{ColorConfig, Options, read_words};
 use coherence::{Limits, RunFault, Status, run};
 use explain_texts::explain_diagnostics::{Diagnostic, SourceFile};
@@ -157,15 +157,12 @@ fn tell(
     let name = options.name.or(options.file).unwrap_or("<stdin>");
     let file = SourceFile::new(alloc, name, text).ok();
     let (found, lack) = explanations_of(alloc, file.as_ref(), text, limits);
-    write_told(
-        alloc,
-        &mut writer,
-        shown,
-        file.as_ref(),
-        lines,
-        &found,
+    let explanations = Explanations {
+        file: file.as_ref(),
+        found: &found,
         lack,
-    )
+    };
+    write_told(alloc, &mut writer, shown, lines, explanations)
 }
 
 /// How the answers are, by how the run ended and what was printed.

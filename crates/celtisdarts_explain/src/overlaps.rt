@@ -113,7 +113,6 @@ fn speak_header(
 
 /// Renders the trace of a pair. The caller must prove that both impls conclude the common instance, if it is displayed as checked.
 fn tell_pair<'w>(
-    alloc: Global,
     texts: Texts<'w>,
     session: &Session<'_>,
     later: ImplId,
@@ -125,6 +124,7 @@ fn tell_pair<'w>(
     requires common { ShowsCommonOf session.now later earlier pair.now }
     requires claims { ClaimsHold session.now pair.now.walk claims.now }
 {
+    let alloc = session.cx.alloc;
     let names = ShownNames {
         workspace: texts.workspace,
         params: &[],
@@ -266,7 +266,7 @@ pub(crate) fn overlap(
         return Ok(None);
     };
     let claims = pair_claims(session, &pair)?;
-    let found = tell_pair(alloc, texts, session, later, earlier, &pair, &claims)?;
+    let found = tell_pair(texts, session, later, earlier, &pair, &claims)?;
     let told = diagnose(alloc, &found)?;
     Ok(Some(told))
 }

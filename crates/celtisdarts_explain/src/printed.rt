@@ -141,17 +141,27 @@ fn write_answers<W: Write>(
     Ok(told)
 }
 
+/// The explanations of a text.
+#[derive(Clone, Copy)]
+pub struct Explanations<'f> {
+    /// The text's lines. `None` if they could not be stored.
+    pub file: Option<&'f SourceFile<'f>>,
+    /// What was found for each line of the output.
+    pub found: &'f [Option<Diagnostic>],
+    /// Why they ended before the last line, if they did.
+    pub lack: Option<Lack>,
+}
+
 /// Writes the lines of the output, each with its explanation. If explanations are missing, it adds why: memory was refused for one, or the
 /// reason for which they ended.
 pub fn write_told<W: Write>(
     alloc: Global,
     writer: &mut W,
     shown: Shown,
-    file: Option<&SourceFile<'_>>,
     lines: &[u8],
-    found: &[Option<Diagnostic>],
-    lack: Option<Lack>,
+    explanations: Explanations<'_>,
 ) -> io::Result<Told> {
+    let Explanations { file, found, lack } = explanations;
     let told = write_answers(alloc, writer, shown, file, lines, found)?;
     let lack = if told.is_cut {
         Some(Lack::Memory)

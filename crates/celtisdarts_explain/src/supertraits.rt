@@ -12,7 +12,7 @@ use explain_texts::text_printer::ShownNames;
 use explain_texts::type_terms::{Fault, ImplId};
 use explain_texts::workspace::Param;
 use explain_texts::{Asking, Texts, impl_line, tell, unproved, unsettled};
-use std::alloc::{AllocError, Global};
+use std::alloc::AllocError;
 
 /// A supertrait of the header of an impl that is not proved, by its number from 1.
 #[derive(Clone, Copy)]
@@ -57,18 +57,17 @@ fn header_span(texts: Texts<'_>, id: ImplId) -> Span {
 
 /// The diagnostic for a supertrait that was traced.
 fn explain_walk(
-    alloc: Global,
     texts: Texts<'_>,
     session: &Session<'_>,
     walk: &GoalWalk,
     claims: &Claims,
     unheld: Unheld,
-    depth: u32,
     seen: &[ImplId],
 ) -> Result<Diagnostic, AllocError>
     requires walked { WalkHeld session.now.terms walk.now }
     requires claims { ClaimsHold session.now walk.now claims.now }
 {
+    let alloc = session.cx.alloc;
     let names = ShownNames {
         workspace: texts.workspace,
         params: params_of(texts, unheld.id),
@@ -77,7 +76,7 @@ fn explain_walk(
     let story = tell(alloc, texts, session, &names, walk, claims)?;
     let asking = Asking {
         span: header_span(texts, unheld.id),
-        depth,
+        depth: session.limits.depth,
         seen,
         supertrait: Some(unheld.number),
     };
@@ -90,11 +89,9 @@ fn explain_walk(
 
 /// Explains why a supertrait is not proved. `None` if there is no such supertrait.
 fn explain_unheld(
-    alloc: Global,
     texts: Texts<'_>,
     session: &mut Session<'_>,
     unheld: Unheld,
-    depth: u32,
     seen: &[ImplId],
 ) -> Result<Option<Diagnostic>, Fault>
     ensures { StaysOn session.old session.new }
@@ -103,17 +100,15 @@ fn explain_unheld(
         return Ok(None);
     };
     let claims = question_claims(session, &walk)?;
-    let told = explain_walk(alloc, texts, session, &walk, &claims, unheld, depth, seen)?;
+    let told = explain_walk(texts, session, &walk, &claims, unheld, seen)?;
     Ok(Some(told))
 }
 
 /// The diagnostic for a crate whose headers' supertraits were checked. `None` if all are proved. The session stays as it was, after a fault
 /// too.
 pub(crate) fn supertraits(
-    alloc: Global,
     texts: Texts<'_>,
     session: &mut Session<'_>,
-    depth: u32,
     seen: &[ImplId],
 ) -> Result<Option<Diagnostic>, Fault>
     ensures { StaysOn session.old session.new }
@@ -122,5 +117,5 @@ pub(crate) fn supertraits(
     let Some(unheld) = unheld_of(answer) else {
         return Ok(None);
     };
-    explain_unheld(alloc, texts, session, unheld, depth, seen)
+    explain_unheld(texts, session, unheld, seen)
 }

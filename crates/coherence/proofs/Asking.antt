@@ -21,16 +21,16 @@ use Rattle.sessions.specs.Workspace.declared.tables.Tables.{Tables}
 use Rattle.sessions.specs.SeenViews.{IsViewOf, IsLeftView}
 use Rattle.sessions.specs.Promised.Subjects.{IsOfText}
 use Rattle.sessions.specs.declared.seen_view.SeenView.{SeenView}
-use Rattle.coherence.specs.Asking.{AskedText, IsAnswerBehind, IsAskFault, IsLastLine, IsQueryBehind, IsShortage, Serves, of_run_fault}
+use Rattle.coherence.specs.Asking.{AskedText, IsAnswerBehind, IsAskFault, IsLastLine, IsQueryBehind, IsShortage, Serves, ask_fault_of}
 use Rattle.coherence.specs.Groups.{IsAskedIn}
 use Rattle.coherence.specs.KeptLines.{HasLine, IsLineOf}
 use Rattle.coherence.specs.LineByLine.{IsAnswerOf, of_question, IsLineAt, line_count}
 use Rattle.coherence.specs.declared.ask_fault.AskFault.{AskFault}
 use Rattle.coherence.specs.declared.ask_fault.AskFault.TheVariants as faults
-use Rattle.coherence.specs.declared.status.RunFault.{RunFault}
-use Rattle.coherence.specs.declared.status.RunFault.TheVariants as run_faults
 use Rattle.sessions.proofs.GivenTexts.{given-text}
 use Rattle.sessions.proofs.TextLanguage.TypeBasics.{text-short}
+use Rattle.sessions.specs.TypeTerms.declared.Fault.{Fault}
+use Rattle.sessions.specs.TypeTerms.declared.Fault.TheVariants as wants
 
 -- ---- the view of a crate, which no question is of
 view-asked : (d : Declarations) (q : Question) (c handles : ℕ) (v : SeenView) → IsViewOf d c handles v → IsViewOf (with_question d q) c handles v
@@ -143,11 +143,9 @@ pub handed-shortage : {X : Type 0} (r : Result X AskFault) (f : AskFault) → Is
 handed-shortage (Ok x) f h s = tt
 handed-shortage (Err y) f h s = subst IsShortage (sym h) s
 
-pub of-run-is : (f : RunFault) → IsShortage (of_run_fault f)
-of-run-is run_faults.Full = tt
-of-run-is run_faults.Memory = tt
-of-run-is run_faults.Read = tt
-of-run-is run_faults.Write = tt
+pub fault-is-shortage : (f : Fault) → IsShortage (ask_fault_of f)
+fault-is-shortage wants.Full = tt
+fault-is-shortage wants.Memory = tt
 
 -- ---- a crate of a name
 pub named-there : (t : Tables) (d : Declarations) (o : Option CrateId) → declared t ≡ d → IfSome o (λ c. c.index < length t.crates.items) → IfSome o (λ c. c.index < length d.crates)

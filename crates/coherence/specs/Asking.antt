@@ -1,6 +1,8 @@
 -- A text that is asked at run time.
 use Rattle.std.specs.Prelude.{◌≡◌, ℕ, ◌+◌, ◌-◌, ◌<◌, ◌≤◌, List, length, Option, Ok, Err, IfSome, refl}
 use Rattle.std.specs.Coded.{Coded, code_by, coded_ℕ, coded×}
+use Rattle.sessions.specs.TypeTerms.declared.Fault.{Fault}
+use Rattle.sessions.specs.TypeTerms.declared.Fault.TheVariants as wants
 use Rattle.text_parser.specs.TextNames.FaultNumbers.{fault_number}
 use Rattle.sessions.specs.TextLanguage.Promised.Declarations.{Declarations, Question}
 use Rattle.sessions.specs.TextLanguage.Text.{LineGives, TextGives}
@@ -17,8 +19,6 @@ use Rattle.coherence.specs.KeptLines.{HasLine}
 use Rattle.coherence.specs.LineByLine.{IsLineAt, line_count}
 use Rattle.coherence.specs.declared.ask_fault.AskFault.{AskFault}
 use Rattle.coherence.specs.declared.ask_fault.AskFault.TheVariants as faults
-use Rattle.coherence.specs.declared.status.RunFault.{RunFault}
-use Rattle.coherence.specs.declared.status.RunFault.TheVariants as run_faults
 
 -- what the text declares, how many bytes it has, and the depth at which it is asked
 pub record AskedText : Type 0 where
@@ -63,11 +63,9 @@ IsShortage faults.Memory = Unit {0}
 IsShortage faults.Full = Unit {0}
 IsShortage _ = ⊥
 
-abbrev pub of_run_fault : RunFault → AskFault
-of_run_fault run_faults.Full = faults.Full
-of_run_fault run_faults.Memory = faults.Memory
-of_run_fault run_faults.Read = faults.Memory
-of_run_fault run_faults.Write = faults.Memory
+abbrev pub ask_fault_of : Fault → AskFault
+ask_fault_of wants.Full = faults.Full
+ask_fault_of wants.Memory = faults.Memory
 
 -- ---- the answer
 -- The line of this question, behind all others of d.

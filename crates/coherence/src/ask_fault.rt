@@ -3,7 +3,7 @@
 ghost use Rattle.std.specs.Prelude.{◌≡◌};
 ghost use Rattle.coherence.specs.declared.ask_fault.AskFault.TheVariants.{Memory};
 
-use crate::status::RunFault;
+use sessions::type_terms::Fault;
 use std::alloc::AllocError;
 use text_parser::text_names::FaultKind;
 
@@ -38,15 +38,15 @@ impl From<AllocError> for AskFault {
     }
 }
 
-impl From<RunFault> for AskFault {
-    ghost use Rattle.coherence.specs.Asking.{of_run_fault};
+impl From<Fault> for AskFault {
+    ghost use Rattle.coherence.specs.Asking.{ask_fault_of};
 
-    ghost from_gives = { λ fault ask_fault. ask_fault ≡ of_run_fault fault };
+    ghost from_gives = { λ fault ask_fault. ask_fault ≡ ask_fault_of fault };
 
-    fn from(fault: RunFault) -> AskFault {
+    fn from(fault: Fault) -> AskFault {
         match fault {
-            RunFault::Full => AskFault::Full,
-            RunFault::Memory | RunFault::Read | RunFault::Write => AskFault::Memory,
+            Fault::Full => AskFault::Full,
+            Fault::Memory => AskFault::Memory,
         }
     }
 }

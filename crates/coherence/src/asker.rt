@@ -19,8 +19,7 @@ ghost use Rattle.coherence.specs.LineByLine.{IsVerdictLine};
 
 use crate::ask_fault::AskFault;
 use crate::lines::{question_line, verdict_line};
-use crate::status::RunFault;
-use sessions::type_terms::CrateId;
+use sessions::type_terms::{CrateId, Fault};
 use sessions::workspace::{Asked, ENTRY_LIMIT, QuestionEntry, Workspace};
 use sessions::{Limits, SeenView, Session};
 use std::alloc::Global;
@@ -36,7 +35,7 @@ fn judged_line(
     session: &mut Session<'_>,
     workspace: &Workspace,
     id: CrateId,
-) -> Result<Vec<u8>, RunFault>
+) -> Result<Vec<u8>, Fault>
     requires on { session.old.declarations ≡ workspace.now }
     requires of_crate { session.old.of_crate ≡ id.index }
     requires numbered { IsNumbered workspace.now }
@@ -56,7 +55,7 @@ fn crate_answer(
     limits: Limits,
     id: CrateId,
     view: &mut Option<SeenView>,
-) -> Result<Vec<u8>, RunFault>
+) -> Result<Vec<u8>, Fault>
     requires parsed { IsOfText workspace.now }
     requires numbered { IsNumbered workspace.now }
     requires declared { id.index < length workspace.now.crates }
@@ -78,7 +77,7 @@ fn question_answer(
     id: CrateId,
     place: u32,
     view: &mut Option<SeenView>,
-) -> Result<Vec<u8>, RunFault>
+) -> Result<Vec<u8>, Fault>
     requires parsed { IsOfText workspace.now }
     requires few { IsFew workspace.now ENTRY_LIMIT }
     requires declared { id.index < length workspace.now.crates }
@@ -216,7 +215,7 @@ impl Asker {
 
     /// The line of a crate, with its end, as the output for the text has it; `core` has none there, and is judged as any other. The fault
     /// is `Memory` or `Full`.
-    pub fn check(&mut self, id: CrateId) -> Result<Vec<u8>, RunFault>
+    pub fn check(&mut self, id: CrateId) -> Result<Vec<u8>, Fault>
         requires { id.index < length self.old.declarations.crates }
         ensures line { IfOk result (λ text. IsVerdictLine self.old.depth self.old.declarations id.index text.items) }
         ensures stays { self.new ≡ self.old }

@@ -1,18 +1,18 @@
 //! The lines of checks and of queries, stored until all crates have their lines. The lines of crates come first in the output, and one
 //! session makes all lines of its crate.
 
-ghost use Rattle.std.specs.Prelude.{◌≡◌, ◌≢◌, ◌+◌, ◌<◌, ◌≤◌, ℕ, length, IfOk, IfErr, IfSome, OnOk};
+ghost use Rattle.std.specs.Prelude.{◌≡◌, ◌+◌, ◌<◌, ◌≤◌, ℕ, length, IfOk, IfErr, IfSome, OnOk};
 ghost use Rattle.sessions.specs.Workspace.Numbered.{IsNumbered, IsFew};
+ghost use Rattle.sessions.specs.Promised.Shortages.{SessionFullAtLimit};
 ghost use Rattle.sessions.specs.Promised.Subjects.{IsOfText, StaysOn};
-ghost use Rattle.coherence.specs.Faults.{IsFullAtLimit};
 ghost use Rattle.coherence.specs.Groups.{IsAskedIn, IsCheckedIn, ArePlacesWhere, IsGroup};
 ghost use Rattle.coherence.specs.LineByLine.{CountsLine};
 ghost use Rattle.coherence.specs.KeptLines.{KeepsChecks, KeepsQuestions, KeepsLines, HasKeptLineAt};
 
 use crate::groups::Group;
 use crate::lines::{check_line, question_line};
-use crate::status::RunFault;
 use sessions::Session;
+use sessions::type_terms::Fault;
 use sessions::workspace::{ENTRY_LIMIT, Workspace};
 use std::alloc::{AllocError, Global};
 
@@ -86,16 +86,14 @@ fn keep_checks(
     workspace: &Workspace,
     places: &[usize],
     lines: &mut Vec<KeptLine>,
-) -> Result<(), RunFault>
+) -> Result<(), Fault>
     requires on { session.old.declarations ≡ workspace.now }
     requires numbered { IsNumbered workspace.now }
     requires places { ArePlacesWhere (length workspace.now.checks) (IsCheckedIn workspace.now session.old.of_crate) places.now }
     requires kept { KeepsChecks session.old.depth workspace.now session.old.of_crate lines.old.items }
     ensures kept { OnOk result (KeepsChecks session.old.depth workspace.now (session.old.of_crate + 1) lines.new.items) }
     ensures stays { StaysOn session.old session.new }
-    ensures full { IfErr result (IsFullAtLimit session.new) }
-    ensures unread { IfErr result (λ fault. fault ≢ RunFault.Read) }
-    ensures unwritten { IfErr result (λ fault. fault ≢ RunFault.Write) }
+    ensures full { IfErr result (SessionFullAtLimit session.new) }
 {
     for place in places {
         let text = check_line(alloc, session, workspace, *place)?;
@@ -111,7 +109,7 @@ fn keep_questions(
     workspace: &Workspace,
     places: &[u32],
     lines: &mut Vec<KeptLine>,
-) -> Result<(), RunFault>
+) -> Result<(), Fault>
     requires on { session.old.declarations ≡ workspace.now }
     requires parsed { IsOfText workspace.now }
     requires few { IsFew workspace.now ENTRY_LIMIT }
@@ -119,9 +117,7 @@ fn keep_questions(
     requires kept { KeepsQuestions session.old.depth workspace.now session.old.of_crate lines.old.items }
     ensures kept { OnOk result (KeepsQuestions session.old.depth workspace.now (session.old.of_crate + 1) lines.new.items) }
     ensures stays { StaysOn session.old session.new }
-    ensures full { IfErr result (IsFullAtLimit session.new) }
-    ensures unread { IfErr result (λ fault. fault ≢ RunFault.Read) }
-    ensures unwritten { IfErr result (λ fault. fault ≢ RunFault.Write) }
+    ensures full { IfErr result (SessionFullAtLimit session.new) }
 {
     for place in places {
         let text = question_line(alloc, session, workspace, *place)?;
@@ -138,7 +134,7 @@ pub fn keep_answers(
     workspace: &Workspace,
     group: &Group,
     lines: &mut KeptLines,
-) -> Result<(), RunFault>
+) -> Result<(), Fault>
     requires on { session.old.declarations ≡ workspace.now }
     requires parsed { IsOfText workspace.now }
     requires numbered { IsNumbered workspace.now }
@@ -147,9 +143,7 @@ pub fn keep_answers(
     requires kept { KeepsLines session.old.depth workspace.now session.old.of_crate lines.old }
     ensures kept { OnOk result (KeepsLines session.old.depth workspace.now (session.old.of_crate + 1) lines.new) }
     ensures stays { StaysOn session.old session.new }
-    ensures full { IfErr result (IsFullAtLimit session.new) }
-    ensures unread { IfErr result (λ fault. fault ≢ RunFault.Read) }
-    ensures unwritten { IfErr result (λ fault. fault ≢ RunFault.Write) }
+    ensures full { IfErr result (SessionFullAtLimit session.new) }
 {
     keep_checks(alloc, session, workspace, &group.checks, &mut lines.checks)?;
     keep_questions(

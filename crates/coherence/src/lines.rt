@@ -1,6 +1,6 @@
 //! The lines of crates, of checks and of queries.
 
-ghost use Rattle.std.specs.Prelude.{◌≡◌, ◌≢◌, ◌<◌, length, map, IfOk, IfErr, IfSome};
+ghost use Rattle.std.specs.Prelude.{◌≡◌, ◌<◌, length, map, IfOk, IfErr, IfSome};
 ghost use Rattle.std.specs.Option.{option_map};
 ghost use Rattle.text_printer.specs.Answers.{text_of};
 ghost use Rattle.sessions.specs.TypeTerms.Promised.Trees.{erase};
@@ -14,18 +14,17 @@ ghost use Rattle.sessions.specs.HeldErrors.{ErrorHeld, TypeHeld};
 ghost use Rattle.sessions.specs.OrphanErrors as errors;
 ghost use Rattle.sessions.specs.Promised.Given.{verdict_in, VerdictHeld};
 ghost use Rattle.sessions.specs.Promised.Releases.{IsSectionOf};
+ghost use Rattle.sessions.specs.Promised.Shortages.{SessionFullAtLimit};
 ghost use Rattle.sessions.specs.Promised.Subjects.{IsOfText, AsksProof, AsksRefutation, StaysOn};
 ghost use Rattle.sessions.specs.TextQuestions.{IsQuestion};
-ghost use Rattle.coherence.specs.Faults.{IsFullAtLimit};
 ghost use Rattle.coherence.specs.Groups.{IsAskedIn, IsCheckedIn};
 ghost use Rattle.coherence.specs.Promised.CrateAnswers.{crate_text, impl_home, number_in_crate};
 ghost use Rattle.coherence.specs.Lines.{header_text, orphan_line, verdict_line};
 ghost use Rattle.coherence.specs.KeptLines.{NamesImpls, HasCheckLine, IsCheckLineOf, HasLine, IsLineOf};
 
-use crate::status::RunFault;
 use sessions::type_terms::interner::Interner;
 use sessions::type_terms::kinds::{GenericArgKind, Ty};
-use sessions::type_terms::{CrateId, ImplId};
+use sessions::type_terms::{CrateId, Fault, ImplId};
 use sessions::workspace::{Asked, Check, ENTRY_LIMIT, Workspace};
 use sessions::{
     LaterAnswer, OrphanCheckErr, ProveAnswer, RefuteAnswer, Session, SupersAnswer,
@@ -216,16 +215,14 @@ fn later_line(
     workspace: &Workspace,
     section: u32,
     changed: CrateId,
-) -> Result<Vec<u8>, RunFault>
+) -> Result<Vec<u8>, Fault>
     requires on { session.old.declarations ≡ workspace.now }
     requires of_crate { session.old.of_crate ≡ changed.index }
     requires declared { changed.index < length workspace.now.crates }
     requires section { IsSectionOf workspace.now changed.index section }
     ensures line { IfOk result (λ text. HasCheckLine session.old.depth workspace.now (of_later section changed.index) text.items) }
     ensures stays { StaysOn session.old session.new }
-    ensures full { IfErr result (IsFullAtLimit session.new) }
-    ensures unread { IfErr result (λ fault. fault ≢ RunFault.Read) }
-    ensures unwritten { IfErr result (λ fault. fault ≢ RunFault.Write) }
+    ensures full { IfErr result (SessionFullAtLimit session.new) }
 {
     let answer = session.check_later(section)?;
     let name = workspace.crate_name(changed);
@@ -242,16 +239,14 @@ fn supers_line(
     session: &mut Session<'_>,
     workspace: &Workspace,
     asked: CrateId,
-) -> Result<Vec<u8>, RunFault>
+) -> Result<Vec<u8>, Fault>
     requires on { session.old.declarations ≡ workspace.now }
     requires of_crate { session.old.of_crate ≡ asked.index }
     requires numbered { IsNumbered workspace.now }
     requires declared { asked.index < length workspace.now.crates }
     ensures line { IfOk result (λ text. HasCheckLine session.old.depth workspace.now (of_supers asked.index) text.items) }
     ensures stays { StaysOn session.old session.new }
-    ensures full { IfErr result (IsFullAtLimit session.new) }
-    ensures unread { IfErr result (λ fault. fault ≢ RunFault.Read) }
-    ensures unwritten { IfErr result (λ fault. fault ≢ RunFault.Write) }
+    ensures full { IfErr result (SessionFullAtLimit session.new) }
 {
     let answer = session.check_supertraits()?;
     let name = workspace.crate_name(asked);
@@ -290,15 +285,13 @@ pub fn check_line(
     session: &mut Session<'_>,
     workspace: &Workspace,
     place: usize,
-) -> Result<Vec<u8>, RunFault>
+) -> Result<Vec<u8>, Fault>
     requires on { session.old.declarations ≡ workspace.now }
     requires numbered { IsNumbered workspace.now }
     requires checked { IsCheckedIn workspace.now session.old.of_crate place }
     ensures line { IfOk result (λ text. IsCheckLineOf session.old.depth workspace.now place text.items) }
     ensures stays { StaysOn session.old session.new }
-    ensures full { IfErr result (IsFullAtLimit session.new) }
-    ensures unread { IfErr result (λ fault. fault ≢ RunFault.Read) }
-    ensures unwritten { IfErr result (λ fault. fault ≢ RunFault.Write) }
+    ensures full { IfErr result (SessionFullAtLimit session.new) }
 {
     let line = match workspace.checks()[place] {
         Check::Later(section, changed) => {
@@ -315,16 +308,14 @@ fn prove_line(
     session: &mut Session<'_>,
     workspace: &Workspace,
     number: u32,
-) -> Result<Vec<u8>, RunFault>
+) -> Result<Vec<u8>, Fault>
     requires on { session.old.declarations ≡ workspace.now }
     requires parsed { IsOfText workspace.now }
     requires asked { (q : Question) × AsksProof workspace.now session.old.of_crate number q }
     ensures line { (q : Question) → AsksProof workspace.now session.old.of_crate number q
         → IfOk result (λ text. HasLine session.old.depth workspace.now number q text.items) }
     ensures stays { StaysOn session.old session.new }
-    ensures full { IfErr result (IsFullAtLimit session.new) }
-    ensures unread { IfErr result (λ fault. fault ≢ RunFault.Read) }
-    ensures unwritten { IfErr result (λ fault. fault ≢ RunFault.Write) }
+    ensures full { IfErr result (SessionFullAtLimit session.new) }
 {
     let answer = session.prove(number)?;
     let line = match answer {
@@ -343,15 +334,13 @@ fn refute_line(
     session: &mut Session<'_>,
     workspace: &Workspace,
     number: u32,
-) -> Result<Vec<u8>, RunFault>
+) -> Result<Vec<u8>, Fault>
     requires on { session.old.declarations ≡ workspace.now }
     requires asked { (q : Question) × AsksRefutation workspace.now session.old.of_crate number q }
     ensures line { (q : Question) → AsksRefutation workspace.now session.old.of_crate number q
         → IfOk result (λ text. HasLine session.old.depth workspace.now number q text.items) }
     ensures stays { StaysOn session.old session.new }
-    ensures full { IfErr result (IsFullAtLimit session.new) }
-    ensures unread { IfErr result (λ fault. fault ≢ RunFault.Read) }
-    ensures unwritten { IfErr result (λ fault. fault ≢ RunFault.Write) }
+    ensures full { IfErr result (SessionFullAtLimit session.new) }
 {
     let answer = session.refute(number)?;
     let line = match answer {
@@ -368,16 +357,14 @@ pub fn question_line(
     session: &mut Session<'_>,
     workspace: &Workspace,
     place: u32,
-) -> Result<Vec<u8>, RunFault>
+) -> Result<Vec<u8>, Fault>
     requires on { session.old.declarations ≡ workspace.now }
     requires parsed { IsOfText workspace.now }
     requires few { IsFew workspace.now ENTRY_LIMIT }
     requires asked { IsAskedIn workspace.now session.old.of_crate place }
     ensures line { IfOk result (λ text. IsLineOf session.old.depth workspace.now place text.items) }
     ensures stays { StaysOn session.old session.new }
-    ensures full { IfErr result (IsFullAtLimit session.new) }
-    ensures unread { IfErr result (λ fault. fault ≢ RunFault.Read) }
-    ensures unwritten { IfErr result (λ fault. fault ≢ RunFault.Write) }
+    ensures full { IfErr result (SessionFullAtLimit session.new) }
 {
     let number = place + 1;
     let line = match workspace.questions()[place as usize] {

@@ -1,13 +1,13 @@
 //! The output for a text in memory, line by line.
 
-ghost use Rattle.std.specs.Prelude.{◌≡◌, ◌≢◌, ◌+◌, ◌-◌, ◌<◌, ℕ, true, false, None, Ok, length, IfOk, IfErr, IfSome, OnOk, OnErr};
+ghost use Rattle.std.specs.Prelude.{◌≡◌, ◌+◌, ◌-◌, ◌<◌, ℕ, true, false, None, Ok, length, IfOk, IfErr, IfSome, OnOk, OnErr};
 ghost use Rattle.text_parser.specs.TextNames.FaultNumbers.{fault_number};
 ghost use Rattle.sessions.specs.TextLanguage.Output.{fault, output_text};
 ghost use Rattle.sessions.specs.TextLanguage.Text.{TextGives};
 ghost use Rattle.sessions.specs.Workspace.Numbered.{IsNumbered, IsFew};
 ghost use Rattle.sessions.specs.SeenViews.{IsLeftView};
+ghost use Rattle.sessions.specs.Promised.Shortages.{SessionFullAtLimit};
 ghost use Rattle.sessions.specs.Promised.Subjects.{IsOfText, StaysOn};
-ghost use Rattle.coherence.specs.Faults.{IsFullAtLimit};
 ghost use Rattle.coherence.specs.Groups.{IsGroup};
 ghost use Rattle.coherence.specs.LineByLine.{CountsLine, HasNoMore, IsAfterFault, IsAfterLine, IsLineAt, IsVerdictLine, line_count};
 ghost use Rattle.coherence.specs.Promised.Told.{status_of};
@@ -18,7 +18,7 @@ ghost use Rattle.coherence.specs.declared.output_lines.LineCounts.{LineCounts};
 use crate::groups::{Group, groups_by_crate};
 use crate::kept::{KeptLines, keep_answers, next_line, no_lines};
 use crate::lines::verdict_line;
-use crate::status::{RunFault, Status};
+use crate::status::Status;
 use sessions::type_terms::{CrateId, Fault};
 use sessions::workspace::{ENTRY_LIMIT, Workspace};
 use sessions::{Limits, SeenView, Session};
@@ -51,7 +51,7 @@ fn judge_by(
     id: CrateId,
     group: &Group,
     lines: &mut KeptLines,
-) -> Result<Vec<u8>, RunFault>
+) -> Result<Vec<u8>, Fault>
     requires parsed { IsOfText workspace.now }
     requires on { session.old.declarations ≡ workspace.now }
     requires of_crate { session.old.of_crate ≡ id.index }
@@ -63,9 +63,7 @@ fn judge_by(
     ensures line { IfOk result (λ text. IsVerdictLine session.old.depth workspace.now id.index text.items) }
     ensures kept { OnOk result (KeepsLines session.old.depth workspace.now (id.index + 1) lines.new) }
     ensures stays { OnOk result (StaysOn session.old session.new) }
-    ensures full { IfErr result (IsFullAtLimit session.new) }
-    ensures unread { IfErr result (λ fault. fault ≢ RunFault.Read) }
-    ensures unwritten { IfErr result (λ fault. fault ≢ RunFault.Write) }
+    ensures full { IfErr result (SessionFullAtLimit session.new) }
 {
     let verdict = session.check_crate()?;
     let line = verdict_line(alloc, session.interner(), workspace, id, &verdict)?;
@@ -76,14 +74,13 @@ fn judge_by(
 /// Makes the line of a crate, and stores the lines of its checks and queries. One session makes them all. It begins with the view that is
 /// stored, and leaves its own.
 fn judge_crate(
-    alloc: Global,
     workspace: &Workspace,
     id: CrateId,
     limits: Limits,
     group: &Group,
     lines: &mut KeptLines,
     view: &mut Option<SeenView>,
-) -> Result<Vec<u8>, RunFault>
+) -> Result<Vec<u8>, Fault>
     requires parsed { IsOfText workspace.now }
     requires numbered { IsNumbered workspace.now }
     requires few { IsFew workspace.now ENTRY_LIMIT }
@@ -94,9 +91,8 @@ fn judge_crate(
     ensures line { IfOk result (λ text. IsVerdictLine limits.depth workspace.now id.index text.items) }
     ensures kept { OnOk result (KeepsLines limits.depth workspace.now (id.index + 1) lines.new) }
     ensures view { OnOk result (IfSome view.new (IsLeftView workspace.now limits.handles)) }
-    ensures unread { IfErr result (λ fault. fault ≢ RunFault.Read) }
-    ensures unwritten { IfErr result (λ fault. fault ≢ RunFault.Write) }
 {
+    let alloc = *lines.checks.allocator();
     let mut session = Session::on_crate(alloc, workspace, id, limits, view.take())?;
     let line = judge_by(alloc, &mut session, workspace, id, group, lines)?;
     *view = Some(session.into_view());
@@ -110,15 +106,13 @@ fn answer_core(
     limits: Limits,
     group: &Group,
     lines: &mut KeptLines,
-) -> Result<(), RunFault>
+) -> Result<(), Fault>
     requires parsed { IsOfText workspace.now }
     requires numbered { IsNumbered workspace.now }
     requires few { IsFew workspace.now ENTRY_LIMIT }
     requires group { IsGroup (length workspace.now.checks) (length workspace.now.questions) workspace.now 0 group.now }
     requires kept { KeepsLines limits.depth workspace.now 0 lines.old }
     ensures kept { OnOk result (KeepsLines limits.depth workspace.now 1 lines.new) }
-    ensures unread { IfErr result (λ fault. fault ≢ RunFault.Read) }
-    ensures unwritten { IfErr result (λ fault. fault ≢ RunFault.Write) }
 {
     if group.is_empty() {
         return Ok(());
@@ -154,16 +148,10 @@ struct LineCounts {
 }
 
 /// What is needed for the lines of a text without a fault. The checks and queries of `core` are answered.
-fn text_answers(
-    alloc: Global,
-    workspace: Workspace,
-    limits: Limits,
-) -> Result<TextAnswers, RunFault>
+fn text_answers(alloc: Global, workspace: Workspace, limits: Limits) -> Result<TextAnswers, Fault>
     requires { IsOfText workspace }
     ensures keeps { IfOk result (λ answers. KeepsAnswers limits.depth limits.handles 0 answers) }
     ensures same { IfOk result (λ answers. answers.workspace ≡ workspace) }
-    ensures unread { IfErr result (λ fault. fault ≢ RunFault.Read) }
-    ensures unwritten { IfErr result (λ fault. fault ≢ RunFault.Write) }
 {
     let _crates = workspace.crates();
     let mut kept = no_lines(alloc, &workspace)?;
@@ -178,23 +166,15 @@ fn text_answers(
 }
 
 /// The line of the crate after this many others with lines of their own.
-fn crate_line(
-    alloc: Global,
-    limits: Limits,
-    answers: &mut TextAnswers,
-    place: usize,
-) -> Result<Vec<u8>, RunFault>
+fn crate_line(limits: Limits, answers: &mut TextAnswers, place: usize) -> Result<Vec<u8>, Fault>
     requires keeps { KeepsAnswers limits.depth limits.handles place answers.old }
     requires there { place < length answers.old.workspace.crates - 1 }
     ensures line { IfOk result (λ text. IsVerdictLine limits.depth answers.old.workspace (place + 1) text.items) }
     ensures keeps { OnOk result (KeepsAnswers limits.depth limits.handles (place + 1) answers.new) }
     ensures same { answers.new.workspace ≡ answers.old.workspace }
-    ensures unread { IfErr result (λ fault. fault ≢ RunFault.Read) }
-    ensures unwritten { IfErr result (λ fault. fault ≢ RunFault.Write) }
 {
     let id = crate_at(&answers.workspace, place + 1);
     judge_crate(
-        alloc,
         &answers.workspace,
         id,
         limits,
@@ -260,7 +240,7 @@ fn next_of_answers(
     limits: Limits,
     answers: &mut TextAnswers,
     given: &mut LineCounts,
-) -> Result<Option<Vec<u8>>, RunFault>
+) -> Result<Option<Vec<u8>>, Fault>
     requires order { IsGivenInOrder answers.old.workspace given.old }
     requires keeps { KeepsAnswers limits.depth limits.handles given.old.crates answers.old }
     ensures line { IfOk result (λ next. IfSome next (λ line. IsLineAt limits.depth (Ok answers.old.workspace) (lines_given given.old) line.items)) }
@@ -268,11 +248,9 @@ fn next_of_answers(
     ensures order { IsGivenInOrder answers.old.workspace given.new }
     ensures keeps { OnOk result (KeepsAnswers limits.depth limits.handles given.new.crates answers.new) }
     ensures same { answers.new.workspace ≡ answers.old.workspace }
-    ensures unread { IfErr result (λ fault. fault ≢ RunFault.Read) }
-    ensures unwritten { IfErr result (λ fault. fault ≢ RunFault.Write) }
 {
     if given.crates < crates_with_lines(&answers.workspace) {
-        let line = crate_line(alloc, limits, answers, given.crates)?;
+        let line = crate_line(limits, answers, given.crates)?;
         given.crates += 1;
         return Ok(Some(line));
     }
@@ -286,15 +264,13 @@ fn next_of(
     limits: Limits,
     source: &mut LineSource,
     given: &mut LineCounts,
-) -> Result<Option<Vec<u8>>, RunFault>
+) -> Result<Option<Vec<u8>>, Fault>
     requires { HoldsLines limits.depth limits.handles false given.old source.old }
     ensures line { IfOk result (λ next. IfSome next (λ line. IsLineAt limits.depth (text_of source.old) (lines_given given.old) line.items)) }
     ensures counts { CountsLine (line_count (text_of source.old)) (lines_given given.old) (lines_given given.new) result }
     ensures holds { OnOk result (HoldsLines limits.depth limits.handles false given.new source.new) }
     ensures failed { OnErr result (HoldsLines limits.depth limits.handles true given.new source.new) }
     ensures same { text_of source.new ≡ text_of source.old }
-    ensures unread { IfErr result (λ fault. fault ≢ RunFault.Read) }
-    ensures unwritten { IfErr result (λ fault. fault ≢ RunFault.Write) }
 {
     match source {
         LineSource::Fault(found) => Ok(next_of_fault(alloc, found, given)?),
@@ -303,14 +279,12 @@ fn next_of(
 }
 
 /// What the lines of a text are made of. The text is read whole.
-fn line_source(alloc: Global, text: &[u8], limits: Limits) -> Result<LineSource, RunFault>
+fn line_source(alloc: Global, text: &[u8], limits: Limits) -> Result<LineSource, Fault>
     ensures text { IfOk result (λ source. TextGives text.now (text_of source)) }
     ensures holds { (given : LineCounts) → IsNoneGiven given → IfOk result (HoldsLines limits.depth limits.handles false given) }
-    ensures unread { IfErr result (λ fault. fault ≢ RunFault.Read) }
-    ensures unwritten { IfErr result (λ fault. fault ≢ RunFault.Write) }
 {
     match parse(alloc, text) {
-        Err(TextError::Memory) => Err(RunFault::Memory),
+        Err(TextError::Memory) => Err(Fault::Memory),
         Err(TextError::Text(found)) => Ok(LineSource::Fault(found)),
         Ok(workspace) => Ok(LineSource::Answers(text_answers(alloc, workspace, limits)?)),
     }
@@ -345,13 +319,11 @@ impl Model for OutputLines {
 impl OutputLines {
     /// Reads the text whole, and answers the checks and queries of `core`. No line is given yet. Fails with `Memory`, or with `Full` if a
     /// table is full.
-    pub fn new(alloc: Global, text: &[u8], limits: Limits) -> Result<Self, RunFault>
+    pub fn new(alloc: Global, text: &[u8], limits: Limits) -> Result<Self, Fault>
         ensures text { IfOk result (λ lines. TextGives text.now lines.text) }
         ensures depth { IfOk result (λ lines. lines.depth ≡ limits.depth) }
         ensures given { IfOk result (λ lines. lines.given ≡ 0) }
         ensures has_failed { IfOk result (λ lines. lines.has_failed ≡ false) }
-        ensures unread { IfErr result (λ fault. fault ≢ RunFault.Read) }
-        ensures unwritten { IfErr result (λ fault. fault ≢ RunFault.Write) }
     {
         let source = line_source(alloc, text, limits)?;
         let given = LineCounts {
@@ -381,14 +353,12 @@ impl OutputLines {
 
     /// The next line, with its line end, or `None` after the last. A line that cannot be made is a fault, `Memory` or `Full`, and no line
     /// comes after it.
-    pub fn next(&mut self) -> Option<Result<Vec<u8>, RunFault>>
+    pub fn next(&mut self) -> Option<Result<Vec<u8>, Fault>>
         ensures line { IfSome result (λ next. IfOk next (λ line. IsLineAt self.old.depth self.old.text self.old.given line.items)) }
         ensures given { IfSome result (λ next. OnOk next (IsAfterLine self.old self.new)) }
         ensures failed { IfSome result (λ next. OnErr next (IsAfterFault self.old self.new)) }
         ensures end { result ≡ None → (self.new ≡ self.old) × HasNoMore self.old }
         ensures over { self.old.has_failed ≡ true → result ≡ None }
-        ensures unread { IfSome result (λ next. IfErr next (λ fault. fault ≢ RunFault.Read)) }
-        ensures unwritten { IfSome result (λ next. IfErr next (λ fault. fault ≢ RunFault.Write)) }
     {
         if self.has_failed {
             return None;

@@ -10,7 +10,7 @@ use Rattle.sessions.specs.Promised.Subjects.{IsOfText}
 use Rattle.coherence.specs.Groups.{IsAskedIn}
 use Rattle.coherence.specs.KeptLines.{IsLineOf}
 use Rattle.coherence.specs.declared.ask_fault.AskFault.TheVariants.{Memory}
-use Rattle.coherence.proofs.Asking.{as-many, asked-last, few-questions, handed-shortage, left-asked, left-unasked, line-of-last, of-run-is, taken-out}
+use Rattle.coherence.proofs.Asking.{as-many, asked-last, fault-is-shortage, few-questions, handed-shortage, left-asked, left-unasked, line-of-last, taken-out}
 use Rattle.sessions.proofs.GivenTexts.{text-given}
 use Rattle.coherence.proofs.asker.answer_behind.Goals as goal
 
@@ -56,7 +56,7 @@ question_answer-answer-requires-clause-view c =
     (left-asked c.args.workspace.now (question_of c.args.entry) c.args.limits.handles c.args.view.now c.requires.view)
 
 pub returns-in_err-line-clause-fault : goal.returns-in_err-line-clause-fault
-returns-in_err-line-clause-fault c = handed-shortage c.from_residual-in_err-line.result _ c.from_residual-in_err-line.ensures.1 (of-run-is _)
+returns-in_err-line-clause-fault c = handed-shortage c.from_residual-in_err-line.result _ c.from_residual-in_err-line.ensures.1 (fault-is-shortage _)
 
 pub returns-in_err-line-clause-stays : goal.returns-in_err-line-clause-stays
 returns-in_err-line-clause-stays c =

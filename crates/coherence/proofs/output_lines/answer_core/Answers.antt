@@ -6,8 +6,8 @@ use Rattle.coherence.specs.KeptLines.{IsCheckLineOf, IsLineOf, KeepsLines}
 use Rattle.coherence.proofs.KeptLines.{one-crate-more, check-there, question-there}
 use Rattle.coherence.proofs.output_lines.answer_core.Goals as goal
 
-pub returns-then-is_empty-clause-kept : goal.returns-then-is_empty-clause-kept
-returns-then-is_empty-clause-kept c =
+pub returns-then-is_empty : goal.returns-then-is_empty
+returns-then-is_empty c =
     let d = c.args.workspace.now in
     let g = c.args.group.now in
     let limit = c.args.limits.depth in
@@ -17,21 +17,20 @@ returns-then-is_empty-clause-kept c =
     let no_checks = eqb-true (length g.checks.items) 0 (left (length g.checks.items == 0) (length g.questions.items == 0) both) in
     let no_questions = eqb-true (length g.questions.items) 0 (right (length g.checks.items == 0) (length g.questions.items == 0) both) in
     record {
-      checks = one-crate-more (length d.checks) (IsCheckedIn d) (IsCheckLineOf limit d) 0 g.checks.items lines.checks.items c.requires.group.checks (check-there d) kept.checks.for_each kept.checks.are
-          (λ i k h e. absurd (omega (arith, no_checks, h)));
-      questions = one-crate-more (length d.questions) (IsAskedIn d) (IsLineOf limit d) 0 g.questions.items lines.questions.items c.requires.group.questions (question-there d) kept.questions.for_each kept.questions.are
-          (λ i k h e. absurd (omega (arith, no_questions, h)));
+      kept = record {
+        checks = one-crate-more (length d.checks) (IsCheckedIn d) (IsCheckLineOf limit d) 0 g.checks.items lines.checks.items c.requires.group.checks (check-there d) kept.checks.for_each kept.checks.are
+            (λ i k h e. absurd (omega (arith, no_checks, h)));
+        questions = one-crate-more (length d.questions) (IsAskedIn d) (IsLineOf limit d) 0 g.questions.items lines.questions.items c.requires.group.questions (question-there d) kept.questions.for_each kept.questions.are
+            (λ i k h e. absurd (omega (arith, no_questions, h)));
+      };
     }
 
-pub returns-clause-kept : goal.returns-clause-kept
-returns-clause-kept c =
+pub returns : goal.returns
+returns c =
     let s = c.in_ok-session.session in
     let kept : (n k : ℕ) → Type 0 = λ n k. OnOk c.keep_answers.result (KeepsLines n c.args.workspace.now (k + 1) c.keep_answers.new.lines) in
-    subst (λ k. kept c.args.limits.depth k) (c.in_ok-session.ensures.of_crate ∙ c.crate_at.ensures)
-    (subst (λ n. kept n s.of_crate) c.in_ok-session.ensures.depth c.keep_answers.ensures.kept)
-
-pub returns-clause-unread : goal.returns-clause-unread
-returns-clause-unread c = c.keep_answers.ensures.unread
-
-pub returns-clause-unwritten : goal.returns-clause-unwritten
-returns-clause-unwritten c = c.keep_answers.ensures.unwritten
+    record {
+      kept =
+          subst (λ k. kept c.args.limits.depth k) (c.in_ok-session.ensures.of_crate ∙ c.crate_at.ensures)
+          (subst (λ n. kept n s.of_crate) c.in_ok-session.ensures.depth c.keep_answers.ensures.kept);
+    }

@@ -14,16 +14,6 @@ verdict_line-requires-clause-named c =
     let v = verdict_in c.check_crate.new.self.terms c.in_ok-verdict.verdict in
     rw c.interner.ensures.terms (names s.depth d c.args.id.index v c.requires.numbered (verdict-of s d c.args.id.index v c.requires.on c.requires.of_crate c.in_ok-verdict.ensures.verdict))
 
-pub returns-in_err-keep_answers-clause-unread : goal.returns-in_err-keep_answers-clause-unread
-returns-in_err-keep_answers-clause-unread c =
-    let p = err_from_is_err_and c.from_residual-in_err-keep_answers.result c.from_residual-in_err-keep_answers.ensures.1 in
-    rw p.1 (λ e. c.in_err-keep_answers.ensures.unread (sym p.2 ∙ e))
-
-pub returns-in_err-keep_answers-clause-unwritten : goal.returns-in_err-keep_answers-clause-unwritten
-returns-in_err-keep_answers-clause-unwritten c =
-    let p = err_from_is_err_and c.from_residual-in_err-keep_answers.result c.from_residual-in_err-keep_answers.ensures.1 in
-    rw p.1 (λ e. c.in_err-keep_answers.ensures.unwritten (sym p.2 ∙ e))
-
 pub returns-in_err-keep_answers-clause-full : goal.returns-in_err-keep_answers-clause-full
 returns-in_err-keep_answers-clause-full c =
     let p = err_from_is_err_and c.from_residual-in_err-keep_answers.result c.from_residual-in_err-keep_answers.ensures.1 in

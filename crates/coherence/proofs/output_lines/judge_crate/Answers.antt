@@ -1,19 +1,8 @@
-use Rattle.std.proofs.Common.{◌∙◌, ◌+◌, subst, sym}
-use Rattle.std.proofs.lemmas.Result.{err_from_is_err_and}
+use Rattle.std.proofs.Common.{◌∙◌, ◌+◌, subst}
 use Rattle.coherence.specs.KeptLines.{KeepsLines}
 use Rattle.coherence.specs.LineByLine.{IsVerdictLine}
 use Rattle.sessions.proofs.LeftViews.{left-view}
 use Rattle.coherence.proofs.output_lines.judge_crate.Goals as goal
-
-pub returns-in_err-line-clause-unread : goal.returns-in_err-line-clause-unread
-returns-in_err-line-clause-unread c =
-    let p = err_from_is_err_and c.from_residual-in_err-line.result c.from_residual-in_err-line.ensures.1 in
-    rw p.1 (λ e. c.in_err-line.ensures.unread (sym p.2 ∙ e))
-
-pub returns-in_err-line-clause-unwritten : goal.returns-in_err-line-clause-unwritten
-returns-in_err-line-clause-unwritten c =
-    let p = err_from_is_err_and c.from_residual-in_err-line.result c.from_residual-in_err-line.ensures.1 in
-    rw p.1 (λ e. c.in_err-line.ensures.unwritten (sym p.2 ∙ e))
 
 pub returns-clause-line : goal.returns-clause-line
 returns-clause-line c = subst (λ n. IsVerdictLine n c.args.workspace.now c.args.id.index c.in_ok-line.line.items) c.in_ok-session.ensures.depth c.in_ok-line.ensures.line

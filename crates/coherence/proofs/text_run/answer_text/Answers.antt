@@ -3,6 +3,7 @@ use Rattle.std.specs.Io.KnownBytes.{Appends}
 use Rattle.std.specs.List.{flat_map}
 use Rattle.std.proofs.KnownBytes.{Appends-nil}
 use Rattle.std.proofs.lemmas.Result.{err_from_is_err_and}
+use Rattle.sessions.specs.TypeTerms.declared.Fault.{Fault}
 use Rattle.sessions.specs.TextLanguage.Promised.Declarations.{Declarations}
 use Rattle.sessions.specs.TextLanguage.Output.{output_text}
 use Rattle.sessions.specs.TextLanguage.Text.{TextGives}
@@ -10,8 +11,8 @@ use Rattle.coherence.specs.LineByLine.{OutputProgress, IsAfterLine, IsLineAt}
 use Rattle.coherence.specs.Promised.Told.{status_of}
 use Rattle.coherence.specs.Promised.Told.{IsToldText}
 use Rattle.coherence.specs.Promised.Streams.{AppendsPrefix}
-use Rattle.coherence.specs.declared.status.RunFault.{RunFault}
 use Rattle.coherence.specs.declared.status.Status.{Status}
+use Rattle.coherence.proofs.FullTables.{nothing-read}
 use Rattle.coherence.proofs.Told.{FirstLines, no_lines, and_line, all-lines, some-lines, all-given}
 use Rattle.coherence.proofs.LineLaws.{one_more, line_prefix, whole_prefix}
 use Rattle.coherence.proofs.text_run.answer_text.Goals as goal
@@ -25,6 +26,12 @@ loop-line-init g c =
       has_failed = new.has_failed;
       written = ([], subst (λ n. FirstLines c.args.limits.depth c.in_ok-lines.lines.text n []) (sym new.given) no_lines, Appends-nil _);
     }
+
+pub returns-in_err-lines-clause-written : goal.returns-in_err-lines-clause-written
+returns-in_err-lines-clause-written g c = nothing-read c.from_residual.result _ c.from_residual.ensures.1
+
+pub returns-in_err-line-clause-written : goal.returns-in_err-line-clause-written
+returns-in_err-line-clause-written g c = nothing-read c.from_residual-in_err-line.result _ c.from_residual-in_err-line.ensures.1
 
 pub returns-in_err-line-clause-prefix : goal.returns-in_err-line-clause-prefix
 returns-in_err-line-clause-prefix g c =
@@ -42,7 +49,7 @@ returns-in_err-write_text-clause-prefix g c =
     let so_far = inv.written in
     let limit = c.args.limits.depth in
     let text = c.in_ok-line.field-0.items in
-    let found : IsLineAt at.depth at.text at.given text = subst (λ (r : Result (Vec ℕ Global) RunFault). IfOk r (λ v. IsLineAt at.depth at.text at.given v.items)) c.in_ok-line.was c.in-Some.ensures.line in
+    let found : IsLineAt at.depth at.text at.given text = subst (λ (r : Result (Vec ℕ Global) Fault). IfOk r (λ v. IsLineAt at.depth at.text at.given v.items)) c.in_ok-line.was c.in-Some.ensures.line in
     let line : IsLineAt limit at.text at.given text = subst (λ n. IsLineAt n at.text at.given text) inv.depth found in
     let lines = and_line at.given so_far.0 line.0 so_far.1 line.1 in
     let gained = subst (λ (bytes : List ℕ). AppendsPrefix (g.W.Write.contents c.loop-line.writer) (g.W.Write.contents c.write_text.new.writer) bytes) (c.deref.ensures.value ∙ line.2) c.in_err-write_text.ensures.prefix in
@@ -56,9 +63,9 @@ loop-line-preserved g c =
     let so_far = inv.written in
     let limit = c.args.limits.depth in
     let text = c.in_ok-line.field-0.items in
-    let found : IsLineAt at.depth at.text at.given text = subst (λ (r : Result (Vec ℕ Global) RunFault). IfOk r (λ v. IsLineAt at.depth at.text at.given v.items)) c.in_ok-line.was c.in-Some.ensures.line in
+    let found : IsLineAt at.depth at.text at.given text = subst (λ (r : Result (Vec ℕ Global) Fault). IfOk r (λ v. IsLineAt at.depth at.text at.given v.items)) c.in_ok-line.was c.in-Some.ensures.line in
     let line : IsLineAt limit at.text at.given text = subst (λ n. IsLineAt n at.text at.given text) inv.depth found in
-    let after : IsAfterLine at next = subst (λ (r : Result (Vec ℕ Global) RunFault). OnOk r (IsAfterLine at next)) c.in_ok-line.was c.in-Some.ensures.given in
+    let after : IsAfterLine at next = subst (λ (r : Result (Vec ℕ Global) Fault). OnOk r (IsAfterLine at next)) c.in_ok-line.was c.in-Some.ensures.given in
     let ls = so_far.0 ++ line.0 ∷ [] in
     let lines : FirstLines limit at.text (at.given + 1) ls = and_line at.given so_far.0 line.0 so_far.1 line.1 in
     let gained = subst (λ (bytes : List ℕ). Appends (g.W.Write.contents c.loop-line.writer) (g.W.Write.contents c.write_text.new.writer) bytes) (c.deref.ensures.value ∙ line.2) c.in_ok-write_text.ensures.whole in
