@@ -18,7 +18,7 @@ use crate::steps::with_steps;
 use crate::unknowns::is_of_table;
 use crate::walking::{bare_goal, walk_alone};
 use crate::walks::ProofWalk;
-use explain_traces::GoalWalk;
+use explain_traces::{GoalWalk, TracedGoal};
 use sessions::Session;
 use sessions::candidate_assembly::solver::Solver;
 use sessions::goal_evaluator::TypingMode;
@@ -48,15 +48,12 @@ fn walk_reference(
         return Ok(None);
     }
     let goal = bare_goal(cx.alloc, reference);
-    let walk = walk_alone(
-        graph,
-        cache,
-        cx,
-        &mut table,
-        TypingMode::PostAnalysis,
-        &goal,
+    let traced = TracedGoal {
+        goal: &goal,
+        mode: TypingMode::PostAnalysis,
         depth,
-    )?;
+    };
+    let walk = walk_alone(graph, cache, cx, &mut table, traced)?;
     let proof = with_steps(cx, &mut table, &[], walk)?;
     Ok(Some(proof))
 }

@@ -18,7 +18,7 @@ ghost use Rattle.explain_sessions.specs.Walked.{CommonHeld, PairWalkHeld, RestsA
 
 use crate::headers::args_where_equal;
 use crate::walks::PairWalk;
-use explain_traces::{GoalWalk, walk_goal};
+use explain_traces::{GoalWalk, TracedGoal, walk_goal};
 use sessions::candidate_assembly::solver::Solver;
 use sessions::declarations::declarations::Declarations;
 use sessions::declarations::items::ImplDef;
@@ -158,6 +158,13 @@ fn common_header_at(
     common
 }
 
+/// A where-clause that is traced, and how deep its nested goals are.
+#[derive(Clone, Copy)]
+struct TracedClause {
+    clause: TraitRef,
+    depth: u32,
+}
+
 /// Traces a where-clause in coherence, alone over the table, and returns its index.
 fn walk_clause(
     graph: &mut SearchGraph<SolverGraph<Solver>>,
@@ -165,28 +172,30 @@ fn walk_clause(
     cx: &mut SolverCx<Solver>,
     table: &mut InferCtxt,
     walk: &mut GoalWalk,
-    clause: TraitRef,
-    depth: u32,
+    traced: TracedClause,
 ) -> Result<usize, Fault>
     requires rest { SolverRests graph.old.root_depth cx.old graph.old cache.old }
     requires table { Ready cx.old.interner.entries table.old }
     requires walked { ReferencesHeld cx.old.interner.entries walk.old.references.items }
-    requires clause { ReferenceHeld cx.old.interner.entries clause }
+    requires clause { ReferenceHeld cx.old.interner.entries traced.clause }
     ensures rests { RestsAfter graph.old.root_depth cx.old cx.new graph.new cache.new }
     ensures table { Ready cx.new.interner.entries table.new }
     ensures walked { ReferencesHeld cx.new.interner.entries walk.new.references.items }
 {
-    let goal = goal_under(cx.alloc, &[], clause)?;
-    walk_goal(
-        graph,
-        cache,
-        cx,
-        table,
-        walk,
-        TypingMode::Coherence,
-        &goal,
-        depth,
-    )
+    let goal = goal_under(cx.alloc, &[], traced.clause)?;
+    let asked = TracedGoal {
+        goal: &goal,
+        mode: TypingMode::Coherence,
+        depth: traced.depth,
+    };
+    walk_goal(graph, cache, cx, table, walk, asked)
+}
+
+/// Where-clauses that are traced, and how deep their nested goals are.
+#[derive(Clone, Copy)]
+struct TracedClauses<'c> {
+    clauses: &'c [TraitRef],
+    depth: u32,
 }
 
 /// Traces where-clauses in coherence, each alone over the table, and returns their indices.
@@ -196,21 +205,24 @@ fn walk_clauses(
     cx: &mut SolverCx<Solver>,
     table: &mut InferCtxt,
     walk: &mut GoalWalk,
-    clauses: &[TraitRef],
-    depth: u32,
+    traced: TracedClauses<'_>,
 ) -> Result<Vec<usize>, Fault>
     requires rest { SolverRests graph.old.root_depth cx.old graph.old cache.old }
     requires table { Ready cx.old.interner.entries table.old }
     requires walked { ReferencesHeld cx.old.interner.entries walk.old.references.items }
-    requires clauses { TraitRefsHeld cx.old.interner.entries clauses.now }
+    requires clauses { TraitRefsHeld cx.old.interner.entries traced.clauses.now }
     ensures rests { RestsAfter graph.old.root_depth cx.old cx.new graph.new cache.new }
     ensures table { Ready cx.new.interner.entries table.new }
     ensures walked { ReferencesHeld cx.new.interner.entries walk.new.references.items }
 {
     let mut places = Vec::new(cx.alloc);
-    let mut left = clauses;
+    let mut left = traced.clauses;
     'clauses: while let Some((clause, others)) = left.split_first() {
-        let place = walk_clause(graph, cache, cx, table, walk, *clause, depth)?;
+        let next = TracedClause {
+            clause: *clause,
+            depth: traced.depth,
+        };
+        let place = walk_clause(graph, cache, cx, table, walk, next)?;
         places.push(place)?;
         left = others;
     }
@@ -237,8 +249,16 @@ fn walk_intersection(
 {
     let mut walk = GoalWalk::new(cx.alloc);
     let table = &mut found.table;
-    let left = walk_clauses(graph, cache, cx, table, &mut walk, &found.left, depth)?;
-    let right = walk_clauses(graph, cache, cx, table, &mut walk, &found.right, depth)?;
+    let of_left = TracedClauses {
+        clauses: &found.left,
+        depth,
+    };
+    let left = walk_clauses(graph, cache, cx, table, &mut walk, of_left)?;
+    let of_right = TracedClauses {
+        clauses: &found.right,
+        depth,
+    };
+    let right = walk_clauses(graph, cache, cx, table, &mut walk, of_right)?;
     Ok(PairWalk {
         common: common.0,
         is_checked: common.1,

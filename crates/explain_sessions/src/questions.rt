@@ -16,7 +16,7 @@ ghost use Rattle.explain_sessions.specs.Walked.{ProofWalkHeld, RestsAfter};
 use crate::steps::with_steps;
 use crate::walking::{bare_goal, elaborated_goal, walk_alone, walk_settled};
 use crate::walks::ProofWalk;
-use explain_traces::GoalWalk;
+use explain_traces::{GoalWalk, TracedGoal};
 use sessions::candidate_assembly::solver::Solver;
 use sessions::goal_evaluator::{Goal, TypingMode};
 use sessions::infer_table::infer_ctxt::InferCtxt;
@@ -60,15 +60,12 @@ pub(crate) fn walk_question(
 {
     let lowered = lower_in(cx, workspace, number)?;
     let (goal, mut table) = pose(cx, &lowered)?;
-    walk_alone(
-        graph,
-        cache,
-        cx,
-        &mut table,
-        TypingMode::PostAnalysis,
-        &goal,
+    let traced = TracedGoal {
+        goal: &goal,
+        mode: TypingMode::PostAnalysis,
         depth,
-    )
+    };
+    walk_alone(graph, cache, cx, &mut table, traced)
 }
 
 /// Traces the goal of a `prove` query that was proved, at most this deep, and finds the steps of its proof. They are not checked.
@@ -114,13 +111,10 @@ pub(crate) fn walk_refutation(
     let lowered = lower_in(cx, workspace, number)?;
     let goal = bare_goal(cx.alloc, lowered.asked);
     let mut table = question_table_in(cx, &lowered.unknowns)?;
-    walk_alone(
-        graph,
-        cache,
-        cx,
-        &mut table,
-        TypingMode::Coherence,
-        &goal,
+    let traced = TracedGoal {
+        goal: &goal,
+        mode: TypingMode::Coherence,
         depth,
-    )
+    };
+    walk_alone(graph, cache, cx, &mut table, traced)
 }

@@ -62,7 +62,6 @@ fn references_at(
 
 /// Whether a trait reference follows by an impl from premises that begin with these.
 fn follows_by(
-    alloc: Global,
     cx: &mut Interner,
     declarations: &Declarations,
     table: &mut InferCtxt,
@@ -79,6 +78,7 @@ fn follows_by(
     ensures follows { IfOk result (λ b. b ≡ true → (E : List Reference) → IsConcludedFrom (declared cx.old.entries declarations.now) E
         (term_of cx.old.entries reference) (by_impl id.index) (terms_of cx.old.entries premises.now)) }
 {
+    let alloc = cx.allocator();
     ready_impls_are_written_well();
     declarations_are_kept();
     let Some(def) = declarations.impl_def(id) else {
@@ -92,7 +92,6 @@ fn follows_by(
 
 /// Whether a trait reference follows by the source of a candidate, an impl or a built-in rule, from premises that begin with these.
 fn concludes(
-    alloc: Global,
     cx: &mut Interner,
     declarations: &Declarations,
     table: &mut InferCtxt,
@@ -109,9 +108,10 @@ fn concludes(
     ensures concludes { IfOk result
         (λ b. b ≡ true → Concludes cx.old.entries (declared cx.old.entries declarations.now) source reference premises.now) }
 {
+    let alloc = cx.allocator();
     match source {
         CandidateSource::Impl(id) => {
-            follows_by(alloc, cx, declarations, table, reference, id, premises)
+            follows_by(cx, declarations, table, reference, id, premises)
         }
         CandidateSource::BuiltinImpl(_) => {
             follows_by_built_in(alloc, cx, declarations, reference, premises)
@@ -123,7 +123,6 @@ fn concludes(
 
 /// Whether the goal at this index follows by the source of a candidate from its nested goals, and maybe further ones.
 fn is_rule(
-    alloc: Global,
     cx: &mut Interner,
     declarations: &Declarations,
     table: &mut InferCtxt,
@@ -139,6 +138,7 @@ fn is_rule(
     ensures rule { IfOk result (λ b. b ≡ true
         → IsRuleCandidate cx.old.entries (declared cx.old.entries declarations.now) walk.now.references.items place candidate.now) }
 {
+    let alloc = cx.allocator();
     let Some(reference) = reference_at(&walk.references, place) else {
         return Ok(false);
     };
@@ -146,7 +146,6 @@ fn is_rule(
         return Ok(false);
     };
     concludes(
-        alloc,
         cx,
         declarations,
         table,
@@ -158,7 +157,6 @@ fn is_rule(
 
 /// The same for the candidate with this number, of the goal at this index.
 fn is_rule_at(
-    alloc: Global,
     cx: &mut Interner,
     declarations: &Declarations,
     table: &mut InferCtxt,
@@ -178,7 +176,7 @@ fn is_rule_at(
     let Some(candidate) = node.candidates.get(at.1) else {
         return Ok(false);
     };
-    is_rule(alloc, cx, declarations, table, walk, at.0, candidate)
+    is_rule(cx, declarations, table, walk, at.0, candidate)
 }
 
 /// Whether the candidate with this number, of the goal at this index, may apply: it is by an impl, and an instance of the goal follows by
@@ -242,7 +240,7 @@ fn checked_among(
     let mut rules = Vec::new(alloc);
     let mut chances = Vec::new(alloc);
     for at in candidates {
-        let is_rule = is_rule_at(alloc, cx, declarations, table, walk, *at)?;
+        let is_rule = is_rule_at(cx, declarations, table, walk, *at)?;
         push_if(&mut rules, *at, is_rule)?;
         let may_apply = may_apply_at(alloc, cx, declarations, walk, *at)?;
         push_if(&mut chances, *at, may_apply)?;

@@ -175,7 +175,6 @@ fn row_way(
 /// The rule instance by which a candidate concludes a trait reference. If the checker has no rule for it, or if there is no candidate, it
 /// is assumed.
 fn way_by(
-    alloc: Global,
     cx: &mut Interner,
     declarations: &Declarations,
     table: &mut InferCtxt,
@@ -191,6 +190,7 @@ fn way_by(
     ensures table { Ready cx.new.entries table.new }
     ensures held { IfOk result (WayHeld cx.new.entries) }
 {
+    let alloc = cx.allocator();
     match source {
         Some(CandidateSource::Impl(id)) => {
             impl_way(alloc, cx, declarations, table, id, reference)
@@ -230,7 +230,6 @@ fn premises_by(alloc: Global, way: Way, shown: &ShownStep) -> Result<Vec<usize>,
 
 /// The step that is displayed like this. `None` if the trace has no such index.
 fn step_of(
-    alloc: Global,
     cx: &mut Interner,
     declarations: &Declarations,
     table: &mut InferCtxt,
@@ -247,11 +246,12 @@ fn step_of(
     ensures held { IfOk result (λ o. IfSome o (StepHeld cx.new.entries)) }
     ensures shown { IfOk result (λ o. IfSome o (λ s. StepIsShown walk.now.references.items s shown.now)) }
 {
+    let alloc = cx.allocator();
     let Some(reference) = reference_at(&walk.references, shown.place) else {
         return Ok(None);
     };
     let source = source_at(walk, shown.place);
-    let way = way_by(alloc, cx, declarations, table, clauses, reference, source)?;
+    let way = way_by(cx, declarations, table, clauses, reference, source)?;
     let premises = premises_by(alloc, way, shown)?;
     Ok(Some(Step {
         reference,
@@ -262,7 +262,6 @@ fn step_of(
 
 /// The steps that are displayed like this, in order. `None` if the trace lacks one of the indices.
 fn steps_of(
-    alloc: Global,
     cx: &mut Interner,
     declarations: &Declarations,
     table: &mut InferCtxt,
@@ -278,9 +277,10 @@ fn steps_of(
     ensures held { IfOk result (λ o. IfSome o (λ v. Each (StepHeld cx.new.entries) v.items)) }
     ensures shown { IfOk result (λ o. IfSome o (λ v. StepsAreShown walk.now.references.items v.items shown.now)) }
 {
+    let alloc = cx.allocator();
     let mut steps = Vec::new(alloc);
     for next in shown {
-        match step_of(alloc, cx, declarations, table, clauses, walk, next)? {
+        match step_of(cx, declarations, table, clauses, walk, next)? {
             Some(step) => steps.push(step)?,
             None => return Ok(None),
         }
@@ -305,15 +305,7 @@ pub(crate) fn steps_in(
     ensures shown { IfOk result (λ o. IfSome o (λ v. StepsAreShown walk.now.references.items v.items shown.now)) }
 {
     let declarations = &cx.handler.declarations;
-    let steps = steps_of(
-        cx.alloc,
-        &mut cx.interner,
-        declarations,
-        table,
-        clauses,
-        walk,
-        shown,
-    );
+    let steps = steps_of(&mut cx.interner, declarations, table, clauses, walk, shown);
     cx.interner.lawful();
     steps
 }

@@ -11,7 +11,7 @@ ghost use Rattle.explain_sessions.specs.Walked.{RestsAfter};
 
 use crate::places::reference_at;
 use crate::walking::walk_alone;
-use explain_traces::GoalWalk;
+use explain_traces::{GoalWalk, TracedGoal};
 use sessions::candidate_assembly::solver::Solver;
 use sessions::goal_evaluator::TypingMode;
 use sessions::search_graph::{GlobalCache, SearchGraph};
@@ -37,15 +37,12 @@ fn walk_under(
 {
     let goal = goal_under(cx.alloc, clauses, asked)?;
     let mut table = question_table_in(cx, &[])?;
-    walk_alone(
-        graph,
-        cache,
-        cx,
-        &mut table,
-        TypingMode::PostAnalysis,
-        &goal,
+    let traced = TracedGoal {
+        goal: &goal,
+        mode: TypingMode::PostAnalysis,
         depth,
-    )
+    };
+    walk_alone(graph, cache, cx, &mut table, traced)
 }
 
 /// Traces a supertrait, by its number from 1. `None` if there are fewer.

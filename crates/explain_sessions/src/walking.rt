@@ -10,7 +10,7 @@ ghost use Rattle.sessions.specs.Proving.{SolverAdvances, SolverIsReady};
 ghost use Rattle.sessions.specs.Sessions.{SolverRests};
 ghost use Rattle.explain_sessions.specs.Walked.{RestsAfter};
 
-use explain_traces::{GoalWalk, settle, walk_goal};
+use explain_traces::{GoalWalk, TracedGoal, settle, walk_goal};
 use sessions::candidate_assembly::solver::Solver;
 use sessions::goal_evaluator::{Goal, TypingMode};
 use sessions::infer_table::infer_ctxt::InferCtxt;
@@ -50,7 +50,7 @@ pub(crate) fn bare_goal(alloc: Global, asked: TraitRef) -> Goal
     }
 }
 
-/// Traces a goal over a table, at most this deep.
+/// Traces a goal over a table.
 ///
 /// Everything stays at rest, after a fault too. Fails with `Memory` if memory is refused, or with `Full` if a table is full.
 pub(crate) fn walk_alone(
@@ -58,19 +58,17 @@ pub(crate) fn walk_alone(
     cache: &mut GlobalCache<SolverGraph<Solver>>,
     cx: &mut SolverCx<Solver>,
     table: &mut InferCtxt,
-    mode: TypingMode,
-    goal: &Goal,
-    depth: u32,
+    traced: TracedGoal<'_>,
 ) -> Result<GoalWalk, Fault>
     requires rest { SolverRests graph.old.root_depth cx.old graph.old cache.old }
     requires table { Ready cx.old.interner.entries table.old }
-    requires goal { GoalHeld cx.old.interner.entries goal.now }
+    requires goal { GoalHeld cx.old.interner.entries traced.goal.now }
     ensures rests { RestsAfter graph.old.root_depth cx.old cx.new graph.new cache.new }
     ensures table { Ready cx.new.interner.entries table.new }
     ensures held { IfOk result (λ w. ReferencesHeld cx.new.interner.entries w.references.items) }
 {
     let mut walk = GoalWalk::new(cx.alloc);
-    let _root = walk_goal(graph, cache, cx, table, &mut walk, mode, goal, depth)?;
+    let _root = walk_goal(graph, cache, cx, table, &mut walk, traced)?;
     Ok(walk)
 }
 
@@ -93,13 +91,10 @@ pub(crate) fn walk_settled(
     ensures held { IfOk result (λ w. ReferencesHeld cx.new.interner.entries w.references.items) }
 {
     settle(graph, cache, cx, table, TypingMode::PostAnalysis, goal)?;
-    walk_alone(
-        graph,
-        cache,
-        cx,
-        table,
-        TypingMode::PostAnalysis,
+    let traced = TracedGoal {
         goal,
+        mode: TypingMode::PostAnalysis,
         depth,
-    )
+    };
+    walk_alone(graph, cache, cx, table, traced)
 }

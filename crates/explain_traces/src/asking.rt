@@ -112,6 +112,16 @@ pub(crate) struct Met {
     pub(crate) values: Vec<GenericArgKind>,
 }
 
+/// A goal that is traced.
+#[derive(Clone, Copy)]
+pub struct TracedGoal<'g> {
+    pub goal: &'g Goal,
+    /// The mode in which the search is asked.
+    pub mode: TypingMode,
+    /// How deep its nested goals are traced.
+    pub depth: u32,
+}
+
 /// Adds a goal over a table to a trace, with the answer of the search.
 pub(crate) fn meet_goal<H: GoalHandler>(
     graph: &mut SearchGraph<SolverGraph<H>>,
@@ -119,19 +129,17 @@ pub(crate) fn meet_goal<H: GoalHandler>(
     cx: &mut SolverCx<H>,
     table: &InferCtxt,
     walk: &mut GoalWalk,
-    mode: TypingMode,
-    goal: &Goal,
-    depth: u32,
+    traced: TracedGoal<'_>,
 ) -> Result<Met, Fault>
     requires walkable { IsWalkable H.meaning graph.old cache.old cx.old table.now walk.old.references.items }
-    requires goal { GoalHeld cx.old.interner.entries goal.now }
+    requires goal { GoalHeld cx.old.interner.entries traced.goal.now }
     ensures again { IsWalkable H.meaning graph.new cache.new cx.new table.now walk.new.references.items }
     ensures asked { WalkHasAsked H.meaning graph.old cx.old graph.new cx.new }
     ensures input { IfOk result (λ m. IsInput H.meaning.IsReady cx.new m.input) }
     ensures values { IfOk result (λ m. ArgsHeld cx.new.interner.entries m.values.items) }
 {
     context_laws::<H>();
-    let asked = ask(cx, table, mode, goal)?;
+    let asked = ask(cx, table, traced.mode, traced.goal)?;
     let Asked {
         goal: resolved,
         input,
@@ -143,7 +151,7 @@ pub(crate) fn meet_goal<H: GoalHandler>(
     let answer = answer_once(graph, cache, cx, walk, input)?;
     walk.count(graph.frames());
     let is_coinductive = cx.handler.trait_is_coinductive(reference.def_id);
-    let place = walk.meet(cx.alloc, input, reference, answer, is_coinductive, depth)?;
+    let place = walk.meet(input, reference, answer, is_coinductive, traced.depth)?;
     Ok(Met {
         place,
         input,

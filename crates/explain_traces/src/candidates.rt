@@ -13,8 +13,9 @@ use crate::effort::Effort;
 use crate::frames::{FrameWalk, Turn};
 use crate::nodes::GoalWalk;
 use crate::opening::open_candidate;
-use goal_evaluator::{CandidateSource, Certainty, Goal};
+use goal_evaluator::{CandidateSource, Certainty, Goal, TypingMode};
 use goal_frames::GoalHandler;
+use goal_frames::store::InputId;
 use infer_table::infer_ctxt::InferCtxt;
 use search_graph::{GlobalCache, SearchGraph};
 use solver_graph::{SolverCx, SolverGraph, context_laws};
@@ -96,6 +97,27 @@ fn open_next<H: GoalHandler>(
     opened
 }
 
+/// A goal of a trace whose candidates are traced.
+#[derive(Clone, Copy)]
+pub(crate) struct OpenedGoal<'v> {
+    /// Its index in the trace.
+    pub(crate) place: usize,
+    /// The number of its canonical form.
+    pub(crate) input: InputId,
+    /// The values of the form's variables.
+    pub(crate) values: &'v [GenericArgKind],
+    /// The mode in which the search is asked.
+    pub(crate) mode: TypingMode,
+    /// How deep the nested goals of its candidates are traced.
+    pub(crate) depth: u32,
+}
+
+/// A goal with its frame, of which the next candidate is tried.
+pub(crate) struct Visit<'v> {
+    pub(crate) goal: OpenedGoal<'v>,
+    pub(crate) frame: FrameWalk,
+}
+
 /// A candidate that was tried.
 pub(crate) struct Tried {
     /// The frame in which the candidate is to be finished.
@@ -111,14 +133,13 @@ pub(crate) fn try_next<H: GoalHandler>(
     cache: &mut GlobalCache<SolverGraph<H>>,
     cx: &mut SolverCx<H>,
     table: &mut InferCtxt,
-    values: &[GenericArgKind],
-    frame: FrameWalk,
+    visit: Visit<'_>,
     effort: &mut Effort,
 ) -> Result<Option<Tried>, Fault>
     requires askable { WalkIsAskable H.meaning graph.old cache.old cx.old }
-    requires walked { IsWalked H.meaning cx.old frame }
+    requires walked { IsWalked H.meaning cx.old visit.frame }
     requires table { Ready cx.old.interner.entries table.old }
-    requires values { ArgsHeld cx.old.interner.entries values.now }
+    requires values { ArgsHeld cx.old.interner.entries visit.goal.values.now }
     ensures again { WalkIsAskable H.meaning graph.new cache.new cx.new }
     ensures asked { WalkHasAsked H.meaning graph.old cx.old graph.new cx.new }
     ensures table { Ready cx.new.interner.entries table.new }
@@ -127,7 +148,8 @@ pub(crate) fn try_next<H: GoalHandler>(
     ensures held { IfOk result (λ o. IfSome o (λ t. IfSome t.opened (λ gs. GoalsHeld cx.new.interner.entries gs.items))) }
 {
     context_laws::<H>();
-    let opened = open_next(cx, table, values, &frame)?;
+    let Visit { goal, frame } = visit;
+    let opened = open_next(cx, table, goal.values, &frame)?;
     let tried = try_candidate(graph, cache, cx, frame, effort)?;
     match tried {
         Some(frame) => Ok(Some(Tried { frame, opened })),

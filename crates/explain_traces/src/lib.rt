@@ -15,6 +15,7 @@ mod opening;
 mod settling;
 mod walking;
 
+pub use asking::TracedGoal;
 pub use nodes::{Answer, CandidateNode, GoalWalk, Node, Standing};
 pub use settling::settle;
 pub use walking::walk_goal;

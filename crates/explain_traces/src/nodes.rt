@@ -227,7 +227,6 @@ impl GoalWalk {
     /// Adds a goal that is met now, and returns its index.
     pub(crate) fn meet(
         &mut self,
-        alloc: Global,
         input: InputId,
         reference: TraitRef,
         answer: Answer,
@@ -237,6 +236,7 @@ impl GoalWalk {
         ensures { (self.new.references.items ≡ self.old.references.items)
             ⊎ (self.new.references.items ≡ self.old.references.items ++ reference ∷ []) }
     {
+        let alloc = *self.references.allocator();
         let place = self.nodes.len();
         let (standing, is_founded) = self.standing(input, depth);
         self.references.push(reference)?;

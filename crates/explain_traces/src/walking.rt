@@ -8,20 +8,18 @@ ghost use Rattle.solver_graph.specs.Contexts.{IsInput};
 ghost use Rattle.explain_traces.specs.Frames.{IsWalked};
 ghost use Rattle.explain_traces.specs.Walking.{GoalsHeld, IsWalkable, HasWalked};
 
-use crate::asking::{Met, meet_goal};
-use crate::candidates::{Telling, Tried, is_over, told_candidate, try_next};
+use crate::asking::{Met, TracedGoal, meet_goal};
+use crate::candidates::{OpenedGoal, Telling, Tried, Visit, is_over, told_candidate, try_next};
 use crate::frames::FrameWalk;
 use crate::nodes::{CANDIDATE_LIMIT, CandidateNode, GoalWalk};
 use crate::settling::settle;
 use goal_evaluator::{Goal, TypingMode};
 use goal_frames::GoalHandler;
-use goal_frames::store::InputId;
 use infer_table::infer_ctxt::InferCtxt;
 use infer_table::terms::Snapshot;
 use search_graph::{GlobalCache, SearchGraph};
 use solver_graph::{SolverCx, SolverGraph};
 use type_terms::Fault;
-use type_terms::kinds::GenericArgKind;
 
 /// Rolls the table back to the snapshot: no value of an opened candidate stays.
 fn take_back(table: &mut InferCtxt, place: Snapshot)
@@ -30,7 +28,7 @@ fn take_back(table: &mut InferCtxt, place: Snapshot)
     table.roll_back(place);
 }
 
-/// Traces a goal over a table, at most this deep, and returns its index: the answer of the search, the candidates that explain it, and
+/// Traces a goal over a table, and returns its index: the answer of the search, the candidates that explain it, and
 /// their nested goals.
 ///
 /// What the search reads of the table is as before. The interner, the cache, and the context's goals and answers may grow. No answer
@@ -43,31 +41,33 @@ pub fn walk_goal<H: GoalHandler>(
     cx: &mut SolverCx<H>,
     table: &mut InferCtxt,
     walk: &mut GoalWalk,
-    mode: TypingMode,
-    goal: &Goal,
-    depth: u32,
+    traced: TracedGoal<'_>,
 ) -> Result<usize, Fault>
     requires walkable { IsWalkable H.meaning graph.old cache.old cx.old table.old walk.old.references.items }
-    requires goal { GoalHeld cx.old.interner.entries goal.now }
+    requires goal { GoalHeld cx.old.interner.entries traced.goal.now }
     ensures again { IsWalkable H.meaning graph.new cache.new cx.new table.new walk.new.references.items }
     ensures walked { HasWalked H.meaning graph.old cx.old table.old graph.new cx.new table.new }
 {
-    let met = meet_goal(graph, cache, cx, table, walk, mode, goal, depth)?;
+    let met = meet_goal(graph, cache, cx, table, walk, traced)?;
     let Met {
         place,
         input,
         values,
     } = met;
-    if depth == 0 {
+    if traced.depth == 0 {
         return Ok(place);
     }
     if !walk.is_opened(place) {
         return Ok(place);
     }
-    let below = depth - 1;
-    walk_candidates(
-        graph, cache, cx, table, walk, mode, input, &values, place, below,
-    )?;
+    let opened = OpenedGoal {
+        place,
+        input,
+        values: &values,
+        mode: traced.mode,
+        depth: traced.depth - 1,
+    };
+    walk_candidates(graph, cache, cx, table, walk, opened)?;
     walk.close(place, graph.frames());
     Ok(place)
 }
@@ -80,27 +80,25 @@ fn walk_candidates<H: GoalHandler>(
     cx: &mut SolverCx<H>,
     table: &mut InferCtxt,
     walk: &mut GoalWalk,
-    mode: TypingMode,
-    input: InputId,
-    values: &[GenericArgKind],
-    place: usize,
-    depth: u32,
+    opened: OpenedGoal<'_>,
 ) -> Result<(), Fault>
     requires walkable { IsWalkable H.meaning graph.old cache.old cx.old table.old walk.old.references.items }
-    requires input { IsInput H.meaning.IsReady cx.old input }
-    requires values { ArgsHeld cx.old.interner.entries values.now }
+    requires input { IsInput H.meaning.IsReady cx.old opened.input }
+    requires values { ArgsHeld cx.old.interner.entries opened.values.now }
     ensures again { IsWalkable H.meaning graph.new cache.new cx.new table.new walk.new.references.items }
     ensures walked { HasWalked H.meaning graph.old cx.old table.old graph.new cx.new table.new }
 {
-    let mut frame = FrameWalk::begin(cx, input)?;
+    let mut frame = FrameWalk::begin(cx, opened.input)?;
     for _candidate in 0..CANDIDATE_LIMIT {
         let turn = frame.turn();
-        if is_over(walk, place, turn, graph.frames()) {
+        if is_over(walk, opened.place, turn, graph.frames()) {
             return Ok(());
         }
-        let visited = visit_candidate(
-            graph, cache, cx, table, walk, mode, frame, values, place, depth,
-        )?;
+        let visit = Visit {
+            goal: opened,
+            frame,
+        };
+        let visited = visit_candidate(graph, cache, cx, table, walk, visit)?;
         let Some(next) = visited else {
             return Ok(());
         };
@@ -117,30 +115,33 @@ fn visit_candidate<H: GoalHandler>(
     cx: &mut SolverCx<H>,
     table: &mut InferCtxt,
     walk: &mut GoalWalk,
-    mode: TypingMode,
-    frame: FrameWalk,
-    values: &[GenericArgKind],
-    place: usize,
-    depth: u32,
+    visit: Visit<'_>,
 ) -> Result<Option<FrameWalk>, Fault>
     requires walkable { IsWalkable H.meaning graph.old cache.old cx.old table.old walk.old.references.items }
-    requires values { ArgsHeld cx.old.interner.entries values.now }
-    requires frame { IsWalked H.meaning cx.old frame }
+    requires values { ArgsHeld cx.old.interner.entries visit.goal.values.now }
+    requires frame { IsWalked H.meaning cx.old visit.frame }
     ensures again { IsWalkable H.meaning graph.new cache.new cx.new table.new walk.new.references.items }
     ensures walked { HasWalked H.meaning graph.old cx.old table.old graph.new cx.new table.new }
     ensures frame { IfOk result (λ o. IfSome o (IsWalked H.meaning cx.new)) }
 {
+    let goal = visit.goal;
     let before = table.snapshot();
-    let tried = try_next(graph, cache, cx, table, values, frame, &mut walk.effort)?;
+    let tried = try_next(graph, cache, cx, table, visit, &mut walk.effort)?;
     let Some(tried) = tried else {
         take_back(table, before);
         return Ok(None);
     };
     let Tried { frame, opened } = tried;
-    let told = told_candidate(walk, &frame, opened, place);
-    walk_telling(graph, cache, cx, table, walk, mode, told, place, depth)?;
+    let told = told_candidate(walk, &frame, opened, goal.place);
+    walk_telling(graph, cache, cx, table, walk, ToldCandidate { goal, told })?;
     take_back(table, before);
     frame.finish(cx)
+}
+
+/// A candidate that was tried, told if it explains the answer of its goal.
+struct ToldCandidate<'v> {
+    goal: OpenedGoal<'v>,
+    told: Option<Telling>,
 }
 
 /// Traces the nested goals of a candidate, and notes the candidate if it explains the goal's answer.
@@ -151,16 +152,14 @@ fn walk_telling<H: GoalHandler>(
     cx: &mut SolverCx<H>,
     table: &mut InferCtxt,
     walk: &mut GoalWalk,
-    mode: TypingMode,
-    told: Option<Telling>,
-    place: usize,
-    depth: u32,
+    candidate: ToldCandidate<'_>,
 ) -> Result<(), Fault>
     requires walkable { IsWalkable H.meaning graph.old cache.old cx.old table.old walk.old.references.items }
-    requires goals { IfSome told (λ t. GoalsHeld cx.old.interner.entries t.goals.items) }
+    requires goals { IfSome candidate.told (λ t. GoalsHeld cx.old.interner.entries t.goals.items) }
     ensures again { IsWalkable H.meaning graph.new cache.new cx.new table.new walk.new.references.items }
     ensures walked { HasWalked H.meaning graph.old cx.old table.old graph.new cx.new table.new }
 {
+    let ToldCandidate { goal, told } = candidate;
     let Some(told) = told else {
         return Ok(());
     };
@@ -169,7 +168,12 @@ fn walk_telling<H: GoalHandler>(
         certainty,
         goals,
     } = told;
-    let premises = walk_premises(graph, cache, cx, table, walk, mode, &goals, depth)?;
+    let traced = TracedGoals {
+        goals: &goals,
+        mode: goal.mode,
+        depth: goal.depth,
+    };
+    let premises = walk_premises(graph, cache, cx, table, walk, traced)?;
     let Some(premises) = premises else {
         return Ok(());
     };
@@ -178,7 +182,15 @@ fn walk_telling<H: GoalHandler>(
         certainty,
         premises,
     };
-    walk.note_candidate(place, candidate)
+    walk.note_candidate(goal.place, candidate)
+}
+
+/// Goals that are traced one after another, in one mode and as deep.
+#[derive(Clone, Copy)]
+struct TracedGoals<'g> {
+    goals: &'g [Goal],
+    mode: TypingMode,
+    depth: u32,
 }
 
 /// Walks the goals that a candidate asks, up to the first that is refused. `None` where the walk took what it may before the last of them.
@@ -189,22 +201,25 @@ fn walk_premises<H: GoalHandler>(
     cx: &mut SolverCx<H>,
     table: &mut InferCtxt,
     walk: &mut GoalWalk,
-    mode: TypingMode,
-    goals: &[Goal],
-    depth: u32,
+    traced: TracedGoals<'_>,
 ) -> Result<Option<Vec<usize>>, Fault>
     requires walkable { IsWalkable H.meaning graph.old cache.old cx.old table.old walk.old.references.items }
-    requires goals { GoalsHeld cx.old.interner.entries goals.now }
+    requires goals { GoalsHeld cx.old.interner.entries traced.goals.now }
     ensures again { IsWalkable H.meaning graph.new cache.new cx.new table.new walk.new.references.items }
     ensures walked { HasWalked H.meaning graph.old cx.old table.old graph.new cx.new table.new }
 {
     let mut premises = Vec::new(cx.alloc);
-    for goal in goals {
+    for goal in traced.goals {
         if graph.frames() > walk.last_frame() {
             return Ok(None);
         }
-        settle(graph, cache, cx, table, mode, goal)?;
-        let premise = walk_goal(graph, cache, cx, table, walk, mode, goal, depth)?;
+        settle(graph, cache, cx, table, traced.mode, goal)?;
+        let next = TracedGoal {
+            goal,
+            mode: traced.mode,
+            depth: traced.depth,
+        };
+        let premise = walk_goal(graph, cache, cx, table, walk, next)?;
         premises.push(premise)?;
         if walk.is_refused(premise) {
             return Ok(Some(premises));

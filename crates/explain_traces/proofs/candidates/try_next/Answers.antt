@@ -22,7 +22,7 @@ try_candidate-requires-clause-askable g c =
 pub try_candidate-requires-clause-walked : goal.try_candidate-requires-clause-walked
 try_candidate-requires-clause-walked g c =
     let k = c.context_laws.ensures.keeps c.args.cx.now c.open_next.new.cx c.requires.askable.ready c.open_next.ensures.advances in
-    walked-later g.H.GoalHandler.meaning c.args.cx.now c.open_next.new.cx k c.args.frame c.requires.walked
+    walked-later g.H.GoalHandler.meaning c.args.cx.now c.open_next.new.cx k c.args.visit.frame c.requires.walked
 
 pub returns-in_err-tried-clause-asked : goal.returns-in_err-tried-clause-asked
 returns-in_err-tried-clause-asked g c =

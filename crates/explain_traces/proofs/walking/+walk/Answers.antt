@@ -74,7 +74,7 @@ walk_candidates-visit_candidate-requires g t c κs within =
         within,
         (
           walkable-same g.H.GoalHandler.meaning c.loop-candidate.graph c.loop-candidate.cache c.loop-candidate.cx c.loop-candidate.table c.loop-candidate.walk.references.items c.is_over.new.walk.references.items inv.again (ap (λ r. r.items) c.is_over.ensures),
-          (args-held-later c.args.cx.now.interner.entries c.loop-candidate.cx.interner.entries inv.walked.asked.entries c.args.values.now c.requires.values, inv.frame),
+          (args-held-later c.args.cx.now.interner.entries c.loop-candidate.cx.interner.entries inv.walked.asked.entries c.args.opened.values.now c.requires.values, inv.frame),
         ),
       ),
     )
@@ -105,7 +105,7 @@ pub walk_premises-settle-requires-clause-goal : goal.walk_premises-settle-requir
 walk_premises-settle-requires-clause-goal g t c =
     let es = c.args.cx.now.interner.entries in
     let x = c.goal-item.result in
-    let had : GoalHeld es x = subst (GoalHeld es) (sym c.goal-item.is) (every-at (GoalHeld es) c.args.goals.now c.loop-goal.goal-index x c.requires.goals c.loop-goal-test.true) in
+    let had : GoalHeld es x = subst (GoalHeld es) (sym c.goal-item.is) (every-at (GoalHeld es) c.args.traced.goals.now c.loop-goal.goal-index x c.requires.goals c.loop-goal-test.true) in
     goal-held-later es c.loop-goal.cx.interner.entries c.loop-goal.invariant.walked.asked.entries x had
 
 pub walk_premises-returns-in_err-settle-clause-again : goal.walk_premises-returns-in_err-settle-clause-again
@@ -118,7 +118,7 @@ pub walk_premises-walk_goal-requires : goal.walk_premises-walk_goal-requires
 walk_premises-walk_goal-requires g t c κs within =
     let es = c.args.cx.now.interner.entries in
     let x = c.goal-item.result in
-    let had : GoalHeld es x = subst (GoalHeld es) (sym c.goal-item.is) (every-at (GoalHeld es) c.args.goals.now c.loop-goal.goal-index x c.requires.goals c.loop-goal-test.true) in (
+    let had : GoalHeld es x = subst (GoalHeld es) (sym c.goal-item.is) (every-at (GoalHeld es) c.args.traced.goals.now c.loop-goal.goal-index x c.requires.goals c.loop-goal-test.true) in (
       omega (arith, c.decreases),
       (within, (walkable-asked g.H.GoalHandler.meaning c.loop-goal.graph c.settle.new.graph c.loop-goal.cache c.settle.new.cache c.loop-goal.cx c.settle.new.cx c.loop-goal.table c.settle.new.table c.loop-goal.walk.references.items c.loop-goal.invariant.again c.settle.ensures.again c.settle.ensures.asked.entries c.settle.ensures.table, goal-held-later es c.settle.new.cx.interner.entries (λ i e h. c.settle.ensures.asked.entries i e (c.loop-goal.invariant.walked.asked.entries i e h)) x had)),
     )
