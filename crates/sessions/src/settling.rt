@@ -56,6 +56,21 @@ fn read(certainty: Certainty, has_changed: HasChanged) -> Asking
     }
 }
 
+/// What a goal comes to that has no evaluation. A conflict is no refusal: it leaves the goal open.
+fn read_error(error: RootError) -> Result<Asking, Fault>
+    ensures refused { result ≡ Ok Asking.IsRefused → error ≡ RootError.NoSolution }
+    ensures unsure { result ≡ Ok Asking.IsUnsure → error ≡ RootError.Conflict }
+    ensures not_yes { result ≡ Ok Asking.Holds → ⊥ }
+    ensures not_changed { result ≡ Ok Asking.Changes → ⊥ }
+    ensures fault { IfErr result (λ f. error ≡ RootError.Fault f) }
+{
+    match error {
+        RootError::NoSolution => Ok(Asking::IsRefused),
+        RootError::Conflict => Ok(Asking::IsUnsure),
+        RootError::Fault(fault) => Err(fault),
+    }
+}
+
 /// Evaluates the goal once, outside coherence. The answer's values stay in the table.
 fn ask_once<H: GoalHandler>(
     graph: &mut SearchGraph<SolverGraph<H>>,
@@ -78,9 +93,7 @@ fn ask_once<H: GoalHandler>(
 {
     match evaluate_root_goal(graph, cache, cx, table, TypingMode::PostAnalysis, goal) {
         Ok(evaluation) => Ok(read(evaluation.certainty, evaluation.has_changed)),
-        Err(RootError::NoSolution) => Ok(Asking::IsRefused),
-        Err(RootError::Conflict) => Ok(Asking::IsUnsure),
-        Err(RootError::Fault(fault)) => Err(fault),
+        Err(error) => read_error(error),
     }
 }
 

@@ -1,7 +1,8 @@
-use Rattle.std.proofs.Common.{◌∙◌, sym, inr, ap}
+use Rattle.std.proofs.Common.{◌∙◌, sym, inl, inr, ap, Err}
 use Rattle.infer_table.specs.Unification.{table_trees}
 use Rattle.infer_table.proofs.Numbers.{goal-held-later}
 use Rattle.std.proofs.Math.Nat.{le_refl}
+use Rattle.std.proofs.lemmas.Result.{IfErr-weaker}
 use Rattle.solver_graph.proofs.WithoutCanonical.{evaluations-keep-out}
 use Rattle.solver_graph.specs.Roots.{goal_in}
 use Rattle.solver_graph.specs.declared.outcome.RootError.TheVariants as Root
@@ -35,8 +36,8 @@ returns-in-Ok-clause-asked g c =
       clean = λ h. evaluations-keep-out (table_trees c.args.cx.now.interner.entries c.args.table.now) (table_trees c.evaluate_root_goal.new.cx.interner.entries c.evaluate_root_goal.new.table) (goal_in c.args.cx.now.interner.entries c.args.table.now c.args.goal.now) a.0 h a.3;
     }
 
-pub returns-in-Err-NoSolution-clause-again : goal.returns-in-Err-NoSolution-clause-again
-returns-in-Err-NoSolution-clause-again g c =
+pub returns-in-Err-clause-again : goal.returns-in-Err-clause-again
+returns-in-Err-clause-again g c =
     let e = c.evaluate_root_goal.ensures.rests in
     record {
       empty = e.empty;
@@ -46,8 +47,8 @@ returns-in-Err-NoSolution-clause-again g c =
       goal = goal-held-later c.args.cx.now.interner.entries c.evaluate_root_goal.new.cx.interner.entries e.entries c.args.goal.now c.requires.goal;
     }
 
-pub returns-in-Err-NoSolution-clause-asked : goal.returns-in-Err-NoSolution-clause-asked
-returns-in-Err-NoSolution-clause-asked g c =
+pub returns-in-Err-clause-asked : goal.returns-in-Err-clause-asked
+returns-in-Err-clause-asked g c =
     let e = c.evaluate_root_goal.ensures.rests in
     record {
       depth = e.depth;
@@ -56,58 +57,8 @@ returns-in-Err-NoSolution-clause-asked g c =
       keeps = e.keeps;
       entries = e.entries;
       grows = e.grows;
-      narrows = narrows-refused c.args.cx.now.interner.entries c.evaluate_root_goal.new.cx.interner.entries c.args.table.now c.evaluate_root_goal.new.table e.entries c.requires.table c.in-Err-NoSolution.ensures.refusal.unchanged;
-      clean = clean-refused c.args.cx.now.interner.entries c.evaluate_root_goal.new.cx.interner.entries c.args.table.now c.evaluate_root_goal.new.table e.entries c.requires.table c.in-Err-NoSolution.ensures.refusal.unchanged;
-    }
-
-pub returns-in-Err-Conflict-clause-again : goal.returns-in-Err-Conflict-clause-again
-returns-in-Err-Conflict-clause-again g c =
-    let e = c.evaluate_root_goal.ensures.rests in
-    record {
-      empty = e.empty;
-      cache = e.cache;
-      ready = e.ready;
-      table = e.table;
-      goal = goal-held-later c.args.cx.now.interner.entries c.evaluate_root_goal.new.cx.interner.entries e.entries c.args.goal.now c.requires.goal;
-    }
-
-pub returns-in-Err-Conflict-clause-asked : goal.returns-in-Err-Conflict-clause-asked
-returns-in-Err-Conflict-clause-asked g c =
-    let e = c.evaluate_root_goal.ensures.rests in
-    record {
-      depth = e.depth;
-      results = e.results;
-      consistent = e.consistent;
-      keeps = e.keeps;
-      entries = e.entries;
-      grows = e.grows;
-      narrows = narrows-refused c.args.cx.now.interner.entries c.evaluate_root_goal.new.cx.interner.entries c.args.table.now c.evaluate_root_goal.new.table e.entries c.requires.table c.in-Err-Conflict.ensures.refusal.unchanged;
-      clean = clean-refused c.args.cx.now.interner.entries c.evaluate_root_goal.new.cx.interner.entries c.args.table.now c.evaluate_root_goal.new.table e.entries c.requires.table c.in-Err-Conflict.ensures.refusal.unchanged;
-    }
-
-pub returns-in-Err-Fault-clause-again : goal.returns-in-Err-Fault-clause-again
-returns-in-Err-Fault-clause-again g c =
-    let e = c.evaluate_root_goal.ensures.rests in
-    record {
-      empty = e.empty;
-      cache = e.cache;
-      ready = e.ready;
-      table = e.table;
-      goal = goal-held-later c.args.cx.now.interner.entries c.evaluate_root_goal.new.cx.interner.entries e.entries c.args.goal.now c.requires.goal;
-    }
-
-pub returns-in-Err-Fault-clause-asked : goal.returns-in-Err-Fault-clause-asked
-returns-in-Err-Fault-clause-asked g c =
-    let e = c.evaluate_root_goal.ensures.rests in
-    record {
-      depth = e.depth;
-      results = e.results;
-      consistent = e.consistent;
-      keeps = e.keeps;
-      entries = e.entries;
-      grows = e.grows;
-      narrows = narrows-refused c.args.cx.now.interner.entries c.evaluate_root_goal.new.cx.interner.entries c.args.table.now c.evaluate_root_goal.new.table e.entries c.requires.table c.in-Err-Fault.ensures.refusal.unchanged;
-      clean = clean-refused c.args.cx.now.interner.entries c.evaluate_root_goal.new.cx.interner.entries c.args.table.now c.evaluate_root_goal.new.table e.entries c.requires.table c.in-Err-Fault.ensures.refusal.unchanged;
+      narrows = narrows-refused c.args.cx.now.interner.entries c.evaluate_root_goal.new.cx.interner.entries c.args.table.now c.evaluate_root_goal.new.table e.entries c.requires.table c.in-Err.ensures.refusal.unchanged;
+      clean = clean-refused c.args.cx.now.interner.entries c.evaluate_root_goal.new.cx.interner.entries c.args.table.now c.evaluate_root_goal.new.table e.entries c.requires.table c.in-Err.ensures.refusal.unchanged;
     }
 
 pub returns-in-Ok-clause-holds : goal.returns-in-Ok-clause-holds
@@ -129,19 +80,22 @@ returns-in-Ok-clause-unsure g c = λ e.
 pub returns-in-Ok-clause-frames : goal.returns-in-Ok-clause-frames
 returns-in-Ok-clause-frames g c = c.evaluate_root_goal.ensures.costs.frames _ (le_refl _)
 
-pub returns-in-Err-NoSolution-clause-frames : goal.returns-in-Err-NoSolution-clause-frames
-returns-in-Err-NoSolution-clause-frames g c = c.evaluate_root_goal.ensures.costs.frames _ (le_refl _)
-
-pub returns-in-Err-Conflict-clause-frames : goal.returns-in-Err-Conflict-clause-frames
-returns-in-Err-Conflict-clause-frames g c = c.evaluate_root_goal.ensures.costs.frames _ (le_refl _)
-
-pub returns-in-Err-Fault-clause-frames : goal.returns-in-Err-Fault-clause-frames
-returns-in-Err-Fault-clause-frames g c = c.evaluate_root_goal.ensures.costs.frames _ (le_refl _)
+pub returns-in-Err-clause-frames : goal.returns-in-Err-clause-frames
+returns-in-Err-clause-frames g c = c.evaluate_root_goal.ensures.costs.frames _ (le_refl _)
 
 pub returns-in-Ok-clause-left : goal.returns-in-Ok-clause-left
 returns-in-Ok-clause-left g c = λ _.
     let a = c.in-Ok.ensures.says.answer in
     (a.0, a.1.found, a.3, older-are-terms _ _ c.evaluate_root_goal.ensures.rests.table.older)
 
-pub returns-in-Err-Fault-clause-full : goal.returns-in-Err-Fault-clause-full
-returns-in-Err-Fault-clause-full g c = λ q. c.in-Err-Fault.ensures.faults.full (c.in-Err-Fault.field-0-is ∙ ap Root.Fault q)
+pub returns-in-Err-clause-unsure : goal.returns-in-Err-clause-unsure
+returns-in-Err-clause-unsure g c = λ e. inl (c.in-Err.ensures.faults.not_plain (ap Err (c.read_error.ensures.unsure e)))
+
+pub returns-in-Err-clause-refused : goal.returns-in-Err-clause-refused
+returns-in-Err-clause-refused g c = λ e.
+    let a = c.in-Err.ensures.refusal.answer (ap Err (c.read_error.ensures.refused e)) in
+    (a.0, a.1.found, a.2)
+
+pub returns-in-Err-clause-full : goal.returns-in-Err-clause-full
+returns-in-Err-clause-full g c =
+    IfErr-weaker c.read_error.result _ _ (λ f is q. c.in-Err.ensures.faults.full (is ∙ ap Root.Fault q)) c.read_error.ensures.fault
