@@ -19,7 +19,7 @@ use built_in_candidates::calls::consider_builtin_fn_trait_candidates;
 use built_in_candidates::object::consider_object_bound_candidate;
 use built_in_candidates::unsize::consider_builtin_unsize_candidate;
 use candidate_assembly::decided::is_decided;
-use candidate_assembly::impls::next_impl_candidate;
+use candidate_assembly::impls::{consider_impl_candidate, next_impl_candidate};
 use candidate_assembly::trait_goals::assemble_and_evaluate_candidates;
 use declarations::declarations::Declarations;
 use goal_evaluator::{
@@ -30,8 +30,8 @@ use infer_table::goal::Goal;
 use infer_table::input::{CanonicalInput, canonicalize_goal};
 use std::alloc::Global;
 use term_folds::predicate::Clause;
-use text_parser::type_terms::Fault;
 use text_parser::type_terms::interner::Interner;
+use text_parser::type_terms::{Fault, ImplId};
 use text_parser::workspace::Workspace;
 
 /// Where a candidate comes from: an impl, by its number, or a built-in rule.
@@ -360,4 +360,69 @@ pub(crate) fn first_place_that_differs(
         }
     }
     Ok(None)
+}
+
+/// The candidate that the call of an impl makes of the goal, if the impl is declared.
+fn by_impl(
+    alloc: Global,
+    cx: &mut Interner,
+    decls: &Declarations,
+    goal: &CanonicalInput,
+    id: ImplId,
+) -> Result<Option<CandidateSpec>, Fault>
+    requires { IsWellPosedGoal cx.old.entries decls.now goal.now }
+{
+    match decls.impl_def(id) {
+        Some(def) => {
+            let own = consider_impl_candidate(alloc, cx, goal, id, def)?;
+            Ok(Some(own))
+        }
+        None => Ok(None),
+    }
+}
+
+/// Whether the call of an impl makes the candidate that is wanted of the text's first question.
+fn is_made_in_workspace(
+    alloc: Global,
+    cx: &mut Interner,
+    workspace: &Workspace,
+    id: ImplId,
+    told: Option<Told>,
+) -> Result<bool, Fault>
+    requires { (bytes : List ℕ) × TextGives bytes (Ok workspace.now) }
+{
+    let decls = view(alloc, cx, workspace)?;
+    let (goal, premises) = question(alloc, cx, workspace, 0)?;
+    if !is_decided(cx, &decls, &goal) {
+        return Ok(false);
+    }
+    let own = by_impl(alloc, cx, &decls, &goal, id)?;
+    let wanted = Wanted {
+        premises: &premises,
+        told,
+    };
+    Ok(is_told(&own, wanted))
+}
+
+/// The same of the first question of a text.
+fn is_made_in_text(
+    alloc: Global,
+    text: &[u8],
+    id: ImplId,
+    told: Option<Told>,
+) -> Result<bool, Fault> {
+    let workspace = read(alloc, text)?;
+    let mut cx = Interner::new(alloc, 10000);
+    is_made_in_workspace(alloc, &mut cx, &workspace, id, told)
+}
+
+/// Whether the call of an impl makes the candidate that the row wants, over what is declared.
+pub(crate) fn is_made_by(
+    alloc: Global,
+    declared: &[u8],
+    row: Row,
+    id: ImplId,
+) -> Result<bool, Fault> {
+    let text = text_of(alloc, declared, &[row])?;
+    is_made_in_text(alloc, &text, id, row.1)
 }

@@ -2,9 +2,9 @@
 //!
 //! A row is a goal, and behind it as where-clauses the premises that are wanted; the goal is asked without them.
 
-use crate::candidates::{Row, Source, Told, first_place_that_differs};
+use crate::candidates::{Row, Source, Told, first_place_that_differs, is_made_by};
 use goal_evaluator::{BuiltinImplSource, Certainty, MaybeCause};
-use text_parser::type_terms::Fault;
+use text_parser::type_terms::{Fault, ImplId};
 
 /// What the rows are asked over. The impls stand behind the 39 of `core`.
 const DECLARED: &[u8] = b"crate here
@@ -261,5 +261,17 @@ fn rules_make_their_candidates(rt: HostRuntime) -> Result<(), Fault> {
         first_place_that_differs(rt.alloc(), DECLARED, &TABLES)?,
         None
     );
+    Ok(())
+}
+
+// The last one is made at a type that the impl is passed over at.
+#[test]
+fn impls_make_their_candidates(rt: HostRuntime) -> Result<(), Fault> {
+    let core = (&b"u8: Clone"[..], IMPL_10_OF_CORE);
+    assert!(rt; is_made_by(rt.alloc(), DECLARED, core, ImplId { index: 9 })?);
+    let own = (&b"Foul: Safe where Foul: Sup"[..], IMPL_FOR_FOUL);
+    assert!(rt; is_made_by(rt.alloc(), DECLARED, own, ImplId { index: 39 })?);
+    let other = (&b"Part<u8>: Safe"[..], IMPL_FOR_OTHER_PART);
+    assert!(rt; is_made_by(rt.alloc(), DECLARED, other, ImplId { index: 40 })?);
     Ok(())
 }

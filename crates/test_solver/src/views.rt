@@ -11,7 +11,7 @@ use infer_table::input::CanonicalInput;
 use std::alloc::Global;
 use term_folds::predicate::TraitRef;
 use text_parser::type_terms::interner::Interner;
-use text_parser::type_terms::{CrateId, Fault, ImplId};
+use text_parser::type_terms::{AdtId, CrateId, Fault, ImplId, TraitId};
 use text_parser::workspace::Workspace;
 
 /// The asking crate does not see the crate `apart`.
@@ -19,6 +19,11 @@ const ASKED: &[u8] = b"crate base
 crate apart
 crate here uses base
 prove in here u8: Fn<()>
+prove in here u8: Clone";
+
+/// A struct with two parameters, of which the last field alone mentions the second.
+const SHAPES: &[u8] = b"crate here
+struct Tail<T, U>(T, U)
 prove in here u8: Clone";
 
 /// Whether the asking crate sees itself, `base` and `core` alone, in the order of the text.
@@ -108,6 +113,37 @@ fn found(alloc: Global, place: u32, call: Call) -> Result<[Option<u32>; 3], Faul
     found_at(alloc, &mut cx, &workspace, place, call)
 }
 
+/// Which of the two parameters of a struct are unsizing.
+fn unsizing_of(decls: &Declarations, id: AdtId) -> Option<[bool; 2]> {
+    match decls.unsizing_params_for_adt(id) {
+        Some([first, second]) => Some([*first, *second]),
+        _ => None,
+    }
+}
+
+/// The parameters of the text's struct that are unsizing, and whether `Fn` and `Clone` of `core` are fundamental.
+fn told_of_shapes(
+    alloc: Global,
+    cx: &mut Interner,
+    workspace: &Workspace,
+) -> Result<(Option<[bool; 2]>, [bool; 2]), Fault>
+    requires { (bytes : List ℕ) × TextGives bytes (Ok workspace.now) }
+{
+    let decls = view(alloc, cx, workspace)?;
+    let fundamental = [
+        decls.trait_is_fundamental(TraitId { index: 7 }),
+        decls.trait_is_fundamental(TraitId { index: 2 }),
+    ];
+    Ok((unsizing_of(&decls, AdtId { index: 1 }), fundamental))
+}
+
+/// The same of the text.
+fn told(alloc: Global) -> Result<(Option<[bool; 2]>, [bool; 2]), Fault> {
+    let workspace = read(alloc, SHAPES)?;
+    let mut cx = Interner::new(alloc, 10000);
+    told_of_shapes(alloc, &mut cx, &workspace)
+}
+
 /// Whether the asking crate of the text sees what it uses.
 fn view_is_right(alloc: Global) -> Result<bool, Fault> {
     let workspace = read(alloc, ASKED)?;
@@ -125,5 +161,13 @@ fn a_crate_sees_what_it_uses_and_finds_supertraits_and_impls(rt: HostRuntime) ->
     ] {
         assert!(rt; found(rt.alloc(), place, call)? == wanted);
     }
+    Ok(())
+}
+
+#[test]
+fn a_crate_sees_which_parameters_are_unsizing_and_which_traits_fundamental(
+    rt: HostRuntime,
+) -> Result<(), Fault> {
+    assert!(rt; told(rt.alloc())? == (Some([false, true]), [true, false]));
     Ok(())
 }
