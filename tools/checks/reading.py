@@ -323,8 +323,8 @@ def names_of_specs() -> dict[str, set[Path]]:
     """The names of specs/, with the files that they stand in."""
     places: dict[str, set[Path]] = defaultdict(set)
     for path in files_of(".antt"):
-        module = module_of(f"Rattle.{path.parts[-3]}.specs.{path.stem}") if path.parts[-2] == "specs" and path.name != "Lib.antt" else None
-        for name in module.items if module else ():
+        module = module_of(".".join(["Rattle", *path.relative_to(TOP / "crates").with_suffix("").parts])) if path.name != "Lib.antt" else None
+        for name in set(module.items) - set(NO_DEFINITION) if module else ():
             places[name].add(path)
     return places
 
