@@ -23,11 +23,11 @@ WALKS = {
 
 
 def check(tally: Tally, _: argparse.Namespace) -> None:
-    benchmarks = built("bench_solver")
+    bench_solver = built("bench_solver")
     for shape, levels in SHAPES:
         for walk, form in WALKS.items():
             wanted = form.format(levels + 1)
-            ended = run([benchmarks, f"{shape}_{walk}", str(levels)], limits=Limits(seconds=20, stack=8192 * 1024))
+            ended = run([bench_solver, f"{shape}_{walk}", str(levels)], limits=Limits(seconds=20, stack=8192 * 1024))
             found = ended.output.decode("latin-1").rstrip("\n")
             fault = f"status {ended.status} and '{found}', 0 and '{wanted}' are wanted"
             tally.expect(f"{shape}_{walk} {levels}", (ended.status, found) == (0, wanted), fault)
