@@ -446,7 +446,8 @@ def try_with_explained(tally: Tally, room: Room) -> None:
     room.write("blanket.txt", "crate blanket\ntrait Wide\nimpl<T> Wide for T\n")
     room.write("narrow.txt", "crate narrow uses blanket\nstruct N\nimpl Wide for N\n")
     ended = room.run("--explain --with blanket.txt narrow.txt")
-    wanted = [" --> narrow.txt:3:6", "  |", " ::: blanket.txt:3", "3 | impl<T> Wide for T", " ::: narrow.txt:3", "3 | impl Wide for N"]
+    wanted = ["error[E0119]: conflicting implementations of trait `Wide` for type `N`: lines 3 of blanket.txt and 3",
+              " --> narrow.txt:3:6", "  |", " ::: blanket.txt:3", "3 | impl<T> Wide for T", " ::: narrow.txt:3", "3 | impl Wide for N"]
     rows = iter(ended.output.splitlines())
     tally.expect("an overlap between files", all(row in rows for row in wanted), ended.output)
     colored = room.run("--explain --color always --with blanket.txt narrow.txt").output

@@ -15,7 +15,7 @@ ANSWER = re.compile(r"(crate|later|supers|prove|refute) ")
 FAULT = re.compile(r"line (\d+)(: fault \d+)$")
 ARROW = re.compile(rf"( *{STYLE}--> {STYLE}).*:(\d+):(\d+)$")
 SOURCE = re.compile(rf"({STYLE})(\d+)({STYLE} *{STYLE}\|)")
-MENTION = re.compile(r"\bline (\d+)")
+MENTION = re.compile(r"\b(lines?) (\d+)(?: and (\d+))?")
 
 
 class Part(NamedTuple):
@@ -42,10 +42,13 @@ class Rows:
     def mentions(self, text: str) -> str:
         """A sentence: a line of another file than the last gets that one's name."""
         def mention(found: re.Match[str]) -> str:
-            line = int(found[1])
-            part = self.part_of(line)
-            return f"line {self.own_line(line)}" + ("" if part is self.last else f" of {part.name}")
+            return f"{found[1]} {self.place(int(found[2]))}" + (f" and {self.place(int(found[3]))}" if found[3] else "")
         return MENTION.sub(mention, text)
+
+    def place(self, line: int) -> str:
+        """A line as it counts in its own file, with that one's name where it is not the last."""
+        part = self.part_of(line)
+        return f"{self.own_line(line)}" + ("" if part is self.last else f" of {part.name}")
 
     def answer(self, row: str) -> str:
         """A line of the answer: that of a fault speaks of a line."""

@@ -113,7 +113,7 @@ class Explainer:
                 except NotUnderstood:
                     continue
                 goal.is_built_in = bool(step.group(3))
-                goal.piece = self.piece_of(child)
+                goal.piece = None if goal.is_built_in else self.piece_of(child)
                 told.goals.append(goal)
             elif CYCLE in child["message"]:
                 told.is_cycle = True

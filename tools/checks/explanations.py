@@ -1,0 +1,48 @@
+"""Texts with the explanation that a reader needs: texts/explained/NAME.txt has to be explained as NAME.expected, at depth 8.
+
+    tools/check explanations
+    tools/check explanations --explaining FILE
+
+What is expected was written by hand from the rules, before the program was asked: the cause at the end of the chain, with its names, lines
+and rule, and what to write instead. Where the program says the same as well in other words, its words were taken. Twelve of the texts are
+problems that Rust programmers meet, and were held beside what rustc says of the same crate.
+
+What the program says less well stands in WAITING, with what is missing. Such a text fails once it is explained as expected, so that it is
+taken out of there.
+"""
+from __future__ import annotations
+
+import argparse
+from functools import partial
+
+from .common import TOP, Tally, Wrong, difference, program, run
+
+FOLDER = TOP / "texts/explained"
+DEPTH = "8"
+WAITING: dict[str, str] = {
+    "all_conflicts_of_a_crate": "the pairs behind the first are not told",
+}
+
+
+def hold(explaining: str, name: str) -> None:
+    """A text is explained as expected, or waits for it."""
+    text, wanted = ((FOLDER / f"{name}.{kind}").read_bytes() for kind in ("txt", "expected"))
+    found = run([explaining, DEPTH, "--file", f"{name}.txt"], text).output
+    if name not in WAITING:
+        fault = difference(found, wanted)
+        if fault:
+            raise Wrong(fault)
+    elif found == wanted:
+        raise Wrong("it is explained as expected: take it out of WAITING")
+
+
+def add_words(reader: argparse.ArgumentParser) -> None:
+    reader.add_argument("--explaining")
+
+
+def check(tally: Tally, given: argparse.Namespace) -> None:
+    explaining = given.explaining or program("celtisdarts_explain")
+    names = {it.stem for it in FOLDER.iterdir()}
+    for name in sorted(names):
+        tally.hold(f"explanation {name}", partial(hold, explaining, name))
+    tally.expect("all that wait are there", set(WAITING) <= names, f"{sorted(set(WAITING) - names)}")
