@@ -5,6 +5,7 @@ use explain_texts::explain_sessions::BreakingCause;
 use explain_texts::type_terms::{CrateId, TraitId};
 use explain_texts::{
     Piece, Sentence, Telling, Texts, crate_name, is_fundamental, plain, trait_name, with_one,
+    with_two,
 };
 use std::alloc::{AllocError, Global};
 
@@ -51,7 +52,9 @@ fn label_of<'w>(
 /// What the cause means, if it needs an explanation.
 fn meaning(cause: BreakingCause) -> Option<&'static str> {
     match cause {
-        BreakingCause::Orphan => None,
+        BreakingCause::Orphan => Some(
+            "a struct of the crate has to come first, before any parameter that stands alone: the orphan rule looks into references and fundamental structs, and into no other type",
+        ),
         BreakingCause::ReliedOn => None,
         BreakingCause::OpenWalk => Some(
             "the open walk of the header, through the self type and the trait's type arguments, into references and fundamental structs, meets a parameter",
@@ -68,12 +71,18 @@ pub(crate) fn breaking(
     number: u32,
     cause: BreakingCause,
 ) -> Result<Diagnostic, AllocError> {
-    let message = with_one(
-        "a later version of crate `{}` may not add this impl",
+    let found = texts.lines.added_impl(section, number);
+    let line = match found {
+        Some(found) => Piece::Number(found.line as usize),
+        None => Piece::Text(""),
+    };
+    let message = with_two(
+        "a later version of crate `{}` may not add this impl: line {}",
         Piece::Name(crate_name(texts, crate_id)),
+        line,
     );
     let mut telling = Telling::begin(alloc, Level::Error, None, message);
-    if let Some(found) = texts.lines.added_impl(section, number) {
+    if let Some(found) = found {
         let added = added_trait(texts, section, number);
         telling.mark(found.header(), label_of(texts, crate_id, cause, added));
     }

@@ -62,7 +62,7 @@ fn explain_verdict(
     match verdict {
         Verdict::Accepted => Ok(None),
         Verdict::Orphan(number, error) => {
-            let told = orphan(alloc, texts, session.interner(), id, number, &error)?;
+            let told = orphan(alloc, texts, session, id, number, &error)?;
             Ok(told)
         }
         Verdict::Overlap(later, earlier) => overlap(alloc, texts, session, later, earlier),

@@ -37,7 +37,7 @@ pub use explained::{
     explain_breaking, explain_overlap, explain_proof, explain_question, explain_refutation,
     explain_supertrait,
 };
-pub use unseen::impl_header;
+pub use unseen::{breaks_orphan_rule, impl_header};
 pub use walks::{CheckedCandidates, PairWalk, ProofWalk, ShownStep};
 
 // What traces are made of, so that users of this crate need no other.

@@ -1,23 +1,23 @@
-//! Which crates outside the view of a session's crate may have impls. The reasons are those of rustc's `Conflict`.
+//! Which crates outside the view of a session's crate may have impls, and which its own may not. The reasons are those of rustc's
+//! `Conflict`.
 //!
 //! - Downstream: for `&?x: Local`, a crate that uses this one may have `impl Local for &Theirs`.
 //! - Upstream: for `Vec<u8>: Foreign`, a later version of the crate of `Foreign` may add the impl.
 
-ghost use Rattle.std.specs.Prelude.{◌≡◌, IfOk, IfSome};
+ghost use Rattle.std.specs.Prelude.{◌≡◌, not, IfOk, IfSome};
+ghost use Rattle.sessions.specs.TypeTerms.Promised.Walks.{keeps_orphan_rule};
 ghost use Rattle.sessions.specs.Declarations.Held.{ReferenceHeld};
 ghost use Rattle.sessions.specs.Declarations.Items.{declared, reference_in};
 ghost use Rattle.sessions.specs.Promised.Promises.{view_in};
 ghost use Rattle.explain_sessions.specs.Unseen.{IsUnseen};
-ghost use Rattle.explain_sessions.specs.Walked.{WalkHeld};
 
-use crate::places::reference_at;
-use explain_traces::GoalWalk;
 use sessions::Session;
 use sessions::declarations::declarations::Declarations;
 use sessions::infer_table::infer_ctxt::InferCtxt;
 use sessions::orphan_check::errors::{Conflict, WalkError};
 use sessions::orphan_check::knowable::trait_ref_is_knowable;
 use sessions::orphan_check::normalize::AlreadyNormal;
+use sessions::orphan_check::orphan::keeps_orphan_rule;
 use sessions::term_folds::predicate::TraitRef;
 use sessions::type_terms::interner::Interner;
 use sessions::type_terms::{Fault, ImplId};
@@ -68,18 +68,16 @@ pub fn unseen_crates(session: &Session<'_>, reference: TraitRef) -> Result<Optio
     )
 }
 
-/// The same for the trait reference at this index of a trace. `None` if the trace has no such index.
-pub fn unseen_at(
-    session: &Session<'_>,
-    walk: &GoalWalk,
-    place: usize,
-) -> Result<Option<Conflict>, Fault>
-    requires { WalkHeld session.now.terms walk.now }
+/// Whether a header breaks the orphan rule of the session's crate.
+pub fn breaks_orphan_rule(session: &Session<'_>, header: TraitRef) -> bool
+    requires { ReferenceHeld session.now.terms header }
+    ensures { let s = session.now in result ≡ not (keeps_orphan_rule (view_in s.declarations s.of_crate) s.of_crate (reference_in s.terms header)) }
 {
-    match reference_at(&walk.references, place) {
-        Some(reference) => unseen_crates(session, reference),
-        None => Ok(None),
-    }
+    !keeps_orphan_rule(
+        &session.cx.interner,
+        &session.cx.handler.declarations,
+        header,
+    )
 }
 
 /// The header of an impl, over the impl's own parameters. `None` if the session's crate does not see the impl.

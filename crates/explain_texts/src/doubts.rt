@@ -2,7 +2,7 @@
 
 ghost use Rattle.std.specs.Prelude.{◌≡◌, ◌<◌, ◌≤◌, ◌⊎◌, IfSome};
 
-use crate::failures::Asking;
+use crate::failures::{Asking, tell_implemented};
 use crate::items::{Texts, impl_line, mark_parts};
 use crate::links::{last_of, tell_links, tell_supertrait};
 use crate::open_questions::chance;
@@ -247,12 +247,19 @@ pub(crate) fn tell_given_up(telling: &mut Telling) {
 }
 
 /// Adds what follows from why the goal is ambiguous.
-fn tell_doubt(story: &Story<'_>, doubt: Doubt, leaf: usize, depth: u32, telling: &mut Telling) {
+fn tell_doubt(
+    story: &Story<'_>,
+    doubt: Doubt,
+    leaf: usize,
+    asking: Asking<'_>,
+    telling: &mut Telling,
+) {
     match doubt {
         Doubt::Ways => tell_ways(story, leaf, telling),
-        Doubt::Depth => tell_deeper(depth, telling),
+        Doubt::Depth => tell_deeper(asking.depth, telling),
         Doubt::Limits => tell_given_up(telling),
-        Doubt::Either | Doubt::Cycle | Doubt::Open | Doubt::Other => {}
+        Doubt::Open => tell_implemented(story, leaf, asking.seen, None, telling),
+        Doubt::Either | Doubt::Cycle | Doubt::Other => {}
     }
 }
 
@@ -270,6 +277,6 @@ pub fn unsettled(
     telling.mark(asking.span, said_at(story, doubt, leaf, asking.depth));
     tell_links(story, &path, &mut telling);
     tell_supertrait(story, asking.supertrait, &mut telling);
-    tell_doubt(story, doubt, leaf, asking.depth, &mut telling);
+    tell_doubt(story, doubt, leaf, asking, &mut telling);
     telling.finish()
 }

@@ -1,11 +1,11 @@
 //! The text for a goal without a proof that was found: the deepest goal that failed, and what requires it.
 
-use crate::items::{Texts, has_rules, impl_line, trait_name, written};
+use crate::items::{Texts, has_rules, impl_line, impl_piece, is_auto, trait_name, written};
 use crate::lines::ImplLine;
-use crate::links::{last_of, tell_links, tell_supertrait};
+use crate::links::{impl_above, last_of, tell_links, tell_supertrait};
 use crate::refused::{Refusal, tell_refused};
 use crate::sentences::{Piece, Sentence, plain, with_one, with_two};
-use crate::spoken::Spoken;
+use crate::spoken::SubjectKind;
 use crate::story::{Story, refused_premise};
 use crate::telling::Telling;
 use explain_diagnostics::{Diagnostic, ErrCode, LIST_LIMIT, Level, Span};
@@ -82,14 +82,27 @@ fn written_impl<'w>(
     with_two(template, header, Piece::Number(found.line as usize))
 }
 
-/// The sentence that a trait has no impl.
-fn without_impls(texts: Texts<'_>, id: TraitId) -> Sentence<'_> {
-    let template = if has_rules(texts, id) {
-        "`{}` has built-in rules alone here"
+/// The sentence that a trait has no impl, or those of `core` alone. An impl may need it.
+fn without_impls(
+    texts: Texts<'_>,
+    id: TraitId,
+    is_implemented: bool,
+    needed_by: Option<ImplId>,
+) -> Sentence<'_> {
+    let name = Piece::Name(trait_name(texts, id));
+    if is_implemented {
+        with_one("only crate `core` has impls of `{}` here", name)
+    } else if has_rules(texts, id) {
+        with_one("`{}` has built-in rules alone here", name)
+    } else if let Some(needed_by) = needed_by {
+        with_two(
+            "no crate that is seen has an impl of `{}`, which the {} needs to apply",
+            name,
+            impl_piece(texts, needed_by),
+        )
     } else {
-        "no crate that is seen has an impl of `{}`"
-    };
-    with_one(template, Piece::Name(trait_name(texts, id)))
+        with_one("no crate that is seen has an impl of `{}`", name)
+    }
 }
 
 /// Begins the help about how a trait is implemented.
@@ -118,8 +131,19 @@ fn tell_impl(
     }
 }
 
-/// Adds the help about how a trait is implemented, with the impls that the crate sees. Those of `core` are left out.
-fn tell_implemented(texts: Texts<'_>, id: TraitId, seen: &[ImplId], telling: &mut Telling) {
+/// Adds the help about how the trait of a goal is implemented, with the impls that the crate sees. Those of `core` are left out. The goal
+/// may be needed by an impl.
+pub(crate) fn tell_implemented(
+    story: &Story<'_>,
+    place: usize,
+    seen: &[ImplId],
+    needed_by: Option<ImplId>,
+    telling: &mut Telling,
+) {
+    let Some(spoken) = story.spoken(place) else {
+        return;
+    };
+    let (texts, id) = (story.texts, spoken.trait_id);
     let mut is_implemented = false;
     let mut count = 0usize;
     for other in seen {
@@ -131,20 +155,29 @@ fn tell_implemented(texts: Texts<'_>, id: TraitId, seen: &[ImplId], telling: &mu
             }
         }
     }
-    if !is_implemented {
-        telling.help(without_impls(texts, id));
+    if count == 0 {
+        telling.help(without_impls(texts, id, is_implemented, needed_by));
     }
 }
 
-/// Adds the help to use a where-clause, if a parameter fails.
-fn tell_where(spoken: &Spoken, is_impl: bool, telling: &mut Telling) {
-    let template = if is_impl {
-        "consider a where-clause of the impl: `where {}`"
-    } else {
-        "consider asking under a where-clause: `where {}`"
-    };
-    if spoken.is_param {
-        telling.help(with_one(template, spoken.reference_piece()));
+/// The help to use a where-clause, if a parameter fails, or a bound of the `dyn` that has no auto trait.
+fn bound_said<'s>(story: &'s Story<'_>, place: usize, is_impl: bool) -> Option<Sentence<'s>> {
+    let spoken = story.spoken(place)?;
+    match spoken.kind {
+        SubjectKind::Param if is_impl => Some(with_one(
+            "consider a where-clause of the impl: `where {}`",
+            spoken.reference_piece(),
+        )),
+        SubjectKind::Param => Some(with_one(
+            "consider asking under a where-clause: `where {}`",
+            spoken.reference_piece(),
+        )),
+        SubjectKind::Dyn if is_auto(story.texts, spoken.trait_id) => Some(with_two(
+            "a `dyn` has an auto trait by its bounds alone: consider `{} + {}`",
+            spoken.subject_piece(),
+            spoken.bound_piece(),
+        )),
+        _ => None,
     }
 }
 
@@ -170,12 +203,13 @@ fn tell_leaf(story: &Story<'_>, leaf: usize, telling: &mut Telling) {
     tell_refused(story, leaf, Refusal::NotProved, telling);
 }
 
-/// Adds what may help.
-fn tell_helps(story: &Story<'_>, leaf: usize, asking: Asking<'_>, telling: &mut Telling) {
-    if let Some(spoken) = story.spoken(leaf) {
-        tell_where(spoken, asking.supertrait.is_some(), telling);
-        tell_implemented(story.texts, spoken.trait_id, asking.seen, telling);
+/// Adds what may help with the last goal of a path.
+fn tell_helps(story: &Story<'_>, path: &[usize], asking: Asking<'_>, telling: &mut Telling) {
+    let leaf = last_of(path);
+    if let Some(said) = bound_said(story, leaf, asking.supertrait.is_some()) {
+        telling.help(said);
     }
+    tell_implemented(story, leaf, asking.seen, impl_above(story, path), telling);
 }
 
 /// The message that no proof of a goal was found.
@@ -206,6 +240,6 @@ pub fn unproved(
     tell_links(story, &path, &mut telling);
     tell_supertrait(story, asking.supertrait, &mut telling);
     tell_leaf(story, leaf, &mut telling);
-    tell_helps(story, leaf, asking, &mut telling);
+    tell_helps(story, &path, asking, &mut telling);
     telling.finish()
 }

@@ -3,8 +3,8 @@
 use crate::lines::{ImplLine, ItemLines};
 use crate::sentences::Piece;
 use crate::telling::Telling;
-use explain_diagnostics::{Place, SourceFile, on_line, text_of};
-use explain_sessions::type_terms::{CrateId, ImplId, TraitId};
+use explain_diagnostics::{Place, SourceFile, Span, on_line, text_of};
+use explain_sessions::type_terms::{AdtId, CrateId, ImplId, TraitId};
 use explain_sessions::workspace::Workspace;
 
 /// A text, with what it declares and where that is.
@@ -21,6 +21,14 @@ pub fn impl_line<'w>(texts: Texts<'w>, id: ImplId) -> Option<&'w ImplLine> {
     let of_core = all.checked_sub(texts.lines.impls.len())?;
     let place = (id.index as usize).checked_sub(of_core)?;
     texts.lines.impls.get(place)
+}
+
+/// The line of a struct. `None` for a struct of `core`.
+pub(crate) fn struct_line(texts: Texts<'_>, id: AdtId) -> Option<Span> {
+    let all = texts.workspace.structs().len();
+    let of_core = all.checked_sub(texts.lines.structs.len())?;
+    let place = (id.index as usize).checked_sub(of_core)?;
+    texts.lines.structs.get(place).copied()
 }
 
 /// A part of a line as it is written.
@@ -72,11 +80,27 @@ pub fn crate_name<'w>(texts: Texts<'w>, id: CrateId) -> Name<'w> {
     name_in(texts.workspace, id)
 }
 
+/// The crate of a trait.
+pub(crate) fn trait_owner(texts: Texts<'_>, id: TraitId) -> Option<CrateId> {
+    match texts.workspace.traits().get(id.index as usize) {
+        Some(entry) => Some(entry.owner),
+        None => None,
+    }
+}
+
 /// The name of the crate of a trait.
 pub(crate) fn trait_home<'w>(texts: Texts<'w>, id: TraitId) -> Name<'w> {
-    match texts.workspace.traits().get(id.index as usize) {
-        Some(entry) => crate_name(texts, entry.owner),
+    match trait_owner(texts, id) {
+        Some(owner) => crate_name(texts, owner),
         None => name_of(&[]),
+    }
+}
+
+/// Whether a trait is an auto trait.
+pub(crate) fn is_auto(texts: Texts<'_>, id: TraitId) -> bool {
+    match texts.workspace.traits().get(id.index as usize) {
+        Some(entry) => entry.is_auto,
+        None => false,
     }
 }
 

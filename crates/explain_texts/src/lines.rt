@@ -1,4 +1,4 @@
-//! Where the impls and the queries of a text are.
+//! Where the structs, the impls and the queries of a text are.
 
 use explain_diagnostics::{
     LineParts, Place, SourceFile, Span, on_line, parts_of_impl, parts_of_question,
@@ -27,8 +27,10 @@ impl ImplLine {
     }
 }
 
-/// Where the impls and the queries of a text are, in order.
+/// Where the structs, the impls and the queries of a text are, in order.
 pub struct ItemLines {
+    /// The lines of structs.
+    pub(crate) structs: Vec<Span>,
     /// The impls of crates.
     pub impls: Vec<ImplLine>,
     /// The impls of sections, which belong to no crate.
@@ -45,6 +47,7 @@ pub struct ItemLines {
 impl Drop for ItemLines {
     fn drop(self) {
         let ItemLines {
+            structs: _,
             impls: _,
             added: _,
             sections: _,
@@ -106,6 +109,12 @@ impl ItemLines {
         Ok(())
     }
 
+    /// Adds the line of a struct.
+    fn add_struct(&mut self, number: u32, line: &[u8]) -> Result<(), AllocError> {
+        self.structs.push(on_line(number, whole_line(line)))?;
+        Ok(())
+    }
+
     /// Begins a section.
     fn begin_section(&mut self) -> Result<(), AllocError> {
         self.in_section = true;
@@ -126,6 +135,7 @@ impl ItemLines {
                 self.in_section = false;
                 Ok(())
             }
+            Statement::Struct { .. } => self.add_struct(number, line),
             Statement::Later { .. } => self.begin_section(),
             Statement::Impl { .. } => self.add_impl(alloc, number, line),
             Statement::Prove { .. } => self.add_question(alloc, number, line),
@@ -142,9 +152,10 @@ impl ItemLines {
     }
 }
 
-/// Where the impls and the queries of a text are. Fails only if memory is refused.
+/// Where the structs, the impls and the queries of a text are. Fails only if memory is refused.
 pub fn item_lines(alloc: Global, file: &SourceFile<'_>) -> Result<ItemLines, AllocError> {
     let mut found = ItemLines {
+        structs: Vec::new(alloc),
         impls: Vec::new(alloc),
         added: Vec::new(alloc),
         sections: Vec::new(alloc),

@@ -1,8 +1,9 @@
 //! What requires the goals of a path.
 
-use crate::items::{impl_line, mark_parts};
+use crate::items::{impl_line, mark_parts, struct_line};
 use crate::sentences::{Piece, Sentence, plain, with_one, with_three, with_two};
 use crate::sources::source_piece;
+use crate::spoken::SubjectKind;
 use crate::story::Story;
 use crate::telling::Telling;
 use explain_sessions::explain_traces::CandidateNode;
@@ -100,9 +101,19 @@ fn required_for<'s>(
     }
 }
 
-/// Marks the header of the impl that needs the goal, and its bound, in the last child.
+/// Marks the struct that the parent goal is about in the last child.
+fn mark_struct(story: &Story<'_>, link: Link, telling: &mut Telling) {
+    if let SubjectKind::Struct(id) = story.kind(link.asker)
+        && let Some(span) = struct_line(story.texts, id)
+    {
+        telling.mark_child(span);
+    }
+}
+
+/// Marks the header of the impl that needs the goal, and its bound, in the last child. Where a built-in rule does, it marks the struct.
 fn mark_asking(story: &Story<'_>, link: Link, asks: CandidateLink<'_>, telling: &mut Telling) {
     let CandidateSource::Impl(id) = asks.candidate.source else {
+        mark_struct(story, link, telling);
         return;
     };
     let Some(found) = impl_line(story.texts, id) else {
@@ -139,6 +150,11 @@ fn asking_impl(story: &Story<'_>, link: Link) -> Option<ImplId> {
         CandidateSource::Impl(id) => Some(id),
         _ => None,
     }
+}
+
+/// The impl that needs the last goal of a path.
+pub(crate) fn impl_above(story: &Story<'_>, path: &[usize]) -> Option<ImplId> {
+    asking_impl(story, link_at(path, 0)?)
 }
 
 /// Whether the same impl is that of another link.

@@ -4,6 +4,7 @@ use crate::failures::Asking;
 use crate::reasons::{Reason, is_left, open_path, reason_of, tell_limit, tell_path};
 use crate::sentences::{Sentence, plain, with_one};
 use crate::sources::source_piece;
+use crate::spoken::SubjectKind;
 use crate::story::Story;
 use crate::telling::Telling;
 use explain_diagnostics::{Diagnostic, LIST_LIMIT, Level};
@@ -41,7 +42,7 @@ fn way_said(
 /// Adds the notes for the candidates that apply, or may apply. If the self type is a variable, none is added, because the one candidate
 /// stands for all impls.
 fn tell_ways(story: &Story<'_>, telling: &mut Telling) {
-    if story.is_unknown(0) {
+    if let SubjectKind::Unknown = story.kind(0) {
         return;
     }
     let holds = story.answer(0) == Answer::Yes;
@@ -75,7 +76,8 @@ pub fn left_open(
     if path.len() > 1 || !matches!(reason, Reason::Open) {
         reason = tell_path(story, &path, asking, &mut telling);
     }
-    if !story.is_held(0) {
+    // A longer path tells the way that it takes.
+    if path.len() == 1 && !story.is_held(0) {
         tell_ways(story, &mut telling);
     }
     tell_limit(reason, asking.depth, &mut telling);

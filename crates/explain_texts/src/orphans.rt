@@ -5,16 +5,18 @@ ghost use Rattle.explain_sessions.specs.TypeTerms.Promised.Handles.{Has, types};
 ghost use Rattle.explain_sessions.specs.OrphanCheck.Promised.Errors.{ErrorHeld, LeavesHeld, TypeHeld};
 
 use crate::failures::has_params;
-use crate::items::{Texts, crate_name, impl_line, name_of, trait_home};
-use crate::sentences::{Piece, Sentence, plain, with_one, with_two};
+use crate::items::{Texts, crate_name, impl_line, name_of, trait_home, trait_owner};
+use crate::sentences::{NONE, Piece, Sentence, plain, with_one, with_three, with_two};
 use crate::telling::Telling;
 use crate::words::type_text;
 use explain_diagnostics::{Diagnostic, ErrCode, LIST_LIMIT, Level, on_line};
 use explain_sessions::orphan_check::errors::{IsFirstInputType, OrphanCheckErr, UncoveredTyParams};
+use explain_sessions::sessions::Session;
 use explain_sessions::type_terms::interner::Interner;
 use explain_sessions::type_terms::kinds::{Ty, TyKind};
-use explain_sessions::type_terms::{CrateId, ImplId};
+use explain_sessions::type_terms::{AdtId, CrateId, ImplId};
 use explain_sessions::workspace::{ImplEntry, TermCell};
+use explain_sessions::{breaks_orphan_rule, impl_header};
 use std::alloc::{AllocError, Global};
 use text_printer::HeaderNames;
 
@@ -32,6 +34,14 @@ impl<'w> Refused<'w> {
         HeaderNames {
             workspace: self.texts.workspace,
             params: &self.entry.params,
+        }
+    }
+
+    /// The line of the impl, for a sentence.
+    fn line(self) -> Piece<'static> {
+        match impl_line(self.texts, self.id) {
+            Some(found) => Piece::Number(found.line as usize),
+            None => NONE,
         }
     }
 }
@@ -58,36 +68,43 @@ fn is_made_of_others(name: &str) -> bool {
     false
 }
 
-/// What is said of a struct that comes from a crate: where types may stand in it, that those do not count.
-fn owner_said<'s>(name: &'s str, owner: Piece<'s>) -> Sentence<'s> {
-    let template = if is_made_of_others(name) {
-        "`{}` counts as a type of crate `{}`: the orphan rule does not look into it"
-    } else {
-        "`{}` is of crate `{}`"
-    };
-    with_two(template, Piece::Text(name), owner)
+/// The crate of a struct with this number.
+fn struct_home(texts: Texts<'_>, id: AdtId) -> Option<CrateId> {
+    match texts.workspace.structs().get(id.index as usize) {
+        Some(entry) => Some(entry.owner),
+        None => None,
+    }
 }
 
-/// What is said of a type that is no struct.
-fn homeless_said<'s>(name: &'s str) -> Sentence<'s> {
-    let template = if is_made_of_others(name) {
-        "`{}` is of no crate: the orphan rule does not look into it"
-    } else {
-        "`{}` is of no crate"
-    };
-    with_one(template, Piece::Text(name))
-}
-
-/// The sentence for where a type with this name comes from.
-fn home_said<'s>(texts: Texts<'s>, cx: &Interner, ty: Ty, name: &'s str) -> Sentence<'s>
+/// The crate of a type, if it is a struct.
+fn type_home(texts: Texts<'_>, cx: &Interner, ty: Ty) -> Option<CrateId>
     requires { Has cx.now.entries types ty.0 }
 {
     match cx.kind(ty) {
-        TyKind::Adt(id, _) => match texts.workspace.structs().get(id.index as usize) {
-            Some(entry) => owner_said(name, Piece::Name(crate_name(texts, entry.owner))),
-            None => with_one("`{}` is of another crate", Piece::Text(name)),
-        },
-        _ => homeless_said(name),
+        TyKind::Adt(id, _) => struct_home(texts, id),
+        _ => None,
+    }
+}
+
+/// The sentence for where a type with this name comes from: of a crate, if it is a struct. Where types may stand in it, those do not count.
+fn home_said<'s>(texts: Texts<'s>, home: Option<CrateId>, name: &'s str) -> Sentence<'s> {
+    let shown = Piece::Text(name);
+    match (home, is_made_of_others(name)) {
+        (Some(home), true) => with_two(
+            "`{}` counts as a type of crate `{}`: the orphan rule does not look into it",
+            shown,
+            Piece::Name(crate_name(texts, home)),
+        ),
+        (Some(home), false) => with_two(
+            "`{}` is of crate `{}`",
+            shown,
+            Piece::Name(crate_name(texts, home)),
+        ),
+        (None, true) => with_one(
+            "`{}` is of no crate: the orphan rule does not look into it",
+            shown,
+        ),
+        (None, false) => with_one("`{}` is of no crate", shown),
     }
 }
 
@@ -97,7 +114,8 @@ fn tell_met_type(refused: Refused<'_>, cx: &Interner, ty: Ty, telling: &mut Tell
 {
     let asked = type_text(telling.alloc(), cx, &refused.names(), ty);
     if let Some(name) = telling.granted(asked) {
-        telling.note(home_said(refused.texts, cx, ty, name.as_str()));
+        let home = type_home(refused.texts, cx, ty);
+        telling.note(home_said(refused.texts, home, name.as_str()));
     }
 }
 
@@ -126,118 +144,158 @@ fn mark_header(refused: Refused<'_>, label: Sentence<'_>, telling: &mut Telling)
     }
 }
 
-/// Marks the type of the impl alone, or the header where the trait has types too, if it stands in the text.
-fn mark_type(refused: Refused<'_>, label: Sentence<'_>, telling: &mut Telling) {
+/// Marks the type of the impl, or the header where the trait has types too, if it stands in the text: none is of the crate.
+fn mark_types(refused: Refused<'_>, telling: &mut Telling) {
     let Some(found) = impl_line(refused.texts, refused.id) else {
         return;
     };
+    let own = Piece::Name(crate_name(refused.texts, refused.crate_id));
     if has_params(refused.texts, refused.entry.header.trait_id) {
-        telling.mark(found.header(), label);
+        telling.mark(
+            found.header(),
+            with_one("no type here is of crate `{}`", own),
+        );
     } else {
-        telling.mark(on_line(found.line, found.parts.subject), label);
+        telling.mark(
+            on_line(found.line, found.parts.subject),
+            with_one("not a type of crate `{}`", own),
+        );
     }
 }
 
-/// Whether a crate sees another one.
-fn sees(texts: Texts<'_>, seeing: CrateId, seen: CrateId) -> bool {
+/// Whether a crate sees an item, by the item's crate.
+fn sees(texts: Texts<'_>, seeing: CrateId, home: Option<CrateId>) -> bool {
     let count = texts.workspace.crates().len();
-    (seeing.index as usize) < count && texts.workspace.sees(seeing, seen)
+    match home {
+        Some(home) => (seeing.index as usize) < count && texts.workspace.sees(seeing, home),
+        None => false,
+    }
 }
 
 /// Whether a crate sees the struct or the trait of a part of a type.
 fn sees_part(texts: Texts<'_>, seeing: CrateId, part: TermCell) -> bool {
-    let owner = match part {
-        TermCell::Adt { id, .. } => match texts.workspace.structs().get(id.index as usize) {
-            Some(entry) => entry.owner,
-            None => return false,
-        },
-        TermCell::Principal { def_id, .. } => {
-            match texts.workspace.traits().get(def_id.index as usize) {
-                Some(entry) => entry.owner,
-                None => return false,
-            }
-        }
-        _ => return true,
-    };
-    sees(texts, seeing, owner)
+    match part {
+        TermCell::Adt { id, .. } => sees(texts, seeing, struct_home(texts, id)),
+        TermCell::Principal { def_id, .. } => { sees(texts, seeing, trait_owner(texts, def_id)) }
+        _ => true,
+    }
 }
 
-/// Whether the crate of the trait sees the types of the header.
-fn is_writable_there(refused: Refused<'_>) -> bool {
+/// Whether a crate sees the trait and the types of the header.
+fn is_seen_in(refused: Refused<'_>, seeing: CrateId) -> bool {
     let header = &refused.entry.header;
-    let traits = refused.texts.workspace.traits();
-    let Some(entry) = traits.get(header.trait_id.index as usize) else {
-        return false;
-    };
     for part in &header.args {
-        if !sees_part(refused.texts, entry.owner, *part) {
+        if !sees_part(refused.texts, seeing, *part) {
             return false;
         }
     }
-    true
+    let owner = trait_owner(refused.texts, header.trait_id);
+    sees(refused.texts, seeing, owner)
 }
 
-/// Tells where such an impl may stand: in the crate of the trait, where that sees the types, or for a struct that wraps the type.
-fn tell_elsewhere(refused: Refused<'_>, telling: &mut Telling) {
-    let template = if is_writable_there(refused) {
-        "the trait is of crate `{}`: write this impl there, or for a struct of crate `{}` that wraps the type"
+/// The crate of this trait or type, if it sees the trait and the types of the header, so that it may write the impl.
+fn writer(refused: Refused<'_>, home: Option<CrateId>) -> Option<Piece<'_>> {
+    let home = home?;
+    if is_seen_in(refused, home) {
+        Some(Piece::Name(crate_name(refused.texts, home)))
     } else {
-        "the trait is of crate `{}`, which does not see the types: write this impl for a struct of crate `{}` that wraps the type"
-    };
-    let home = Piece::Name(trait_home(refused.texts, refused.entry.header.trait_id));
-    let own = Piece::Name(crate_name(refused.texts, refused.crate_id));
-    telling.help(with_two(template, home, own));
+        None
+    }
+}
+
+/// Where such an impl may stand: in the crate of the trait or of the type, where that sees both, or for a struct that wraps the type. The
+/// type is of a crate if it is a struct.
+fn elsewhere_said(refused: Refused<'_>, of_type: Option<CrateId>) -> Sentence<'_> {
+    let texts = refused.texts;
+    let trait_id = refused.entry.header.trait_id;
+    let own = Piece::Name(crate_name(texts, refused.crate_id));
+    if let Some(home) = writer(refused, trait_owner(texts, trait_id)) {
+        return with_two(
+            "the trait is of crate `{}`: write this impl there, or for a struct of crate `{}` that wraps the type",
+            home,
+            own,
+        );
+    }
+    match writer(refused, of_type) {
+        Some(home) => with_two(
+            "the type is of crate `{}`: write this impl there, or for a struct of crate `{}` that wraps the type",
+            home,
+            own,
+        ),
+        None => with_two(
+            "the trait is of crate `{}`, which does not see the types: write this impl for a struct of crate `{}` that wraps the type",
+            Piece::Name(trait_home(texts, trait_id)),
+            own,
+        ),
+    }
+}
+
+/// The crate of the first type that the orphan walk met, if it is a struct.
+fn first_home(texts: Texts<'_>, cx: &Interner, types: &[(Ty, IsFirstInputType)]) -> Option<CrateId>
+    requires { LeavesHeld cx.now.entries types.now }
+{
+    match types.first() {
+        Some(met) => type_home(texts, cx, met.0),
+        None => None,
+    }
 }
 
 /// The message if no type of the header is local.
-fn nonlocal_message(cx: &Interner, types: &[(Ty, IsFirstInputType)]) -> Sentence<'static>
+fn nonlocal_message(
+    cx: &Interner,
+    types: &[(Ty, IsFirstInputType)],
+    line: Piece<'static>,
+) -> Sentence<'static>
     requires { LeavesHeld cx.now.entries types.now }
 {
     let sort = match types.first() {
         Some(met) => sort_of_types(cx, met.0),
         None => "types defined outside of the crate",
     };
-    with_one(
-        "only traits defined in the current crate can be implemented for {}",
+    with_two(
+        "only traits defined in the current crate can be implemented for {}: line {}",
         Piece::Text(sort),
+        line,
     )
 }
 
-/// The diagnostic if no type of the header is local.
+/// What is told if no type of the header is local.
 fn nonlocal(
     alloc: Global,
     refused: Refused<'_>,
     cx: &Interner,
     types: &[(Ty, IsFirstInputType)],
-) -> Result<Diagnostic, AllocError>
+) -> Telling
     requires { LeavesHeld cx.now.entries types.now }
 {
-    let message = nonlocal_message(cx, types);
+    let message = nonlocal_message(cx, types, refused.line());
     let mut telling = Telling::begin(alloc, Level::Error, Some(ErrCode::E0117), message);
-    let own = Piece::Name(crate_name(refused.texts, refused.crate_id));
-    mark_type(
-        refused,
-        with_one("not a type of crate `{}`", own),
-        &mut telling,
-    );
+    mark_types(refused, &mut telling);
     tell_met(refused, cx, types, &mut telling);
-    tell_elsewhere(refused, &mut telling);
-    telling.finish()
+    let of_type = first_home(refused.texts, cx, types);
+    telling.help(elsewhere_said(refused, of_type));
+    telling
 }
 
 /// The message if a parameter comes before the first local type, or if there is no local type.
-fn uncovered_message<'s>(param: &'s str, local: Option<&'s str>) -> Sentence<'s> {
+fn uncovered_message<'s>(
+    param: &'s str,
+    local: Option<&'s str>,
+    line: Piece<'static>,
+) -> Sentence<'s> {
     let param = Piece::Text(param);
     match local {
-        None => with_two(
-            "type parameter `{}` must be used as the type parameter for some local type (e.g., `MyStruct<{}>`)",
+        None => with_three(
+            "type parameter `{}` must be used as the type parameter for some local type (e.g., `MyStruct<{}>`): line {}",
             param,
             param,
+            line,
         ),
-        Some(ty) => with_two(
-            "type parameter `{}` must be covered by another type when it appears before the first local type (`{}`)",
+        Some(ty) => with_three(
+            "type parameter `{}` must be covered by another type when it appears before the first local type (`{}`): line {}",
             param,
             Piece::Text(ty),
+            line,
         ),
     }
 }
@@ -284,14 +342,14 @@ fn tell_covers_nothing(refused: Refused<'_>, telling: &mut Telling) {
     }
 }
 
-/// The diagnostic for one such parameter.
+/// What is told of one such parameter.
 fn uncovered_param(
     alloc: Global,
     refused: Refused<'_>,
     param: &str,
     local: Option<&str>,
-) -> Result<Diagnostic, AllocError> {
-    let message = uncovered_message(param, local);
+) -> Telling {
+    let message = uncovered_message(param, local, refused.line());
     let mut telling = Telling::begin(alloc, Level::Error, Some(ErrCode::E0210), message);
     mark_header(
         refused,
@@ -303,40 +361,74 @@ fn uncovered_param(
         "the trait is of crate `{}`, so a crate may write an impl of it only where a struct of its own comes before any parameter that stands alone",
         Piece::Name(trait_home(refused.texts, refused.entry.header.trait_id)),
     ));
-    telling.finish()
+    telling
 }
 
-/// The diagnostic if a parameter comes before the first local type, or if there is no local type.
+/// What is told if a parameter comes before the first local type, or if there is no local type.
 fn uncovered(
     alloc: Global,
     refused: Refused<'_>,
     cx: &Interner,
     error: &UncoveredTyParams<Ty>,
-) -> Result<Diagnostic, AllocError>
+) -> Result<Telling, AllocError>
     requires uncovered { TypeHeld cx.now.entries error.now.uncovered }
     requires local { IfSome error.now.local_ty (TypeHeld cx.now.entries) }
 {
     let names = refused.names();
     let param = type_text(alloc, cx, &names, error.uncovered)?;
     match error.local_ty {
-        None => uncovered_param(alloc, refused, param.as_str(), None),
+        None => Ok(uncovered_param(alloc, refused, param.as_str(), None)),
         Some(ty) => {
             let local = type_text(alloc, cx, &names, ty)?;
-            uncovered_param(alloc, refused, param.as_str(), Some(local.as_str()))
+            Ok(uncovered_param(alloc, refused, param.as_str(), Some(local.as_str())))
         }
     }
 }
 
-/// The diagnostic for a header that breaks the orphan rule.
+/// Whether an impl is one of the session's crate behind the refused one, and breaks the orphan rule.
+fn is_refused_too(refused: Refused<'_>, session: &Session<'_>, entry: &ImplEntry) -> bool {
+    if entry.owner.index != refused.crate_id.index || entry.id.index <= refused.id.index {
+        return false;
+    }
+    match impl_header(session, entry.id) {
+        Some(header) => breaks_orphan_rule(session, header),
+        None => false,
+    }
+}
+
+/// Adds a note for an impl that breaks the orphan rule too.
+fn tell_other(texts: Texts<'_>, id: ImplId, telling: &mut Telling) {
+    telling.note(plain("this header breaks the orphan rule too"));
+    if let Some(found) = impl_line(texts, id) {
+        telling.mark_child(found.header());
+    }
+}
+
+/// Adds the notes for the impls behind the refused one that break the orphan rule too.
+fn tell_others(refused: Refused<'_>, session: &Session<'_>, telling: &mut Telling) {
+    let mut count = 0usize;
+    for entry in refused.texts.workspace.impls() {
+        if is_refused_too(refused, session, entry) {
+            if count == LIST_LIMIT {
+                telling.note(plain("others break the orphan rule too"));
+                return;
+            }
+            count = count.saturating_add(1);
+            tell_other(refused.texts, entry.id, telling);
+        }
+    }
+}
+
+/// The diagnostic for a header of the session's crate that breaks the orphan rule, with the others behind it.
 pub fn orphan(
     alloc: Global,
     texts: Texts<'_>,
-    cx: &Interner,
+    session: &Session<'_>,
     crate_id: CrateId,
     id: ImplId,
     error: &OrphanCheckErr<Ty>,
 ) -> Result<Option<Diagnostic>, AllocError>
-    requires { ErrorHeld cx.now.entries error.now }
+    requires { ErrorHeld session.now.terms error.now }
 {
     let Some(entry) = texts.workspace.impls().get(id.index as usize) else {
         return Ok(None);
@@ -347,9 +439,12 @@ pub fn orphan(
         id,
         crate_id,
     };
-    let told = match error {
-        OrphanCheckErr::NonLocalInputType(types) => nonlocal(alloc, refused, cx, types)?,
+    let cx = session.interner();
+    let mut telling = match error {
+        OrphanCheckErr::NonLocalInputType(types) => nonlocal(alloc, refused, cx, types),
         OrphanCheckErr::UncoveredTyParams(error) => uncovered(alloc, refused, cx, error)?,
     };
+    tell_others(refused, session, &mut telling);
+    let told = telling.finish()?;
     Ok(Some(told))
 }

@@ -2,11 +2,13 @@
 
 use crate::doubts::{tell_deeper, tell_given_up};
 use crate::failures::{Asking, is_of_trait};
-use crate::items::{Texts, crate_name, impl_line, impl_piece, trait_home, trait_name, written};
+use crate::items::{
+    Texts, crate_name, impl_line, impl_piece, is_auto, trait_home, trait_name, written,
+};
 use crate::links::{last_of, tell_links};
 use crate::sentences::{Piece, Sentence, with_four, with_one, with_three, with_two};
 use crate::sources::source_piece;
-use crate::spoken::Spoken;
+use crate::spoken::{Spoken, SubjectKind};
 use crate::story::Story;
 use crate::telling::Telling;
 use explain_sessions::Adder;
@@ -193,15 +195,21 @@ fn written_impl(texts: Texts<'_>, seen: &[ImplId], spoken: &Spoken) -> Option<Im
     None
 }
 
-/// By what a goal holds, where that is known: the first candidate that is left, or an impl that is written for it.
+/// By what a goal holds, where that is known: the first candidate that is left, or an impl that is written for it. What is no struct has no
+/// impl of an auto trait.
 fn source_of<'s>(story: &'s Story<'_>, place: usize, seen: &[ImplId]) -> Option<Piece<'s>> {
     for candidate in story.candidates(place) {
         if is_left(candidate) {
             return Some(source_piece(story.texts, candidate.source));
         }
     }
-    let id = written_impl(story.texts, seen, story.spoken(place)?)?;
-    Some(impl_piece(story.texts, id))
+    let spoken = story.spoken(place)?;
+    match spoken.kind {
+        SubjectKind::Other if is_auto(story.texts, spoken.trait_id) => {
+            Some(Piece::Text("built-in rule"))
+        }
+        _ => Some(impl_piece(story.texts, written_impl(story.texts, seen, spoken)?)),
+    }
 }
 
 /// That a goal holds, and by what.

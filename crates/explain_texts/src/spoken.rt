@@ -10,9 +10,9 @@ use crate::sentences::Piece;
 use crate::words::type_text;
 use explain_diagnostics::{TYPE_LIMIT, cut_text};
 use explain_sessions::term_folds::predicate::TraitRef;
-use explain_sessions::type_terms::TraitId;
 use explain_sessions::type_terms::interner::Interner;
 use explain_sessions::type_terms::kinds::{GenericArgKind, Ty, TyKind};
+use explain_sessions::type_terms::{AdtId, TraitId};
 use std::alloc::{AllocError, Global};
 use text_printer::{PrintNames, ShownNames, print_const, print_type_within};
 
@@ -25,10 +25,19 @@ pub struct Spoken {
     /// The first argument that is a variable, with the self type: `?x`. Empty if there is none.
     pub(crate) unknown: String,
     pub trait_id: TraitId,
-    /// Whether the self type is a variable.
-    pub is_unknown: bool,
-    /// Whether the self type is a parameter of the query or impl.
-    pub is_param: bool,
+    pub(crate) kind: SubjectKind,
+}
+
+/// What the self type of a trait reference is.
+#[derive(Clone, Copy)]
+pub(crate) enum SubjectKind {
+    /// A variable.
+    Unknown,
+    /// A parameter of the query or impl.
+    Param,
+    Struct(AdtId),
+    Dyn,
+    Other,
 }
 
 // Hand-written so that the prover sees one drop call: docs/PROVING.md#drop.
@@ -39,8 +48,7 @@ impl Drop for Spoken {
             bound: _,
             unknown: _,
             trait_id: _,
-            is_unknown: _,
-            is_param: _,
+            kind: _,
         } = self;
     }
 }
@@ -142,13 +150,19 @@ fn subject_text(
     }
 }
 
-/// Whether the self type of a trait reference is a variable.
-fn is_unknown(cx: &Interner, reference: TraitRef) -> bool
+/// What the self type of a trait reference is.
+fn subject_kind(cx: &Interner, reference: TraitRef) -> SubjectKind
     requires { Has cx.now.entries args_lists reference.args.0 }
 {
-    match self_type(cx, reference) {
-        Some(ty) => matches!(cx.kind(ty), TyKind::Infer(_)),
-        None => false,
+    let Some(ty) = self_type(cx, reference) else {
+        return SubjectKind::Other;
+    };
+    match cx.kind(ty) {
+        TyKind::Infer(_) => SubjectKind::Unknown,
+        TyKind::Placeholder(_) => SubjectKind::Param,
+        TyKind::Adt(id, _) => SubjectKind::Struct(id),
+        TyKind::Dynamic(_, _) => SubjectKind::Dyn,
+        _ => SubjectKind::Other,
     }
 }
 
@@ -188,16 +202,6 @@ fn unknown_text(
     Ok(String::new(alloc))
 }
 
-/// Whether the self type of a trait reference is a placeholder.
-fn is_param(cx: &Interner, reference: TraitRef) -> bool
-    requires { Has cx.now.entries args_lists reference.args.0 }
-{
-    match self_type(cx, reference) {
-        Some(ty) => matches!(cx.kind(ty), TyKind::Placeholder(_)),
-        None => false,
-    }
-}
-
 /// Renders a trait reference. Fails only if memory is refused.
 pub fn speak(
     alloc: Global,
@@ -215,7 +219,6 @@ pub fn speak(
         bound,
         unknown,
         trait_id: reference.def_id,
-        is_unknown: is_unknown(cx, reference),
-        is_param: is_param(cx, reference),
+        kind: subject_kind(cx, reference),
     })
 }

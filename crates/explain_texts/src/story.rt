@@ -6,7 +6,7 @@ ghost use Rattle.explain_sessions.specs.Walked.{WalkHeld};
 
 use crate::items::Texts;
 use crate::sentences::{NONE, Piece};
-use crate::spoken::{Spoken, speak};
+use crate::spoken::{Spoken, SubjectKind, speak};
 use explain_sessions::explain_traces::{Answer, CandidateNode, GoalWalk, Standing};
 use explain_sessions::orphan_check::errors::Conflict;
 use explain_sessions::sessions::Session;
@@ -120,11 +120,11 @@ impl Story<'_> {
         }
     }
 
-    /// Whether the self type of a goal is a variable.
-    pub(crate) fn is_unknown(&self, place: usize) -> bool {
+    /// What the self type of a goal is.
+    pub(crate) fn kind(&self, place: usize) -> SubjectKind {
         match self.spoken(place) {
-            Some(spoken) => spoken.is_unknown,
-            None => false,
+            Some(spoken) => spoken.kind,
+            None => SubjectKind::Other,
         }
     }
 
@@ -167,13 +167,15 @@ impl Story<'_> {
         matches!(self.standing(place), Standing::Cycle(_))
     }
 
-    /// Whether a goal is as deep as goals are looked at, or the walk ended there though it took no more than it may: then it is in a chain
-    /// that is longer than is shown.
+    /// Whether a goal that met a limit met that of the depth: it is as deep as goals are looked at, the walk ended there though it took no
+    /// more than it may, or each of its nested goals, asked alone, has an answer that settles it.
     pub(crate) fn is_cut(&self, place: usize) -> bool {
         match self.standing(place) {
             Standing::Cut => true,
             Standing::Unwalked => !self.walk.is_spent(),
-            Standing::Opened | Standing::Same(_) | Standing::Cycle(_) => false,
+            Standing::Opened | Standing::Same(_) | Standing::Cycle(_) => {
+                self.candidates(place).is_empty()
+            }
         }
     }
 
