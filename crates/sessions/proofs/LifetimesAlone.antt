@@ -143,7 +143,7 @@ module _ (types consts regions : ℕ) (constraints : Trees) (ls : List Label) (l
     pub goes-in : (u : TableTrees) × (put_into T (map leaf_value ls) a ≡ Some u)
     goes-in =
         let picks = picks-all some-terms ls lifetimes a.values (left (is_answer_to (map leaf_value ls) a) _ fitting) (map (reading_of r) ls) in
-        let ones = pairs-one [] T ls theirs a fitting r some-terms sorted (all-agree r some-terms ls a.values picks) (λ k i x. x.stands some-terms some-terms ∙ ap (some-terms k) (zero-plus [] T ls theirs a fitting i)) in
+        let ones = pairs-one [] T ls theirs a fitting r some-terms sorted (all-agree r some-terms ls a.values picks) (λ k i x. x.stands some-terms some-terms ∙ ap (some-terms k) (zero-plus i)) in
         let hold : Hold r grown = subst (Every (UnknownStands r)) (sym (for-bindings known T 0 a.kinds)) tt in
         let x =
         in-turn-keeps (is_good [] grown.ty_vars grown.const_vars) (lifetimes-good [] grown.ty_vars grown.const_vars) _ grown r (grown-made [] T ls theirs a fitting made.table) (pairs-made [] T ls theirs a fitting)
