@@ -22,7 +22,7 @@ from .html_docs import Pages
 from .kept import Damaged, KeptPages, KeptStandard, remove_stores
 from .made_by import current, made_by
 from .messages import NO_ANSWER, Message, Output, Sources, worst
-from .program import run
+from .program import binding, run
 from .questions import QuestionReader
 from .report import Report
 from .standard_json import JsonStandard, json_folder
@@ -270,6 +270,9 @@ def checked(world: World, arguments: argparse.Namespace) -> Iterator[Judged]:
     if arguments.jobs == 1 or len(world.crates) == 1:
         yield from map(check_shared, world.crates)
         return
+    if not arguments.program:
+        # (So that it is looked for once, and not by each process.)
+        binding()
     reopen = getattr(getattr(world.pages, "store", None), "reopen", None)
     with ProcessPoolExecutor(arguments.jobs, multiprocessing.get_context("fork"), reopen) as pool:
         yield from pool.map(check_shared, world.crates)

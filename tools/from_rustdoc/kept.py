@@ -21,14 +21,13 @@ from typing import Any, Iterator, Optional
 
 from . import terms
 from .html_docs import Pages
+from .proved import SETTLED, cache_folder
 from .rustdoc_json import ItemName, JsonCrate
 from .standard import Header, Standard
 from .terms import ANY_HEAD, Declaration, Impl, Named, Type, head_of
 
 HERE = os.path.dirname(os.path.abspath(__file__))
 SAME = ("core", "alloc", "std")
-# Seconds after which a file has another time if it is written again.
-SETTLED = 2.0
 
 
 class Damaged(Exception):
@@ -56,7 +55,7 @@ def unpacked(data: bytes) -> Any:
 
 # ---- where it is kept, and of what
 def folder() -> str:
-    return os.path.join(os.environ.get("XDG_CACHE_HOME") or os.path.expanduser("~/.cache"), "celtisdarts", "from-rustdoc")
+    return os.path.join(cache_folder(), "from-rustdoc")
 
 
 def tool_sum() -> str:

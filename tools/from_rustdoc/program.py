@@ -1,4 +1,4 @@
-"""Runs the program on a text and reads its answer."""
+"""Has the program answer a text, in this process where the library is there, and reads its answer."""
 from __future__ import annotations
 
 import functools
@@ -7,14 +7,15 @@ import os
 import re
 import subprocess
 from dataclasses import dataclass, field
-from typing import Any, Optional
+from types import ModuleType
+from typing import Any, Callable, Optional
 
+from . import library
+from .library import Fault, NoAnswer
+from .proved import LIBRARY, TOP, cache_folder, proved_program
 from .terms import BadInput
 
-TOP = os.path.dirname(os.path.dirname(os.path.dirname(os.path.abspath(__file__))))
 DEPTH = 64
-# Prints the path of the proved program, by the very conditions of the script `celtisdarts`.
-FIND = '. "$here/tools/program.sh" && of_program "$wanted" && if is_current; then echo "$built"; elif [ -x "$released" ] && is_noted "$released" && is_of_these_sources; then echo "$released"; fi'
 
 
 @dataclass
@@ -29,11 +30,9 @@ class Answer:
 
 
 @functools.lru_cache(maxsize=None)
-def proved_program(name: str = "celtisdarts") -> Optional[str]:
-    """The proved program of the sources that stand here: the one that was built here, else that of release/; None where there is none."""
-    environment = {**os.environ, "here": TOP, "wanted": name}
-    done = subprocess.run(["sh", "-c", FIND], env=environment, stdout=subprocess.PIPE, stderr=subprocess.DEVNULL, text=True)
-    return done.stdout.strip() or None
+def binding() -> Optional[ModuleType]:
+    """The binding over the library of the sources that stand here, or over that which is named; None where there is none."""
+    return library.binding(None if os.environ.get(library.NAMED) else proved_program(LIBRARY), cache_folder())
 
 
 def program_path(given: Optional[str]) -> list[str]:
@@ -42,15 +41,38 @@ def program_path(given: Optional[str]) -> list[str]:
 
 
 def run(text: str, program: Optional[str] = None, depth: int = DEPTH) -> Answer:
-    """The program's answer; an error where it has none, since a text of this translator has no fault."""
+    """The answers to a text, by the program if one is named; an error where there are none, since a text of this translator has no fault."""
+    found = None if program else binding()
+    return answered(lambda: printed(text, program, depth) if found is None else library.run(found, text, depth))
+
+
+def ask(text: str, lines: list[str], program: Optional[str] = None, depth: int = DEPTH) -> Answer:
+    """The answers to query lines behind a text. Verdicts on its crates may be left out."""
+    found = None if program else binding()
+    if found is None:
+        return run(text + "".join(line + "\n" for line in lines), program, depth)
+    return answered(lambda: "".join(library.ask(found, text, line, depth) for line in lines))
+
+
+def answered(output: Callable[[], str]) -> Answer:
+    try:
+        return read_answer(output())
+    except Fault as error:
+        raise BadInput(f"the program found a fault in the text, which is a mistake of the translator: {error}")
+    except NoAnswer as error:
+        raise BadInput(str(error))
+
+
+def printed(text: str, program: Optional[str], depth: int) -> str:
+    """What a run of the program prints."""
     done = subprocess.run(program_path(program) + [str(depth)], input=text.encode("ascii"), stdout=subprocess.PIPE, stderr=subprocess.PIPE)
     output = done.stdout.decode("ascii", "replace")
     if done.returncode == 1:
         number = int(re.findall(r"line (\d+)", output)[0])
-        raise BadInput(f"the program found a fault in the text, which is a mistake of the translator: {output.strip()}: `{text.splitlines()[number - 1]}`")
+        raise Fault(f"{output.strip()}: `{text.splitlines()[number - 1]}`")
     if done.returncode != 0:
-        raise BadInput(f"the program ended with status {done.returncode}: {done.stderr.decode('utf-8', 'replace').strip()}")
-    return read_answer(output)
+        raise NoAnswer(f"the program ended with status {done.returncode}: {done.stderr.decode('utf-8', 'replace').strip()}")
+    return output
 
 
 def explain(text: str, program: Optional[str] = None, depth: int = DEPTH) -> list[dict[str, Any]]:

@@ -12,7 +12,7 @@ from .headers import FLOATS, PRIMITIVES, Named_, NotUnderstood, Reader
 from .html_docs import is_std_key
 from .impls import ImplWriter
 from .negative import Negatives
-from .program import Answer, run
+from .program import Answer, ask
 from .reach import BY_PARTS, Reach, Reacher
 from .render import CLAUSE, MAXIMAL_PARAMS, QUESTION, THEN, Scope, bracketed, is_sizedness, names_of
 from .rustdoc_json import ItemName
@@ -405,8 +405,8 @@ class Asker:
         self.text = reacher.text
         lines = {line.text: line for line in reacher.text.lines if line.kind == "question"}
         assumed = self.assumed(good, lines, reacher)
-        self.answers = {mode: run(self.text_with(mode, [with_clauses(a.prove, assumed[id(q)].clauses[mode]) for q, a in entries]
-                                                 + [a.refute for a in refutable]), self.program) for mode in ("upper", "lower")}
+        self.answers = {mode: self.answers_to(mode, [with_clauses(a.prove, assumed[id(q)].clauses[mode]) for q, a in entries]
+                                              + [a.refute for a in refutable]) for mode in ("upper", "lower")}
         refuted = dict(zip(refutable, self.answers["upper"].questions[len(entries):]))
         found: dict[int, list[Verdict]] = {}
         for number, (question, asked) in enumerate(entries):
@@ -428,6 +428,9 @@ class Asker:
                                    {mode: with_clauses(asked.prove, assumed[id(question)].clauses[mode]) for mode in ("upper", "lower")})
             found.setdefault(id(question), []).append(verdict)
         return [verdicts[id(q)] if id(q) in verdicts else joined(q, found[id(q)]) for q in questions]
+
+    def answers_to(self, mode: str, lines: list[str]) -> Answer:
+        return ask(self.text_with(mode, []), lines, self.program)
 
     def text_with(self, mode: str, lines: list[str]) -> str:
         return "\n".join(self.translation.text(mode)[0] + lines) + "\n"
@@ -481,7 +484,7 @@ class Asker:
         grew = False
         for mode in ("upper", "lower") if wanted else ():
             asked = [asked_goal(with_clauses(q.prove, found[id(q)].clauses[mode]), lines[q.prove], c.goal()) for q, c in wanted]
-            answers = run(self.text_with(mode, asked), self.program).questions
+            answers = self.answers_to(mode, asked).questions
             for (question, candidate), answer in zip(wanted, answers):
                 known = found[id(question)].clauses[mode]
                 if (answer == "yes" or mode == "upper" and answer != "unproved") and candidate.clause not in known:

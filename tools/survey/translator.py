@@ -13,7 +13,7 @@ from typing import Any, Optional, Sequence
 from from_rustdoc import cargo, command
 from from_rustdoc.cargo import Links, Project
 from from_rustdoc.crate_check import check_crate
-from from_rustdoc.program import TOP
+from from_rustdoc.proved import TOP
 from from_rustdoc.terms import BadInput
 from from_rustdoc.world import World
 

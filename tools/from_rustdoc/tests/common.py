@@ -7,7 +7,7 @@ import sys
 
 from ..build import Translation
 from ..html_docs import Pages
-from ..program import proved_program
+from ..proved import proved_program
 from ..world import World
 
 HERE = os.path.dirname(os.path.abspath(__file__))

@@ -18,7 +18,8 @@ from ..build import Translation
 from ..cargo import Project, docs_folder, document
 from ..checker import check_texts
 from ..html_docs import Pages
-from ..program import proved_program, run
+from ..program import run
+from ..proved import proved_program
 from ..questions import Asker
 from ..messages import Sources, rendered
 from ..report import Report

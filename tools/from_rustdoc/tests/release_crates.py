@@ -23,7 +23,7 @@ from ..kept import KeptPages, KeptStandard
 from ..claims import Programs
 from ..later import compared
 from ..messages import Message
-from ..program import proved_program
+from ..proved import proved_program
 from ..render import is_sizedness
 from ..show import Show
 from ..terms import BadInput, Bound, Impl, Lossy, Parameter, Place, Type, put, put_bound

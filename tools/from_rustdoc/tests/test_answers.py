@@ -11,7 +11,7 @@ from unittest import mock
 
 from ..answer import Answerer
 from ..command import main
-from ..program import proved_program
+from ..proved import proved_program
 from ..questions import QuestionReader
 from ..terms import BadInput
 from .common import kept, world

@@ -17,7 +17,7 @@ from .. import command
 from ..cargo import HERE, Unit, artifacts_of, docs_folder, pinned, read_metadata, shared_flags
 from ..command import main
 from ..doc_cfg import lines
-from ..program import proved_program
+from ..proved import proved_program
 from ..terms import BadInput
 from ..world import World
 from .common import kept, pages

@@ -7,7 +7,8 @@ from unittest import mock
 from ..back import Back
 from ..build import Translation
 from ..cone import cone_of_questions
-from ..program import Answer, proved_program, read_answer
+from ..program import Answer, read_answer
+from ..proved import proved_program
 from ..questions import Asker, Question, QuestionReader, QuestionWriter, Verdict
 from ..terms import BadInput, Lossy
 from ..text_form import read_text
@@ -28,7 +29,7 @@ def answered(lower: list[str], upper: list[str], *written: str) -> list[Verdict]
     """The verdicts, if the program answered the lower and the upper text so: each `prove`, then each `refute`."""
     translation, questions = asked(*written)
     answers = [Answer({}, upper, [""] * len(upper)), Answer({}, lower, [""] * len(lower))]
-    with mock.patch(Asker.__module__ + ".run", side_effect=answers):
+    with mock.patch(Asker.__module__ + ".ask", side_effect=answers):
         return Asker(translation).ask(questions)
 
 
@@ -82,11 +83,11 @@ class Patterns(unittest.TestCase):
         translation, questions = asked("<S: shapes::Shape> shapes::Raw<S>: Debug where S::Unit: Debug")
         given: list[str] = []
 
-        def program(text: str, *_: object) -> Answer:
-            given.append(text.splitlines()[-1])
+        def program(text: str, lines: list[str], *_: object) -> Answer:
+            given.append(lines[-1])
             return Answer({}, ["yes"], [""])
 
-        with mock.patch(Asker.__module__ + ".run", side_effect=program):
+        with mock.patch(Asker.__module__ + ".ask", side_effect=program):
             (verdict,) = Asker(translation).ask(questions)
         self.assertEqual(verdict.word, "yes")
         self.assertRegex(given[0], r"^prove in shapes <S, X1_> Pat\d+_: Apply_<X1_> where .*X1_: Debug")
@@ -136,7 +137,7 @@ class Merged(unittest.TestCase):
         free.key, free.source = "other:elsewhere::Free", "not given: elsewhere::Free"
         translation.world.names[free.key], translation.renderer.structs[free.key] = "shapes__Free", free
         answers = [Answer({}, ["unproved", "no"], ["", ""]) for _ in range(2)]
-        with mock.patch(Asker.__module__ + ".run", side_effect=answers):
+        with mock.patch(Asker.__module__ + ".ask", side_effect=answers):
             (verdict,) = Asker(translation, check=False).ask(questions)
         self.assertEqual((verdict.word, verdict.rests_on), ("not settled", ["not given: elsewhere::Free: its impls are not known"]))
 

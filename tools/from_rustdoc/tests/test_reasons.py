@@ -5,7 +5,7 @@ from __future__ import annotations
 import unittest
 
 from ..answer import Answerer
-from ..program import proved_program
+from ..proved import proved_program
 from ..questions import QuestionReader
 from ..reasons import why
 from ..world import World

@@ -9,7 +9,8 @@ from .. import split, std_text
 from ..build import Translation
 from ..checker import check_texts
 from ..messages import Sources, rendered
-from ..program import proved_program, run
+from ..program import run
+from ..proved import proved_program
 from ..report import Report
 from ..terms import BadInput
 from ..verdicts import refusal

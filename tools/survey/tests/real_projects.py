@@ -20,7 +20,7 @@ from collections import Counter
 from typing import Any, Optional
 
 from from_rustdoc.cargo import docs_folder
-from from_rustdoc.program import TOP
+from from_rustdoc.proved import TOP
 from from_rustdoc.terms import BadInput
 
 from .. import registry, results, steps

@@ -1,0 +1,65 @@
+"""Which proved programs, and which library, are here: by the conditions of the script `celtisdarts`, asked once while nothing changes."""
+from __future__ import annotations
+
+import contextlib
+import functools
+import glob
+import hashlib
+import json
+import os
+import subprocess
+import tempfile
+import time
+from typing import Optional
+
+TOP = os.path.dirname(os.path.dirname(os.path.dirname(os.path.abspath(__file__))))
+LIBRARY = "celtisdarts_c"
+# Prints the path of the proved program, by the very conditions of the script `celtisdarts`.
+FIND = '. "$here/tools/program.sh" && of_program "$wanted" && if is_current; then echo "$built"; elif is_there "$released" && is_noted "$released" && is_of_these_sources; then echo "$released"; fi'
+# What these conditions look at.
+LOOKED_AT = ("crates.txt", "tools/program.sh", "crates/*/src/**/*.rt", "crates/*/out/celtisdarts*", "crates/*/out/libceltisdarts*", "release/*")
+# Seconds after which a file has another time if it is written again.
+SETTLED = 2.0
+
+
+def cache_folder() -> str:
+    """What this tool keeps from one call to the next stands there."""
+    return os.path.join(os.environ.get("XDG_CACHE_HOME") or os.path.expanduser("~/.cache"), "celtisdarts")
+
+
+def state() -> Optional[str]:
+    """A sum of the sizes, times and places of all that is looked at; None where something of it was written just now."""
+    total = hashlib.sha256(TOP.encode())
+    newest = 0.0
+    for file in sorted(f for pattern in LOOKED_AT for f in glob.glob(os.path.join(TOP, pattern), recursive=True)):
+        found = os.stat(file)
+        newest = max(newest, found.st_ctime)
+        total.update(repr((file, found.st_size, found.st_mtime_ns, found.st_ctime_ns, found.st_ino, found.st_mode)).encode())
+    return total.hexdigest() if time.time() - newest > SETTLED else None
+
+
+@functools.lru_cache(maxsize=None)
+def proved_program(name: str = "celtisdarts") -> Optional[str]:
+    """The proved program of the sources that stand here: the one that was built here, else that of release/; None where there is none. The
+    library for C is found in the same way."""
+    file = os.path.join(cache_folder(), f"proved-{name}.json")
+    now = state()
+    with contextlib.suppress(OSError, ValueError, KeyError, TypeError), open(file, encoding="utf-8") as handle:
+        known = json.load(handle)
+        if now is not None and known["state"] == now:
+            return str(known["path"]) if known["path"] else None
+    done = subprocess.run(["sh", "-c", FIND], env={**os.environ, "here": TOP, "wanted": name}, stdout=subprocess.PIPE, stderr=subprocess.DEVNULL, text=True)
+    path = done.stdout.strip() or None
+    if now is not None:
+        keep(file, {"state": now, "path": path})
+    return path
+
+
+def keep(file: str, data: dict[str, Optional[str]]) -> None:
+    """Writes the whole file or nothing; where nothing can be kept, it is found again."""
+    with contextlib.suppress(OSError):
+        os.makedirs(os.path.dirname(file), exist_ok=True)
+        number, part = tempfile.mkstemp(dir=os.path.dirname(file))
+        with os.fdopen(number, "w", encoding="utf-8") as handle:
+            json.dump(data, handle)
+        os.replace(part, file)
