@@ -3,6 +3,10 @@
 #
 # FROM_RUSTDOC_JSON is the folder of all; FROM_RUSTDOC_FLAGS are the flags that ask for JSON, FROM_RUSTDOC_TOOL is rustdoc itself. Beside the JSON
 # stand, in `unit`, the folder of the package's manifest and what is set by `--cfg`, a line each. Lints are not told, and fail nothing.
+#
+# FROM_RUSTDOC_SHARED, where it is set, is a folder of documents that several projects share: those of packages below the folder
+# FROM_RUSTDOC_REGISTRY, whose sources never change, by the number that cargo gives a unit (of its package, version, features, dependencies
+# and compiler) and what is set by `--cfg`. A document that stands there is taken, and `taken` says so beside it.
 # shellcheck disable=SC2086
 tool=${FROM_RUSTDOC_TOOL:-rustdoc}
 name=
@@ -25,6 +29,18 @@ done
 place=$FROM_RUSTDOC_JSON/$name-$hash
 mkdir -p "$place" || exit 3
 printf '%s\n%s' "$CARGO_MANIFEST_DIR" "$cfgs" > "$place/unit" || exit 3
+shared=
+if [ -n "$FROM_RUSTDOC_SHARED" ] && [ -n "$hash" ]; then
+    case $CARGO_MANIFEST_DIR in
+        "$FROM_RUSTDOC_REGISTRY"/*) shared=$FROM_RUSTDOC_SHARED/$name-$hash-$(printf %s "$cfgs" | cksum | tr ' ' -).json ;;
+    esac
+fi
+if [ -n "$shared" ] && [ -f "$shared" ]; then
+    # (A folder on another disk has a copy.)
+    ln "$shared" "$place/$name.json" 2>&- || cp "$shared" "$place/$name.json" || exit 3
+    : > "$place/taken"
+    exit 0
+fi
 count=$#
 before=
 while [ "$count" -gt 0 ]; do
@@ -38,4 +54,10 @@ while [ "$count" -gt 0 ]; do
     set -- "$@" "$word"
 done
 export RUSTC_BOOTSTRAP=1
-exec "$tool" "$@" --cap-lints allow $FROM_RUSTDOC_FLAGS
+[ -n "$shared" ] || exec "$tool" "$@" --cap-lints allow $FROM_RUSTDOC_FLAGS
+"$tool" "$@" --cap-lints allow $FROM_RUSTDOC_FLAGS || exit
+# The whole file or nothing, whoever else does the same.
+mkdir -p "$FROM_RUSTDOC_SHARED" || exit 3
+if ln "$place/$name.json" "$shared.$$" 2>&- || cp "$place/$name.json" "$shared.$$"; then
+    mv -f "$shared.$$" "$shared"
+fi

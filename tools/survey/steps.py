@@ -29,6 +29,8 @@ ADDED = "impl-added"
 CARGO = ["--offline"]
 # Of a crate whose project was documented before: the metadata of what it uses.
 COMPILED = "compiled.json"
+# What rustdoc made of the registry's crates, for all projects that use them; and beside a document, that it was taken from there.
+SHARED, TAKEN = "documents", "taken"
 
 
 @dataclass
@@ -83,11 +85,21 @@ def first_error(file: str) -> str:
     return (f"in {package}: " if package else "") + (errors[0] if errors else lines[-1] if lines else "cargo said nothing")
 
 
-def documented(folder: str, place: Place, log: str) -> Project:
-    """Documents a project in cargo's folder, and takes the documents from there."""
+def share(place: Place) -> None:
+    """Has a crate's documents made once, for all projects that use it with these features. (A file that another project has too is never
+    written to.)"""
+    if place.registry is not None:
+        os.environ["FROM_RUSTDOC_SHARED"] = os.path.abspath(os.path.join(place.out, SHARED))
+        os.environ["FROM_RUSTDOC_REGISTRY"] = os.path.abspath(place.registry)
+
+
+def documented(folder: str, place: Place, log: str) -> tuple[Project, int]:
+    """Documents a project in cargo's folder, and takes the documents from there; how many of them rustdoc made."""
     target = place.build(folder)
+    made = 0
     with locked(target), told_to(log):
         os.environ["CARGO_TARGET_DIR"] = target
+        share(place)
         try:
             project = translator.document(os.path.join(folder, "project"), [*CARGO, "-j", str(place.jobs)])
         except BadInput as error:
@@ -96,10 +108,11 @@ def documented(folder: str, place: Place, log: str) -> Project:
         shutil.rmtree(kept, ignore_errors=True)
         os.makedirs(kept)
         for name, file in project.files.items():
+            made += not os.path.exists(os.path.join(os.path.dirname(file), TAKEN))
             project.files[name] = shutil.move(file, os.path.join(kept, f"{name}.json"))
     if place.target is None:
         shutil.rmtree(target, ignore_errors=True)
-    return project
+    return project, made
 
 
 def save_project(folder: str, project: Project) -> None:
@@ -138,11 +151,12 @@ def document(place: Place, package: Package, step: Step, features: tuple[str, ..
     if package.kind != "lib":
         raise Skipped({"proc-macro": "a procedural macro: it has no items"}.get(package.kind, "it has no library"))
     write_project(os.path.join(folder, "project"), [Dependency(package, features)], place.registry)
-    project = documented(folder, place, os.path.join(folder, "document.log"))
+    project, made = documented(folder, place, os.path.join(folder, "document.log"))
     name = own_name(project, package)
     save_project(folder, project)
     sizes = {crate: os.path.getsize(file) for crate, file in project.files.items()}
-    step.figures = {"crates": len(sizes), "bytes": sum(sizes.values()), "own_bytes": sizes[name], "versions": sorted(n for n in sizes if "@" in n)}
+    step.figures = {"crates": len(sizes), "made": made, "bytes": sum(sizes.values()), "own_bytes": sizes[name],
+                    "versions": sorted(n for n in sizes if "@" in n)}
 
 
 def adopt(place: Place, base: str, among: list[Package]) -> list[Package]:

@@ -134,6 +134,47 @@ class Wrapper(unittest.TestCase):
         self.assertEqual(self.called("--crate-type", "proc-macro", "--crate-name", "d", "-o", "/doc"), ([], {}))
 
 
+class Shared(unittest.TestCase):
+    """`rustdoc.sh` where projects share documents, with a program in rustdoc's place that writes a document of its own number."""
+
+    def setUp(self) -> None:
+        self.room = tempfile.mkdtemp()
+        self.addCleanup(shutil.rmtree, self.room)
+        with open(os.path.join(self.room, "tool"), "w", encoding="utf-8") as handle:
+            handle.write('#!/bin/sh\n[ -z "$FAILS" ] || exit 7\nwhile [ "$1" != -o ]; do shift; done\necho x >> "$CALLS"\nwc -l < "$CALLS" > "$2/d.json"\n')
+        os.chmod(os.path.join(self.room, "tool"), 0o755)
+
+    def called(self, project: str, manifest: str = "/registry/d-1", metadata: str = "77", cfg: str = 'feature="x"', **more: str) -> tuple[str, bool, int]:
+        """The document that a project gets, whether it was taken, and the status."""
+        place = os.path.join(self.room, project, f"d-{metadata}")
+        environment = {"PATH": os.environ["PATH"], "FROM_RUSTDOC_TOOL": os.path.join(self.room, "tool"), "FROM_RUSTDOC_JSON": os.path.join(self.room, project),
+                       "CALLS": os.path.join(self.room, "calls"), "FROM_RUSTDOC_SHARED": os.path.join(self.room, "shared"),
+                       "FROM_RUSTDOC_REGISTRY": "/registry", "CARGO_MANIFEST_DIR": manifest, **more}
+        words = ["--crate-type", "lib", "--crate-name", "d", "-o", "/doc", "--cfg", cfg, "-C", f"metadata={metadata}"]
+        done = subprocess.run([os.path.join(HERE, "rustdoc.sh"), *words], env=environment, stdout=subprocess.PIPE, stderr=subprocess.PIPE, text=True)
+        self.assertEqual(done.stderr, "")
+        with contextlib.suppress(FileNotFoundError), open(os.path.join(place, "d.json"), encoding="utf-8") as handle:
+            return handle.read().strip(), os.path.exists(os.path.join(place, "taken")), done.returncode
+        return "", False, done.returncode
+
+    def test_a_document_of_the_registry_is_made_once(self) -> None:
+        self.assertEqual([self.called("a"), self.called("b")], [("1", False, 0), ("1", True, 0)])
+        with open(os.path.join(self.room, "b", "d-77", "unit"), encoding="utf-8") as handle:
+            self.assertEqual(handle.read(), '/registry/d-1\nfeature="x"\n')
+
+    def test_another_unit_or_another_cfg_has_its_own(self) -> None:
+        self.assertEqual([self.called("a")[0], self.called("b", metadata="78")[0], self.called("c", cfg="has_it")[0]], ["1", "2", "3"])
+        self.assertEqual([self.called("d", metadata="78"), self.called("e", cfg="has_it")], [("2", True, 0), ("3", True, 0)])
+
+    def test_what_lies_elsewhere_is_not_shared(self) -> None:
+        for number, folder in enumerate(("/own/d-1", "/registry2/d-1", "/registry"), 1):
+            self.assertEqual((self.called(f"a{number}", folder), os.path.exists(os.path.join(self.room, "shared"))), ((str(number), False, 0), False))
+        self.assertEqual([self.called(f"b{n}", FROM_RUSTDOC_SHARED="")[:2] for n in range(2)], [("4", False), ("5", False)])
+
+    def test_what_failed_is_not_kept(self) -> None:
+        self.assertEqual([self.called("a", FAILS="1"), self.called("b")], [("", False, 7), ("1", False, 0)])
+
+
 FILES = {
     "Cargo.toml": '[workspace]\nmembers = ["app", "mid"]\nexclude = ["old", "new"]\nresolver = "2"\n',
     "app/Cargo.toml": '[package]\nname = "app"\nversion = "0.1.0"\nedition = "2021"\n[features]\nextra = ["mid/more"]\n'

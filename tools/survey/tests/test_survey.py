@@ -131,6 +131,26 @@ class Steps(Room):
                 list(results.read(put(self.room, "bad.jsonl", text + "\n")))
 
 
+class Documented(Room):
+    """What cargo would do is done by a stand-in: it leaves documents in cargo's folder."""
+
+    def test_projects_share_the_documents_of_the_registrys_crates(self) -> None:
+        place = steps.Place(os.path.join(self.room, "out"), os.path.join(self.room, "registry"))
+        folder = place.folder(Package("user", "1.0.0"))
+        os.makedirs(folder)
+
+        def document(_: str, extra: list[str]) -> Project:
+            self.assertEqual((os.environ["FROM_RUSTDOC_SHARED"], os.environ["FROM_RUSTDOC_REGISTRY"]),
+                             (os.path.join(self.room, "out", "documents"), os.path.join(self.room, "registry")))
+            put(self.room, "json/ab-1/taken", "")
+            return Project(files={name: put(self.room, f"json/{name}-1/{name}.json", name) for name in ("ab", "user")})
+
+        with mock.patch.object(translator, "document", document), mock.patch.dict(os.environ):
+            project, made = steps.documented(folder, place, os.path.join(folder, "log"))
+        self.assertEqual((made, project.files), (1, {name: os.path.join(folder, "doc", f"{name}.json") for name in ("ab", "user")}))
+        self.assertTrue(all(map(os.path.exists, project.files.values())))
+
+
 class Adopted(Room):
     """The crates of a project that is documented already, without the folder of the project."""
 
