@@ -98,6 +98,10 @@ class Page:
         own = self.one("select sum(json_extract(figures, '$.own_bytes')) from steps where step = 'document'")
         if size:
             self.lines += ["", f"Documents: {size / 1e6:.0f} MB with what each crate uses, {own / 1e6:.0f} MB of the crates themselves."]
+        taken = self.one("select sum(json_extract(figures, '$.crates')) from steps where step = 'document' and json_extract(figures, '$.made') is not null")
+        if taken:
+            made = self.one("select sum(json_extract(figures, '$.made')) from steps where step = 'document'")
+            self.lines += [f"Of {taken} documents that crates and their projects took, rustdoc made {made}; the others were there."]
 
 
 def percent(count: int, total: int) -> str:

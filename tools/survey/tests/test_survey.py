@@ -200,7 +200,7 @@ class Joined(Room):
         change = {"kind": "change", "how": "as if added", "code": "impl-added", "word": "breaking", "text": "told", "header": header, "source": "b.rs:1",
                   "reason": "another crate may have `impl PartialEq<&Mine> for base::B`"}
         base = os.path.join(self.room, "crates", "base-1.0.0")
-        results.write(os.path.join(base, "document.jsonl"), [step_line("document", bytes=3000000, own_bytes=1000000)])
+        results.write(os.path.join(base, "document.jsonl"), [step_line("document", bytes=3000000, own_bytes=1000000, crates=5, made=2)])
         results.write(os.path.join(base, "check.jsonl"), [step_line("check", word="coherent"), {**impl, "header": header, "fate": "whole"},
                                                           {**impl, "header": "impl Odd for base::B", "fate": "loss", "trait": "Odd"}])
         results.write(os.path.join(base, "ask.jsonl"), [step_line("ask"), question, {**question, "verdict": "not well formed"}])
@@ -228,7 +228,8 @@ class Joined(Room):
         page = figures.page(self.database())
         for line in ("4 crates with their versions: 3 lib, 1 proc-macro.", "| whole | 3 | 75.0 % |", "| document | 1 | 1 | 0 |", "## Questions held against rustc: 1",
                      "| base 1.0.0 | base::B: Send | yes (by law) | no E0277 told |", "| document | in derive: error: no | 1 |",
-                     "| user 0.1.0 | not settled | overlap: one \\| other |", "Documents: 3 MB with what each crate uses, 1 MB of the crates themselves."):
+                     "| user 0.1.0 | not settled | overlap: one \\| other |", "Documents: 3 MB with what each crate uses, 1 MB of the crates themselves.",
+                     "Of 5 documents that crates and their projects took, rustdoc made 2; the others were there."):
             self.assertIn(line, page)
 
     def test_it_names_the_crates_that_an_added_impl_meets(self) -> None:
