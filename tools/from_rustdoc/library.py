@@ -12,12 +12,12 @@ import os
 import subprocess
 import sys
 import tempfile
-from pathlib import Path
 from types import ModuleType
 from typing import Any, Optional
 
 from .proved import TOP
 
+BINDING = os.path.join(TOP, "bindings", "python", "celtisdarts.py")
 NAMED = "CELTISDARTS_LIB"
 # Texts whose readings are kept: both of a question.
 KEPT = 2
@@ -30,9 +30,8 @@ def binding(archive: Optional[str], folder: str) -> Optional[ModuleType]:
     if not named and archive is None:
         return None
     try:
+        os.environ[NAMED] = named or made_of(str(archive), folder)
         found = module()
-        shared = named or made_of(found, str(archive), folder)
-        os.environ[NAMED] = shared
         found.library()
     except (OSError, ImportError, AttributeError, subprocess.CalledProcessError):
         return None
@@ -44,13 +43,13 @@ def binding(archive: Optional[str], folder: str) -> Optional[ModuleType]:
 
 
 def module() -> ModuleType:
-    name, file = "celtisdarts", os.path.join(TOP, "bindings", "python", "celtisdarts.py")
+    name = "celtisdarts"
     known = sys.modules.get(name)
     if known is not None:
         return known
-    spec = importlib.util.spec_from_file_location(name, file)
+    spec = importlib.util.spec_from_file_location(name, BINDING)
     if spec is None or spec.loader is None:
-        raise ImportError(f"there is no {file}")
+        raise ImportError(f"there is no {BINDING}")
     found = importlib.util.module_from_spec(spec)
     # (Its classes look themselves up there.)
     sys.modules[name] = found
@@ -58,15 +57,15 @@ def module() -> ModuleType:
     return found
 
 
-def made_of(found: ModuleType, archive: str, folder: str) -> str:
-    """The shared object of an archive, under the sum of its bytes. It is made whole or not at all."""
+def made_of(archive: str, folder: str) -> str:
+    """The shared object of an archive, under the sum of its bytes. It is made whole or not at all, and nothing is told."""
     with open(archive, "rb") as handle:
         shared = os.path.join(folder, f"libceltisdarts-{hashlib.sha256(handle.read()).hexdigest()}.so")
     if not os.path.exists(shared):
         os.makedirs(folder, exist_ok=True)
         with tempfile.TemporaryDirectory(dir=folder) as room:
             part = os.path.join(room, "libceltisdarts.so")
-            found.make(Path(archive), Path(part))
+            subprocess.run([sys.executable, "-B", BINDING, "--make", archive, part], stdout=subprocess.DEVNULL, stderr=subprocess.DEVNULL, check=True)
             os.replace(part, shared)
     return shared
 

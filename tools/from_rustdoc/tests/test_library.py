@@ -5,6 +5,7 @@ import json
 import os
 import shutil
 import subprocess
+import sys
 import tempfile
 import unittest
 from typing import Any
@@ -72,20 +73,21 @@ class InProcess(Room):
     def test_the_shared_object_is_made_once(self) -> None:
         archive = proved_program(LIBRARY)
         assert archive is not None
-        first = library.made_of(library.module(), archive, self.room)
-        with mock.patch.object(library.module(), "make", side_effect=AssertionError("made anew")):
-            self.assertEqual(library.made_of(library.module(), archive, self.room), first)
+        first = library.made_of(archive, self.room)
+        with mock.patch.object(subprocess, "run", side_effect=AssertionError("made anew")):
+            self.assertEqual(library.made_of(archive, self.room), first)
         self.assertEqual(os.listdir(self.room), [os.path.basename(first)])
 
     def test_without_a_compiler_or_an_archive_programs_are_run(self) -> None:
-        archive = proved_program(LIBRARY)
         find = library.binding.__wrapped__
         self.assertIsNone(find(None, self.room))
         self.assertIsNone(find(os.path.join(self.room, "none.a"), self.room))
-        with mock.patch.object(library.module(), "make", side_effect=FileNotFoundError("cc")):
-            self.assertIsNone(find(archive, self.room))
-        with mock.patch.object(library.module(), "make", side_effect=subprocess.CalledProcessError(1, "cc")):
-            self.assertIsNone(find(archive, self.room))
+        with mock.patch.dict(os.environ, {"PATH": self.room}):
+            self.assertIsNone(find(proved_program(LIBRARY), self.room))
+        with mock.patch.dict(os.environ, {library.NAMED: os.path.join(self.room, "none.so")}), mock.patch.dict(sys.modules):
+            sys.modules.pop("celtisdarts", None)
+            self.assertIsNone(find(None, self.room))
+        self.assertNotIn(library.NAMED, os.environ)
         with mock.patch.object(program, "binding", return_value=None):
             self.assertEqual(ask(TEXT, LINES).questions, ["yes", "unproved", "open", "yes"])
 
