@@ -1,6 +1,7 @@
 """Projects: runs `cargo doc`, which makes rustdoc's JSON of each library, and reads `cargo metadata` for what uses what."""
 from __future__ import annotations
 
+import hashlib
 import json
 import os
 import shutil
@@ -15,6 +16,10 @@ from .terms import BadInput
 FLAGS = "-Z unstable-options --output-format json --document-private-items --document-hidden-items"
 HERE = os.path.dirname(os.path.abspath(__file__))
 PINS = ("rust-toolchain.toml", "rust-toolchain")
+# What decides how cargo documents a project, besides its sources.
+SETTINGS = ("RUSTFLAGS", "RUSTDOCFLAGS", "RUSTUP_TOOLCHAIN", "RUSTC", "RUSTDOC", "CARGO_BUILD_TARGET")
+# What is shared of documents, and what says beside one that it was taken from there.
+SHARED, TAKEN = "shared", "taken"
 
 
 @dataclass
@@ -160,20 +165,23 @@ def shared_flags(extra: list[str]) -> list[str]:
     return found
 
 
-def document(folder: str, extra: list[str], quiet: bool = False, manifest: str | None = None, target: str | None = None) -> Project:
+def document(folder: str, extra: list[str], quiet: bool = False, manifest: str | None = None, target: str | None = None,
+             shared: str | None = None) -> Project:
     """Documents the project and all that it uses, into `target/from-rustdoc`, and reads which crate uses which. Another project's manifest
-    is documented as this folder would be, by its toolchain and its configuration. What an earlier run has left there does not count."""
+    is documented as this folder would be, by its toolchain and its configuration, into a target below that. What an earlier run has left
+    there does not count, but for documents of packages of a registry, which are shared."""
     if not os.path.exists(manifest or os.path.join(folder, "Cargo.toml")):
         raise BadInput(f"{manifest or folder} has no Cargo.toml" if manifest is None else f"there is no {manifest}")
     of = ["--manifest-path", os.path.abspath(manifest)] if manifest else []
     data = metadata(folder, extra, of)
+    shared = shared or os.path.join(os.path.dirname(target) if target else target_of(data), SHARED, settings_sum(folder, extra))
     target = target or target_of(data)
     if not quiet:
         print(f"from-rustdoc: documenting {manifest or 'the project'} and what it uses (cargo doc)", file=sys.stderr, flush=True)
     room = os.path.join(target, f"json-{os.getpid()}")
     try:
         words = ["cargo", "doc", "--target-dir", target, "--message-format", "json-render-diagnostics"]
-        said = command(words + of + extra, folder, environment(room))
+        said = command(words + of + extra, folder, {**environment(room), **sharing(data, shared)})
         place = os.path.join(target, "json")
         shutil.rmtree(place, ignore_errors=True)
         if os.path.isdir(room):
@@ -194,6 +202,33 @@ def environment(room: str) -> dict[str, str]:
     if "RUSTC_WORKSPACE_WRAPPER" not in os.environ:
         flags["RUSTC_WORKSPACE_WRAPPER"] = os.path.join(HERE, "rustc.sh")
     return flags
+
+
+def sharing(data: str, shared: str) -> dict[str, str]:
+    """What has rustdoc.sh share the documents of packages whose sources never change, since a registry has them. Where such a package uses
+    another, by a patch, nothing is shared: what it says may change with that."""
+    known = json.loads(data)
+    folders = {p["id"]: os.path.dirname(os.path.dirname(p["manifest_path"])) for p in known["packages"]
+               if (p["source"] or "").startswith(("registry+", "sparse+"))}
+    if any(dependency["pkg"] not in folders for node in known["resolve"]["nodes"] if node["id"] in folders for dependency in node["deps"]):
+        return {"FROM_RUSTDOC_SHARED": ""}
+    return {"FROM_RUSTDOC_SHARED": os.path.abspath(shared), "FROM_RUSTDOC_REGISTRIES": ":".join(sorted(set(folders.values())))}
+
+
+def settings_sum(folder: str, extra: list[str]) -> str:
+    """A sum of what documents are made by, besides sources: the flags, the toolchain, the configuration."""
+    environment = [os.environ.get(name, "") for name in SETTINGS]
+    total = hashlib.sha256(json.dumps([extra, FLAGS, command(["rustc", "-vV"], folder), environment]).encode())
+    place = os.path.abspath(folder)
+    while True:
+        for name in (".cargo/config.toml", ".cargo/config", *PINS):
+            file = os.path.join(place, name)
+            if os.path.isfile(file):
+                with open(file, "rb") as handle:
+                    total.update(handle.read())
+        if place == os.path.dirname(place):
+            return total.hexdigest()
+        place = os.path.dirname(place)
 
 
 def units_of(data: dict[str, Any], place: str, target_cfgs: frozenset[str]) -> dict[str, Unit]:

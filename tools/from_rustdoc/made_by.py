@@ -9,24 +9,12 @@ from typing import Any, Optional
 
 from . import cargo
 
-# What decides how cargo documents a project, besides its sources.
-SETTINGS = ("RUSTFLAGS", "RUSTDOCFLAGS", "RUSTUP_TOOLCHAIN", "RUSTC", "RUSTDOC", "CARGO_BUILD_TARGET")
 SKIPPED = ("target", "node_modules")
 
 
 def made_by(folder: str, extra: list[str], data: str) -> str:
     """A sum of what the documents are made by: cargo's metadata and flags, the toolchain, the configuration."""
-    total = hashlib.sha256(json.dumps([data, extra, cargo.command(["rustc", "-vV"], folder), [os.environ.get(name, "") for name in SETTINGS]]).encode())
-    place = os.path.abspath(folder)
-    while True:
-        for name in (".cargo/config.toml", ".cargo/config", *cargo.PINS):
-            file = os.path.join(place, name)
-            if os.path.isfile(file):
-                with open(file, "rb") as handle:
-                    total.update(handle.read())
-        if place == os.path.dirname(place):
-            return total.hexdigest()
-        place = os.path.dirname(place)
+    return hashlib.sha256((data + cargo.settings_sum(folder, extra)).encode()).hexdigest()
 
 
 def is_older(folder: str, time: float) -> bool:

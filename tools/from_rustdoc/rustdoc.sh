@@ -4,9 +4,10 @@
 # FROM_RUSTDOC_JSON is the folder of all; FROM_RUSTDOC_FLAGS are the flags that ask for JSON, FROM_RUSTDOC_TOOL is rustdoc itself. Beside the JSON
 # stand, in `unit`, the folder of the package's manifest and what is set by `--cfg`, a line each. Lints are not told, and fail nothing.
 #
-# FROM_RUSTDOC_SHARED, where it is set, is a folder of documents that several projects share: those of packages below the folder
-# FROM_RUSTDOC_REGISTRY, whose sources never change, by the number that cargo gives a unit (of its package, version, features, dependencies
-# and compiler) and what is set by `--cfg`. A document that stands there is taken, and `taken` says so beside it.
+# FROM_RUSTDOC_SHARED, where it is set, is a folder of documents that are made once: those of packages below the folders (divided by colons) of
+# FROM_RUSTDOC_REGISTRIES, whose sources never change. Such a document is known by the number that cargo gives a unit (of its package, version,
+# features and dependencies), by what is set by `--cfg`, and by what its build script wrote. One that stands there is taken, and `taken` says
+# so beside it.
 # shellcheck disable=SC2086
 tool=${FROM_RUSTDOC_TOOL:-rustdoc}
 name=
@@ -31,9 +32,20 @@ mkdir -p "$place" || exit 3
 printf '%s\n%s' "$CARGO_MANIFEST_DIR" "$cfgs" > "$place/unit" || exit 3
 shared=
 if [ -n "$FROM_RUSTDOC_SHARED" ] && [ -n "$hash" ]; then
-    case $CARGO_MANIFEST_DIR in
-        "$FROM_RUSTDOC_REGISTRY"/*) shared=$FROM_RUSTDOC_SHARED/$name-$hash-$(printf %s "$cfgs" | cksum | tr ' ' -).json ;;
-    esac
+    rest=$FROM_RUSTDOC_REGISTRIES:
+    while [ -n "$rest" ]; do
+        case $CARGO_MANIFEST_DIR in
+            "${rest%%:*}"/*) [ -z "${rest%%:*}" ] || shared=$FROM_RUSTDOC_SHARED/$name-$hash ;;
+        esac
+        rest=${rest#*:}
+    done
+fi
+if [ -n "$shared" ]; then
+    built=
+    if [ -d "$OUT_DIR" ]; then
+        built=$(cd "$OUT_DIR" && find . -type f -exec cksum {} + | LC_ALL=C sort) || exit 3
+    fi
+    shared=$shared-$(printf '%s%s' "$cfgs" "$built" | cksum | tr ' ' -).json
 fi
 if [ -n "$shared" ] && [ -f "$shared" ]; then
     # (A folder on another disk has a copy.)

@@ -14,7 +14,7 @@ from collections import Counter
 from dataclasses import asdict, dataclass
 from typing import Any, Iterator, Optional
 
-from from_rustdoc.cargo import Links, Project
+from from_rustdoc.cargo import TAKEN, Links, Project
 from from_rustdoc.terms import BadInput
 
 from . import compare, results, translator
@@ -29,8 +29,8 @@ ADDED = "impl-added"
 CARGO = ["--offline"]
 # Of a crate whose project was documented before: the metadata of what it uses.
 COMPILED = "compiled.json"
-# What rustdoc made of the registry's crates, for all projects that use them; and beside a document, that it was taken from there.
-SHARED, TAKEN = "documents", "taken"
+# What rustdoc made of the registry's crates, for all projects that use them.
+SHARED = "documents"
 
 
 @dataclass
@@ -85,23 +85,14 @@ def first_error(file: str) -> str:
     return (f"in {package}: " if package else "") + (errors[0] if errors else lines[-1] if lines else "cargo said nothing")
 
 
-def share(place: Place) -> None:
-    """Has a crate's documents made once, for all projects that use it with these features. (A file that another project has too is never
-    written to.)"""
-    if place.registry is not None:
-        os.environ["FROM_RUSTDOC_SHARED"] = os.path.abspath(os.path.join(place.out, SHARED))
-        os.environ["FROM_RUSTDOC_REGISTRY"] = os.path.abspath(place.registry)
-
-
 def documented(folder: str, place: Place, log: str) -> tuple[Project, int]:
     """Documents a project in cargo's folder, and takes the documents from there; how many of them rustdoc made."""
     target = place.build(folder)
     made = 0
     with locked(target), told_to(log):
         os.environ["CARGO_TARGET_DIR"] = target
-        share(place)
         try:
-            project = translator.document(os.path.join(folder, "project"), [*CARGO, "-j", str(place.jobs)])
+            project = translator.document(os.path.join(folder, "project"), [*CARGO, "-j", str(place.jobs)], os.path.join(place.out, SHARED))
         except BadInput as error:
             raise BadInput(first_error(log) if os.path.getsize(log) else str(error))
         kept = os.path.join(folder, "doc")

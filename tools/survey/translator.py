@@ -117,8 +117,8 @@ def joined(parts: Sequence[Said]) -> Said:
 
 
 # ---- documents, reading, checks
-def document(folder: str, extra: list[str]) -> Project:
-    return cargo.document(folder, extra, quiet=True)
+def document(folder: str, extra: list[str], shared: str) -> Project:
+    return cargo.document(folder, extra, quiet=True, shared=shared)
 
 
 def read(files: list[str], links: Links) -> World:

@@ -14,7 +14,7 @@ from typing import Any
 from unittest import mock
 
 from .. import command
-from ..cargo import HERE, Unit, artifacts_of, docs_folder, pinned, read_metadata, shared_flags
+from ..cargo import HERE, Unit, artifacts_of, docs_folder, pinned, read_metadata, shared_flags, sharing
 from ..command import main
 from ..doc_cfg import lines
 from ..proved import proved_program
@@ -149,7 +149,7 @@ class Shared(unittest.TestCase):
         place = os.path.join(self.room, project, f"d-{metadata}")
         environment = {"PATH": os.environ["PATH"], "FROM_RUSTDOC_TOOL": os.path.join(self.room, "tool"), "FROM_RUSTDOC_JSON": os.path.join(self.room, project),
                        "CALLS": os.path.join(self.room, "calls"), "FROM_RUSTDOC_SHARED": os.path.join(self.room, "shared"),
-                       "FROM_RUSTDOC_REGISTRY": "/registry", "CARGO_MANIFEST_DIR": manifest, **more}
+                       "FROM_RUSTDOC_REGISTRIES": "/other:/registry", "CARGO_MANIFEST_DIR": manifest, **more}
         words = ["--crate-type", "lib", "--crate-name", "d", "-o", "/doc", "--cfg", cfg, "-C", f"metadata={metadata}"]
         done = subprocess.run([os.path.join(HERE, "rustdoc.sh"), *words], env=environment, stdout=subprocess.PIPE, stderr=subprocess.PIPE, text=True)
         self.assertEqual(done.stderr, "")
@@ -166,10 +166,29 @@ class Shared(unittest.TestCase):
         self.assertEqual([self.called("a")[0], self.called("b", metadata="78")[0], self.called("c", cfg="has_it")[0]], ["1", "2", "3"])
         self.assertEqual([self.called("d", metadata="78"), self.called("e", cfg="has_it")], [("2", True, 0), ("3", True, 0)])
 
+    def test_what_its_build_script_wrote_tells_documents_apart(self) -> None:
+        for project, text in (("a", "one"), ("b", "two"), ("c", "one")):
+            os.makedirs(os.path.join(self.room, project, "out"))
+            with open(os.path.join(self.room, project, "out", "generated.rs"), "w", encoding="utf-8") as handle:
+                handle.write(text)
+        self.assertEqual([self.called(p, OUT_DIR=os.path.join(self.room, p, "out")) for p in ("a", "b", "c")], [("1", False, 0), ("2", False, 0), ("1", True, 0)])
+
     def test_what_lies_elsewhere_is_not_shared(self) -> None:
         for number, folder in enumerate(("/own/d-1", "/registry2/d-1", "/registry"), 1):
             self.assertEqual((self.called(f"a{number}", folder), os.path.exists(os.path.join(self.room, "shared"))), ((str(number), False, 0), False))
         self.assertEqual([self.called(f"b{n}", FROM_RUSTDOC_SHARED="")[:2] for n in range(2)], [("4", False), ("5", False)])
+        self.assertEqual([self.called(f"c{n}", FROM_RUSTDOC_REGISTRIES="")[:2] for n in range(2)], [("6", False), ("7", False)])
+
+    def test_packages_of_registries_are_shared_unless_one_of_them_uses_another(self) -> None:
+        packages = [{"id": folder, "manifest_path": f"{folder}/Cargo.toml", "source": source} for folder, source in (
+            ("/home/me/own", None), ("/cargo/src/one/a", "registry+https://one"), ("/cargo/src/one/b", "registry+https://one"),
+            ("/cargo/src/two/c", "sparse+https://two"), ("/cargo/git/d", "git+https://three"))]
+        uses = [("/home/me/own", "/cargo/src/one/a"), ("/cargo/src/one/a", "/cargo/src/two/c"), ("/cargo/git/d", "/home/me/own")]
+        shared = {"FROM_RUSTDOC_SHARED": "/t/shared", "FROM_RUSTDOC_REGISTRIES": "/cargo/src/one:/cargo/src/two"}
+        for more, expected in ([], shared), ([("/cargo/src/one/b", "/home/me/own")], {"FROM_RUSTDOC_SHARED": ""}), \
+                ([("/cargo/src/two/c", "/cargo/git/d")], {"FROM_RUSTDOC_SHARED": ""}):
+            nodes = [{"id": user, "deps": [{"pkg": used}]} for user, used in [*uses, *more]]
+            self.assertEqual(sharing(json.dumps({"packages": packages, "resolve": {"nodes": nodes}}), "/t/shared"), expected)
 
     def test_what_failed_is_not_kept(self) -> None:
         self.assertEqual([self.called("a", FAILS="1"), self.called("b")], [("", False, 7), ("1", False, 0)])

@@ -139,9 +139,8 @@ class Documented(Room):
         folder = place.folder(Package("user", "1.0.0"))
         os.makedirs(folder)
 
-        def document(_: str, extra: list[str]) -> Project:
-            self.assertEqual((os.environ["FROM_RUSTDOC_SHARED"], os.environ["FROM_RUSTDOC_REGISTRY"]),
-                             (os.path.join(self.room, "out", "documents"), os.path.join(self.room, "registry")))
+        def document(_: str, extra: list[str], shared: str) -> Project:
+            self.assertEqual(shared, os.path.join(self.room, "out", "documents"))
             put(self.room, "json/ab-1/taken", "")
             return Project(files={name: put(self.room, f"json/{name}-1/{name}.json", name) for name in ("ab", "user")})
 
