@@ -185,10 +185,11 @@ class Shared(unittest.TestCase):
             ("/cargo/src/two/c", "sparse+https://two"), ("/cargo/git/d", "git+https://three"))]
         uses = [("/home/me/own", "/cargo/src/one/a"), ("/cargo/src/one/a", "/cargo/src/two/c"), ("/cargo/git/d", "/home/me/own")]
         shared = {"FROM_RUSTDOC_SHARED": "/t/shared", "FROM_RUSTDOC_REGISTRIES": "/cargo/src/one:/cargo/src/two"}
-        for more, expected in ([], shared), ([("/cargo/src/one/b", "/home/me/own")], {"FROM_RUSTDOC_SHARED": ""}), \
-                ([("/cargo/src/two/c", "/cargo/git/d")], {"FROM_RUSTDOC_SHARED": ""}):
-            nodes = [{"id": user, "deps": [{"pkg": used}]} for user, used in [*uses, *more]]
-            self.assertEqual(sharing(json.dumps({"packages": packages, "resolve": {"nodes": nodes}}), "/t/shared"), expected)
+        by_patches = (), (("/cargo/src/one/b", "/home/me/own"),), (("/cargo/src/two/c", "/cargo/git/d"),)
+        for more in by_patches:
+            nodes = [{"id": user, "deps": [{"pkg": used}]} for user, used in (*uses, *more)]
+            self.assertEqual(sharing(json.dumps({"packages": packages, "resolve": {"nodes": nodes}}), "/t/shared"),
+                             {"FROM_RUSTDOC_SHARED": ""} if more else shared)
 
     def test_what_failed_is_not_kept(self) -> None:
         self.assertEqual([self.called("a", FAILS="1"), self.called("b")], [("", False, 7), ("1", False, 0)])
