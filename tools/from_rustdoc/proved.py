@@ -28,11 +28,14 @@ def cache_folder() -> str:
 
 
 def state() -> Optional[str]:
-    """A sum of the sizes, times and places of all that is looked at; None where something of it was written just now."""
+    """A sum of the sizes, times and places of all that is looked at; None where something of it was written, or removed, just now."""
     total = hashlib.sha256(TOP.encode())
     newest = 0.0
     for file in sorted(f for pattern in LOOKED_AT for f in glob.glob(os.path.join(TOP, pattern), recursive=True)):
-        found = os.stat(file)
+        try:
+            found = os.stat(file)
+        except OSError:
+            return None
         newest = max(newest, found.st_ctime)
         total.update(repr((file, found.st_size, found.st_mtime_ns, found.st_ctime_ns, found.st_ino, found.st_mode)).encode())
     return total.hexdigest() if time.time() - newest > SETTLED else None

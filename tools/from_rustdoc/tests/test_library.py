@@ -1,6 +1,7 @@
 """Answers in this process, beside those of the program; and how the programs and the library are found."""
 from __future__ import annotations
 
+import glob
 import json
 import os
 import shutil
@@ -127,6 +128,10 @@ class Found(Room):
 
     def test_what_was_written_just_now_is_not_kept(self) -> None:
         with mock.patch.object(proved, "SETTLED", 60.0):
+            self.assertEqual([self.find(), self.find()], ["/program/celtisdarts/1", "/program/celtisdarts/2"])
+
+    def test_what_is_removed_meanwhile_is_no_error(self) -> None:
+        with mock.patch.object(glob, "glob", return_value=[os.path.join(self.room, "gone")]):
             self.assertEqual([self.find(), self.find()], ["/program/celtisdarts/1", "/program/celtisdarts/2"])
 
     def test_what_is_damaged_is_found_again(self) -> None:
