@@ -7,8 +7,8 @@
 Of each text: the exit status is that of the other program; as JSON each line is an object with the keys of `rustc --error-format=json`
 and `answer`, and these answers are the other program's lines, in their order; as text it prints the same answers, with what is `rendered`
 behind each; no row of an excerpt or of a proof has more than 100 columns. It takes at most three times as much of the processor as the
-other one, and half a second, within 10 seconds and 512 MB. Of an example it prints with colours the same text, with nothing but colours
-in it. A text of 100,000 bytes and more is not asked for as JSON: the lines of the answer have to stand in what is printed, in their order.
+other one, half a second, and a second for each 10 MB that it prints, within 10 seconds and 512 MB. Of an example it prints with colours
+the same text, with nothing but colours in it. A text of 100,000 bytes and more is not asked for as JSON: the lines of the answer have to stand in what is printed, in their order.
 
 The line before the last tells which text took longest, beside what its answer took.
 """
@@ -28,6 +28,7 @@ from .makers import KINDS, Lines, by_lot, joined, wide_texts
 LIMITS = Limits(seconds=10, memory=512 * 1024 * 1024)
 COLUMNS = 100
 LARGE = 100000
+PRINTED_IN_A_SECOND = 10_000_000
 COLOR = re.compile(rb"\x1b\[[0-9]+m")
 ROW = re.compile(rb" *[0-9]* *\|")
 PROOF = re.compile(rb" *= proof: ")
@@ -72,7 +73,7 @@ class Checks:
     def check(self, it: Text) -> None:
         answer, said = self.run(self.answering, it), self.run(self.explaining, it)
         self.slowest = max(self.slowest, (said.seconds, answer.seconds, it.name))
-        if said.seconds > 3 * answer.seconds + 0.5:
+        if said.seconds > 3 * answer.seconds + 0.5 + len(said.output) / PRINTED_IN_A_SECOND:
             raise Wrong(f"{said.seconds:.2f} s, where the answer takes {answer.seconds:.2f}")
         if said.status != answer.status:
             raise Wrong(f"status {said.status}, where the answer has {answer.status}")
