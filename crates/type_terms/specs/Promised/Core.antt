@@ -1,24 +1,25 @@
--- The crate `core`: its traits, its struct Box and its impls.
+-- The crate `core`: its traits, its struct `Box` and its impls.
 use Rattle.std.specs.Prelude.{ℕ, suc, ◌+◌, Bool, true, false, List, [], ◌∷◌, ◌++◌}
 use Rattle.type_terms.specs.Promised.Label.{of_type, of_const, static, bool, char, never, array, int, uint, adt, ref, raw_pointer, param}
 use Rattle.type_terms.specs.Promised.Trees.{Trees, none, tree, leaf}
 use Rattle.type_terms.specs.Promised.Worlds.{World, TraitDecl, ImplDecl, Reference, core}
 use Rattle.type_terms.specs.Promised.Rules.{sized, clone, copy, tuple_trait, fn_ptr_trait, fn_once, fn_mut, fn_shared, unsize, asked}
 
--- `fundamental struct Box<T>(*const T)`.
+-- The struct `fundamental struct Box<T>(*const T)`.
 abbrev pub box : ℕ
 box = 0
 
--- The type parameter with a number.
+-- Type parameter i.
 abbrev pub type_param : ℕ → Trees
 type_param i = leaf (param of_type i)
 
--- A trait of core with its supertraits.
+-- A trait of `core`, with whether it is fundamental and with its supertraits.
 abbrev pub core_trait : Bool → ℕ → List Reference → TraitDecl
 core_trait f t bs = record { name = t; home = core; is_fundamental = f; is_auto = false; bounds = bs }
 
--- `trait Sized; trait Clone: Sized; trait Copy: Clone; trait Tuple; trait FnPtr; trait FnOnce<A>; trait FnMut<A>: FnOnce<A>;
--- trait Fn<A>: FnMut<A>; trait Unsize<T>`, of which `Sized`, `FnOnce`, `FnMut` and `Fn` are fundamental.
+-- The traits of `core`. `Sized`, `FnOnce`, `FnMut` and `Fn` are fundamental: `trait Sized; trait Clone: Sized; trait
+-- Copy: Clone; trait Tuple; trait FnPtr;` `trait FnOnce<A>; trait FnMut<A>: FnOnce<A>; trait Fn<A>: FnMut<A>; trait
+-- Unsize<T>`
 abbrev pub core_traits : List TraitDecl
 core_traits =
     core_trait true sized []
@@ -32,12 +33,12 @@ core_traits =
     ∷ core_trait false unsize []
     ∷ []
 
--- `impl Tr for T` for each of the types, numbered from n on.
+-- The impls of trait t for these types, numbered from n.
 abbrev pub impls_for : ℕ → ℕ → List Trees → List ImplDecl
 impls_for n t [] = []
 impls_for n t (a ∷ xs) = record { name = n; home = core; params = 0; header = asked t a; clauses = [] } ∷ impls_for (suc n) t xs
 
--- bool, char, `!` and the twelve integer types.
+-- `bool`, `char`, `!` and the twelve integer types.
 abbrev pub scalars : List Trees
 scalars =
     leaf bool ∷ leaf char ∷ leaf never
@@ -45,8 +46,11 @@ scalars =
     ∷ leaf (uint 0) ∷ leaf (uint 1) ∷ leaf (uint 2) ∷ leaf (uint 3) ∷ leaf (uint 4) ∷ leaf (uint 5)
     ∷ []
 
--- The impls of `Clone`, or of `Copy`, numbered from n on: for the scalars, `<'a, T> &'a T`, `<T> *const T`, `<T> *mut T`, and
--- `<T, const N> [T; N] where T` has the trait. They are terms: the lifetime 'a, parameter 0, is erased, and T is parameter 1.
+-- The impls of `Clone` or of `Copy`, numbered from n. They are for:
+-- - the scalars
+-- - `&'a T`, `*const T` and `*mut T`, for every T
+-- - `[T; N]` where T has the trait
+-- They have no lifetimes. The lifetime 'a is parameter 0 of its impl, so T is parameter 1 there.
 abbrev pub copy_impls : ℕ → ℕ → List ImplDecl
 copy_impls n t =
     impls_for n t scalars
@@ -66,7 +70,7 @@ copy_impls n t =
 abbrev pub box_impl : ImplDecl
 box_impl = record { name = 19; home = core; params = 1; header = asked clone (tree (adt box) (type_param 0) none); clauses = asked clone (type_param 0) ∷ [] }
 
--- The crate `core`, alone.
+-- The declarations of `core`.
 abbrev pub core_world : World
 core_world = record {
   crates = record { name = core; uses = [] } ∷ [];

@@ -1,4 +1,4 @@
--- Linked sets: crates that obey the rules of the text and keep the orphan rule, possibly from different texts.
+-- Linked sets: crates, possibly of different texts, that together obey the rules of a text and keep the orphan rule.
 use Rattle.std.specs.Prelude.{◌≡◌, ◌⊎◌, ℕ, zero, suc, ◌<◌, Bool, true, false, IsTrue, ◌&&◌, ◌==◌, List, [], map, nat_le}
 use Rattle.std.specs.List.{list_any, list_all}
 use Rattle.type_terms.specs.Promised.Label.{Label, Sort, dynamic, auto_trait, adt, param}
@@ -15,134 +15,143 @@ use Rattle.type_terms.specs.Promised.Answers.{is_closed, is_open, CommonInstance
 use Rattle.type_terms.specs.Promised.Walks.{struct_is, keeps_orphan_rule}
 use Rattle.type_terms.specs.Promised.Versions.{with_impls, HasLaterImpls, in_scope}
 
--- An impl of an auto trait is for a struct of its own crate.
+-- Each impl of an auto trait is for a struct of its own crate.
 abbrev pub AutoAtHome : World → Type 0
 AutoAtHome W =
     (i : ImplDecl) → In i W.impls → is_auto W i.header.trait ≡ true
     → (s : ℕ) × (ks : Trees) × (os : Trees) × (i.header.args ≡ tree (adt s) ks os) × (struct_is (λ x. x.home == i.home) W s ≡ true)
 
--- An open place other than a parameter. A declaration holds none.
+-- The label is that of a placeholder, a variable or a bound variable. Declarations have none of these.
 abbrev pub is_stray : Label → Bool
 is_stray (param _ _) = false
 is_stray l = is_open l
 
--- The references' arguments pass.
+-- The arguments of all trait references pass the test.
 abbrev pub all_args : (Trees → Bool) → List Reference → Bool
 all_args p rs = list_all (λ r. p r.args) rs
 
--- All trees that are written in W pass: fields, supertraits, headers and where-clauses.
+-- All terms in the declarations of W pass the test: fields, supertraits, headers and where-clauses.
 abbrev pub all_written : (Trees → Bool) → World → Bool
 all_written p W =
     list_all (λ x. list_all p x.fields) W.structs
     && (list_all (λ x. all_args p x.bounds) W.traits
     && list_all (λ i. p i.header.args && all_args p i.clauses) W.impls)
 
--- The auto traits among the bounds of a `dyn` rise by their numbers, the first of them from n on.
+-- The auto traits in these bounds have strictly rising numbers, from n.
 abbrev pub autos_rise : ℕ → Trees → Bool
 autos_rise n none = true
 autos_rise n (tree (auto_trait t) c o) = nat_le n t && autos_rise (suc t) o
 autos_rise n (tree l c o) = autos_rise n o
 
--- Each `dyn` lists its auto traits in their order, each once. With `auto trait A` before `auto trait B`: `dyn A + B`, not
--- `dyn B + A`.
+-- Each `dyn` in the terms lists its auto traits by their numbers, each once. For example, `dyn A + B` where A is
+-- declared first, but not `dyn B + A`.
 abbrev pub dyns_rise : Trees → Bool
 dyns_rise none = true
 dyns_rise (tree dynamic c o) = autos_rise zero c && (dyns_rise c && dyns_rise o)
 dyns_rise (tree l c o) = dyns_rise c && dyns_rise o
 
--- Some arrangement leads the auto traits of each `dyn` that is written in W to the order of their numbers, each once. So no two of
--- them list the same auto traits in different orders: an arrangement leads different lists to different ones.
+-- One arrangement turns the auto traits of every `dyn` in W into the order of their numbers, each once. So no two of
+-- them list the same auto traits in different orders, because an arrangement turns different lists into different
+-- lists.
 abbrev pub DynsInOneOrder : World → Type 0
 DynsInOneOrder W = (α : Arrangement) × IsTrue (all_written dyns_rise (arranged_world α W))
 
--- W is a joined set: crates that obey the rules of their texts and keep the orphan rule. `views` are the crates that were accepted
--- or asked, each with the view of its answer; `rank` is an order of crates. Above each field stands what it says and a case that
--- it rules out.
+-- W is a joined set: its crates obey the rules of their texts and keep the orphan rule. `views` are the crates with an
+-- answer or a verdict, each with the view of that answer. `rank` is an order of crates. The comment above each field
+-- says what it means and gives a case that it rules out.
 pub record JoinedSet (W : World) (views : List View) (rank : ℕ → ℕ) : Type 0 where
-  -- Its trees are terms. Out: `impl Show for for<'a> fn(&'a u8)` beside `impl Show for fn(&'static u8)`, taken for different.
+  -- Terms have no lifetimes. Ruled out: `impl Show for for<'a> fn(&'a u8)` and `impl Show for fn(&'static u8)`, taken
+  -- for different impls.
   pub terms : IsTerms W
-  -- `core` stands in it, with its structs and traits in their order. Out: a set whose `trait Copy` has no supertrait.
+  -- The set has `core`, with its structs and its traits in their order. Ruled out: a set in which `Copy` has no
+  -- supertrait.
   pub core_there : with_impls (view_of W core) core_world.impls ≡ core_world
-  -- It has its impls, or is a later version of them. Out: a set without `impl Clone for u8`.
+  -- It has the impls of `core`, or of a later version of it. Ruled out: a set without `impl Clone for u8`.
   pub core_later : HasLaterImpls W core core_world.impls
-  -- A name stands for one struct. Out: a struct 10 of first and one of second, so that second knows what first implements.
+  -- A name is that of one struct. Ruled out: struct 10 of crate first and another one of crate second, so that second
+  -- has the impls of first.
   pub one_struct : (x y : StructDecl) → In x W.structs → In y W.structs → x.name ≡ y.name → x ≡ y
-  -- A name stands for one trait. Out: a trait 20 of first and one of second, so that both may write `impl 20 for u8`.
+  -- A name is that of one trait. Ruled out: trait 20 of crate first and another one of crate second, so that each may
+  -- write `impl 20 for u8`.
   pub one_trait : (x y : TraitDecl) → In x W.traits → In y W.traits → x.name ≡ y.name → x ≡ y
-  -- A number stands for one impl. Out: a proof by impl 100 that may be either of two.
+  -- A number is that of one impl. Ruled out: a proof by impl 100 that may be either of two impls.
   pub one_impl : (x y : ImplDecl) → In x W.impls → In y W.impls → x.name ≡ y.name → x ≡ y
-  -- Headers name what their crate sees, and are written as the grammar says. Out: `impl Tr for A` in a crate that does not see
-  -- Tr, beside `impl<T> Tr for T`.
+  -- Headers name what their crate sees, and are as the grammar has them. Ruled out: `impl Tr for A` in a crate that
+  -- does not see Tr, next to `impl<T> Tr for T`.
   pub headers_in_scope : (i : ImplDecl) → In i W.impls → IsTrue (in_scope W i.home i.header)
-  -- Auto traits have no supertraits. Out: `auto trait Safe: Show`, where the fields of a struct prove Safe and nothing proves Show.
+  -- Auto traits have no supertraits. Ruled out: `auto trait Safe: Show`, where the fields of a struct prove Safe, but
+  -- nothing proves Show.
   pub autos_bare : (x : TraitDecl) → In x W.traits → x.is_auto ≡ true → x.bounds ≡ []
-  -- Supertraits name what their crate sees. Out: a user of `trait Sub: Sup` whose view has Sub and not Sup.
+  -- Supertraits name what their crate sees. Ruled out: a crate that uses `trait Sub: Sup` and sees Sub, but not Sup.
   pub bounds_in_scope : (x : TraitDecl) (b : Reference) → In x W.traits → In b x.bounds → IsTrue (in_scope W x.home b)
-  -- An order of traits, as that in which a text declares them. By itself it rules nothing out.
+  -- An order of traits, for example that of their declarations in a text. This field alone rules nothing out.
   pub trait_rank : ℕ → ℕ
-  -- Supertraits lead to earlier traits. Out: `trait A: B` beside `trait B: A`.
+  -- The supertraits of a trait precede it in this order. Ruled out: `trait A: B` together with `trait B: A`.
   pub bounds_before : (x : TraitDecl) (b : Reference) → In x W.traits → In b x.bounds → trait_rank b.trait < trait_rank x.name
-  -- Impls of auto traits are for structs of their crate. Out: `impl Safe for S` in a crate that S's crate does not see, which
-  -- takes a rule away that S's crate has.
+  -- Impls of auto traits are for structs of their crate. Ruled out: `impl Safe for S` in a crate that the crate of S
+  -- does not see. It would disable a rule that the crate of S has.
   pub autos_at_home : AutoAtHome W
-  -- Headers hold no variable and nothing bound. Out: `impl Show for ?x`, of whose instances nobody can say which they are.
+  -- Headers have parameters, but no variables and no bound variables. Ruled out: `impl Show for ?x`, whose instances
+  -- are undetermined.
   pub plain_headers : (i : ImplDecl) → In i W.impls → some_node is_stray i.header.args ≡ false
-  -- Where-clauses hold no variable and nothing bound. Out: `impl Show for u8 where ?x: Num`.
+  -- Where-clauses have none either. Ruled out: `impl Show for u8 where ?x: Num`.
   pub plain_clauses : (i : ImplDecl) (k : Reference) → In i W.impls → In k i.clauses → some_node is_stray k.args ≡ false
-  -- Nor do fields. Out: `struct S(?x)`, of which nobody can say whether it is `Sized`.
+  -- Fields have none either. Ruled out: `struct S(?x)`, for which `Sized` is undetermined.
   pub plain_fields : (x : StructDecl) (t : Trees) → In x W.structs → In t x.fields → some_node is_stray t ≡ false
-  -- Nor do supertraits. Out: `trait Sub: Sup<?x>`.
+  -- Supertraits have none either. Ruled out: `trait Sub: Sup<?x>`.
   pub plain_bounds : (x : TraitDecl) (b : Reference) → In x W.traits → In b x.bounds → some_node is_stray b.args ≡ false
-  -- Where-clauses mention what their header does, as the same sort. Out: `impl<T> Show for u8 where T: Num`.
+  -- A parameter that a where-clause mentions is also in the header, with the same kind. Ruled out:
+  -- `impl<T> Show for u8 where T: Num`.
   pub clauses_covered : (i : ImplDecl) (k : Reference) → In i W.impls → In k i.clauses → (s : Sort) (n : ℕ) → mentions_as s n k.args ≡ true → mentions_as s n i.header.args ≡ true
-  -- `Sized` has built-in rules alone. Out: `impl Sized for dyn Show`, by which `T: Unsize<dyn Num>` would follow from `T: Sized` and
-  -- `T: Num` for every T but that one.
+  -- `Sized` has built-in rules only. Ruled out: `impl Sized for dyn Show`. With it, `T: Unsize<dyn Num>` would follow
+  -- from `T: Sized` and `T: Num` for every T but `dyn Show`.
   pub sized_alone : (i : ImplDecl) → In i W.impls → (i.header.trait == sized) ≡ false
-  -- Bounds and lifetimes alone stand in a `dyn`. Out: `struct S<T>(dyn T)`.
+  -- The children of a `dyn` are bounds and a lifetime. Ruled out: `struct S<T>(dyn T)`.
   pub dyns_hold_bounds : IsTrue (all_written dyns_of_bounds W)
-  -- All list the auto traits of a `dyn` in one order, so that a type is one tree. Out: `impl Show for dyn A + B` of one text beside
-  -- `impl Show for dyn B + A` of another.
+  -- All crates list the auto traits of a `dyn` in one order, so that equal types are equal terms. Ruled out:
+  -- `impl Show for dyn A + B` of one text and `impl Show for dyn B + A` of another.
   pub dyns_in_order : DynsInOneOrder W
-  -- Core is the first crate. Out: a core that uses another crate.
+  -- `core` is the first crate. Ruled out: a `core` that uses another crate.
   pub core_first : rank core ≡ 0
-  -- Crates use earlier crates. Out: two crates that use each other, each of which may implement the other's traits for its own
-  -- types.
+  -- Crates use crates that precede them. Ruled out: two crates that use each other, each of which could implement the
+  -- other's traits for its own types.
   pub uses_before : (x : CrateDecl) (u : ℕ) → In x W.crates → In u x.uses → rank u < rank x.name
-  -- Crates use crates that are there. Out: `crate first uses base` in a set without base.
+  -- Crates use crates that are in the set. Ruled out: `crate first uses base` in a set without base.
   pub uses_stand : (x : CrateDecl) (u : ℕ) → In x W.crates → In u x.uses → IsTrue (list_any (λ (y : CrateDecl). y.name == u) W.crates)
-  -- It holds each answer's crate with the view of the answer. Out: a crate that has one more impl here than where `no` was
-  -- answered.
+  -- The set has each answer's crate with the view of that answer. Ruled out: a crate that has one more impl here than
+  -- where `no` was answered.
   pub as_answered : Every (HoldsView W) views
-  -- Each header keeps the orphan rule of its crate. Out: `impl Show for u8` in two crates, with a foreign Show.
+  -- Each header keeps the orphan rule of its crate. Ruled out: `impl Show for u8` in two crates that do not declare
+  -- Show.
   pub orphan_rule : (i : ImplDecl) → In i W.impls → IsTrue (keeps_orphan_rule W i.home i.header)
 
--- Where the where-clauses of a closed instance of an impl have proofs, so have the supertraits of its header.
+-- For each closed instance of an impl whose where-clauses have proofs, the supertraits of its header have proofs.
 abbrev pub HeadersHaveSupertraits : World → Type 0
 HeadersHaveSupertraits W =
     (i : ImplDecl) → In i W.impls → (A : Trees) → IsTrue (is_closed A) → Fits A i.header.args
     → Every (HasProof W []) (map (with_args A) i.clauses) → Every (HasProof W []) (strict_supertraits W (with_args A i.header))
 
--- W is a linked set: a joined set in which the supertraits of headers are proved. Out: `trait Sub: Sup; impl Sub for u8` without
--- `impl Sup for u8`.
+-- W is a linked set: a joined set in which the supertraits of headers are proved. Ruled out:
+-- `trait Sub: Sup; impl Sub for u8` without `impl Sup for u8`.
 pub record LinkedSet (W : World) (views : List View) (rank : ℕ → ℕ) : Type 0 where
   pub joined : JoinedSet W views rank
   pub supers_proved : HeadersHaveSupertraits W
 
--- P holds of each linked set with its answers.
+-- P holds of each linked set with the views of its answers.
 abbrev pub InEveryLinkedSet : (World → List View → Type 0) → Type 0
 InEveryLinkedSet P = (W : World) (vs : List View) (rank : ℕ → ℕ) → LinkedSet W vs rank → P W vs
 
--- The pair is no conflict: no closed common instance has proofs of both lists of where-clauses.
+-- The pair is cleared in W: no common instance has proofs of both lists of where-clauses.
 abbrev pub Cleared : World → ImplDecl → ImplDecl → Type 0
 Cleared W i j = (m : CommonInstance i j) → Every (HasProof W []) (map (with_args m.left) i.clauses) → Every (HasProof W []) (map (with_args m.right) j.clauses) → ⊥
 
--- The impl is one that core has from the first, or of a crate that was accepted or asked. One of a crate that no answer speaks of
--- is neither, nor is one that a later version of core has added where no answer speaks of that version.
+-- The impl is one of the original impls of `core`, or is of a crate with an answer. An impl that a later version of
+-- `core` adds is neither, unless an answer is about that version.
 abbrev pub IsOfAnAnsweredCrate : List View → ImplDecl → Type 0
 IsOfAnAnsweredCrate vs i = In i core_world.impls ⊎ ((v : View) × In v vs × (asker_in_set v ≡ i.home))
 
--- Crate c brings the pair together, by the numbers of its text: i is an own impl, j is one that it sees, and an earlier one if it is an
--- own one too.
+-- The pair is one that crate c brings together, with the numbers of its text: i is an impl of c, and j is one that c
+-- sees. If j is of c as well, it is an earlier one.
 pub record IsPair (V : World) (c : ℕ) (i j : ImplDecl) : Type 0 where
   pub stands : In i V.impls
   pub partner : In j V.impls

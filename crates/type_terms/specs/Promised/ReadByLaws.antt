@@ -1,4 +1,6 @@
--- What holds in every linked set. Each law stands on the contract of a function of its name.
+-- Two laws of functions that the rules compute with: `same`, the equality test of terms, and `impl_rules`, the rule
+-- instance of an impl. Functions of module `laws` prove them. With them, you can read the rules without these
+-- functions' definitions.
 use Rattle.std.specs.Prelude.{◌≡◌, ℕ, true, List, [], ◌⊎◌, ◌<◌, ◌∷◌}
 use Rattle.type_terms.specs.Codes.{same}
 use Rattle.type_terms.specs.Promised.Trees.{Trees, Fits, shift}
@@ -8,15 +10,19 @@ use Rattle.type_terms.specs.Promised.Proofs.{Every}
 use Rattle.type_terms.specs.Promised.Supers.{mentions_as}
 use Rattle.type_terms.specs.Promised.Label.{Sort}
 
--- Two trees pass the test exactly if they are one. So `same_reference` says that two references are one, and nothing less.
+-- `same` is true exactly if the terms are equal. So `same_reference` is the equality of trait references.
 abbrev pub SameIsEqual : Type 0
 SameIsEqual = (x y : Trees) → (same x y ≡ true → x ≡ y) × (x ≡ y → same x y ≡ true)
 
--- An impl gives no rule for r, or one: r is its header with arguments that fit, and the rule asks its where-clauses with them. And
--- whatever arguments fit and make its header r, its one rule is theirs. That is so where each parameter that it holds is below its
--- number of them and stands in its header, as the same sort, and where no binder number leads out of r. Texts keep both, up to lifetimes.
--- With `impl<T> Show for V<T> where T: Show`, `V<u8>: Show` has the rule that asks `u8: Show`, and `u8: Show` has none. Out: `impl<T> Show
--- for u8 where T: Show`, whose T no reference tells.
+-- The rule instance of an impl for r is what its declaration means:
+-- - Either there is none, or arguments fit the header's parameters and turn the header into r, and the premises are the
+--   where-clauses with these arguments.
+-- - Whatever arguments fit and turn the header into r, the one rule instance is the one with these arguments. This
+--   needs that each parameter of the impl is below their number and is in the header with the same kind, and that r has
+--   no bound variable of a binder outside of it. Texts ensure both, without lifetimes.
+-- For example, with `impl<T> Show for V<T> where T: Show`, `V<u8>: Show` has the rule with the premise `u8: Show`, and
+-- `u8: Show` has none. Ruled out by the condition: `impl<T> Show for u8 where T: Show`, whose T no trait reference
+-- determines.
 abbrev pub ImplRulesAreInstances : Type 0
 ImplRulesAreInstances =
     (r : Reference) (i : ImplDecl) → let its_rule : Trees → List Rule = λ A. record { way = by_impl i.name; premises = all_with_args A i.clauses } ∷ [] in

@@ -1,4 +1,4 @@
--- What a verdict on a crate promises. V is the view of the crate c, without lifetimes.
+-- What a verdict on a crate promises. V is the view of crate c, without lifetimes.
 use Rattle.std.specs.Prelude.{◌≡◌, ℕ, ◌≤◌, true, false, List, [], map, Some}
 use Rattle.type_terms.specs.Promised.Worlds.{World, Reference, ImplDecl, with_args}
 use Rattle.type_terms.specs.Promised.Proofs.{In, Every, HasElaboratedProof}
@@ -9,26 +9,27 @@ use Rattle.type_terms.specs.Promised.LinkedSet.{LinkedSet, Cleared, IsPair}
 use Rattle.type_terms.specs.Promised.OrphanErrors.{OrphanError, orphan_error}
 use Rattle.type_terms.specs.Promised.OpenedHeaders.{opened}
 
--- The view of c with the numbers of a set for its own.
+-- The view V of c, where ρ gives the numbers that a linked set has for those of the text.
 abbrev pub placed : World → ℕ → Renumbering → View
 placed V c ρ = record { numbers = ρ; asker = c; world = V }
 
--- P holds in each linked set in which c stands with this view, whatever numbers the set has for those of c's text. A set that
--- lists the auto traits of `dyn`s in another order than c's text is meant too: in the text's order it is a linked set as well.
+-- P holds of each linked set that has crate c with this view, by whatever numbers the set has for the text's. This
+-- includes sets that list the auto traits of a `dyn` in another order than the text, because such a set in the text's
+-- order is a linked set as well.
 abbrev pub InEverySetWith : World → ℕ → (World → Renumbering → Type 0) → Type 0
 InEverySetWith V c P = (W : World) (vs : List View) (rank : ℕ → ℕ) → LinkedSet W vs rank → (ρ : Renumbering) → HoldsView W (placed V c ρ) → P W ρ
 
--- The orphan rule (RFC 2451)
+-- Each impl of c keeps the orphan rule (RFC 2451).
 abbrev pub KeepsOrphanRule : World → ℕ → Type 0
 KeepsOrphanRule V c = (i : ImplDecl) → In i V.impls → i.home ≡ c → keeps_orphan_rule V c i.header ≡ true
 
--- i is one of c's impls, and its header breaks the rule.
+-- Impl i is of crate c, and its header breaks the orphan rule.
 pub record BreaksOrphanRule (V : World) (c : ℕ) (i : ImplDecl) : Type 0 where
   pub stands : In i V.impls
   pub own : i.home ≡ c
   pub breaks : keeps_orphan_rule V c i.header ≡ false
 
--- Number k is that of the first impl whose header breaks it, and e says why.
+-- Impl k is the first impl of c whose header breaks the orphan rule, and e is the reason.
 pub record IsFirstOrphan (V : World) (c k : ℕ) (e : OrphanError) : Type 0 where
   pub found : ImplDecl
   pub number : found.name ≡ k
@@ -36,18 +37,22 @@ pub record IsFirstOrphan (V : World) (c k : ℕ) (e : OrphanError) : Type 0 wher
   pub first : (i : ImplDecl) → BreaksOrphanRule V c i → k ≤ i.name
   pub error : orphan_error V c (opened found.header).args ≡ Some e
 
--- Overlap
--- At no closed common instance H holds of both lists of where-clauses.
+-- ---- overlap
+-- No common instance of the two impls satisfies both lists of where-clauses, where a clause is satisfied if H holds of
+-- it.
 abbrev pub ClausesNeverMeet : (Reference → Type 0) → ImplDecl → ImplDecl → Type 0
 ClausesNeverMeet H i j = (m : CommonInstance i j) → Every H (map (with_args m.left) i.clauses) → Every H (map (with_args m.right) j.clauses) → ⊥
 
--- No linked set with the view has a closed common instance of the pair with proofs of both lists of where-clauses; nor has the view
--- alone, by proofs that hold the supertraits of all that they conclude. The view is named since there are views that no linked set
--- holds: `trait Sup; trait Sub: Sup; impl Sub for u8`.
+-- No common instance of the pair has proofs of both lists of where-clauses:
+-- - in any linked set with this view, or
+-- - by elaborated proofs in the view alone.
+-- The second says more, because some views are in no linked set. For example, that of
+-- `trait Sup; trait Sub: Sup; impl Sub for u8`.
 abbrev pub IsCleared : World → ℕ → ImplDecl → ImplDecl → Type 0
 IsCleared V c i j = ClausesNeverMeet (HasElaboratedProof V []) i j × InEverySetWith V c (λ W ρ. Cleared W (renumbered_impl ρ i) (renumbered_impl ρ j))
 
--- k and j are the numbers of a pair that c brings together and that really overlaps. Others before it may have common instances too.
+-- Impls k and j are a pair that crate c brings together and that really overlaps. Earlier pairs may have common
+-- instances as well.
 pub record IsOverlap (limit : ℕ) (V : World) (c k j : ℕ) : Type 0 where
   pub later : ImplDecl
   pub earlier : ImplDecl
@@ -56,7 +61,8 @@ pub record IsOverlap (limit : ℕ) (V : World) (c k j : ℕ) : Type 0 where
   pub pair : IsPair V c later earlier
   pub real : IsRealOverlap limit V c later earlier
 
--- Verdicts
+-- ---- verdicts
+-- What is said of a crate: it is accepted, its impl breaks the orphan rule, or its impl overlaps an earlier one.
 pub data Verdict : Type 0 where
   accepted : Verdict
   orphan : ℕ → OrphanError → Verdict
@@ -67,7 +73,7 @@ pub record IsAccepted (V : World) (c : ℕ) : Type 0 where
   pub keeps : KeepsOrphanRule V c
   pub cleared : (i j : ImplDecl) → IsPair V c i j → IsCleared V c i j
 
--- All headers are judged before any pair.
+-- The verdict is right. The orphan rule is checked of all headers before any pair.
 abbrev pub IsVerdict : ℕ → World → ℕ → Verdict → Type 0
 IsVerdict limit V c accepted = IsAccepted V c
 IsVerdict limit V c (orphan k e) = IsFirstOrphan V c k e
