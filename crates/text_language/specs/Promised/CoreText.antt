@@ -1,4 +1,4 @@
--- The declarations before the first line of a text: `core` alone.
+-- What is declared before the first line of a text: the crate `core`.
 use Rattle.std.specs.Prelude.{false, ◌||◌, ◌==◌, nat_lt, if◌then◌else◌, [], ◌∷◌, map, take, zip, codes}
 use Rattle.std.specs.List.{slice_split}
 use Rattle.type_terms.specs.Promised.Label.{of_type, of_const, of_lifetime, ref, param}
@@ -8,8 +8,9 @@ use Rattle.type_terms.specs.Promised.Core.{core_world, type_param}
 use Rattle.type_terms.specs.Promised.Rules.{fn_once, asked}
 use Rattle.text_language.specs.Promised.Declarations.{Declarations, NamedImpl}
 
--- An impl of core with the names of its parameters: T, or T and the const N; or it is `<'a, T> &'a T`, number 15 for `Clone` and 35 for
--- `Copy`, for a text keeps lifetimes, which are erased in core's world.
+-- An impl of `core` with the names of its parameters: T, or T and the const N. The impl for references, number 15 for
+-- `Clone` and 35 for `Copy`, is `impl<'a, T> Clone for &'a T`: texts have lifetimes, whereas those of `core_world` are
+-- erased.
 abbrev pub core_impl : ImplDecl → NamedImpl
 core_impl i =
     let lent = tree (ref false) (tree (param of_lifetime 0) none (type_param 1)) none in
@@ -17,7 +18,8 @@ core_impl i =
     then record { params = (codes "a", of_lifetime) ∷ (codes "T", of_type) ∷ []; item = record i { header = asked i.header.trait lent } }
     else record { params = take i.params ((codes "T", of_type) ∷ (codes "N", of_const) ∷ []); item = i }
 
--- Core's world with names. The traits from `FnOnce` on have one parameter beside Self.
+-- The declarations of `core`, with names. Its traits `FnOnce`, `FnMut`, `Fn` and `Unsize` have one parameter in
+-- addition to Self. The other traits have none.
 abbrev pub core_declared : Declarations
 core_declared = record {
   crates = map (λ c. record { text = codes "core"; item = c }) core_world.crates;

@@ -1,4 +1,5 @@
--- How a line is written. Its bytes are cut into pieces, words and signs, and each piece passes the test that the grammar has for it.
+-- The grammar of a line. The bytes of a line are divided into pieces, which are words and signs. Each piece must pass
+-- the test that the grammar has for it.
 use Rattle.std.specs.Prelude.{◌≡◌, ℕ, Bool, true, not, ◌&&◌, ◌||◌, List, [], ◌∷◌, ◌++◌, map, zip, flat_map, slice_index, codes, ◌==◌, if◌then◌else◌}
 use Rattle.std.specs.Char.{is_ascii_alphabetic, is_ascii_alphanumeric, is_ascii_digit}
 use Rattle.std.specs.List.{AllZip, list_all, list_any, onto_first, range_with_len, slice_split}
@@ -12,49 +13,52 @@ use Rattle.text_language.specs.Promised.Syntax.{TypeTree, of_primitive, never_ty
 
 -- ---- the pieces of a line
 
--- letters, digits and _
+-- Letters, digits and `_`.
 abbrev pub is_word_part : ℕ → Bool
 is_word_part b = is_ascii_alphanumeric b || b == 95
 
--- Bytes side by side are in one piece within a word, where `'` or `?` stands before a word, and in `->`.
+-- Two adjacent bytes are of the same piece: within a word, after `'` or `?` before a word, and in `->`.
 abbrev pub in_one_piece : ℕ → ℕ → Bool
 in_one_piece b c = (is_word_part c && (is_word_part b || b == 39 || b == 63)) || (b == 45 && c == 62)
 
--- spaces are in no piece, and any other byte is one of its own
+-- The pieces of a line. Spaces are of no piece. Any other byte that is not part of a longer piece is a piece.
 abbrev pub pieces_of : List ℕ → List (List ℕ)
 pieces_of [] = []
 pieces_of (b ∷ bs) = if b == 32 then pieces_of bs else (if in_one_piece b (slice_index bs 0) then onto_first b (pieces_of bs) else (b ∷ []) ∷ pieces_of bs)
 
--- each primitive type by its name; integers are numbered by size, from 8 bits on, and the one of a pointer's size last
+-- The primitive types with their names. Integers are numbered by size, from 8 bits. The one with the size of a pointer
+-- is last.
 abbrev pub primitive_names : List (List ℕ × Label)
 primitive_names = zip (pieces_of (codes "bool char str i8 i16 i32 i64 i128 isize u8 u16 u32 u64 u128 usize"))
     (bool ∷ char ∷ str ∷ map int (range_with_len 0 6) ++ map uint (range_with_len 0 6))
 
--- words that are no names
+-- Words that are not names.
 abbrev pub reserved_words : List (List ℕ)
 reserved_words = map (λ p. p.0) primitive_names
     ++ pieces_of (codes "crate uses fundamental struct auto trait impl for where prove refute in later supers mut const fn dyn")
 
 -- ---- tests of pieces
 
--- a test for each of the pieces that stand side by side
+-- One test for each piece of a sequence.
 abbrev pub PieceTests : Type 0
 PieceTests = List (List ℕ → Bool)
 
--- the pieces of this text
+-- The pieces must be those of this text.
 abbrev pub literal : String → PieceTests
 literal text = map bytes_eq (pieces_of (codes text))
 
--- The name behind this mark: `'a` is a lifetime, `?x` a variable. A name begins with a letter or _, and is not reserved.
+-- The piece is the mark, followed by the name. For example, `'a` is a lifetime and `?x` is a variable. A name begins
+-- with a letter or `_`, and is not reserved.
 abbrev pub name_with : String → List ℕ → PieceTests
 name_with mark n =
     (λ p. bytes_eq p (codes mark ++ n) && (is_ascii_alphabetic (slice_index n 0) || slice_index n 0 == 95) && not (list_any (bytes_eq n) reserved_words)) ∷ []
 
--- digits that write this number
+-- The piece consists of digits, and its value is n.
 abbrev pub numeral : ℕ → PieceTests
 numeral n = (λ p. list_all is_ascii_digit p && digits_value 10 p == n) ∷ []
 
--- the parts with this before them, between each two, and behind them; nothing where there are no parts
+-- The parts with `before` in front of the first, `between` between each two, and `behind` after the last. If there are
+-- no parts, there are no pieces at all.
 abbrev pub enclosed : String → String → String → List PieceTests → PieceTests
 enclosed before between behind [] = []
 enclosed before between behind (p ∷ ps) = literal before ++ p ++ flat_map (λ q. literal between ++ q) ps ++ literal behind
@@ -91,24 +95,24 @@ abbrev mutual
       enclosed "for<" "," ">" (map (name_with "'") b) ++ literal "fn(" ++ enclosed "" "," "" (types_tests ts) ++ literal ")->" ++ type_tests r
   type_tests (dyn_of i is) = enclosed "dyn" "+" "" (item_tests i ∷ items_tests is)
 
-  -- The tests of each type.
+  -- The tests for each of the types.
   pub types_tests : Types → List PieceTests
   types_tests no_types = []
   types_tests (and_type t ts) = type_tests t ∷ types_tests ts
 
-  -- The tests of each argument: a lifetime, a number or a type.
+  -- The tests for each of the arguments: a lifetime, a number or a type.
   pub args_tests : Args → List PieceTests
   args_tests no_args = []
   args_tests (and_arg (lifetime_arg n) args) = name_with "'" n ∷ args_tests args
   args_tests (and_arg (number_arg n) args) = numeral n ∷ args_tests args
   args_tests (and_arg (type_arg t) args) = type_tests t ∷ args_tests args
 
-  -- The tests of one bound of a `dyn`: a trait with its arguments, or a lifetime.
+  -- The tests for one bound of a `dyn`: a trait with its arguments, or a lifetime.
   pub item_tests : Item → PieceTests
   item_tests (bound_item b n args) = enclosed "for<" "," ">" (map (name_with "'") b) ++ name_with "" n ++ enclosed "<" "," ">" (args_tests args)
   item_tests (lifetime_item n) = name_with "'" n
 
-  -- The tests of each bound of a `dyn`.
+  -- The tests for each of the bounds of a `dyn`.
   pub items_tests : DynBounds → List PieceTests
   items_tests no_items = []
   items_tests (and_item i is) = item_tests i ∷ items_tests is
@@ -118,7 +122,7 @@ abbrev mutual
 abbrev pub params_tests : Params → PieceTests
 params_tests p = enclosed "<" "," ">" (map (name_with "'") p.lifetimes ++ map (name_with "") p.types ++ map (λ n. literal "const" ++ name_with "" n) p.consts)
 
--- written as the type of the name and the arguments
+-- The tests for a bound. A bound has the syntax of a struct with arguments.
 abbrev pub bound_tests : Bound → PieceTests
 bound_tests b = type_tests (named b.trait b.args)
 
@@ -147,10 +151,10 @@ line_tests (refute_line c ps a) = literal "refute in" ++ name_with "" c ++ param
 line_tests (later_line n) = literal "later" ++ name_with "" n
 line_tests (supers_line n) = literal "supers in" ++ name_with "" n
 
--- the bytes say the line: as many pieces as tests, and each passes its own
+-- The bytes are this line: there are as many pieces as tests, and each piece passes its test.
 abbrev pub BytesSay : List ℕ → Line → Type 0
 BytesSay bytes l = AllZip (λ test piece. test piece ≡ true) (line_tests l) (pieces_of bytes)
 
--- the lines of a text, without their ends
+-- The lines of a text, without the newline.
 abbrev pub text_lines : List ℕ → List (List ℕ)
 text_lines bytes = slice_split (λ b. b == 10) bytes

@@ -1,6 +1,6 @@
--- What a line without a fault adds to the declarations. Its names are looked up in the declarations before it, with the struct or trait that it
--- declares itself. As it has no fault, a name stands for what its place needs, with as many arguments as it has parameters; what the
--- definitions give otherwise says nothing.
+-- What a line without a fault adds to the declarations. Its names are looked up in the declarations before it, and in
+-- the struct or trait that it declares itself. Since the line has no fault, each name is of the kind that its position
+-- needs, and has as many arguments as parameters. For a line with a fault the definitions mean nothing.
 use Rattle.std.specs.Prelude.{ℕ, suc, ◌-◌, Bool, true, false, ◌&&◌, if◌then◌else◌, nat_lt, List, [], ◌∷◌, ◌++◌, map, filter, length, position, Option, option_map, unwrap_or}
 use Rattle.std.specs.List.{position_or_len, fold, list_any}
 use Rattle.std.specs.Option.{option_map_or}
@@ -16,39 +16,44 @@ use Rattle.text_language.specs.Promised.LineFaults.{variables_among}
 use Rattle.text_language.specs.Promised.Mentions.{clause_mentions}
 
 -- ---- names
--- the number of a crate, a struct or a trait, and the kinds of its parameters
+-- The number of the crate, struct or trait with this name, and the kinds of its parameters.
 abbrev pub means : Declarations → List ℕ → ℕ × List Sort
 means d n = option_map_or (λ k. elim k [ a_crate i ↦ (i, []) | a_struct i h kinds ↦ (i, kinds) | a_trait i h a kinds ↦ (i, kinds) ]) (known d n) (0, [])
 
--- parameters with their kinds, by number: lifetimes, types, consts
+-- The parameters with their kinds, by number: lifetimes, then types, then constants.
 abbrev pub named_params : Params → List (List ℕ × Sort)
 named_params ps = map (λ n. (n, of_lifetime)) ps.lifetimes ++ map (λ n. (n, of_type)) ps.types ++ map (λ n. (n, of_const)) ps.consts
 
--- the parameter of this kind and name, if there is one: a label by its kind and number
+-- The label of the parameter with this name and kind, if there is one.
 abbrev pub own_param : Params → (Sort → ℕ → Label) → Sort → List ℕ → Option Label
 own_param ps label p n = option_map (label p) (position (λ v. bytes_eq v.0 n && is_sort v.1 p) (named_params ps))
 
--- the variable of this kind and name: those of a kind are counted from 0
+-- The label of the variable with this name and kind. Variables of each kind are numbered from 0.
 abbrev pub variable_meaning : List Variable → Sort → List ℕ → Label
 variable_meaning vs p n = infer p (position_or_len (λ v. bytes_eq v.text n) (filter (λ v. is_sort v.kind p) vs))
 
--- a lifetime under binders, of which the first is k further out; what is neither bound nor a parameter is `'static`
+-- The label of a lifetime below these binders, the first of which has the number k. A lifetime that is neither bound
+-- nor a parameter is `'static`.
 abbrev pub life_label : (Sort → List ℕ → Option Label) → ℕ → List (List (List ℕ)) → List ℕ → Label
 life_label own k [] n = unwrap_or (own of_lifetime n) static
 life_label own k (b ∷ s) n = option_map_or (bound of_lifetime k) (position (λ m. bytes_eq m n) b) (life_label own (suc k) s n)
 
--- ---- types, as trees
--- Names are looked up in d, those of the line's own parameters by `own`; vs are the variables in the order of their first places; and s are the
--- binders around, innermost first.
--- What is behind the principal of a `dyn`: the auto traits in the order of their numbers, each once, of which there are ns so far; and the
--- lifetime, `'static` if none is written.
+-- ---- types, as terms
+-- In what follows:
+-- - d has the declarations in which names are looked up.
+-- - `own` gives the labels of the line's own parameters.
+-- - vs are the variables, in the order in which they first occur.
+-- - s are the binders around, the innermost first.
+-- The bounds of a `dyn` after its principal: its auto traits by their numbers, each once, and the lifetime, which is
+-- `'static` unless one is written. ns are the auto traits so far.
 abbrev pub dyn_end : Declarations → (Sort → List ℕ → Option Label) → List (List (List ℕ)) → List ℕ → DynBounds → Trees
 dyn_end d own s ns no_items = together (map (λ i. leaf (auto_trait i)) ns) +++ leaf static
 dyn_end d own s ns (and_item (lifetime_item n) is) = together (map (λ i. leaf (auto_trait i)) ns) +++ leaf (life_label own 0 s n)
 dyn_end d own s ns (and_item (bound_item b n a) is) = let i = (means d n).0 in dyn_end d own s (filter (λ m. nat_lt m i) ns ++ i ∷ filter (nat_lt i) ns) is
 
 abbrev mutual
-  -- At a place of kind p. An omitted lifetime is `'static`. The last line is `!`, for a `dyn` does not begin with a lifetime.
+  -- The term of a type at a position of kind p. An omitted lifetime is `'static`. The last line gives `!`, because no
+  -- `dyn` begins with a lifetime.
   pub as_tree : Declarations → (Sort → List ℕ → Option Label) → List Variable → List (List (List ℕ)) → Sort → TypeTree → Trees
   as_tree d own vs s p (of_primitive x) = leaf x
   as_tree d own vs s p (variable_type n) = leaf (variable_meaning vs p n)
@@ -67,41 +72,42 @@ abbrev mutual
       else tree (principal (length b) (means d n).0) (as_args d own vs (b ∷ s) (means d n).1 args) (dyn_end d own s [] is)) none
   as_tree d own vs s p _ = leaf never
 
-  -- The terms of the types, in their order.
+  -- The terms of the types, in order.
   pub as_trees : Declarations → (Sort → List ℕ → Option Label) → List Variable → List (List (List ℕ)) → Types → List Trees
   as_trees d own vs s no_types = []
   as_trees d own vs s (and_type t ts) = as_tree d own vs s of_type t ∷ as_trees d own vs s ts
 
-  -- arguments for parameters of these kinds
+  -- The terms of the arguments, for parameters of these kinds.
   pub as_args : Declarations → (Sort → List ℕ → Option Label) → List Variable → List (List (List ℕ)) → List Sort → Args → Trees
   as_args d own vs s (k ∷ ks) (and_arg (type_arg t) args) = as_tree d own vs s k t +++ as_args d own vs s ks args
   as_args d own vs s (k ∷ ks) (and_arg (lifetime_arg n) args) = tree (life_label own 0 s n) none (as_args d own vs s ks args)
   as_args d own vs s (k ∷ ks) (and_arg (number_arg n) args) = tree (value n) none (as_args d own vs s ks args)
   as_args d own vs s _ _ = none
 
--- ---- references
--- a bound of a type
+-- ---- trait references
+-- The trait reference of a bound for this self type.
 abbrev pub bound_meaning : Declarations → (Sort → List ℕ → Option Label) → List Variable → Trees → Bound → Reference
 bound_meaning d own vs self b = record { trait = (means d b.trait).0; args = self +++ as_args d own vs [] (means d b.trait).1 b.args }
 
--- The trait reference of a where-clause: its bound, with its subject as the self type.
+-- The trait reference of a where-clause.
 abbrev pub clause_meaning : Declarations → (Sort → List ℕ → Option Label) → List Variable → Clause → Reference
 clause_meaning d own vs k = bound_meaning d own vs (as_tree d own vs [] of_type k.subject) k.bound
 
 -- ---- lines
--- a struct with these fields
+-- The declarations with a struct that has these fields.
 abbrev pub struct_added : Declarations → Bool → List ℕ → Params → List Trees → Declarations
 struct_added d f n ps ts =
     let item : StructDecl = record { name = length d.structs; home = last_crate d; is_fundamental = f; fields = ts } in
     record d { structs = d.structs ++ record { text = n; kinds = map (λ v. v.1) (named_params ps); item = item } ∷ [] }
 
--- a trait with these bounds
+-- The declarations with a trait that has these bounds.
 abbrev pub trait_added : Declarations → Bool → Bool → List ℕ → Params → List Reference → Declarations
 trait_added d f a n ps rs =
     let item : TraitDecl = record { name = length d.traits; home = last_crate d; is_fundamental = f; is_auto = a; bounds = rs } in
     record d { traits = d.traits ++ record { text = n; kinds = map (λ v. v.1) (named_params ps); item = item } ∷ [] }
 
--- A question. Its parameters stand for themselves; its variables are those of the asked clause, each once, by its first place.
+-- The declarations with a query. Its parameters are placeholders. Its variables are those of its bound, each once, in
+-- the order in which they first occur.
 abbrev pub question_added : Declarations → Bool → List ℕ → Params → Clause → List Clause → Declarations
 question_added d r c ps a ks =
     let named : List (List ℕ × Sort) = variables_among (clause_mentions d a) in
@@ -118,7 +124,10 @@ question_added d r c ps a ks =
       } ∷ [];
     }
 
--- Parameter 0 of a trait is Self. A `crate` line ends a section, and so does a `later` line. In a section impls are numbered from 0.
+-- The declarations with a line:
+-- - Parameter 0 of a trait is Self.
+-- - A section ends at a `crate` line and at a `later` line.
+-- - The impls of each section are numbered from 0.
 abbrev pub with_line : Declarations → Line → Declarations
 with_line d (crate_line n us) =
     record d { crates = d.crates ++ record { text = n; item = record { name = length d.crates; uses = map (λ u. (means d u).0) us } } ∷ []; in_section = false }

@@ -1,4 +1,5 @@
--- What a line mentions: names, lifetimes, variables, lists, types, each with what has to be known to judge it, from left to right.
+-- What a line mentions, from left to right: names, lifetimes, variables, lists and types, each with what a test for
+-- faults needs.
 use Rattle.std.specs.Prelude.{ℕ, suc, List, [], ◌∷◌, ◌++◌, map, length, drop, slice_index_or}
 use Rattle.std.specs.List.{flat_map}
 use Rattle.std.specs.Option.{option_to_list, option_map_or}
@@ -6,32 +7,33 @@ use Rattle.type_terms.specs.Promised.Label.{Sort, of_type, of_const, of_lifetime
 use Rattle.text_language.specs.Promised.Syntax.{TypeTree, variable_type, named, reference_to, pointer_to, slice_of, array_of, tuple_of, fn_of, fn_to, dyn_of, Types, no_types, and_type, Args, no_args, and_arg, Arg, lifetime_arg, number_arg, type_arg, Item, bound_item, lifetime_item, DynBounds, no_items, and_item, number_length, name_length, variable_length, Params, Bound, Clause, Line, crate_line, struct_line, trait_line, impl_line, prove_line, refute_line, later_line, supers_line}
 use Rattle.text_language.specs.Promised.Declarations.{Declarations, a_struct, a_trait, known}
 
--- What a line mentions, with what is needed to judge it.
+-- One thing that a line mentions.
 pub data Mention : Type 0 where
-  -- a crate's name
+  -- The name of a crate.
   crate_mention : List ℕ → Mention
-  -- a name with its number of arguments, where a type or a const has to stand
+  -- A name with its number of arguments, at the position of a type or a constant.
   name_mention : (place : Sort) (name : List ℕ) (arguments : ℕ) → Mention
-  -- a bound's name with its number of arguments
+  -- The name of a trait with its number of arguments.
   trait_mention : (name : List ℕ) (arguments : ℕ) → Mention
-  -- a lifetime under these binders, innermost first
+  -- A lifetime below these binders, the innermost first.
   lifetime_mention : (scope : List (List (List ℕ))) → List ℕ → Mention
-  -- a binder under these; it may bind nothing
+  -- A binder below these. It may bind nothing.
   binder_mention : (scope : List (List (List ℕ))) → List (List ℕ) → Mention
-  -- a variable, where a type or a const has to stand
+  -- A variable, at the position of a type or a constant.
   variable_mention : (place : Sort) → List ℕ → Mention
-  -- an argument that can't be of the kind of its place, whatever names stand for
+  -- An argument that is not of the kind that its position needs, whatever its names mean.
   misfit_mention : Mention
-  -- a `dyn` with its items
+  -- A `dyn` with its bounds.
   dyn_mention : List Item → Mention
-  -- the number of items of a tuple, or of inputs of a fn; a number; how deep a type stands among types, 1 where it stands alone
+  -- In this order: the number of items of a tuple, or of inputs of a fn; a number; and the depth of a type, which is 1
+  -- if it is in no other.
   list_mention number_mention type_mention : ℕ → Mention
 
--- the kinds of a struct's and of a trait's parameters
+-- The kinds of the parameters of the struct with this name. There are none if it is not declared.
 abbrev pub struct_kinds : Declarations → List ℕ → List Sort
 struct_kinds d n = option_map_or (λ w. elim w [ a_struct i h kinds ↦ kinds | _ ↦ [] ]) (known d n) []
 
--- The kinds of the parameters of the trait with this name. A trait that is not declared has none.
+-- The kinds of the parameters of the trait with this name. There are none if it is not declared.
 abbrev pub trait_kinds : Declarations → List ℕ → List Sort
 trait_kinds d n = option_map_or (λ w. elim w [ a_trait i h a kinds ↦ kinds | _ ↦ [] ]) (known d n) []
 
@@ -40,12 +42,13 @@ abbrev pub item_list : DynBounds → List Item
 item_list no_items = []
 item_list (and_item i is) = i ∷ item_list is
 
--- what the parts of something mention, behind the mention that has their number
+-- What the parts mention, after the mention of what they are parts of, which depends on their number.
 abbrev pub led_by : (ℕ → Mention) → List (List Mention) → List Mention
 led_by head parts = head (length parts) ∷ flat_map (λ p. p) parts
 
--- What stands inside a type at a place of kind p, under the binders s; the types in it stand k deep. Each `fn` and each bound of a `dyn`
--- is a binder. Where a head has fewer parameters than arguments the line has a fault, and the kind of their places decides nothing.
+-- What a type mentions at a position of kind p, below the binders s. The types in it have depth k. Each `fn` and each
+-- bound of a `dyn` is a binder. Arguments in excess of the parameters have an arbitrary kind, because the line then has
+-- a fault.
 abbrev mutual
   pub type_mentions : Declarations → List (List (List ℕ)) → ℕ → Sort → TypeTree → List Mention
   type_mentions d s k p (variable_type n) = variable_mention p n ∷ []
@@ -63,17 +66,17 @@ abbrev mutual
   type_mentions d s k p (dyn_of i is) = dyn_mention (i ∷ item_list is) ∷ (item_mentions d s k i ++ items_mentions d s k is)
   type_mentions d s k p _ = []
 
-  -- What each type mentions.
+  -- What each of the types mentions.
   pub types_mentions : Declarations → List (List (List ℕ)) → ℕ → Types → List (List Mention)
   types_mentions d s k no_types = []
   types_mentions d s k (and_type t ts) = (type_mention k ∷ type_mentions d s (suc k) of_type t) ∷ types_mentions d s k ts
 
-  -- arguments for parameters of these kinds
+  -- What each of the arguments mentions, for parameters of these kinds.
   pub args_mentions : Declarations → List (List (List ℕ)) → ℕ → List Sort → Args → List (List Mention)
   args_mentions d s k kinds no_args = []
   args_mentions d s k kinds (and_arg a args) = arg_mentions d s k (slice_index_or kinds 0 of_type) a ∷ args_mentions d s k (drop 1 kinds) args
 
-  -- a name alone or a variable may be a const
+  -- What an argument mentions. A name without arguments and a variable may be a constant.
   pub arg_mentions : Declarations → List (List (List ℕ)) → ℕ → Sort → Arg → List Mention
   arg_mentions d s k of_lifetime (lifetime_arg n) = lifetime_mention s n ∷ []
   arg_mentions d s k of_type (type_arg t) = type_mention k ∷ type_mentions d s (suc k) of_type t
@@ -98,15 +101,15 @@ abbrev mutual
 abbrev pub bound_mentions : Declarations → Bound → List Mention
 bound_mentions d b = led_by (trait_mention b.trait) (args_mentions d [] 1 (trait_kinds d b.trait) b.args)
 
--- `type: bound`, as it is written in a clause and in a question
+-- What `type: bound` mentions, in a where-clause or in a query.
 abbrev pub clause_mentions : Declarations → Clause → List Mention
 clause_mentions d k = type_mention 1 ∷ (type_mentions d [] 2 of_type k.subject ++ bound_mentions d k.bound)
 
--- `bound for type`
+-- What `bound for type` mentions.
 abbrev pub header_mentions : Declarations → Clause → List Mention
 header_mentions d h = bound_mentions d h.bound ++ type_mention 1 ∷ type_mentions d [] 2 of_type h.subject
 
--- what a line mentions, parameters aside; names are looked up in d
+-- What a line mentions, without its parameters. Names are looked up in d.
 abbrev pub line_mentions : Declarations → Line → List Mention
 line_mentions d (crate_line n us) = map crate_mention us
 line_mentions d (struct_line f n ps fs) = flat_map (λ m. m) (types_mentions d [] 1 fs)
@@ -117,7 +120,7 @@ line_mentions d (refute_line c ps a) = crate_mention c ∷ clause_mentions d a
 line_mentions d (later_line n) = crate_mention n ∷ []
 line_mentions d (supers_line n) = crate_mention n ∷ []
 
--- those of the asked reference of a question
+-- What the bound of a query mentions. Other lines have none.
 abbrev pub asked_mentions : Declarations → Line → List Mention
 asked_mentions d (prove_line c ps a ks) = clause_mentions d a
 asked_mentions d (refute_line c ps a) = clause_mentions d a

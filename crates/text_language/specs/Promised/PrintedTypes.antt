@@ -1,4 +1,4 @@
--- How types, consts and the values of a question's variables are printed.
+-- How types, constants and the values of a query's variables are printed.
 use Rattle.std.specs.Prelude.{ℕ, ◌-◌, min, Bool, false, not, List, [], ◌∷◌, ◌++◌, map, filter, find, fold, length, take, drop, zip, scan, flat_map, count_by, slice_get, unwrap_or, codes, ◌==◌, ◌||◌, if◌then◌else◌}
 use Rattle.std.specs.Fmt.{decimal}
 use Rattle.std.specs.List.{join_by, list_any, range_with_len}
@@ -9,26 +9,27 @@ use Rattle.type_terms.specs.Codes.{same, same_label}
 use Rattle.text_language.specs.Promised.Declarations.{Declarations, Question}
 use Rattle.text_language.specs.Promised.Grammar.{primitive_names}
 
--- the text of a primitive type, of `!`, or of an unknown with one of these names; other labels have none
+-- The text of a primitive type, of `!`, or of a variable with one of these names. It is empty for other labels.
 abbrev pub label_text : List (List ℕ × Label) → Label → List ℕ
 label_text names l = option_map_or (λ n. n.0) (find (λ n. same_label n.1 l) ((codes "!", never) ∷ primitive_names ++ names)) []
 
--- the arguments of a struct or a trait, if it has any
+-- The arguments of a struct or trait in `<` and `>`. It is empty if there are none.
 abbrev pub angle_list : List (List ℕ) → List ℕ
 angle_list ts = if length ts == 0 then [] else codes "<" ++ join_by (λ t. t) (codes ", ") ts ++ codes ">"
 
--- the last text
+-- The last of the texts.
 abbrev pub final_text : List (List ℕ) → List ℕ
 final_text ts = fold (λ _ t. t) [] ts
 
--- the last tree is `()`
+-- The last term is `()`.
 abbrev pub has_unit_last : Trees → Bool
 has_unit_last none = false
 has_unit_last (tree l c o) = same (tree l c o) (leaf tuple) || has_unit_last o
 
 module _ (d : Declarations) (params : List (List ℕ)) (names : List (List ℕ × Label)) where
-  -- A node with its children and their texts, where the parameters of a question and unknowns have names. `-> ()` of a fn is left out.
-  -- A size of integers past the last one is printed as the last.
+  -- The text of a node, where c are its children and ts are the texts of these. Parameters of the query and variables
+  -- have names. The output of a fn is omitted if it is `()`. An integer larger than the largest is printed as the
+  -- largest.
   abbrev pub printed_node : Label → Trees → List (List ℕ) → List ℕ
   printed_node (int n) c ts = label_text names (int (min n 5))
   printed_node (uint n) c ts = label_text names (uint (min n 5))
@@ -47,25 +48,25 @@ module _ (d : Declarations) (params : List (List ℕ)) (names : List (List ℕ �
       codes "fn(" ++ join_by (λ t. t) (codes ", ") (take (length ts - 1) ts) ++ codes ")" ++ (if has_unit_last c then [] else codes " -> " ++ final_text ts)
   printed_node l c ts = label_text names l
 
-  -- the texts of trees, one after the other, lifetimes left out
+  -- The texts of the terms, in order, without lifetimes.
   abbrev pub printed_trees : Trees → List (List ℕ)
   printed_trees none = []
   printed_trees (tree l c o) = if is_sort (sort_of l) of_lifetime then printed_trees o else printed_node l c (printed_trees c) ∷ printed_trees o
 
--- The unknowns that stand for variables of these kinds, in their order. Those of one kind are counted from 0;
--- lifetimes, which are not printed, are not counted.
+-- The inference variables for variables of these kinds, in order. Those of each kind are numbered from 0. Lifetimes are
+-- not printed and not counted.
 abbrev pub counted_unknowns : List Sort → List Label
 counted_unknowns ss = scan (λ before s. if is_sort s of_lifetime then before else s ∷ before) (λ before s. infer s (count_by (is_sort s) before)) [] ss
 
--- the unknowns in trees, in their order
+-- The inference variables in the terms, in order.
 abbrev pub unknowns_within : Trees → List Label
 unknowns_within none = []
 unknowns_within (tree (infer s i) c o) = infer s i ∷ unknowns_within o
 unknowns_within (tree l c o) = unknowns_within c ++ unknowns_within o
 
--- What stands behind `prove K: yes`, with these terms for the variables of the question: ` ?x = T, ?y = U`, for the variables with a
--- value other than the unknown that stands for them. These unknowns have the names of their variables, and further ones are ?1, ?2 ..
--- by their first places in the line.
+-- The text after `prove K: yes`, with these values for the variables of the query: ` ?x = T, ?y = U`. A variable is
+-- omitted if its value is its own inference variable. In values, these inference variables have the names of their
+-- variables. Further ones are ?1, ?2 and so on, in the order in which they first occur in the line.
 abbrev pub yes_values_text : Declarations → Question → List Trees → List ℕ
 yes_values_text d q ts =
     let own = counted_unknowns (map (λ v. v.kind) q.variables) in

@@ -1,18 +1,19 @@
--- What a line says, and the one way to write it: the grammar.
+-- The syntax of lines, as data. The grammar gives exactly one way to write each.
 use Rattle.std.specs.Prelude.{ℕ, Bool, List, Option}
 use Rattle.type_terms.specs.Promised.Label.{Label}
 use Rattle.text_language.specs.Tokens.{name}
 
 -- ---- types
 
--- the length of an array: a number, a parameter's name, or a variable
+-- The length of an array: a number, the name of a parameter, or a variable.
 pub data Length : Type 0 where
   number_length : ℕ → Length
   name_length variable_length : List ℕ → Length
 
--- A type as it is written. Names are their bytes, and nothing is looked up here. What may be omitted is omitted in the tree too:
--- a lifetime, the output of a fn. A binder is the names between `for<` and `>`, or none. A name alone at an argument's place is
--- a type here, and so is a variable; they stand for a const where the declared parameter is one.
+-- A type as it is written. A name is a list of bytes, and is not looked up. What the text omits, the data omits as
+-- well: a lifetime, or the output of a fn. A binder is the list of names in `for<'a, 'b>`. It is empty if there is
+-- none. An argument that is just a name or a variable is a type here. It means a constant if the declared parameter is
+-- one.
 mutual
   pub data TypeTree : Type 0 where
     of_primitive : Label → TypeTree
@@ -33,7 +34,7 @@ mutual
     no_types : Types
     and_type : TypeTree → Types → Types
 
-  -- the arguments between `<` and `>`; none: there are no such signs
+  -- The arguments between `<` and `>`. If there are none, these signs are not written.
   pub data Args : Type 0 where
     no_args : Args
     and_arg : Arg → Args → Args
@@ -44,7 +45,7 @@ mutual
     number_arg : ℕ → Arg
     type_arg : TypeTree → Arg
 
-  -- A bound of a `dyn`: a trait with its arguments, perhaps under `for<..>`, or a lifetime.
+  -- A bound of a `dyn`: a trait with its arguments, possibly under a binder, or a lifetime.
   pub data Item : Type 0 where
     bound_item : (binder : List (List ℕ)) (name : List ℕ) → Args → Item
     lifetime_item : List ℕ → Item
@@ -56,7 +57,7 @@ mutual
 
 -- ---- parts of lines
 
--- parameters in their order; another order has no tree
+-- The parameters: lifetimes, then types, then constants. No other order can be written.
 pub record Params : Type 0 where
   pub lifetimes : List (List ℕ)
   pub types : List (List ℕ)
@@ -67,7 +68,7 @@ pub record Bound : Type 0 where
   pub trait : List ℕ
   pub args : Args
 
--- `type: bound`
+-- `type: bound`.
 pub record Clause : Type 0 where
   pub subject : TypeTree
   pub bound : Bound

@@ -1,4 +1,4 @@
--- A whole text: what its lines give, one after the other.
+-- The meaning of a whole text: what its lines declare, one after the other.
 use Rattle.std.specs.Prelude.{◌≡◌, ℕ, suc, ◌<◌, ◌≤◌, true, false, List, [], ◌∷◌, length, Result, Ok, Err}
 use Rattle.std.specs.Option.{option_map_or}
 use Rattle.text_language.specs.Promised.Declarations.{Declarations}
@@ -10,23 +10,23 @@ use Rattle.text_language.specs.Promised.Grammar.{BytesSay, text_lines}
 use Rattle.text_language.specs.Promised.LineFaults.{line_fault}
 use Rattle.text_language.specs.Promised.LineMeanings.{with_line}
 
--- What a line gives after the declarations of the lines before it: declarations, or the number of a fault. 1: it holds another byte than
--- ASCII's; 2: no way to write a line is this one.
+-- The meaning of a line, with the declarations of the lines before it: declarations, or the number of a fault. Fault 1:
+-- it has a byte that is not ASCII. Fault 2: it does not follow the grammar.
 pub data LineSays (d : Declarations) (line : List ℕ) : Result Declarations ℕ → Type 0 where
   has_other_byte : is_ascii line ≡ false → LineSays d line (Err 1)
   says_blank : is_ascii line ≡ true → is_blank line ≡ true → LineSays d line (Ok d)
   says_no_line : is_ascii line ≡ true → is_blank line ≡ false → ((l : Line) → BytesSay line l → ⊥) → LineSays d line (Err 2)
   says_line : (l : Line) → is_ascii line ≡ true → is_blank line ≡ false → BytesSay line l → LineSays d line (option_map_or (λ n. Err n) (line_fault d l) (Ok (with_line d l)))
 
--- What the lines give, the first of them number k: declarations, or the first faulty line with its number.
+-- The meaning of the lines, the first of which has number k: declarations, or the first faulty line with its fault.
 pub data LinesSay : Declarations → ℕ → List (List ℕ) → Result Declarations (ℕ × ℕ) → Type 0 where
   text_ends : (d : Declarations) (k : ℕ) → LinesSay d k [] (Ok d)
   line_fails : (d : Declarations) (k n : ℕ) (l : List ℕ) (ls : List (List ℕ)) → LineSays d l (Err n) → LinesSay d k (l ∷ ls) (Err (k, n))
   lines_follow : (d e : Declarations) (k : ℕ) (l : List ℕ) (ls : List (List ℕ)) (r : Result Declarations (ℕ × ℕ)) → LineSays d l (Ok e) → LinesSay e (suc k) ls r
       → LinesSay d k (l ∷ ls) r
 
--- What a text gives: declarations, or the first faulty line with the smallest number that applies. A text of more than 1 MiB has fault 16
--- at the line that holds the first byte too many.
+-- The meaning of a text: declarations, or the first faulty line with the smallest fault that applies. A text of more
+-- than 1 MiB has fault 16, on the line with the first byte that exceeds the limit.
 pub data TextSays (bytes : List ℕ) : Result Declarations (ℕ × ℕ) → Type 0 where
   overlong : text_limit < length bytes → TextSays bytes (Err (long_line bytes, 16))
   of_lines : (r : Result Declarations (ℕ × ℕ)) → length bytes ≤ text_limit → LinesSay core_declared 1 (text_lines bytes) r → TextSays bytes r
