@@ -9,24 +9,24 @@ use crate::number::DebruijnIndex;
 
 /// The binders around a node of a term, the innermost first, each with the number of lifetimes that it binds.
 ///
-/// A walk keeps them in its own recursion and lends them, so that nothing grows.
+/// A traversal stores them in its stack frames and passes references to them, so that it needs no memory.
 #[derive(Clone, Copy)]
 pub enum Binders<'a> {
-    /// No binder is around the node.
+    /// There is no binder around the node.
     Outermost,
-    /// A binder of so many lifetimes, and the binders around it.
+    /// A binder of this number of lifetimes, and the binders around it.
     Inside(u32, &'a Binders<'a>),
-    /// So many binders, each of no lifetime: for a folder, to which their number alone matters.
+    /// This number of binders, each of no lifetime. A fold uses them, because only the number of binders matters there.
     Empty(u32),
-    /// Binders listed by how many lifetimes they bind, the innermost last, and the binders around them: for a visit off a
-    /// list in memory.
+    /// A list of binders, by how many lifetimes they bind, the innermost last, and the binders around them. A visit
+    /// uses it that has a list in memory.
     Listed(&'a [u32], &'a Binders<'a>),
 }
 
 impl Binders<'_> {
-    /// How many binders there are, `MAX_INDEX` standing for more.
+    /// The number of binders, at most `MAX_INDEX`.
     ///
-    /// No number of a binder in a term is greater, so that none leads out of more binders than that.
+    /// No binder number in a term is greater, so that none refers outside of more binders than that.
     pub fn depth(&self) -> DebruijnIndex
         ensures { result.index ≡ min (length (counts_of self.now)) MAX_INDEX }
     {
@@ -55,7 +55,7 @@ impl Binders<'_> {
         }
     }
 
-    /// How many lifetimes the binder with this number binds, if there is one.
+    /// The number of lifetimes that the binder with this number binds, if there is one.
     pub fn count(&self, binder: DebruijnIndex) -> Option<u32>
         ensures { result ≡ slice_get (counts_of self.now) binder.index }
     {

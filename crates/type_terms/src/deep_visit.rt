@@ -1,7 +1,8 @@
-//! Deep terms visited off a list in memory.
+//! Visits of deep terms, by a list in memory.
 //!
-//! What is still to be visited is a list, and so are the binders around what comes next: so no visit of a deep term recurses
-//! on its depth. A visit cannot fail for want of memory: where the list cannot grow, the part is visited by recursion.
+//! The list has what is still to be visited, and another one has the binders around what comes next. So a visit of a
+//! deep term does not recurse on its depth. A visit cannot fail if memory is refused: if the list cannot grow, the part
+//! is visited by recursion.
 ghost use Rattle.std.specs.Prelude.{◌≡◌, [], ◌∷◌, MatchResult};
 ghost use Rattle.std.specs.ControlFlow.{break_value};
 ghost use Rattle.type_terms.specs.Promised.Handles.{Has, types, trees_at};
@@ -19,7 +20,7 @@ use crate::visit_walk::{see_arg, see_below, see_bounds, see_ty};
 use std::alloc::{AllocError, Global};
 use std::ops::ControlFlow;
 
-/// Terms that are visited one after the other.
+/// Terms to visit, one after the other.
 #[derive(Clone, Copy)]
 pub(crate) enum Part<'a> {
     Arg(GenericArgKind),
@@ -36,17 +37,17 @@ pub(crate) enum Pending<'a> {
     Leave,
 }
 
-/// Where a visit stands.
+/// The state of a visit.
 #[derive(Drop)]
 pub(crate) struct Path<'a> {
-    /// How many lifetimes the binders bind that were entered, the innermost last.
+    /// The number of lifetimes of each entered binder, the innermost last.
     pub counts: Vec<u32>,
     /// What is to be visited, the next last.
     pub todo: Vec<Pending<'a>>,
 }
 
 impl<'a> Path<'a> {
-    /// Nothing is to be visited.
+    /// A visit with nothing to visit.
     fn new(alloc: Global) -> Path<'a>
         ensures inside { inside result ≡ [] }
         ensures ahead { ahead result ≡ [] }
@@ -57,7 +58,7 @@ impl<'a> Path<'a> {
         }
     }
 
-    /// The part is to be visited next.
+    /// Adds the part, which is visited next.
     fn push(&mut self, part: Part<'a>) -> Result<(), AllocError>
         ensures inside { inside self.new ≡ inside self.old }
         ensures ahead { MatchResult result (λ _. ahead self.new ≡ Pending.Visit part.entry ∷ ahead self.old) (λ _. ahead self.new ≡ ahead self.old) }
@@ -65,7 +66,7 @@ impl<'a> Path<'a> {
         self.todo.extend_from_slice(&[Pending::Visit(part)])
     }
 
-    /// The one part is to be visited next, and then the other.
+    /// Adds the two parts, which are visited next, in this order.
     fn push_both(&mut self, first: Part<'a>, second: Part<'a>) -> Result<(), AllocError>
         ensures inside { inside self.new ≡ inside self.old }
         ensures ahead { MatchResult result (λ _. ahead self.new ≡ Pending.Visit first.entry ∷ Pending.Visit second.entry ∷ ahead self.old) (λ _. ahead self.new ≡ ahead self.old) }
@@ -74,7 +75,7 @@ impl<'a> Path<'a> {
             .extend_from_slice(&[Pending::Visit(second), Pending::Visit(first)])
     }
 
-    /// The part is to be visited next, under one more binder.
+    /// Adds the part, which is visited next, below one more binder.
     fn push_bound(&mut self, count: u32, part: Part<'a>) -> Result<(), AllocError>
         ensures inside { MatchResult result (λ _. inside self.new ≡ count ∷ inside self.old) (λ _. inside self.new ≡ inside self.old) }
         ensures ahead { MatchResult result (λ _. ahead self.new ≡ Pending.Visit part.entry ∷ Pending.Leave ∷ ahead self.old) (λ _. ahead self.new ≡ ahead self.old) }
@@ -93,7 +94,7 @@ impl<'a> Path<'a> {
     }
 }
 
-/// The visit of these types by recursion.
+/// Visits these types by recursion.
 fn see_each_ty<V: TypeVisitor>(
     cx: &Interner,
     visitor: &mut V,
@@ -114,7 +115,7 @@ fn see_each_ty<V: TypeVisitor>(
     ControlFlow::Continue(())
 }
 
-/// The visit of these arguments by recursion.
+/// Visits these arguments by recursion.
 fn see_each_arg<V: TypeVisitor>(
     cx: &Interner,
     visitor: &mut V,
@@ -135,7 +136,7 @@ fn see_each_arg<V: TypeVisitor>(
     ControlFlow::Continue(())
 }
 
-/// The visit of a part by recursion.
+/// Visits a part by recursion.
 fn see_part<V: TypeVisitor>(
     cx: &Interner,
     visitor: &mut V,
@@ -155,7 +156,7 @@ fn see_part<V: TypeVisitor>(
     }
 }
 
-/// The part comes next in the visit, or is visited at once where memory is refused.
+/// Adds the part to the visit, or visits it at once if memory is refused.
 fn add<'a, V: TypeVisitor>(
     cx: &Interner,
     visitor: &mut V,
@@ -176,7 +177,7 @@ fn add<'a, V: TypeVisitor>(
     }
 }
 
-/// The two parts come next in the visit, or are visited at once where memory is refused.
+/// Adds the two parts to the visit, or visits them at once if memory is refused.
 fn add_both<'a, V: TypeVisitor>(
     cx: &Interner,
     visitor: &mut V,
@@ -205,7 +206,7 @@ fn add_both<'a, V: TypeVisitor>(
     }
 }
 
-/// The part comes next in the visit, under one more binder, or is visited at once where memory is refused.
+/// Adds the part to the visit, below one more binder, or visits it at once if memory is refused.
 fn add_bound<'a, V: TypeVisitor>(
     cx: &Interner,
     visitor: &mut V,
@@ -230,7 +231,7 @@ fn add_bound<'a, V: TypeVisitor>(
     }
 }
 
-/// The children of a type come next in the visit.
+/// Adds the children of a type to the visit.
 fn enter<'a, V: TypeVisitor>(
     cx: &'a Interner,
     visitor: &mut V,
@@ -287,7 +288,7 @@ fn enter<'a, V: TypeVisitor>(
     }
 }
 
-/// The visit of a type, whose children come next if it is entered.
+/// Visits the node of a type, and adds its children to the visit if it is entered.
 fn turn_ty<'a, V: TypeVisitor>(
     cx: &'a Interner,
     visitor: &mut V,
@@ -310,7 +311,7 @@ fn turn_ty<'a, V: TypeVisitor>(
     }
 }
 
-/// The bounds of a `dyn` type: the arguments of the principal trait come next in the visit.
+/// Visits the bounds of a `dyn`, and adds the arguments of the principal to the visit.
 fn turn_bounds<'a, V: TypeVisitor>(
     cx: &'a Interner,
     visitor: &mut V,
@@ -334,7 +335,7 @@ fn turn_bounds<'a, V: TypeVisitor>(
     }
 }
 
-/// The visit of these types: the first comes next, and then the rest.
+/// Adds these types to the visit: the first one, and then the rest.
 fn turn_tys<'a, V: TypeVisitor>(
     cx: &Interner,
     visitor: &mut V,
@@ -358,7 +359,7 @@ fn turn_tys<'a, V: TypeVisitor>(
     }
 }
 
-/// The visit of these arguments: the first comes next, and then the rest.
+/// Adds these arguments to the visit: the first one, and then the rest.
 fn turn_args<'a, V: TypeVisitor>(
     cx: &Interner,
     visitor: &mut V,
@@ -388,7 +389,7 @@ fn turn_args<'a, V: TypeVisitor>(
     }
 }
 
-/// The visit of a part, but for what stands deeper, which comes next.
+/// Visits the node of a part, and adds what is below it to the visit.
 fn turn<'a, V: TypeVisitor>(
     cx: &'a Interner,
     visitor: &mut V,
@@ -412,7 +413,7 @@ fn turn<'a, V: TypeVisitor>(
     }
 }
 
-/// The visit of what is to be visited.
+/// Visits what is to be visited.
 fn run<'a, V: TypeVisitor>(
     cx: &'a Interner,
     visitor: &mut V,
@@ -439,7 +440,7 @@ fn run<'a, V: TypeVisitor>(
     see_rest(cx, visitor, path, binders)
 }
 
-/// The visit of what is to be visited, each part by recursion.
+/// Visits what is to be visited, each part by recursion.
 fn see_rest<V: TypeVisitor>(
     cx: &Interner,
     visitor: &mut V,
@@ -467,7 +468,7 @@ fn see_rest<V: TypeVisitor>(
     ControlFlow::Continue(())
 }
 
-/// The visit of a part of a term by recursion or, where the part is deeper than 128 levels, by a list in memory.
+/// Visits a part of a term: by recursion, or by a list in memory if it is deeper than 128 levels.
 pub(crate) fn visit_part<V: TypeVisitor>(
     cx: &Interner,
     visitor: &mut V,
@@ -490,7 +491,7 @@ pub(crate) fn visit_part<V: TypeVisitor>(
     }
 }
 
-/// The visit of a type's children.
+/// Visits the children of a type.
 pub(crate) fn visit_below<V: TypeVisitor>(
     cx: &Interner,
     visitor: &mut V,

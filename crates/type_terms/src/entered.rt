@@ -6,16 +6,16 @@ use crate::kinds::Ty;
 use std::alloc::Global;
 use std::collections::HashSet;
 
-/// So many types are entered before a walk begins to keep what it finds, so that a small term costs no table.
+/// A visit stores the types that it enters only after this number, so that a small term needs no table.
 pub const BEFORE: u32 = 32;
 
-/// The types that a visit has entered, by their handles, without the first 32: a small term costs no set.
+/// The types that a visit has entered, by their handles, without the first 32.
 pub struct Entered {
     pub steps: u32,
     pub types: HashSet<u32>,
 }
 
-// Written, so that what owns one drops it by one call at each way out, and not field by field.
+// Written by hand, so that the drop of an owner calls it once at each exit, and not once for each field.
 impl Drop for Entered {
     fn drop(self) {
         let Entered { steps: _, types: _ } = self;
@@ -23,7 +23,7 @@ impl Drop for Entered {
 }
 
 impl Entered {
-    /// None is entered, and no memory is taken.
+    /// The empty set. It allocates nothing.
     pub fn new(alloc: Global) -> Entered
         ensures { (i : ℕ) → contains nat_eq result.types i ≡ true → ⊥ }
     {
@@ -33,8 +33,8 @@ impl Entered {
         }
     }
 
-    /// Lists a type that is entered and says whether it was listed before. Where memory is refused it is not listed, and is
-    /// then entered again where it stands again.
+    /// Adds a type, and returns whether it was there. If memory is refused it is not added, and the visit enters it
+    /// again where it occurs again.
     pub fn enter(&mut self, ty: Ty) -> bool
         ensures before { IsTrue result → contains nat_eq self.old.types ty.0 ≡ true }
         ensures one { (i : ℕ) → contains nat_eq self.new.types i ≡ true → (contains nat_eq self.old.types i ≡ true) ⊎ (i ≡ ty.0) }

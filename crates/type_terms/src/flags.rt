@@ -1,13 +1,13 @@
-//! What stands somewhere in a term.
+//! Flags: what occurs in a term.
 ghost use Rattle.std.specs.Prelude.{⊤, [], ◌∷◌, codes};
 
 use bitflags::{Flag, Flags, bitflag_items};
 
-/// Which open places a term has: the union over its nodes, those below binders too.
+/// Which parameters, variables and lifetimes occur in a term: the union over its nodes, including those below binders.
 ///
-/// A flag for each sort (types `TY`, lifetimes `RE`, constants `CT`) of parameters, variables of inference,
-/// placeholders and bound variables, one for a binder that has a lifetime, and one for `'static`, which the original
-/// has among its `HAS_FREE_REGIONS`.
+/// There is a flag for each kind (types `TY`, lifetimes `RE`, constants `CT`) of parameters, inference variables,
+/// placeholders and bound variables. Another one is for a binder that has a lifetime, and one for `'static`, which
+/// rustc includes in its `HAS_FREE_REGIONS`.
 #[derive(Clone, Copy, PartialEq, Eq, Hash)]
 pub struct TypeFlags(pub u32);
 

@@ -1,19 +1,21 @@
-//! The interner: each term is stored once, with what is known of it.
+//! The interner stores each term once, with its flags, its outer binder and its depth.
 //!
-//! A contract sees an interner as the list of its terms, in the order in which they were made: of each the kind
-//! of its handle and its tree. A handle is a number in this list. `Is es types ty.0 t` says that `ty` is the type
-//! `t` among the terms `es`, `Has es types ty.0` that it is some type of them, and `Grew old new` that each
-//! handle of the first interner has the same tree in the second, and that the limit is the same.
+//! For contracts, an interner is the list of its terms, in the order in which they were created: each with the kind of
+//! its handle. A handle is an index in this list:
+//! - `Is es types ty.0 t`: `ty` is the type `t` among the terms `es`.
+//! - `Has es types ty.0`: `ty` is some type among them.
+//! - `Grew old new`: each handle of the first interner has the same term in the second, and the limit is the same.
 //!
-//! **Handles of this interner.** Anyone can write `Ty(7)`, and no test at run time tells it from a handle, so
-//! each call on a handle requires that this interner has it. A caller keeps that condition by three facts:
-//! what `mk_ty` and the like answer is the interner's (`is`), the handles inside a term are (`held` of `kind`,
-//! `args`, `tys` and `bounds`), and no call ever takes a term away (`grew`). A function that is lent the
-//! interner and given handles therefore requires `Has cx.old.entries ..` of these, and ensures
-//! `Grew cx.old cx.new` to whoever holds others, or `GrewOrFull`, which also says when it may refuse.
+//! **Handles of this interner.** You can write `Ty(7)`, and no check at run time distinguishes it from a handle. So
+//! each call that takes a handle requires that it is of this interner. Three facts help a caller to satisfy this:
+//! - What `mk_ty` and the other calls return is of this interner (`is`).
+//! - The handles inside of a term are of this interner (`held` of `kind`, `args`, `tys` and `bounds`).
+//! - No call removes a term (`grew`).
+//! Therefore, a function that borrows the interner and takes handles requires `Has cx.old.entries` of each. It ensures
+//! `Grew cx.old cx.new` for callers that have others, or `GrewOrFull` if it may fail.
 //!
-//! It is the `Interner` of the original made one struct, whose calls take the place of `mk_ty_from_kind`,
-//! `mk_args` and their like; there building a term cannot fail.
+//! This is the trait `Interner` of rustc as a struct. Its calls replace `mk_ty_from_kind`, `mk_args` and the like,
+//! which cannot fail there.
 ghost use Rattle.std.specs.Prelude.{◌≡◌, ℕ, ◌+◌, ◌*◌, ◌≤◌, ◌<◌, ◌^◌, length, OnOk, OnErr, IfOk, Some, [], Err};
 ghost use Rattle.std.specs.List.{slice_get};
 ghost use Rattle.type_terms.specs.Trees.{flags, outer_binder, depth};
@@ -41,15 +43,15 @@ use std::marker::Model;
 /// The greatest limit that an interner can have for the handles of one kind.
 pub const MAX_HANDLES: u32 = 16_777_216;
 
-/// What stands for a term of an interner: types, constants, lists of arguments and of types, and bounds.
+/// A handle of an interner: of a type, a constant, a list of arguments or types, or bounds.
 pub trait Handle: Copy {
-    // Which kind of handle it is.
+    // The kind of handle.
     ghost handle_kind: { ℕ };
 
-    // Its number in the interner that made it.
+    // Its index in its interner.
     ghost handle_number: { Self → ℕ };
 
-    /// Its number in the interner that made it.
+    /// Its index in its interner.
     fn number(self) -> u32
         ensures { result ≡ handle_number self };
 }
@@ -114,17 +116,16 @@ impl Handle for Bounds {
     }
 }
 
-/// Terms, each stored once, so that two handles of one kind are equal exactly if their terms are.
+/// Terms, each stored once: two handles of one kind are equal exactly if their terms are.
 ///
-/// There is one table of nodes in the order in which they were made, so a term's parts are older than the term,
-/// and a count for each kind of handle.
+/// All kinds of handle share one table, in which the parts of a term precede it. Each kind has a count of its own.
 pub struct Interner {
     nodes: IndexMap<Node, Info>,
     counts: Counts,
     limit: u32,
 }
 
-// Written, so that what owns one drops it by one call at each way out, and not field by field.
+// Written by hand, so that the drop of an owner calls it once at each exit, and not once for each field.
 impl Drop for Interner {
     fn drop(self) {
         let Interner {
@@ -150,7 +151,7 @@ impl Model for Interner {
 }
 
 impl Interner {
-    /// An empty interner with room for `limit` handles of each kind. It takes no memory before the first term.
+    /// An empty interner with room for `limit` handles of each kind. It allocates nothing until the first term.
     pub fn new(alloc: Global, limit: u32) -> Interner
         requires { limit ≤ MAX_HANDLES }
         ensures empty { result.entries ≡ [] }
@@ -163,7 +164,7 @@ impl Interner {
         }
     }
 
-    /// The number of the node's handle: the one that it has, or else the next.
+    /// The index of the node: that of an equal node, or the next one.
     fn intern(&mut self, node: Node, info: Info) -> Result<u32, Fault>
         requires held { Held self.old.entries node }
         requires info { info ≡ info_of (node_trees self.old.entries node) }
@@ -189,14 +190,15 @@ impl Interner {
         Ok(index as u32)
     }
 
-    /// The type of this kind: the handle that it has already, or else a new one.
+    /// The type of this kind: an existing handle if there is one, or else a new one.
     ///
-    /// A type that is there is found without memory, also where the table is full. `Full` comes where there are
-    /// as many types as the limit allows and this one is new, `Memory` where a new one needs memory that is
-    /// refused; the interner is then as it was. The same is true of the four other calls, each with its kind.
+    /// An existing type is found without an allocation, even if the table is full. The call fails with `Full` if the
+    /// type is new and there are as many types as the limit allows, and with `Memory` if it is new and memory is
+    /// refused. The interner is then unchanged. The same is true of the four calls that follow, each with its kind of
+    /// handle.
     ///
-    /// The handles in `kind` are this interner's, the number of a bound variable's binder is below `MAX_INDEX`,
-    /// and the list of a `FnPtr` holds an output at least.
+    /// The handles in `kind` must be of this interner. The binder number of a bound variable must be below `MAX_INDEX`,
+    /// and the list of a `FnPtr` must have an output.
     pub fn mk_ty(&mut self, kind: TyKind) -> Result<Ty, Fault>
         requires { KindHeld self.old.entries kind }
         ensures is { IfOk result (λ handle. Is self.new.entries types handle.0 (kind_trees self.old.entries kind)) }
@@ -215,7 +217,7 @@ impl Interner {
         }
     }
 
-    /// The constant of this kind, as `mk_ty` for a type.
+    /// The constant of this kind. See `mk_ty`.
     pub fn mk_const(&mut self, kind: ConstKind) -> Result<Const, Fault>
         requires { ConstHeld kind }
         ensures is { IfOk result (λ handle. Is self.new.entries consts handle.0 (const_trees kind)) }
@@ -234,7 +236,7 @@ impl Interner {
         }
     }
 
-    /// The list of these arguments, in this order, as `mk_ty` for a type.
+    /// The list of these arguments, in this order. See `mk_ty`.
     pub fn mk_args(&mut self, list: Vec<GenericArgKind>) -> Result<GenericArgs, Fault>
         requires { ArgsHeld self.old.entries list.items }
         ensures is { IfOk result (λ handle. Is self.new.entries args_lists handle.0 (args_trees self.old.entries list.items)) }
@@ -253,7 +255,7 @@ impl Interner {
         }
     }
 
-    /// The list of these types, in this order, as `mk_ty` for a type.
+    /// The list of these types, in this order. See `mk_ty`.
     pub fn mk_tys(&mut self, list: Vec<Ty>) -> Result<Tys, Fault>
         requires { TysHeld self.old.entries list.items }
         ensures is { IfOk result (λ handle. Is self.new.entries type_lists handle.0 (tys_trees self.old.entries list.items)) }
@@ -272,7 +274,7 @@ impl Interner {
         }
     }
 
-    /// These bounds of a `dyn` type, as `mk_ty` for a type. The auto traits rise.
+    /// These bounds of a `dyn`, whose auto traits have rising numbers. See `mk_ty`.
     pub fn mk_bounds(&mut self, bounds: BoundsData) -> Result<Bounds, Fault>
         requires { BoundsHeld self.old.entries bounds }
         ensures is { IfOk result (λ handle. Is self.new.entries bounds_lists handle.0 (bounds_trees self.old.entries bounds)) }
@@ -291,7 +293,7 @@ impl Interner {
         }
     }
 
-    /// The kind of a type. The handles in it are smaller numbers than the type, so a walk into terms ends.
+    /// The kind of a type. The handles in it are smaller than the type, so that a recursion on them ends.
     pub fn kind(&self, ty: Ty) -> TyKind
         requires { Has self.now.entries types ty.0 }
         ensures is { Is self.now.entries types ty.0 (kind_trees self.now.entries result) }
@@ -304,7 +306,7 @@ impl Interner {
         }
     }
 
-    /// What a constant is made of: a number, a parameter, a placeholder or a variable. Its number is read off its handle.
+    /// The kind of a constant: a number, a parameter, a placeholder or a variable.
     pub fn const_kind(&self, value: Const) -> ConstKind
         requires { Has self.now.entries consts value.0 }
         ensures is { Is self.now.entries consts value.0 (const_trees result) }
@@ -316,7 +318,7 @@ impl Interner {
         }
     }
 
-    /// The arguments of a list. The handles in it are smaller numbers than the list.
+    /// The arguments of a list. The handles in it are smaller than the list.
     pub fn args(&self, args: GenericArgs) -> &[GenericArgKind]
         requires { Has self.now.entries args_lists args.0 }
         ensures is { Is self.now.entries args_lists args.0 (args_trees self.now.entries result.now) }
@@ -329,7 +331,7 @@ impl Interner {
         }
     }
 
-    /// The types of a list. They are smaller numbers than the list.
+    /// The types of a list. They are smaller than the list.
     pub fn tys(&self, tys: Tys) -> &[Ty]
         requires { Has self.now.entries type_lists tys.0 }
         ensures is { Is self.now.entries type_lists tys.0 (tys_trees self.now.entries result.now) }
@@ -342,7 +344,7 @@ impl Interner {
         }
     }
 
-    /// The bounds of a `dyn` type. The principal's arguments are a smaller number.
+    /// The bounds of a `dyn`. The arguments of the principal are smaller.
     pub fn bounds(&self, bounds: Bounds) -> &BoundsData
         requires { Has self.now.entries bounds_lists bounds.0 }
         ensures is { Is self.now.entries bounds_lists bounds.0 (bounds_trees self.now.entries result.now) }
@@ -355,7 +357,7 @@ impl Interner {
         }
     }
 
-    /// The union of the flags of a term's nodes, also of those below binders. It was computed as the term was made.
+    /// The union of the flags of a term's nodes, including those below binders. It is stored with the term.
     pub fn flags<H: Handle>(&self, handle: H) -> TypeFlags
         requires { Has self.now.entries H.handle_kind (H.handle_number handle) }
         ensures { result.0 ≡ flags (trees_at self.now.entries (H.handle_number handle)) }
@@ -363,8 +365,8 @@ impl Interner {
         TypeFlags(self.info(handle.number()).flags)
     }
 
-    /// One more than the greatest binder number that leads out of a term, or 0 where none does: the number of
-    /// binders that have to be put around the term for it to have no bound variable of others.
+    /// The number of binders that a term needs around it for all of its bound variables: one more than the greatest
+    /// binder number that refers to a binder outside of it, or 0.
     pub fn outer_exclusive_binder<H: Handle>(&self, handle: H) -> DebruijnIndex
         requires { Has self.now.entries H.handle_kind (H.handle_number handle) }
         ensures { result.index ≡ outer_binder (trees_at self.now.entries (H.handle_number handle)) }
@@ -374,7 +376,7 @@ impl Interner {
         }
     }
 
-    /// How many nodes stand above one another in a term at most: 1 for `u8`, 0 for an empty list.
+    /// The greatest number of nodes above one another in a term: 1 for `u8`, 0 for an empty list.
     pub fn depth<H: Handle>(&self, handle: H) -> u32
         requires { Has self.now.entries H.handle_kind (H.handle_number handle) }
         ensures { result ≡ depth (trees_at self.now.entries (H.handle_number handle)) }
@@ -382,22 +384,23 @@ impl Interner {
         self.info(handle.number()).depth
     }
 
-    /// The allocator that the interner takes its memory from: a walk of deep terms keeps its list there.
+    /// The allocator of this interner. A traversal of deep terms uses it for its list.
     pub fn allocator(&self) -> Global {
         *self.nodes.allocator()
     }
 
-    /// What is true of the terms of every interner: handles of one kind are equal exactly if their trees are, a
-    /// type stands for one type, a constant for one constant, and terms are made as they are to be. Lifetimes and
-    /// variables are leaves, no variable has a number above `MAX_INDEX`, and a `dyn` type has its principal trait
-    /// if any, then its auto traits, then its lifetime. It does nothing when it runs.
+    /// What is true of the terms of every interner, as a lemma. It does nothing at run time.
+    /// - Handles of one kind are equal exactly if their terms are.
+    /// - A handle of a type has one type, and a handle of a constant one constant.
+    /// - Lifetimes and variables have no children, and no variable has a number above `MAX_INDEX`.
+    /// - A `dyn` has its principal, if any, then its auto traits, then its lifetime.
     pub fn lawful(&self)
         ensures { Lawful self.now.entries }
     {
         let _ = self.nodes.len();
     }
 
-    /// The node of the handle with this number.
+    /// The node of the handle with this index.
     fn node(&self, index: u32) -> &Node
         requires { index < length self.now.entries }
         ensures is { slice_get self.now.entries index ≡ Some (node_entry self.now.entries result.now) }
@@ -410,7 +413,7 @@ impl Interner {
         }
     }
 
-    /// What is known of the handle with this number.
+    /// What is stored with the handle that has this index.
     fn info(&self, index: u32) -> Info
         requires { index < length self.now.entries }
         ensures is { result ≡ info_of (trees_at self.now.entries index) }

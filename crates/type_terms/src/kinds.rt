@@ -1,29 +1,29 @@
-//! The kinds of terms, and the handles that stand for terms of an interner.
+//! The kinds of terms, and the handles of terms in an interner.
 use crate::number::{BoundVar, BoundVarIndexKind, ConstVid, TyVid};
 use crate::region::Region;
 use crate::{AdtId, TraitId};
 use std::alloc::AllocError;
 
-/// A type of an interner, by its number there.
+/// A type of an interner, by its index there.
 ///
-/// A handle means something only beside the interner that made it: each call on it wants that the interner has
-/// a type with its number.
+/// A handle is meaningful only together with its interner. Each call that takes one requires that it is of this
+/// interner.
 #[derive(Clone, Copy, PartialEq, Eq, Hash)]
 pub struct Ty(pub u32);
 
-/// A constant of an interner, by its number there.
+/// A constant of an interner, by its index there.
 #[derive(Clone, Copy, PartialEq, Eq, Hash)]
 pub struct Const(pub u32);
 
-/// A list of generic arguments of an interner, by its number there.
+/// A list of generic arguments of an interner, by its index there.
 #[derive(Clone, Copy, PartialEq, Eq, Hash)]
 pub struct GenericArgs(pub u32);
 
-/// A list of types of an interner, by its number there.
+/// A list of types of an interner, by its index there.
 #[derive(Clone, Copy, PartialEq, Eq, Hash)]
 pub struct Tys(pub u32);
 
-/// The bounds of a `dyn` type of an interner, by their number there.
+/// The bounds of a `dyn` of an interner, by their index there.
 #[derive(Clone, Copy, PartialEq, Eq, Hash)]
 pub struct Bounds(pub u32);
 
@@ -56,7 +56,7 @@ pub enum Mutability {
     Mut,
 }
 
-/// What a type is made of, one level deep: its parts are handles of the same interner (`TyKind` of `rustc_type_ir`).
+/// The outermost constructor of a type. Its parts are handles of the same interner (rustc_type_ir: `TyKind`).
 #[derive(Clone, Copy, PartialEq, Eq, Hash)]
 pub enum TyKind {
     Bool,
@@ -65,7 +65,7 @@ pub enum TyKind {
     Uint(UintTy),
     Str,
     Never,
-    /// `V<'a, T, 3>`: a struct by its number, with an argument for each of its parameters.
+    /// `V<'a, T, 3>`: a struct, with one argument for each of its parameters.
     Adt(AdtId, GenericArgs),
     /// `&'a T` or `&'a mut T`.
     Ref(Region, Ty, Mutability),
@@ -76,35 +76,36 @@ pub enum TyKind {
     /// `[T]`.
     Slice(Ty),
     Tuple(Tys),
-    /// `for<..> fn(..) -> T`: the number of lifetimes that it binds, and its inputs with the output last.
+    /// `for<'a> fn(T) -> U`: the number of lifetimes that it binds, and its inputs followed by the output.
     FnPtr(u32, Tys),
     /// `dyn Trait + Auto + 'a`.
     Dynamic(Bounds, Region),
-    /// The parameter with this place in the list of an item's parameters.
+    /// The parameter with this index in the list of an item's parameters.
     Param(u32),
-    /// A type that stands for any.
+    /// An arbitrary type that is equal to itself alone.
     Placeholder(u32),
     /// A type variable of a canonical form.
     Bound(BoundVarIndexKind, BoundVar),
-    /// A variable of inference.
+    /// An inference variable.
     Infer(TyVid),
 }
 
-/// What a constant is: a number below 2 to the 64, or an open place (`ConstKind` of `rustc_type_ir`).
+/// The kind of a constant: a number below 2 to the 64, a parameter, a placeholder or a variable (rustc_type_ir:
+/// `ConstKind`).
 #[derive(Clone, Copy, PartialEq, Eq, Hash)]
 pub enum ConstKind {
     Value(u64),
-    /// The parameter with this place in the list of an item's parameters.
+    /// The parameter with this index in the list of an item's parameters.
     Param(u32),
-    /// A constant that stands for any.
+    /// An arbitrary constant that is equal to itself alone.
     Placeholder(u32),
     /// A constant variable of a canonical form.
     Bound(BoundVarIndexKind, BoundVar),
-    /// A variable of inference.
+    /// An inference variable.
     Infer(ConstVid),
 }
 
-/// One generic argument, whose sort is that of the parameter at its place (`GenericArgKind` of `rustc_type_ir`).
+/// A generic argument. It is of the kind of its parameter (rustc_type_ir: `GenericArgKind`).
 #[derive(Clone, Copy, PartialEq, Eq, Hash)]
 pub enum GenericArgKind {
     Lifetime(Region),
@@ -112,17 +113,17 @@ pub enum GenericArgKind {
     Const(Const),
 }
 
-/// The principal trait of a `dyn` type, as `for<'a> Fn<&'a u8>`.
+/// The principal of a `dyn`, for example `for<'a> Fn<&'a u8>`.
 #[derive(Clone, Copy, PartialEq, Eq, Hash)]
 pub struct Principal {
-    /// How many lifetimes its `for<..>` binds.
+    /// The number of lifetimes that its `for` binds.
     pub bound_vars: u32,
     pub def_id: TraitId,
     /// Its arguments, without Self.
     pub args: GenericArgs,
 }
 
-/// The bounds of a `dyn` type, but for its lifetime.
+/// The bounds of a `dyn`, except for its lifetime.
 #[derive(PartialEq, Eq, Hash, Drop)]
 pub struct BoundsData {
     pub principal: Option<Principal>,

@@ -1,4 +1,5 @@
-//! The definitions that every layer's contracts cite, and the laws that hold of them.
+//! Laws of the definitions that all contracts cite. Each function proves the law that its contract names, and does
+//! nothing at run time.
 
 ghost use Rattle.type_terms.specs.Laws.{AddedByTheViewIsAdded, AnImpossibleClauseClearsThePair, CoreIsCoherent, CoreIsLinked, ErasedWorldsAreTerms, HeldSetsAreLinked, ImplsApplyUpToLifetimes, KeptByTheViewIsKept, KnownByTheViewIsKnown, LaterImplsConcludeNothingKnown, LaterVersionsBreakNoUser, NoHolds, NoTwoCratesSeeEachOther, NoTwoImpls, ProofsByTheViewHold, RenumberingCarriesOver, RulesOfTermsAskTerms, SupertraitsAreProved, UnrelatedImplsDoNotOverlap, UnseenImplsConcludeNothingKnown, UsersSeeWhatTheirUsesSee, WalksSkipLifetimes, WhatTheViewDoesNotGiveIsUnknown};
 ghost use Rattle.type_terms.specs.Promised.LinkedSet.{InEveryLinkedSet};
@@ -16,57 +17,57 @@ pub fn core_is_coherent()
     ensures { CoreIsCoherent }
 {}
 
-/// A world without lifetimes is one of terms, and its views are those of the world.
+/// A world without lifetimes has only erased terms, and its views are the erased views of the world.
 pub fn erased_worlds_are_terms()
     ensures { ErasedWorldsAreTerms }
 {}
 
-/// Rules ask terms of terms, so that lifetimes are erased once, before the rules are read.
+/// The premises of a trait reference without lifetimes have none either, so that it is enough to erase lifetimes once.
 pub fn rules_of_terms_ask_terms()
     ensures { RulesOfTermsAskTerms }
 {}
 
-/// An impl that is matched up to lifetimes gives a rule of the world without them.
+/// An impl that matches a trait reference up to lifetimes gives a rule instance of the erased world.
 pub fn impls_apply_up_to_lifetimes()
     ensures { ImplsApplyUpToLifetimes }
 {}
 
-/// Walks skip lifetimes: the orphan rule and known references are those of the world without them.
+/// Orphan walks skip lifetimes. The orphan rule and knowable trait references are those of the erased world.
 pub fn walks_skip_lifetimes()
     ensures { WalksSkipLifetimes }
 {}
 
-/// The test of trees is equality.
+/// The test `same` is equality of terms.
 pub fn same_is_equal()
     ensures { SameIsEqual }
 {}
 
-/// `core` alone is a linked set: also each `Copy` impl of it has `Clone` and `Sized` proved.
+/// `core` alone is a linked set. In particular, each of its `Copy` impls has proofs of `Clone` and `Sized`.
 pub fn core_is_linked()
     ensures { CoreIsLinked }
 {}
 
-/// Crates that obey the rules of their texts and whose headers have their supertraits proved are a linked set.
+/// A joined set of crates whose headers have proofs of their supertraits is a linked set.
 pub fn held_sets_are_linked()
     ensures { HeldSetsAreLinked }
 {}
 
-/// What has a proof in a linked set has its strict supertraits proved, by whichever rule.
+/// In a linked set, a trait reference with a proof has proofs of its supertraits, by whatever rule it is concluded.
 pub fn supertraits_are_proved()
     ensures { InEveryLinkedSet SupertraitsAreProved }
 {}
 
-/// What a crate sees, its users see.
+/// A crate sees what the crates see that it uses.
 pub fn users_see_what_their_uses_see()
     ensures { InEveryLinkedSet UsersSeeWhatTheirUsesSee }
 {}
 
-/// Two crates of a linked set that see each other are one.
+/// Two crates of a linked set that see each other are equal.
 pub fn no_two_crates_see_each_other()
     ensures { InEveryLinkedSet NoTwoCratesSeeEachOther }
 {}
 
-/// The walk lemma: what an impl of a crate that `c` does not see concludes is unknown to `c` (RFC 1023).
+/// Impls of crates that `c` does not see conclude only what is not knowable to `c` (RFC 1023).
 pub fn unseen_impls_conclude_nothing_known()
     ensures { InEveryLinkedSet UnseenImplsConcludeNothingKnown }
 {}
@@ -76,42 +77,43 @@ pub fn unrelated_impls_do_not_overlap()
     ensures { InEveryLinkedSet UnrelatedImplsDoNotOverlap }
 {}
 
-/// What a crate's view does not give is unknown to the crate, and has its supertraits proved.
+/// A rule instance of a linked set that is not in a crate's view concludes what is not knowable to the crate. Its
+/// supertraits have proofs.
 pub fn what_the_view_does_not_give_is_unknown()
     ensures { InEveryLinkedSet WhatTheViewDoesNotGiveIsUnknown }
 {}
 
-/// What is known by the view alone is known in every linked set around it.
+/// What is knowable by the view alone is knowable in every linked set with this view.
 pub fn known_by_the_view_is_known()
     ensures { InEveryLinkedSet KnownByTheViewIsKnown }
 {}
 
-/// A proof by the rules of a crate's view is a proof in every linked set around it.
+/// A proof by the rules of a crate's view is a proof in every linked set with this view.
 pub fn proofs_by_the_view_hold()
     ensures { InEveryLinkedSet ProofsByTheViewHold }
 {}
 
-/// Where the impls' crates were accepted and each pair that their checks looked at is cleared, no closed reference has proofs by two impls.
+/// If all crates of impls were accepted, no closed trait reference has proofs by two impls.
 pub fn no_two_impls()
     ensures { InEveryLinkedSet NoTwoImpls }
 {}
 
-/// What is bounded and not possible by a crate's view has no proof in any linked set around it.
+/// A bounded trait reference that is not possible by a crate's view has no proof in any linked set with this view.
 pub fn no_holds()
     ensures { InEveryLinkedSet NoHolds }
 {}
 
-/// A pair of impls with an impossible fixed where-clause is no conflict in any linked set around the view.
+/// A pair of impls with an impossible fixed clause is cleared in every linked set with the view.
 pub fn an_impossible_clause_clears_the_pair()
     ensures { InEveryLinkedSet AnImpossibleClauseClearsThePair }
 {}
 
-/// What is said of a view is said of it with other numbers, so that crates of different texts stand in one set.
+/// What holds of a view holds of it with other numbers, so that crates of different texts can be in one set.
 pub fn renumbering_carries_over()
     ensures { RenumberingCarriesOver }
 {}
 
-/// What an impl that a later version of a crate may add concludes is unknown to the crate's users (RFC 1023).
+/// An impl that a later version of a crate may add concludes only what is not knowable to the crate's users (RFC 1023).
 pub fn later_impls_conclude_nothing_known()
     ensures { InEveryLinkedSet LaterImplsConcludeNothingKnown }
 {}
@@ -121,42 +123,42 @@ pub fn later_versions_break_no_user()
     ensures { InEveryLinkedSet LaterVersionsBreakNoUser }
 {}
 
-/// A header that keeps the orphan rule by its crate's view keeps it in every linked set around the view.
+/// A header that keeps the orphan rule by its crate's view keeps it in every linked set with this view.
 pub fn kept_by_the_view_is_kept()
     ensures { InEveryLinkedSet KeptByTheViewIsKept }
 {}
 
-/// An impl that a later version may add by its crate's view may be added in every linked set around the view.
+/// An impl that a later version may add, by its crate's view, may be added in every linked set with this view.
 pub fn added_by_the_view_is_added()
     ensures { InEveryLinkedSet AddedByTheViewIsAdded }
 {}
 
-/// An impl without some of its where-clauses is wider, and so is one of which it is an instance.
+/// An impl with fewer where-clauses is wider, and so is an impl of which it is an instance.
 pub fn wider_impls()
     ensures one { WiderImpls }
     ensures meet { WiderImplsMeet }
     ensures worlds { WidenedIsAbove }
 {}
 
-/// The rules of a world are rules of each world above it, with some of the premises.
+/// Each rule instance of a world is one of each world above it, with some of the premises.
 pub fn rules_hold_above()
     ensures each { RulesHoldAbove }
     ensures together { AboveHasRules }
 {}
 
-/// What has a proof by a text that says too little has one by the crates themselves.
+/// A proof by a text that has fewer rules than the crates is a proof by the crates.
 pub fn proofs_hold_above()
     ensures all { ProofsHoldAbove }
     ensures tested { TestedProofsHoldAbove }
     ensures views { InEveryLinkedSet ViewProofsHoldAbove }
 {}
 
-/// Texts that differ in impls alone agree on headers, known references and supertraits.
+/// Texts that differ in impls alone agree on headers, knowable trait references and supertraits.
 pub fn agree_on_headers()
     ensures { AgreeOnHeaders }
 {}
 
-/// What is possible by the crates themselves is possible by a text that says too much.
+/// What is possible by the crates is possible by a text with more rules.
 pub fn possible_above()
     ensures { PossibleAbove }
 {}
@@ -166,29 +168,30 @@ pub fn above_covers()
     ensures { AboveCovers }
 {}
 
-/// A pair that two wider impls clear in a world above is cleared.
+/// A pair is cleared if two wider impls are cleared in a world above.
 pub fn cleared_above_is_cleared()
     ensures { ClearedAboveIsCleared }
 {}
 
-/// `no` of a text that says too much holds of the crates themselves, in every linked set that holds them.
+/// The answer `no` by a text with more rules holds of the crates, in every linked set with them.
 pub fn no_above_holds()
     ensures set { InEveryLinkedSet NoAboveHolds }
     ensures any { NoOfWhatIsAccountedFor }
     ensures accounts { InEveryLinkedSet AccountsForTheSet }
 {}
 
-/// What a search takes from a linked set, of a text that covers what the set holds.
+/// What a search uses from a linked set, by a text that covers the set.
 pub fn known_has_a_rule_above()
     ensures { InEveryLinkedSet KnownHasARuleAbove }
 {}
 
-/// A pair is cleared by an impossible fixed where-clause of two wider impls.
+/// A pair is cleared if two wider impls have an impossible fixed clause.
 pub fn an_impossible_clause_above_clears_the_pair()
     ensures { InEveryLinkedSet AnImpossibleClauseAboveClearsThePair }
 {}
 
-/// A part of a world that has what a closed set of references needs answers as the whole does, asked of these.
+/// A part of a world with all that a closed set of trait references needs gives the same answers for these as the
+/// world.
 pub fn a_part_answers_alike()
     ensures agreeing { WhatAgreesAnswersAlike }
     ensures part { APartAgrees }
@@ -206,7 +209,7 @@ pub fn a_part_answers_alike()
     ensures pairs { InEveryLinkedSet AnImpossibleClauseByAPartClears }
 {}
 
-/// Worked headers: which keep the orphan rule, and what their walks meet.
+/// Examples of headers: which keep the orphan rule, and the steps of their orphan walks.
 pub fn worked_headers()
     ensures uncovered { UncoveredBeforeLocal }
     ensures nothing_local { NothingLocal }
@@ -216,7 +219,7 @@ pub fn worked_headers()
     ensures behind_leaf { LocalDynBehindLeaf }
 {}
 
-/// Worked pairs of impls: which overlap, and what their where-clauses decide.
+/// Examples of pairs of impls: which overlap, and what their where-clauses decide.
 pub fn worked_pairs()
     ensures impossible { AnImpossibleClause }
     ensures some_day { AClauseThatMayHoldSomeDay }
@@ -224,7 +227,7 @@ pub fn worked_pairs()
     ensures with_core { OverlapWithCore }
 {}
 
-/// Worked references with a proof, and without one.
+/// Examples of trait references with a proof, and without one.
 pub fn worked_proofs()
     ensures nested { NestedImpls }
     ensures where_clauses { WhereClauses }
@@ -234,13 +237,13 @@ pub fn worked_proofs()
     ensures copies { CopiesInCore }
 {}
 
-/// Worked references that some linked set may prove, and that none does.
+/// Examples of trait references that some linked set may prove, and of some that none does.
 pub fn worked_possibilities()
     ensures users { UsersMayImplement }
     ensures supertraits { SupertraitsDecide }
 {}
 
-/// Worked parts: what a question needs of a small text, and parts that lack something.
+/// Examples of parts: what a query needs of a small text, and parts that lack something.
 pub fn worked_parts()
     ensures enough { FourImplsAreEnough }
     ensures too_few { TooFew }
@@ -249,7 +252,7 @@ pub fn worked_parts()
     ensures names { NamesHaveToStay }
 {}
 
-/// Worked impls: which have the supertraits of their headers proved, and why no `dyn` is `Sized`.
+/// Examples of impls: which have proofs of their headers' supertraits, and why no `dyn` is `Sized`.
 pub fn worked_supertraits()
     ensures missing { AMissingSupertrait }
     ensures another { ByAnotherImpl }
@@ -258,7 +261,7 @@ pub fn worked_supertraits()
     ensures no_dyn { NoDynIsSized }
 {}
 
-/// Worked references with all their built-in rules, at least one for each row.
+/// Examples of trait references with all of their built-in rules, at least one for each rule.
 pub fn worked_built_in_rules()
     ensures sized_rows { SizedRows }
     ensures copy_rows { CopyRows }
@@ -272,7 +275,7 @@ pub fn worked_built_in_rules()
     ensures calls { Calls }
 {}
 
-/// Worked cases that show what the conditions are for: of rules, of linked sets and of later versions.
+/// Examples of what the conditions are for: of rules, of linked sets and of later versions.
 pub fn worked_conditions()
     ensures sorts { SortsAreTested }
     ensures undeclared { UndeclaredHasNoRule }
@@ -290,7 +293,7 @@ pub fn worked_conditions()
     ensures erased { TextsAreErased }
 {}
 
-/// All that is said of a world is said of it with the auto traits of each `dyn` in another order.
+/// What holds of a world holds of it with the auto traits of each `dyn` in another order.
 pub fn arranging_carries_over()
     ensures law { ArrangingCarriesOver }
     ensures sets { ArrangedSetsAreLinked }

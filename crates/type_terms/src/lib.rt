@@ -1,8 +1,8 @@
-//! Types, constants and their parts, each stored once, and visits of them and of what is made of them. And what it means that a type
-//! has a trait: in `specs/` the definitions that every layer's contracts cite, in `laws` what holds of them.
+//! Types, constants and their parts, each stored once, and visits of them. In addition, what it means that a type has a
+//! trait: `specs/` has the definitions that all contracts cite, and module `laws` what holds of them.
 //!
-//! A visit asks a visitor at each node in order, and changes nothing (`Visits`). It goes through the tree, unless its visitor
-//! is one that enters a type once (`Once`).
+//! A visit calls a visitor at each node of a term, in order, and changes nothing (`Visits`). A visitor of `Once` enters
+//! each type only once.
 #![tactic(auto)]
 
 ghost use Rattle.std.specs.Prelude.{◌≡◌, ◌≤◌};
@@ -27,15 +27,16 @@ pub mod visitable_ext;
 
 use std::alloc::{AllocError, AllocFailed};
 
-/// Why a call gave no answer. Nothing that was there before is lost: each handle keeps its term.
+/// The error of a call that was refused. All terms that were stored before are preserved, with their handles.
 ///
-/// It belongs to this project: in the original, building a term cannot fail.
+/// This type is of this project. In rustc, creating a term cannot fail.
 #[derive(Clone, Copy, Debug, PartialEq, Eq, thiserror::Error)]
 pub enum Fault {
-    /// A request for memory was refused, or more variables or parameters are needed than there are numbers for (`MAX_INDEX`).
+    /// A request for memory was refused, or more variables or parameters are needed than there are numbers
+    /// (`MAX_INDEX`).
     #[error("out of memory")]
     Memory,
-    /// A table holds as many entries as its limit allows, and the term that was asked for is not among them.
+    /// A table has as many entries as its limit allows, and the requested term is not among them.
     #[error("a table is full")]
     Full,
 }
@@ -60,33 +61,33 @@ impl<T: Drop> From<AllocFailed<T>> for Fault {
     }
 }
 
-/// The greatest number of an item or a variable: a number above it is never made.
+/// The greatest number of an item or a variable.
 ///
-/// The original keeps the rest of the range of u32 for its own use (`rustc_index::newtype_index!`).
+/// rustc reserves the rest of the range of u32 (`rustc_index::newtype_index!`).
 pub const MAX_INDEX: u32 = 0xFFFF_FF00;
 
-/// A crate, by its place in the text. The crate `core` is 0.
+/// A crate, by its index in the text. The crate `core` is 0.
 #[derive(Clone, Copy, PartialEq, Eq, PartialOrd, Ord, Hash)]
 pub struct CrateId {
     pub index: u32,
     ghost in_range: { index ≤ MAX_INDEX },
 }
 
-/// A struct, by its place among all structs; `Box` of `core` is 0.
+/// A struct, by its index among all structs. `Box` of `core` is 0.
 #[derive(Clone, Copy, PartialEq, Eq, PartialOrd, Ord, Hash)]
 pub struct AdtId {
     pub index: u32,
     ghost in_range: { index ≤ MAX_INDEX },
 }
 
-/// A trait, by its place among all traits; those of `core` come first.
+/// A trait, by its index among all traits. Those of `core` come first.
 #[derive(Clone, Copy, PartialEq, Eq, PartialOrd, Ord, Hash)]
 pub struct TraitId {
     pub index: u32,
     ghost in_range: { index ≤ MAX_INDEX },
 }
 
-/// An impl, by its place among all impls; those of `core` come first.
+/// An impl, by its index among all impls. Those of `core` come first.
 #[derive(Clone, Copy, PartialEq, Eq, PartialOrd, Ord, Hash)]
 pub struct ImplId {
     pub index: u32,

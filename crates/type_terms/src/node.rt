@@ -1,4 +1,4 @@
-//! What an interner keeps of a term.
+//! What an interner stores for each term.
 ghost use Rattle.std.specs.Prelude.{◌≡◌, ◌+◌, ◌≤◌, ◌<◌, ◌^◌};
 ghost use Rattle.type_terms.specs.Promised.Label.{fn_ptr};
 ghost use Rattle.type_terms.specs.Counts.{count_of, number_of, raised};
@@ -10,7 +10,7 @@ use crate::flags::TypeFlags;
 use crate::kinds::{BoundsData, ConstKind, GenericArgKind, Ty, TyKind};
 use crate::number::BoundVarIndexKind;
 
-/// A term with the handles of the terms in it.
+/// A term, with the handles of its parts.
 #[derive(PartialEq, Eq, Hash, Drop)]
 pub(crate) enum Node {
     Ty(TyKind),
@@ -20,7 +20,7 @@ pub(crate) enum Node {
     Bounds(BoundsData),
 }
 
-/// The kinds of handle that an interner numbers; each has a limit of its own.
+/// The kinds of handle. Each has a limit of its own.
 #[derive(Clone, Copy, PartialEq, Eq)]
 pub(crate) enum HandleKind {
     Types,
@@ -30,7 +30,7 @@ pub(crate) enum HandleKind {
     BoundsLists,
 }
 
-/// How many handles of each kind there are.
+/// The number of handles of each kind.
 #[derive(Clone, Copy)]
 pub(crate) struct Counts {
     pub types: u32,
@@ -40,7 +40,7 @@ pub(crate) struct Counts {
     pub bounds_lists: u32,
 }
 
-/// What is computed once, as a term is made.
+/// What is computed once for a term, when it is created.
 #[derive(Clone, Copy)]
 pub(crate) struct Info {
     pub flags: u32,
@@ -49,7 +49,7 @@ pub(crate) struct Info {
 }
 
 impl Node {
-    /// The kind of handle that stands for the node.
+    /// The kind of handle that the node has.
     pub(crate) fn handle_kind(&self) -> HandleKind
         ensures { number_of result ≡ kind_of self.now }
     {
@@ -73,7 +73,7 @@ impl Counts {
         bounds_lists: 0,
     };
 
-    /// How many handles of this kind there are.
+    /// The number of handles of this kind.
     pub(crate) fn of(&self, kind: HandleKind) -> u32
         ensures { result ≡ count_of (number_of kind) self.now }
     {
@@ -86,7 +86,7 @@ impl Counts {
         }
     }
 
-    /// The counts with one more of a kind.
+    /// The counts with one more handle of this kind.
     pub(crate) fn raised(self, kind: HandleKind) -> Counts
         requires { count_of (number_of kind) self + 1 < 2 ^ 32 }
         ensures { result ≡ raised (number_of kind) self }
@@ -117,7 +117,7 @@ impl Counts {
 }
 
 impl Info {
-    /// The info of no trees.
+    /// The info of an empty list of terms.
     pub(crate) const EMPTY: Info = Info {
         flags: 0,
         outer_binder: 0,
@@ -131,7 +131,8 @@ impl Info {
         depth: 1,
     };
 
-    /// What is kept of a bound variable: these flags, the outer binder that its number asks for (none for a canonical one), and depth 1.
+    /// The info of a bound variable with these flags. Its outer binder is one more than its binder number, or 0 for a
+    /// variable of a canonical form.
     pub(crate) fn bound(flags: TypeFlags, binder: BoundVarIndexKind) -> Info
         requires { BinderHeld binder }
         ensures { result ≡ record { flags = flags.0; outer_binder = outer_of binder; depth = 1 } }
@@ -158,7 +159,7 @@ impl Info {
         }
     }
 
-    /// The info of two lists of trees, one after the other.
+    /// The info of two lists of terms, one after the other.
     pub(crate) fn join(self, other: Info) -> Info
         ensures { result ≡ join self other }
     {
@@ -169,7 +170,7 @@ impl Info {
         }
     }
 
-    /// The info of a node over these children that has no flag and opens no binder.
+    /// The info of a node with these children that has no flag and is no binder.
     pub(crate) fn plain(self) -> Info
         requires { self.depth + 1 < 2 ^ 32 }
         ensures { result ≡ record self { depth = self.depth + 1 } }
@@ -180,7 +181,7 @@ impl Info {
         }
     }
 
-    /// The info of a node over these children that binds so many lifetimes.
+    /// The info of a node with these children that binds lifetimes.
     pub(crate) fn binder(self, bound_vars: u32) -> Info
         requires { self.depth + 1 < 2 ^ 32 }
         ensures { result ≡ node_info (fn_ptr bound_vars) self }

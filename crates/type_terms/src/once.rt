@@ -1,4 +1,4 @@
-//! Visits that enter a type once.
+//! Visitors that enter each type once.
 ghost use Rattle.std.specs.Prelude.{◌≡◌, List};
 ghost use Rattle.type_terms.specs.Promised.Trees.{Trees};
 ghost use Rattle.type_terms.specs.Promised.Handles.{Entry};
@@ -12,10 +12,11 @@ use crate::region::Region;
 use crate::visit::{Seen, TypeVisitor};
 use std::alloc::Global;
 
-/// A visitor that passes over a type that it has entered before, where the visitor in it would enter it again.
+/// A visitor that passes over a type that it has entered before, where the inner visitor would enter it again.
 ///
-/// So a visit costs the handles of a term and not the nodes of its tree. It is a visit by the visitor in it where that one
-/// answers the same, and changes nothing, at a node that it has seen, whatever binders are around it.
+/// Such a visit takes time by the number of handles in a term, and not by the number of its nodes. It equals the visit
+/// by the inner visitor if that one does the same, and does not change, at a node that occurs again, whatever binders
+/// are around it.
 #[derive(Drop)]
 pub struct Once<V> {
     pub visitor: V,
@@ -23,7 +24,7 @@ pub struct Once<V> {
 }
 
 impl<V> Once<V> {
-    /// The visitor, which has entered nothing yet.
+    /// The visitor, which has entered no type yet.
     pub fn new(alloc: Global, visitor: V) -> Once<V>
         ensures visitor { result.visitor ≡ visitor }
         ensures entered { (es : List Entry) (t : Trees) → HasEntered es result.entered t → ⊥ }

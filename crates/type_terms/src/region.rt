@@ -1,22 +1,23 @@
 //! Lifetimes.
 use crate::number::{BoundVar, BoundVarIndexKind, RegionVid};
 
-/// What a lifetime is (`RegionKind` of `rustc_type_ir`). No lifetime is erased, late bound or an error here.
+/// The kind of a lifetime (rustc_type_ir: `RegionKind`). The kinds for erased, late bound and erroneous lifetimes are
+/// left out.
 #[derive(Clone, Copy, PartialEq, Eq, Hash)]
 pub enum RegionKind {
     /// `'static`.
     ReStatic,
-    /// The parameter with this place in the list of an item's parameters.
+    /// The parameter with this index in the list of an item's parameters.
     ReEarlyParam(u32),
-    /// A lifetime that stands for any.
+    /// An arbitrary lifetime that is equal to itself alone.
     RePlaceholder(u32),
-    /// A lifetime of a `for<..>`, or of a canonical form.
+    /// A lifetime of a `for<'a>`, or of a canonical form.
     ReBound(BoundVarIndexKind, BoundVar),
-    /// A variable of inference.
+    /// An inference variable.
     ReVar(RegionVid),
 }
 
-/// A lifetime. It is a plain value, which is made and read without an interner.
+/// A lifetime. It is a value that needs no interner.
 #[derive(Clone, Copy, PartialEq, Eq, Hash)]
 pub struct Region {
     pub kind: RegionKind,

@@ -1,26 +1,26 @@
-//! How a type changes with its argument.
+//! Variances: how the subtypes of a type depend on its arguments.
 ghost use Rattle.std.specs.Prelude.{◌≡◌};
 ghost use Rattle.type_terms.specs.Variance.{xform_of, IsAssociative, IsNeutral};
 
-/// How a type with a parameter changes as the argument grows.
+/// How the subtypes of a type depend on one of its arguments.
 #[derive(Clone, Copy, PartialEq, Eq, Hash)]
 pub enum Variance {
-    /// It grows with it, as `&'a T` in `T`.
+    /// A subtype of the argument gives a subtype: `&'a T` in `T`.
     Covariant,
-    /// It fits no other argument, as `&mut T` in `T`.
+    /// Only an equal argument gives a subtype: `&mut T` in `T`.
     Invariant,
-    /// It shrinks, as `fn(T)` in `T`.
+    /// A supertype of the argument gives a subtype: `fn(T)` in `T`.
     Contravariant,
-    /// It is the same for each argument.
+    /// Every argument gives a subtype.
     Bivariant,
 }
 
 impl Variance {
-    /// The variance in the argument of an inner type that stands where the outer type has variance `self`,
-    /// `v` being the inner type's.
+    /// The variance of an argument of an inner type: `self` is the variance of the inner type in the outer one, and `v`
+    /// that of the argument in the inner type.
     ///
-    /// `Covariant` changes nothing, `Contravariant` exchanges the two directions, and the other two stay
-    /// whatever stands inside them. Of three types inside one another either two may be taken together first.
+    /// `Covariant` changes nothing, and `Contravariant` exchanges the two directions. The other two stay, whatever is
+    /// inside of them. The order of grouping does not matter for three types inside of each other.
     pub fn xform(self, v: Variance) -> Variance
         ensures is { result ≡ xform_of self v }
         ensures associative { IsAssociative xform_of }

@@ -15,51 +15,52 @@ use crate::kinds::{Bounds, Const, GenericArgKind, GenericArgs, Ty, Tys};
 use crate::region::Region;
 use std::ops::ControlFlow;
 
-/// Types no deeper than this are walked and visited by recursion alone.
+/// The greatest depth of a type that is visited by recursion alone.
 pub const SHALLOW: u32 = 128;
 
-/// What a visitor answers at a node.
+/// What a visitor returns at a node.
 #[derive(Clone, Copy)]
 pub enum Seen<B> {
     /// The visit ends with this value.
     Break(B),
-    /// The visit goes on to the node's children.
+    /// The visit continues with the node's children.
     Enter,
-    /// The visit goes on behind the node.
+    /// The visit continues after the node.
     Pass,
 }
 
-/// A visitor of terms. A visit needs no memory: of a deep term it keeps a list of what is still to be visited, and where
-/// memory is refused it recurses.
+/// A visitor of terms (rustc: `TypeVisitor`). In rustc the visitor recurses by itself. Here it returns what to do with
+/// a node.
 ///
-/// The original's `TypeVisitor`; it recurses by itself there, and here it answers what to do with a node.
+/// A visit does not need memory. For a deep term it uses a list of what is still to be visited. If memory is refused it
+/// recurses instead.
 pub trait TypeVisitor {
     type Break: Drop;
 
-    // The handles that the visitor holds are an interner's.
+    // The handles of the visitor are of this interner.
     ghost ready: { Self → List Entry → Type 0 };
 
-    // From the first visitor it goes to the second, with this answer, at a node under these binders.
+    // At a node below these binders, the visitor becomes the second one, and returns this.
     ghost use Rattle.type_terms.specs.declared.visit.Seen.{Seen};
     ghost use Rattle.type_terms.specs.declared.visit.Seen.TheVariants.{Enter};
 
     ghost sees: { List Entry → List ℕ → Trees → Self → Self → Seen Self.Break → Type 0 };
 
-    /// What the visitor answers at a type.
+    /// What to do at a type.
     fn visit_ty(&mut self, cx: &Interner, ty: Ty, binders: &Binders) -> Seen<Self::Break>
         requires ready { ready self.old cx.now.entries }
         requires held { Has cx.now.entries types ty.0 }
         ensures ready { ready self.new cx.now.entries }
         ensures sees { sees cx.now.entries (counts_of binders.now) (trees_at cx.now.entries ty.0) self.old self.new result };
 
-    /// What the visitor answers at a constant.
+    /// What to do at a constant.
     fn visit_const(&mut self, cx: &Interner, ct: Const, binders: &Binders) -> Seen<Self::Break>
         requires ready { ready self.old cx.now.entries }
         requires held { Has cx.now.entries consts ct.0 }
         ensures ready { ready self.new cx.now.entries }
         ensures sees { sees cx.now.entries (counts_of binders.now) (trees_at cx.now.entries ct.0) self.old self.new result };
 
-    /// What the visitor answers at a lifetime.
+    /// What to do at a lifetime.
     fn visit_region(
         &mut self,
         cx: &Interner,
@@ -71,11 +72,11 @@ pub trait TypeVisitor {
         ensures ready { ready self.new cx.now.entries }
         ensures sees { sees cx.now.entries (counts_of binders.now) (region_trees region) self.old self.new result };
 
-    // The bounds of a `dyn` are entered.
+    // Bounds of a `dyn` are always entered.
     ghost enters_bounds: { (v : Self) (es : List Entry) (bs : List ℕ) (t : Trees) → IsBound t → sees es bs t v v Enter };
 }
 
-/// The visit of a lifetime, one node: the visitor is asked once, and a break is handed on.
+/// Visits a lifetime, which is one node.
 pub fn visit_region<V: TypeVisitor>(
     cx: &Interner,
     visitor: &mut V,
@@ -94,7 +95,7 @@ pub fn visit_region<V: TypeVisitor>(
     }
 }
 
-/// The visit of a constant, one node: the visitor is asked once, and a break is handed on.
+/// Visits a constant, which is one node.
 pub(crate) fn visit_const<V: TypeVisitor>(
     cx: &Interner,
     visitor: &mut V,
@@ -115,8 +116,8 @@ pub(crate) fn visit_const<V: TypeVisitor>(
     }
 }
 
-/// The visit of a type: its own node first, and then, where the visitor enters it, what stands in it, in order. Nothing is visited after a
-/// break. A type deeper than 128 levels is visited by a list in memory.
+/// Visits a type: its own node first, and then, if the visitor enters it, its children in order. It visits nothing
+/// after a break. A type deeper than 128 levels is visited by a list in memory.
 pub fn visit_ty<V: TypeVisitor>(
     cx: &Interner,
     visitor: &mut V,
@@ -137,7 +138,7 @@ pub fn visit_ty<V: TypeVisitor>(
     )
 }
 
-/// The visit of a type's children.
+/// Visits the children of a type.
 pub fn super_visit_ty<V: TypeVisitor>(
     cx: &Interner,
     visitor: &mut V,
@@ -152,7 +153,7 @@ pub fn super_visit_ty<V: TypeVisitor>(
     visit_below(cx, visitor, ty, binders)
 }
 
-/// The visit of a list of types.
+/// Visits the types of a list.
 pub(crate) fn visit_tys<V: TypeVisitor>(
     cx: &Interner,
     visitor: &mut V,
@@ -167,7 +168,7 @@ pub(crate) fn visit_tys<V: TypeVisitor>(
     visit_part(cx, visitor, Part::Tys(cx.tys(tys)), cx.depth(tys), binders)
 }
 
-/// The visit of a list of arguments.
+/// Visits the arguments of a list.
 pub fn visit_args<V: TypeVisitor>(
     cx: &Interner,
     visitor: &mut V,
@@ -188,7 +189,7 @@ pub fn visit_args<V: TypeVisitor>(
     )
 }
 
-/// The visit of one argument, by its sort.
+/// Visits one argument, by its kind.
 pub(crate) fn visit_arg<V: TypeVisitor>(
     cx: &Interner,
     visitor: &mut V,
@@ -207,7 +208,7 @@ pub(crate) fn visit_arg<V: TypeVisitor>(
     }
 }
 
-/// The visit of the bounds of a `dyn` type.
+/// Visits the bounds of a `dyn`.
 pub(crate) fn visit_bounds<V: TypeVisitor>(
     cx: &Interner,
     visitor: &mut V,

@@ -1,4 +1,4 @@
-//! The walk of a visit, which recurses on the depth of a term.
+//! Visits by recursion on the depth of a term.
 ghost use Rattle.std.specs.ControlFlow.{break_value};
 ghost use Rattle.type_terms.specs.Promised.Handles.{Has, types, bounds_lists, trees_at};
 ghost use Rattle.type_terms.specs.Terms.{args_lists, type_lists};
@@ -12,7 +12,7 @@ use crate::kinds::{Bounds, GenericArgKind, GenericArgs, Ty, TyKind, Tys};
 use crate::visit::{Seen, TypeVisitor, visit_const, visit_region};
 use std::ops::ControlFlow;
 
-/// The visit of a type by recursion, for types of no more than 128 levels, or where memory is refused.
+/// Visits a type by recursion, if it has at most 128 levels or memory is refused.
 #[cycle(visits)]
 pub(crate) fn see_ty<V: TypeVisitor>(
     cx: &Interner,
@@ -33,7 +33,7 @@ pub(crate) fn see_ty<V: TypeVisitor>(
     }
 }
 
-/// The visit of a type's children.
+/// Visits the children of a type.
 #[cycle(visits)]
 pub(crate) fn see_below<V: TypeVisitor>(
     cx: &Interner,
@@ -71,7 +71,7 @@ pub(crate) fn see_below<V: TypeVisitor>(
     }
 }
 
-/// The visit of a list of types.
+/// Visits the types of a list.
 #[cycle(visits)]
 pub(crate) fn see_tys<V: TypeVisitor>(
     cx: &Interner,
@@ -93,7 +93,7 @@ pub(crate) fn see_tys<V: TypeVisitor>(
     ControlFlow::Continue(())
 }
 
-/// The visit of a list of arguments.
+/// Visits the arguments of a list.
 #[cycle(visits)]
 pub(crate) fn see_args<V: TypeVisitor>(
     cx: &Interner,
@@ -115,7 +115,7 @@ pub(crate) fn see_args<V: TypeVisitor>(
     ControlFlow::Continue(())
 }
 
-/// The visit of one argument by recursion.
+/// Visits one argument by recursion.
 #[cycle(visits)]
 pub(crate) fn see_arg<V: TypeVisitor>(
     cx: &Interner,
@@ -135,7 +135,7 @@ pub(crate) fn see_arg<V: TypeVisitor>(
     }
 }
 
-/// The visit of the bounds of a `dyn` type.
+/// Visits the bounds of a `dyn`.
 #[cycle(visits)]
 pub(crate) fn see_bounds<V: TypeVisitor>(
     cx: &Interner,

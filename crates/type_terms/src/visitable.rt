@@ -1,4 +1,4 @@
-//! Values that are made of terms.
+//! Values that contain terms.
 ghost use Rattle.std.specs.Prelude.{◌≡◌, ℕ, List, []};
 ghost use Rattle.std.specs.ControlFlow.{break_value};
 ghost use Rattle.type_terms.specs.Promised.Handles.{Entry, Keeps};
@@ -16,18 +16,18 @@ use crate::visit::{
 };
 use std::ops::ControlFlow;
 
-/// A value that holds terms of an interner.
+/// A value that contains terms of an interner.
 pub trait TypeVisitable: Copy {
-    // Its handles are an interner's.
+    // Its handles are of this interner.
     ghost held: { Self → List Entry → Type 0 };
 
-    // What a fold leaves as it is: the number of an item, of a binder's lifetimes, which variant it is.
+    // What a fold does not change: item numbers, numbers of bound lifetimes, and which variant it is.
     ghost outline: { Self → List ℕ };
 
-    // Its terms, each under the binders of the value that are around it.
+    // Its terms, each with the binders of the value that are around it.
     ghost pieces: { Self → List Entry → List Piece };
 
-    /// The visit of the value under these binders.
+    /// Visits the value below these binders.
     fn visit_under<V: TypeVisitor>(
         self,
         cx: &Interner,
@@ -39,7 +39,7 @@ pub trait TypeVisitable: Copy {
         ensures ready { V.ready visitor.new cx.now.entries }
         ensures visited { VisitsEach (V.sees cx.now.entries) (counts_of binders.now) (pieces self cx.now.entries) visitor.old visitor.new (break_value result) };
 
-    /// The visit of the value: each node in order, the children of those that the visitor enters, nothing after a break.
+    /// Visits the value: each node in order, the children of those that the visitor enters, and nothing after a break.
     final fn visit_with<V: TypeVisitor>(
         self,
         cx: &Interner,
@@ -53,7 +53,7 @@ pub trait TypeVisitable: Copy {
         self.visit_under(cx, visitor, &Binders::Outermost)
     }
 
-    // They stay as the interner grows.
+    // They still are when the interner has grown.
     ghost held_kept: { (x : Self) (old new : List Entry) → Keeps old new → held x old → held x new };
 
     ghost pieces_kept: { (x : Self) (old new : List Entry) → Keeps old new → held x old → pieces x new ≡ pieces x old };

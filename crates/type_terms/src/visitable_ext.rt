@@ -1,4 +1,4 @@
-//! What stands in a value, by what is kept with its terms.
+//! What occurs in a value, by what is stored with its terms.
 ghost use Rattle.std.specs.Prelude.{◌≡◌};
 ghost use Rattle.type_terms.specs.Pieces.{piece_flags, piece_binder};
 ghost use Rattle.type_terms.specs.Scans.{some_node_of, has_flag, is_param, is_infer, some_bound_of};
@@ -10,17 +10,16 @@ use crate::number::{BoundVarIndexKind, DebruijnIndex};
 use crate::region::{Region, RegionKind};
 use crate::visitable::TypeVisitable;
 
-/// Questions to a value that a scan of its nodes would answer, those below binders too.
+/// What occurs in a value, including what is below binders (rustc: `TypeVisitableExt`, and two methods of `Flags`).
 ///
-/// None of them walks: flags and outer binders were computed as the terms were made. The original's trait of this
-/// name, with the two methods of its `Flags`.
+/// No method visits the value, because flags and outer binders are stored with its terms.
 pub trait TypeVisitableExt: TypeVisitable {
     /// The union of the flags of the value's nodes.
     fn flags(self, cx: &Interner) -> TypeFlags
         requires { Self.held self cx.now.entries }
         ensures { result.0 ≡ piece_flags (Self.pieces self cx.now.entries) };
 
-    /// One more than the greatest binder number that leads out of the value, or 0 where none does.
+    /// One more than the greatest binder number that refers to a binder outside of the value, or 0 if there is none.
     fn outer_exclusive_binder(self, cx: &Interner) -> DebruijnIndex
         requires { Self.held self cx.now.entries }
         ensures { result.index ≡ piece_binder (Self.pieces self cx.now.entries) };
@@ -33,7 +32,7 @@ pub trait TypeVisitableExt: TypeVisitable {
         self.flags(cx).0 & flags.0 != 0
     }
 
-    /// Whether a parameter stands in the value, of whatever sort.
+    /// Whether a parameter of any kind occurs in the value.
     final fn has_param(self, cx: &Interner) -> bool
         requires { Self.held self cx.now.entries }
         ensures { result ≡ some_node_of is_param (Self.pieces self cx.now.entries) }
@@ -41,7 +40,7 @@ pub trait TypeVisitableExt: TypeVisitable {
         self.has_type_flags(cx, TypeFlags::HAS_PARAM)
     }
 
-    /// Whether a variable of inference stands in the value, of whatever sort.
+    /// Whether an inference variable of any kind occurs in the value.
     final fn has_infer(self, cx: &Interner) -> bool
         requires { Self.held self cx.now.entries }
         ensures { result ≡ some_node_of is_infer (Self.pieces self cx.now.entries) }
@@ -49,7 +48,7 @@ pub trait TypeVisitableExt: TypeVisitable {
         self.has_type_flags(cx, TypeFlags::HAS_INFER)
     }
 
-    /// Whether a bound variable stands in the value that belongs to this binder or to one further out, 0 being the
+    /// Whether a variable occurs in the value that is bound by this binder or by one further out, where 0 is the
     /// innermost binder around the value.
     final fn has_vars_bound_at_or_above(self, cx: &Interner, binder: DebruijnIndex) -> bool
         requires { Self.held self cx.now.entries }
