@@ -1,8 +1,8 @@
--- the binders around a node
+-- The binders around a node.
 use Rattle.std.specs.Prelude.{ℕ, List, [], ◌∷◌, replicate, reverse, ◌++◌}
 use Rattle.type_terms.specs.declared.binders.Binders.{Binders, Outermost, Inside', Empty, Listed'}
 
--- how many lifetimes each binds, the innermost first
+-- How many lifetimes each binder binds, the innermost first.
 abbrev pub counts_of : Binders → List ℕ
 counts_of Outermost = []
 counts_of (Inside' n p outer) = n ∷ counts_of outer

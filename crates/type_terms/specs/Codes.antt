@@ -1,4 +1,5 @@
--- Trees as stored values, so that a contract may see a struct as a list of them, and equality of trees as a test.
+-- Terms as values of the logic, so that a contract may describe a struct by a list of terms, and equality of terms as a
+-- test.
 use Rattle.std.specs.Prelude.{◌≡◌, ℕ, zero, suc, Bool, true, false, refl, [], ◌∷◌, ◌==◌, ◌&&◌}
 use Rattle.std.proofs.Common.{get_or, ap}
 use Rattle.std.specs.Coded.{Coded, coded_ℕ, coded×, code_by}
@@ -6,29 +7,29 @@ use base.Stored.{Gv, gnil, gcons}
 use Rattle.type_terms.specs.Promised.Label.{Label, Sort, of_type, of_const, of_lifetime, bool, char, str, never, array, slice, tuple, dynamic, static, int, uint, adt, fn_ptr, auto_trait, value, ref, raw_pointer, principal, param, placeholder, infer, canonical, bound, PredicateKind, of_trait, region_outlives, type_outlives, regions_equal, predicate}
 use Rattle.type_terms.specs.Promised.Trees.{Trees, none, tree}
 
--- A sort as a number.
+-- The kind as a number.
 abbrev pub sort_number : Sort → ℕ
 sort_number of_type = 0
 sort_number of_const = 1
 sort_number of_lifetime = 2
 
--- The sort with a number.
+-- The kind with this number.
 abbrev pub sort_at : ℕ → Sort
 sort_at zero = of_type
 sort_at (suc zero) = of_const
 sort_at _ = of_lifetime
 
--- A truth value as a number.
+-- The truth value as a number.
 abbrev pub bit : Bool → ℕ
 bit false = 0
 bit true = 1
 
--- The truth value with a number.
+-- The truth value with this number.
 abbrev pub truth : ℕ → Bool
 truth zero = false
 truth _ = true
 
--- A kind of predicate as two numbers: which it is, and its trait's number.
+-- The kind of predicate as two numbers: which it is, and the number of its trait.
 abbrev pub kind_numbers : PredicateKind → ℕ × ℕ
 kind_numbers (of_trait t) = (0, t)
 kind_numbers region_outlives = (1, 0)
@@ -42,7 +43,7 @@ kind_at (suc zero) t = region_outlives
 kind_at (suc (suc zero)) t = type_outlives
 kind_at _ t = regions_equal
 
--- A label as four numbers: which it is, and its own numbers.
+-- The label as four numbers: which it is, and the numbers that it has.
 abbrev pub numbers : Label → ℕ × (ℕ × (ℕ × ℕ))
 numbers bool = (0, (0, (0, 0)))
 numbers char = (1, (0, (0, 0)))
@@ -79,25 +80,25 @@ label_at (t, (a, (b, c))) =
     t
     never
 
--- Numbers of sorts lead back.
+-- The kind with a kind's number is that kind.
 sort-back : (s : Sort) → sort_at (sort_number s) ≡ s
 sort-back of_type = refl
 sort-back of_const = refl
 sort-back of_lifetime = refl
 
--- Numbers of truth values lead back.
+-- The truth value with a truth value's number is that truth value.
 truth-back : (b : Bool) → truth (bit b) ≡ b
 truth-back true = refl
 truth-back false = refl
 
--- Numbers of kinds of predicates lead back.
+-- The kind of predicate with the numbers of one is that one.
 kind-back : (k : PredicateKind) → kind_at (kind_numbers k).0 (kind_numbers k).1 ≡ k
 kind-back (of_trait t) = refl
 kind-back region_outlives = refl
 kind-back type_outlives = refl
 kind-back regions_equal = refl
 
--- A label is the one with its numbers.
+-- The label with a label's numbers is that label.
 pub label_back : (l : Label) → label_at (numbers l) ≡ l
 label_back (ref b) = ap ref (truth-back b)
 label_back (raw_pointer b) = ap raw_pointer (truth-back b)
@@ -109,26 +110,26 @@ label_back (bound s k v) = ap (λ r. bound r k v) (sort-back s)
 label_back (predicate k) = ap predicate (kind-back k)
 label_back l = refl
 
--- The code of a label.
+-- The code of labels.
 abbrev pub label_code : Coded Label
 label_code = code_by (ℕ × (ℕ × (ℕ × ℕ))) (coded× coded_ℕ (coded× coded_ℕ (coded× coded_ℕ coded_ℕ))) numbers label_at label_back
 
--- A tree as a stored value.
+-- The terms as a value of the logic.
 abbrev stored : Trees → Gv
 stored none = gnil
 stored (tree l c o) = gcons (label_code.code l) (gcons (stored c) (stored o))
 
--- The first part of a stored pair.
+-- The first part of a pair of values.
 abbrev first : Gv → Gv
 first (gcons a b) = a
 first _ = gnil
 
--- The second part of a stored pair.
+-- The second part of a pair of values.
 abbrev rest : Gv → Gv
 rest (gcons a b) = b
 rest _ = gnil
 
--- Different trees are stored differently.
+-- Different terms are different values.
 pub one_to_one : (x y : Trees) → stored x ≡ stored y → x ≡ y
 one_to_one none none e = refl
 one_to_one none (tree l c o) e = cc
@@ -139,19 +140,19 @@ one_to_one (tree l c o) (tree m d p) e =
     let others : o ≡ p = one_to_one o p (ap (λ g. rest (rest g)) e) in
     cc
 
--- The code of trees.
+-- The code of terms.
 abbrev pub trees_code : Coded Trees
 trees_code = record { code = stored; inj = one_to_one }
 
--- Two labels' numbers are equal.
+-- The numbers of two labels are equal.
 abbrev pub same_numbers : ℕ × (ℕ × (ℕ × ℕ)) → ℕ × (ℕ × (ℕ × ℕ)) → Bool
 same_numbers (a, (b, (c, d))) (e, (f, (g, h))) = (a == e) && ((b == f) && ((c == g) && (d == h)))
 
--- Two labels are equal.
+-- The two labels are equal.
 abbrev pub same_label : Label → Label → Bool
 same_label l m = same_numbers (numbers l) (numbers m)
 
--- Two trees are equal.
+-- The two terms are equal.
 abbrev pub same : Trees → Trees → Bool
 same none none = true
 same none (tree m d p) = false

@@ -1,4 +1,4 @@
--- how many handles of each kind there are
+-- The number of handles of each kind.
 use Rattle.std.specs.Prelude.{ℕ, ◌+◌, zero, suc}
 use Rattle.type_terms.specs.declared.node.Counts.{Counts}
 use Rattle.type_terms.specs.declared.node.HandleKind.{HandleKind}

@@ -1,4 +1,4 @@
--- What a call leaves of an interner, and why it may refuse.
+-- What a call changes in an interner, and when it may fail.
 use Rattle.std.specs.Prelude.{◌≡◌, IfErr}
 use Rattle.std.specs.declared.result.Result.{Result}
 use Rattle.type_terms.specs.Promised.Handles.{SomeKindIsFull}
@@ -7,16 +7,16 @@ use Rattle.type_terms.specs.Promised.Handles.{Keeps}
 use Rattle.type_terms.specs.declared.Fault.{Fault}
 use Rattle.type_terms.specs.declared.Fault.TheVariants.{Full}
 
--- every handle there was keeps its kind and its trees, and the limit is the same
+-- Every handle has the same kind and terms as before, and the limit is the same.
 pub record Grew (old new : Terms) : Type 0 where
   pub keeps : Keeps old.entries new.entries
   pub limit : new.limit ≡ old.limit
 
--- the fault is `Full` only where some kind of term has reached the limit
+-- The fault is `Full` only if some kind of handle has reached the limit.
 abbrev pub FullAtLimit : Terms → Fault → Type 0
 FullAtLimit t fault = fault ≡ Full → SomeKindIsFull t.entries t.limit
 
--- and what else a call leaves that may refuse: `Full` is its fault only where some kind of term has reached the limit
+-- The interner has grown. If the call fails with `Full`, some kind of handle has reached the limit.
 pub record GrewOrFull {A : Type 0} (old new : Terms) (result : Result A Fault) : Type 0 where
   pub grew : Grew old new
   pub full : IfErr result (FullAtLimit new)

@@ -1,4 +1,4 @@
--- What the interner's fields say.
+-- What the fields of an interner mean.
 use Rattle.std.specs.Prelude.{◌≡◌, ℕ, ◌+◌, ◌≤◌, List, [], length, map}
 use Rattle.indexmap.specs.IndexMap.{keys, values, spare}
 use Rattle.type_terms.specs.Terms.{Terms, args_lists, type_lists}
@@ -9,7 +9,7 @@ use Rattle.type_terms.specs.declared.node.Counts.{Counts}
 use Rattle.type_terms.specs.declared.interner.TheConstants.{MAX_HANDLES}
 use Rattle.type_terms.specs.declared.interner.Interner.TheInside.{Inside}
 
--- the counts are those of the terms
+-- The counts are those of the terms.
 pub record Counted (c : Counts) (es : List Entry) : Type 0 where
   pub types_held : c.types ≡ held types es
   pub consts_held : c.consts ≡ held consts es

@@ -1,4 +1,4 @@
--- The trees that a kind stands for, over the terms of an interner.
+-- The terms that a kind means, over the terms of an interner.
 use Rattle.std.specs.Prelude.{◌≡◌, ℕ, ◌<◌, List, [], ◌∷◌, Option, Some, None, Bool, true, false, map}
 use Rattle.std.specs.List.Sorted.{IsStrictlyIncreasing}
 use Rattle.type_terms.specs.Promised.Label.{Label, of_type, of_const, bool as l-bool, char as l-char, str as l-str, never as l-never, array, slice, tuple, dynamic, int, uint, adt, fn_ptr, auto_trait, value, ref, raw_pointer, principal, param, placeholder, infer}
@@ -23,7 +23,7 @@ use Rattle.type_terms.specs.declared.kinds.GenericArgKind.TheVariants.{Lifetime,
 use Rattle.type_terms.specs.declared.kinds.Principal.{Principal}
 use Rattle.type_terms.specs.declared.kinds.BoundsData.{BoundsData}
 
--- the numbers that labels have for integer types
+-- The numbers that labels have for integer types.
 abbrev pub int_number : IntTy → ℕ
 int_number I8 = 0
 int_number I16 = 1
@@ -40,13 +40,15 @@ uint_number U64 = 3
 uint_number U128 = 4
 uint_number Usize = 5
 
--- the mark that the labels of references and raw pointers have
+-- The mark that the labels of references and raw pointers have.
 abbrev pub is_mut : Mutability → Bool
 is_mut Not = false
 is_mut Mut = true
 
--- a type is one tree: `&'a T` has the lifetime and then T below it, `dyn B + 'a` the bounds and then the lifetime,
--- and an argument list stands below its struct as its arguments do, one after the other
+-- The term of a type. Its children are, for example:
+-- - `&'a T`: the lifetime, then T
+-- - `dyn B + 'a`: the bounds, then the lifetime
+-- - a struct: its arguments
 abbrev pub kind_trees : List Entry → TyKind → Trees
 kind_trees es KBool = leaf l-bool
 kind_trees es KChar = leaf l-char
@@ -67,7 +69,7 @@ kind_trees es (KPlaceholder i) = leaf (placeholder of_type i)
 kind_trees es (KBound k v) = leaf (bound_label of_type k v)
 kind_trees es (KInfer v) = leaf (infer of_type v.index)
 
--- a constant is one leaf
+-- The label of a constant. A constant has no children.
 abbrev pub const_label : ConstKind → Label
 const_label (CValue n) = value n
 const_label (CParam i) = param of_const i
@@ -78,7 +80,7 @@ const_label (CInfer v) = infer of_const v.index
 abbrev pub const_trees : ConstKind → Trees
 const_trees k = leaf (const_label k)
 
--- a list is its parts, one after the other
+-- The terms of a list of arguments, one after the other.
 abbrev pub args_trees : List Entry → List GenericArgKind → Trees
 args_trees es [] = none
 args_trees es (a ∷ rest) = arg_trees es a +++ args_trees es rest
@@ -87,7 +89,7 @@ abbrev pub tys_trees : List Entry → List of-ty.Ty → Trees
 tys_trees es [] = none
 tys_trees es (t ∷ ts) = trees_at es t.0 +++ tys_trees es ts
 
--- the principal trait, if there is one, and then the auto traits
+-- The principal, if there is one, followed by the auto traits.
 abbrev pub principal_trees : List Entry → Option Principal → Trees
 principal_trees es None = none
 principal_trees es (Some p) = tree (principal p.bound_vars p.def_id.index) (trees_at es p.args.0) none
@@ -126,7 +128,7 @@ PrincipalHeld es (Some p) = Has es args_lists p.args.0
 abbrev pub BoundsHeld : List Entry → BoundsData → Type 0
 BoundsHeld es b = PrincipalHeld es b.principal × IsStrictlyIncreasing (map (λ t. t.index) b.autos.items)
 
--- ---- the handles in a kind were made before handle n
+-- ---- the handles in a kind are smaller than n
 abbrev pub KindOlder : ℕ → TyKind → Type 0
 KindOlder n (Adt d args) = args.0 < n
 KindOlder n (Ref r t m) = t.0 < n

@@ -1,4 +1,5 @@
--- What holds in every linked set. Each law stands on the contract of a function of its name.
+-- Laws of linked sets, of erased worlds and of renumberings. For each there is a function of module `laws` that proves
+-- it.
 use Rattle.std.specs.Prelude.{◌≡◌, ℕ, true, false, IsTrue, List, [], ◌⊎◌, map}
 use Rattle.std.specs.List.{list_all}
 use Rattle.type_terms.specs.Promised.Trees.{Trees, Fits, erase}
@@ -18,25 +19,26 @@ use Rattle.type_terms.specs.Promised.Versions.{in_scope, Added}
 use Rattle.type_terms.specs.Promised.LinkedSet.{JoinedSet, LinkedSet, Cleared, IsOfAnAnsweredCrate, IsPair}
 use Rattle.type_terms.specs.LinkedSet.{Unknown}
 
--- An erased world is one of terms, and its views are the world's views, erased.
+-- An erased world has only erased terms, and its views are the erased views of the world.
 abbrev pub ErasedWorldsAreTerms : Type 0
 ErasedWorldsAreTerms = (W : World) → IsTerms (erased_world W) × ((c : ℕ) → view_of (erased_world W) c ≡ erased_world (view_of W c))
 
--- Rules of a world of terms ask terms where the reference is one: to erase at the start is enough.
+-- In a world without lifetimes, the premises of a trait reference without lifetimes have none either. So it is enough
+-- to erase lifetimes at the start.
 abbrev pub RulesOfTermsAskTerms : Type 0
 RulesOfTermsAskTerms =
     (W : World) → IsTerms W → (E : List Reference) (r : Reference) → IsErasedTerm r.args → (u : Rule) → In u (rules W E r)
     → Every (λ p. IsErasedTerm p.args) u.premises
 
--- An impl with arguments that may hold lifetimes gives a rule of the erased world, for each reference that its header is up to
--- lifetimes. So candidates that are matched up to lifetimes are rules.
+-- An impl whose arguments may have lifetimes gives a rule instance of the erased world, for each trait reference that
+-- equals its header up to lifetimes. So a candidate that is matched up to lifetimes is a rule instance.
 abbrev pub ImplsApplyUpToLifetimes : Type 0
 ImplsApplyUpToLifetimes =
     (V : World) (E : List Reference) (i : ImplDecl) (A : Trees) (r : Reference) → In i V.impls → IsCovered (erased_impl i) → outer_binder (erase A) ≡ 0
     → Fits A i.header.args → Every (λ k. Fits A k.args) i.clauses → erased_reference (with_args A i.header) ≡ erased_reference r
     → (u : Rule) → u ≡ record { way = by_impl i.name; premises = map erased_reference (all_with_args A i.clauses) } → In u (rules (erased_world V) E (erased_reference r))
 
--- Walks skip lifetimes, so the orphan rule and known references are those of the erased world.
+-- Orphan walks skip lifetimes, so the orphan rule and knowable trait references are those of the erased world.
 abbrev pub WalksSkipLifetimes : Type 0
 WalksSkipLifetimes =
     (W : World) (c : ℕ) (r : Reference)
@@ -51,19 +53,20 @@ CoreIsCoherent =
     (list_all (λ i. keeps_orphan_rule core_world core i.header) core_world.impls ≡ true)
     × ((i j : ImplDecl) → In i core_world.impls → In j core_world.impls → Overlaps i j → i.name ≡ j.name)
 
--- `core` alone is a linked set: its own `Copy` impls too have `Clone` and `Sized` proved.
+-- `core` alone is a linked set. In particular, its `Copy` impls have proofs of `Clone` and `Sized`.
 abbrev pub CoreIsLinked : Type 0
 CoreIsLinked = LinkedSet core_world [] (λ n. n)
 
--- A joined set in which each impl's crate was asked about its supertraits, and all were held, is a linked set. With `trait Sub: Sup`,
--- `impl Sub for u8` is held where `u8: Sup` has a proof, and `impl<T> Sub for T where T: Sup` whatever T is.
+-- A joined set in which the crates of all impls were answered `held` is a linked set. For example, with
+-- `trait Sub: Sup`, the impl `impl Sub for u8` is held if `u8: Sup` has a proof, and `impl<T> Sub for T where T: Sup`
+-- is held for every T.
 abbrev pub HeldSetsAreLinked : Type 0
 HeldSetsAreLinked =
     (W : World) (vs : List View) (rank : ℕ → ℕ) → JoinedSet W vs rank → ((i : ImplDecl) → In i W.impls → IsOfAnAnsweredCrate vs i)
     → ((v : View) → In v vs → IsHeld v.world v.asker) → LinkedSet W vs rank
 
--- What has a proof, by an impl or by a built-in rule, has its strict supertraits proved. With `trait Sub: Sup`, where `u8: Sub`
--- has a proof, so has `u8: Sup`.
+-- A trait reference with a proof has proofs of its supertraits, whether an impl or a built-in rule concludes it. For
+-- example, with `trait Sub: Sup`, if `u8: Sub` has a proof, so has `u8: Sup`.
 abbrev pub SupertraitsAreProved : World → List View → Type 0
 SupertraitsAreProved W vs = (r : Reference) → IsTrue (is_closed r.args) → HasProof W [] r → Every (HasProof W []) (strict_supertraits W r)
 
@@ -71,11 +74,11 @@ SupertraitsAreProved W vs = (r : Reference) → IsTrue (is_closed r.args) → Ha
 abbrev pub UsersSeeWhatTheirUsesSee : World → List View → Type 0
 UsersSeeWhatTheirUsesSee W vs = (c d e : ℕ) → sees W c d ≡ true → sees W d e ≡ true → sees W c e ≡ true
 
--- Two crates that see each other are one.
+-- Two crates that see each other are equal.
 abbrev pub NoTwoCratesSeeEachOther : World → List View → Type 0
 NoTwoCratesSeeEachOther W vs = (c d : ℕ) → sees W c d ≡ true → sees W d c ≡ true → c ≡ d
 
--- The walk lemma: what an impl of a crate that c does not see concludes is unknown to c.
+-- An impl of a crate that c does not see concludes only what is not knowable to c.
 abbrev pub UnseenImplsConcludeNothingKnown : World → List View → Type 0
 UnseenImplsConcludeNothingKnown W vs =
     (c : ℕ) (i : ImplDecl) → In i W.impls → sees W c i.home ≡ false → (A : Trees) → Fits A i.header.args → is_known W c (with_args A i.header) ≡ false
@@ -84,15 +87,17 @@ UnseenImplsConcludeNothingKnown W vs =
 abbrev pub UnrelatedImplsDoNotOverlap : World → List View → Type 0
 UnrelatedImplsDoNotOverlap W vs = (i j : ImplDecl) → In i W.impls → In j W.impls → sees W i.home j.home ≡ false → sees W j.home i.home ≡ false → Overlaps i j → ⊥
 
--- A rule of the set whose premises have proofs is a rule of an answer's view, or concludes what is unknown to its crate and
--- has its supertraits proved. r is written with the numbers of the answer's text.
+-- A rule instance of the set whose premises have proofs:
+-- - is a rule instance of an answer's view, or
+-- - concludes what is not knowable to the crate of the answer, and what has proofs of its supertraits.
+-- r has the numbers of the answer's text.
 abbrev pub WhatTheViewDoesNotGiveIsUnknown : World → List View → Type 0
 WhatTheViewDoesNotGiveIsUnknown W vs =
     (v : View) → HoldsView W v → (r : Reference) → IsTrue (is_closed r.args)
     → (u : Rule) → In u (rules W [] (renumbered_reference v.numbers r)) → Every (HasProof W []) u.premises
     → ((w : Rule) × In w (rules v.world [] r) × (renumbered_rule v.numbers w ≡ u)) ⊎ Unknown W (asker_in_set v) (renumbered_reference v.numbers r)
 
--- What is known to a crate by the view of its answer alone is known to it in the set.
+-- What is knowable to a crate by the view of its answer is knowable to it in the set.
 abbrev pub KnownByTheViewIsKnown : World → List View → Type 0
 KnownByTheViewIsKnown W vs =
     (v : View) → HoldsView W v → (r : Reference) → is_known_in v.world v.asker r ≡ true
@@ -102,52 +107,53 @@ KnownByTheViewIsKnown W vs =
 abbrev pub ProofsByTheViewHold : World → List View → Type 0
 ProofsByTheViewHold W vs = (v : View) → HoldsView W v → (r : Reference) → HasProof v.world [] r → HasProof W [] (renumbered_reference v.numbers r)
 
--- Where each impl's crate was accepted, so that each pair that its check looked at is cleared, no closed reference has proofs
--- by two impls.
+-- If the crates of all impls were accepted, so that each pair that they checked is cleared, no closed trait reference
+-- has proofs by two impls.
 abbrev pub NoTwoImpls : World → List View → Type 0
 NoTwoImpls W vs =
     ((i : ImplDecl) → In i W.impls → IsOfAnAnsweredCrate vs i)
     → ((v : View) → In v vs → (i j : ImplDecl) → IsPair v.world v.asker i j → Cleared W (renumbered_impl v.numbers i) (renumbered_impl v.numbers j))
     → (r : Reference) → IsTrue (is_closed r.args) → (n k : ℕ) → HasProofByImpl W [] r n → HasProofByImpl W [] r k → n ≡ k
 
--- `no` holds: what is bounded and not possible by the view of an answer has no proof in any linked set in which the answer stands.
+-- The answer `no` holds: a bounded trait reference that is not possible by the view of an answer has no proof in any
+-- linked set with that answer.
 abbrev pub NoHolds : World → List View → Type 0
 NoHolds W vs =
     (v : View) → HoldsView W v → (limit : ℕ) (r : Reference) → is_bounded limit v.world v.asker r ≡ true → is_possible limit v.world v.asker r ≡ false
     → HasProof W [] (renumbered_reference v.numbers r) → ⊥
 
--- A pair with a fixed where-clause that is bounded and not possible by the view of an answer is cleared in every linked set in
--- which the answer stands.
+-- A pair with a fixed clause that is bounded and not possible by the view of an answer is cleared in every linked set
+-- with that answer.
 abbrev pub AnImpossibleClauseClearsThePair : World → List View → Type 0
 AnImpossibleClauseClearsThePair W vs =
     (v : View) → HoldsView W v → (limit : ℕ) (i j : ImplDecl) (r : Reference) → IsFixedClause i j r
     → is_bounded limit v.world v.asker r ≡ true → is_possible limit v.world v.asker r ≡ false
     → Cleared W (renumbered_impl v.numbers i) (renumbered_impl v.numbers j)
 
--- The second walk lemma: what an impl that a later version of d may add concludes is unknown to every crate that d does not see,
--- so to each other crate that uses d, directly or through others.
+-- An impl that a later version of d may add concludes only what is not knowable to the crates that d does not see.
+-- These include all other crates that use d, directly or through others.
 abbrev pub LaterImplsConcludeNothingKnown : World → List View → Type 0
 LaterImplsConcludeNothingKnown W vs =
     (c d : ℕ) (i : ImplDecl) → sees W d c ≡ false → Added W d i → (A : Trees) → Fits A i.header.args → is_known W c (with_args A i.header) ≡ false
 
--- An impl that a later version of d may add overlaps no impl that a crate that uses d has, or may write some day.
+-- An impl that a later version of d may add overlaps no impl that a crate that uses d has or may write.
 abbrev pub LaterVersionsBreakNoUser : World → List View → Type 0
 LaterVersionsBreakNoUser W vs =
     (c d : ℕ) → sees W c d ≡ true → (c ≡ d → ⊥) → (i j : ImplDecl) → Added W d i → IsTrue (in_scope W c j.header) → IsTrue (keeps_orphan_rule W c j.header) → Overlaps i j → ⊥
 
--- A header that an accepted crate may write by its view, it may write in the set: it names what the crate sees there, and keeps
--- its orphan rule.
+-- A header that an accepted crate may write by its view is one that it may write in the set: the crate sees what it
+-- names, and the header keeps the orphan rule.
 abbrev pub KeptByTheViewIsKept : World → List View → Type 0
 KeptByTheViewIsKept W vs =
     (v : View) → HoldsView W v → (h : Reference) → in_scope v.world v.asker h ≡ true → keeps_orphan_rule v.world v.asker h ≡ true
     → (in_scope W (asker_in_set v) (renumbered_reference v.numbers h) ≡ true) × (keeps_orphan_rule W (asker_in_set v) (renumbered_reference v.numbers h) ≡ true)
 
--- An impl that a later version may add by its crate's view, it may add in the set.
+-- An impl that a later version may add by its crate's view is one that it may add in the set.
 abbrev pub AddedByTheViewIsAdded : World → List View → Type 0
 AddedByTheViewIsAdded W vs = (v : View) → HoldsView W v → (i : ImplDecl) → Added v.world v.asker i → Added W (asker_in_set v) (renumbered_impl v.numbers i)
 
--- All that is said of a view is said of it with other numbers: its rules, proofs, known, bounded and possible references, and
--- the common instances of impls.
+-- What holds of a view holds of it with other numbers: rules, proofs, knowable, bounded and possible trait references,
+-- and common instances of impls.
 pub record CarriesOver (ρ : Renumbering) (V U : World) : Type 0 where
   pub rules_there : (E : List Reference) (r : Reference) (u : Rule) → In u (rules V E r)
       → In (renumbered_rule ρ u) (rules U (map (renumbered_reference ρ) E) (renumbered_reference ρ r))
@@ -162,6 +168,6 @@ pub record CarriesOver (ρ : Renumbering) (V U : World) : Type 0 where
   pub common_there : (i j : ImplDecl) → CommonInstance i j → CommonInstance (renumbered_impl ρ i) (renumbered_impl ρ j)
   pub common_back : (i j : ImplDecl) → CommonInstance (renumbered_impl ρ i) (renumbered_impl ρ j) → CommonInstance i j
 
--- So it is with every renumbering.
+-- Every renumbering has this property.
 abbrev pub RenumberingCarriesOver : Type 0
 RenumberingCarriesOver = (ρ : Renumbering) (V U : World) → IsRenumbering ρ V U → CarriesOver ρ V U

@@ -1,4 +1,4 @@
--- The interner's nodes: each stands for the trees of one handle, over the terms before it.
+-- The nodes of an interner: each means the term of one handle, over the terms before it.
 use Rattle.std.specs.Prelude.{ℕ, List, [], ◌∷◌, ◌++◌}
 use Rattle.type_terms.specs.Promised.Trees.{Trees}
 use Rattle.type_terms.specs.Promised.Handles.{Entry, types, consts, bounds_lists}
@@ -25,7 +25,7 @@ node_trees es (Bounds b) = bounds_trees es b
 abbrev pub node_entry : List Entry → Node → Entry
 node_entry es n = record { kind = kind_of n; trees = node_trees es n }
 
--- each node's entry over those before it
+-- The entry of each node, over those of the nodes before it.
 abbrev pub grow : List Entry → List Node → List Entry
 grow es [] = es
 grow es (n ∷ ns) = grow (es ++ node_entry es n ∷ []) ns
@@ -37,7 +37,7 @@ Held es (Args v) = ArgsHeld es v.items
 Held es (Tys v) = TysHeld es v.items
 Held es (Bounds b) = BoundsHeld es b
 
--- each node's handles are those of nodes before it
+-- The handles of each node are those of nodes before it.
 abbrev pub Older : List Entry → List Node → Type 0
 Older es [] = Unit {0}
 Older es (n ∷ ns) = Held es n × Older (es ++ node_entry es n ∷ []) ns

@@ -15,7 +15,7 @@ use Rattle.type_terms.specs.declared.visit.Seen.{Seen}
 use Rattle.type_terms.specs.Visits.{around, VisitsEach}
 use Rattle.type_terms.specs.Pieces.{Piece}
 
--- a part, as trees
+-- The terms of a part.
 abbrev pub part_trees : List Entry → Part → Trees
 part_trees es (Arg a) = arg_trees es a
 part_trees es (Tys xs) = tys_trees es xs.now
@@ -33,27 +33,27 @@ AllHeld es [] = Unit {0}
 AllHeld es (Leave ∷ ps) = AllHeld es ps
 AllHeld es (Visit p ∷ ps) = PartHeld es p × AllHeld es ps
 
--- what is ahead, the next first, and the binders around the next, the innermost first
+-- What is ahead, the next first, and the binders around the next, the innermost first.
 abbrev pub ahead : Path → List Pending
 ahead p = reverse p.todo.items
 
 abbrev pub inside : Path → List ℕ
 inside p = reverse p.counts.items
 
--- trees under these binders
+-- The terms below these binders.
 abbrev pub piece : List ℕ → Trees → Piece
 piece cs t = record { counts = cs; trees = t }
 
--- the children of a node under these binders
+-- The children of a node below these binders.
 abbrev pub piece_below : List ℕ → Trees → Piece
 piece_below cs none = piece cs none
 piece_below cs (tree l c o) = piece (around l cs) c
 
--- two parts, one after the other, under the binders around what comes next
+-- Two parts, one after the other, below the binders around what comes next.
 abbrev pub piece_of_both : List Entry → Path → Part → Part → Piece
 piece_of_both es w p q = piece (inside w) (part_trees es p +++ part_trees es q)
 
--- what is ahead under these binders, each part under those that are around it
+-- What is ahead, starting below these binders, each part with the binders that are around it.
 abbrev pub pieces_ahead : List Entry → List ℕ → List Pending → List Piece
 pieces_ahead es cs [] = []
 pieces_ahead es cs (Leave ∷ ps) = pieces_ahead es (drop 1 cs) ps
@@ -62,11 +62,12 @@ pieces_ahead es cs (Visit p ∷ ps) = piece cs (part_trees es p) ∷ pieces_ahea
 abbrev pub path_pieces : List Entry → Path → List Piece
 path_pieces es p = pieces_ahead es (inside p) (ahead p)
 
--- without a break each visit of what comes after goes on to a visit of what came before, and a break is one
+-- If the first visit ended without a break, each visit of what is after completes a visit of what was before. If it
+-- ended with a break, it is a visit of what was before.
 abbrev pub VisitsFollow : {V B : Type 0} → (List ℕ → Trees → V → V → Seen B → Type 0) → List ℕ → List Piece → V → List Piece → V → Option B → Type 0
 VisitsFollow {V} {B} sees bs before v after w None = (x : V) (r : Option B) → VisitsEach sees bs after w x r → VisitsEach sees bs before v x r
 VisitsFollow sees bs before v after w (Some b) = VisitsEach sees bs before v w (Some b)
 
--- the same of a visit that stands at the first path, with a piece before what is ahead there, and then at the second
+-- The same for a visit that is at the first path, with a piece before what is ahead there, and then at the second.
 abbrev pub GoesOn : {V B : Type 0} → (List Entry → List ℕ → Trees → V → V → Seen B → Type 0) → List Entry → List ℕ → Piece → Path → V → Path → V → ControlFlow B (Unit {0}) → Type 0
 GoesOn sees es bs first p v q w r = VisitsFollow (sees es) bs (first ∷ path_pieces es p) v (path_pieces es q) w (break_value r)

@@ -1,4 +1,4 @@
--- What the promises of the calls rest on.
+-- The definitions that a reader of the promises must know.
 pub mod Answers
 pub mod Arranging
 pub mod Core

@@ -1,4 +1,4 @@
--- nodes that stand for the same term (two `Vec`s with the same items differ in capacity)
+-- Nodes that mean the same term. Two `Vec`s with the same items may differ in capacity.
 use Rattle.std.specs.Prelude.{◌≡◌}
 use Rattle.type_terms.specs.declared.kinds.BoundsData.{BoundsData}
 use Rattle.type_terms.specs.declared.node.Node.{Node}

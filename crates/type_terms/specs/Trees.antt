@@ -1,10 +1,9 @@
--- Trees: types, consts, lifetimes and lists of them, by first child and next sibling. `V<u8>, bool` is
--- tree (adt V) (tree (uint 0) none none) (tree bool none none).
+-- Functions of terms: tests, flags, depth, and matching with a pattern.
 use Rattle.std.specs.Prelude.{◌≡◌, ℕ, Bool, true, false, max, pred, zero, suc, bit_or, ◌&&◌, ◌==◌, if◌then◌else◌, Option, Some, None}
 use Rattle.type_terms.specs.Promised.Label.{Label, Sort, of_type, of_const, of_lifetime, param, placeholder, infer, canonical, bound, fn_ptr, principal, never, static}
 use Rattle.type_terms.specs.Promised.Trees.{Trees, none, tree, ◌+++◌, nth, sort_of, is_sort, leaf}
 
--- There is no tree.
+-- The list is empty.
 abbrev pub is_no_tree : Trees → Bool
 is_no_tree none = true
 is_no_tree (tree l c o) = false
@@ -26,20 +25,20 @@ abbrev pub own_binder : Label → ℕ
 own_binder (bound s k v) = suc k
 own_binder _ = zero
 
--- How far the children's binder numbers lead out of the node.
+-- The outer binder of a node, by the outer binder of its children.
 abbrev pub outside : Label → ℕ → ℕ
 outside (fn_ptr _) n = pred n
 outside (principal _ _) n = pred n
 outside _ n = n
 
--- One more than the greatest binder number that leads out of the tree, or 0 (`outer_exclusive_binder`).
--- 1 for `&'a u8` under `for<'a>`, 0 for `for<'a> fn(&'a u8)`.
+-- One more than the greatest binder number that refers to a binder outside of the terms, or 0 (rustc:
+-- `outer_exclusive_binder`). For example, 1 for the `&'a u8` in `for<'a> fn(&'a u8)`, and 0 for the whole type.
 abbrev pub outer_binder : Trees → ℕ
 outer_binder none = zero
 outer_binder (tree l c o) = max (max (own_binder l) (outside l (outer_binder c))) (outer_binder o)
 
--- The flags of a label (`TypeFlags`): parameter, variable, placeholder, bound variable, of types, lifetimes and consts; a
--- binder that has a lifetime; and `'static`.
+-- The flags of a label (rustc: `TypeFlags`). There is one for parameters, inference variables, placeholders and bound
+-- variables, each for types, lifetimes and constants, one for a binder that has a lifetime, and one for `'static`.
 abbrev pub label_flags : Label → ℕ
 label_flags (param of_type _) = 1
 label_flags (infer of_type _) = 2
@@ -66,38 +65,40 @@ abbrev pub flags : Trees → ℕ
 flags none = 0
 flags (tree l c o) = bit_or (bit_or (label_flags l) (flags c)) (flags o)
 
--- The number of nodes on the longest way down. `V<u8>` has 2.
+-- The greatest number of nodes above one another. For example, 2 for `V<u8>`.
 abbrev pub depth : Trees → ℕ
 depth none = zero
 depth (tree l c o) = max (suc (depth c)) (depth o)
 
--- The first of two that is there.
+-- The first of the two that is not empty.
 abbrev pub first_of : Trees → Trees → Trees
 first_of none y = y
 first_of (tree l c o) y = tree l c o
 
--- What stands in t at the first place where parameter i stands in the pattern p. In `V<u8>` by `V<T>`: u8 for T.
+-- What t has at the first position at which the pattern p has parameter i. For example, u8 for the T of `V<T>` in
+-- `V<u8>`.
 abbrev pub standing_at : ℕ → Trees → Trees → Trees
 standing_at i none t = none
 standing_at i (tree l c o) none = none
 standing_at i (tree (param s j) pc po) (tree m c o) = if i == j then tree m c none else standing_at i po o
 standing_at i (tree l pc po) (tree m c o) = first_of (standing_at i pc c) (standing_at i po o)
 
--- The arguments for the n parameters from k on, read off t by the pattern p; `!` for one that stands nowhere.
+-- The arguments for the n parameters from k, read from t by the pattern p. It is `!` for a parameter that p does not
+-- mention.
 abbrev pub arguments_from : ℕ → ℕ → Trees → Trees → Trees
 arguments_from k zero p t = none
 arguments_from k (suc n) p t = first_of (standing_at k p t) (leaf never) +++ arguments_from (suc k) n p t
 
--- The arguments for n parameters, read off t by the pattern p. `V<u8>` by `V<T>` gives [u8].
+-- The arguments for n parameters, read from t by the pattern p. For example, `V<T>` and `V<u8>` give [u8].
 abbrev pub arguments : ℕ → Trees → Trees → Trees
 arguments n p t = arguments_from 0 n p t
 
--- There is one tree.
+-- The list has one term.
 abbrev pub Single : Trees → Type 0
 Single none = ⊥
 Single (tree l c o) = o ≡ none
 
--- What a folder answers at a node: trees to put in its place, or the node itself, entered.
+-- What a folder puts at a node: the terms that it returns, or else the node itself with its children folded.
 abbrev pub placed : Option Trees → Trees → Trees
 placed None t = t
 placed (Some r) t = r

@@ -1,4 +1,5 @@
--- What a text that says too much, or too little, says of the crates themselves. Each law is a clause of a function of the crate.
+-- What the answers by a text that states more, or less, than the crates mean for the crates. For each law there is a
+-- function of module `laws` that proves it.
 use Rattle.std.specs.Prelude.{◌≡◌, ℕ, Bool, true, false, List, []}
 use Rattle.type_terms.specs.Promised.Trees.{Trees}
 use Rattle.type_terms.specs.Promised.Worlds.{World, Reference, ImplDecl}
@@ -11,18 +12,19 @@ use Rattle.type_terms.specs.Promised.Renumbering.{View, HoldsView, renumbered_re
 use Rattle.type_terms.specs.Promised.LinkedSet.{Cleared}
 use Rattle.type_terms.specs.Wider.{AsksNoMore, IsWider, IsBelow, HasRulesOf, IsPlainImpl, FewerClauses, PutIn, ClearedBy, Covers, AccountsFor, KeepsTest, SupersKeepTest, anything, widened}
 
--- An impl without some of its where-clauses is wider, and so is one of which it is an instance.
+-- An impl with fewer where-clauses is wider, and so is an impl of which it is an instance.
 abbrev pub WiderImpls : Type 0
 WiderImpls =
     ((t : Trees → Bool) (i j : ImplDecl) → FewerClauses i j → IsWider t i j)
     × ((C : Trees) (i j : ImplDecl) → PutIn C i j → IsWider is_closed i j)
 
--- Where two impls have a common instance, so have two wider ones.
+-- If two impls have a common instance, so have two wider ones.
 abbrev pub WiderImplsMeet : Type 0
 WiderImplsMeet =
     (i j i' j' : ImplDecl) → IsWider is_closed i i' → IsWider is_closed j j' → IsPlainImpl i → IsPlainImpl j → CommonInstance i j → CommonInstance i' j'
 
--- With wider impls in place of V's own, and further ones, the world is above V, where impls of auto traits keep their headers and none is new.
+-- V with wider impls in place of its own, and with further ones, is above V, if impls of auto traits keep their headers
+-- and none of these is added.
 abbrev pub WidenedIsAbove : Type 0
 WidenedIsAbove =
     (t : Trees → Bool) (V : World) (f : ImplDecl → ImplDecl) (js : List ImplDecl)
@@ -30,29 +32,29 @@ WidenedIsAbove =
     → ((j : ImplDecl) → In j js → is_auto V j.header.trait ≡ false)
     → IsBelow t V (widened f js V)
 
--- Each rule of V is one of the world above it, with some of the premises.
+-- Each rule instance of V is one of the world above it, with some of the premises.
 abbrev pub RulesHoldAbove : Type 0
 RulesHoldAbove =
     (t : Trees → Bool) (V U : World) → IsBelow t V U → (E : List Reference) (r : Reference) → t r.args ≡ true
     → (u : Rule) → In u (rules V E r) → AsksNoMore (rules U E r) u
 
--- So it has the rules of V: all that proofs take from it.
+-- A world above V has the rules of V that a proof needs.
 abbrev pub AboveHasRules : Type 0
 AboveHasRules = (t : Trees → Bool) (V U : World) → IsBelow t V U → (E : List Reference) → HasRulesOf t V U E
 
--- What has a proof by V has one by a world that has its rules: `yes` of a text that says too little holds of the crates themselves.
+-- A proof by V is a proof by a world that has its rules. So `yes` by a text that states less holds of the crates.
 abbrev pub ProofsHoldAbove : Type 0
 ProofsHoldAbove =
     (V U : World) (E : List Reference) → HasRulesOf anything V U E → (r : Reference)
     → (HasProof V E r → HasProof U E r) × (HasElaboratedProof V E r → HasElaboratedProof U E r)
 
--- So it is of references that pass a test, where rules and supertraits keep it.
+-- The same holds of trait references that pass a test, if premises and supertraits pass it as well.
 abbrev pub TestedProofsHoldAbove : Type 0
 TestedProofsHoldAbove =
     (t : Trees → Bool) (V U : World) (E : List Reference) → HasRulesOf t V U E → KeepsTest t V E → (r : Reference) → t r.args ≡ true
     → (HasProof V E r → HasProof U E r) × (SupersKeepTest t V → HasElaboratedProof V E r → HasElaboratedProof U E r)
 
--- So it is of closed references, and of pairs, by the view of a crate that some linked set holds.
+-- The same holds of closed trait references, and of pairs, by the view of a crate that some linked set has.
 abbrev pub ViewProofsHoldAbove : World → List View → Type 0
 ViewProofsHoldAbove W vs =
     (v : View) → HoldsView W v → (U : World) → HasRulesOf is_closed v.world U []
@@ -61,7 +63,7 @@ ViewProofsHoldAbove W vs =
     × ((i j i' j' : ImplDecl) → IsWider is_closed i i' → IsWider is_closed j j' → IsPlainImpl i → IsPlainImpl j
     → ClearedBy (HasElaboratedProof U []) i' j' → ClearedBy (HasElaboratedProof v.world []) i j)
 
--- Worlds of which one is above the other agree on headers, on known references and on supertraits.
+-- A world and one above it agree on headers, on knowable trait references and on supertraits.
 abbrev pub AgreeOnHeaders : Type 0
 AgreeOnHeaders =
     (t : Trees → Bool) (V U : World) → IsBelow t V U → (c : ℕ) (r : Reference)
@@ -73,11 +75,12 @@ PossibleAbove =
     (t : Trees → Bool) (V U : World) → IsBelow t V U → KeepsTest t V [] → SupersKeepTest t V
     → (limit c : ℕ) (r : Reference) → t r.args ≡ true → is_possible limit V c r ≡ true → is_possible limit U c r ≡ true
 
--- The world above covers V.
+-- The world above V covers V.
 abbrev pub AboveCovers : Type 0
 AboveCovers = (V U : World) → IsBelow is_closed V U → Covers V U
 
--- A pair is cleared where two wider impls are, in a world that has the rules: by proofs, and by elaborated proofs, which `accepted` takes.
+-- A pair is cleared if two wider impls are cleared in a world that has the rules: by proofs, and by the elaborated
+-- proofs that the verdict `accepted` is about.
 abbrev pub ClearedAboveIsCleared : Type 0
 ClearedAboveIsCleared =
     (V U : World) → HasRulesOf anything V U []
@@ -91,7 +94,7 @@ NoOfWhatIsAccountedFor =
     (U : World) (c : ℕ) (holds : Reference → Bool) → AccountsFor U c (λ r. holds r ≡ true)
     → (limit : ℕ) (r : Reference) → is_bounded limit U c r ≡ true → is_possible limit U c r ≡ false → holds r ≡ true → ⊥
 
--- `no` of a text that says too much holds: in a linked set that holds the crates themselves. No linked set has to hold the text.
+-- `no` by a text that states more holds in each linked set that has the crates. No linked set needs to have the text.
 abbrev pub NoAboveHolds : World → List View → Type 0
 NoAboveHolds W vs =
     (v : View) → HoldsView W v → (U : World) → Covers v.world U
@@ -104,15 +107,15 @@ AccountsForTheSet W vs =
     (v : View) → HoldsView W v → (U : World) → Covers v.world U
     → AccountsFor U v.asker (λ r. HasProof W [] (renumbered_reference v.numbers r))
 
--- What is known by the text, and has a proof in the set, follows by a rule of the text: a search takes this from a linked set, beside
--- the supertraits of what has a proof.
+-- A trait reference that is knowable by the text, and has a proof in the set, follows by a rule of the text. A search
+-- uses this of a linked set, and that supertraits of what has a proof have proofs.
 abbrev pub KnownHasARuleAbove : World → List View → Type 0
 KnownHasARuleAbove W vs =
     (v : View) → HoldsView W v → (U : World) → Covers v.world U
     → (r : Reference) → is_closed r.args ≡ true → is_known_in U v.asker r ≡ true → HasProof W [] (renumbered_reference v.numbers r)
     → (u : Rule) × In u (rules U [] r) × Every (λ p. HasProof W [] (renumbered_reference v.numbers p)) u.premises
 
--- A fixed where-clause of two wider impls that is impossible by the text clears the pair of the crates themselves.
+-- A fixed clause of two wider impls that is impossible by the text clears the pair of the crates.
 abbrev pub AnImpossibleClauseAboveClearsThePair : World → List View → Type 0
 AnImpossibleClauseAboveClearsThePair W vs =
     (v : View) → HoldsView W v → (U : World) → Covers v.world U
