@@ -1,4 +1,4 @@
--- `core` alone is what the long form says.
+-- The long definition of `core` agrees with the short one.
 use Rattle.std.proofs.Common.{◌≡◌, refl}
 use Rattle.text_language.specs.Declarations.{nothing_declared}
 use Rattle.text_language.specs.Promised.CoreText.{core_declared}

@@ -1,4 +1,4 @@
--- The fault of a line, by the smallest number of a test that holds, is the one by the first.
+-- The fault of a line by the smallest number of a true test is the fault by the first true test.
 use Rattle.std.proofs.Common.{◌≡◌, ℕ, Bool, true, false, cond, List, [], ◌∷◌, ◌++◌, Option, Some, None, refl, ap, ◌∙◌}
 use Rattle.std.specs.Prelude.{◌||◌, ◌&&◌, ◌==◌}
 use Rattle.std.specs.List.{list_any, list_all, flat_map}

@@ -1,4 +1,4 @@
--- The tests of one kind of line, of variables, of a `dyn`, and the limits: numbers 8 to 16.
+-- The tests for one kind of line, for variables, for a `dyn` and for limits: faults 8 to 16.
 use Rattle.std.proofs.Common.{◌≡◌, ℕ, zero, suc, ◌+◌, Bool, true, false, List, [], ◌∷◌, ◌++◌, length, Option, Some, None, bytes_eq, refl, sym, ap, ◌∙◌, arith}
 use Rattle.std.specs.Prelude.{◌||◌, ◌&&◌, not, ◌==◌, nat_lt}
 use Rattle.std.specs.Option.{option_map_or}

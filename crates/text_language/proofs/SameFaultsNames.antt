@@ -1,4 +1,4 @@
--- The tests on names, lifetimes and what they stand for: numbers 3 to 7.
+-- The tests for names, lifetimes and their meanings: faults 3 to 7.
 use Rattle.std.proofs.Common.{◌≡◌, ℕ, zero, suc, Bool, true, false, cond, List, [], ◌∷◌, ◌++◌, map, filter, find, length, Option, Some, None, is_some, option_map, option_and_then, bytes_eq, refl, sym, ap, subst, ◌∙◌}
 use Rattle.std.specs.Prelude.{◌||◌, ◌&&◌, not, ◌==◌, nat_le}
 use Rattle.std.specs.Option.{option_map_or, option_or}

@@ -1,4 +1,4 @@
--- A name stands at a lifetime's place only beside a misfit_mention.
+-- A name is at the position of a lifetime only together with a misfit_mention.
 use Rattle.std.proofs.Common.{◌≡◌, ℕ, suc, Bool, true, false, List, [], ◌∷◌, ◌++◌, map, drop, get_or, Option, Some, None, refl, sym, ap, ◌∙◌}
 use Rattle.std.specs.Prelude.{◌||◌}
 use Rattle.std.specs.Option.{option_to_list}

@@ -1,4 +1,4 @@
--- How a line is written, said by tests of its pieces and by tokens: the same. So are the lines of a text.
+-- The grammar by tests of pieces and by tokens agree. So do the lines of a text.
 use Rattle.std.proofs.Common.{◌≡◌, ℕ, Bool, true, List, [], ◌∷◌, cond, eqb, refl, sym, ap, ◌∙◌, subst}
 use Rattle.std.specs.List.{AllZip, onto_first}
 use Rattle.text_language.specs.Promised.Syntax.{Line}

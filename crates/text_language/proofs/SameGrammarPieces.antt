@@ -1,4 +1,4 @@
--- The pieces of a line, cut between neighbours, are the texts of the pieces that are gathered from the back.
+-- The pieces of a line that are cut between neighbours are those that are collected from the end.
 use Rattle.std.proofs.Common.{◌≡◌, ℕ, true, false, cond, ◌&&◌, ◌||◌, eqb, List, [], ◌∷◌, slice_index, refl, sym, ap, ◌∙◌}
 use Rattle.std.proofs.lemmas.Bool.{eqb-true, ne_eqb, cond_both, cond-true, cond-false, or_from, or_left, and_left, and_right, and_from, and_parts, false≢true}
 use Rattle.std.specs.List.{onto_first}

@@ -1,4 +1,4 @@
--- The tests of a line's pieces are those of the tokens of its spelling.
+-- The tests of a line's pieces are those of its tokens.
 use Rattle.std.proofs.Common.{◌≡◌, ℕ, Bool, true, false, not, ◌&&◌, ◌||◌, List, [], ◌∷◌, ◌++◌, map, Option, Some, None, codes, flat_map, slice_index, ◌==◌, refl, sym, ap, ◌∙◌, append_assoc, append-nil, bytes_eq}
 use Rattle.std.specs.Char.{is_ascii_alphabetic, is_ascii_digit}
 use Rattle.std.specs.List.{list_all, list_any}

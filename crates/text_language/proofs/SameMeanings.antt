@@ -1,4 +1,4 @@
--- A line without a fault adds to the declarations what the long form says.
+-- A line without a fault adds to the declarations what the long definition gives.
 use Rattle.std.proofs.Common.{◌≡◌, ℕ, suc, ◌+◌, ◌-◌, Bool, true, false, ◌||◌, List, [], ◌∷◌, ◌++◌, map, length, None, refl, ap, ◌∙◌, arith}
 use Rattle.std.specs.Prelude.{if◌then◌else◌}
 use Rattle.std.specs.List.{fold, list_any, flat_map}

@@ -1,4 +1,4 @@
--- The auto traits of a `dyn`: put in by their numbers from the left they are the same as put in from the right.
+-- The auto traits of a `dyn`: inserting them by their numbers from the left or from the right gives the same list.
 use Rattle.std.proofs.Common.{◌≡◌, ℕ, suc, ◌<◌, ◌≤◌, Bool, true, false, List, [], ◌∷◌, ◌++◌, refl, sym, ap, ◌∙◌, subst, arith, cond}
 use Rattle.std.proofs.lemmas.Bool.{lt-ltb, ltb-true, le-ltb, ltb-false, eqb-true, eq-eqb}
 use Rattle.std.specs.Prelude.{if◌then◌else◌, nat_lt, filter, ◌==◌}

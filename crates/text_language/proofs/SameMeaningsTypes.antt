@@ -1,4 +1,5 @@
--- What a line without a fault uses fits its places, and so its types stand for the trees that the long form gives them.
+-- What a line without a fault mentions is of the kind that its position needs, so its types mean the terms that the
+-- long definition gives.
 use Rattle.std.proofs.Common.{◌≡◌, ℕ, suc, ◌+◌, Bool, true, false, not, ◌||◌, ◌&&◌, List, [], ◌∷◌, ◌++◌, map, length, Option, Some, None, refl, sym, ap, ◌∙◌, arith}
 use Rattle.std.proofs.lemmas.Bool.{eqb-true, eq-eqb}
 use Rattle.std.specs.Prelude.{if◌then◌else◌, unwrap_or, ◌==◌}

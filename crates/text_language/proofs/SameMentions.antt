@@ -1,4 +1,4 @@
--- What a line mentions is what it uses, in the same order.
+-- The mentions of a line are those of the long definition, in the same order.
 use Rattle.std.proofs.Common.{◌≡◌, ℕ, suc, List, [], ◌∷◌, ◌++◌, map, length, drop, get_or, Option, Some, None, refl, ap, ◌∙◌, ◌+◌, arith}
 use Rattle.std.specs.Prelude.{nat_lt}
 use Rattle.std.specs.Option.{option_map_or}

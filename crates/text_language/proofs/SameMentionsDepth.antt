@@ -1,4 +1,4 @@
--- How deep types stand in a line, told by its mentions.
+-- The depth of the types in a line, by its mentions.
 use Rattle.std.proofs.Common.{◌≡◌, ℕ, zero, suc, ◌+◌, Bool, true, false, List, [], ◌∷◌, ◌++◌, map, drop, get_or, Option, Some, None, refl, ap, sym, ◌∙◌, arith}
 use Rattle.std.specs.Prelude.{max, nat_lt, ◌||◌, ◌&&◌, not, ◌==◌, if◌then◌else◌}
 use Rattle.std.specs.List.{flat_map, list_any}

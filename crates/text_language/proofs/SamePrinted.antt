@@ -1,4 +1,4 @@
--- Types and values print as the definitions of the text say.
+-- Types and values are printed as the definitions of the text give them.
 use Rattle.std.proofs.Common.{◌≡◌, ℕ, suc, ◌≤◌, Bool, true, false, not, ◌||◌, List, [], ◌∷◌, ◌++◌, map, filter, fold, zip, flat_map, length, slice_get, is_some, codes, decimal, if◌then◌else◌, refl, sym, ap, ap₂, subst, ◌∙◌, append-nil, length-append, arith}
 use Rattle.std.proofs.lemmas.List.{map-append}
 use Rattle.std.specs.List.{list_any, range_with_len, AllByRecursion}

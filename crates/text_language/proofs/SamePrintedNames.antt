@@ -1,4 +1,4 @@
--- Unknowns that stand for parameters or variables have the names of those.
+-- Inference variables for parameters or variables have the names of these.
 use Rattle.std.proofs.Common.{◌≡◌, ◌≢◌, ℕ, zero, suc, ◌+◌, true, false, cond, ◌&&◌, List, [], ◌∷◌, ◌++◌, map, filter, scan, zip, count_by, slice_get, is_some, if◌then◌else◌, refl, sym, ap, ◌∙◌, arith, eq-eqb, ne_eqb, true≢false}
 use Rattle.std.proofs.lemmas.List.Sums.{sum_by-cons}
 use Rattle.std.specs.List.{list_any}

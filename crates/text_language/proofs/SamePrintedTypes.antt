@@ -1,4 +1,4 @@
--- A tree prints the same, where the unknowns in it have the same texts.
+-- A term is printed in the same way if its inference variables have the same texts.
 use Rattle.std.proofs.Common.{◌≡◌, ℕ, zero, suc, ◌-◌, min, Bool, true, false, ◌&&◌, ◌||◌, List, [], ◌∷◌, ◌++◌, find, fold, length, take, slice_get, unwrap_or, Option, Some, None, codes, ◌==◌, if◌then◌else◌, refl, sym, ap, ap₂, ◌∙◌, append_assoc, append-nil, arith, true≢false, ne_eqb}
 use Rattle.std.specs.List.{join_by, flat_map, AllByRecursion}
 use Rattle.std.specs.Option.{option_map_or}

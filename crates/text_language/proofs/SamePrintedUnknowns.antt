@@ -1,4 +1,4 @@
--- The further unknowns of the values of a question's variables are numbered by their first places.
+-- Further inference variables in the values of a query are numbered in the order in which they first occur.
 use Rattle.std.proofs.Common.{◌≡◌, ℕ, zero, suc, ◌+◌, ◌≤◌, Bool, true, false, ◌&&◌, ◌||◌, List, [], ◌∷◌, ◌++◌, map, find, fold, flat_map, zip, length, slice_get, is_some, nat_lt, ◌==◌, if◌then◌else◌, refl, sym, ap, ap₂, ◌∙◌, append_assoc, length-append, arith, eq-eqb, eqb-true, le-ltb, lt-ltb, true≢false, inl, inr}
 use Rattle.std.proofs.lemmas.List.{map-append}
 use Rattle.std.proofs.lemmas.List.Sums.{fold-append}

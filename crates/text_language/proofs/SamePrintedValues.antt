@@ -1,4 +1,4 @@
--- The variables with a value of their own, and the texts of their values one after the other.
+-- The variables whose value is not their own inference variable, and the texts of the values, one after the other.
 use Rattle.std.proofs.Common.{◌≡◌, ℕ, suc, Bool, true, false, not, cond, List, [], ◌∷◌, ◌++◌, map, filter, zip, flat_map, drop, codes, if◌then◌else◌, refl, ap, ap₂, ◌∙◌}
 use Rattle.std.specs.List.{AllByRecursion}
 use Rattle.type_terms.specs.Promised.Label.{Label, Sort, of_type, of_const, of_lifetime, infer}

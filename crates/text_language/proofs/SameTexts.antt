@@ -1,4 +1,4 @@
--- What a text says is what it gives.
+-- The short and the long definition of a text's meaning agree.
 use Rattle.std.proofs.Common.{◌≡◌, ℕ, suc, List, Option, Some, None, Result, Ok, Err, refl, sym, ◌∙◌, subst}
 use Rattle.std.specs.Option.{option_map_or}
 use Rattle.text_language.specs.Promised.Declarations.{Declarations}

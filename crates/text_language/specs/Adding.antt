@@ -10,7 +10,7 @@ use Rattle.text_language.specs.Promised.Faults.{with_own}
 use Rattle.text_language.specs.Faults.{variables_in, once}
 use Rattle.text_language.specs.Lowering.{Meanings, crate_number, field_trees, bound_with_self, clause_reference}
 
--- what names stand for in an item's line, whose parameters count from `first`, and in a question's
+-- What the names in an item's line mean, where parameters are numbered from `first`, and what those in a query mean.
 abbrev pub item_meanings : Declarations → Line → ℕ → Meanings
 item_meanings d l first = record { items = with_own d l; params = params_of l; first = first; parameter = param; variables = [] }
 
@@ -23,11 +23,11 @@ crate_of d n us = record { text = n; item = record { name = length d.crates; use
 abbrev pub struct_of : Declarations → Meanings → Bool → List ℕ → Params → Types → NamedStruct
 struct_of d e f n ps fs = record { text = n; kinds = kinds_of ps; item = record { name = length d.structs; home = last_crate d; is_fundamental = f; fields = field_trees e fs } }
 
--- parameter 0 is Self
+-- The trait of the line. Its parameter 0 is Self.
 abbrev pub trait_of : Declarations → Meanings → Bool → Bool → List ℕ → Params → List Bound → NamedTrait
 trait_of d e f a n ps bs = record { text = n; kinds = kinds_of ps; item = record { name = length d.traits; home = last_crate d; is_fundamental = f; is_auto = a; bounds = map (bound_with_self e (leaf (param of_type 0))) bs } }
 
--- in a section it counts from 0 there, and is of the crate that is changed
+-- The impl of the line. In a section it is numbered from 0, and is of the section's crate.
 abbrev pub impl_of : Declarations → Meanings → Params → Clause → List Clause → NamedImpl
 impl_of d e ps h ks = record {
   params = sorted_names ps;
@@ -56,7 +56,8 @@ with_section d c = record d { sections = d.sections ++ c ∷ []; checks = d.chec
 abbrev pub with_supers : Declarations → ℕ → Declarations
 with_supers d c = record d { checks = d.checks ++ of_supers c ∷ [] }
 
--- a `crate` line ends a section, and so does a `later` line; a question does not, nor does a `supers` line
+-- The declarations with the line. A section ends at a `crate` line and at a `later` line, but not at a query or a
+-- `supers` line.
 abbrev pub added : Declarations → Line → Declarations
 added d (crate_line n us) = record d { crates = d.crates ++ crate_of d n us ∷ []; in_section = false }
 added d (struct_line f n ps fs) = record d { structs = d.structs ++ struct_of d (item_meanings d (struct_line f n ps fs) 0) f n ps fs ∷ [] }

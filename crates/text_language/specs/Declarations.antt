@@ -1,4 +1,4 @@
--- What a text declares and asks.
+-- What a text declares at its beginning: the long definition of `core`.
 use Rattle.std.specs.Prelude.{ℕ, ◌+◌, false, true, List, [], ◌∷◌, ◌++◌, map, codes}
 use Rattle.type_terms.specs.Promised.Label.{Sort, of_type, of_const, of_lifetime, array, ref, raw_pointer, param}
 use Rattle.type_terms.specs.Promised.Trees.{none, tree, leaf}
@@ -11,23 +11,23 @@ use Rattle.text_language.specs.Promised.Declarations.{NamedTrait, NamedImpl, Dec
 abbrev pub with_sort : Sort → List (List ℕ) → List (List ℕ × Sort)
 with_sort s ns = map (λ n. (n, s)) ns
 
--- names with their sorts
+-- The names of the parameters, with their kinds.
 abbrev pub sorted_names : Params → List (List ℕ × Sort)
 sorted_names p = with_sort of_lifetime p.lifetimes ++ with_sort of_type p.types ++ with_sort of_const p.consts
 
 -- ---- `core`
--- the names of its traits, with the kinds of their parameters
+-- The names of the traits of `core`, with the kinds of their parameters.
 abbrev pub core_trait_names : List (List ℕ × List Sort)
 core_trait_names =
     (codes "Sized", []) ∷ (codes "Clone", []) ∷ (codes "Copy", []) ∷ (codes "Tuple", []) ∷ (codes "FnPtr", [])
     ∷ (codes "FnOnce", of_type ∷ []) ∷ (codes "FnMut", of_type ∷ []) ∷ (codes "Fn", of_type ∷ []) ∷ (codes "Unsize", of_type ∷ []) ∷ []
 
--- traits with their names, in order
+-- The traits with their names, in order.
 abbrev pub named_traits : List (List ℕ × List Sort) → List TraitDecl → List NamedTrait
 named_traits (n ∷ ns) (t ∷ ts) = record { text = n.0; kinds = n.1; item = t } ∷ named_traits ns ts
 named_traits _ _ = []
 
--- an impl without parameters
+-- An impl without parameters.
 abbrev pub bare_impl : ImplDecl → NamedImpl
 bare_impl i = record { params = []; item = i }
 
@@ -40,8 +40,8 @@ type_T = (codes "T", of_type)
 abbrev pub const_N : List ℕ × Sort
 const_N = (codes "N", of_const)
 
--- The impls of `Clone`, or of `Copy`, for scalars, `<'a, T> &'a T`, `<T> *const T`, `<T> *mut T`, `<T, const N> [T; N]`, numbered from
--- n on. A text keeps lifetimes: what rules read is the same without them.
+-- The impls of `Clone` or of `Copy`, numbered from n: for scalars, `<'a, T> &'a T`, `<T> *const T`, `<T> *mut T` and
+-- `<T, const N> [T; N]`. Texts have lifetimes. Without them, these are the impls that rules read.
 abbrev pub copied : ℕ → ℕ → List NamedImpl
 copied n t =
     map bare_impl (impls_for n t scalars)
@@ -57,7 +57,7 @@ copied n t =
     }
     ∷ []
 
--- `core` alone, as its lines declare it
+-- The declarations of `core` alone.
 abbrev pub nothing_declared : Declarations
 nothing_declared = record {
   crates = record { text = codes "core"; item = record { name = core; uses = [] } } ∷ [];

@@ -1,4 +1,5 @@
--- What can be wrong with a line that is written well, after the declarations of the lines before it: one test for each number.
+-- The tests for faults, by number. They read a line that follows the grammar, and the declarations of the lines before
+-- it.
 use Rattle.std.specs.Prelude.{ℕ, ◌^◌, Bool, true, false, ◌||◌, ◌&&◌, not, List, [], ◌∷◌, ◌++◌, length, Option, Some, None, is_some, count_by, filter, nat_le, nat_lt, ◌==◌, if◌then◌else◌, codes}
 use Rattle.std.specs.List.{list_any, flat_map}
 use Rattle.std.specs.Option.{option_map_or, option_and_then}
@@ -11,8 +12,8 @@ use Rattle.text_language.specs.Promised.Declarations.{Declarations, world_of, Kn
 use Rattle.text_language.specs.Uses.{ItemShape, bound_shape, lifetime_shape, Use, crate_use, name_use, trait_use, lifetime_use, binder_use, variable_use, misfit_use, dyn_use, items_use, number_use, uses, asked_uses, other_uses, header_uses, bound_uses, params_of, declared_name, types_count, line_depth}
 use Rattle.text_language.specs.Promised.Faults.{is_among, repeats, with_own, is_auto_name, built_in_traits, last_items}
 
--- ---- 3: a struct, trait or impl before any crate; in a section of a later version, a struct or trait
--- `later core`, then `impl Clone for str`, needs no crate before it
+-- ---- fault 3: a struct, trait or impl before any crate, or a struct or trait in a section of a later version
+-- A section may precede all crates. For example, `later core` followed by `impl Clone for str`.
 abbrev pub belongs_to_crate : Line → Bool
 belongs_to_crate (struct_line f n ps fs) = true
 belongs_to_crate (trait_line f a n ps bs) = true
@@ -26,8 +27,8 @@ is_impl _ = false
 abbrev pub is_misplaced : Declarations → Line → Bool
 is_misplaced d l = belongs_to_crate l && (if d.in_section then not (is_impl l) else nat_le (length d.crates) 1)
 
--- ---- 4: the declared name is taken; or the name of a parameter or of a binder repeats one in scope, is `'static`, or is a known
--- crate, struct or trait. Names of lifetimes are apart from all others
+-- ---- fault 4: a declared name that is declared already, or a name of a parameter or of a binder that is in scope
+-- already, is `'static`, or is declared. Lifetimes have names of their own.
 abbrev pub declares_taken : Declarations → Line → Bool
 declares_taken d l = option_map_or (λ n. is_some (known d n)) (declared_name l) false
 
@@ -40,7 +41,7 @@ is_taken_param d l =
     || (repeats ((params_of l).types ++ (params_of l).consts)
     || list_any (λ n. is_some (known (with_own d l) n)) ((params_of l).types ++ (params_of l).consts)))
 
--- in scope: the lifetimes of the line's parameters, and those of the binders around
+-- The lifetime is in scope: it is of the line's parameters, or of the binders around.
 abbrev pub is_in_scope : Line → List (List (List ℕ)) → List ℕ → Bool
 is_in_scope l s n = is_among n (params_of l).lifetimes || list_any (is_among n) s
 
@@ -51,7 +52,7 @@ is_taken_binder l _ = false
 abbrev pub takes_names : Declarations → Line → Bool
 takes_names d l = declares_taken d l || (is_taken_param d l || list_any (is_taken_binder l) (uses (with_own d l) l))
 
--- ---- 5: a name or a lifetime isn't known
+-- ---- fault 5: a name or a lifetime that is not declared
 abbrev pub is_line_param : Line → List ℕ → Bool
 is_line_param l n = is_among n ((params_of l).types ++ (params_of l).consts)
 
@@ -68,14 +69,16 @@ is_unknown_use d l _ = false
 abbrev pub uses_unknown : Declarations → Line → Bool
 uses_unknown d l = list_any (is_unknown_use d l) (uses (with_own d l) l)
 
--- ---- 6: a known struct or trait isn't seen by the crate
--- `crate a; trait Show; crate b; impl Show for u8`: b doesn't use a
+-- ---- fault 6: a declared struct or trait that the crate does not see
+-- For example, `crate a; trait Show; crate b; impl Show for u8`, where b does not use a.
 abbrev pub number_of_crate : Known → Option ℕ
 number_of_crate (a_crate k) = Some k
 number_of_crate _ = None
 
--- the crate that has to see what the line uses: of a question the one that asks, of an item the one that it belongs to, of an impl of a
--- section the one that is changed
+-- The crate that must see what the line mentions:
+-- - of a query: the crate in which it is asked
+-- - of an impl in a section: the crate of the section
+-- - of another item: its own crate
 abbrev pub looking_crate : Declarations → Line → Option ℕ
 looking_crate d (prove_line c ps a ks) = option_and_then number_of_crate (known d c)
 looking_crate d (refute_line c ps a) = option_and_then number_of_crate (known d c)
@@ -100,12 +103,12 @@ is_hidden_use d l c _ = false
 abbrev pub uses_hidden : Declarations → Line → Bool
 uses_hidden d l = option_map_or (λ c. list_any (is_hidden_use d l c) (uses (with_own d l) l)) (looking_crate d l) false
 
--- ---- 7: a known name of another sort than is needed, or arguments of wrong number or kind
+-- ---- fault 7: a declared name of another kind than is needed, or arguments of the wrong number or kind
 abbrev pub is_crate : Known → Bool
 is_crate (a_crate k) = true
 is_crate _ = false
 
--- a struct with so many arguments, where a type has to stand
+-- The item is a struct with this number of arguments, at the position of a type.
 abbrev pub is_type_of : Sort → ℕ → Known → Bool
 is_type_of of_type k (a_struct i h kinds) = length kinds == k
 is_type_of _ _ _ = false
@@ -114,7 +117,7 @@ abbrev pub is_trait_of : ℕ → Known → Bool
 is_trait_of k (a_trait i h a kinds) = length kinds == k
 is_trait_of k _ = false
 
--- a parameter has no arguments
+-- The name is a parameter of this kind. A parameter has no arguments.
 abbrev pub is_param_of : Line → Sort → List ℕ → ℕ → Bool
 is_param_of l of_type n k = is_among n (params_of l).types && (k == 0)
 is_param_of l of_const n k = is_among n (params_of l).consts && (k == 0)
@@ -130,7 +133,7 @@ is_other_sort d l _ = false
 abbrev pub uses_other_sort : Declarations → Line → Bool
 uses_other_sort d l = list_any (is_other_sort d l) (uses (with_own d l) l)
 
--- ---- 8: a type or const parameter of an impl isn't in its header
+-- ---- fault 8: a type or const parameter of an impl that is not in its header
 abbrev pub is_name_use : List ℕ → Use → Bool
 is_name_use n (name_use p m k) = bytes_eq m n
 is_name_use n _ = false
@@ -139,7 +142,7 @@ abbrev pub has_free_param : Declarations → Line → Bool
 has_free_param d (impl_line ps h ks) = list_any (λ n. not (list_any (is_name_use n) (header_uses d h))) (ps.types ++ ps.consts)
 has_free_param d _ = false
 
--- ---- 9: a trait's bounds use the trait's own name
+-- ---- fault 9: a trait whose bounds use the trait's own name
 abbrev pub is_use_of : List ℕ → Use → Bool
 is_use_of n (name_use p m k) = bytes_eq m n
 is_use_of n (trait_use m k) = bytes_eq m n
@@ -149,7 +152,7 @@ abbrev pub bounds_use_own : Declarations → Line → Bool
 bounds_use_own d (trait_line f a n ps bs) = list_any (is_use_of n) (flat_map (bound_uses d) bs)
 bounds_use_own d _ = false
 
--- ---- 10: an auto trait with parameters or bounds
+-- ---- fault 10: an auto trait with parameters or bounds
 abbrev pub is_loaded_auto : Line → Bool
 is_loaded_auto (trait_line f a n ps bs) = a && not ((length (kinds_of ps) == 0) && (length bs == 0))
 is_loaded_auto _ = false
@@ -174,7 +177,7 @@ abbrev pub implements_built_in : Declarations → Line → Bool
 implements_built_in d (impl_line ps h ks) = option_map_or is_built_in (known d h.bound.trait) false
 implements_built_in d _ = false
 
--- ---- 13: a variable outside the asked reference of a question, or of two kinds
+-- ---- fault 13: a variable that is not in the bound of a query, or that is of two kinds
 abbrev pub variables_in : List Use → List (List ℕ × Sort)
 variables_in [] = []
 variables_in (variable_use p n ∷ us) = (n, p) ∷ variables_in us
@@ -192,18 +195,18 @@ has_stray_variable d l =
     is_any (variables_in (other_uses (with_own d l) l))
     || list_any (λ v. list_any (is_of_other_kind v) (variables_in (asked_uses d l))) (variables_in (asked_uses d l))
 
--- ---- 14: parameters in `refute`
+-- ---- fault 14: parameters in `refute`
 abbrev pub refutes_params : Line → Bool
 refutes_params (refute_line c ps a) = not (length (kinds_of ps) == 0)
 refutes_params _ = false
 
--- ---- 15: a `dyn` without a bound; two bounds that aren't auto traits, or one that isn't first; a binder before an auto trait; a
--- lifetime that isn't last
+-- ---- fault 15: a `dyn` without a bound, with two bounds that are not auto traits, with one that is not first, with a
+-- binder before an auto trait, or with a lifetime that is not last
 abbrev pub is_bound : ItemShape → Bool
 is_bound (bound_shape b n) = true
 is_bound lifetime_shape = false
 
--- an item behind the first
+-- The bound may not follow another one.
 abbrev pub is_late : Declarations → ItemShape → Bool
 is_late d (bound_shape b n) = not (is_auto_name d n)
 is_late d lifetime_shape = false
@@ -216,7 +219,7 @@ abbrev pub others : List ItemShape → List ItemShape
 others [] = []
 others (i ∷ is) = is
 
--- a lifetime with something behind it
+-- A lifetime is followed by something.
 abbrev pub has_early_lifetime : List ItemShape → Bool
 has_early_lifetime [] = false
 has_early_lifetime (i ∷ []) = false
@@ -230,7 +233,7 @@ is_bad_dyn d _ = false
 abbrev pub has_bad_dyn : Declarations → Line → Bool
 has_bad_dyn d l = list_any (is_bad_dyn (with_own d l)) (uses (with_own d l) l)
 
--- ---- 16: a limit passed
+-- ---- fault 16: a limit is exceeded
 abbrev pub name_limit : ℕ
 name_limit = 64
 
@@ -249,11 +252,11 @@ param_limit = 16
 abbrev pub variable_limit : ℕ
 variable_limit = 16
 
--- of a tuple, and of the inputs of a fn
+-- The limit of the items of a tuple, and of the inputs of a fn.
 abbrev pub list_limit : ℕ
 list_limit = 12
 
--- fields of a struct, clauses, bounds of a trait or a `dyn`
+-- The limit of fields, where-clauses, and bounds of a trait or a `dyn`.
 abbrev pub part_limit : ℕ
 part_limit = 64
 
@@ -263,7 +266,7 @@ depth_limit = 64
 abbrev pub is_long : List ℕ → Bool
 is_long n = nat_lt name_limit (length n)
 
--- a used name that is too long is never known
+-- The line declares a name that is too long. A mentioned name that is too long is not declared, which is fault 5.
 abbrev pub has_long_name : Line → Bool
 has_long_name l = option_map_or is_long (declared_name l) false || list_any is_long (names_of (params_of l))
 
@@ -275,12 +278,13 @@ passes_in (items_use k) = nat_lt list_limit k
 passes_in (number_use n) = nat_le (2 ^ 64) n
 passes_in _ = false
 
--- each variable once, by its first place
+-- Each variable once, at its first position.
 abbrev pub once : List (List ℕ × Sort) → List (List ℕ × Sort)
 once [] = []
 once (v ∷ vs) = v ∷ filter (λ w. not (bytes_eq w.0 v.0)) (once vs)
 
--- there are as many already as there may be; `core` isn't counted, and a text may have any number of sections, and ask for supertraits any number of times
+-- There are as many items or queries as the limit allows. `core` is not counted. A text may have any number of sections
+-- and of `supers` lines.
 abbrev pub is_full : Declarations → Line → Bool
 is_full d (crate_line n us) = nat_lt crate_limit (length d.crates)
 is_full d (prove_line c ps a ks) = nat_le question_limit (length d.questions)
@@ -290,7 +294,7 @@ is_full d (supers_line n) = false
 is_full d (impl_line ps h ks) = nat_le item_limit (if d.in_section then last_later d else last_items d)
 is_full d _ = nat_le item_limit (last_items d)
 
--- fields, bounds or clauses of the line itself
+-- The number of fields, bounds or where-clauses of the line.
 abbrev pub parts : Line → ℕ
 parts (crate_line n us) = 0
 parts (struct_line f n ps fs) = types_count fs
@@ -307,18 +311,18 @@ passes_limit d l =
     || (nat_lt depth_limit (line_depth (with_own d l) l) || (nat_lt variable_limit (length (once (variables_in (asked_uses d l))))
     || list_any passes_in (uses (with_own d l) l))))))
 
--- ---- which: 1 and 2 are judged before there is a line
+-- ---- the number of the fault: faults 1 and 2 are found before there is a line
 abbrev pub tests : Declarations → Line → List (ℕ × Bool)
 tests d l =
     (3, is_misplaced d l) ∷ (4, takes_names d l) ∷ (5, uses_unknown d l) ∷ (6, uses_hidden d l) ∷ (7, uses_other_sort d l) ∷ (8, has_free_param d l)
     ∷ (9, bounds_use_own d l) ∷ (10, is_loaded_auto l) ∷ (11, is_foreign_auto d l) ∷ (12, implements_built_in d l) ∷ (13, has_stray_variable d l)
     ∷ (14, refutes_params l) ∷ (15, has_bad_dyn d l) ∷ (16, passes_limit d l) ∷ []
 
--- the first number whose test holds
+-- The number of the first test that is true.
 abbrev pub first_of : List (ℕ × Bool) → Option ℕ
 first_of [] = None
 first_of ((n, b) ∷ ts) = if b then Some n else first_of ts
 
--- the smallest number that applies
+-- The smallest number of a test that is true.
 abbrev pub fault_of : Declarations → Line → Option ℕ
 fault_of d l = first_of (tests d l)

@@ -1,4 +1,4 @@
--- What the types and references of a line stand for among the declarations, as trees.
+-- The terms and trait references that a line means, with the declarations before it.
 use Rattle.std.specs.Prelude.{ℕ, suc, ◌+◌, List, [], ◌∷◌, map, length, Option, Some, None, filter, nat_lt, ◌==◌, if◌then◌else◌}
 use Rattle.std.specs.Str.{bytes_eq}
 use Rattle.type_terms.specs.Promised.Label.{Label, Sort, of_type, of_const, of_lifetime, never, array, slice, tuple, dynamic, static, adt, fn_ptr, auto_trait, value, ref, raw_pointer, principal, infer, bound}
@@ -10,8 +10,8 @@ use Rattle.text_language.specs.Uses.{next_kind, other_kinds, kinds_of_struct, ki
 use Rattle.text_language.specs.Promised.Faults.{is_among, is_auto_name}
 use Rattle.text_language.specs.Faults.{static_name}
 
--- What the names of a line stand for: items, then the line's parameters, the first of which has the number `first` (in a trait's
--- own line 1, for 0 is Self), then the variables in the order of their first places.
+-- What the names of a line mean: items, the line's parameters, and the variables in the order in which they first
+-- occur. The first parameter has the number `first`. In a trait's own line it is 1, because 0 is Self.
 pub record Meanings : Type 0 where
   pub items : Declarations
   pub params : Params
@@ -19,12 +19,12 @@ pub record Meanings : Type 0 where
   pub parameter : Sort → ℕ → Label
   pub variables : List (List ℕ × Sort)
 
--- the place of a name in a list that holds it
+-- The index of a name in a list that has it.
 abbrev pub place_among : List ℕ → List (List ℕ) → ℕ
 place_among n [] = 0
 place_among n (m ∷ ms) = if bytes_eq m n then 0 else suc (place_among n ms)
 
--- A line without a fault uses known names of the right sort, so the other cases don't come.
+-- A line without a fault uses declared names of the right kind, so the other cases do not occur.
 abbrev pub crate_number : Option Known → ℕ
 crate_number (Some (a_crate k)) = k
 crate_number _ = 0
@@ -47,11 +47,11 @@ type_label e n =
 abbrev pub const_label : Meanings → List ℕ → Label
 const_label e n = e.parameter of_const (e.first + length e.params.lifetimes + length e.params.types + place_among n e.params.consts)
 
--- the place of a variable among those of its kind
+-- The label of a variable, numbered among those of its kind.
 abbrev pub variable_label : Meanings → Sort → List ℕ → Label
 variable_label e p n = infer p (place_among n (map (λ v. v.0) (filter (λ v. is_sort v.1 p) e.variables)))
 
--- a lifetime under binders, of which the first is k further out
+-- The label of a lifetime below these binders, the first of which has the number k.
 abbrev pub lifetime_under : Meanings → ℕ → List (List (List ℕ)) → List ℕ → Label
 lifetime_under e k [] n = e.parameter of_lifetime (e.first + place_among n e.params.lifetimes)
 lifetime_under e k (b ∷ s) n = if is_among n b then bound of_lifetime k (place_among n b) else lifetime_under e (suc k) s n
@@ -59,7 +59,7 @@ lifetime_under e k (b ∷ s) n = if is_among n b then bound of_lifetime k (place
 abbrev pub lifetime_label : Meanings → List (List (List ℕ)) → List ℕ → Label
 lifetime_label e s n = if bytes_eq n static_name then static else lifetime_under e 0 s n
 
--- an omitted lifetime is `'static`
+-- The term of a lifetime. An omitted one is `'static`.
 abbrev pub optional_lifetime : Meanings → List (List (List ℕ)) → Option (List ℕ) → Trees
 optional_lifetime e s None = leaf static
 optional_lifetime e s (Some n) = leaf (lifetime_label e s n)
@@ -69,7 +69,7 @@ length_label e (number_length n) = value n
 length_label e (name_length n) = const_label e n
 length_label e (variable_length n) = variable_label e of_const n
 
--- ---- the auto traits of a `dyn`: sorted by declaration, each once
+-- ---- the auto traits of a `dyn`: by their numbers, each once
 abbrev pub inserted : ℕ → List ℕ → List ℕ
 inserted n [] = n ∷ []
 inserted n (m ∷ ms) = if n == m then m ∷ ms else (if nat_lt n m then n ∷ m ∷ ms else m ∷ inserted n ms)
@@ -86,7 +86,7 @@ abbrev pub auto_leaves : List ℕ → Trees
 auto_leaves [] = none
 auto_leaves (n ∷ ns) = tree (auto_trait n) none (auto_leaves ns)
 
--- the lifetime, which is the last item if it is written
+-- The lifetime of a `dyn`, which is the last bound if it is written.
 abbrev pub item_lifetime : Meanings → List (List (List ℕ)) → Item → Trees
 item_lifetime e s (bound_item b n args) = leaf static
 item_lifetime e s (lifetime_item n) = leaf (lifetime_label e s n)
@@ -95,9 +95,9 @@ abbrev pub last_lifetime : Meanings → List (List (List ℕ)) → Item → DynB
 last_lifetime e s i no_items = item_lifetime e s i
 last_lifetime e s i (and_item j is) = last_lifetime e s j is
 
--- ---- types, under the binders s, innermost first
+-- ---- types, below the binders s, the innermost first
 abbrev mutual
-  -- at a place of kind p
+  -- The term of a type at a position of kind p.
   pub type_tree : Meanings → List (List (List ℕ)) → Sort → TypeTree → Trees
   type_tree e s p (of_primitive l) = leaf l
   type_tree e s p never_type = leaf never
@@ -118,7 +118,7 @@ abbrev mutual
   types_trees e s no_types = none
   types_trees e s (and_type t ts) = type_tree e s of_type t +++ types_trees e s ts
 
-  -- arguments for parameters of these kinds
+  -- The terms of the arguments, for parameters of these kinds.
   pub args_trees : Meanings → List (List (List ℕ)) → List Sort → Args → Trees
   args_trees e s ks no_args = none
   args_trees e s ks (and_arg a args) = arg_tree e s (next_kind ks) a +++ args_trees e s (other_kinds ks) args
@@ -128,7 +128,7 @@ abbrev mutual
   arg_tree e s p (number_arg n) = leaf (value n)
   arg_tree e s p (type_arg t) = type_tree e s p t
 
-  -- the principal, if the item is it
+  -- The principal, if the bound is one.
   pub item_tree : Meanings → List (List (List ℕ)) → Item → Trees
   item_tree e s (bound_item b n args) =
       if is_auto_name e.items n then none else tree (principal (length b) (trait_number (known e.items n))) (args_trees e (b ∷ s) (kinds_of_trait (known e.items n)) args) none
@@ -142,7 +142,7 @@ abbrev pub field_trees : Meanings → Types → List Trees
 field_trees e no_types = []
 field_trees e (and_type t ts) = type_tree e [] of_type t ∷ field_trees e ts
 
--- ---- references
+-- ---- trait references
 abbrev pub bound_with_self : Meanings → Trees → Bound → Reference
 bound_with_self e self b = record { trait = trait_number (known e.items b.trait); args = self +++ args_trees e [] (kinds_of_trait (known e.items b.trait)) b.args }
 

@@ -1,4 +1,4 @@
--- The texts that names in the answer have: of items, of parameters, and of a question's variables and further unknowns.
+-- The printed names of items and of parameters, of a query's variables, and of further variables.
 use Rattle.std.specs.Prelude.{ℕ, suc, List, [], ◌∷◌, ◌++◌, map, length, slice_get, filter, nat_lt, codes, if◌then◌else◌}
 use Rattle.std.specs.Option.{option_map_or}
 use Rattle.type_terms.specs.Promised.Label.{Sort, of_type, of_const, of_lifetime, infer}
@@ -16,7 +16,8 @@ trait_text d k = option_map_or (λ t. t.text) (slice_get d.traits k) []
 abbrev pub text_at : List (List ℕ) → ℕ → List ℕ
 text_at ns k = option_map_or (λ n. n) (slice_get ns k) []
 
--- ---- a refused header: a variable prints as the parameter of the impl that it stands for. Those of one kind are counted from 0.
+-- ---- a header that breaks the orphan rule: a variable is printed as the impl's parameter that it replaces. Those of
+-- each kind are numbered from 0.
 abbrev pub param_texts : List (List ℕ × Sort) → Sort → List (List ℕ)
 param_texts ps s = map (λ p. p.0) (filter (λ p. is_sort p.1 s) ps)
 
@@ -29,11 +30,11 @@ header_names d ps = record {
   of_unknown = λ s i. text_at (param_texts ps s) i;
 }
 
--- ---- the values of a question: one tree for each variable, in their order
+-- ---- the values of a query: one term for each variable, in their order
 abbrev pub variables_of_kind : Sort → List Variable → List Variable
 variables_of_kind s vs = filter (λ v. is_sort v.kind s) vs
 
--- the unknowns that stand for the variables, in their order: those of one kind are counted from 0
+-- The inference variables for the variables, in their order. Those of each kind are numbered from 0.
 abbrev pub own_from : (types consts : ℕ) → List Variable → List Trees
 own_from t c [] = []
 own_from t c (v ∷ vs) = elim v.kind [ of_type ↦ leaf (infer of_type t) ∷ own_from (suc t) c vs | of_const ↦ leaf (infer of_const c) ∷ own_from t (suc c) vs | of_lifetime ↦ leaf (infer of_lifetime 0) ∷ own_from t c vs ]
@@ -41,12 +42,12 @@ own_from t c (v ∷ vs) = elim v.kind [ of_type ↦ leaf (infer of_type t) ∷ o
 abbrev pub own_unknowns : Question → List Trees
 own_unknowns q = own_from 0 0 q.variables
 
--- the variables with a value of their own
+-- The variables whose value is not their own inference variable.
 abbrev pub valued : List Variable → List Trees → List Trees → List (Variable × Trees)
 valued (v ∷ vs) (u ∷ us) (t ∷ ts) = if same u t then valued vs us ts else (v, t) ∷ valued vs us ts
 valued _ _ _ = []
 
--- the unknowns that the question doesn't hold, by first place in the line
+-- The inference variables that are not in the query, in the order in which they first occur in the line.
 abbrev pub with_free : Question → Trees → List (Sort × ℕ) → List (Sort × ℕ)
 with_free q none us = us
 with_free q (tree (infer s i) c o) us = with_free q o (if nat_lt i (length (variables_of_kind s q.variables)) then us else with_unknown (infer s i) us)
@@ -71,6 +72,6 @@ question_names d q us = record {
 abbrev pub value_texts : Declarations → Question → List (Variable × Trees) → List ValueText
 value_texts d q vs = map (λ v. record { variable = v.0.text; term = type_text (question_names d q (free_unknowns q vs [])) v.1 }) vs
 
--- of `prove K: yes`, with these terms for the variables
+-- The values after `prove K: yes`, with these terms for the variables.
 abbrev pub answer_values : Declarations → Question → List Trees → List ValueText
 answer_values d q ts = value_texts d q (valued q.variables (own_unknowns q) ts)

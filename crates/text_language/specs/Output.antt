@@ -1,4 +1,4 @@
--- The lines of the answer, as text.
+-- The printed lines, as text.
 use Rattle.std.specs.Prelude.{ℕ, suc, Bool, true, false, List, [], ◌∷◌, ◌++◌, map, Option, Some, None, codes, ◌==◌, ◌&&◌, if◌then◌else◌}
 use Rattle.std.specs.Fmt.{decimal}
 use Rattle.std.specs.List.{list_any}
@@ -7,7 +7,7 @@ use Rattle.type_terms.specs.Promised.Trees.{Trees, none, tree, sort_of, is_sort}
 use Rattle.type_terms.specs.Trees.{is_no_tree}
 
 -- ---- types
--- a text for each struct, trait, parameter of a declaration or of a question, and unknown
+-- A text for each struct, trait, parameter of a declaration or of a query, and variable.
 pub record Names : Type 0 where
   pub of_struct : ℕ → List ℕ
   pub of_trait : ℕ → List ℕ
@@ -15,7 +15,7 @@ pub record Names : Type 0 where
   pub of_placeholder : Sort → ℕ → List ℕ
   pub of_unknown : Sort → ℕ → List ℕ
 
--- the texts with this between them
+-- The texts, with this one between each two.
 abbrev pub between : List ℕ → List (List ℕ) → List ℕ
 between c [] = []
 between c (t ∷ []) = t
@@ -29,7 +29,7 @@ abbrev pub tuple_text : List (List ℕ) → List ℕ
 tuple_text (t ∷ []) = codes "(" ++ t ++ codes ",)"
 tuple_text ts = codes "(" ++ between (codes ", ") ts ++ codes ")"
 
--- the inputs of a fn, and its output, which is the last text
+-- The inputs of a fn. The last text is the output.
 abbrev pub inputs : List (List ℕ) → List (List ℕ)
 inputs [] = []
 inputs (t ∷ []) = []
@@ -40,7 +40,7 @@ last_text [] = []
 last_text (t ∷ []) = t
 last_text (t ∷ u ∷ ts) = last_text (u ∷ ts)
 
--- the last tree is `()`
+-- The last term is `()`.
 abbrev pub is_unit : Label → Trees → Bool
 is_unit tuple c = is_no_tree c
 is_unit _ c = false
@@ -49,14 +49,14 @@ abbrev pub ends_in_unit : Trees → Bool
 ends_in_unit none = false
 ends_in_unit (tree l c o) = if is_no_tree o then is_unit l c else ends_in_unit o
 
--- the output of a fn behind its inputs: `-> ()` is left out
+-- The output of a fn after its inputs. It is empty for `()`.
 abbrev pub output_part : Trees → List ℕ → List ℕ
 output_part c t = if ends_in_unit c then [] else codes " -> " ++ t
 
 abbrev pub int_name : ℕ → List ℕ
 int_name n = if n == 0 then codes "8" else (if n == 1 then codes "16" else (if n == 2 then codes "32" else (if n == 3 then codes "64" else (if n == 4 then codes "128" else codes "size"))))
 
--- a node with its children and their texts
+-- The text of a node, by the texts of its children.
 abbrev pub node_text : Names → Label → Trees → List (List ℕ) → List ℕ
 node_text N bool c ts = codes "bool"
 node_text N char c ts = codes "char"
@@ -80,23 +80,24 @@ node_text N (value n) c ts = decimal n
 node_text N (param s i) c ts = N.of_param s i
 node_text N (placeholder s i) c ts = N.of_placeholder s i
 node_text N (infer s i) c ts = N.of_unknown s i
--- these aren't printed
+-- Not printed.
 node_text N static c ts = []
 node_text N (canonical s i) c ts = []
 node_text N (bound s k v) c ts = []
 node_text N (predicate k) c ts = []
 
--- the texts of trees, one after the other, lifetimes left out
+-- The texts of the terms, one after the other, without lifetimes.
 abbrev pub texts : Names → Trees → List (List ℕ)
 texts N none = []
 texts N (tree l c o) = if is_sort (sort_of l) of_lifetime then texts N o else node_text N l c (texts N c) ∷ texts N o
 
--- of a single type or const
+-- The text of one type or constant.
 abbrev pub type_text : Names → Trees → List ℕ
 type_text N t = last_text (texts N t)
 
--- ---- values of a question's variables
--- the unknowns of trees that a question doesn't hold, by their first place, each once
+-- ---- values of a query's variables
+-- The variable is in the list. The list has the inference variables that are not in the query, each once, in the order
+-- in which they first occur.
 abbrev pub is_in : Sort → ℕ → List (Sort × ℕ) → Bool
 is_in s i us = list_any (λ u. is_sort u.0 s && (u.1 == i)) us
 
@@ -113,17 +114,17 @@ abbrev pub place_in : Sort → ℕ → List (Sort × ℕ) → ℕ
 place_in s i [] = 0
 place_in s i (u ∷ us) = if is_sort u.0 s && (u.1 == i) then 0 else suc (place_in s i us)
 
--- `?1`, `?2` by first place in the line
+-- `?1`, `?2` and so on, in the order in which they first occur in the line.
 abbrev pub unknown_text : List (Sort × ℕ) → Sort → ℕ → List ℕ
 unknown_text us s i = codes "?" ++ decimal (suc (place_in s i us))
 
 -- ---- lines
--- `?x = T`
+-- A value of a variable: `?x = T`.
 pub record ValueText : Type 0 where
   pub variable : List ℕ
   pub term : List ℕ
 
--- Crates go by their names, impls and questions by their numbers, from 1; types by their texts.
+-- A printed line. Crates have their names, impls and queries their numbers from 1, and types their texts.
 pub data Answer : Type 0 where
   fault : (line number : ℕ) → Answer
   accepted : (name : List ℕ) → Answer
@@ -146,7 +147,7 @@ later_start n = codes "later " ++ n ++ codes ": "
 abbrev pub supers_start : List ℕ → List ℕ
 supers_start n = codes "supers " ++ n ++ codes ": "
 
--- an impl of the crate, and a supertrait of its header, counted from 1
+-- An impl of the crate, and a supertrait of its header, numbered from 1.
 abbrev pub clause_text : ℕ → ℕ → List ℕ
 clause_text k j = codes " impl " ++ decimal k ++ codes " clause " ++ decimal j
 
@@ -184,6 +185,6 @@ answer_text (unproved q) = prove_start q ++ codes "unproved"
 answer_text (no q) = refute_start q ++ codes "no"
 answer_text (unrefuted q) = refute_start q ++ codes "open"
 
--- with the end of the line
+-- The line with its newline.
 abbrev pub output_text : Answer → List ℕ
 output_text a = answer_text a ++ 10 ∷ []

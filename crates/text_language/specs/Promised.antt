@@ -1,4 +1,4 @@
--- What the promises of the calls rest on.
+-- The definitions that a reader of the promises must know.
 pub mod Declarations
 pub mod Faults
 pub mod Syntax

@@ -1,10 +1,10 @@
--- What a line says, and the one way to write it: the grammar.
+-- The long definition of the grammar: the tokens of each line.
 use Rattle.std.specs.Prelude.{ℕ, Bool, true, false, List, [], ◌∷◌, ◌++◌, map, Option, Some, None, if◌then◌else◌}
 use Rattle.text_language.specs.Words.{Sign, comma, open_angle, close_angle, exclamation, ampersand, star, open_square, close_square, semicolon, open_round, close_round, plus, colon, Keyword, crate_word, uses_word, fundamental_word, struct_word, auto_word, trait_word, impl_word, for_word, where_word, prove_word, refute_word, in_word, mut_word, const_word, fn_word, dyn_word, later_word, supers_word}
 use Rattle.text_language.specs.Tokens.{Token, keyword, primitive, name, lifetime, variable, number, sign, arrow}
 use Rattle.text_language.specs.Promised.Syntax.{Length, number_length, name_length, variable_length, TypeTree, of_primitive, never_type, variable_type, named, reference_to, pointer_to, slice_of, array_of, tuple_of, fn_of, fn_to, dyn_of, Types, no_types, and_type, Args, no_args, and_arg, Arg, lifetime_arg, number_arg, type_arg, Item, bound_item, lifetime_item, DynBounds, no_items, and_item, Params, Bound, Clause, Line, crate_line, struct_line, trait_line, impl_line, prove_line, refute_line, later_line, supers_line}
 
--- lifetimes behind commas
+-- Lifetimes, each after a comma.
 abbrev pub more_lifetimes : List (List ℕ) → List Token
 more_lifetimes [] = []
 more_lifetimes (n ∷ ns) = sign comma ∷ lifetime n ∷ more_lifetimes ns
@@ -55,7 +55,7 @@ abbrev mutual
   type_spelling (fn_to b ts r) = binder_spelling b ++ keyword fn_word ∷ sign open_round ∷ (inputs_spelling ts ++ arrow ∷ type_spelling r)
   type_spelling (dyn_of i is) = keyword dyn_word ∷ (item_spelling i ++ more_items is)
 
-  -- the items of a tuple and `)`: behind a single one stands a comma
+  -- The items of a tuple and `)`. A single item is followed by a comma.
   pub tuple_spelling : Types → List Token
   tuple_spelling no_types = sign close_round ∷ []
   tuple_spelling (and_type t ts) = type_spelling t ++ second_item ts
@@ -64,12 +64,12 @@ abbrev mutual
   second_item no_types = sign comma ∷ sign close_round ∷ []
   second_item (and_type t ts) = sign comma ∷ (type_spelling t ++ more_types ts)
 
-  -- the inputs of a fn and `)`
+  -- The inputs of a fn and `)`.
   pub inputs_spelling : Types → List Token
   inputs_spelling no_types = sign close_round ∷ []
   inputs_spelling (and_type t ts) = type_spelling t ++ more_types ts
 
-  -- types behind commas and `)`
+  -- Types, each after a comma, and `)`.
   pub more_types : Types → List Token
   more_types no_types = sign close_round ∷ []
   more_types (and_type t ts) = sign comma ∷ (type_spelling t ++ more_types ts)
@@ -91,7 +91,7 @@ abbrev mutual
   item_spelling (bound_item b n args) = binder_spelling b ++ name n ∷ args_spelling args
   item_spelling (lifetime_item n) = lifetime n ∷ []
 
-  -- items behind `+`
+  -- Bounds of a `dyn`, each after `+`.
   pub more_items : DynBounds → List Token
   more_items no_items = []
   more_items (and_item i is) = sign plus ∷ (item_spelling i ++ more_items is)
@@ -99,7 +99,7 @@ abbrev mutual
 abbrev pub no_params : Params
 no_params = record { lifetimes = []; types = []; consts = [] }
 
--- each name behind a comma
+-- Names, each after a comma.
 abbrev pub more_names : List (List ℕ) → List Token
 more_names [] = []
 more_names (n ∷ ns) = sign comma ∷ name n ∷ more_names ns
@@ -112,7 +112,7 @@ uses_spelling (n ∷ ns) = keyword uses_word ∷ name n ∷ more_names ns
 abbrev pub param_spellings : Params → List (List Token)
 param_spellings p = map (λ n. lifetime n ∷ []) p.lifetimes ++ (map (λ n. name n ∷ []) p.types ++ map (λ n. keyword const_word ∷ name n ∷ []) p.consts)
 
--- each behind the sign
+-- Each part after the sign.
 abbrev pub behind : Sign → List (List Token) → List Token
 behind b [] = []
 behind b (p ∷ ps) = sign b ∷ (p ++ behind b ps)

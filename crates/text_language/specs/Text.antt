@@ -1,4 +1,4 @@
--- A whole text: what its lines give, one after the other.
+-- The long definition of the meaning of a whole text.
 use Rattle.std.specs.Prelude.{◌≡◌, ℕ, suc, ◌<◌, ◌≤◌, true, false, List, [], ◌∷◌, length, Some, None, Result, Ok, Err, ◌==◌, if◌then◌else◌}
 use Rattle.text_language.specs.Promised.Syntax.{Line}
 use Rattle.text_language.specs.Written.{IsWritten}
@@ -9,7 +9,7 @@ use Rattle.text_language.specs.Faults.{fault_of}
 use Rattle.text_language.specs.Adding.{added}
 use Rattle.text_language.specs.Promised.Text.{text_limit, long_line}
 
--- ---- what a line gives after the declarations of the lines before it: declarations, or the number of a fault
+-- ---- the meaning of a line, with the declarations of the lines before it: declarations, or the number of a fault
 pub data LineGives (d : Declarations) (line : List ℕ) : Result Declarations ℕ → Type 0 where
   other_byte : is_ascii line ≡ false → LineGives d line (Err 1)
   blank : is_ascii line ≡ true → is_blank line ≡ true → LineGives d line (Ok d)
@@ -17,7 +17,7 @@ pub data LineGives (d : Declarations) (line : List ℕ) : Result Declarations �
   faulty : (l : Line) (n : ℕ) → is_ascii line ≡ true → is_blank line ≡ false → IsWritten line l → fault_of d l ≡ Some n → LineGives d line (Err n)
   adds : (l : Line) → is_ascii line ≡ true → is_blank line ≡ false → IsWritten line l → fault_of d l ≡ None → LineGives d line (Ok (added d l))
 
--- ---- the lines of a text, without their ends
+-- ---- the lines of a text, without the newline
 abbrev pub onto_line : ℕ → List (List ℕ) → List (List ℕ)
 onto_line b [] = (b ∷ []) ∷ []
 onto_line b (l ∷ ls) = (b ∷ l) ∷ ls
@@ -26,13 +26,13 @@ abbrev pub lines_of : List ℕ → List (List ℕ)
 lines_of [] = [] ∷ []
 lines_of (b ∷ bs) = if b == 10 then [] ∷ lines_of bs else onto_line b (lines_of bs)
 
--- what the lines give, the first of them number k: declarations, or the first faulty line with its number
+-- The meaning of the lines, the first of which has number k: declarations, or the first faulty line with its fault.
 pub data LinesGive : Declarations → ℕ → List (List ℕ) → Result Declarations (ℕ × ℕ) → Type 0 where
   ends : (d : Declarations) (k : ℕ) → LinesGive d k [] (Ok d)
   fails : (d : Declarations) (k : ℕ) (l : List ℕ) (ls : List (List ℕ)) (n : ℕ) → LineGives d l (Err n) → LinesGive d k (l ∷ ls) (Err (k, n))
   goes_on : (d e : Declarations) (k : ℕ) (l : List ℕ) (ls : List (List ℕ)) (r : Result Declarations (ℕ × ℕ)) → LineGives d l (Ok e) → LinesGive e (suc k) ls r → LinesGive d k (l ∷ ls) r
 
--- what a text gives: declarations, or the first faulty line with the smallest number that applies
+-- The meaning of a text: declarations, or the first faulty line with the smallest fault that applies.
 pub data TextGives (bytes : List ℕ) : Result Declarations (ℕ × ℕ) → Type 0 where
   too_long : text_limit < length bytes → TextGives bytes (Err (long_line bytes, 16))
   fits : (r : Result Declarations (ℕ × ℕ)) → length bytes ≤ text_limit → LinesGive nothing_declared 1 (lines_of bytes) r → TextGives bytes r

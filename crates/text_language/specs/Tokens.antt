@@ -5,7 +5,7 @@ use Rattle.std.specs.Option.{option_map_or, option_map, option_and_then}
 use Rattle.type_terms.specs.Promised.Label.{Label}
 use Rattle.text_language.specs.Words.{Keyword, is_word_byte, is_digit, Sign, sign_at, keyword_named, primitive_named}
 
--- `'a` is a lifetime, `?x` a variable, `->` the arrow; a sign is one byte
+-- A token. `'a` is a lifetime, `?x` is a variable, and `->` is the arrow. A sign is one byte.
 pub data Token : Type 0 where
   keyword : Keyword → Token
   primitive : Label → Token
@@ -14,18 +14,18 @@ pub data Token : Type 0 where
   sign : Sign → Token
   arrow : Token
 
--- ---- what a line is made of: whole words, words right behind `'` or `?`, `->`, and the bytes that are in none of these
+-- ---- the pieces of a line: words, words directly after `'` or `?`, `->`, and all other bytes
 pub data LinePiece : Type 0 where
   word quoted queried : List ℕ → LinePiece
   pointing : LinePiece
   byte : ℕ → LinePiece
 
--- a word's byte, before the pieces of the rest
+-- A byte of a word, before the pieces of the rest.
 abbrev pub onto : ℕ → List LinePiece → List LinePiece
 onto b (word w ∷ ps) = word (b ∷ w) ∷ ps
 onto b ps = word (b ∷ []) ∷ ps
 
--- another byte, before the pieces of the rest
+-- Another byte, before the pieces of the rest.
 abbrev pub before : ℕ → List LinePiece → List LinePiece
 before b (word w ∷ ps) = if b == 39 then quoted w ∷ ps else (if b == 63 then queried w ∷ ps else byte b ∷ word w ∷ ps)
 before b (byte c ∷ ps) = if (b == 45) && (c == 62) then pointing ∷ ps else byte b ∷ byte c ∷ ps
@@ -37,20 +37,20 @@ pieces (b ∷ bs) = if is_word_byte b then onto b (pieces bs) else before b (pie
 
 -- ---- the tokens of the pieces
 
--- the number that digits write, behind those that write n
+-- The number that the digits write, after digits that write n.
 abbrev pub number_from : ℕ → List ℕ → ℕ
 number_from n [] = n
 number_from n (d ∷ ds) = number_from (10 * n + (d - 48)) ds
 
--- a reserved word, or else a name
+-- A reserved word, or else a name.
 abbrev pub name_token : List ℕ → Token
 name_token w = elim (keyword_named w) [ Some k ↦ keyword k | None ↦ elim (primitive_named w) [ Some p ↦ primitive p | None ↦ name w ] ]
 
--- a word that begins with a digit is a number, and has digits alone
+-- The token of a word. A word that begins with a digit must be a number, with digits alone.
 abbrev pub word_token : List ℕ → Option Token
 word_token w = if list_all is_digit w then Some (number (number_from 0 w)) else (if option_map_or is_digit (slice_get w 0) false then None else Some (name_token w))
 
--- what stands behind `'` and `?` is a name
+-- The token of a word after `'`, which must be a name. The same is true after `?`.
 abbrev pub as_lifetime : Option Token → Option Token
 as_lifetime (Some (name n)) = Some (lifetime n)
 as_lifetime _ = None
@@ -65,7 +65,7 @@ sign_token b = option_map sign (sign_at b)
 abbrev pub in_front : Option Token → Option (List Token) → Option (List Token)
 in_front t ts = option_and_then (λ x. option_map (λ xs. x ∷ xs) ts) t
 
--- spaces are no tokens
+-- The tokens of the pieces. Spaces are no tokens.
 abbrev pub tokens_from : List LinePiece → Option (List Token)
 tokens_from [] = Some []
 tokens_from (word w ∷ ps) = in_front (word_token w) (tokens_from ps)
@@ -74,6 +74,6 @@ tokens_from (queried w ∷ ps) = in_front (as_variable (word_token w)) (tokens_f
 tokens_from (pointing ∷ ps) = in_front (Some arrow) (tokens_from ps)
 tokens_from (byte b ∷ ps) = if b == 32 then tokens_from ps else in_front (sign_token b) (tokens_from ps)
 
--- the tokens of a line, or none where it holds something else
+-- The tokens of a line. There are none if the line has anything else.
 unfoldable pub tokens_of : List ℕ → Option (List Token)
 tokens_of line = tokens_from (pieces line)

@@ -1,32 +1,33 @@
--- What a line uses: names, lifetimes, variables and lists, each with what has to be known to judge it, from left to right.
+-- The long definition of what a line mentions, from left to right: names, lifetimes, variables and lists, each with
+-- what a test for faults needs.
 use Rattle.std.specs.Prelude.{ℕ, suc, max, Bool, true, false, List, [], ◌∷◌, ◌++◌, map, Option, Some, None}
 use Rattle.std.specs.List.{flat_map}
 use Rattle.type_terms.specs.Promised.Label.{Sort, of_type, of_const, of_lifetime}
 use Rattle.text_language.specs.Promised.Syntax.{TypeTree, of_primitive, never_type, variable_type, named, reference_to, pointer_to, slice_of, array_of, tuple_of, fn_of, fn_to, dyn_of, Types, no_types, and_type, Args, no_args, and_arg, Arg, lifetime_arg, number_arg, type_arg, Item, bound_item, lifetime_item, DynBounds, no_items, and_item, Length, number_length, name_length, variable_length, Params, Bound, Clause, Line, crate_line, struct_line, trait_line, impl_line, prove_line, refute_line, later_line, supers_line}
 use Rattle.text_language.specs.Promised.Declarations.{Declarations, Known, a_struct, a_trait, known}
 
--- an item of a `dyn`
+-- The shape of a bound of a `dyn`.
 pub data ItemShape : Type 0 where
   bound_shape : (has_binder : Bool) (trait : List ℕ) → ItemShape
   lifetime_shape : ItemShape
 
 pub data Use : Type 0 where
-  -- a crate's name
+  -- The name of a crate.
   crate_use : List ℕ → Use
-  -- a name with its number of arguments, where a type or a const has to stand
+  -- A name with its number of arguments, at the position of a type or a constant.
   name_use : (place : Sort) (name : List ℕ) (arguments : ℕ) → Use
-  -- a bound's name with its number of arguments
+  -- The name of a trait with its number of arguments.
   trait_use : (name : List ℕ) (arguments : ℕ) → Use
-  -- a lifetime under these binders, innermost first
+  -- A lifetime below these binders, the innermost first.
   lifetime_use : (scope : List (List (List ℕ))) → List ℕ → Use
-  -- a binder under these
+  -- A binder below these.
   binder_use : (scope : List (List (List ℕ))) → List (List ℕ) → Use
-  -- a variable, where a type or a const has to stand
+  -- A variable, at the position of a type or a constant.
   variable_use : (place : Sort) → List ℕ → Use
-  -- an argument that can't be of the kind of its place, whatever names stand for
+  -- An argument that is not of the kind that its position needs, whatever its names mean.
   misfit_use : Use
   dyn_use : List ItemShape → Use
-  -- the items of a tuple, and the inputs of a fn
+  -- The number of items of a tuple, or of inputs of a fn.
   items_use : ℕ → Use
   number_use : ℕ → Use
 
@@ -38,7 +39,7 @@ abbrev pub args_count : Args → ℕ
 args_count no_args = 0
 args_count (and_arg a args) = suc (args_count args)
 
--- ---- the kinds of the arguments that a head takes
+-- ---- the kinds of an item's parameters
 abbrev pub kinds_of_struct : Option Known → List Sort
 kinds_of_struct (Some (a_struct k h kinds)) = kinds
 kinds_of_struct _ = []
@@ -47,8 +48,8 @@ abbrev pub kinds_of_trait : Option Known → List Sort
 kinds_of_trait (Some (a_trait k h a kinds)) = kinds
 kinds_of_trait _ = []
 
--- the kind of the next argument's place. Where the head has no such parameter the line has a fault of a smaller number or a wrong
--- number of arguments, and the kind decides nothing
+-- The kind of the next argument. If there is no such parameter it is arbitrary, because the line then has a fault with
+-- a smaller number, or the wrong number of arguments.
 abbrev pub next_kind : List Sort → Sort
 next_kind [] = of_type
 next_kind (k ∷ ks) = k
@@ -57,7 +58,7 @@ abbrev pub other_kinds : List Sort → List Sort
 other_kinds [] = []
 other_kinds (k ∷ ks) = ks
 
--- a type stands where this is wanted: a name alone or a variable may be a const
+-- The mention of a misfit, if there is one. A name without arguments and a variable may be a constant.
 abbrev pub type_misfits : Sort → TypeTree → List Use
 type_misfits of_type t = []
 type_misfits of_const (named n args) = []
@@ -97,7 +98,8 @@ abbrev pub item_shapes : DynBounds → List ItemShape
 item_shapes no_items = []
 item_shapes (and_item i is) = item_shape i ∷ item_shapes is
 
--- Under the binders s, at a place of kind p. Each `fn` and each bound of a `dyn` is a binder, if of no lifetime.
+-- What a type mentions, below the binders s, at a position of kind p. Each `fn` and each bound of a `dyn` is a binder,
+-- even without a lifetime.
 abbrev mutual
   pub type_uses : Declarations → List (List (List ℕ)) → Sort → TypeTree → List Use
   type_uses d s p (of_primitive l) = []
@@ -117,7 +119,7 @@ abbrev mutual
   types_uses d s no_types = []
   types_uses d s (and_type t ts) = type_uses d s of_type t ++ types_uses d s ts
 
-  -- arguments for parameters of these kinds
+  -- What the arguments mention, for parameters of these kinds.
   pub args_uses : Declarations → List (List (List ℕ)) → List Sort → Args → List Use
   args_uses d s ks no_args = []
   args_uses d s ks (and_arg a args) = arg_uses d s (next_kind ks) a ++ args_uses d s (other_kinds ks) args
@@ -138,15 +140,15 @@ abbrev mutual
 abbrev pub bound_uses : Declarations → Bound → List Use
 bound_uses d b = trait_use b.trait (args_count b.args) ∷ args_uses d [] (kinds_of_trait (known d b.trait)) b.args
 
--- `type: bound`, as it is written in a clause and in a question
+-- What `type: bound` mentions, in a where-clause or in a query.
 abbrev pub clause_uses : Declarations → Clause → List Use
 clause_uses d k = type_uses d [] of_type k.subject ++ bound_uses d k.bound
 
--- `bound for type`
+-- What `bound for type` mentions.
 abbrev pub header_uses : Declarations → Clause → List Use
 header_uses d h = bound_uses d h.bound ++ type_uses d [] of_type h.subject
 
--- what a line uses, parameters aside; names are looked up in d
+-- What a line mentions, without its parameters. Names are looked up in d.
 abbrev pub uses : Declarations → Line → List Use
 uses d (crate_line n us) = map crate_use us
 uses d (struct_line f n ps fs) = types_uses d [] fs
@@ -157,13 +159,13 @@ uses d (refute_line c ps a) = crate_use c ∷ clause_uses d a
 uses d (later_line n) = crate_use n ∷ []
 uses d (supers_line n) = crate_use n ∷ []
 
--- those of the asked reference of a question
+-- What the bound of a query mentions.
 abbrev pub asked_uses : Declarations → Line → List Use
 asked_uses d (prove_line c ps a ks) = clause_uses d a
 asked_uses d (refute_line c ps a) = clause_uses d a
 asked_uses d _ = []
 
--- the others
+-- What the rest of the line mentions.
 abbrev pub other_uses : Declarations → Line → List Use
 other_uses d (prove_line c ps a ks) = flat_map (clause_uses d) ks
 other_uses d (refute_line c ps a) = []
@@ -185,7 +187,7 @@ declared_name (struct_line f n ps fs) = Some n
 declared_name (trait_line f a n ps bs) = Some n
 declared_name _ = None
 
--- ---- how deep types are nested: a leaf is 1 deep; lifetimes, consts and an omitted output don't count
+-- ---- the depth of types: that of a leaf is 1. Lifetimes, constants and an omitted output do not count.
 abbrev pub at_place : Sort → ℕ → ℕ
 at_place of_type n = n
 at_place _ n = 0
@@ -236,7 +238,7 @@ abbrev pub greatest_number : List ℕ → ℕ
 greatest_number [] = 0
 greatest_number (n ∷ ns) = max n (greatest_number ns)
 
--- of the deepest type in a line
+-- The depth of the deepest type in a line.
 abbrev pub line_depth : Declarations → Line → ℕ
 line_depth d (crate_line n us) = 0
 line_depth d (struct_line f n ps fs) = types_depth d fs

@@ -1,4 +1,4 @@
--- Worked texts: what the definitions compute of them. Each stands on the contract of a function of src/.
+-- Examples of texts, and what the definitions give for them. Functions of the crate prove them.
 use Rattle.std.specs.Prelude.{map, filter, not, take, ◌++◌, ◌≡◌, ℕ, zero, suc, Bool, true, false, List, [], ◌∷◌, drop, length, Option, Some, None, Result, Ok, Err, codes}
 use Rattle.type_terms.specs.Promised.Label.{Label, of_type, of_const, of_lifetime, bool, uint, adt, array, slice, dynamic, principal, auto_trait, static, value, fn_ptr, tuple, ref, param, infer, bound, str}
 use Rattle.type_terms.specs.Promised.Trees.{Trees, none, tree, leaf}
@@ -18,7 +18,7 @@ use Rattle.text_language.specs.Words.{primitives}
 use Rattle.text_language.specs.Output.{Names, type_text, values_text}
 use Rattle.text_language.specs.Names.{answer_values, with_free}
 
--- a line's bytes and what they say
+-- The bytes of a line, and the line that they are.
 abbrev pub Said : Type 0
 Said = List ℕ × Line
 
@@ -29,7 +29,7 @@ abbrev pub AllSaid : List Said → Type 0
 AllSaid [] = Unit {0}
 AllSaid (s ∷ ss) = IsSaid s × AllSaid ss
 
--- what lines give one after the other, the first of them number k: declarations, or the first faulty line with its number
+-- The meaning of lines, the first of which has number k: declarations, or the first faulty line with its fault.
 abbrev pub after_fault : Declarations → ℕ → Option ℕ → Result Declarations (ℕ × ℕ) → Result Declarations (ℕ × ℕ)
 after_fault d k None r = r
 after_fault d k (Some n) r = Err (k, n)
@@ -38,11 +38,11 @@ abbrev pub outcome : List Said → Declarations → ℕ → Result Declarations 
 outcome [] d k = Ok d
 outcome (s ∷ ss) d k = after_fault d k (fault_of d s.1) (outcome ss (added d s.1) (suc k))
 
--- the lines are written so, and the text is faulty
+-- The lines are written in this way, and the text has this fault.
 abbrev pub IsFaulty : List Said → ℕ → ℕ → Type 0
 IsFaulty ss k n = AllSaid ss × (outcome ss nothing_declared 1 ≡ Err (k, n))
 
--- the lines are written so, and this is what they declare and ask beside `core`
+-- The lines are written in this way, and this is what they declare and ask in addition to `core`.
 pub record Declared : Type 0 where
   pub structs : List StructDecl
   pub traits : List TraitDecl
@@ -64,7 +64,7 @@ declared_in (Err e) = None
 abbrev pub Declares : List Said → Declared → Type 0
 Declares ss r = AllSaid ss × (declared_in (outcome ss nothing_declared 1) ≡ Some r)
 
--- ---- words of the cases
+-- ---- parts of the examples
 abbrev u8 : TypeTree
 u8 = of_primitive (uint 0)
 
@@ -101,7 +101,7 @@ v = (codes "struct V<T>", struct_line false (codes "V") (of_types (codes "T" ∷
 abbrev show_for : List ℕ → TypeTree → Said
 show_for bytes t = (bytes, impl_line no_params (is t (bare (codes "Show"))) [])
 
--- ---- one text for each fault from 3 on
+-- ---- one text for each fault from 3
 abbrev pub before_any_crate : List Said
 before_any_crate = show ∷ []
 
@@ -167,7 +167,7 @@ later_core = (codes "later core", later_line (codes "core"))
 abbrev struct_a : Said
 struct_a = (codes "struct A", struct_line false (codes "A") no_params no_types)
 
--- a struct in a section is 3; and so it is behind a question, which doesn't end the section
+-- A struct in a section is fault 3, also after a query, because a query does not end the section.
 abbrev pub struct_in_section : List Said
 struct_in_section = base ∷ num ∷ later_base ∷ struct_a ∷ []
 
@@ -178,11 +178,11 @@ struct_behind_question =
 abbrev supers_base : Said
 supers_base = (codes "supers in base", supers_line (codes "base"))
 
--- so it is behind `supers in`, which ends no section either
+-- It is fault 3 after `supers in` as well, which does not end the section either.
 abbrev pub struct_behind_supers : List Said
 struct_behind_supers = base ∷ num ∷ later_base ∷ supers_base ∷ struct_a ∷ []
 
--- of an unknown crate 5, of a trait 7
+-- A section of a crate that is not declared is fault 5, and one of a trait is fault 7.
 abbrev pub later_unknown : List Said
 later_unknown = base ∷ (codes "later other", later_line (codes "other")) ∷ []
 
@@ -195,11 +195,11 @@ supers_unknown = base ∷ (codes "supers in other", supers_line (codes "other"))
 abbrev pub supers_trait : List Said
 supers_trait = base ∷ num ∷ (codes "supers in Num", supers_line (codes "Num")) ∷ []
 
--- an added impl sees what its crate sees, and not what the last crate sees
+-- An added impl sees what its own crate sees, and not what the last crate sees.
 abbrev pub later_unseen : List Said
 later_unseen = base ∷ (codes "crate first", crate_line (codes "first") []) ∷ show ∷ later_base ∷ show_for (codes "impl Show for u8") u8 ∷ []
 
--- of an auto trait for a struct of another crate 11, of a built-in trait 12
+-- An added impl of an auto trait for a struct of another crate is fault 11, and one of a built-in trait is fault 12.
 abbrev pub later_foreign_auto : List Said
 later_foreign_auto =
     base ∷ safe ∷ (codes "crate first uses base", crate_line (codes "first") (codes "base" ∷ [])) ∷ struct_a ∷ (codes "later first", later_line (codes "first"))
@@ -214,7 +214,7 @@ SectionFaults =
     × IsFaulty supers_unknown 2 5 × IsFaulty supers_trait 3 7 × IsFaulty later_unseen 5 6
     × IsFaulty later_foreign_auto 6 11 × IsFaulty later_built_in 2 12
 
--- what is checked, and the headers that the sections add; and how many impls the crates have beside core's
+-- The checks, the headers that the sections add, and the number of impls of the crates in addition to those of `core`.
 pub record AddedHeaders : Type 0 where
   pub checks : List Check
   pub headers : List (ℕ × (ℕ × Reference))
@@ -228,9 +228,9 @@ added_in (Ok d) = Some (record {
 })
 added_in (Err e) = None
 
--- `crate base; trait Num; struct V<T>; crate first uses base; later base; impl<T> Num for V<T>; refute in base u8: Num; supers in base;
--- impl<T> Num for &T; later core; impl Clone for str; crate second uses base; struct A; impl Num for A`: two impls are added to base, behind its user, and one
--- to core; the last one is second's own.
+-- `crate base; trait Num; struct V<T>; crate first uses base; later base; impl<T> Num for V<T>; refute in base u8: Num;
+-- supers in base; impl<T> Num for &T; later core; impl Clone for str; crate second uses base; struct A; impl Num for
+-- A`: two impls are added to base, after its user, and one to `core`. The last impl is of second.
 abbrev pub TwoSections : Type 0
 TwoSections =
     let ss =
@@ -260,27 +260,27 @@ abbrev pub is_good : Result Declarations (ℕ × ℕ) → Bool
 is_good (Ok d) = true
 is_good (Err e) = false
 
--- the lines are written so, and the text has no fault
+-- The lines are written in this way, and the text has no fault.
 abbrev pub IsGood : List Said → Type 0
 IsGood ss = AllSaid ss × (is_good (outcome ss nothing_declared 1) ≡ true)
 
--- names of lifetimes are apart from all others
+-- Lifetimes have names of their own.
 abbrev pub apart : List Said
 apart = base ∷ (codes "struct Z<'a, a>", struct_line false (codes "Z") (record { lifetimes = codes "a" ∷ []; types = codes "a" ∷ []; consts = [] }) no_types) ∷ []
 
--- a struct's own name is taken for its parameters
+-- A parameter of a struct may not have the struct's name.
 abbrev pub own_parameter : List Said
 own_parameter = base ∷ (codes "struct V<V>", struct_line false (codes "V") (of_types (codes "V" ∷ [])) no_types) ∷ []
 
--- `core` may be asked
+-- A query may be in `core`.
 abbrev pub asked_in_core : List Said
 asked_in_core = (codes "prove in core u8: Clone", prove_line (codes "core") no_params (is u8 (bare (codes "Clone"))) []) ∷ []
 
--- a trait where a crate has to stand is 7
+-- A trait at the position of a crate is fault 7.
 abbrev pub asked_in_trait : List Said
 asked_in_trait = base ∷ show ∷ (codes "prove in Show u8: Show", prove_line (codes "Show") no_params (is u8 (bare (codes "Show"))) []) ∷ []
 
--- the own name in a bound is 9, before 10, and also inside a type
+-- A trait's own name in its bound is fault 9, which precedes fault 10. The same is true inside of a type.
 abbrev pub own_bound_of_auto : List Said
 own_bound_of_auto = base ∷ (codes "auto trait A: A", trait_line false true (codes "A") no_params (bare (codes "A") ∷ [])) ∷ []
 
@@ -289,18 +289,18 @@ own_name_inside =
     base ∷ (codes "trait Sup<T>", trait_line false false (codes "Sup") (of_types (codes "T" ∷ [])) [])
     ∷ (codes "trait S: Sup<dyn S>", trait_line false false (codes "S") no_params (record { trait = codes "Sup"; args = one (dyn_of (bound_item [] (codes "S") no_args) no_items) } ∷ [])) ∷ []
 
--- a parameter is no struct of the impl's crate
+-- A parameter is not a struct of the impl's crate.
 abbrev pub auto_for_parameter : List Said
 auto_for_parameter = base ∷ safe ∷ (codes "impl<T> Safe for T", impl_line (of_types (codes "T" ∷ [])) (is (plain_name (codes "T")) (bare (codes "Safe"))) []) ∷ []
 
--- a used name that is too long is unknown
+-- A mentioned name that is too long is not declared.
 abbrev long_text : List ℕ
 long_text = codes "aaaaaaaaaaaaaaaaaaaaaaaaaaaaaaaaaaaaaaaaaaaaaaaaaaaaaaaaaaaaaaaaa"
 
 abbrev pub long_used : List Said
 long_used = base ∷ show ∷ show_for (codes "impl Show for " ++ long_text) (plain_name long_text) ∷ []
 
--- a variable can't stand for a lifetime, nor for a type and a const
+-- A variable cannot be a lifetime, and cannot be both a type and a constant.
 abbrev pub variable_lifetime : List Said
 variable_lifetime =
     base ∷ show ∷ (codes "struct W<'a>", struct_line false (codes "W") (record { lifetimes = codes "a" ∷ []; types = []; consts = [] }) no_types)
@@ -314,7 +314,8 @@ variable_twice =
       prove_line (codes "base") no_params (is u8 (record { trait = codes "Conv"; args = and_arg (type_arg (variable_type (codes "x"))) (and_arg (type_arg (variable_type (codes "x"))) no_args) })) [],
     ) ∷ []
 
--- So many `&` before the type. An omitted output adds no depth, so 63 and `fn()` are 64 deep; nor does a named const argument.
+-- This number of `&` before the type. An omitted output adds no depth, so that 63 of them before `fn()` have depth 64.
+-- Neither does a const argument that is a name.
 abbrev ampersands : ℕ → List ℕ → List ℕ
 ampersands zero bytes = bytes
 ampersands (suc n) bytes = 38 ∷ ampersands n bytes
@@ -343,8 +344,8 @@ abbrev pub Depths : Type 0
 Depths = IsGood (deep_fn 63) × IsFaulty (deep_fn 64) 3 16 × IsGood (deep_const 63) × IsFaulty (deep_const 64) 4 16
 
 -- ---- what is declared
--- `impl<T> Show for V<T> where T: Show`: parameter 0 stands in header and clause; structs are numbered behind `Box`, traits and impls
--- behind those of `core`
+-- `impl<T> Show for V<T> where T: Show`: the header and the clause have parameter 0. Structs are numbered after `Box`,
+-- and traits and impls after those of `core`.
 abbrev pub generic_impl : List Said
 generic_impl =
     base ∷ show ∷ v
@@ -375,7 +376,7 @@ GenericImpl = Declares generic_impl (record {
   } ∷ [];
 })
 
--- the kinds of the parameters of `Conv<U, const N>` tell that `?n` is a const
+-- The kinds of the parameters of `Conv<U, const N>` determine that `?n` is a constant.
 abbrev pub two_kinds : List Said
 two_kinds =
     base
@@ -401,8 +402,8 @@ TwoKinds = Declares two_kinds (record {
   } ∷ [];
 })
 
--- Binders count from the innermost; a `dyn` has its principal, its auto traits sorted and once, and its lifetime; what is omitted is
--- `'static` and `()`; supertraits have Self as parameter 0.
+-- Binders are counted from the innermost. A `dyn` has its principal, its auto traits by their numbers, each once, and
+-- its lifetime. What is omitted is `'static` or `()`. Supertraits have Self as parameter 0.
 abbrev pub bound_lifetimes : List Said
 bound_lifetimes =
     base
@@ -423,7 +424,7 @@ bound_lifetimes =
           (fn_to (codes "c" ∷ []) (and_type (reference_to (Some (codes "b")) false u8) (and_type (reference_to (Some (codes "c")) true u8) no_types)) (slice_of u8))))) no_items) no_types))),
     ) ∷ []
 
--- a reference to u8, and what comes after it
+-- A reference to `u8`, followed by o.
 abbrev to_u8 : Bool → Label → Trees → Trees
 to_u8 m l o = tree (ref m) (tree l none (leaf (uint 0))) o
 
@@ -454,7 +455,7 @@ BoundLifetimes = Declares bound_lifetimes (record {
   questions = [];
 })
 
--- ---- `core`: its lines, read by the grammar, declare the crate as the definitions have it
+-- ---- `core`: its lines follow the grammar and declare the crate that the definitions give
 abbrev core_line : List ℕ → Bool → List ℕ → Params → List Bound → Said
 core_line bytes f n ps bs = (bytes, trait_line f false n ps bs)
 
@@ -475,7 +476,7 @@ core_text =
     ∷ (codes "fundamental struct Box<T>(*const T)", struct_line true (codes "Box") (of_types (codes "T" ∷ [])) (and_type (pointer_to false (plain_name (codes "T"))) no_types))
     ∷ []
 
--- `impl Clone for bool` and so on, with the words before `for`
+-- `impl Clone for bool` and so on, with the words before `for`.
 abbrev for_scalars : List ℕ → List ℕ → List (List ℕ × TypeTree) → List Said
 for_scalars start t [] = []
 for_scalars start t (s ∷ ss) = (start ++ s.0, impl_line no_params (is s.1 (bare t)) []) ∷ for_scalars start t ss
@@ -486,7 +487,7 @@ scalar_types = map (λ p. (p.0, of_primitive p.1)) (take 2 primitives) ++ (codes
 abbrev T : TypeTree
 T = plain_name (codes "T")
 
--- `impl<T> Clone for ..` and so on: the line behind its first words
+-- `impl<T> Clone for *const T` and so on: the rest of the line after its first words.
 abbrev for_pointers : List ℕ → List ℕ → List Said
 for_pointers t start =
     (codes "impl<'a, T>" ++ start ++ codes "&'a T", impl_line (record { lifetimes = codes "a" ∷ []; types = codes "T" ∷ []; consts = [] }) (is (reference_to (Some (codes "a")) false T) (bare t)) [])
@@ -498,18 +499,18 @@ for_pointers t start =
     )
     ∷ []
 
--- impls 1 to 39
+-- The impls 1 to 39.
 abbrev pub core_impls : List Said
 core_impls =
     for_scalars (codes "impl Clone for ") (codes "Clone") scalar_types ++ for_pointers (codes "Clone") (codes " Clone for ")
     ++ (codes "impl<T> Clone for Box<T> where T: Clone", impl_line (of_types (codes "T" ∷ [])) (is (named (codes "Box") (one T)) (bare (codes "Clone"))) (is T (bare (codes "Clone")) ∷ []))
     ∷ (for_scalars (codes "impl Copy for ") (codes "Copy") scalar_types ++ for_pointers (codes "Copy") (codes " Copy for "))
 
--- the crate alone
+-- The crate without items.
 abbrev empty_core : Declarations
 empty_core = record { crates = nothing_declared.crates; structs = []; traits = []; impls = []; questions = []; sections = []; later_impls = []; checks = []; in_section = false }
 
--- put in without their faults, for `core` stands before every crate line
+-- The declarations with these lines. Their faults are not tested, because `core` has no `crate` line.
 abbrev with_lines : List Said → Declarations → Declarations
 with_lines [] d = d
 with_lines (s ∷ ss) d = with_lines ss (added d s.1)
@@ -517,11 +518,11 @@ with_lines (s ∷ ss) d = with_lines ss (added d s.1)
 abbrev pub CoreIsRead : Type 0
 CoreIsRead = AllSaid (core_text ++ core_impls) × (with_lines core_impls (with_lines core_text empty_core) ≡ nothing_declared)
 
--- Without lifetimes it is the crate of the definitions, which rules read.
+-- Without lifetimes, `core` is the crate whose rules are read.
 abbrev pub CoreIsCore : Type 0
 CoreIsCore = erased_world (world_of nothing_declared) ≡ core_world
 
--- ---- printing: `(T,)`, `-> ()` left out, no lifetimes
+-- ---- printing: `(T,)`, an omitted `-> ()`, and no lifetimes
 abbrev names : Names
 names = record { of_struct = λ _. codes "V"; of_trait = λ _. codes "Tr"; of_param = λ _ _. codes "T"; of_placeholder = λ _ _. codes "P"; of_unknown = λ _ _. codes "?1" }
 
@@ -535,8 +536,8 @@ Printed =
     × (type_text names (tree array (tree (infer of_type 0) none (leaf (infer of_const 0))) none) ≡ codes "[?1; ?1]")
     × (values_text (record { variable = codes "x"; term = codes "bool" } ∷ record { variable = codes "n"; term = codes "4" } ∷ []) ≡ codes " ?x = bool, ?n = 4")
 
--- `?x` is given `(?y, Box<u8>)`, `?y` stays, and `?z` is equated with it: `?x = (?y, Box<u8>)`, `?z = ?y`. An unknown that the
--- question doesn't hold is numbered by its first place
+-- `?x` has the value `(?y, Box<u8>)`, `?y` has none, and `?z` is equated with it: `?x = (?y, Box<u8>)`, `?z = ?y`. An
+-- inference variable that is not in the query is numbered by its first occurrence.
 abbrev asking : Question
 asking = record {
   is_refute = false;
@@ -558,7 +559,8 @@ ValuesPrinted =
 abbrev pub EmptyText : Type 0
 EmptyText = TextGives [] (Ok nothing_declared)
 
--- ---- an impl of a used crate's trait for a type of nobody: the text is good, and the header breaks the rule
+-- ---- an impl of a used crate's trait for a type of no crate: the text has no fault, and the header breaks the orphan
+-- rule
 abbrev pub orphan : List Said
 orphan = base ∷ show ∷ (codes "crate b uses base", crate_line (codes "b") (codes "base" ∷ [])) ∷ show_for (codes "impl Show for u8") u8 ∷ []
 

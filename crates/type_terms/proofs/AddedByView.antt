@@ -1,4 +1,4 @@
--- An impl that a later version may add as its crate's view tells it, may be added in each linked set around the view.
+-- An impl that a later version may add by its crate's view may be added in each linked set with this view.
 use Rattle.std.proofs.Common.{◌≡◌, ℕ, Bool, true, List, [], ◌∷◌, refl, ap, sym, ◌∙◌, ◌==◌, not, if◌then◌else◌, Option, None, Some}
 use Rattle.std.specs.List.{list_any}
 use Rattle.type_terms.specs.Promised.Label.{Label, of_type, of_const, of_lifetime, dynamic, static, adt, value, ref, principal, auto_trait, of_trait, predicate, param, placeholder, infer, canonical, bound}

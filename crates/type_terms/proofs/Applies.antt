@@ -1,4 +1,4 @@
--- An impl applies to each closed instance of its header: reading its arguments off the instance finds them.
+-- An impl applies to each closed instance of its header: its arguments are found by reading them from the instance.
 use Rattle.std.proofs.Common.{zero-add, ◌≡◌, ℕ, zero, ◌<◌, max, Bool, true, false, List, [], ◌∷◌, ◌++◌, refl, ap, sym, ◌∙◌, ◌&&◌, ◌||◌, ◌==◌, if◌then◌else◌, subst, map}
 use Rattle.std.specs.List.{flat_map}
 use Rattle.type_terms.specs.Promised.Label.{Label, Sort, of_type, of_const, of_lifetime, never, param, placeholder, infer, canonical, bound, fn_ptr, principal}

@@ -1,4 +1,4 @@
--- What stays where the auto traits of each `dyn` stand in another order, and a worked case.
+-- What holds after auto traits are arranged, and an example.
 use Rattle.std.proofs.Common.{◌≡◌, ℕ, zero, suc, List, [], ◌∷◌, refl, length, subst}
 use Rattle.type_terms.specs.Promised.Worlds.{CrateDecl, TraitDecl, view_of}
 use Rattle.type_terms.specs.Promised.Proofs.{In}

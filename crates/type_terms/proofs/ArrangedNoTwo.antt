@@ -1,4 +1,4 @@
--- No two impls of accepted crates prove one reference, each text in its own order of auto traits.
+-- No trait reference has proofs by two impls of accepted crates, where each text has its own order of auto traits.
 use Rattle.std.proofs.Common.{◌≡◌, ℕ, ◌<◌, Bool, true, false, List, [], refl, ap, sym, ◌∙◌, ◌==◌, subst, ◌⊎◌, inl, inr, length, arith, ltb}
 use Rattle.std.proofs.lemmas.Bool.Decides.{nat_tests}
 use Rattle.type_terms.specs.Promised.Worlds.{World, Reference, ImplDecl, sees, view_of}

@@ -1,4 +1,4 @@
--- The auto traits of each `dyn` in another order: what has a proof has one still.
+-- Arranged auto traits: what has a proof still has one.
 use Rattle.std.proofs.Common.{◌≡◌, Bool, true, false, List, [], ◌∷◌, ◌++◌, refl, ap, sym, ◌∙◌, ◌&&◌, if◌then◌else◌, subst, ◌⊎◌, inl, inr, map}
 use Rattle.std.specs.List.{list_all}
 use Rattle.type_terms.specs.Promised.Worlds.{World, CrateDecl, Reference, StructDecl, TraitDecl, ImplDecl}

@@ -1,4 +1,4 @@
--- The auto traits of each `dyn` in another order: what the rules made of a reference, they make of it still, with the premises in any order.
+-- Arranged auto traits: a trait reference has the same rule instances, with premises in any order.
 use Rattle.std.proofs.Common.{◌≡◌, ℕ, zero, suc, Bool, true, false, List, [], ◌∷◌, ◌++◌, refl, ap, sym, ◌∙◌, ◌&&◌, ◌||◌, ◌==◌, not, if◌then◌else◌, subst, ◌⊎◌, inl, inr, map, filter, length}
 use Rattle.std.specs.List.{list_any, flat_map}
 use Rattle.type_terms.specs.Promised.Label.{Label, array, slice, tuple, dynamic, adt, fn_ptr, ref, raw_pointer, principal, auto_trait, param}

@@ -1,4 +1,4 @@
--- A linked set with the auto traits of each `dyn` in another order is one.
+-- An arranged linked set is a linked set.
 use Rattle.std.proofs.Common.{◌≡◌, ℕ, zero, suc, ◌<◌, Bool, true, false, List, [], ◌∷◌, refl, ap, sym, ◌∙◌, ◌||◌, ◌==◌, not, if◌then◌else◌, subst, ◌⊎◌, inl, inr, map, filter, length, Some, None}
 use Rattle.std.specs.List.{list_any}
 use Rattle.type_terms.specs.Promised.Label.{Label, Sort, dynamic, auto_trait, adt, principal, of_trait, predicate, param}

@@ -1,4 +1,4 @@
--- The auto traits of each `dyn` in another order, and what is done to trees.
+-- Arranged auto traits, and functions of terms.
 use Rattle.std.proofs.Common.{◌≡◌, ℕ, zero, suc, Bool, true, false, List, [], ◌∷◌, refl, ap, sym, ◌∙◌, ◌||◌, ◌==◌, if◌then◌else◌, subst, length}
 use Rattle.type_terms.specs.Promised.Label.{Label, Sort, of_type, of_const, of_lifetime, never, dynamic, auto_trait, bound, param, inside}
 use Rattle.type_terms.specs.Codes.{same}

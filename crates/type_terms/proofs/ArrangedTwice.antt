@@ -1,4 +1,4 @@
--- Orders of auto traits, one after the other: a world that lists them in one order does so too where they stand in another.
+-- Two arrangements one after the other: a world that lists auto traits in one order does so after an arrangement.
 use Rattle.std.proofs.Common.{◌≡◌, ℕ, Bool, true, List, refl, ap, sym, ◌∙◌, ◌&&◌, map}
 use Rattle.std.specs.List.{list_all}
 use Rattle.type_terms.specs.Promised.Label.{dynamic}

@@ -1,4 +1,5 @@
--- The laws over the view of an answer, in whatever order its text lists auto traits: they are those of the set in that order.
+-- The laws of the view of an answer, in whatever order its text lists auto traits. They are those of the set in that
+-- order.
 use Rattle.std.proofs.Common.{◌≡◌, ℕ, true, List, [], ◌∷◌, refl, ap, sym, ◌∙◌, ◌||◌, ◌==◌, subst, ◌⊎◌, inl, inr, map, suc, None, Some}
 use Rattle.std.specs.List.{list_all}
 use Rattle.type_terms.specs.Promised.Trees.{Trees, Fits}

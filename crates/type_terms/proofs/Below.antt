@@ -1,4 +1,5 @@
--- How many members of a list stand below a rank: fuel that is enough where each step leads to a smaller rank.
+-- The number of members of a list below a rank. It bounds the steps of a recursion in which each step has a smaller
+-- rank.
 use Rattle.std.proofs.Common.{◌≡◌, ℕ, suc, ◌<◌, ◌≤◌, Bool, true, false, List, [], ◌∷◌, refl, sym, cond, subst, ◌⊎◌, inl, inr, length, arith, ltb}
 use Rattle.std.proofs.lemmas.Bool.Decides.{nat_tests}
 use Rattle.type_terms.specs.Promised.Proofs.{In}

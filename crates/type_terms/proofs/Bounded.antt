@@ -1,4 +1,4 @@
--- No term is deeper than its handle's number, and no binder number leads out too far.
+-- No term is deeper than the number of its handle, and no binder number is too great.
 use Rattle.std.proofs.Common.{◌≡◌, ℕ, zero, suc, ◌+◌, ◌≤◌, List, [], ◌∷◌, ◌++◌, length, arith, Option, Some, None, pred}
 use Rattle.std.specs.List.{slice_get}
 use Rattle.std.proofs.lemmas.Option.{slice_get_within}

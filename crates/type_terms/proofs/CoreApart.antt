@@ -1,4 +1,4 @@
--- No two impls of core overlap: their headers differ at the trait or at the first label.
+-- No two impls of `core` overlap: their headers differ in the trait or in the first label.
 use Rattle.std.proofs.Common.{◌≡◌, zero, Bool, true, false, not, refl, ap, sym, ◌∙◌, ◌&&◌, ◌||◌, ◌==◌, ◌⊎◌, inl, inr, subst}
 use Rattle.std.specs.List.{list_all}
 use Rattle.type_terms.specs.Promised.Label.{Label, never, param}

@@ -1,5 +1,5 @@
--- The crate `core` is a linked set, and so is a small world beside it: what can be tested is tested, and an impl of `Copy` has
--- its supertraits proved because an impl of `Clone` has the same header.
+-- The crate `core` is a linked set, and so is a small world with it. Most conditions are tests that are computed. An
+-- impl of `Copy` has proofs of its supertraits because an impl of `Clone` has the same header.
 use Rattle.std.proofs.Common.{◌≡◌, ℕ, zero, ◌<◌, Bool, true, false, not, List, [], ◌∷◌, refl, ap, sym, ◌∙◌, ◌&&◌, ◌||◌, ◌==◌, if◌then◌else◌, subst, ◌⊎◌, inl, inr, arith, map, length, ltb, IsTrue}
 use Rattle.std.proofs.lemmas.Bool.Decides.{nat_tests}
 use Rattle.std.specs.List.{flat_map, list_all, list_any}

@@ -1,4 +1,4 @@
--- Core stands in a linked set: each trait of core is declared there as in core.
+-- A linked set has `core`: it declares each trait of `core` as `core` does.
 use Rattle.std.proofs.Common.{◌≡◌, ℕ, true, false, List, [], refl, ap, sym, ◌==◌, subst, inl, filter}
 use Rattle.type_terms.specs.Promised.Worlds.{World, TraitDecl, core, sees, view_of}
 use Rattle.type_terms.specs.Promised.Rules.{sized, unsize}

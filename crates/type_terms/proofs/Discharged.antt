@@ -1,4 +1,4 @@
--- A proof from where-clauses, put into: where what the where-clauses give has proofs, so has what is concluded.
+-- Where-clauses replaced by proofs: if what the where-clauses state has proofs, so has what is concluded from them.
 use Rattle.std.proofs.Common.{◌≡◌, ℕ, suc, Bool, true, false, List, [], ◌∷◌, ◌++◌, refl, ap, sym, ◌∙◌, if◌then◌else◌, subst, ◌⊎◌, inl, inr, map, append_assoc}
 use Rattle.std.specs.List.{flat_map}
 use Rattle.type_terms.specs.Promised.Label.{Label, Sort, dynamic, placeholder}

@@ -1,4 +1,5 @@
--- The built-in rules of `dyn` and of unsizing, read in a crate's view and in the set: one list where the crate sees the principal.
+-- The built-in rules of `dyn` and of unsizing, by a crate's view and by the set. They are equal if the crate sees the
+-- principal.
 use Rattle.std.proofs.Common.{◌≡◌, ℕ, Bool, true, false, not, List, [], ◌∷◌, ◌++◌, refl, ap, sym, ◌∙◌, ◌&&◌, ◌==◌, if◌then◌else◌, subst, ◌⊎◌, inl, inr, None}
 use Rattle.std.specs.List.{list_all, list_any}
 use Rattle.type_terms.specs.Promised.Label.{Label, of_type, of_const, of_lifetime, dynamic, static, adt, value, ref, principal, param, placeholder, infer, canonical, bound}

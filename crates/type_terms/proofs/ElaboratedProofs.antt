@@ -1,4 +1,4 @@
--- What a proof that holds supertraits says of what it concludes.
+-- What an elaborated proof concludes.
 use Rattle.std.proofs.Common.{List, [], refl, subst}
 use Rattle.type_terms.specs.Promised.Worlds.{World, Reference}
 use Rattle.type_terms.specs.Promised.Rules.{Rule, rules, strict_supertraits}

@@ -1,4 +1,4 @@
--- How folds end without an answer.
+-- How folds fail.
 use Rattle.std.proofs.Common.{◌≡◌, ℕ, ◌≤◌, List, refl, ap, sym, ◌∙◌, inl, inr}
 use Rattle.std.specs.Prelude.{◌⊎◌, Result, Ok, Err, IfErr, IsErrAnd}
 use Rattle.type_terms.specs.Promised.Handles.{Entry, held, bounds_lists}

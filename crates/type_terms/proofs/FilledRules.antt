@@ -1,4 +1,4 @@
--- Trees put in for placeholders: what the rules made of a reference, they make of it still.
+-- Terms in place of placeholders: a trait reference has the same rule instances.
 use Rattle.std.proofs.Common.{◌≡◌, ℕ, zero, suc, Bool, true, false, List, [], ◌∷◌, ◌++◌, refl, ap, sym, ◌∙◌, ◌&&◌, ◌||◌, ◌==◌, not, if◌then◌else◌, subst, ◌⊎◌, inl, inr, map, length}
 use Rattle.std.specs.List.{list_any, flat_map}
 use Rattle.type_terms.specs.Promised.Label.{Label, array, slice, tuple, dynamic, adt, fn_ptr, ref, raw_pointer, principal, auto_trait, placeholder}

@@ -1,4 +1,4 @@
--- Trees put in for placeholders, and what is done to trees.
+-- Terms in place of placeholders, and functions of terms.
 use Rattle.std.proofs.Common.{◌≡◌, ℕ, zero, suc, Bool, true, false, refl, ap, sym, ◌∙◌, ◌==◌, if◌then◌else◌, subst}
 use Rattle.type_terms.specs.Promised.Label.{Label, Sort, of_type, of_const, of_lifetime, never, dynamic, bound, param, placeholder, inside, shift_label}
 use Rattle.type_terms.specs.Codes.{same}

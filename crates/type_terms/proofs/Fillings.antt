@@ -1,4 +1,4 @@
--- Closed arguments as what stands for placeholders.
+-- Closed arguments in place of placeholders.
 use Rattle.std.proofs.Common.{◌≡◌, ℕ, zero, suc, ◌≤◌, Bool, true, false, refl, ap, sym, ◌∙◌, ◌&&◌, ◌||◌, ◌==◌, subst, ◌⊎◌, inl, inr, arith}
 use Rattle.type_terms.specs.Promised.Label.{Label, Sort, of_type, of_const, of_lifetime, dynamic, bound, param, placeholder, inside, shift_label}
 use Rattle.type_terms.specs.Promised.Trees.{Trees, none, tree, ◌+++◌, nth, shift, instantiate, sort_of, is_sort, some_node, erase, IsA, Fits}

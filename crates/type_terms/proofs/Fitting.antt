@@ -1,4 +1,5 @@
--- What a rule of an impl says: arguments that fit, that are closed where the reference is, and a header that is the reference.
+-- The arguments of an impl's rule instance: they fit, they are closed if the trait reference is, and they turn the
+-- header into it.
 use Rattle.std.proofs.Common.{◌≡◌, ℕ, zero, suc, Bool, true, false, not, [], ◌∷◌, refl, ap, ◌&&◌, ◌||◌, ◌==◌, if◌then◌else◌, ◌⊎◌, inl, inr}
 use Rattle.type_terms.specs.Promised.Label.{Label, Sort, of_type, of_const, of_lifetime, never, param}
 use Rattle.type_terms.specs.Promised.Trees.{Trees, none, tree, ◌+++◌, leaf, nth, IsA, Fits, is_sort, sort_of, some_node}

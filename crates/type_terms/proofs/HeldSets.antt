@@ -1,4 +1,4 @@
--- A joined set of crates whose headers' supertraits were checked is a linked set.
+-- A joined set of crates whose headers have checked supertraits is a linked set.
 use Rattle.std.proofs.Common.{◌≡◌, ℕ, zero, suc, true, false, List, [], ◌∷◌, refl, ap, sym, ◌∙◌, ◌&&◌, ◌==◌, subst, ◌⊎◌, inl, inr, map, length, Some}
 use Rattle.std.specs.List.{list_all}
 use Rattle.type_terms.specs.Promised.Label.{param, placeholder, adt}

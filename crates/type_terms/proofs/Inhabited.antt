@@ -1,4 +1,4 @@
--- A linked set with core, a supertrait, a struct and two impls: the record's conditions can be met.
+-- A linked set with `core`, a supertrait, a struct and two impls. So the conditions are satisfiable.
 use Rattle.std.proofs.Common.{◌≡◌, ℕ, true, List, [], ◌∷◌, ◌++◌, refl, sym, subst, ◌⊎◌, inl, inr, map}
 use Rattle.type_terms.specs.Promised.Label.{adt}
 use Rattle.type_terms.specs.Promised.Trees.{Trees, leaf, Fits}

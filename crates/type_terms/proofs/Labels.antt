@@ -1,4 +1,4 @@
--- What stands in a label is found again from it.
+-- The parts of a label can be read from it.
 use Rattle.std.proofs.Common.{◌≡◌, ℕ, ◌≤◌, refl, ap, sym, ◌∙◌, arith, subst}
 use Rattle.std.proofs.Math.Bridge.{le_prop}
 use Rattle.type_terms.specs.Promised.Label.{Label, Sort, of_const, of_lifetime, bool, char, str, never, array, slice, tuple, dynamic, static, int, uint, adt, fn_ptr, value, ref, raw_pointer, param, placeholder, infer, canonical, bound}

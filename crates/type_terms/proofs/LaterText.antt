@@ -1,4 +1,4 @@
--- A user stands in a set where the crate that it uses has a later version.
+-- A user in a set that has a later version of the crate that it uses.
 use Rattle.std.proofs.Common.{◌≡◌, [], ◌∷◌, ◌++◌, refl, ap, ◌⊎◌, inl, inr, subst, arith}
 use Rattle.type_terms.specs.Promised.Label.{adt}
 use Rattle.type_terms.specs.Promised.Trees.{Trees, leaf}

@@ -1,4 +1,5 @@
--- A crate whose used crates stand at later versions: what it saw once, the set concludes; what they have added is unknown to it.
+-- A crate in a set with later versions of the crates that it uses: the set concludes what the crate saw before, and
+-- what they have added is not knowable to it.
 use Rattle.std.proofs.Common.{◌≡◌, ℕ, zero, Bool, true, false, List, [], ◌∷◌, ◌++◌, suc, refl, ap, sym, ◌∙◌, ◌&&◌, ◌||◌, ◌==◌, if◌then◌else◌, subst, ◌⊎◌, inl, inr, Some, None, IsTrue}
 use Rattle.std.specs.List.{flat_map, list_all, list_any}
 use Rattle.type_terms.specs.Promised.Label.{Label, of_type, of_const, of_lifetime, dynamic, static, adt, value, ref, principal, param, placeholder, infer, canonical, bound}

@@ -1,4 +1,4 @@
--- What a visit finds below a node that has no part: nothing.
+-- A visit finds nothing below a node without children.
 use Rattle.std.proofs.Common.{◌≡◌, ℕ, List, refl, None}
 use Rattle.type_terms.specs.Promised.Trees.{Trees}
 use Rattle.type_terms.specs.Promised.Handles.{Entry, Is, consts, trees_at}

@@ -1,4 +1,4 @@
--- Terms as they are made, taken apart.
+-- The parts of terms have the shape of terms.
 use Rattle.std.proofs.Common.{◌≡◌, ℕ, Bool, true, false, not, ◌&&◌, ◌||◌, refl}
 pub use Rattle.type_terms.proofs.Walking.{left, right, both}
 use Rattle.type_terms.specs.Promised.Label.{Label, of_lifetime, dynamic, principal, auto_trait, predicate}

@@ -1,4 +1,4 @@
--- Each term is made as it is to be, where its parts are.
+-- A term has the shape of a term if its parts have.
 use Rattle.std.proofs.Common.{◌≡◌, ◌≢◌, ℕ, Bool, true, ◌&&◌, List, [], ◌∷◌, ◌++◌, refl, arith, Option, Some, None, le-leb}
 use Rattle.type_terms.specs.Promised.Label.{Label, Sort, of_lifetime, param, placeholder, infer, canonical, bound, static}
 use Rattle.type_terms.specs.Promised.Trees.{leaf, ◌+++◌, sort_of}

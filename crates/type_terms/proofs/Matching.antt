@@ -1,4 +1,4 @@
--- What a rule of an impl says: its header, with the rule's arguments, is the reference.
+-- The header of an impl with the arguments of its rule instance is the trait reference.
 use Rattle.std.proofs.Common.{◌≡◌, ℕ, zero, suc, ◌+◌, Bool, true, false, refl, ap, sym, ◌∙◌, ◌||◌, ◌==◌, arith, subst, ◌⊎◌, inl, inr, ◌<◌, add-zero}
 use Rattle.type_terms.specs.Promised.Label.{Label, Sort, never, param, fn_ptr, principal}
 use Rattle.type_terms.specs.Erased.{mentions}

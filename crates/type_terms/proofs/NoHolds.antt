@@ -1,4 +1,5 @@
--- `no` holds in every linked set: a closed reference with short chains that has a proof in the set is possible by the view alone.
+-- `no` holds in every linked set: a closed trait reference with short chains and a proof in the set is possible by the
+-- view.
 use Rattle.std.proofs.Common.{◌≡◌, ℕ, zero, suc, ◌≤◌, Bool, true, false, not, List, [], ◌∷◌, ◌++◌, refl, ap, sym, ◌∙◌, ◌&&◌, ◌||◌, ◌==◌, if◌then◌else◌, cond, subst, ◌⊎◌, inl, inr, map, filter, length, arith}
 use Rattle.std.specs.List.{flat_map, list_all, list_any}
 use Rattle.type_terms.specs.Codes.{same}

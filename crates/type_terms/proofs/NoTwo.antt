@@ -1,4 +1,5 @@
--- In a linked set whose visited pairs are cleared no closed reference has proofs by two impls; added impls of later versions.
+-- In a linked set whose checked pairs are cleared, no closed trait reference has proofs by two impls. Then, the impls
+-- that later versions add.
 use Rattle.std.proofs.Common.{◌≡◌, ℕ, zero, suc, ◌<◌, Bool, true, false, List, [], ◌∷◌, refl, ap, sym, ◌∙◌, ◌||◌, ◌&&◌, not, ◌==◌, if◌then◌else◌, subst, ◌⊎◌, inl, inr, Some, None, IsTrue, map, arith, length}
 use Rattle.std.specs.List.{list_all, list_any}
 use Rattle.type_terms.specs.Promised.Label.{of_type, of_const, of_lifetime, dynamic, static, adt, value, ref, principal, param, placeholder, infer, canonical, bound}

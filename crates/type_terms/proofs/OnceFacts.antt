@@ -1,4 +1,4 @@
--- A visit that enters a type once is a visit.
+-- A visit that enters each type once is a visit.
 use Rattle.std.proofs.Common.{◌≡◌, ℕ, suc, ◌+◌, ◌<◌, ◌≤◌, List, Option, Some, None, refl, inl, inr, sym, subst, arith}
 use Rattle.std.specs.Prelude.{◌⊎◌}
 use Rattle.type_terms.specs.Promised.Label.{Label}

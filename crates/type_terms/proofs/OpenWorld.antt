@@ -1,4 +1,5 @@
--- In a linked set, a rule with proofs that a crate's view doesn't give concludes a reference that is unknown to the crate.
+-- In a linked set, a rule instance that is not in a crate's view, and whose premises have proofs, concludes a trait
+-- reference that is not knowable to the crate.
 use Rattle.std.proofs.Common.{◌≡◌, ℕ, zero, suc, Bool, true, false, List, [], ◌∷◌, ◌++◌, refl, ap, sym, ◌∙◌, ◌&&◌, ◌==◌, not, if◌then◌else◌, subst, ◌⊎◌, inl, inr, None, IsTrue, filter, length}
 use Rattle.std.specs.List.{flat_map, list_all, list_any}
 use Rattle.type_terms.specs.Promised.Label.{array, slice, dynamic, adt, ref, raw_pointer}

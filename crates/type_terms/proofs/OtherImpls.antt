@@ -1,4 +1,4 @@
--- A world with other crates and impls: what reads structs and traits alone is the same there.
+-- A world with other crates and impls: functions of structs and traits alone give the same for it.
 use Rattle.std.proofs.Common.{◌≡◌, ℕ, zero, suc, Bool, true, false, List, [], ◌∷◌, ◌++◌, refl, ap, ◌∙◌, ◌&&◌, ◌||◌, ◌==◌, not, if◌then◌else◌, Option, None, Some, length}
 use Rattle.std.specs.List.{flat_map, list_all, list_any}
 use Rattle.type_terms.specs.Promised.Label.{Label, of_type, of_const, of_lifetime, adt, array, slice, raw_pointer, ref, dynamic, principal, static, value, param, placeholder, infer, canonical, bound}

@@ -1,4 +1,4 @@
--- What a part of a view says holds in the linked sets that hold the view.
+-- What the answers by a part of a view mean for the linked sets with the view.
 use Rattle.std.proofs.Common.{◌≡◌, ℕ, ◌<◌, Bool, true, false, not, List, [], ◌∷◌, ◌++◌, map, if◌then◌else◌, refl, ap, sym, ◌∙◌, ◌&&◌, ◌||◌, ◌==◌, filter, cond, subst, ◌⊎◌, inl, inr, ltb, arith}
 use Rattle.std.proofs.lemmas.Bool.Decides.{nat_tests}
 use Rattle.std.specs.List.{flat_map, list_all}

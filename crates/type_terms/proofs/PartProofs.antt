@@ -1,4 +1,4 @@
--- Worlds that agree on a closed set of references answer alike there.
+-- Worlds that agree on a closed set of trait references give the same answers for it.
 use Rattle.std.proofs.Common.{◌≡◌, ℕ, zero, suc, Bool, true, false, not, List, [], ◌∷◌, ◌++◌, refl, ap, sym, ◌∙◌, ◌&&◌, if◌then◌else◌, subst, ◌⊎◌, inl, inr}
 use Rattle.std.specs.List.{flat_map, list_all, list_any}
 use Rattle.type_terms.specs.Promised.Worlds.{World, Reference}

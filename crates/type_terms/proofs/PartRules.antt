@@ -1,4 +1,4 @@
--- A part that keeps what a set of references needs agrees with the whole on it.
+-- A part with all that a set of trait references needs agrees with the world on it.
 use Rattle.std.proofs.Common.{◌≡◌, ℕ, zero, suc, ◌<◌, ◌≤◌, Bool, true, false, not, List, [], ◌∷◌, ◌++◌, refl, ap, sym, ◌∙◌, ◌&&◌, ◌||◌, ◌==◌, if◌then◌else◌, subst, ◌⊎◌, inl, inr, Option, None, Some, length, arith}
 use Rattle.std.specs.List.{flat_map, list_all, list_any}
 use Rattle.type_terms.specs.Promised.Label.{Label, of_type, of_const, of_lifetime, of_trait, region_outlives, type_outlives, regions_equal, adt, array, slice, raw_pointer, ref, dynamic, principal, auto_trait, predicate, static, value, param, placeholder, infer, canonical, bound}

@@ -1,4 +1,4 @@
--- What an entry of a proof says; rules that are of an impl are of an impl of the world.
+-- What an entry of a proof means. A rule instance of an impl is of an impl of the world.
 use Rattle.std.proofs.Common.{◌≡◌, ℕ, Bool, true, false, List, [], ◌∷◌, ◌++◌, refl, sym, ◌∙◌, ◌&&◌, ◌||◌, ◌==◌, not, if◌then◌else◌, subst, ◌⊎◌, inl, inr, map, append_assoc}
 use Rattle.std.specs.List.{flat_map, list_all, list_any}
 use Rattle.type_terms.specs.Promised.Label.{array, slice, raw_pointer, ref, adt, tuple, fn_ptr, dynamic}

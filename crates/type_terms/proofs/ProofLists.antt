@@ -1,4 +1,4 @@
--- Proofs are joined: a rule whose premises have proofs gives a proof.
+-- Proofs joined: a rule instance whose premises have proofs gives a proof.
 use Rattle.std.proofs.Common.{◌≡◌, Bool, true, false, List, [], ◌∷◌, ◌++◌, refl, ap, sym, if◌then◌else◌, subst, ◌⊎◌, inl, inr, append_assoc}
 use Rattle.type_terms.specs.Promised.Worlds.{World, Reference}
 use Rattle.type_terms.specs.Promised.Rules.{Rule, rules, is_coinductive}

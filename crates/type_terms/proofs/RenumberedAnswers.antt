@@ -1,4 +1,4 @@
--- Other numbers for the items of a view: known, bounded, possible and proved references stay so.
+-- Renumbered views: knowable, bounded, possible and proved trait references stay so.
 use Rattle.std.proofs.Common.{◌≡◌, ℕ, zero, suc, Bool, true, false, List, [], ◌∷◌, ◌++◌, refl, ap, sym, ◌∙◌, ◌&&◌, ◌||◌, ◌==◌, not, if◌then◌else◌, subst, ◌⊎◌, inl, inr, map, Option, Some, None}
 use Rattle.std.specs.List.{list_all, list_any, flat_map}
 use Rattle.type_terms.specs.Promised.Label.{Label, of_type, of_const, of_lifetime, dynamic, static, adt, value, ref, principal, auto_trait, param, placeholder, infer, canonical, bound, of_trait, predicate}

@@ -1,4 +1,4 @@
--- Other numbers for the items of a view: its rules are the rules of the view with those numbers.
+-- Renumbered views: their rules are the renumbered rules.
 use Rattle.std.proofs.Common.{◌≡◌, ℕ, zero, suc, Bool, true, false, List, [], ◌∷◌, ◌++◌, refl, ap, sym, ◌∙◌, ◌&&◌, ◌||◌, ◌==◌, not, if◌then◌else◌, subst, ◌⊎◌, inl, inr, map, length}
 use Rattle.std.specs.List.{list_all, list_any, flat_map}
 use Rattle.type_terms.specs.Promised.Label.{Label, of_type, of_const, of_lifetime, array, slice, tuple, dynamic, adt, fn_ptr, ref, raw_pointer, principal, auto_trait, param}

@@ -1,4 +1,4 @@
--- Other numbers for structs and traits: all that is done to trees is done alike.
+-- Renumbered structs and traits: functions of terms commute with the renumbering.
 use Rattle.std.proofs.Common.{◌≡◌, ℕ, zero, suc, Bool, true, false, List, [], ◌∷◌, refl, ap, sym, ◌∙◌, ◌&&◌, ◌||◌, ◌==◌, not, if◌then◌else◌, subst, map}
 use Rattle.type_terms.specs.Promised.Label.{Label, PredicateKind, Sort, of_type, of_const, of_lifetime, never, param, bound, adt, principal, auto_trait, fn_ptr, of_trait, predicate, inside, shift_label}
 use Rattle.type_terms.specs.Codes.{same}

@@ -1,4 +1,4 @@
--- A world's views stand in it with their own numbers.
+-- The views of a world are in it with its own numbers.
 use Rattle.std.proofs.Common.{◌≡◌, ℕ, List, [], ◌∷◌, map, refl, sym, ap, ◌∙◌, subst}
 use Rattle.type_terms.specs.Promised.Label.{Label, of_trait, adt, principal, auto_trait, predicate}
 use Rattle.type_terms.specs.Promised.Trees.{Trees, none, tree}

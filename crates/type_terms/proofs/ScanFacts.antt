@@ -1,4 +1,4 @@
--- Flags and outer binders tell what a scan finds.
+-- What a scan finds, by flags and outer binders.
 use Rattle.std.proofs.Common.{◌≡◌, ℕ, zero, suc, ◌+◌, ◌-◌, ◌/◌, max, List, [], ◌∷◌, length, refl, ap, sym, ◌∙◌, arith, Bool, not, ◌||◌, ◌==◌, ltb, bit_and, bit_or}
 use Rattle.std.proofs.lemmas.Bool.Decides.{nat_tests}
 use Rattle.std.proofs.lemmas.Nat.{or_comm, le_or_l, le_or_r, or_shr}

@@ -1,4 +1,4 @@
--- What a crate sees, its uses see too: the number of crates is fuel enough.
+-- A crate sees what the crates see that it uses. The number of crates is enough steps.
 use Rattle.std.proofs.Common.{◌≡◌, ℕ, zero, suc, ◌<◌, ◌≤◌, true, List, sym, ◌||◌, ◌==◌, subst, ◌⊎◌, inl, inr, length, arith}
 use Rattle.std.specs.List.{list_any}
 use Rattle.type_terms.specs.Promised.Worlds.{World, CrateDecl, core, crates_named, sees, sees_within}

@@ -1,4 +1,4 @@
--- A type's trees are one type, and a constant's one constant.
+-- A handle of a type has one type, and a handle of a constant one constant.
 use Rattle.std.proofs.Common.{◌≡◌, ℕ, List, [], ◌∷◌, ◌++◌, refl, arith}
 use Rattle.type_terms.specs.Promised.Label.{Sort, of_type, of_const}
 use Rattle.type_terms.specs.Promised.Trees.{Trees, none, tree, sort_of, IsA}

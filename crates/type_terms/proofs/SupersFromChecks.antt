@@ -1,5 +1,5 @@
--- Where each impl's header has its supertraits proved from its where-clauses, whatever its parameters are, each closed reference
--- with a proof has its supertraits proved.
+-- If the where-clauses of each impl prove the supertraits of its header, for all parameters, then each closed trait
+-- reference with a proof has proofs of its supertraits.
 use Rattle.std.proofs.Common.{◌≡◌, ℕ, Bool, true, false, List, [], ◌∷◌, ◌++◌, ap, sym, ◌∙◌, ◌&&◌, ◌==◌, if◌then◌else◌, subst, ◌⊎◌, inl, inr, map}
 use Rattle.std.specs.List.{flat_map}
 use Rattle.type_terms.specs.Promised.Label.{Sort, dynamic, placeholder}

@@ -1,5 +1,6 @@
--- In a linked set every closed reference with a proof has its strict supertraits proved: an impl's by the set's condition, and
--- those of the built-in rows because the rows of `Clone`, `Copy` and the traits of calls come together.
+-- In a linked set, every closed trait reference with a proof has proofs of its supertraits. For impls this is a
+-- condition of the set. For built-in rules it holds because those of `Clone` and `Copy`, and those of the traits of
+-- calls, occur together.
 use Rattle.std.proofs.Common.{◌≡◌, ℕ, zero, true, false, List, [], ◌∷◌, ◌++◌, refl, ap, sym, ◌∙◌, ◌||◌, ◌==◌, if◌then◌else◌, subst, ◌⊎◌, inl, inr, length, map}
 use Rattle.std.specs.List.{flat_map, list_any, list_all}
 use Rattle.type_terms.specs.Promised.Label.{of_type, param, fn_ptr, tuple, dynamic}

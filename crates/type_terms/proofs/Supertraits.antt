@@ -1,4 +1,4 @@
--- Where a crate sees a trait, its view has all of the trait's supertraits.
+-- If a crate sees a trait, its view has all of the trait's supertraits.
 use Rattle.std.proofs.Common.{◌≡◌, ℕ, zero, suc, ◌<◌, ◌≤◌, Bool, true, false, List, [], ◌∷◌, ◌++◌, refl, ap, sym, ◌∙◌, ◌==◌, cond, subst, filter, length, arith}
 use Rattle.std.specs.List.{flat_map, list_any}
 use Rattle.type_terms.specs.Promised.Worlds.{World, Reference, TraitDecl, traits_named, sees, view_of, with_args, all_with_args}

@@ -1,4 +1,4 @@
--- Small facts on trees, labels and the items of a world.
+-- Small facts on terms, labels and the items of a world.
 use Rattle.std.proofs.Common.{◌≡◌, refl, ap, ℕ, true, pred, List, ◌∷◌, suc, [], subst, sym, Bool, if◌then◌else◌, ◌≤◌}
 use Rattle.type_terms.specs.Promised.Answers.{is_open}
 use Rattle.type_terms.specs.Kept.{is-at}

@@ -1,4 +1,4 @@
--- Rules of a world of terms ask terms of terms; and an erased world is one of terms.
+-- In a world without lifetimes, premises have no lifetimes. An erased world has none.
 use Rattle.std.proofs.Common.{◌≡◌, ℕ, zero, suc, Bool, true, false, not, List, [], ◌∷◌, ◌++◌, refl, ap, sym, ◌∙◌, ◌&&◌, ◌||◌, ◌==◌, if◌then◌else◌, cond, subst, ◌⊎◌, inl, inr, map, filter, length}
 use Rattle.std.specs.List.{flat_map, list_all, list_any}
 use Rattle.type_terms.specs.Codes.{same}

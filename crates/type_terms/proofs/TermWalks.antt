@@ -1,4 +1,5 @@
--- Walks skip lifetimes: what they meet is met in the erased world, and the orphan rule and known references are the same there.
+-- Orphan walks skip lifetimes: their steps are those in the erased world, and so are the orphan rule and knowable trait
+-- references.
 use Rattle.std.proofs.Common.{◌≡◌, ℕ, Bool, true, false, List, [], ◌∷◌, refl, ap, ◌∙◌, ◌||◌, ◌==◌, if◌then◌else◌, Option, Some, None, length}
 use Rattle.std.specs.List.{list_all, list_any}
 use Rattle.type_terms.specs.Promised.Label.{of_type, of_const, of_lifetime, dynamic, static, adt, value, ref, fn_ptr, principal, param, placeholder, infer, canonical, bound}

@@ -1,4 +1,5 @@
--- An arrangement for any two orders: lists that rise by the one and lists that rise by the other change places, and each other list stays.
+-- An arrangement for any two orders. It exchanges lists that rise by the one and lists that rise by the other, and
+-- leaves other lists as they are.
 use Rattle.std.proofs.Common.{◌≡◌, ℕ, suc, ◌<◌, Bool, true, false, List, [], ◌∷◌, refl, ap, sym, ◌∙◌, if◌then◌else◌, subst, ◌⊎◌, inl, inr, length, arith, ltb}
 use Rattle.std.proofs.lemmas.Bool.Decides.{nat_tests}
 use Rattle.type_terms.specs.Promised.Proofs.{In, Every}

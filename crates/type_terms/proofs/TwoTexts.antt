@@ -1,4 +1,4 @@
--- Two crates from two texts stand in one linked set, one of them with other numbers: also where the texts declare in opposite
+-- Two crates of two texts in one linked set, one of them renumbered, also if the texts declare auto traits in opposite
 -- orders.
 use Rattle.std.proofs.Common.{◌≡◌, ℕ, Bool, true, false, cond, List, [], ◌∷◌, ◌++◌, refl, ap, sym, ◌∙◌, ◌==◌, ◌<◌, subst, ◌⊎◌, inl, inr, map, filter, length, ltb, arith}
 use Rattle.std.proofs.lemmas.Bool.Decides.{nat_tests}

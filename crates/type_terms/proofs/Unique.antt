@@ -1,4 +1,4 @@
--- Handles of one kind are equal exactly if their trees are.
+-- Handles of one kind are equal exactly if their terms are.
 use Rattle.std.proofs.Common.{◌≡◌, ℕ, zero, suc, ◌+◌, ◌<◌, ◌≤◌, Bool, true, false, List, [], ◌∷◌, length, refl, ap, sym, ◌∙◌, arith, Option, Some, None, subst, inl, inr, ◌⊎◌, get_or, map, cond}
 use Rattle.std.specs.Map.{lookup}
 use Rattle.std.specs.List.{slice_get, IsDistinct}

@@ -1,4 +1,5 @@
--- The walk lemma, and two impls of crates that don't see each other.
+-- Impls of crates that a crate does not see conclude only what is not knowable to it, and impls of two crates that do
+-- not see each other do not overlap.
 use Rattle.std.proofs.Common.{◌≡◌, ℕ, zero, Bool, true, false, List, [], ◌∷◌, ap, sym, ◌∙◌, ◌==◌, subst, ◌⊎◌, inl, inr, Some, None}
 use Rattle.std.specs.List.{list_all}
 use Rattle.type_terms.specs.Promised.Trees.{Trees, instantiate, Fits}

@@ -1,4 +1,4 @@
--- The laws over the views of answers: what holds of a crate's view in the set's numbers holds of it in the numbers of its text.
+-- The laws of the views of answers: what holds of a crate's view in the set's numbers holds of it in those of its text.
 use Rattle.std.proofs.Common.{◌≡◌, ◌||◌, ℕ, zero, suc, length, ◌<◌, Bool, true, false, List, [], refl, ap, sym, ◌∙◌, ◌==◌, subst, ◌⊎◌, inl, inr, map, arith, ltb}
 use Rattle.std.proofs.lemmas.Bool.Decides.{nat_tests}
 use Rattle.type_terms.specs.Promised.Worlds.{World, Reference, ImplDecl, core, sees, sees_within, view_of, with_args}

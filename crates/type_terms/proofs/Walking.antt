@@ -1,4 +1,4 @@
--- A walk that ends local does so on every instance, and what it passes on its way is written in the header.
+-- An orphan walk that ends at a local type does so for every instance. The header has what it passes.
 use Rattle.std.proofs.Common.{◌≡◌, ℕ, zero, Bool, true, false, List, [], ◌∷◌, ◌++◌, refl, ap, sym, ◌∙◌, ◌&&◌, ◌||◌, ◌==◌, if◌then◌else◌, subst, ◌⊎◌, inl, inr, append_assoc, Option, Some, None}
 use Rattle.std.specs.List.{list_all, list_any}
 use Rattle.type_terms.specs.Promised.Label.{of_type, of_const, of_lifetime, dynamic, static, adt, auto_trait, value, ref, principal, param, placeholder, infer, canonical, bound, of_trait, predicate}

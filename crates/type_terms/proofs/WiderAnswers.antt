@@ -1,4 +1,4 @@
--- What a world above says of known and possible references, and of linked sets that hold a view below it.
+-- What a world above means for knowable and possible trait references, and for linked sets with a view below it.
 use Rattle.std.proofs.Common.{◌≡◌, ℕ, zero, suc, Bool, true, false, not, List, [], ◌∷◌, ap, sym, ◌∙◌, ◌&&◌, ◌||◌, ◌==◌, if◌then◌else◌, subst, ◌⊎◌, inl, inr, map, length, Some}
 use Rattle.std.specs.List.{flat_map, list_all, list_any}
 use Rattle.type_terms.specs.Promised.Trees.{Trees}

@@ -1,4 +1,4 @@
--- When an impl is wider, and what that says of common instances.
+-- When an impl is wider, and what that means for common instances.
 use Rattle.std.proofs.Common.{◌≡◌, ℕ, zero, Bool, true, false, not, List, [], ◌∷◌, ◌++◌, refl, ap, sym, ◌∙◌, ◌&&◌, ◌==◌, if◌then◌else◌, subst, ◌⊎◌, inl, inr, map}
 use Rattle.type_terms.specs.Promised.Trees.{Trees, instantiate, Fits, some_node}
 use Rattle.type_terms.specs.Trees.{fits, arguments, outer_binder}

@@ -1,4 +1,4 @@
--- The rules of a world are rules of each world above it, but for premises.
+-- The rule instances of a world are those of each world above it, except for premises.
 use Rattle.std.proofs.Common.{◌≡◌, ℕ, suc, Bool, true, false, List, [], ◌∷◌, ◌++◌, refl, ap, sym, ◌==◌, if◌then◌else◌, subst, ◌⊎◌, inl, inr}
 use Rattle.std.specs.List.{flat_map}
 use Rattle.type_terms.specs.Promised.Label.{Label}

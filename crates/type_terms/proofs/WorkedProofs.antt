@@ -1,4 +1,4 @@
--- The worked cases that computing alone does not show: proofs, their absence, and common instances.
+-- Examples that are more than a computation: proofs, their absence, and common instances.
 use Rattle.std.proofs.Common.{◌≡◌, ℕ, zero, suc, true, false, List, [], ◌∷◌, refl, ◌⊎◌, inl, inr, IsTrue, ap, sym, subst, ◌∙◌, arith}
 use Rattle.std.specs.List.{list_any}
 use Rattle.type_terms.specs.Promised.Label.{of_type, bool, adt, uint, tuple, ref, static, placeholder, dynamic, principal}

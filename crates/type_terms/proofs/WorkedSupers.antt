@@ -1,4 +1,4 @@
--- Worked cases of supertraits.
+-- Examples of supertraits.
 use Rattle.std.proofs.Common.{[], ◌∷◌, refl}
 use Rattle.type_terms.specs.Promised.Label.{placeholder, of_type, principal, dynamic}
 use Rattle.type_terms.specs.Promised.Trees.{Trees, none, tree, leaf}

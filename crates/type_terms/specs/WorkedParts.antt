@@ -1,4 +1,4 @@
--- Worked parts: a small text, what a question needs of it, and parts that lack something.
+-- Examples of parts: a small text, what a query needs of it, and parts that lack something.
 use Rattle.std.specs.Prelude.{◌≡◌, Bool, true, false, ◌||◌, ◌==◌, List, [], ◌∷◌, length}
 use Rattle.type_terms.specs.Promised.Label.{adt, bool}
 use Rattle.type_terms.specs.Promised.Trees.{leaf}
@@ -27,11 +27,11 @@ whole = record {
       ∷ [];
 }
 
--- V, Sup and Show.
+-- The struct V, and the traits Sup and Show.
 abbrev pub few : KeptNames
 few = record { structs = λ s. s == 10; traits = λ t. (t == 20) || (t == 21) }
 
--- `V<u8>: Show` and all that it leads to.
+-- `V<u8>: Show` and everything that it leads to.
 abbrev pub asked_of_show : List Reference
 asked_of_show = asked 21 (applied 10 u8) ∷ asked 21 u8 ∷ asked 20 (applied 10 u8) ∷ asked 20 u8 ∷ []
 
@@ -39,20 +39,21 @@ asked_of_show = asked 21 (applied 10 u8) ∷ asked 21 u8 ∷ asked 20 (applied 1
 abbrev pub show_and_sup : ImplDecl → Bool
 show_and_sup i = (i.header.trait == 20) || (i.header.trait == 21)
 
--- For `V<u8>: Show` four of the seven impls are enough.
+-- Four of the seven impls are enough for `V<u8>: Show`.
 abbrev pub FourImplsAreEnough : Type 0
 FourImplsAreEnough =
     let part = cut_down few show_and_sup [] whole in
     (length part.impls ≡ 4) × (keeps_enough few show_and_sup (λ n. n) whole asked_of_show ≡ true) × (is_closed_list part asked_of_show ≡ true)
     × AnswersAlike whole part base (asked 21 (applied 10 u8))
 
--- Without the impls for V they are not, and without `u8: Show` the list is not closed.
+-- Without the impls for V they are not enough. Without `u8: Show` the list is not closed.
 abbrev pub TooFew : Type 0
 TooFew =
     (keeps_enough few (λ i. i.name == 100) (λ n. n) whole asked_of_show ≡ false)
     × (is_closed_list whole (asked 21 (applied 10 u8) ∷ asked 20 (applied 10 u8) ∷ asked 20 u8 ∷ []) ≡ false)
 
--- `V<bool>: Safe` has no rule, since `impl Safe for V<u8>` switches the own rule off; with the impl left out it has one. So that impl has to stay.
+-- `V<bool>: Safe` has no rule, because `impl Safe for V<u8>` disables the built-in rule. Without this impl it has one.
+-- So the part must have the impl.
 abbrev pub AnImplThatConcludesNothingIsNeeded : Type 0
 AnImplThatConcludesNothingIsNeeded =
     let K : KeptNames = record { structs = λ s. s == 10; traits = λ t. t == 23 } in
@@ -60,7 +61,7 @@ AnImplThatConcludesNothingIsNeeded =
     (rules whole [] r ≡ []) × (length (rules (cut_down K (λ i. false) [] whole) [] r) ≡ 1)
     × (keeps_enough K (λ i. false) (λ n. n) whole (r ∷ []) ≡ false) × (keeps_enough K (λ i. i.name == 106) (λ n. n) whole (r ∷ []) ≡ true)
 
--- `struct L; impl Loop for L where L: Loop`, under `auto trait Loop` or `trait Loop`.
+-- `struct L; impl Loop for L where L: Loop`, where the trait is `auto trait Loop` or `trait Loop`.
 abbrev pub looping : TraitDecl → World
 looping t = record {
   crates = record { name = base; uses = [] } ∷ [];
@@ -69,8 +70,8 @@ looping t = record {
   impls = impl_of 100 base 0 (asked 20 (leaf (adt 10))) (asked 20 (leaf (adt 10)) ∷ []) ∷ [];
 }
 
--- `L: Loop` has the same rules, no supertraits, and is known by both, and has a proof by the auto trait alone: a proof of an auto trait may
--- rest on itself. So of parts more is asked than the same rules.
+-- Both worlds have the same rules for `L: Loop`, no supertraits, and it is knowable in both. But only the auto trait
+-- has a proof, because a proof of an auto trait may use itself. So the same rules are not enough for a part.
 abbrev pub SameRulesAreNotEnough : Type 0
 SameRulesAreNotEnough =
     let V = looping (auto_trait_of 20 base) in
@@ -83,7 +84,8 @@ SameRulesAreNotEnough =
 abbrev pub with_structs : List StructDecl → World
 with_structs ss = record { crates = record { name = base; uses = [] } ∷ []; structs = ss; traits = trait_of 20 base [] ∷ []; impls = [] }
 
--- `L: Show` has no rule and no supertraits, and is unknown to first, with L declared or not, and is bounded only where it is. So names have to stay.
+-- `L: Show` has no rule and no supertraits, and is not knowable to first, whether L is declared or not. But it is
+-- bounded only if L is declared. So the part must have the names.
 abbrev pub NamesHaveToStay : Type 0
 NamesHaveToStay =
     let V = with_structs (struct 10 base [] ∷ []) in

@@ -1,5 +1,5 @@
--- Worked cases of supertraits: impls whose headers have them proved from their where-clauses, and some that have not. Each stands
--- on the contract of a function of src/.
+-- Examples of supertraits: impls whose where-clauses prove the supertraits of their headers, and impls for which they
+-- do not. Functions of module `laws` prove them.
 use Rattle.std.specs.Prelude.{◌≡◌, List, [], ◌∷◌}
 use Rattle.type_terms.specs.Promised.Label.{auto_trait, dynamic, principal, placeholder, of_type}
 use Rattle.type_terms.specs.Promised.Trees.{none, tree, leaf}
@@ -13,26 +13,27 @@ use Rattle.type_terms.specs.Worked.{base, beside_core, struct, trait_of, impl_of
 abbrev pub with_supers : List ImplDecl → World
 with_supers is = beside_core (struct 10 base [] ∷ []) (trait_of 20 base [] ∷ trait_of 21 base (asked 20 T ∷ []) ∷ []) is
 
--- `impl Sub for u8` alone: `u8: Sup` has no proof. The header does not prove it.
+-- With `impl Sub for u8` alone, `u8: Sup` has no proof.
 abbrev pub AMissingSupertrait : Type 0
 AMissingSupertrait = let i = impl_of 100 base 0 (asked 21 u8) [] in SupersHold (with_supers (i ∷ [])) i → ⊥
 
--- Beside `impl Sup for u8` it has one.
+-- With `impl Sup for u8` in addition, it has one.
 abbrev pub ByAnotherImpl : Type 0
 ByAnotherImpl = let i = impl_of 100 base 0 (asked 21 u8) [] in SupersHold (with_supers (i ∷ impl_of 101 base 0 (asked 20 u8) [] ∷ [])) i
 
--- `impl<T> Sub for T where T: Sup`: the where-clause gives it, whatever T is.
+-- `impl<T> Sub for T where T: Sup`: the where-clause is the supertrait, for every T.
 abbrev pub ByAWhereClause : Type 0
 ByAWhereClause = let i = impl_of 100 base 1 (asked 21 T) (asked 20 T ∷ []) in SupersHold (with_supers (i ∷ [])) i
 
--- `impl<T> Sub for V<T> where T: Sub` beside `impl<T> Sup for V<T> where T: Sup`: the where-clause gives `T: Sup`, its supertrait.
+-- `impl<T> Sub for V<T> where T: Sub` with `impl<T> Sup for V<T> where T: Sup`: the where-clause has the supertrait
+-- `T: Sup`.
 abbrev pub ByASupertraitOfAWhereClause : Type 0
 ByASupertraitOfAWhereClause =
     let i = impl_of 100 base 1 (asked 21 (applied 10 T)) (asked 21 T ∷ []) in
     SupersHold (with_supers (i ∷ impl_of 101 base 1 (asked 20 (applied 10 T)) (asked 20 T ∷ []) ∷ [])) i
 
--- No `dyn` is `Sized`, by its bounds neither: `T: Unsize<dyn Sup>` follows from `T: Sized` and `T: Sup` for each T that is no `dyn`, and
--- for no `dyn` without a principal. So a parameter that is `Sized` may stand for each type.
+-- No `dyn` is `Sized`, not even by its bounds. `T: Unsize<dyn Sup>` follows from `T: Sized` and `T: Sup` for each T
+-- that is no `dyn`, and for no `dyn` without a principal. So a parameter with the bound `Sized` may be any other type.
 abbrev pub NoDynIsSized : Type 0
 NoDynIsSized =
     let W = with_supers [] in
