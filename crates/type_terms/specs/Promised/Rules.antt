@@ -207,8 +207,8 @@ auto_rules_plain W t (tree tuple items o) = row auto_tuple (each_asked t items)
 auto_rules_plain W t (tree (adt s) args o) = flat_map (λ x. row auto_struct (each_asked t (fields_of x args))) (structs_named W s)
 auto_rules_plain W t _ = []
 
--- The built-in rule of an auto trait, unless some impl of the trait is for the same type constructor (RFC 19). For
--- example, with `impl Safe for L where L: Nope`, `L: Safe` has the rule of this impl alone.
+-- The built-in rule of an auto trait, unless an impl of the trait disables it (RFC 19). For example, with
+-- `impl Safe for L where L: Nope`, `L: Safe` has the rule of this impl alone.
 abbrev pub auto_rules : World → ℕ → Trees → List Rule
 auto_rules W t none = []
 auto_rules W t (tree l c o) = if is_written W t l then [] else auto_rules_plain W t (tree l c o)
