@@ -3,7 +3,7 @@ use Rattle.std.specs.Prelude.{◌≡◌, refl, ℕ, zero, suc, List, [], ◌∷�
 use Rattle.std.proofs.Common.{ap}
 use Rattle.std.specs.Option.{option_or}
 use Rattle.type_terms.specs.Promised.Label.{Label, Sort, of_type, of_const, of_lifetime, param, principal, auto_trait, inside}
-use Rattle.type_terms.specs.Promised.Trees.{Trees, none, tree, nth, sort_of, is_sort, some_node}
+use Rattle.type_terms.specs.Promised.Trees.{Trees, none, tree, nth, sort_of, is_sort, some_node, instantiate}
 use Rattle.type_terms.specs.Promised.Handles.{Entry, trees_at}
 use Rattle.type_terms.specs.declared.TheConstants.{MAX_INDEX}
 use Rattle.type_terms.specs.declared.kinds.GenericArgKind.{GenericArgKind}
@@ -15,7 +15,7 @@ use Rattle.type_terms.specs.declared.visit.Seen.{Seen}
 use Rattle.type_terms.specs.declared.visit.Seen.TheVariants.{Break, Enter, Pass}
 use Rattle.term_folds.specs.Folds.{Does, enters, puts, again}
 use Rattle.type_terms.specs.Visits.{IsBound}
-use Rattle.type_terms.specs.Pieces.{Piece}
+use Rattle.type_terms.specs.Pieces.{Piece, each_piece}
 use Rattle.term_folds.specs.Shifts.{ShiftInRange, moved}
 
 -- a parameter
@@ -27,6 +27,10 @@ is_any_param _ = false
 abbrev pub has_param : List Piece → Bool
 has_param [] = false
 has_param (p ∷ ps) = some_node is_any_param p.trees || has_param ps
+
+-- the pieces with the argument list of handle i put in for their parameters
+abbrev pub instantiated_in : List Entry → ℕ → List Piece → List Piece
+instantiated_in es i ps = each_piece (λ d t. instantiate d (trees_at es i) t) ps
 
 -- the sort of the argument with this place, if there is one
 abbrev pub sort_at : Trees → ℕ → Option Sort

@@ -2,6 +2,8 @@
 use Rattle.std.specs.Prelude.{◌≡◌, ℕ, ◌&&◌, Bool, nat_eq, List, length, IfSome}
 use Rattle.std.specs.HashMap.{get}
 use Rattle.type_terms.specs.Promised.Trees.{Trees}
+use Rattle.type_terms.specs.Binders.{counts_of}
+use Rattle.type_terms.specs.declared.binders.Binders.{Binders}
 use Rattle.type_terms.specs.Promised.Handles.{Entry, Has, types, trees_at}
 use Rattle.term_folds.specs.declared.memo.Place.{Place}
 use Rattle.term_folds.specs.declared.memo.Memo.{Memo}
@@ -17,9 +19,17 @@ pub record IsMemo (f : Action) (es : List Entry) (i depth j : ℕ) : Type 0 wher
   pub has : Has es types j
   pub folded : (bs : List ℕ) → length bs ≡ depth → Folds f bs (trees_at es i) (trees_at es j)
 
+-- the same under these binders
+abbrev pub IsMemoUnder : Action → List Entry → Binders → (i j : ℕ) → Type 0
+IsMemoUnder f es bs i j = IsMemo f es i (length (counts_of bs)) j
+
 abbrev pub place_eq : Place → Place → Bool
 place_eq p q = nat_eq p.ty q.ty && nat_eq p.depth q.depth
 
 -- what is kept is the fold
 abbrev pub Remembers : Action → List Entry → Memo → Type 0
 Remembers f es m = (p : Place) → IfSome (get place_eq m.found p) (λ t. IsMemo f es p.ty p.depth t.0)
+
+-- a memo of folds is one still, with j for type i under these binders if that is the fold
+abbrev pub IsNoted : Memo → Memo → Binders → (i j : ℕ) → Type 0
+IsNoted old new bs i j = (f : Action) (es : List Entry) → Remembers f es old → IsMemoUnder f es bs i j → Remembers f es new

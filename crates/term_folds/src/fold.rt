@@ -10,7 +10,7 @@ ghost use Rattle.type_terms.specs.Promised.Handles.{region_trees, RegionHeld, Ar
 ghost use Rattle.type_terms.specs.Kinds.{kind_trees, KindHeld, KindOlder, PrincipalHeld, PrincipalOlder, principal_trees};
 ghost use Rattle.type_terms.specs.Binders.{counts_of};
 ghost use Rattle.type_terms.specs.Failures.{FailsBy};
-ghost use Rattle.term_folds.specs.Folds.{Does, enters, again, Folds, FoldsBelow, IsFold, IsFoldBelow, TyAnswer, ConstAnswer, RegionAnswer};
+ghost use Rattle.term_folds.specs.Folds.{Does, enters, again, Folds, IsHandleFold, IsHandleFoldBelow, IsFoldUnder, TyAnswer, ConstAnswer, RegionAnswer};
 ghost use Rattle.type_terms.specs.Visits.{IsBound};
 
 use crate::deep::begin;
@@ -64,7 +64,7 @@ pub trait FallibleTypeFolder {
         requires ready { ready self.now cx.old.entries }
         requires held { Has cx.old.entries types ty.0 }
         ensures grew { Grew cx.old cx.new }
-        ensures answer { IfOk result (λ r. TyAnswer (action self.now cx.old.entries (counts_of binders.now) (trees_at cx.old.entries ty.0)) cx.new.entries r) }
+        ensures answer { IfOk result (λ r. TyAnswer (action self.now cx.old.entries (counts_of binders.now) (trees_at cx.old.entries ty.0)) cx.new r) }
         ensures failed { IfErr result (λ e. FailsBy (fails self.now) Self.Error.from_gives cx.new.entries cx.new.limit e) };
 
     /// What the folder does at a constant.
@@ -77,7 +77,7 @@ pub trait FallibleTypeFolder {
         requires ready { ready self.now cx.old.entries }
         requires held { Has cx.old.entries consts ct.0 }
         ensures grew { Grew cx.old cx.new }
-        ensures answer { IfOk result (λ r. ConstAnswer (action self.now cx.old.entries (counts_of binders.now) (trees_at cx.old.entries ct.0)) cx.new.entries r) }
+        ensures answer { IfOk result (λ r. ConstAnswer (action self.now cx.old.entries (counts_of binders.now) (trees_at cx.old.entries ct.0)) cx.new r) }
         ensures failed { IfErr result (λ e. FailsBy (fails self.now) Self.Error.from_gives cx.new.entries cx.new.limit e) };
 
     /// What the folder does at a lifetime.
@@ -151,7 +151,7 @@ pub(crate) fn fold_const<F: FallibleTypeFolder>(
     requires ready { F.ready folder.now cx.old.entries }
     requires held { Has cx.old.entries consts ct.0 }
     ensures grew { Grew cx.old cx.new }
-    ensures folded { IfOk result (λ r. IsFold (F.action folder.now cx.old.entries) (counts_of binders.now) (trees_at cx.old.entries ct.0) cx.new.entries consts r.0) }
+    ensures folded { IfOk result (λ r. IsHandleFold (F.action folder.now) binders.now cx.old cx.new consts ct.0 r.0) }
     ensures failed { IfErr result (λ e. FailsBy (F.fails folder.now) F.Error.from_gives cx.new.entries cx.new.limit e) }
 {
     let _ = cx.const_kind(ct);
@@ -173,7 +173,7 @@ pub fn fold_ty<F: FallibleTypeFolder>(
     requires ready { F.ready folder.now cx.old.entries }
     requires held { Has cx.old.entries types ty.0 }
     ensures grew { Grew cx.old cx.new }
-    ensures folded { IfOk result (λ r. IsFold (F.action folder.now cx.old.entries) (counts_of binders.now) (trees_at cx.old.entries ty.0) cx.new.entries types r.0) }
+    ensures folded { IfOk result (λ r. IsHandleFold (F.action folder.now) binders.now cx.old cx.new types ty.0 r.0) }
     ensures failed { IfErr result (λ e. FailsBy (F.fails folder.now) F.Error.from_gives cx.new.entries cx.new.limit e) }
 {
     let depth = cx.depth(ty);
@@ -192,7 +192,7 @@ pub fn super_fold_ty<F: FallibleTypeFolder>(
     requires ready { F.ready folder.now cx.old.entries }
     requires held { Has cx.old.entries types ty.0 }
     ensures grew { Grew cx.old cx.new }
-    ensures folded { IfOk result (λ r. IsFoldBelow (F.action folder.now cx.old.entries) (counts_of binders.now) (trees_at cx.old.entries ty.0) cx.new.entries types r.0) }
+    ensures folded { IfOk result (λ r. IsHandleFoldBelow (F.action folder.now) binders.now cx.old cx.new types ty.0 r.0) }
     ensures failed { IfErr result (λ e. FailsBy (F.fails folder.now) F.Error.from_gives cx.new.entries cx.new.limit e) }
 {
     let depth = cx.depth(ty);
@@ -212,7 +212,7 @@ pub(crate) fn fold_tys<F: FallibleTypeFolder>(
     requires ready { F.ready folder.now cx.old.entries }
     requires held { Has cx.old.entries type_lists tys.0 }
     ensures grew { Grew cx.old cx.new }
-    ensures folded { IfOk result (λ r. IsFold (F.action folder.now cx.old.entries) (counts_of binders.now) (trees_at cx.old.entries tys.0) cx.new.entries type_lists r.0) }
+    ensures folded { IfOk result (λ r. IsHandleFold (F.action folder.now) binders.now cx.old cx.new type_lists tys.0 r.0) }
     ensures whole { IfOk result (λ r. is_no_tree (trees_at cx.new.entries r.0) ≡ is_no_tree (trees_at cx.old.entries tys.0)) }
     ensures failed { IfErr result (λ e. FailsBy (F.fails folder.now) F.Error.from_gives cx.new.entries cx.new.limit e) }
 {
@@ -232,7 +232,7 @@ pub fn fold_args<F: FallibleTypeFolder>(
     requires ready { F.ready folder.now cx.old.entries }
     requires held { Has cx.old.entries args_lists args.0 }
     ensures grew { Grew cx.old cx.new }
-    ensures folded { IfOk result (λ r. IsFold (F.action folder.now cx.old.entries) (counts_of binders.now) (trees_at cx.old.entries args.0) cx.new.entries args_lists r.0) }
+    ensures folded { IfOk result (λ r. IsHandleFold (F.action folder.now) binders.now cx.old cx.new args_lists args.0 r.0) }
     ensures failed { IfErr result (λ e. FailsBy (F.fails folder.now) F.Error.from_gives cx.new.entries cx.new.limit e) }
 {
     let depth = cx.depth(args);
@@ -253,7 +253,7 @@ pub(crate) fn fold_arg<F: FallibleTypeFolder>(
     requires held { ArgHeld cx.old.entries arg }
     ensures grew { Grew cx.old cx.new }
     ensures held { IfOk result (λ a. ArgHeld cx.new.entries a) }
-    ensures folded { IfOk result (λ a. Folds (F.action folder.now cx.old.entries) (counts_of binders.now) (arg_trees cx.old.entries arg) (arg_trees cx.new.entries a)) }
+    ensures folded { IfOk result (λ a. IsFoldUnder (F.action folder.now) binders.now cx.old cx.new arg_trees arg a) }
     ensures failed { IfErr result (λ e. FailsBy (F.fails folder.now) F.Error.from_gives cx.new.entries cx.new.limit e) }
 {
     match arg {
@@ -278,7 +278,7 @@ pub(crate) fn fold_bounds<F: FallibleTypeFolder>(
     requires ready { F.ready folder.now cx.old.entries }
     requires held { Has cx.old.entries bounds_lists bounds.0 }
     ensures grew { Grew cx.old cx.new }
-    ensures folded { IfOk result (λ r. IsFold (F.action folder.now cx.old.entries) (counts_of binders.now) (trees_at cx.old.entries bounds.0) cx.new.entries bounds_lists r.0) }
+    ensures folded { IfOk result (λ r. IsHandleFold (F.action folder.now) binders.now cx.old cx.new bounds_lists bounds.0 r.0) }
     ensures failed { IfErr result (λ e. FailsBy (F.fails folder.now) F.Error.from_gives cx.new.entries cx.new.limit e) }
 {
     let depth = cx.depth(bounds);

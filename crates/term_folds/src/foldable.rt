@@ -5,7 +5,7 @@ ghost use Rattle.type_terms.specs.Promised.Handles.{Has, types, consts, trees_at
 ghost use Rattle.type_terms.specs.Binders.{counts_of};
 ghost use Rattle.type_terms.specs.Failures.{FailsBy};
 ghost use Rattle.type_terms.specs.Promised.Handles.{SomeKindIsFull};
-ghost use Rattle.term_folds.specs.Folds.{IsFoldBelow, FoldsEach};
+ghost use Rattle.term_folds.specs.Folds.{IsValueFold};
 
 use crate::fold::{
     FallibleTypeFolder, fold_arg, fold_args, fold_bounds, fold_const, fold_region, fold_ty,
@@ -35,7 +35,7 @@ pub trait TypeFoldable: TypeVisitable {
         ensures grew { Grew cx.old cx.new }
         ensures held { IfOk result (λ r. Self.held r cx.new.entries) }
         ensures outline { IfOk result (λ r. Self.outline r ≡ Self.outline self) }
-        ensures folded { IfOk result (λ r. FoldsEach (F.action folder.now cx.old.entries) (counts_of binders.now) (Self.pieces self cx.old.entries) (Self.pieces r cx.new.entries)) }
+        ensures folded { IfOk result (λ r. IsValueFold (F.action folder.now) (counts_of binders.now) cx.old cx.new (Self.pieces self) (Self.pieces r)) }
         ensures failed { IfErr result (λ e. FailsBy (F.fails folder.now) F.Error.from_gives cx.new.entries cx.new.limit e) };
 
     /// The fold of the value by a folder that can fail: with an error of its own, or with one that is made of a fault.
@@ -50,7 +50,7 @@ pub trait TypeFoldable: TypeVisitable {
         ensures grew { Grew cx.old cx.new }
         ensures held { IfOk result (λ r. Self.held r cx.new.entries) }
         ensures outline { IfOk result (λ r. Self.outline r ≡ Self.outline self) }
-        ensures folded { IfOk result (λ r. FoldsEach (F.action folder.now cx.old.entries) [] (Self.pieces self cx.old.entries) (Self.pieces r cx.new.entries)) }
+        ensures folded { IfOk result (λ r. IsValueFold (F.action folder.now) [] cx.old cx.new (Self.pieces self) (Self.pieces r)) }
         ensures failed { IfErr result (λ e. FailsBy (F.fails folder.now) F.Error.from_gives cx.new.entries cx.new.limit e) }
     {
         self.try_fold_under(alloc, cx, folder, &Binders::Outermost)
@@ -71,7 +71,7 @@ pub trait TypeFoldable: TypeVisitable {
         ensures grew { Grew cx.old cx.new }
         ensures held { IfOk result (λ r. Self.held r cx.new.entries) }
         ensures outline { IfOk result (λ r. Self.outline r ≡ Self.outline self) }
-        ensures folded { IfOk result (λ r. FoldsEach (F.action folder.now cx.old.entries) [] (Self.pieces self cx.old.entries) (Self.pieces r cx.new.entries)) }
+        ensures folded { IfOk result (λ r. IsValueFold (F.action folder.now) [] cx.old cx.new (Self.pieces self) (Self.pieces r)) }
         ensures full { result ≡ Err Fault.Full → SomeKindIsFull cx.new.entries cx.new.limit ⊎ F.refuses folder.now }
     {
         self.try_fold_under(alloc, cx, &Infallible(folder), &Binders::Outermost)

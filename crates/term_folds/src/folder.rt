@@ -39,7 +39,7 @@ pub trait TypeFolder {
         requires ready { ready self.now cx.old.entries }
         requires held { Has cx.old.entries types ty.0 }
         ensures grew { Grew cx.old cx.new }
-        ensures answer { IfOk result (λ r. TyAnswer (action self.now cx.old.entries (counts_of binders.now) (trees_at cx.old.entries ty.0)) cx.new.entries r) }
+        ensures answer { IfOk result (λ r. TyAnswer (action self.now cx.old.entries (counts_of binders.now) (trees_at cx.old.entries ty.0)) cx.new r) }
         ensures full { result ≡ Err Fault.Full → SomeKindIsFull cx.new.entries cx.new.limit ⊎ refuses self.now };
 
     /// What the folder does at a constant.
@@ -52,7 +52,7 @@ pub trait TypeFolder {
         requires ready { ready self.now cx.old.entries }
         requires held { Has cx.old.entries consts ct.0 }
         ensures grew { Grew cx.old cx.new }
-        ensures answer { IfOk result (λ r. ConstAnswer (action self.now cx.old.entries (counts_of binders.now) (trees_at cx.old.entries ct.0)) cx.new.entries r) }
+        ensures answer { IfOk result (λ r. ConstAnswer (action self.now cx.old.entries (counts_of binders.now) (trees_at cx.old.entries ct.0)) cx.new r) }
         ensures full { result ≡ Err Fault.Full → SomeKindIsFull cx.new.entries cx.new.limit ⊎ refuses self.now };
 
     /// What the folder does at a lifetime.

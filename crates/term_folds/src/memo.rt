@@ -3,10 +3,9 @@
 //! What a folder does depends on the number of binders around a node (`by_depth` of the traits of folders), so the fold of a
 //! type is kept by handle and by that number. In each walk the folder is the same, and what is kept stays true while the
 //! interner grows.
-ghost use Rattle.std.specs.Prelude.{◌≡◌, ℕ, List, length, IfSome, IfErr, OnOk};
+ghost use Rattle.std.specs.Prelude.{◌≡◌, ℕ, List, IfSome, IfErr, OnOk};
 ghost use Rattle.type_terms.specs.Promised.Handles.{Entry};
-ghost use Rattle.type_terms.specs.Binders.{counts_of};
-ghost use Rattle.term_folds.specs.Memos.{Action, IsMemo, Remembers};
+ghost use Rattle.term_folds.specs.Memos.{Action, IsMemoUnder, IsNoted, Remembers};
 
 use std::alloc::Global;
 use std::collections::HashMap;
@@ -48,7 +47,7 @@ impl Memo {
 
     /// The fold of a type under these binders, if it is known.
     pub fn known(&mut self, ty: Ty, binders: &Binders) -> Option<Ty>
-        ensures found { (f : Action) (es : List Entry) → Remembers f es self.old → IfSome result (λ t. IsMemo f es ty.0 (length (counts_of binders.now)) t.0) }
+        ensures found { (f : Action) (es : List Entry) → Remembers f es self.old → IfSome result (λ t. IsMemoUnder f es binders.now ty.0 t.0) }
         ensures same { self.new.found ≡ self.old.found }
     {
         if self.steps < BEFORE {
@@ -64,7 +63,7 @@ impl Memo {
 
     /// Keeps the fold of a type under these binders.
     pub fn note(&mut self, ty: Ty, binders: &Binders, folded: Ty) -> Result<(), Fault>
-        ensures noted { (f : Action) (es : List Entry) → Remembers f es self.old → IsMemo f es ty.0 (length (counts_of binders.now)) folded.0 → OnOk result (Remembers f es self.new) }
+        ensures noted { OnOk result (IsNoted self.old self.new binders.now ty.0 folded.0) }
         ensures memory { IfErr result (λ e. e ≡ Fault.Memory) }
     {
         let depth = binders.depth().index;

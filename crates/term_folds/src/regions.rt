@@ -114,7 +114,7 @@ pub fn fold_regions<T: TypeFoldable, M: RegionMap>(
     ensures terms { GrewOrFull cx.old cx.new result }
     ensures held { IfOk result (λ r. T.held r cx.new.entries) }
     ensures outline { IfOk result (λ r. T.outline r ≡ T.outline value) }
-    ensures replaced { IfOk result (λ r. T.pieces r cx.new.entries ≡ each_piece (λ d t. regions_replaced (M.image map.now) d t) (T.pieces value cx.old.entries)) }
+    ensures replaced { IfOk result (λ r. T.pieces r cx.new.entries ≡ each_piece (regions_replaced (M.image map.now)) (T.pieces value cx.old.entries)) }
 {
     value.fold_with(alloc, cx, &RegionFolder { map })
 }

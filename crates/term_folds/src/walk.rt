@@ -1,15 +1,13 @@
 //! The walk of a fold, which keeps what it has found.
 ghost use Rattle.type_terms.specs.Growth.{Grew};
-ghost use Rattle.std.specs.Prelude.{◌≡◌, ℕ, ◌++◌, ◌∷◌, [], IfOk, IfErr};
-ghost use Rattle.type_terms.specs.Promised.Trees.{Trees, ◌+++◌};
+ghost use Rattle.std.specs.Prelude.{◌≡◌, ◌++◌, ◌∷◌, [], IfOk, IfErr};
 ghost use Rattle.type_terms.specs.Trees.{is_no_tree};
-ghost use Rattle.type_terms.specs.Promised.Handles.{Entry, Is, Has, types, consts, bounds_lists, trees_at};
+ghost use Rattle.type_terms.specs.Promised.Handles.{Has, types, bounds_lists, trees_at};
 ghost use Rattle.type_terms.specs.Terms.{args_lists, type_lists};
-ghost use Rattle.type_terms.specs.Promised.Handles.{region_trees, RegionHeld, ArgHeld, arg_trees};
-ghost use Rattle.type_terms.specs.Kinds.{kind_trees, KindHeld, KindOlder, PrincipalHeld, PrincipalOlder, principal_trees};
-ghost use Rattle.type_terms.specs.Binders.{counts_of};
+ghost use Rattle.type_terms.specs.Promised.Handles.{ArgHeld, arg_trees};
+ghost use Rattle.type_terms.specs.Kinds.{KindHeld, PrincipalHeld, principal_trees};
 ghost use Rattle.type_terms.specs.Failures.{FailsBy};
-ghost use Rattle.term_folds.specs.Folds.{Folds, FoldsBelow, IsFold, IsFoldBelow};
+ghost use Rattle.term_folds.specs.Folds.{IsHandleFold, IsHandleFoldBelow, IsFoldUnder, IsKindFold};
 ghost use Rattle.term_folds.specs.Memos.{Remembers};
 
 use crate::fold::{Answer, FallibleTypeFolder, fold_const, fold_region};
@@ -37,7 +35,7 @@ pub(crate) fn walk_ty<F: FallibleTypeFolder>(
     requires known { Remembers (F.action folder.now cx.old.entries) cx.old.entries memo.old }
     requires held { Has cx.old.entries types ty.0 }
     ensures grew { Grew cx.old cx.new }
-    ensures folded { IfOk result (λ r. IsFold (F.action folder.now cx.old.entries) (counts_of binders.now) (trees_at cx.old.entries ty.0) cx.new.entries types r.0) }
+    ensures folded { IfOk result (λ r. IsHandleFold (F.action folder.now) binders.now cx.old cx.new types ty.0 r.0) }
     ensures known { IfOk result (λ _. Remembers (F.action folder.now cx.new.entries) cx.new.entries memo.new) }
     ensures failed { IfErr result (λ e. FailsBy (F.fails folder.now) F.Error.from_gives cx.new.entries cx.new.limit e) }
 {
@@ -70,12 +68,11 @@ pub(crate) fn super_walk_ty<F: FallibleTypeFolder>(
     requires known { Remembers (F.action folder.now cx.old.entries) cx.old.entries memo.old }
     requires held { Has cx.old.entries types ty.0 }
     ensures grew { Grew cx.old cx.new }
-    ensures folded { IfOk result (λ r. IsFoldBelow (F.action folder.now cx.old.entries) (counts_of binders.now) (trees_at cx.old.entries ty.0) cx.new.entries types r.0) }
+    ensures folded { IfOk result (λ r. IsHandleFoldBelow (F.action folder.now) binders.now cx.old cx.new types ty.0 r.0) }
     ensures known { IfOk result (λ _. Remembers (F.action folder.now cx.new.entries) cx.new.entries memo.new) }
     ensures failed { IfErr result (λ e. FailsBy (F.fails folder.now) F.Error.from_gives cx.new.entries cx.new.limit e) }
 {
-    let kind = cx.kind(ty);
-    let folded = walk_kind(alloc, cx, folder, ty, kind, binders, memo)?;
+    let folded = walk_kind(alloc, cx, folder, ty, binders, memo)?;
     Ok(cx.mk_ty(folded)?)
 }
 
@@ -86,21 +83,19 @@ fn walk_kind<F: FallibleTypeFolder>(
     cx: &mut Interner,
     folder: &F,
     ty: Ty,
-    kind: TyKind,
     binders: &Binders,
     memo: &mut Memo,
 ) -> Result<TyKind, F::Error>
     requires ready { F.ready folder.now cx.old.entries }
     requires known { Remembers (F.action folder.now cx.old.entries) cx.old.entries memo.old }
-    requires is { Is cx.old.entries types ty.0 (kind_trees cx.old.entries kind) }
-    requires held { KindHeld cx.old.entries kind }
-    requires older { KindOlder ty.0 kind }
+    requires held { Has cx.old.entries types ty.0 }
     ensures grew { Grew cx.old cx.new }
     ensures held { IfOk result (λ k. KindHeld cx.new.entries k) }
-    ensures folded { IfOk result (λ k. FoldsBelow (F.action folder.now cx.old.entries) (counts_of binders.now) (kind_trees cx.old.entries kind) (kind_trees cx.new.entries k)) }
+    ensures folded { IfOk result (λ k. IsKindFold (F.action folder.now) binders.now cx.old cx.new ty.0 k) }
     ensures known { IfOk result (λ _. Remembers (F.action folder.now cx.new.entries) cx.new.entries memo.new) }
     ensures failed { IfErr result (λ e. FailsBy (F.fails folder.now) F.Error.from_gives cx.new.entries cx.new.limit e) }
 {
+    let kind = cx.kind(ty);
     match kind {
         TyKind::Adt(adt, args) => {
             Ok(TyKind::Adt(adt, walk_args(alloc, cx, folder, args, binders, memo)?))
@@ -153,7 +148,7 @@ pub(crate) fn walk_tys<F: FallibleTypeFolder>(
     requires known { Remembers (F.action folder.now cx.old.entries) cx.old.entries memo.old }
     requires held { Has cx.old.entries type_lists tys.0 }
     ensures grew { Grew cx.old cx.new }
-    ensures folded { IfOk result (λ r. IsFold (F.action folder.now cx.old.entries) (counts_of binders.now) (trees_at cx.old.entries tys.0) cx.new.entries type_lists r.0) }
+    ensures folded { IfOk result (λ r. IsHandleFold (F.action folder.now) binders.now cx.old cx.new type_lists tys.0 r.0) }
     ensures whole { IfOk result (λ r. is_no_tree (trees_at cx.new.entries r.0) ≡ is_no_tree (trees_at cx.old.entries tys.0)) }
     ensures known { IfOk result (λ _. Remembers (F.action folder.now cx.new.entries) cx.new.entries memo.new) }
     ensures failed { IfErr result (λ e. FailsBy (F.fails folder.now) F.Error.from_gives cx.new.entries cx.new.limit e) }
@@ -183,7 +178,7 @@ pub(crate) fn walk_args<F: FallibleTypeFolder>(
     requires known { Remembers (F.action folder.now cx.old.entries) cx.old.entries memo.old }
     requires held { Has cx.old.entries args_lists args.0 }
     ensures grew { Grew cx.old cx.new }
-    ensures folded { IfOk result (λ r. IsFold (F.action folder.now cx.old.entries) (counts_of binders.now) (trees_at cx.old.entries args.0) cx.new.entries args_lists r.0) }
+    ensures folded { IfOk result (λ r. IsHandleFold (F.action folder.now) binders.now cx.old cx.new args_lists args.0 r.0) }
     ensures known { IfOk result (λ _. Remembers (F.action folder.now cx.new.entries) cx.new.entries memo.new) }
     ensures failed { IfErr result (λ e. FailsBy (F.fails folder.now) F.Error.from_gives cx.new.entries cx.new.limit e) }
 {
@@ -211,7 +206,7 @@ pub(crate) fn walk_arg<F: FallibleTypeFolder>(
     requires held { ArgHeld cx.old.entries arg }
     ensures grew { Grew cx.old cx.new }
     ensures held { IfOk result (λ a. ArgHeld cx.new.entries a) }
-    ensures folded { IfOk result (λ a. Folds (F.action folder.now cx.old.entries) (counts_of binders.now) (arg_trees cx.old.entries arg) (arg_trees cx.new.entries a)) }
+    ensures folded { IfOk result (λ a. IsFoldUnder (F.action folder.now) binders.now cx.old cx.new arg_trees arg a) }
     ensures known { IfOk result (λ _. Remembers (F.action folder.now cx.new.entries) cx.new.entries memo.new) }
     ensures failed { IfErr result (λ e. FailsBy (F.fails folder.now) F.Error.from_gives cx.new.entries cx.new.limit e) }
 {
@@ -242,14 +237,14 @@ pub(crate) fn walk_bounds<F: FallibleTypeFolder>(
     requires known { Remembers (F.action folder.now cx.old.entries) cx.old.entries memo.old }
     requires held { Has cx.old.entries bounds_lists bounds.0 }
     ensures grew { Grew cx.old cx.new }
-    ensures folded { IfOk result (λ r. IsFold (F.action folder.now cx.old.entries) (counts_of binders.now) (trees_at cx.old.entries bounds.0) cx.new.entries bounds_lists r.0) }
+    ensures folded { IfOk result (λ r. IsHandleFold (F.action folder.now) binders.now cx.old cx.new bounds_lists bounds.0 r.0) }
     ensures known { IfOk result (λ _. Remembers (F.action folder.now cx.new.entries) cx.new.entries memo.new) }
     ensures failed { IfErr result (λ e. FailsBy (F.fails folder.now) F.Error.from_gives cx.new.entries cx.new.limit e) }
 {
     let data = cx.bounds(bounds);
     let old = data.principal;
     let autos = copied(alloc, &data.autos)?;
-    let principal = walk_principal(alloc, cx, folder, bounds, old, binders, memo)?;
+    let principal = walk_principal(alloc, cx, folder, old, binders, memo)?;
     Ok(cx.mk_bounds(BoundsData { principal, autos })?)
 }
 
@@ -259,7 +254,6 @@ fn walk_principal<F: FallibleTypeFolder>(
     alloc: Global,
     cx: &mut Interner,
     folder: &F,
-    bounds: Bounds,
     principal: Option<Principal>,
     binders: &Binders,
     memo: &mut Memo,
@@ -267,11 +261,9 @@ fn walk_principal<F: FallibleTypeFolder>(
     requires ready { F.ready folder.now cx.old.entries }
     requires known { Remembers (F.action folder.now cx.old.entries) cx.old.entries memo.old }
     requires held { PrincipalHeld cx.old.entries principal }
-    requires older { PrincipalOlder bounds.0 principal }
-    requires part { (others : Trees) × (trees_at cx.old.entries bounds.0 ≡ principal_trees cx.old.entries principal +++ others) }
     ensures grew { Grew cx.old cx.new }
     ensures held { IfOk result (λ p. PrincipalHeld cx.new.entries p) }
-    ensures folded { IfOk result (λ p. Folds (F.action folder.now cx.old.entries) (counts_of binders.now) (principal_trees cx.old.entries principal) (principal_trees cx.new.entries p)) }
+    ensures folded { IfOk result (λ p. IsFoldUnder (F.action folder.now) binders.now cx.old cx.new principal_trees principal p) }
     ensures known { IfOk result (λ _. Remembers (F.action folder.now cx.new.entries) cx.new.entries memo.new) }
     ensures failed { IfErr result (λ e. FailsBy (F.fails folder.now) F.Error.from_gives cx.new.entries cx.new.limit e) }
 {

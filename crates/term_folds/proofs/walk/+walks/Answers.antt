@@ -1,15 +1,16 @@
-use Rattle.std.proofs.Common.{◌≡◌, ℕ, ◌<◌, ◌≤◌, List, [], ◌∷◌, arith, subst, ◌∙◌, get_or, length, ap, refl, Some, Err}
+use Rattle.std.proofs.Common.{◌≡◌, ℕ, ◌<◌, ◌≤◌, List, [], ◌∷◌, arith, subst, ◌∙◌, get_or, length, ap, refl, Option, Some, None, Err}
 use Rattle.std.proofs.lemmas.Grind.{common_steps}
 use Rattle.type_terms.specs.Promised.Trees.{Trees, ◌+++◌}
 use Rattle.type_terms.specs.Trees.{Single}
 use Rattle.type_terms.specs.Promised.Handles.{Has, Keeps, types, consts, bounds_lists, trees_at}
 use Rattle.type_terms.specs.Terms.{type_lists, args_lists}
-use Rattle.type_terms.specs.Kinds.{tys_trees, ArgOlder, args_trees, kind_trees, is_mut, principal_trees, autos_trees}
+use Rattle.type_terms.specs.Kinds.{tys_trees, ArgOlder, args_trees, kind_trees, is_mut, principal_trees, autos_trees, PrincipalOlder}
 use Rattle.type_terms.specs.Promised.Handles.{ArgHeld, arg_trees, region_trees}
 use Rattle.type_terms.specs.declared.kinds.GenericArgKind.{GenericArgKind}
 use Rattle.type_terms.specs.declared.kinds.GenericArgKind.TheVariants.{Lifetime, Ty, Const}
 use Rattle.type_terms.specs.declared.kinds.TyKind.TheVariants.{Ref}
 use Rattle.type_terms.specs.declared.TraitId.{TraitId}
+use Rattle.type_terms.specs.declared.kinds.Principal.{Principal}
 use Rattle.type_terms.specs.Promised.Label.{ref, principal}
 use Rattle.type_terms.specs.Binders.{counts_of}
 use Rattle.type_terms.proofs.Grown.{grew-none, grew-on}
@@ -23,7 +24,7 @@ use Rattle.term_folds.proofs.KindFacts.{leaf-below}
 use Rattle.term_folds.proofs.MemoFacts.{remembers-later, fold-known}
 use Rattle.type_terms.proofs.FailFacts.{fault-error, memory-error, refused-term}
 use Rattle.term_folds.proofs.ErrorFacts.{no-value, same-error}
-use Rattle.term_folds.proofs.walk.+walks.Invariants.{number_of}
+use Rattle.term_folds.proofs.walk.+walks.Invariants.{number_of, number_of_principal}
 use Rattle.term_folds.proofs.walk.+walks.Goals as goal
 
 pub walk_ty-returns-in_ok-note-in-Enter-clause-folded : goal.walk_ty-returns-in_ok-note-in-Enter-clause-folded
@@ -190,9 +191,9 @@ pub walk_kind-walk_ty-requires : goal.walk_kind-walk_ty-requires
 walk_kind-walk_ty-requires g t c κs within =
     let es = c.args.cx.now.entries in
     let fuel = g.F.FallibleTypeFolder.fuel c.args.folder.now es in
-    let held = rw c.in-Ref.is at c.requires.held in
-    let older : c.in-Ref.to.0 < c.args.ty.0 = rw c.in-Ref.is at c.requires.older in
-    let here : trees_at es c.args.ty.0 ≡ kind_trees es (Ref c.in-Ref.region c.in-Ref.to c.in-Ref.mutability) = trees-is es types c.args.ty.0 _ c.requires.is ∙ ap (kind_trees es) c.in-Ref.is in
+    let held = rw c.in-Ref.is at c.kind-kind.ensures.held in
+    let older : c.in-Ref.to.0 < c.args.ty.0 = rw c.in-Ref.is at c.kind-kind.ensures.older in
+    let here : trees_at es c.args.ty.0 ≡ kind_trees es (Ref c.in-Ref.region c.in-Ref.to c.in-Ref.mutability) = trees-is es types c.args.ty.0 _ c.kind-kind.ensures.is ∙ ap (kind_trees es) c.in-Ref.is in
     let part = g.met.F.FallibleTypeFolder.below_right c.args.folder.now es (region_trees c.in-Ref.region) (trees_at es c.in-Ref.to.0) in
     let node = g.met.F.FallibleTypeFolder.below_node c.args.folder.now es (ref (is_mut c.in-Ref.mutability)) (region_trees c.in-Ref.region +++ trees_at es c.in-Ref.to.0) in
     let less : fuel (trees_at es c.in-Ref.to.0) ≤ fuel (trees_at es c.args.ty.0) = rw here (omega (arith, part, node)) in
@@ -208,38 +209,25 @@ walk_principal-walk_args-requires g t c κs within =
     let es = c.args.cx.now.entries in
     let p = c.in-Some.principal in
     let fuel = g.F.FallibleTypeFolder.fuel c.args.folder.now es in
-    let older : p.args.0 < c.args.bounds.0 = rw c.in-Some.is at c.requires.older in
     let held : Has es args_lists p.args.0 = rw c.in-Some.is at c.requires.held in
-    let here : trees_at es c.args.bounds.0 ≡ principal_trees es (Some p) +++ c.requires.part.0 = c.requires.part.1 ∙ ap (λ q. principal_trees es q +++ c.requires.part.0) c.in-Some.is in
     let node = g.met.F.FallibleTypeFolder.below_node c.args.folder.now es (principal p.bound_vars p.def_id.index) (trees_at es p.args.0) in
-    let part = g.met.F.FallibleTypeFolder.below_left c.args.folder.now es (principal_trees es (Some p)) c.requires.part.0 in
-    let less : fuel (trees_at es p.args.0) ≤ fuel (trees_at es c.args.bounds.0) = rw here (omega (arith, part, node)) in
-    (omega (arith, older, c.decreases, less), (within.0, (within.1, (c.requires.ready, (c.requires.known, held)))))
+    let falls = rw c.in-Some.is at c.decreases in
+    (omega (arith, falls, node), (within.0, (within.1, (c.requires.ready, (c.requires.known, held)))))
+
+number-of-principal : (n : ℕ) (p : Option Principal) → PrincipalOlder n p → number_of_principal p ≤ n
+number-of-principal n None h = omega arith
+number-of-principal n (Some p) h = omega (arith, h)
 
 pub walk_bounds-walk_principal-requires : goal.walk_bounds-walk_principal-requires
 walk_bounds-walk_principal-requires g t c κs within =
-    let es = c.args.cx.now.entries in (
-      omega (arith, c.decreases),
-      (
-        within.0,
-        (
-          within.1,
-          (
-            c.requires.ready,
-            (
-              c.requires.known,
-              (
-                c.bounds-data.ensures.held.0,
-                (
-                  c.bounds-data.ensures.older,
-                  (autos_trees c.bounds-data.result.now.autos.items, trees-is es bounds_lists c.args.bounds.0 _ c.bounds-data.ensures.is),
-                ),
-              ),
-            ),
-          ),
-        ),
-      ),
-    )
+    let es = c.args.cx.now.entries in
+    let old = c.bounds-data.result.now in
+    let fuel = g.F.FallibleTypeFolder.fuel c.args.folder.now es in
+    let older = number-of-principal c.args.bounds.0 old.principal c.bounds-data.ensures.older in
+    let here : trees_at es c.args.bounds.0 ≡ principal_trees es old.principal +++ autos_trees old.autos.items = trees-is es bounds_lists c.args.bounds.0 _ c.bounds-data.ensures.is in
+    let part = g.met.F.FallibleTypeFolder.below_left c.args.folder.now es (principal_trees es old.principal) (autos_trees old.autos.items) in
+    let less : fuel (principal_trees es old.principal) ≤ fuel (trees_at es c.args.bounds.0) = rw here part in
+    (omega (arith, older, c.decreases, less), (within.0, (within.1, (c.requires.ready, (c.requires.known, c.bounds-data.ensures.held.0)))))
 
 -- ---- what is known
 pub walk_tys-returns-clause-known : goal.walk_tys-returns-clause-known
@@ -307,7 +295,7 @@ walk_kind-returns-in_ok-walk_args-in-Adt g t c =
     record {
       grew = c.walk_args.ensures.grew;
       held = c.in_ok-walk_args-in-Adt.ensures.folded.has;
-      folded = rw c.in-Adt.is (below c.in_ok-walk_args-in-Adt.ensures.folded.folded);
+      folded = rw (trees-is c.args.cx.now.entries types c.args.ty.0 _ c.kind-kind.ensures.is, c.in-Adt.is) (below c.in_ok-walk_args-in-Adt.ensures.folded.folded);
       known = c.in_ok-walk_args-in-Adt.ensures.known;
       failed = tt;
     }
@@ -317,7 +305,7 @@ walk_kind-returns-in_ok-walk_ty-in-Ref g t c =
     record {
       grew = c.walk_ty.ensures.grew;
       held = (c.in_ok-region-in-Ref.ensures.held, c.in_ok-walk_ty-in-Ref.ensures.folded.has);
-      folded = rw c.in-Ref.is (below (folds-append c.in_ok-region-in-Ref.ensures.folded c.in_ok-walk_ty-in-Ref.ensures.folded.folded));
+      folded = rw (trees-is c.args.cx.now.entries types c.args.ty.0 _ c.kind-kind.ensures.is, c.in-Ref.is) (below (folds-append c.in_ok-region-in-Ref.ensures.folded c.in_ok-walk_ty-in-Ref.ensures.folded.folded));
       known = c.in_ok-walk_ty-in-Ref.ensures.known;
       failed = tt;
     }
@@ -327,7 +315,7 @@ walk_kind-returns-in_ok-walk_ty-in-RawPtr g t c =
     record {
       grew = c.walk_ty-in-RawPtr.ensures.grew;
       held = c.in_ok-walk_ty-in-RawPtr.ensures.folded.has;
-      folded = rw c.in-RawPtr.is (below c.in_ok-walk_ty-in-RawPtr.ensures.folded.folded);
+      folded = rw (trees-is c.args.cx.now.entries types c.args.ty.0 _ c.kind-kind.ensures.is, c.in-RawPtr.is) (below c.in_ok-walk_ty-in-RawPtr.ensures.folded.folded);
       known = c.in_ok-walk_ty-in-RawPtr.ensures.known;
       failed = tt;
     }
@@ -340,9 +328,9 @@ walk_kind-returns-in_ok-fold_const-in-Array g t c =
       folded = (let es = c.args.cx.now.entries in
           let es1 = c.walk_ty-in-Array.new.cx.entries in
           let bs = counts_of c.args.binders.now in
-          let held = rw c.in-Array.is at c.requires.held in
+          let held = rw c.in-Array.is at c.kind-kind.ensures.held in
           let law = g.met.F.FallibleTypeFolder.action_kept c.args.folder.now es es1 c.walk_ty-in-Array.ensures.grew.keeps c.requires.ready in
-          rw c.in-Array.is
+          rw (trees-is c.args.cx.now.entries types c.args.ty.0 _ c.kind-kind.ensures.is, c.in-Array.is)
           (below (two-folds (g.F.FallibleTypeFolder.action c.args.folder.now es1) (g.F.FallibleTypeFolder.action c.args.folder.now es) bs es es1 c.fold_const.new.cx.entries types _ _ consts _ _
           law c.walk_ty-in-Array.ensures.grew.keeps c.fold_const.ensures.grew.keeps c.in_ok-item-in-Array.ensures.folded held.1 c.in_ok-fold_const-in-Array.ensures.folded)));
       known = (let es = c.args.cx.now.entries in
@@ -359,7 +347,7 @@ walk_kind-returns-in_ok-walk_ty-in-Slice g t c =
     record {
       grew = c.walk_ty-in-Slice.ensures.grew;
       held = c.in_ok-walk_ty-in-Slice.ensures.folded.has;
-      folded = rw c.in-Slice.is (below c.in_ok-walk_ty-in-Slice.ensures.folded.folded);
+      folded = rw (trees-is c.args.cx.now.entries types c.args.ty.0 _ c.kind-kind.ensures.is, c.in-Slice.is) (below c.in_ok-walk_ty-in-Slice.ensures.folded.folded);
       known = c.in_ok-walk_ty-in-Slice.ensures.known;
       failed = tt;
     }
@@ -369,7 +357,7 @@ walk_kind-returns-in_ok-walk_tys-in-Tuple g t c =
     record {
       grew = c.walk_tys.ensures.grew;
       held = c.in_ok-walk_tys-in-Tuple.ensures.folded.has;
-      folded = rw c.in-Tuple.is (below c.in_ok-walk_tys-in-Tuple.ensures.folded.folded);
+      folded = rw (trees-is c.args.cx.now.entries types c.args.ty.0 _ c.kind-kind.ensures.is, c.in-Tuple.is) (below c.in_ok-walk_tys-in-Tuple.ensures.folded.folded);
       known = c.in_ok-walk_tys-in-Tuple.ensures.known;
       failed = tt;
     }
@@ -378,9 +366,9 @@ pub walk_kind-returns-in_ok-walk_tys-in-FnPtr : goal.walk_kind-returns-in_ok-wal
 walk_kind-returns-in_ok-walk_tys-in-FnPtr g t c =
     record {
       grew = c.walk_tys-in-FnPtr.ensures.grew;
-      held = (let held = rw c.in-FnPtr.is at c.requires.held in
+      held = (let held = rw c.in-FnPtr.is at c.kind-kind.ensures.held in
           (c.in_ok-walk_tys-in-FnPtr.ensures.folded.has, c.in_ok-walk_tys-in-FnPtr.ensures.whole ∙ held.1));
-      folded = rw c.in-FnPtr.is (below c.in_ok-walk_tys-in-FnPtr.ensures.folded.folded);
+      folded = rw (trees-is c.args.cx.now.entries types c.args.ty.0 _ c.kind-kind.ensures.is, c.in-FnPtr.is) (below c.in_ok-walk_tys-in-FnPtr.ensures.folded.folded);
       known = c.in_ok-walk_tys-in-FnPtr.ensures.known;
       failed = tt;
     }
@@ -390,7 +378,7 @@ walk_kind-returns-in_ok-walk_bounds-in-Dynamic g t c =
     record {
       grew = c.walk_bounds.ensures.grew;
       held = (c.in_ok-walk_bounds-in-Dynamic.ensures.folded.has, c.in_ok-region-in-Dynamic.ensures.held);
-      folded = rw c.in-Dynamic.is (below (folds-append c.in_ok-walk_bounds-in-Dynamic.ensures.folded.folded c.in_ok-region-in-Dynamic.ensures.folded));
+      folded = rw (trees-is c.args.cx.now.entries types c.args.ty.0 _ c.kind-kind.ensures.is, c.in-Dynamic.is) (below (folds-append c.in_ok-walk_bounds-in-Dynamic.ensures.folded.folded c.in_ok-region-in-Dynamic.ensures.folded));
       known = c.in_ok-walk_bounds-in-Dynamic.ensures.known;
       failed = tt;
     }
@@ -399,9 +387,9 @@ pub walk_kind-returns-in_default : goal.walk_kind-returns-in_default
 walk_kind-returns-in_default g t c =
     record {
       grew = grew-none;
-      held = c.requires.held;
-      folded = leaf-below (g.F.FallibleTypeFolder.action c.args.folder.now c.args.cx.now.entries) (counts_of c.args.binders.now) c.args.cx.now.entries c.args.kind
-          c.in_default.not-Adt c.in_default.not-Ref c.in_default.not-RawPtr c.in_default.not-Array c.in_default.not-Slice c.in_default.not-Tuple c.in_default.not-FnPtr c.in_default.not-Dynamic;
+      held = c.kind-kind.ensures.held;
+      folded = rw (trees-is c.args.cx.now.entries types c.args.ty.0 _ c.kind-kind.ensures.is) (leaf-below (g.F.FallibleTypeFolder.action c.args.folder.now c.args.cx.now.entries) (counts_of c.args.binders.now) c.args.cx.now.entries c.kind-kind.result
+          c.in_default.not-Adt c.in_default.not-Ref c.in_default.not-RawPtr c.in_default.not-Array c.in_default.not-Slice c.in_default.not-Tuple c.in_default.not-FnPtr c.in_default.not-Dynamic);
       known = c.requires.known;
       failed = tt;
     }

@@ -1,10 +1,11 @@
-use Rattle.std.proofs.Common.{◌≡◌, ℕ, ◌+◌, ◌*◌, take, length}
+use Rattle.std.proofs.Common.{◌≡◌, ℕ, ◌+◌, ◌*◌, take, length, Option, Some, None}
 use Rattle.type_terms.specs.Promised.Handles.{Is, Keeps, trees_at}
 use Rattle.type_terms.specs.Terms.{type_lists, args_lists}
-use Rattle.type_terms.specs.Kinds.{TysHeld, TysOlder, tys_trees, ArgsOlder, args_trees}
+use Rattle.type_terms.specs.Kinds.{TysHeld, TysOlder, tys_trees, ArgsOlder, args_trees, principal_trees}
 use Rattle.type_terms.specs.Promised.Handles.{ArgsHeld, arg_trees}
 use Rattle.type_terms.specs.declared.kinds.GenericArgKind.{GenericArgKind}
 use Rattle.type_terms.specs.declared.kinds.GenericArgKind.TheVariants.{Lifetime, Ty, Const}
+use Rattle.type_terms.specs.declared.kinds.Principal.{Principal}
 use Rattle.type_terms.specs.Binders.{counts_of}
 use Rattle.term_folds.specs.Folds.{Folds}
 use Rattle.term_folds.specs.Memos.{Remembers}
@@ -18,6 +19,10 @@ abbrev pub number_of : GenericArgKind → ℕ
 number_of (Lifetime r) = 0
 number_of (Ty t) = t.0 + 1
 number_of (Const c) = c.0 + 1
+
+abbrev pub number_of_principal : Option Principal → ℕ
+number_of_principal None = 0
+number_of_principal (Some p) = p.args.0 + 1
 
 abbrev pub decreases-walk_ty : goal.decreases-walk_ty
 decreases-walk_ty g l = measure (g.F.FallibleTypeFolder.fuel l.folder.now l.cx.now.entries (trees_at l.cx.now.entries l.ty.0)) (l.ty.0 + 1) 2
@@ -41,7 +46,7 @@ abbrev pub decreases-walk_bounds : goal.decreases-walk_bounds
 decreases-walk_bounds g l = measure (g.F.FallibleTypeFolder.fuel l.folder.now l.cx.now.entries (trees_at l.cx.now.entries l.bounds.0)) (l.bounds.0 + 1) 1
 
 abbrev pub decreases-walk_principal : goal.decreases-walk_principal
-decreases-walk_principal g l = measure (g.F.FallibleTypeFolder.fuel l.folder.now l.cx.now.entries (trees_at l.cx.now.entries l.bounds.0)) (l.bounds.0 + 1) 0
+decreases-walk_principal g l = measure (g.F.FallibleTypeFolder.fuel l.folder.now l.cx.now.entries (principal_trees l.cx.now.entries l.principal)) (number_of_principal l.principal) 1
 
 abbrev pub invariant-walk_tys-loop-ty : goal.invariant-walk_tys-loop-ty
 invariant-walk_tys-loop-ty g l =
