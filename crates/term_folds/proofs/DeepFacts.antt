@@ -1,4 +1,4 @@
--- Lists of types that are still to be folded.
+-- Worklists of folds.
 use Rattle.std.proofs.Common.{List, [], ◌∷◌, ◌++◌}
 use Rattle.type_terms.specs.Promised.Handles.{Entry, Has, Keeps, types}
 use Rattle.term_folds.specs.declared.deep.Step.{Step}

@@ -1,4 +1,4 @@
--- What folds are made of.
+-- Folds of nodes, lists and handles.
 use Rattle.std.proofs.Common.{◌≡◌, ℕ, List, refl, ap, sym, ◌∙◌, subst}
 use Rattle.std.specs.Prelude.{Result, Ok, Err, IfOk}
 use Rattle.type_terms.specs.Promised.Label.{Label}
@@ -14,7 +14,7 @@ use Rattle.term_folds.specs.declared.fold.Answer.TheVariants.{Enter, Replace, Ag
 use Rattle.term_folds.specs.Folds.{Does, enters, puts, again, Folds, nothing, entered, put, in_turn, FoldsBelow, below, Answers, IsFold, IsFoldBelow}
 use Rattle.type_terms.specs.Kept.{trees-is, trees-later}
 
--- folds of lists, one after the other
+-- the fold of two forests after each other
 pub folds-append : {f : List ℕ → Trees → Does} {bs : List ℕ} {x u : Trees} → Folds f bs x u → {y v : Trees} → Folds f bs y v → Folds f bs (x +++ y) (u +++ v)
 folds-append nothing b = b
 folds-append (entered e a o) b = entered e a (folds-append o b)
@@ -23,7 +23,7 @@ folds-append {f = f} {bs = bs} (put {l = l} {c = c} {o = o1} {r = r} {o' = o2} e
 folds-append {f = f} {bs = bs} (in_turn {l = l} {c = c} {o = o1} {r = r} {o' = o2} e a o) {y = y} {v = v} b =
     subst (λ z. Folds f bs (tree l c o1 +++ y) z) (sym (append-assoc r o2 v)) (in_turn e a (folds-append o b))
 
--- ---- what an answer says
+-- ---- the response of a folder
 abbrev pub TyIs : List Entry → of_ty.Ty → Trees → Type 0
 TyIs es x t = Is es types x.0 t
 
@@ -69,7 +69,7 @@ module _ (f : List ℕ → Trees → Does) (bs : List ℕ) where
   pub leaf-stays : (l : Label) → f bs (leaf l) ≡ enters → Folds f bs (leaf l) (leaf l)
   leaf-stays l e = entered e nothing nothing
 
--- the fold that an action of later terms gives is the earlier action's
+-- a fold by the action over later entries is one by the action over earlier entries
 pub by-action : (f g : List ℕ → Trees → Does) (bs : List ℕ) (t s u : Trees) → f ≡ g → t ≡ s → Folds f bs t u → Folds g bs s u
 by-action f g bs t s u p q h = subst (λ (k : List ℕ → Trees → Does). Folds k bs s u) p (subst (λ z. Folds f bs z u) q h)
 

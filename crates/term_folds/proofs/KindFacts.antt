@@ -1,4 +1,4 @@
--- The kinds that have no part.
+-- The kinds of types without children.
 use Rattle.std.proofs.Common.{◌≡◌, ℕ, List, refl}
 use Rattle.type_terms.specs.Promised.Trees.{Trees}
 use Rattle.type_terms.specs.Promised.Handles.{Entry}

@@ -1,4 +1,4 @@
--- What a walk has found stays found.
+-- The cache of a fold remains right.
 use Rattle.std.proofs.Common.{◌≡◌, ℕ, suc, List, length, refl, ap, sym, ◌∙◌, subst, Option, None, Some, min, nat_eq, true, false, Bool, cond, ◌&&◌, arith}
 use Rattle.std.specs.Prelude.{IfSome}
 use Rattle.type_terms.specs.Promised.Label.{Label, fn_ptr, principal}
@@ -21,7 +21,7 @@ around-length (principal n i) bs cs e = ap suc e
 around-length l bs cs e = e
 
 module _ (f : List ℕ → Trees → Does) (law : (bs cs : List ℕ) (t : Trees) → length bs ≡ length cs → f bs t ≡ f cs t) where
-  -- a fold depends on the number of binders around it alone
+  -- a fold depends only on the number of binders around it
   pub by-length : (bs cs : List ℕ) (t u : Trees) → length bs ≡ length cs → Folds f bs t u → Folds f cs t u
   by-length bs cs _ _ e nothing = nothing
   by-length bs cs _ _ e (entered {l = l} {c = c} {o = o} {c' = c'} {o' = o'} a h g) =
@@ -30,7 +30,7 @@ module _ (f : List ℕ → Trees → Does) (law : (bs cs : List ℕ) (t : Trees)
   by-length bs cs _ _ e (in_turn {l = l} {c = c} {o = o} {s = s} {r = r} {o' = o'} a h g) =
       in_turn (sym (law bs cs (tree l c none) e) ∙ a) (by-length bs cs s r e h) (by-length bs cs o o' e g)
 
--- what is known stays so while the interner grows
+-- cached folds remain right as the interner grows
 pub known-later : (f g : List ℕ → Trees → Does) (old new : List Entry) → Keeps old new → g ≡ f → (i d j : ℕ) → IsMemo f old i d j → IsMemo g new i d j
 known-later f g old new k e i d j h = record {
   of = has-later old new k types i h.of;
@@ -48,11 +48,11 @@ remembers-later f g old new m k e h p = go (get place_eq m.found p) (h p)
 pub under-limit : (n most d : ℕ) → d ≡ min n most → (d ≡ most → ⊥) → n ≡ d
 under-limit n most d e ne = omega (arith, e, ne)
 
--- equal places are the same place
+-- places that compare equal are equal
 same-number : (a b : ℕ) → nat_eq a b ≡ true → a ≡ b
 same-number a b e = eqb-true a b e
 
--- one more place
+-- one more cached fold
 pub remembers-more : (f : List ℕ → Trees → Does) (es : List Entry) (old new : Memo) (i d : ℕ) (t : Ty) → ((q : Place) → get place_eq new.found q ≡ cond (place_eq (record { ty = i; depth = d }) q) (Some t) (get place_eq old.found q))
     → Remembers f es old → IsMemo f es i d t.0 → Remembers f es new
 remembers-more f es old new i d t u h k p = rw (u p) (go (nat_eq i p.ty) refl (nat_eq d p.depth) refl)
@@ -62,7 +62,7 @@ remembers-more f es old new i d t u h k p = rw (u p) (go (nat_eq i p.ty) refl (n
     go true x false y = h p
     go false x b y = h p
 
--- a fold that was made is known from then on
+-- the fold of a type below these binders may be cached
 pub fold-known : (f g : List ℕ → Trees → Does) (bs : List ℕ) (old new : List Entry) → Keeps old new → g ≡ f → ((bs cs : List ℕ) (t : Trees) → length bs ≡ length cs → g bs t ≡ g cs t)
     → (i j : ℕ) → Has old types i → IsFold f bs (trees_at old i) new types j → IsMemo g new i (length bs) j
 fold-known f g bs old new k e law i j h r = record {

@@ -18,7 +18,7 @@ or-true : (b c : Bool) → c ≡ true → b || c ≡ true
 or-true true c e = refl
 or-true false c e = e
 
--- the arguments stay, and so does the note
+-- the arguments do not change, and a recorded parameter remains recorded
 abbrev Leads : ParamVisitor → ParamVisitor → Type 0
 Leads v w = (w.args ≡ v.args) × (v.met ≡ true → w.met ≡ true)
 

@@ -1,4 +1,4 @@
--- Small facts on the types of the code.
+-- Facts about the types of the code.
 use Rattle.std.proofs.Common.{Option, ◌≡◌, None, refl, Some}
 use Rattle.std.specs.Option.{option_or}
 use Rattle.term_folds.specs.declared.instantiate.InstantiateError.{InstantiateError}

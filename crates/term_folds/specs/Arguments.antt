@@ -1,4 +1,4 @@
--- Parameters and the arguments that stand for them.
+-- Parameters and their arguments.
 use Rattle.std.specs.Prelude.{◌≡◌, refl, ℕ, zero, suc, List, [], ◌∷◌, length, min, cond, Bool, true, false, Option, Some, None, ◌||◌, ◌↔◌, Result, Err}
 use Rattle.std.proofs.Common.{ap}
 use Rattle.std.specs.Option.{option_or}
@@ -18,48 +18,48 @@ use Rattle.type_terms.specs.Visits.{IsBound}
 use Rattle.type_terms.specs.Pieces.{Piece, each_piece}
 use Rattle.term_folds.specs.Shifts.{ShiftInRange, moved}
 
--- a parameter
+-- the label is a parameter
 abbrev pub is_any_param : Label → Bool
 is_any_param (param s i) = true
 is_any_param _ = false
 
--- a value has a parameter
+-- some node of these pieces is a parameter
 abbrev pub has_param : List Piece → Bool
 has_param [] = false
 has_param (p ∷ ps) = some_node is_any_param p.trees || has_param ps
 
--- the pieces with the argument list of handle i put in for their parameters
+-- the pieces with each parameter replaced by its argument in the list with handle i
 abbrev pub instantiated_in : List Entry → ℕ → List Piece → List Piece
 instantiated_in es i ps = each_piece (λ d t. instantiate d (trees_at es i) t) ps
 
--- the sort of the argument with this place, if there is one
+-- the kind of the argument with this index, if there is one
 abbrev pub sort_at : Trees → ℕ → Option Sort
 sort_at none i = None
 sort_at (tree l c o) zero = Some (sort_of l)
 sort_at (tree l c o) (suc i) = sort_at o i
 
--- what is wrong with an argument of that sort for a parameter of this one: `3` is no T of `V<T>`
+-- the error for a parameter of the first kind and an argument of the second, if any: `3` is no T of `V<T>`
 abbrev pub misfit : Sort → Option Sort → Option InstantiateError
 misfit s None = Some ParamOutOfRange
 misfit s (Some r) = cond (is_sort s r) None (Some ParamKind)
 
--- what is wrong with the first parameter that has no argument of its sort among A: a node comes before its children,
--- and these before what stands after the node
+-- the error for the first parameter of a forest without an argument of its kind in A, if there is one. The order is preorder:
+-- a node, its children, the nodes after it
 abbrev pub first_misfit : Trees → Trees → Option InstantiateError
 first_misfit A none = None
 first_misfit A (tree (param s i) c o) = option_or (misfit s (sort_at A i)) (first_misfit A o)
 first_misfit A (tree l c o) = option_or (first_misfit A c) (first_misfit A o)
 
--- the same in a value
+-- the same for the pieces of a value
 abbrev pub first_misfit_in : Trees → List Piece → Option InstantiateError
 first_misfit_in A [] = None
 first_misfit_in A (p ∷ ps) = option_or (first_misfit A p.trees) (first_misfit_in A ps)
 
--- the result is this error exactly where that is what is wrong first
+-- the result is the error e exactly if e is the first misfit
 abbrev pub IsTheMisfit : {T : Type 0} → InstantiateError → Result T InstantiateError → Trees → List Piece → Type 0
 IsTheMisfit e r A ps = (r ≡ Err e) ↔ (first_misfit_in A ps ≡ Some e)
 
--- under d binders, each parameter's argument can be shifted by the binders above it
+-- below d binders, each parameter's argument can be shifted by the number of binders above the parameter
 abbrev pub ArgsInRange : ℕ → Trees → Trees → Type 0
 ArgsInRange d A none = Unit {0}
 ArgsInRange d A (tree (param s i) c o) = ShiftInRange zero d (nth A i) × ArgsInRange d A o
@@ -69,13 +69,13 @@ abbrev pub EachArgInRange : Trees → List Piece → Type 0
 EachArgInRange A [] = Unit {0}
 EachArgInRange A (p ∷ ps) = ArgsInRange (length p.counts) A p.trees × EachArgInRange A ps
 
--- the sort of an argument
+-- the kind of an argument
 abbrev pub arg_sort : GenericArgKind → Sort
 arg_sort (Lifetime r) = of_lifetime
 arg_sort (Ty t) = of_type
 arg_sort (Const c) = of_const
 
--- what the visitor answers that looks for a misfit
+-- the response of the visitor that finds a misfit
 abbrev pub misfit_answer : Option InstantiateError → Seen InstantiateError
 misfit_answer None = Pass
 misfit_answer (Some e) = Break e
@@ -87,17 +87,17 @@ looked_at A (tree (auto_trait i) c o) = Enter
 looked_at A (tree (param s i) c o) = misfit_answer (misfit s (sort_at A i))
 looked_at A (tree l c o) = cond (some_node is_any_param (tree l c none)) Enter Pass
 
--- whether the node itself is a parameter
+-- the first node is a parameter
 abbrev pub is_param_node : Trees → Bool
 is_param_node none = false
 is_param_node (tree l c o) = is_any_param l
 
--- what the folder does that puts arguments in: a parameter without an argument of its sort stays, and so does a term
--- without parameters
+-- what the folder does at a parameter with this misfit, if t is its shifted argument
 abbrev pub fitted : Option InstantiateError → Trees → Does
 fitted None t = puts t
 fitted (Some e) t = enters
 
+-- what the folder of arguments does at a node. It replaces a term without parameters by itself
 abbrev pub putting : Trees → List ℕ → Trees → Does
 putting A bs none = enters
 putting A bs (tree (principal n i) c o) = enters
@@ -111,7 +111,7 @@ putting-bounds A bs (tree (auto_trait i) c o) h = refl
 putting-bounds A bs none h = refl
 putting-bounds A bs (tree l c o) h = absurd h
 
--- the number of binders decides, whatever they bind
+-- it depends on the number of binders, not on how many lifetimes each binds
 pub putting-by-depth : (A : Trees) (bs cs : List ℕ) (t : Trees) → length bs ≡ length cs → putting A bs t ≡ putting A cs t
 putting-by-depth A bs cs none e = refl
 putting-by-depth A bs cs (tree (principal n i) c o) e = refl
@@ -134,7 +134,7 @@ putting-once A bs (tree l c o) s e = by (some_node is_any_param (tree l c none))
     by true t e = cc
     by false t e = cc
 
--- the visitor keeps its arguments, and notes a parameter
+-- the visitor's arguments do not change, and it records whether the node is a parameter
 abbrev pub Notes : Trees → ParamVisitor → ParamVisitor → Type 0
 Notes t v w = (w.args ≡ v.args) × (w.met ≡ is_param_node t || v.met)
 

@@ -1,4 +1,4 @@
--- What a folder does at a node, and what a fold is.
+-- Folds: what a folder does at a node, and the relation between a term and its fold.
 use Rattle.std.specs.Prelude.{[], ◌≡◌, ℕ, ◌≤◌, List, ◌∷◌, ◌++◌, Option}
 use Rattle.std.proofs.Common.{arith}
 use Rattle.type_terms.specs.Promised.Label.{Label}
@@ -19,23 +19,23 @@ use Rattle.type_terms.specs.declared.region.Region.{Region}
 use Rattle.term_folds.specs.declared.fold.Answer.{Answer}
 use Rattle.term_folds.specs.declared.fold.Answer.TheVariants.{Enter, Replace, Again}
 
--- at a node: its children are folded, or trees stand in its place, or trees that are folded in turn
+-- what a folder does at a node: it enters the node's children, or replaces the node by trees, or by the fold of trees
 pub data Does : Type 0 where
   enters : Does
   puts again : Trees → Does
 
--- under the binders `bs` the fold of the first forest is the second
+-- below binders of `bs` lifetimes, innermost first, the fold of the first forest is the second
 pub data Folds (f : List ℕ → Trees → Does) : List ℕ → Trees → Trees → Type 0 where
   nothing : {bs : List ℕ} → Folds f bs none none
   entered : {bs : List ℕ} {l : Label} {c o c' o' : Trees} → f bs (tree l c none) ≡ enters → Folds f (around l bs) c c' → Folds f bs o o' → Folds f bs (tree l c o) (tree l c' o')
   put : {bs : List ℕ} {l : Label} {c o r o' : Trees} → f bs (tree l c none) ≡ puts r → Folds f bs o o' → Folds f bs (tree l c o) (r +++ o')
   in_turn : {bs : List ℕ} {l : Label} {c o s r o' : Trees} → f bs (tree l c none) ≡ again s → Folds f bs s r → Folds f bs o o' → Folds f bs (tree l c o) (r +++ o')
 
--- the node as it is, over the folds of its children
+-- the same label over the folds of the children
 pub data FoldsBelow (f : List ℕ → Trees → Does) (bs : List ℕ) : Trees → Trees → Type 0 where
   below : {l : Label} {c c' : Trees} → Folds f (around l bs) c c' → FoldsBelow f bs (tree l c none) (tree l c' none)
 
--- the answer at a node says what the folder does there
+-- the folder's response at a node is what it does there, where P relates values and trees
 abbrev pub Answers : {T : Type 0} → (T → Trees → Type 0) → Does → Answer T → Type 0
 Answers P enters Enter = Unit {0}
 Answers P (puts t) (Replace x) = P x t
@@ -51,12 +51,12 @@ ConstAnswer d cx a = Answers (λ x t. Is cx.entries consts x.0 t) d a
 abbrev pub RegionAnswer : Does → Answer Region → Type 0
 RegionAnswer d a = Answers (λ x t. (region_trees x ≡ t) × RegionHeld x.kind) d a
 
--- the handle has a term of this table, which is the fold of t
+-- handle i has a term of this table, which is the fold of t
 pub record IsFold (f : List ℕ → Trees → Does) (bs : List ℕ) (t : Trees) (es : List Entry) (table i : ℕ) : Type 0 where
   pub has : Has es table i
   pub folded : Folds f bs t (trees_at es i)
 
--- the same, the root being entered without asking
+-- the same, if the folder is not called at the root
 pub record IsFoldBelow (f : List ℕ → Trees → Does) (bs : List ℕ) (t : Trees) (es : List Entry) (table i : ℕ) : Type 0 where
   pub has : Has es table i
   pub folded : FoldsBelow f bs t (trees_at es i)
@@ -81,7 +81,7 @@ IsKindFold f bs old new i k = FoldsBelow (f old.entries) (counts_of bs) (trees_a
 abbrev pub IsFoldUnder : {A : Type 0} → (List Entry → List ℕ → Trees → Does) → Binders → Terms → Terms → (List Entry → A → Trees) → A → A → Type 0
 IsFoldUnder f bs old new trees x y = Folds (f old.entries) (counts_of bs) (trees old.entries x) (trees new.entries y)
 
--- the fold of each part of a value
+-- each piece of the second value is the fold of that piece of the first
 abbrev pub FoldsEach : (List ℕ → Trees → Does) → List ℕ → List Piece → List Piece → Type 0
 FoldsEach f bs [] [] = Unit {0}
 FoldsEach f bs (p ∷ ps) (q ∷ qs) = (p.counts ≡ q.counts) × Folds f (p.counts ++ bs) p.trees q.trees × FoldsEach f bs ps qs
@@ -98,6 +98,6 @@ IsSuperVisit sees cx i v w r = VisitsBelow (sees cx.entries) [] (trees_at cx.ent
 pub enters-once : (s : Trees) → enters ≡ again s → ⊥
 enters-once s e = cc
 
--- the fuel of a folder that never answers `Again`
+-- for the fuel of a folder that never returns `Again`
 pub none_above : 0 ≤ 0
 none_above = omega arith

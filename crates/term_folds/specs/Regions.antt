@@ -1,4 +1,4 @@
--- Free lifetimes replaced.
+-- The replacement of free lifetimes.
 use Rattle.std.specs.Prelude.{◌≡◌, ℕ, List, length, cond, ltb, not, Bool, true, false, refl}
 use Rattle.std.proofs.Common.{ap}
 use Rattle.type_terms.specs.Promised.Label.{Label, of_lifetime, static, param, placeholder, infer, canonical, bound, principal, auto_trait, inside}
@@ -6,7 +6,7 @@ use Rattle.type_terms.specs.Promised.Trees.{Trees, none, tree}
 use Rattle.term_folds.specs.Folds.{Does, enters, puts, again}
 use Rattle.type_terms.specs.Visits.{IsBound}
 
--- a lifetime that no binder of the value binds, where d of them are around it
+-- the label is a lifetime that none of the d binders around it binds
 abbrev pub is_free_lifetime : ℕ → Label → Bool
 is_free_lifetime d static = true
 is_free_lifetime d (param of_lifetime i) = true
@@ -19,12 +19,12 @@ is_free_lifetime d _ = false
 abbrev pub region_replaced : (Label → Label) → ℕ → Label → Label
 region_replaced g d l = cond (is_free_lifetime d l) (g l) l
 
--- each free lifetime replaced by its image
+-- the trees with each free lifetime replaced by its image
 abbrev pub regions_replaced : (Label → Label) → ℕ → Trees → Trees
 regions_replaced g d none = none
 regions_replaced g d (tree l c o) = tree (region_replaced g d l) (regions_replaced g (inside l d) c) (regions_replaced g d o)
 
--- what the folder does
+-- what the folder of free lifetimes does at a node
 abbrev pub replacing : (Label → Label) → List ℕ → Trees → Does
 replacing g bs none = enters
 replacing g bs (tree l c o) = cond (is_free_lifetime (length bs) l) (puts (tree (g l) (regions_replaced g (inside l (length bs)) c) none)) enters
@@ -35,7 +35,7 @@ replacing-bounds g bs (tree (auto_trait i) c o) h = refl
 replacing-bounds g bs none h = refl
 replacing-bounds g bs (tree l c o) h = absurd h
 
--- the number of binders decides, whatever they bind
+-- it depends on the number of binders, not on how many lifetimes each binds
 pub replacing-by-depth : (g : Label → Label) (bs cs : List ℕ) (t : Trees) → length bs ≡ length cs → replacing g bs t ≡ replacing g cs t
 replacing-by-depth g bs cs none e = refl
 replacing-by-depth g bs cs (tree l c o) e = ap (λ n. cond (is_free_lifetime n l) (puts (tree (g l) (regions_replaced g (inside l n) c) none)) enters) e

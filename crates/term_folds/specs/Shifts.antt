@@ -1,4 +1,4 @@
--- Binder numbers shifted.
+-- Shifts of bound variables.
 use Rattle.std.specs.Prelude.{◌≡◌, ℕ, ◌+◌, ◌<◌, ◌≤◌, List, [], ◌∷◌, length, cond, ltb, refl, Bool, true, false}
 use Rattle.std.proofs.Common.{ap}
 use Rattle.type_terms.specs.Promised.Label.{Label, bound, principal, auto_trait, inside}
@@ -9,7 +9,7 @@ use Rattle.term_folds.specs.Folds.{Does, enters, puts, again}
 use Rattle.type_terms.specs.Visits.{IsBound}
 use Rattle.type_terms.specs.Pieces.{Piece}
 
--- each number that leads out of d binders, raised by a, stays below the greatest number
+-- each binder number that escapes d binders, plus a, is less than the greatest number
 abbrev pub LabelInRange : ℕ → ℕ → Label → Type 0
 LabelInRange d a (bound s k v) = d ≤ k → k + a < MAX_INDEX
 LabelInRange d a _ = Unit {0}
@@ -22,7 +22,7 @@ abbrev pub EachInRange : ℕ → List Piece → Type 0
 EachInRange a [] = Unit {0}
 EachInRange a (p ∷ ps) = ShiftInRange (length p.counts) a p.trees × EachInRange a ps
 
--- a binder number raised by a where it leads out of d binders and stays in range
+-- a binder number, plus a if it escapes d binders and the sum is in range
 abbrev pub moved_number : ℕ → ℕ → ℕ → ℕ
 moved_number d a k = cond (ltb k d) k (cond (ltb (k + a) MAX_INDEX) (k + a) k)
 
@@ -34,7 +34,7 @@ abbrev pub moved : ℕ → ℕ → Trees → Trees
 moved d a none = none
 moved d a (tree l c o) = tree (moved_label d a l) (moved (inside l d) a c) (moved d a o)
 
--- what the shifting folder does: a term that no binder number leads out of stays
+-- what the folder of shifts does at a node. It replaces a term without escaping bound variables by itself
 abbrev pub shifting : ℕ → List ℕ → Trees → Does
 shifting a bs none = enters
 shifting a bs (tree (principal n i) c o) = enters
@@ -48,7 +48,7 @@ shifting-bounds a bs (tree (auto_trait i) c o) h = refl
 shifting-bounds a bs none h = refl
 shifting-bounds a bs (tree l c o) h = absurd h
 
--- the number of binders decides, whatever they bind
+-- it depends on the number of binders, not on how many lifetimes each binds
 pub shifting-by-depth : (a : ℕ) (bs cs : List ℕ) (t : Trees) → length bs ≡ length cs → shifting a bs t ≡ shifting a cs t
 shifting-by-depth a bs cs none e = refl
 shifting-by-depth a bs cs (tree (principal n i) c o) e = refl

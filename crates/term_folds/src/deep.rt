@@ -1,8 +1,8 @@
-//! Deep types folded from their parts up.
+//! Folds of deep types, from their parts up.
 //!
-//! A walk recurses on the depth of a type, and finds in its memo what was folded before. So before it walks a deep type, the
-//! types in it are folded one by one, each after its own parts, by a list in memory: then no walk goes deep. What a walk gives
-//! does not rest on it.
+//! A fold recurses on the depth of a type, and a deep type could exhaust the stack. So the types in a deep type are folded
+//! first, each after its own parts, by a worklist. Their folds are then in the cache, and the fold recurses only a little.
+//! No result depends on this.
 ghost use Rattle.type_terms.specs.Growth.{Grew};
 ghost use Rattle.std.specs.Prelude.{◌≡◌, OnOk, IfOk, IfErr};
 ghost use Rattle.type_terms.specs.Promised.Handles.{Has, types};
@@ -23,7 +23,7 @@ use type_terms::interner::Interner;
 use type_terms::kinds::{GenericArgKind, GenericArgs, Ty, TyKind, Tys};
 use type_terms::visit::SHALLOW;
 
-/// A type under so many binders: to be entered, or to be walked since its parts were.
+/// A type under a number of binders. If `is_entered`, its parts are folded and it is the next to fold.
 #[derive(Clone, Copy)]
 pub(crate) struct Step {
     pub ty: Ty,
@@ -31,8 +31,8 @@ pub(crate) struct Step {
     pub is_entered: bool,
 }
 
-/// What the walk of these parts begins with: nothing, or where they are deep or the folder leads on, the folds of what
-/// stands in them.
+/// The cache that the fold of these parts begins with. It has the folds of the types in them if they are deep or the
+/// folder leads on, and is empty otherwise.
 pub(crate) fn begin<F: FallibleTypeFolder>(
     alloc: Global,
     cx: &mut Interner,
@@ -56,7 +56,7 @@ pub(crate) fn begin<F: FallibleTypeFolder>(
     Ok(memo)
 }
 
-/// Folds the listed types, each after its own parts, for the walk that comes next.
+/// Folds the listed types into the cache, each after its own parts.
 fn fold_parts<F: FallibleTypeFolder>(
     alloc: Global,
     cx: &mut Interner,
@@ -80,7 +80,7 @@ fn fold_parts<F: FallibleTypeFolder>(
     Ok(())
 }
 
-/// Walks a type whose parts were walked, or puts it on the list behind its parts.
+/// Folds a type whose parts were folded. Otherwise puts the type on the list, and then its parts, which are taken first.
 fn take_step<F: FallibleTypeFolder>(
     alloc: Global,
     cx: &mut Interner,
@@ -116,7 +116,7 @@ fn take_step<F: FallibleTypeFolder>(
     }
 }
 
-/// The types that stand in one of this kind are put on the list, each under so many binders or one more.
+/// Puts the types in a type of this kind on the list. Those below a binder of the kind are under one binder more.
 fn push_parts(cx: &Interner, kind: TyKind, depth: u32, todo: &mut Vec<Step>) -> Result<(), Fault>
     requires held { KindHeld cx.now.entries kind }
     requires todo { StepsHeld cx.now.entries todo.old.items }
@@ -139,7 +139,7 @@ fn push_parts(cx: &Interner, kind: TyKind, depth: u32, todo: &mut Vec<Step>) -> 
     }
 }
 
-/// The types among the arguments are put on the list.
+/// Puts the types among the arguments on the list.
 fn push_args(
     cx: &Interner,
     args: GenericArgs,
@@ -157,7 +157,7 @@ fn push_args(
     Ok(())
 }
 
-/// An argument is put on the list, if it is a type.
+/// Puts an argument on the list, if it is a type.
 fn push_arg(
     cx: &Interner,
     arg: GenericArgKind,
@@ -176,7 +176,7 @@ fn push_arg(
     }
 }
 
-/// The types are put on the list.
+/// Puts these types on the list.
 fn push_tys(cx: &Interner, tys: Tys, depth: u32, todo: &mut Vec<Step>) -> Result<(), Fault>
     requires held { Has cx.now.entries type_lists tys.0 }
     requires todo { StepsHeld cx.now.entries todo.old.items }
@@ -189,7 +189,7 @@ fn push_tys(cx: &Interner, tys: Tys, depth: u32, todo: &mut Vec<Step>) -> Result
     Ok(())
 }
 
-/// One more type on the list.
+/// Puts one type on the list.
 #[tactic(auto, using(crate::proofs::DeepFacts::steps_push))]
 fn push(
     cx: &Interner,

@@ -1,4 +1,4 @@
-//! Folders, and the fold of a term by one.
+//! Folders, and the fold of a term by a folder.
 ghost use Rattle.type_terms.specs.Growth.{Grew};
 ghost use Rattle.std.specs.Prelude.{◌≡◌, ℕ, ◌+◌, ◌*◌, ◌<◌, ◌≤◌, List, length, IfOk, IfErr};
 ghost use Rattle.type_terms.specs.Promised.Label.{Label};
@@ -24,37 +24,37 @@ use type_terms::kinds::{
 use type_terms::region::{Region, RegionKind};
 use type_terms::{AdtId, Fault};
 
-/// What a folder does at a node.
+/// What to do at a node.
 #[derive(Clone, Copy)]
 pub enum Answer<T> {
-    /// The fold goes on to the node's children.
+    /// Fold the children of the node.
     Enter,
-    /// This value stands in the node's place.
+    /// Replace the node by this value.
     Replace(T),
-    /// This value is folded, and what comes of it stands in the node's place.
+    /// Replace the node by the fold of this value.
     Again(T),
 }
 
 /// A folder that can fail with an error of its own.
 ///
-/// What it does at a node may depend on how many binders are around the node and not on how many lifetimes these bind
-/// (`by_depth`): so a fold keeps what it has made of a type by handle and number of binders.
+/// What it does at a node may depend on the number of binders around the node, but not on how many lifetimes each binds
+/// (`by_depth`). So a fold can cache the fold of a type by handle and number of binders.
 pub trait FallibleTypeFolder {
     type Error: From<Fault> + Drop;
 
-    // The handles that the folder holds are an interner's.
+    // The handles in the folder are of an interner with these entries.
     ghost ready: { Self → List Entry → Type 0 };
 
-    // What it does at a node under these binders.
+    // What the folder does at a node under these binders.
     ghost action: { Self → List Entry → List ℕ → Trees → Does };
 
-    // The errors that it gives for reasons of its own.
+    // The errors that the folder returns for reasons of its own.
     ghost fails: { Self → Self.Error → Type 0 };
 
-    // A measure that falls from a node to the value of `Again`.
+    // A measure that decreases from a node to the value of `Again`.
     ghost fuel: { Self → List Entry → Trees → ℕ };
 
-    /// What the folder does at a type.
+    /// Called at each type that the fold comes to.
     fn try_fold_ty(
         &self,
         cx: &mut Interner,
@@ -67,7 +67,7 @@ pub trait FallibleTypeFolder {
         ensures answer { IfOk result (λ r. TyAnswer (action self.now cx.old.entries (counts_of binders.now) (trees_at cx.old.entries ty.0)) cx.new r) }
         ensures failed { IfErr result (λ e. FailsBy (fails self.now) Self.Error.from_gives cx.new.entries cx.new.limit e) };
 
-    /// What the folder does at a constant.
+    /// Called at each constant.
     fn try_fold_const(
         &self,
         cx: &mut Interner,
@@ -80,7 +80,7 @@ pub trait FallibleTypeFolder {
         ensures answer { IfOk result (λ r. ConstAnswer (action self.now cx.old.entries (counts_of binders.now) (trees_at cx.old.entries ct.0)) cx.new r) }
         ensures failed { IfErr result (λ e. FailsBy (fails self.now) Self.Error.from_gives cx.new.entries cx.new.limit e) };
 
-    /// What the folder does at a lifetime.
+    /// Called at each lifetime.
     fn try_fold_region(
         &self,
         cx: &Interner,
@@ -92,26 +92,27 @@ pub trait FallibleTypeFolder {
         ensures answer { IfOk result (λ r. RegionAnswer (action self.now cx.now.entries (counts_of binders.now) (region_trees region)) r) }
         ensures failed { IfErr result (λ e. FailsBy (fails self.now) Self.Error.from_gives cx.now.entries cx.now.limit e) };
 
-    /// It may answer `Again`, with a value that is deeper than the type.
+    /// Whether the folder may return `Again` with a value that is deeper than the type. This affects the stack that a fold
+    /// uses, and no result.
     fn leads_on(&self) -> bool {
         false
     }
 
-    // Handles stay ready while the interner grows.
+    // The handles remain of the interner as it grows.
     ghost ready_kept: { (f : Self) (old new : List Entry) → Keeps old new → ready f old → ready f new };
 
-    // They stand for the same trees.
+    // And they denote the same trees.
     ghost action_kept: { (f : Self) (old new : List Entry) → Keeps old new → ready f old → action f new ≡ action f old };
 
     ghost fuel_kept: { (f : Self) (old new : List Entry) → Keeps old new → ready f old → fuel f new ≡ fuel f old };
 
-    // The lifetimes that the binders bind do not matter to it, and what is around a node is their number alone.
+    // The action depends on the number of binders around a node, not on how many lifetimes each binds.
     ghost by_depth: { (f : Self) (es : List Entry) (bs cs : List ℕ) (t : Trees) → length bs ≡ length cs → action f es bs t ≡ action f es cs t };
 
-    // The bounds of a `dyn` are entered.
+    // The folder enters the bounds of a `dyn`.
     ghost enters_bounds: { (f : Self) (es : List Entry) (bs : List ℕ) (t : Trees) → IsBound t → action f es bs t ≡ enters };
 
-    // The value of `Again` has less fuel, and parts have no more than the whole.
+    // The value of `Again` has less fuel, and a part has at most the fuel of the whole.
     ghost falls: { (f : Self) (es : List Entry) (bs : List ℕ) (t s : Trees) → ready f es → action f es bs t ≡ again s → fuel f es s < fuel f es t };
 
     ghost below_node: { (f : Self) (es : List Entry) (l : Label) (c : Trees) → fuel f es c ≤ fuel f es (tree l c none) };
@@ -121,7 +122,7 @@ pub trait FallibleTypeFolder {
     ghost below_right: { (f : Self) (es : List Entry) (x y : Trees) → fuel f es y ≤ fuel f es (x +++ y) };
 }
 
-/// The lifetime that a folder makes of this one.
+/// The fold of a lifetime.
 pub fn fold_region<F: FallibleTypeFolder>(
     cx: &Interner,
     folder: &F,
@@ -141,7 +142,7 @@ pub fn fold_region<F: FallibleTypeFolder>(
     }
 }
 
-/// The constant that a folder makes of this one.
+/// The fold of a constant.
 pub(crate) fn fold_const<F: FallibleTypeFolder>(
     cx: &mut Interner,
     folder: &F,
@@ -162,7 +163,7 @@ pub(crate) fn fold_const<F: FallibleTypeFolder>(
     }
 }
 
-/// The type that a folder makes of this one.
+/// The fold of a type.
 pub fn fold_ty<F: FallibleTypeFolder>(
     alloc: Global,
     cx: &mut Interner,
@@ -181,7 +182,7 @@ pub fn fold_ty<F: FallibleTypeFolder>(
     walk_ty(alloc, cx, folder, ty, binders, &mut memo)
 }
 
-/// The type over the folds of its children; the folder is not asked at the type itself.
+/// The type over the folds of its children. The folder is not called at the type itself.
 pub fn super_fold_ty<F: FallibleTypeFolder>(
     alloc: Global,
     cx: &mut Interner,
@@ -201,7 +202,7 @@ pub fn super_fold_ty<F: FallibleTypeFolder>(
     super_walk_ty(alloc, cx, folder, ty, binders, &mut memo)
 }
 
-/// The list of the folds of these types.
+/// The fold of a list of types.
 pub(crate) fn fold_tys<F: FallibleTypeFolder>(
     alloc: Global,
     cx: &mut Interner,
@@ -221,7 +222,7 @@ pub(crate) fn fold_tys<F: FallibleTypeFolder>(
     walk_tys(alloc, cx, folder, tys, binders, &mut memo)
 }
 
-/// The list of the folds of these arguments.
+/// The fold of a list of arguments.
 pub fn fold_args<F: FallibleTypeFolder>(
     alloc: Global,
     cx: &mut Interner,
@@ -241,7 +242,7 @@ pub fn fold_args<F: FallibleTypeFolder>(
     walk_args(alloc, cx, folder, args, binders, &mut memo)
 }
 
-/// The fold of one argument under these binders: each node that the folder replaces is replaced. Errors are the folder's own and faults.
+/// The fold of one argument.
 pub(crate) fn fold_arg<F: FallibleTypeFolder>(
     alloc: Global,
     cx: &mut Interner,
@@ -267,7 +268,7 @@ pub(crate) fn fold_arg<F: FallibleTypeFolder>(
     }
 }
 
-/// The bounds with the folds of the principal's arguments.
+/// The fold of the bounds of a `dyn`. Only the arguments of the principal trait have terms.
 pub(crate) fn fold_bounds<F: FallibleTypeFolder>(
     alloc: Global,
     cx: &mut Interner,

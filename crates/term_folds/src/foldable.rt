@@ -20,7 +20,7 @@ use type_terms::kinds::{Bounds, Const, GenericArgKind, GenericArgs, Ty, Tys};
 use type_terms::region::Region;
 use type_terms::visitable::TypeVisitable;
 
-/// A value that can be folded: its terms are, each under the binders around it, and all else stays.
+/// A value that can be folded. Its terms are folded, each under the binders around it. The rest does not change.
 pub trait TypeFoldable: TypeVisitable {
     /// The fold of the value under these binders.
     fn try_fold_under<F: FallibleTypeFolder>(
@@ -38,7 +38,7 @@ pub trait TypeFoldable: TypeVisitable {
         ensures folded { IfOk result (λ r. IsValueFold (F.action folder.now) (counts_of binders.now) cx.old cx.new (Self.pieces self) (Self.pieces r)) }
         ensures failed { IfErr result (λ e. FailsBy (F.fails folder.now) F.Error.from_gives cx.new.entries cx.new.limit e) };
 
-    /// The fold of the value by a folder that can fail: with an error of its own, or with one that is made of a fault.
+    /// The fold of the value by a folder that can fail. The error is the folder's own, or one made from a `Fault`.
     final fn try_fold_with<F: FallibleTypeFolder>(
         self,
         alloc: Global,
@@ -56,10 +56,7 @@ pub trait TypeFoldable: TypeVisitable {
         self.try_fold_under(alloc, cx, folder, &Binders::Outermost)
     }
 
-    /// The fold of the value.
-    ///
-    /// `Full` comes only where some kind of term has reached its limit, or for a reason of the folder's own; `Memory`
-    /// where memory is refused. What was made before stays.
+    /// The fold of the value. If it fails, terms that were interned before remain.
     final fn fold_with<F: TypeFolder>(
         self,
         alloc: Global,

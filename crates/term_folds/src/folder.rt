@@ -1,4 +1,4 @@
-//! Folders that cannot fail but for want of room.
+//! Folders without an error of their own.
 ghost use Rattle.type_terms.specs.Growth.{Grew};
 ghost use Rattle.std.specs.Prelude.{◌≡◌, ℕ, ◌<◌, ◌≤◌, ◌⊎◌, List, length, IfOk, Err};
 ghost use Rattle.type_terms.specs.Promised.Label.{Label};
@@ -17,24 +17,24 @@ use type_terms::interner::Interner;
 use type_terms::kinds::{Const, Ty};
 use type_terms::region::Region;
 
-/// A folder that fails only where a term cannot be made: with `Memory` where memory is refused, and with `Full` where
-/// some kind of term has reached its limit, or for a reason that it states of itself (`refuses`).
+/// A folder that fails only if a term cannot be interned.
 ///
-/// The original's `TypeFolder`; it recurses by itself there, and here it answers what to do with a node.
+/// It fails with `Memory` if memory is refused. It fails with `Full` if some kind of term has reached its limit, or for
+/// a reason of its own (`refuses`). rustc's `TypeFolder` recurses itself. This one returns what to do at a node.
 pub trait TypeFolder {
-    // The handles that the folder holds are an interner's.
+    // The handles in the folder are of an interner with these entries.
     ghost ready: { Self → List Entry → Type 0 };
 
-    // What it does at a node under these binders.
+    // What the folder does at a node under these binders.
     ghost action: { Self → List Entry → List ℕ → Trees → Does };
 
-    // It may answer `Full` for a reason of its own.
+    // The folder may fail with `Full` for a reason of its own.
     ghost refuses: { Self → Type 0 } = { λ _. ⊥ };
 
-    // A measure that falls from a node to the value of `Again`.
+    // A measure that decreases from a node to the value of `Again`.
     ghost fuel: { Self → List Entry → Trees → ℕ };
 
-    /// What the folder does at a type.
+    /// Called at each type that the fold comes to.
     fn fold_ty(&self, cx: &mut Interner, ty: Ty, binders: &Binders) -> Result<Answer<Ty>, Fault>
         requires ready { ready self.now cx.old.entries }
         requires held { Has cx.old.entries types ty.0 }
@@ -42,7 +42,7 @@ pub trait TypeFolder {
         ensures answer { IfOk result (λ r. TyAnswer (action self.now cx.old.entries (counts_of binders.now) (trees_at cx.old.entries ty.0)) cx.new r) }
         ensures full { result ≡ Err Fault.Full → SomeKindIsFull cx.new.entries cx.new.limit ⊎ refuses self.now };
 
-    /// What the folder does at a constant.
+    /// Called at each constant.
     fn fold_const(
         &self,
         cx: &mut Interner,
@@ -55,7 +55,7 @@ pub trait TypeFolder {
         ensures answer { IfOk result (λ r. ConstAnswer (action self.now cx.old.entries (counts_of binders.now) (trees_at cx.old.entries ct.0)) cx.new r) }
         ensures full { result ≡ Err Fault.Full → SomeKindIsFull cx.new.entries cx.new.limit ⊎ refuses self.now };
 
-    /// What the folder does at a lifetime.
+    /// Called at each lifetime.
     fn fold_region(
         &self,
         cx: &Interner,
@@ -67,26 +67,27 @@ pub trait TypeFolder {
         ensures answer { IfOk result (λ r. RegionAnswer (action self.now cx.now.entries (counts_of binders.now) (region_trees region)) r) }
         ensures full { result ≡ Err Fault.Full → SomeKindIsFull cx.now.entries cx.now.limit ⊎ refuses self.now };
 
-    /// It may answer `Again`, with a value that is deeper than the type.
+    /// Whether the folder may return `Again` with a value that is deeper than the type. This affects the stack that a fold
+    /// uses, and no result.
     fn leads_on(&self) -> bool {
         false
     }
 
-    // Handles stay ready while the interner grows.
+    // The handles remain of the interner as it grows.
     ghost ready_kept: { (f : Self) (old new : List Entry) → Keeps old new → ready f old → ready f new };
 
-    // They stand for the same trees.
+    // And they denote the same trees.
     ghost action_kept: { (f : Self) (old new : List Entry) → Keeps old new → ready f old → action f new ≡ action f old };
 
     ghost fuel_kept: { (f : Self) (old new : List Entry) → Keeps old new → ready f old → fuel f new ≡ fuel f old };
 
-    // The lifetimes that the binders bind do not matter to it, and what is around a node is their number alone.
+    // The action depends on the number of binders around a node, not on how many lifetimes each binds.
     ghost by_depth: { (f : Self) (es : List Entry) (bs cs : List ℕ) (t : Trees) → length bs ≡ length cs → action f es bs t ≡ action f es cs t };
 
-    // The bounds of a `dyn` are entered.
+    // The folder enters the bounds of a `dyn`.
     ghost enters_bounds: { (f : Self) (es : List Entry) (bs : List ℕ) (t : Trees) → IsBound t → action f es bs t ≡ enters };
 
-    // The value of `Again` has less fuel, and parts have no more than the whole.
+    // The value of `Again` has less fuel, and a part has at most the fuel of the whole.
     ghost falls: { (f : Self) (es : List Entry) (bs : List ℕ) (t s : Trees) → ready f es → action f es bs t ≡ again s → fuel f es s < fuel f es t };
 
     ghost below_node: { (f : Self) (es : List Entry) (l : Label) (c : Trees) → fuel f es c ≤ fuel f es (tree l c none) };
@@ -96,7 +97,7 @@ pub trait TypeFolder {
     ghost below_right: { (f : Self) (es : List Entry) (x y : Trees) → fuel f es y ≤ fuel f es (x +++ y) };
 }
 
-/// A folder that does not fail, as one that could.
+/// A `TypeFolder` as a `FallibleTypeFolder`.
 #[derive(Clone, Copy)]
 pub struct Infallible<'a, F>(pub &'a F);
 

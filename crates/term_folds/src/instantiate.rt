@@ -1,4 +1,4 @@
-//! Parameters replaced by arguments.
+//! Instantiation: parameters are replaced by arguments.
 ghost use Rattle.std.specs.Prelude.{◌≡◌, ℕ, ◌<◌, length, min, not, IfOk, IfSome, option_map};
 ghost use Rattle.type_terms.specs.Promised.Trees.{nth, some_node};
 ghost use Rattle.type_terms.specs.Promised.Handles.{Keeps, Has, trees_at};
@@ -21,17 +21,16 @@ use type_terms::visit::{Seen, TypeVisitor};
 
 /// Why a value with parameters could not be instantiated.
 ///
-/// It belongs to this project: the original stops the program at a parameter without an argument of its kind, and
-/// building a term cannot fail there.
+/// rustc has no such error. It panics if a parameter has no argument of its kind, and its interner never refuses.
 #[derive(Clone, Copy, Debug, PartialEq, Eq, thiserror::Error)]
 pub enum InstantiateError {
-    /// The value has a parameter for whose place there is no argument.
+    /// No argument has the index of the parameter.
     #[error("a parameter has no argument")]
     ParamOutOfRange,
-    /// The argument is of another kind, as `3` for the type parameter of `V<T>`.
+    /// The argument is of another kind, such as `3` for the type parameter of `V<T>`.
     #[error("a parameter has an argument of another kind")]
     ParamKind,
-    /// A term could not be made.
+    /// The interner refused a term, or memory was refused.
     #[error("{0}")]
     Fault(Fault),
 }
@@ -46,7 +45,7 @@ impl From<Fault> for InstantiateError {
     }
 }
 
-/// The argument with this place, if there is one.
+/// The argument with this index, if there is one.
 pub(crate) fn argument(cx: &Interner, args: GenericArgs, index: u32) -> Option<GenericArgKind>
     requires { Has cx.now.entries args_lists args.0 }
     ensures held { IfSome result (ArgHeld cx.now.entries) }
@@ -57,7 +56,7 @@ pub(crate) fn argument(cx: &Interner, args: GenericArgs, index: u32) -> Option<G
     cx.args(args).get(index as usize).copied()
 }
 
-/// Whether a term has a parameter: one look at its flags.
+/// Whether a term has a parameter. The flags of the term say so.
 fn has_param<H: Handle>(cx: &Interner, term: H) -> bool
     requires { Has cx.now.entries H.handle_kind (H.handle_number term) }
     ensures { result ≡ some_node is_any_param (trees_at cx.now.entries (H.handle_number term)) }
@@ -65,10 +64,10 @@ fn has_param<H: Handle>(cx: &Interner, term: H) -> bool
     cx.flags(term).intersects(TypeFlags::HAS_PARAM)
 }
 
-/// Looks for a parameter that has no argument of its kind, and notes whether it met any parameter.
+/// Finds the first parameter without an argument of its kind, and records whether the value has a parameter.
 ///
-/// A value is looked through before it is folded: so the first such parameter names the error, whatever the interner
-/// would answer, and a refusal has made nothing.
+/// A value is visited before it is folded. So the first such parameter determines the error, even if the interner would
+/// refuse a term, and no term is interned before the error.
 #[derive(Clone, Copy)]
 pub(crate) struct ParamVisitor {
     pub args: GenericArgs,
@@ -147,10 +146,10 @@ impl TypeVisitor for ParamVisitor {
     }
 }
 
-/// Puts arguments in the places of parameters, each shifted in by the binders above it.
+/// Replaces each parameter by its argument, shifted by the number of binders above the parameter.
 ///
-/// The original's `ArgFolder`. It passes a term whose flags have no parameter, and leaves a parameter without an
-/// argument of its kind as it is, which `instantiate` has ruled out.
+/// rustc's `ArgFolder`. It does not enter a term without parameters. It leaves a parameter without an argument of its kind
+/// unchanged, but `instantiate` fails before it comes to one.
 #[derive(Clone, Copy)]
 pub(crate) struct ArgFolder {
     pub alloc: Global,

@@ -1,4 +1,4 @@
-//! Free lifetimes replaced.
+//! The replacement of free lifetimes.
 ghost use Rattle.type_terms.specs.Growth.{GrewOrFull};
 ghost use Rattle.std.specs.Prelude.{◌≡◌, ℕ, IfOk};
 ghost use Rattle.type_terms.specs.Promised.Label.{Label};
@@ -17,21 +17,19 @@ use type_terms::kinds::{Const, Ty};
 use type_terms::number::BoundVarIndexKind;
 use type_terms::region::{Region, RegionKind};
 
-/// What stands for a lifetime: the closure of `fold_regions`, whose answer is a function of the lifetime.
+/// A map of lifetimes. It replaces the closure of rustc's `fold_regions`, and its result depends on the lifetime only.
 pub trait RegionMap {
-    // The lifetime that stands for one.
+    // The label of the lifetime that replaces one with this label.
     ghost image: { Self → Label → Label };
 
-    /// The lifetime that stands for this one.
+    /// The lifetime that replaces this one.
     fn map(&self, region: Region) -> Region
         requires { RegionHeld region.kind }
         ensures held { RegionHeld result.kind }
         ensures image { region_label result.kind ≡ image self.now (region_label region.kind) };
 }
 
-/// Replaces the lifetimes that no binder of the value binds.
-///
-/// The original's `RegionFolder`.
+/// Replaces the lifetimes that no binder of the value binds. rustc's `RegionFolder`.
 #[derive(Clone, Copy)]
 pub struct RegionFolder<'a, M> {
     pub map: &'a M,
@@ -100,10 +98,9 @@ impl<M: RegionMap> TypeFolder for RegionFolder<'_, M> {
     }
 }
 
-/// The value with each lifetime that no binder of the value binds replaced by what `map` gives for it.
+/// The value with each free lifetime replaced by its image under `map`. rustc's `fold_regions`.
 ///
-/// The lifetime of `for<'a> fn(&'a u8)` stays. `Full` comes only where some kind of term has reached its limit,
-/// `Memory` where memory is refused. The original's `fold_regions`.
+/// A lifetime is free if no binder of the value binds it. The lifetime of `for<'a> fn(&'a u8)` does not change.
 pub fn fold_regions<T: TypeFoldable, M: RegionMap>(
     alloc: Global,
     cx: &mut Interner,

@@ -1,4 +1,4 @@
-//! Binder numbers shifted.
+//! Shifts of bound variables.
 ghost use Rattle.type_terms.specs.Growth.{GrewOrFull};
 ghost use Rattle.std.specs.Prelude.{◌≡◌, ℕ, ◌<◌, length, min, IfOk};
 ghost use Rattle.type_terms.specs.Promised.Trees.{shift};
@@ -19,16 +19,16 @@ use type_terms::number::{BoundVarIndexKind, DebruijnIndex};
 use type_terms::region::{Region, RegionKind};
 use type_terms::{Fault, MAX_INDEX};
 
-/// Shifts each binder number that leads out of the value.
+/// Shifts each bound variable that escapes the value.
 ///
-/// The original's `Shifter`. It stops at a term that no binder number leads out of.
+/// rustc's `Shifter`. It does not enter a term without escaping bound variables.
 #[derive(Clone, Copy)]
 struct Shifter {
     amount: u32,
 }
 
 impl Shifter {
-    /// A binder number below these binders, as it is shifted.
+    /// The shifted number of a bound variable below these binders.
     fn moved(&self, binder: DebruijnIndex, binders: &Binders) -> DebruijnIndex
         requires { binder.index < MAX_INDEX }
         ensures range { result.index < MAX_INDEX }
@@ -123,12 +123,10 @@ impl TypeFolder for Shifter {
     }
 }
 
-/// The value with `amount` added to each binder number that leads out of it, as it is below `amount` further
-/// binders.
+/// The value with `amount` added to the binder number of each escaping bound variable.
 ///
-/// `ReBound(0, 0)` by 1 is `ReBound(1, 0)`, and the lifetime of `for<'a> fn(&'a u8)` stays. The shifted numbers
-/// have to be in range. `Full` comes only where some kind of term has reached its limit, `Memory` where memory is
-/// refused. The original's `shift_vars`.
+/// This is the value as it is written below `amount` more binders. `ReBound(0, 0)` shifted by 1 is `ReBound(1, 0)`. The
+/// lifetime of `for<'a> fn(&'a u8)` does not change. The shifted numbers must be in range. rustc's `shift_vars`.
 pub fn shift_vars<T: TypeFoldable>(
     alloc: Global,
     cx: &mut Interner,
@@ -145,8 +143,7 @@ pub fn shift_vars<T: TypeFoldable>(
     value.fold_with(alloc, cx, &Shifter { amount })
 }
 
-/// The value with `amount` added to each binder number that leads out of it, where the sum is in range; a number
-/// whose sum is not stays.
+/// The same, except that a number is unchanged if the sum is out of range.
 pub(crate) fn moved_vars<T: TypeFoldable>(
     alloc: Global,
     cx: &mut Interner,
@@ -162,7 +159,7 @@ pub(crate) fn moved_vars<T: TypeFoldable>(
     value.fold_with(alloc, cx, &shifter)
 }
 
-/// The same for a lifetime, which needs no interner.
+/// The same for a lifetime. It needs no interner.
 pub(crate) fn moved_region(region: Region, amount: u32) -> Region
     requires { RegionHeld region.kind }
     ensures held { RegionHeld result.kind }

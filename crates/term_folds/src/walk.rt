@@ -1,4 +1,4 @@
-//! The walk of a fold, which keeps what it has found.
+//! The traversal of a fold, with a cache of the folds of types.
 ghost use Rattle.type_terms.specs.Growth.{Grew};
 ghost use Rattle.std.specs.Prelude.{◌≡◌, ◌++◌, ◌∷◌, [], IfOk, IfErr};
 ghost use Rattle.type_terms.specs.Trees.{is_no_tree};
@@ -21,7 +21,7 @@ use type_terms::kinds::{
 };
 use type_terms::region::Region;
 
-/// The type that a folder makes of this one.
+/// The fold of a type.
 #[cycle(walks)]
 pub(crate) fn walk_ty<F: FallibleTypeFolder>(
     alloc: Global,
@@ -54,7 +54,7 @@ pub(crate) fn walk_ty<F: FallibleTypeFolder>(
     }
 }
 
-/// The type over the folds of its children; the folder is not asked at the type itself.
+/// The type over the folds of its children. The folder is not called at the type itself.
 #[cycle(walks)]
 pub(crate) fn super_walk_ty<F: FallibleTypeFolder>(
     alloc: Global,
@@ -134,7 +134,7 @@ fn walk_kind<F: FallibleTypeFolder>(
     }
 }
 
-/// The list of the folds of these types.
+/// The fold of a list of types.
 #[cycle(walks)]
 pub(crate) fn walk_tys<F: FallibleTypeFolder>(
     alloc: Global,
@@ -164,7 +164,7 @@ pub(crate) fn walk_tys<F: FallibleTypeFolder>(
     Ok(cx.mk_tys(new)?)
 }
 
-/// The list of the folds of these arguments.
+/// The fold of a list of arguments.
 #[cycle(walks)]
 pub(crate) fn walk_args<F: FallibleTypeFolder>(
     alloc: Global,
@@ -191,7 +191,7 @@ pub(crate) fn walk_args<F: FallibleTypeFolder>(
     Ok(cx.mk_args(new)?)
 }
 
-/// The fold of one argument in the midst of a walk, by the walk's table of what was folded before.
+/// The fold of one argument.
 #[cycle(walks)]
 pub(crate) fn walk_arg<F: FallibleTypeFolder>(
     alloc: Global,
@@ -223,7 +223,7 @@ pub(crate) fn walk_arg<F: FallibleTypeFolder>(
     }
 }
 
-/// The bounds with the folds of the principal's arguments.
+/// The fold of the bounds of a `dyn`.
 #[cycle(walks)]
 pub(crate) fn walk_bounds<F: FallibleTypeFolder>(
     alloc: Global,
@@ -248,7 +248,7 @@ pub(crate) fn walk_bounds<F: FallibleTypeFolder>(
     Ok(cx.mk_bounds(BoundsData { principal, autos })?)
 }
 
-/// The principal trait with the folds of its arguments.
+/// The fold of the principal trait. Its arguments are below a binder.
 #[cycle(walks)]
 fn walk_principal<F: FallibleTypeFolder>(
     alloc: Global,
@@ -277,7 +277,7 @@ fn walk_principal<F: FallibleTypeFolder>(
     }
 }
 
-/// Another list of these items.
+/// A copy of a slice. The interner cannot be borrowed while terms are interned.
 fn copied<T: Copy>(alloc: Global, items: &[T]) -> Result<Vec<T>, Fault>
     ensures copied { IfOk result (λ list. list.items ≡ items.now) }
     ensures memory { IfErr result (λ e. e ≡ Fault.Memory) }
@@ -289,7 +289,7 @@ fn copied<T: Copy>(alloc: Global, items: &[T]) -> Result<Vec<T>, Fault>
     Ok(list)
 }
 
-/// One more item at the end of a list.
+/// Appends an item.
 fn append<T: Drop>(list: &mut Vec<T>, item: T) -> Result<(), Fault>
     ensures appended { IfOk result (λ _. list.new.items ≡ list.old.items ++ item ∷ []) }
     ensures memory { IfErr result (λ e. e ≡ Fault.Memory) }

@@ -33,12 +33,12 @@ returns-in_err-push_parts-in-Enter-clause-failed g c =
 pub returns-in-Replace-clause-todo : goal.returns-in-Replace-clause-todo
 returns-in-Replace-clause-todo g c = steps-later _ _ c.try_fold_ty.ensures.grew.keeps _ c.requires.todo
 
--- where it is an error, nothing is said of what was done
+-- if the result is an error, nothing else is to be shown
 nothing-done : {T E : Type 0} (made : E → Type 0) (A : Type 0) (r : Result T E) → IsErrAnd r made → OnOk r A
 nothing-done made A (Ok y) h = absurd h
 nothing-done made A (Err y) h = tt
 
--- ---- what every return says of the interner and of what is known
+-- ---- each return: the interner and the cache
 pub returns-in_err-walk_ty-clause-grew : goal.returns-in_err-walk_ty-clause-grew
 returns-in_err-walk_ty-clause-grew g c = c.walk_ty.ensures.grew
 

@@ -1,4 +1,4 @@
--- The walk goes on from the table that it begins with, in which the type stands for the same trees.
+-- The interner grows as the cache is filled, and the type denotes the same trees.
 use Rattle.std.proofs.Common.{◌∙◌}
 use Rattle.type_terms.specs.Promised.Handles.{types}
 use Rattle.type_terms.specs.Kept.{has-later, trees-later}

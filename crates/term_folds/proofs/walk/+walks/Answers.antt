@@ -229,7 +229,7 @@ walk_bounds-walk_principal-requires g t c κs within =
     let less : fuel (principal_trees es old.principal) ≤ fuel (trees_at es c.args.bounds.0) = rw here part in
     (omega (arith, older, c.decreases, less), (within.0, (within.1, (c.requires.ready, (c.requires.known, c.bounds-data.ensures.held.0)))))
 
--- ---- what is known
+-- ---- the cache
 pub walk_tys-returns-clause-known : goal.walk_tys-returns-clause-known
 walk_tys-returns-clause-known g t c =
     let inv = c.loop-ty.invariant in
@@ -246,7 +246,7 @@ walk_args-returns-clause-known g t c =
     let law = g.met.F.FallibleTypeFolder.action_kept c.args.folder.now now next c.mk_args.ensures.grew.keeps inv.1 in
     remembers-later _ (g.F.FallibleTypeFolder.action c.args.folder.now next) now next c.loop-arg.memo c.mk_args.ensures.grew.keeps law inv.8
 
--- ---- what every return says of the interner and of what is known
+-- ---- each return: the interner and the cache
 pub walk_ty-returns-in_err-note-in-Enter : goal.walk_ty-returns-in_err-note-in-Enter
 walk_ty-returns-in_err-note-in-Enter g t c =
     record {
