@@ -1,4 +1,4 @@
--- The answer that a table gives agrees with each of the table's solutions.
+-- The response made from a table agrees with each solution of the table.
 use Rattle.std.proofs.Common.{◌≡◌, ℕ, zero, suc, Bool, true, false, refl, ap, sym, ◌∙◌, subst, List, [], ◌∷◌, map, Option, Some, None, is_some, IsSome, if◌then◌else◌, inl, inr}
 use Rattle.std.specs.Prelude.{option_map}
 use Rattle.std.specs.List.{slice_get}

@@ -1,4 +1,4 @@
--- The answer in which each variable stands for itself: its variables are of its kinds, and it agrees with all values of their sorts.
+-- The response in which each variable is its own value. Its variables are of its kinds, and it agrees with all values of these.
 use Rattle.std.proofs.Common.{◌≡◌, ℕ, zero, suc, ◌+◌, Bool, true, false, refl, ap, sym, ◌∙◌, subst, arith, List, [], ◌∷◌, map, drop, Option, Some, None, if◌then◌else◌}
 use Rattle.std.specs.Prelude.{option_map}
 use Rattle.std.specs.List.{slice_get}

@@ -1,4 +1,4 @@
--- Values made equal in turn, and what an applied answer leaves.
+-- Values that are equated in order, and the table after a response is applied.
 use Rattle.std.proofs.Common.{◌≡◌, ℕ, suc, ◌+◌, ◌<◌, List, [], ◌∷◌, length, drop, get_or, Option, Some, None, refl, ap, sym, ◌∙◌}
 use Rattle.std.specs.Prelude.{option_map, option_and_then}
 use Rattle.type_terms.specs.Promised.Trees.{Trees, none, tree, ◌+++◌}

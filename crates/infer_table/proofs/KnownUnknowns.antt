@@ -1,4 +1,4 @@
--- What is put in for the variables of an answer speaks of the table's own unknowns, new ones among them.
+-- The values of a response's variables are over the variables of the table, including the new ones.
 use Rattle.std.proofs.Common.{◌≡◌, ℕ, ◌+◌, ◌<◌, ◌≤◌, Bool, true, false, ap, sym, ◌∙◌, subst, arith, List, [], ◌∷◌, zero, suc, drop, length, get_or, Option, Some, None, if◌then◌else◌}
 use Rattle.std.specs.Prelude.{unwrap_or}
 use Rattle.std.specs.List.{slice_get}

@@ -1,4 +1,4 @@
--- Leaves are told apart by their labels.
+-- Leaves are equal if their labels are.
 use Rattle.std.proofs.Common.{rules, ◌≡◌, ℕ, zero, suc, Bool, true, false, refl, ap, sym, ◌∙◌, subst, List, [], ◌∷◌, ◌++◌, Option, Some, None, IsSome, if◌then◌else◌, ◌+◌, ◌<◌, ◌≤◌, length, get_or, arith, cond, not, nat_lt}
 use Rattle.std.specs.Bool.{Decides}
 use Rattle.std.specs.List.{list_any, position_or_len, position}

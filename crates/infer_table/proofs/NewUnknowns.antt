@@ -1,4 +1,4 @@
--- New unknowns for canonical variables, one by one.
+-- New values for canonical variables, one by one.
 use Rattle.std.proofs.Common.{◌≡◌, ℕ, suc, refl, ap, sym, ◌∙◌, List, [], ◌∷◌, ◌++◌, length, get_or, take, ◌+◌, ◌<◌, ◌≤◌, arith}
 use Rattle.std.proofs.lemmas.List.{length-take-le}
 use Rattle.type_terms.specs.Promised.Label.{Label}

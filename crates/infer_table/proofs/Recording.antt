@@ -1,4 +1,4 @@
--- A constraint that is put among those of a table is recorded once among their trees.
+-- A constraint that is added to a table is recorded once among the trees of its constraints.
 use Rattle.std.proofs.Common.{◌≡◌, ◌∙◌, Bool, true, false, if◌then◌else◌, refl, ap, sym, subst, List, [], ◌∷◌, ◌++◌, ◌⊎◌, inl, inr}
 use Rattle.std.specs.Bool.{Decides}
 use Rattle.std.specs.Prelude.{◌||◌}

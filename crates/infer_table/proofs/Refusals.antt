@@ -1,4 +1,4 @@
--- How forms end without an answer.
+-- Canonical forms that fail.
 use Rattle.std.proofs.Common.{◌≡◌, ℕ, List, refl, subst, Option, Some}
 use Rattle.type_terms.specs.Promised.Trees.{Trees}
 use Rattle.type_terms.specs.Promised.Handles.{Entry}

@@ -1,4 +1,4 @@
--- The values of a canonical form, put in for its variables, give the trees back.
+-- A canonical form with the values of its variables is the trees it was made from.
 use Rattle.std.proofs.Common.{◌≡◌, zero, suc, Bool, true, false, refl, ap, sym, ◌∙◌, subst, List, [], ◌∷◌, Some, None, is_some, if◌then◌else◌, inl, inr}
 use Rattle.type_terms.specs.Promised.Label.{Label, Sort, canonical}
 use Rattle.type_terms.specs.Promised.Trees.{Trees, none, tree, leaf, ◌+++◌, sort_of, is_sort}

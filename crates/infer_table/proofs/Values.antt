@@ -1,4 +1,4 @@
--- Values in a row: those put in for variables, and those made equal.
+-- Lists of values: those of variables, and those that are equated.
 use Rattle.std.proofs.Common.{◌≡◌, ℕ, zero, suc, Bool, true, false, ◌+◌, ◌<◌, ◌≤◌, List, [], ◌∷◌, ◌++◌, length, take, drop, get_or, min, refl, ap, sym, ◌∙◌, subst, arith, append_assoc, Option, Some, None, if◌then◌else◌, ◌==◌, ◌⊎◌, inl, inr}
 use Rattle.std.specs.Prelude.{unwrap_or, option_map, IfSome}
 use Rattle.std.specs.Option.{option_or}

@@ -1,4 +1,4 @@
--- An answer applied to a table, in terms of an interner's handles: what is put in, what is left, and which solutions go on.
+-- A response applied to a table, in terms of an interner's handles: its values, the new table, and the solutions.
 use Rattle.std.specs.Prelude.{◌≡◌, List, map, Option, option_map}
 use Rattle.type_terms.specs.Promised.Trees.{Trees}
 use Rattle.type_terms.specs.Promised.Handles.{Entry, Keeps}
@@ -19,37 +19,37 @@ use Rattle.infer_table.specs.Covers.{Agrees, AreNumbered, AreKnown, Continues, I
 use Rattle.infer_table.specs.declared.canonical.CanonicalVarKind.{CanonicalVarKind}
 use Rattle.infer_table.specs.declared.response.CanonicalResponse.{CanonicalResponse}
 
--- ---- what is put in, and what is left
--- the value that is known, if one is
+-- ---- the values of the response's variables, and the new table
+-- an argument as a value, if there is one
 abbrev pub known_in : List Entry → Option GenericArgKind → Option Value
 known_in es known = option_map (value_of es) known
 
--- what is put in for the answer's variables
+-- the values of the response's variables
 abbrev pub values_put_in : List Entry → Table → List GenericArgKind → CanonicalResponse → List Value
 values_put_in es t originals r = applied_values (table_trees es t) (values_of es originals) (answer_trees es r)
 
--- the table with the new unknowns among these
+-- the table with the new variables among these values
 abbrev pub with_unknowns_put_in : List Entry → Table → List GenericArgKind → CanonicalResponse → TableTrees
 with_unknowns_put_in es t originals r = applied_table (table_trees es t) (values_of es originals) (answer_trees es r)
 
--- the answer's own values, with these in the place of its variables
+-- the values of the response, over these values of its variables
 abbrev pub answered_values : List Entry → Table → List GenericArgKind → CanonicalResponse → Trees
 answered_values es t originals r = filled_values (values_put_in es t originals r) (args_trees es r.var_values.items)
 
--- and its constraints
+-- the constraints of the response, over these values of its variables
 abbrev pub answered_constraints : List Entry → Table → List GenericArgKind → CanonicalResponse → Trees
 answered_constraints es t originals r = filled_values (values_put_in es t originals r) (constraints_trees es r.region_constraints.items)
 
--- what is left once the values are equal in their places, from the first pair on; none where a pair is refused
+-- the table after two lists of values are equated, pair by pair from the first on, or none if a pair is refused
 abbrev pub equated_in_turn : List Entry → Table → List GenericArgKind → List GenericArgKind → Option TableTrees
 equated_in_turn es t left right = solved_in_turn (table_trees es t) (args_trees es left) (args_trees es right)
 
--- what is left once the answer is applied; none where it is refused
+-- the table after the response is applied, or none if it is refused
 abbrev pub left_by_answer : List Entry → Table → List GenericArgKind → CanonicalResponse → Option TableTrees
 left_by_answer es t originals r = applied (table_trees es t) (values_of es originals) (answer_trees es r)
 
 -- ---- solutions
--- the solutions of `new` are those of the table that make the goal's values equal to the answer's
+-- the solutions of `new` are those of the table that make the goal's values equal to the response's
 abbrev pub EquatesAnswer : List Entry → Table → List GenericArgKind → CanonicalResponse → List Binding → Type 0
 EquatesAnswer es t originals r new = Equates (content es t.values) new (args_trees es originals) (answered_values es t originals r)
 
@@ -57,30 +57,30 @@ EquatesAnswer es t originals r new = Equates (content es t.values) new (args_tre
 abbrev pub RulesOutAnswer : List Entry → Table → List GenericArgKind → CanonicalResponse → Type 0
 RulesOutAnswer es t originals r = HasNoSolution (content es t.values) (args_trees es originals) (answered_values es t originals r)
 
--- the answer agrees with each solution of a table, at these values
+-- the response agrees with each solution of a table at these values
 abbrev pub AgreesWithAll : List Entry → Table → List GenericArgKind → List Entry → CanonicalResponse → Type 0
 AgreesWithAll old t values es r =
     (s : Assignment) → Solves s (content old t.values) → Agrees (args_trees es r.var_values.items) (instance s (args_trees old values))
 
--- where all is well posed, it agrees with none
+-- if goal and response are well posed, the response agrees with no solution
 abbrev pub AgreesWithNone : List Entry → Table → List GenericArgKind → CanonicalResponse → Type 0
 AgreesWithNone es t values r =
     IsWellPosed es t values r → (s : Assignment) → Solves s (content es t.values) → Agrees (args_trees es r.var_values.items) (instance s (args_trees es values)) → ⊥
 
--- where all is well posed, each solution with which it agrees goes on to one of `new`
+-- if goal and response are well posed, each solution with which the response agrees extends to a solution of `new`
 abbrev pub AgreedGoOn : List Entry → Table → List GenericArgKind → CanonicalResponse → List Binding → Type 0
 AgreedGoOn es t values r new =
     IsWellPosed es t values r → (s : Assignment) → Solves s (content es t.values)
     → Agrees (args_trees es r.var_values.items) (instance s (args_trees es values)) → (u : Assignment) × Continues (variables_of t) s u × Solves u new
 
--- an answer with these values agrees with all values of the sorts of these kinds
+-- a response with these values agrees with all values of these kinds
 abbrev pub AgreesWithAllOf : List CanonicalVarKind → Trees → Type 0
 AgreesWithAllOf kinds a =
     (es : List Entry) (s : Assignment) (xs : List GenericArgKind) → Lawful es → ArgsHeld es xs → IsSorted s
     → map sort_of_arg xs ≡ map sort_of_kind kinds → Agrees a (instance s (args_trees es xs))
 
 -- ---- laws
--- each solution with which an answer agrees goes on to one of the table that is left once it is applied
+-- each solution with which a response agrees extends to a solution of the table after the response is applied
 abbrev pub ApplyingKeepsSolutions : Type 0
 ApplyingKeepsSolutions =
     (es : List Entry) (t : Table) (originals : List GenericArgKind) (r : CanonicalResponse) (new : List Binding) (s : Assignment)
@@ -89,7 +89,7 @@ ApplyingKeepsSolutions =
     → Solves s (content es t.values) → Agrees (args_trees es r.var_values.items) (instance s (args_trees es originals))
     → (u : Assignment) × Continues (variables_of t) s u × Solves u new
 
--- an answer that no solution makes equal to the goal's values agrees with none
+-- a response that no solution makes equal to the goal's values agrees with no solution
 abbrev pub RuledOutAgreesWithNone : Type 0
 RuledOutAgreesWithNone =
     (es : List Entry) (t : Table) (originals : List GenericArgKind) (r : CanonicalResponse) (s : Assignment)
@@ -97,7 +97,7 @@ RuledOutAgreesWithNone =
     → AreKnown (variables_of t) (args_trees es originals) → IsOfKnown (variables_of t) (content es t.values) → RulesOutAnswer es t originals r
     → Solves s (content es t.values) → Agrees (args_trees es r.var_values.items) (instance s (args_trees es originals)) → ⊥
 
--- an answer that agrees with each solution of the table that gave it leaves that table's solutions as they are
+-- a response that agrees with each solution of the table it was made from does not change the solutions of that table
 abbrev pub ReturningKeepsSolutions : Type 0
 ReturningKeepsSolutions =
     (before es : List Entry) (t : Table) (values : List GenericArgKind) (r : CanonicalResponse) (new : List Binding)
@@ -106,7 +106,7 @@ ReturningKeepsSolutions =
     → IsOfKnown (variables_of t) (content before t.values) → AgreesWithAll before t values es r → EquatesAnswer es t values r new
     → HaveSameSolutions (variables_of t) (content before t.values) new
 
--- and some solution of the table makes it equal to the values
+-- some solution of the table makes such a response equal to the values
 abbrev pub ReturningIsAccepted : Type 0
 ReturningIsAccepted =
     (before es : List Entry) (t : Table) (values : List GenericArgKind) (r : CanonicalResponse)

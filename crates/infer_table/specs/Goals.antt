@@ -1,4 +1,4 @@
--- What a goal stands for: its where-clauses and its predicate, as trees.
+-- Goals as trees: their where-clauses and predicates.
 use Rattle.std.specs.Prelude.{◌≡◌, ℕ, List, [], ◌∷◌, ◌++◌}
 use Rattle.type_terms.specs.Promised.Label.{Label, of_trait, region_outlives, type_outlives, predicate}
 use Rattle.type_terms.specs.Promised.Trees.{Trees, none, tree, ◌+++◌}
@@ -15,8 +15,8 @@ use Rattle.infer_table.specs.Canonical.{GoalTrees}
 use Rattle.infer_table.specs.Solutions.{Binding, resolved}
 use Rattle.infer_table.specs.declared.goal.Goal.{Goal}
 
--- a where-clause is one node: its label says which of the three it is, and for a trait which trait,
--- and below it stand its terms, the self type first
+-- A where-clause is one node. Its label says which of the three forms it has, and for a trait which trait. Its terms are its
+-- children, the self type first
 abbrev pub clause_label : Clause → Label
 clause_label (Trait p) = predicate (of_trait p.trait_ref.def_id.index)
 clause_label (RegionOutlives a b) = predicate region_outlives
@@ -37,7 +37,7 @@ predicate_trees es p = tree (predicate (of_trait p.trait_ref.def_id.index)) (tre
 abbrev pub goal_trees : List Entry → Goal → GoalTrees
 goal_trees es g = record { environment = environment_trees es g.param_env.items; predicate = predicate_trees es g.predicate }
 
--- ---- the handles are an interner's
+-- ---- the handles are of this interner
 abbrev pub ClausesHeld : List Entry → List Clause → Type 0
 ClausesHeld es [] = Unit {0}
 ClausesHeld es (c ∷ cs) = ClauseHeld es c × ClausesHeld es cs
@@ -49,13 +49,13 @@ pub record GoalHeld (es : List Entry) (g : Goal) : Type 0 where
   pub environment : ClausesHeld es g.param_env.items
   pub predicate : PredicateHeld es g.predicate
 
--- ---- each clause of the second list is the fold of the one in its place
+-- ---- each clause of the second list is the fold of the clause with its index in the first
 abbrev pub ClausesFold : (List ℕ → Trees → Does) → List Entry → List Clause → List Entry → List Clause → Type 0
 ClausesFold f old [] new [] = Unit {0}
 ClausesFold f old (x ∷ xs) new (y ∷ ys) = (clause_outline y ≡ clause_outline x) × FoldsEach f [] (clause_pieces old x) (clause_pieces new y) × ClausesFold f old xs new ys
 ClausesFold f old _ new _ = ⊥
 
--- each part of the second goal is the fold of the one in its place
+-- each part of the second goal is the fold of that part of the first
 pub record GoalFolds (f : List ℕ → Trees → Does) (old : List Entry) (g : Goal) (new : List Entry) (h : Goal) : Type 0 where
   pub environment : ClausesFold f old g.param_env.items new h.param_env.items
   pub def_id : h.predicate.trait_ref.def_id.index ≡ g.predicate.trait_ref.def_id.index
@@ -66,10 +66,10 @@ abbrev pub environment_pieces : List Entry → List Clause → List Piece
 environment_pieces es [] = []
 environment_pieces es (c ∷ cs) = clause_pieces es c ++ environment_pieces es cs
 
--- the terms of the goal: those of the where-clauses, and then the predicate's arguments
+-- the terms of the goal: those of the where-clauses, then the arguments of the predicate
 abbrev pub goal_pieces : List Entry → Goal → List Piece
 goal_pieces es g = environment_pieces es g.param_env.items ++ one_piece (trees_at es g.predicate.trait_ref.args.0)
 
--- the goal with each variable that has a value replaced by it, all the way
+-- the resolved goal
 abbrev pub goal_resolved : List Binding → GoalTrees → GoalTrees
 goal_resolved bs g = record { environment = resolved bs g.environment; predicate = resolved bs g.predicate }

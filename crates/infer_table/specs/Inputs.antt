@@ -1,4 +1,4 @@
--- Canonical goals, and when two are one.
+-- Canonical goals, and when two are equal.
 use Rattle.std.specs.Prelude.{◌≡◌, List, [], map, Some}
 use Rattle.type_terms.specs.Promised.Handles.{Entry}
 use Rattle.infer_table.specs.Canonical.{GoalTrees, CanonicalForm, canonical_form, HasNoCanonical, AreRenamings}
@@ -24,7 +24,7 @@ pub record AreEqual (a b : CanonicalInput) : Type 0 where
   pub predicate : a.goal.predicate ≡ b.goal.predicate
   pub variables : a.variables.items ≡ b.variables.items
 
--- the goal itself, without variables and values
+-- the canonical form is the goal itself, without variables and values
 pub record IsItsOwnForm (m : TypingMode) (g : Goal) (r : Canonicalized) : Type 0 where
   pub mode : r.input.mode ≡ m
   pub environment : r.input.goal.param_env.items ≡ g.param_env.items
@@ -32,11 +32,11 @@ pub record IsItsOwnForm (m : TypingMode) (g : Goal) (r : Canonicalized) : Type 0
   pub variables : r.input.variables.items ≡ []
   pub values : r.values.items ≡ []
 
--- no canonical variable stands in the goal
+-- no canonical variable occurs in the goal
 pub record IsWithoutCanonical (g : GoalTrees) : Type 0 where
   pub environment : HasNoCanonical g.environment
   pub predicate : HasNoCanonical g.predicate
 
--- the goals are asked in one mode, and a renaming carries the one to the other
+-- the goals have the same mode, and a renaming maps one to the other
 abbrev pub IsOneQuestion : TypingMode → GoalTrees → TypingMode → GoalTrees → Type 0
 IsOneQuestion m g n h = (m ≡ n) × AreRenamings g h

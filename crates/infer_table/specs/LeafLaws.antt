@@ -1,4 +1,4 @@
--- What collecting and numbering keep to, as the traits of folders and visitors ask.
+-- The laws of the traits of visitors and folders, for the collector and the numbering of leaves.
 use Rattle.std.specs.Prelude.{◌≡◌, ℕ, Bool, true, false, List, [], ◌∷◌, is_some, if◌then◌else◌, ◌&&◌, refl, None}
 use Rattle.std.proofs.Common.{ap, sym, ◌∙◌}
 use Rattle.type_terms.specs.Promised.Label.{Label, principal, auto_trait}
@@ -15,11 +15,11 @@ use Rattle.type_terms.specs.Pieces.{Piece}
 use Rattle.infer_table.specs.declared.canonicalizer.LeafCollector.{LeafCollector}
 use Rattle.infer_table.specs.Leaves.{open_kinds, root_label, leaf_label, labels, IsLeaf, AreLeaves, Collects, is_closed_by, is_type_label, numbering}
 
--- how a collector answers
+-- the response of a collector at a node
 abbrev pub Collecting : List Entry → Trees → LeafCollector → LeafCollector → Seen Fault → Type 0
 Collecting es t v w a = (w.in_clause ≡ v.in_clause) × Collects (open_kinds v.in_clause) t (labels es v.leaves.keys) (labels es w.leaves.keys) a
 
--- a value was visited by a collector, to its end
+-- a collector visited a value completely
 abbrev pub CollectsEach : List Entry → List Piece → LeafCollector → LeafCollector → Type 0
 CollectsEach es ps v w = VisitsEach (λ bs t v w a. Collecting es t v w a) [] ps v w None
 

@@ -1,4 +1,4 @@
--- Open leaves as handles, and how they are collected and numbered.
+-- Open leaves as handles, their collection and their numbering.
 use Rattle.std.specs.Prelude.{◌≡◌, ℕ, Bool, true, false, List, [], ◌∷◌, map, is_some, IsSome, if◌then◌else◌, ◌==◌, ◌&&◌, bit_and}
 use Rattle.type_terms.specs.Promised.Label.{Label, of_type, never, principal, auto_trait, predicate}
 use Rattle.type_terms.specs.Promised.Trees.{Trees, none, tree, leaf, sort_of, is_sort}
@@ -14,7 +14,7 @@ use Rattle.term_folds.specs.Folds.{Does, enters, puts}
 use Rattle.infer_table.specs.Canonical.{GoalTrees, OpenKinds, kind_of_leaf, kind_in_clause, with_label, leaves, canonical_label, relabeled}
 use Rattle.infer_table.specs.declared.canonicalizer.TheConstants.{CLAUSE_FLAGS, OPEN_FLAGS}
 
--- what is open in a where-clause, and what outside
+-- the open kinds in a where-clause, and outside
 abbrev pub open_kinds : Bool → OpenKinds
 open_kinds true = kind_in_clause
 open_kinds false = kind_of_leaf
@@ -37,7 +37,7 @@ abbrev pub AreLeaves : List Entry → List GenericArgKind → Type 0
 AreLeaves es [] = Unit {0}
 AreLeaves es (a ∷ rest) = IsLeaf es a × AreLeaves es rest
 
--- a leaf is listed; or memory is refused, and none is listed
+-- a leaf is listed, or memory is refused and the list does not change
 abbrev pub Adds : List Label → Label → List Label → Seen Fault → Type 0
 Adds before l after Enter = after ≡ with_label l before
 Adds before l after (Break f) = (f ≡ Memory) × (after ≡ before)
@@ -48,7 +48,7 @@ abbrev pub AreOpen : List Label → Type 0
 AreOpen [] = Unit {0}
 AreOpen (l ∷ ls) = IsSome (kind_of_leaf l) × AreOpen ls
 
--- the labels seen and the root's, if it is open
+-- the labels `seen`, and the root's label if it is open
 abbrev pub with_root : OpenKinds → List Label → Trees → List Label
 with_root kind seen none = seen
 with_root kind seen (tree l c o) = if is_some (kind l) then with_label l seen else seen
@@ -67,13 +67,13 @@ abbrev pub RootIsLeaf : OpenKinds → Trees → Type 0
 RootIsLeaf kind none = Unit {0}
 RootIsLeaf kind (tree l c o) = IsSome (kind l) → c ≡ none
 
--- how a collector answers at a node, where it had the leaves `before` and has the leaves `after`: it breaks for want of memory alone
+-- the response of a collector at a node, if its leaves change from `before` to `after`. It breaks only if memory is refused
 abbrev pub Collects : OpenKinds → Trees → List Label → List Label → Seen Fault → Type 0
 Collects kind t before after (Break f) = (f ≡ Memory) × (after ≡ before)
 Collects kind t before after Enter = (after ≡ with_root kind before t) × RootIsLeaf kind t
 Collects kind t before after Pass = (after ≡ leaves kind before t) × OpenAreLeaves kind t
 
--- the flags of what is open in a where-clause, and outside
+-- the flags of terms with open leaves in a where-clause, and outside
 abbrev pub open_flags : Bool → ℕ
 open_flags true = CLAUSE_FLAGS
 open_flags false = OPEN_FLAGS
@@ -81,7 +81,7 @@ open_flags false = OPEN_FLAGS
 abbrev pub are_closed_flags : Bool → ℕ → Bool
 are_closed_flags b f = bit_and f (open_flags b) == 0
 
--- nothing open stands in the trees
+-- no open leaf occurs in the trees, by their flags
 abbrev pub is_closed_by : Bool → Trees → Bool
 is_closed_by b t = are_closed_flags b (flags t)
 
@@ -95,7 +95,7 @@ is_type_label (auto_trait i) = false
 is_type_label (predicate k) = false
 is_type_label l = is_sort (sort_of l) of_type
 
--- what a numbering folder does: a leaf becomes its canonical variable, and a type without open leaves stays
+-- what the folder of numbers does at a node. It replaces a leaf by its canonical variable, and a type without open leaves by itself
 abbrev pub numbering : Bool → List Label → List ℕ → Trees → Does
 numbering b ls bs none = enters
 numbering b ls bs (tree l c o) =

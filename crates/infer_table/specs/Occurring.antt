@@ -1,4 +1,4 @@
--- The search for a variable in a term: what it still has to look at, and what that says of the whole.
+-- The occurs check: its worklist, and what that says of the whole term.
 use Rattle.std.specs.Prelude.{◌≡◌, ◌⊎◌, ◌+◌, ◌<◌, ◌≤◌, ℕ, List, [], ◌∷◌, ◌++◌, true, false, nat_eq}
 use Rattle.std.specs.HashSet.{contains}
 use Rattle.type_terms.specs.Promised.Label.{of_type}
@@ -9,7 +9,7 @@ use Rattle.type_terms.specs.declared.entered.Entered.{Entered}
 use Rattle.infer_table.specs.Solutions.{Binding, resolved, occurs, size}
 use Rattle.infer_table.specs.Content.{IsProper}
 
--- the variable does not stand in the term, once that is resolved, and each variable of the term is a leaf
+-- the variable does not occur in the resolved term, and each variable of the term is a leaf
 abbrev pub IsWithout : List Binding → ℕ → Trees → Type 0
 IsWithout bs v t = (occurs of_type v (resolved bs t) ≡ false) × IsProper t
 
@@ -21,17 +21,17 @@ abbrev pub AreWithout : List Entry → List Binding → ℕ → List Ty → Type
 AreWithout es bs v [] = Unit {0}
 AreWithout es bs v (x ∷ xs) = IsWithout bs v (trees_at es x.0) × AreWithout es bs v xs
 
--- where the variable stands in one of the types, it stands in the term
+-- if the variable occurs in one of the types, it occurs in the term
 abbrev pub StandIn : List Entry → List Binding → ℕ → Trees → List Ty → Type 0
 StandIn es bs v t [] = Unit {0}
 StandIn es bs v t (x ∷ xs) = (occurs of_type v (resolved bs (trees_at es x.0)) ≡ true → occurs of_type v (resolved bs t) ≡ true) × StandIn es bs v t xs
 
--- the nodes of all of them, once they are resolved
+-- the number of nodes of all types, once these are resolved
 abbrev pub weight : List Entry → List Binding → List Ty → ℕ
 weight es bs [] = 0
 weight es bs (x ∷ xs) = size (resolved bs (trees_at es x.0)) + weight es bs xs
 
--- types of a term were put behind those that were listed: without the variable in them there is none in the term
+-- types of a term were appended to the list. If the variable does not occur in them, it does not occur in the term
 pub record Pushes (es : List Entry) (bs : List Binding) (v : ℕ) (t : Trees) (old new : List Ty) : Type 0 where
   pub pushed : List Ty
   pub is : new ≡ old ++ pushed
@@ -40,7 +40,7 @@ pub record Pushes (es : List Entry) (bs : List Binding) (v : ℕ) (t : Trees) (o
   pub lighter : weight es bs pushed ≤ size (resolved bs t)
   pub without : AreWithout es bs v pushed → IsWithout bs v t
 
--- a type was looked at: it had been before, or types that stand in it were put behind those that were listed
+-- a type was visited. It was visited before, or its types were appended to the list
 pub record LooksAt (es : List Entry) (bs : List Binding) (v : ℕ) (x : Ty) (before after : Entered) (old new : List Ty) : Type 0 where
   pub pushed : List Ty
   pub is : new ≡ old ++ pushed

@@ -1,4 +1,4 @@
--- A binder opened_binder: variables in the place of the lifetimes that it binds.
+-- Opened binders: the lifetimes of a binder are replaced by variables.
 -- `for<'a> fn(&'a u8, for<'b> fn(&'a u8, &'b u8))` opens to `fn(&'?0 u8, for<'b> fn(&'?0 u8, &'b u8))`.
 use Rattle.std.specs.Prelude.{◌≡◌, ℕ, ◌+◌, List, length, cond, ltb, ◌&&◌, ◌==◌, Bool, true, false, refl}
 use Rattle.std.proofs.Common.{ap}
@@ -8,21 +8,21 @@ use Rattle.type_terms.specs.Trees.{outer_binder}
 use Rattle.term_folds.specs.Folds.{Does, enters, puts, again}
 use Rattle.type_terms.specs.Visits.{IsBound}
 
--- lifetime v of the k-th binder around it is one of the n that the opened_binder binder binds, where d binders are inside that one
+-- lifetime v of the k-th binder is one of the n lifetimes of the opened binder, if d binders are inside that one
 abbrev pub is_opened : ℕ → ℕ → ℕ → ℕ → Bool
 is_opened n d k v = (k == d) && ltb v n
 
--- it becomes the variable first + v
+-- such a lifetime becomes the variable first + v
 abbrev pub opened_label : ℕ → ℕ → ℕ → ℕ → ℕ → Label
 opened_label first n d k v = cond (is_opened n d k v) (infer of_lifetime (first + v)) (bound of_lifetime k v)
 
--- the value of a binder of n lifetimes with the variables from `first` on in their place, below d binders of the value
+-- the value of a binder of n lifetimes with these replaced by the variables from `first` on, below d binders of the value
 abbrev pub opened_binder : ℕ → ℕ → ℕ → Trees → Trees
 opened_binder first n d none = none
 opened_binder first n d (tree (bound of_lifetime k v) none o) = tree (opened_label first n d k v) none (opened_binder first n d o)
 opened_binder first n d (tree l c o) = tree l (opened_binder first n (inside l d) c) (opened_binder first n d o)
 
--- what the folder does: a type that no binder number leads out of stays
+-- what the folder that opens a binder does at a node. It replaces a type without escaping bound variables by itself
 abbrev pub opening : ℕ → ℕ → List ℕ → Trees → Does
 opening first n bs none = enters
 opening first n bs (tree (principal m i) c o) = enters
@@ -36,7 +36,7 @@ opening-bounds first n bs (tree (auto_trait i) c o) h = refl
 opening-bounds first n bs none h = refl
 opening-bounds first n bs (tree l c o) h = absurd h
 
--- the number of binders decides, whatever they bind
+-- it depends on the number of binders, not on how many lifetimes each binds
 pub opening-by-depth : (first n : ℕ) (bs cs : List ℕ) (t : Trees) → length bs ≡ length cs → opening first n bs t ≡ opening first n cs t
 opening-by-depth first n bs cs none e = refl
 opening-by-depth first n bs cs (tree (principal m i) c o) e = refl

@@ -1,4 +1,4 @@
--- Variables that stand for themselves.
+-- Canonical variables as their own values.
 use Rattle.std.specs.Prelude.{◌≡◌, ℕ, ◌+◌, List, [], ◌∷◌, ◌⊎◌}
 use Rattle.type_terms.specs.Promised.Label.{Sort, of_type, of_const, of_lifetime, canonical}
 use Rattle.type_terms.specs.Promised.Trees.{leaf}

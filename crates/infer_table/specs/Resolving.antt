@@ -1,4 +1,4 @@
--- The fold that puts their values in the place of variables.
+-- The fold that replaces variables by their values.
 use Rattle.std.specs.Prelude.{◌≡◌, ℕ, ◌+◌, suc, List, [], ◌∷◌, cond, ◌==◌, Bool, true, false, if◌then◌else◌, bit_and, refl}
 use Rattle.std.proofs.Common.{arith, sym, subst, ◌<◌, ◌≤◌}
 use Rattle.type_terms.specs.Promised.Label.{Label, Sort, of_type, of_const, of_lifetime, infer, principal, auto_trait}
@@ -16,21 +16,21 @@ abbrev pub is_root : Binding → Trees → Bool
 is_root b (tree (infer k v) none none) = is_same_variable b.sort b.var k v
 is_root b t = false
 
--- a variable with a value, followed as far as values are variables with values; any other term is itself
+-- the end of the chain of values of a variable. Any other term is itself
 abbrev pub followed : List Binding → Trees → Trees
 followed [] t = t
 followed (b ∷ older) t = if is_root b (followed older t) then followed older b.value else followed older t
 
--- a variable
+-- the term is a variable
 abbrev pub is_open_leaf : Trees → Bool
 is_open_leaf (tree (infer k v) c o) = true
 is_open_leaf t = false
 
--- no variable stands in the term: none of its flags is in `HAS_INFER`
+-- no variable occurs in the term: none of its flags is in `HAS_INFER`
 abbrev pub has_no_unknown : Trees → Bool
 has_no_unknown t = bit_and (flags t) 546 == 0
 
--- what the folder does: a variable leads to its value, which is resolved in turn; a type without unknowns stays
+-- what the folder of resolution does at a node. It replaces a variable by the fold of its value, and a type without variables by itself
 abbrev pub resolves : List Binding → List ℕ → Trees → Does
 resolves bs ds none = enters
 resolves bs ds (tree (principal n i) c o) = enters
@@ -46,7 +46,7 @@ resolves-bounds bs ds (tree (auto_trait i) c o) h = refl
 resolves-bounds bs ds none h = refl
 resolves-bounds bs ds (tree l c o) h = absurd h
 
--- binders do not matter to it
+-- it does not depend on binders
 pub resolves-by-depth : (bs : List Binding) (ds es : List ℕ) (t : Trees) → resolves bs ds t ≡ resolves bs es t
 resolves-by-depth bs ds es none = refl
 resolves-by-depth bs ds es (tree (principal n i) c o) = refl
@@ -61,7 +61,7 @@ resolves-by-depth bs ds es (tree (infer k v) c o) = by k c
     by of_const (tree l d p) = refl
 resolves-by-depth bs ds es (tree l c o) = refl
 
--- what is left to resolve
+-- the fuel of the folder
 abbrev pub to_resolve : List Binding → Trees → ℕ
 to_resolve bs none = 0
 to_resolve bs (tree (infer k v) c o) = size (resolved bs (leaf (infer k v))) + size (resolved bs (leaf (infer k v))) + to_resolve bs c + to_resolve bs o
@@ -81,12 +81,12 @@ pub below-node : (bs : List Binding) (l : Label) (c : Trees) → to_resolve bs c
 below-node bs (infer k v) c = omega arith
 below-node bs l c = omega arith
 
--- the resolver's table is sound, and its values have less to resolve than their variables
+-- the invariant of the folder's table holds, and each value has less fuel than its variable
 pub record IsResolver (es : List Entry) (t : Table) : Type 0 where
   pub ready : Ready es t
   pub falls : (ds : List ℕ) (x s : Trees) → resolves (content es t.values) ds x ≡ again s → to_resolve (content es t.values) s < to_resolve (content es t.values) x
 
--- it stays so while the interner grows
+-- this is preserved as the interner grows
 pub resolver-later : (old new : List Entry) (t : Table) → Keeps old new → IsResolver old t → IsResolver new t
 resolver-later old new t k h = record {
   ready = ready-later old new t k h.ready;

@@ -1,4 +1,4 @@
--- Values put in for canonical variables.
+-- The replacement of canonical variables by values.
 use Rattle.std.specs.Prelude.{◌≡◌, ℕ, Bool, true, false, List, [], ◌∷◌, map, Option, Some, None, if◌then◌else◌, ◌==◌, ◌&&◌, bit_and, refl}
 use Rattle.std.specs.List.{slice_get}
 use Rattle.std.proofs.Common.{ap}
@@ -16,7 +16,7 @@ use Rattle.infer_table.specs.Canonical.{GoalTrees}
 use Rattle.infer_table.specs.Leaves.{is_type_label}
 use Rattle.infer_table.specs.declared.instantiate.TheConstants.{BOUND_FLAGS}
 
--- a value: what it is, and its tree
+-- a value: its kind and its tree
 pub record Value : Type 0 where
   pub sort : Sort
   pub trees : Trees
@@ -36,12 +36,12 @@ abbrev pub if_of_sort : Sort → Option Value → Option Trees
 if_of_sort s None = None
 if_of_sort s (Some v) = if is_sort v.sort s then Some v.trees else None
 
--- the value of a canonical variable, if there is one of its sort
+-- the value of a canonical variable, if there is one of its kind
 abbrev pub value_for : List Value → Label → Option Trees
 value_for vs (canonical s i) = if_of_sort s (slice_get vs i)
 value_for vs l = None
 
--- the trees with the values in the place of canonical variables; one without a value stays
+-- the trees with each canonical variable replaced by its value, if it has one
 abbrev pub filled_values : List Value → Trees → Trees
 filled_values vs none = none
 filled_values vs (tree l c o) = placed (value_for vs l) (tree l (filled_values vs c) none) +++ filled_values vs o
@@ -49,19 +49,19 @@ filled_values vs (tree l c o) = placed (value_for vs l) (tree l (filled_values v
 abbrev pub goal_filled : List Value → GoalTrees → GoalTrees
 goal_filled vs g = record { environment = filled_values vs g.environment; predicate = filled_values vs g.predicate }
 
--- ---- what the folder does
+-- ---- the folder
 abbrev pub put_if_there : Option Trees → Does
 put_if_there None = enters
 put_if_there (Some t) = puts t
 
--- no bound variable stands in trees with these flags, canonical or not
+-- trees with these flags have no bound variable. Canonical variables are bound variables
 abbrev pub are_unbound_flags : ℕ → Bool
 are_unbound_flags f = bit_and f BOUND_FLAGS == 0
 
 abbrev pub is_unbound : Trees → Bool
 is_unbound t = are_unbound_flags (flags t)
 
--- a type without bound variables stays
+-- what the folder of values does at a node. It replaces a type without bound variables by itself
 abbrev pub filling : List Value → Trees → Does
 filling vs none = enters
 filling vs (tree l c o) = if is_type_label l && is_unbound (tree l c none) then puts (tree l c none) else put_if_there (value_for vs l)

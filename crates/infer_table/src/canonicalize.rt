@@ -1,4 +1,4 @@
-//! Answers put into canonical form.
+//! The canonical form of a response.
 ghost use Rattle.type_terms.specs.Growth.{GrewOrFull};
 ghost use Rattle.std.specs.Prelude.{◌≡◌, ℕ, List, [], IfOk, IfErr, map, Some};
 ghost use Rattle.type_terms.specs.Promised.Trees.{◌+++◌};
@@ -29,7 +29,7 @@ use type_terms::Fault;
 use type_terms::interner::Interner;
 use type_terms::kinds::{GenericArgKind, GenericArgs};
 
-/// The open leaves of the values and then of the constraints, each once, by first occurrence.
+/// The open leaves of the values and then of the constraints, each once, in order of first occurrence.
 fn collect_leaves(
     alloc: Global,
     cx: &Interner,
@@ -55,16 +55,15 @@ fn collect_leaves(
     Ok(collector)
 }
 
-/// The answer that a table gives to a goal, in canonical form: what it says of the goal's values, and what it recorded
-/// of lifetimes.
+/// The canonical response for a goal: the values of its variables and the recorded constraints on lifetimes.
 ///
-/// The values are those of the goal's variables. With the values of the table's variables put in, they and then the
-/// recorded constraints are numbered: each unknown, parameter, placeholder and lifetime by first occurrence, `'static`
-/// as any other lifetime. So two answers are equal exactly if a renaming carries the one to the other.
-/// An answer whose certainty is an overflow is to say nothing of values or lifetimes: for it `response_no_constraints_raw`
-/// is asked, over the variables of the goal. `Full` comes only where some kind of term has reached its limit,
-/// `Memory` where memory is refused or there are as many leaves as numbers for them. `make_canonical_response` with
-/// `canonicalize_response` of the original.
+/// `values` are the values of the variables of the canonical goal. They and the constraints are resolved by the table.
+/// Then each inference variable, parameter, placeholder and lifetime in them is numbered by first occurrence. `'static` is
+/// numbered like any other lifetime. So two responses are equal exactly if a renaming maps one to the other.
+///
+/// A response whose certainty is an overflow must not constrain anything. Use `response_no_constraints_raw` for it.
+/// The call also fails with `Memory` if there are more leaves than numbers. rustc's `make_canonical_response` with
+/// `canonicalize_response`.
 pub fn canonicalize_response(
     alloc: Global,
     cx: &mut Interner,
@@ -78,21 +77,21 @@ pub fn canonicalize_response(
     ensures certainty { IfOk result (λ r. r.certainty ≡ certainty) }
     ensures held { IfOk result (λ r. ResponseHeld cx.new.entries r) }
 
-    // The form is that of the resolved values and constraints.
+    // The form is the canonical form of the resolved values and constraints.
     ensures form { IfOk result (λ r. response_form cx.new.entries r ≡ canonical_form (as_goal (answer_given cx.old.entries table.now values.now))) }
 
-    // Its values are the resolved values and its constraints the resolved constraints, numbered.
+    // The values and constraints of the response are the resolved ones, numbered.
     ensures values { IfOk result (λ r. args_trees cx.new.entries r.var_values.items ≡ numbered_values cx.old.entries table.now values.now) }
     ensures constraints { IfOk result (λ r. constraints_trees cx.new.entries r.region_constraints.items
         ≡ numbered_constraints cx.old.entries table.now values.now) }
 
-    // The answer agrees with each solution of the table, and its variables are of its kinds.
+    // The response agrees with each solution of the table, and its variables are of its kinds.
     ensures agrees { IfOk result (λ r. HasNoCanonical (values_resolved cx.old.entries table.now values.now)
         → AgreesWithAll cx.old.entries table.now values.now cx.new.entries r) }
     ensures numbered { IfOk result (λ r. HasNoCanonical (values_resolved cx.old.entries table.now values.now)
         → AreNumbered r.variables.items (args_trees cx.new.entries r.var_values.items)) }
 
-// A full table names the error only where some kind of term has reached its limit.
+// `Full` is returned only if some kind of term has reached its limit.
 {
     let given = cx.mk_args(Vec::from_slice(alloc, values)?)?;
     let resolved = table.eager_resolve_vars(cx, given)?;

@@ -1,4 +1,4 @@
-//! Open leaves collected and numbered.
+//! Open leaves: how they are collected and numbered.
 ghost use Rattle.std.specs.Prelude.{◌≡◌, ◌≤◌, ℕ, Bool, true, List, length, IfOk, IfErr, OnErr, is_some};
 ghost use Rattle.infer_table.specs.LeafLaws.{CollectsEach};
 ghost use Rattle.type_terms.specs.Promised.Label.{of_const};
@@ -24,15 +24,15 @@ use type_terms::visit::{Seen, TypeVisitor};
 use type_terms::visitable::TypeVisitable;
 use type_terms::{Fault, MAX_INDEX};
 
-/// The flags of what is open in a where-clause.
+/// The flags of terms with open leaves in a where-clause.
 pub const CLAUSE_FLAGS: u32 = TypeFlags::HAS_PARAM.0
     | TypeFlags::HAS_INFER.0
     | TypeFlags::HAS_PLACEHOLDER.0;
 
-/// The flags of what is open outside where-clauses: `'static` too. `NEEDS_CANONICAL` of the original.
+/// The flags of terms with open leaves outside where-clauses, where `'static` is open too. rustc's `NEEDS_CANONICAL`.
 pub const OPEN_FLAGS: u32 = CLAUSE_FLAGS | TypeFlags::HAS_RE_STATIC.0;
 
-/// Nothing open stands in terms with these flags, below binders neither: one look, however large they are.
+/// Whether terms with these flags have no open leaf, also below binders.
 pub(crate) fn is_closed(flags: TypeFlags, in_clause: bool) -> bool
     ensures { result ≡ are_closed_flags in_clause flags.0 }
 {
@@ -40,7 +40,7 @@ pub(crate) fn is_closed(flags: TypeFlags, in_clause: bool) -> bool
     flags.0 & open == 0
 }
 
-/// The type is an unknown, a parameter or a placeholder.
+/// Whether the type is an inference variable, a parameter or a placeholder.
 fn is_open_ty(cx: &Interner, ty: Ty) -> bool
     requires { Has cx.now.entries types ty.0 }
     ensures open { (in_clause : Bool) → is_some (open_kinds in_clause (leaf_label cx.now.entries (GenericArgKind.Ty ty))) ≡ result }
@@ -55,7 +55,7 @@ fn is_open_ty(cx: &Interner, ty: Ty) -> bool
     }
 }
 
-/// The constant is an unknown, a parameter or a placeholder.
+/// Whether the constant is an inference variable, a parameter or a placeholder.
 fn is_open_const(cx: &Interner, ct: Const) -> bool
     requires { Has cx.now.entries consts ct.0 }
     ensures open { (in_clause : Bool) → is_some (open_kinds in_clause (leaf_label cx.now.entries (GenericArgKind.Const ct))) ≡ result }
@@ -70,7 +70,7 @@ fn is_open_const(cx: &Interner, ct: Const) -> bool
     }
 }
 
-/// The lifetime is one that no binder binds, and in a where-clause not `'static`.
+/// Whether no binder binds the lifetime, and it is not the `'static` of a where-clause.
 fn is_open_region(region: Region, in_clause: bool) -> bool
     ensures { is_some (open_kinds in_clause (region_label region.kind)) ≡ result }
 {
@@ -81,14 +81,14 @@ fn is_open_region(region: Region, in_clause: bool) -> bool
     }
 }
 
-/// Lists the open leaves that a visit meets, each once.
+/// A visitor that lists open leaves, each once.
 pub struct LeafCollector {
     pub leaves: IndexSet<GenericArgKind>,
-    /// Whether a where-clause is visited, in which `'static` is not open.
+    /// Whether a where-clause is visited. In one, `'static` is not open.
     pub in_clause: bool,
 }
 
-// Written, so that what owns one drops it by one call at each way out, and not field by field.
+// Written by hand, so that an owner drops it by one call instead of field by field.
 impl Drop for LeafCollector {
     fn drop(self) {
         let LeafCollector {
@@ -99,9 +99,7 @@ impl Drop for LeafCollector {
 }
 
 impl LeafCollector {
-    /// Lists the open leaves of a value behind those that are listed. A type that stands in many places is entered once.
-    ///
-    /// Its only fault is `Memory`.
+    /// Lists the open leaves of a value after those that are listed. A type that occurs many times is entered once.
     pub(crate) fn collect<T: TypeVisitable>(
         self,
         alloc: Global,
@@ -127,7 +125,7 @@ impl LeafCollector {
         }
     }
 
-    /// One more open leaf, if it is not listed.
+    /// Lists an open leaf, unless it is listed.
     fn add(&mut self, cx: &Interner, leaf: GenericArgKind) -> Seen<Fault>
         requires listed { AreLeaves cx.now.entries self.old.leaves.keys }
         requires leaf { IsLeaf cx.now.entries leaf }
@@ -182,13 +180,11 @@ impl TypeVisitor for LeafCollector {
     }
 }
 
-/// Puts canonical variables in the place of the listed leaves, each by its place in the list.
-///
-/// `Canonicalizer` of the original's solver.
+/// A folder that replaces each listed leaf by the canonical variable of its index in the list. rustc's `Canonicalizer`.
 #[derive(Clone, Copy)]
 pub struct Canonicalizer<'a> {
     pub leaves: &'a IndexSet<GenericArgKind>,
-    /// Whether a where-clause is folded, in which `'static` is not open.
+    /// Whether a where-clause is folded. In one, `'static` is not open.
     pub in_clause: bool,
 }
 

@@ -1,4 +1,4 @@
-//! What goals are made of, and how they are answered.
+//! Certainties of results, errors, and modes of goals.
 ghost use Rattle.std.specs.Prelude.{◌≡◌};
 ghost use Rattle.infer_table.specs.declared.certainty.EqError.TheVariants as error;
 ghost use Rattle.type_terms.specs.declared.Fault.TheVariants.{Memory};
@@ -6,18 +6,18 @@ ghost use Rattle.type_terms.specs.declared.Fault.TheVariants.{Memory};
 use std::alloc::{AllocError, AllocFailed};
 use type_terms::Fault;
 
-/// A goal or an equation has no solution (`rustc_type_ir::solve::NoSolution`).
+/// A goal or an equation has no solution. rustc's `NoSolution`.
 #[derive(Clone, Copy, PartialEq, Eq, Debug, thiserror::Error)]
 #[error("there is no solution")]
 pub struct NoSolution;
 
-/// Why an equation was refused.
+/// Why an equation failed.
 #[derive(Clone, Copy, Debug, PartialEq, Eq, thiserror::Error)]
 pub enum EqError {
-    /// Nothing that is put in for the variables makes the two sides equal.
+    /// No values of the variables make the two sides equal.
     #[error("there is no solution")]
     NoSolution,
-    /// There is no answer.
+    /// Memory was refused, or a table is full. Whether there is a solution is not known.
     #[error("{0}")]
     Fault(Fault),
 }
@@ -46,28 +46,28 @@ impl<T: Drop> From<AllocFailed<T>> for EqError {
     }
 }
 
-/// How sure it is that a goal holds (`rustc_type_ir::solve::Certainty`).
+/// How certain it is that a goal holds. rustc's `Certainty`.
 #[derive(Clone, Copy, PartialEq, Eq, Hash)]
 pub enum Certainty {
-    /// It holds.
+    /// The goal holds.
     Yes,
-    /// It may hold.
+    /// The goal may hold.
     Maybe(MaybeCause),
 }
 
-/// Why it is not known whether a goal holds (`rustc_type_ir::solve::MaybeCause`).
+/// Why the solver cannot decide a goal. rustc's `MaybeCause`.
 #[derive(Clone, Copy, PartialEq, Eq, Hash)]
 pub enum MaybeCause {
-    /// There is not one way to prove it, or its unknowns leave it open.
+    /// Several candidates may apply, or an inference variable leaves the goal open.
     Ambiguity,
-    /// The search met a limit.
+    /// The search reached a limit.
     Overflow,
 }
 
 impl MaybeCause {
     ghost use Rattle.infer_table.specs.Certainties.{joined_cause};
 
-    /// The cause of two doubtful answers together: an overflow if one of them is.
+    /// The cause of two uncertain results together. It is an overflow if one of them is.
     pub fn or(self, other: MaybeCause) -> MaybeCause
         ensures { result ≡ joined_cause self other }
     {
@@ -81,7 +81,7 @@ impl MaybeCause {
 impl Certainty {
     ghost use Rattle.infer_table.specs.Certainties.{joined};
 
-    /// Two answers together: yes if both are.
+    /// The certainty of two results together. It is yes if both are.
     pub fn and(self, other: Certainty) -> Certainty
         ensures { result ≡ joined self other }
     {
@@ -95,12 +95,12 @@ impl Certainty {
     }
 }
 
-/// How goals are read (`rustc_type_ir::TypingMode`).
+/// For which crates a goal is evaluated. rustc's `TypingMode`.
 #[derive(Clone, Copy, PartialEq, Eq, Hash)]
 pub enum TypingMode {
-    /// Whether two impls can apply to one type, also in crates that are not seen: an answer has to hold in every set of crates
-    /// that can be linked with this one.
+    /// For overlap checks. A result must hold in every set of crates that can be linked with this one, so also in crates that
+    /// are not visible.
     Coherence,
-    /// What holds in the crates that are seen.
+    /// A result holds in the visible crates.
     PostAnalysis,
 }

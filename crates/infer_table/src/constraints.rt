@@ -1,4 +1,4 @@
-//! Lists of constraints on lifetimes, resolved and folded.
+//! Resolution and folds of lists of constraints on lifetimes.
 ghost use Rattle.type_terms.specs.Growth.{Grew, GrewOrFull};
 ghost use Rattle.std.specs.Prelude.{◌≡◌, ℕ, List, [], ◌∷◌, ◌++◌, IfOk, OnOk, OnErr, Err, ◌⊎◌};
 ghost use Rattle.type_terms.specs.Promised.Handles.{SomeKindIsFull};
@@ -15,7 +15,7 @@ use term_folds::folder::TypeFolder;
 use type_terms::Fault;
 use type_terms::interner::Interner;
 
-/// The constraints with the values of variables in their place.
+/// The constraints, resolved by the table.
 pub(crate) fn resolve_constraints(
     alloc: Global,
     cx: &mut Interner,

@@ -26,9 +26,9 @@ use type_terms::kinds::{ConstKind, GenericArgKind, TyKind};
 use type_terms::visitable::TypeVisitable;
 use type_terms::visitable_ext::TypeVisitableExt;
 
-/// A goal in canonical form: what is asked of the search, and the key under which the answer is kept.
+/// A canonical goal. It is the input of the search, and the key under which the result is cached.
 ///
-/// `CanonicalInput` of `rustc_type_ir`. Variable i of the form stands for a leaf of the kind `variables[i]`.
+/// rustc's `CanonicalInput`. Canonical variable i replaces a leaf of the kind `variables[i]`.
 #[derive(PartialEq, Eq, Hash, Drop)]
 pub struct CanonicalInput {
     pub mode: TypingMode,
@@ -52,11 +52,11 @@ impl Clone for CanonicalInput {
     }
 }
 
-/// Whether two canonical goals are one question: whether they are equal.
+/// Whether two canonical goals are equal.
 ///
-/// They are exactly if they are asked in one mode and a renaming carries one of the goals that they were made of
-/// to the other: a one-to-one map of unknowns, of parameters and placeholders, and of lifetimes. So answers are
-/// kept under canonical goals.
+/// They are equal exactly if they have the same mode and a renaming maps one of the original goals to the other. A
+/// renaming maps inference variables, parameters with placeholders, and lifetimes, each one-to-one. So results can be
+/// cached by canonical goal.
 pub fn is_same_question(cx: &Interner, left: &CanonicalInput, right: &CanonicalInput) -> bool
     ensures equal { IsTrue result ↔ AreEqual left.now right.now }
     ensures renaming { TellsQuestions cx.now.entries left.now right.now result }
@@ -65,23 +65,21 @@ pub fn is_same_question(cx: &Interner, left: &CanonicalInput, right: &CanonicalI
     left == right
 }
 
-/// A goal in canonical form, with the leaves that its variables stand for.
+/// A canonical goal with the leaves that its variables replace.
 #[derive(Drop)]
 pub struct Canonicalized {
     pub input: CanonicalInput,
     pub values: Vec<GenericArgKind>,
 }
 
-/// The goal, resolved, in canonical form: each unknown, parameter, placeholder and lifetime numbered by first occurrence.
+/// The canonical form of the resolved goal. rustc's `Canonicalizer::canonicalize_input`.
 ///
-/// `(?7, ?9, ?7): Show` and `(?3, ?4, ?3): Show` both give `(^0, ^1, ^0): Show`, and so does `(?7, ?9, ?8): Show`
-/// where ?8 stands for ?7. A parameter and a placeholder are one kind, and so are all lifetimes; `'static` is
-/// numbered too, but not in where-clauses. `Full` comes only where some kind of term has reached its limit, `Memory` where
-/// memory is refused or there are as many leaves as numbers for them. The original's `Canonicalizer::canonicalize_input`.
+/// Each inference variable, parameter, placeholder and lifetime is numbered by first occurrence. `(?7, ?9, ?7): Show` and
+/// `(?3, ?4, ?3): Show` both have the form `(^0, ^1, ^0): Show`. So has `(?7, ?9, ?8): Show` if ?8 has the value ?7.
+/// `'static` is numbered outside where-clauses only. The call also fails with `Memory` if there are more leaves than
+/// numbers.
 ///
-/// A goal without unknowns, parameters or lifetimes is its own form, by one look at the flags of each where-clause and at
-/// those of the predicate, however large they are. In any other goal a predicate without them is one look too, and so is
-/// each type.
+/// A goal without open leaves is its own form. The flags of its terms show this, so its terms are not visited.
 pub fn canonicalize_goal(
     alloc: Global,
     cx: &mut Interner,
@@ -95,21 +93,21 @@ pub fn canonicalize_goal(
     ensures terms { GrewOrFull cx.old cx.new result }
     ensures mode { IfOk result (λ r. r.input.mode ≡ mode) }
 
-    // The form is that of the resolved goal's trees.
+    // The form is the canonical form of the resolved goal.
     ensures form { IfOk result (λ r. IsCanonicalInput cx.new.entries (resolved_goal cx.old.entries table.now goal.now) r.input) }
 
-    // A goal in which nothing is open is its own form.
+    // A goal without open leaves is its own form.
     ensures closed { IfOk result (λ r. IsTrue (is_closed_goal (goal_trees cx.old.entries goal.now)) → IsItsOwnForm mode goal.now r) }
 
-    // The values are the resolved goal's leaves.
+    // The values are the open leaves of the resolved goal.
     ensures held { IfOk result (λ r. AreLeaves cx.new.entries r.values.items) }
     ensures args { IfOk result (λ r. ArgsHeld cx.new.entries r.values.items) }
     ensures values { IfOk result (λ r. labels cx.new.entries r.values.items ≡ goal_leaves (resolved_goal cx.old.entries table.now goal.now)) }
 
-    // Put in for the variables, they give the resolved goal back.
+    // The form with these values for its variables is the resolved goal.
     ensures back { IfOk result (λ r. GivesBack cx.new.entries r (resolved_goal cx.old.entries table.now goal.now)) }
 
-// A full table names the error only where some kind of term has reached its limit.
+// `Full` is returned only if some kind of term has reached its limit.
 {
     if is_closed_goal(cx, goal) {
         return own_form(alloc, mode, goal);
@@ -118,7 +116,7 @@ pub fn canonicalize_goal(
     canonicalize_resolved(alloc, cx, mode, &resolved)
 }
 
-/// Nothing open stands in the goal: no unknown, parameter or placeholder, and no `'static` in its predicate.
+/// Whether the goal has no open leaf.
 fn is_closed_goal(cx: &Interner, goal: &Goal) -> bool
     requires { GoalHeld cx.now.entries goal.now }
     ensures { result ≡ is_closed_goal (goal_trees cx.now.entries goal.now) }
@@ -132,8 +130,6 @@ fn is_closed_goal(cx: &Interner, goal: &Goal) -> bool
 }
 
 /// The goal as its own canonical form.
-///
-/// Its only fault is `Memory`.
 fn own_form(alloc: Global, mode: TypingMode, goal: &Goal) -> Result<Canonicalized, Fault>
     ensures form { IfOk result (λ r. IsItsOwnForm mode goal.now r) }
     ensures memory { IfErr result (λ e. e ≡ Fault.Memory) }
@@ -154,7 +150,7 @@ fn own_form(alloc: Global, mode: TypingMode, goal: &Goal) -> Result<Canonicalize
     })
 }
 
-/// `canonicalize_goal` of a goal that is resolved.
+/// `canonicalize_goal` for a resolved goal.
 fn canonicalize_resolved(
     alloc: Global,
     cx: &mut Interner,
@@ -165,18 +161,18 @@ fn canonicalize_resolved(
     ensures terms { GrewOrFull cx.old cx.new result }
     ensures mode { IfOk result (λ r. r.input.mode ≡ mode) }
 
-    // The form is that of the goal's trees.
+    // The form is the canonical form of the goal.
     ensures form { IfOk result (λ r. IsCanonicalInput cx.new.entries (goal_trees cx.old.entries goal.now) r.input) }
 
-    // The values are the goal's leaves.
+    // The values are the open leaves of the goal.
     ensures held { IfOk result (λ r. AreLeaves cx.new.entries r.values.items) }
     ensures args { IfOk result (λ r. ArgsHeld cx.new.entries r.values.items) }
     ensures values { IfOk result (λ r. labels cx.new.entries r.values.items ≡ goal_leaves (goal_trees cx.old.entries goal.now)) }
 
-    // Put in for the variables, they give the goal back.
+    // The form with these values for its variables is the goal.
     ensures back { IfOk result (λ r. GivesBack cx.new.entries r (goal_trees cx.old.entries goal.now)) }
 
-// A full table names the error only where some kind of term has reached its limit.
+// `Full` is returned only if some kind of term has reached its limit.
 {
     cx.lawful();
     let collected = collect_leaves(alloc, cx, goal)?;
@@ -191,7 +187,7 @@ fn canonicalize_resolved(
     Ok(Canonicalized { input, values })
 }
 
-/// The goal's open leaves, each once, by first occurrence.
+/// The open leaves of the goal, each once, in order of first occurrence.
 fn collect_leaves(alloc: Global, cx: &Interner, goal: &Goal) -> Result<LeafCollector, Fault>
     requires { GoalHeld cx.now.entries goal.now }
     ensures listed { IfOk result (λ s. AreLeaves cx.now.entries s.leaves.keys) }
@@ -213,9 +209,7 @@ fn collect_leaves(alloc: Global, cx: &Interner, goal: &Goal) -> Result<LeafColle
     Ok(collector)
 }
 
-/// What each leaf is.
-///
-/// Its only fault is `Memory`.
+/// The kind of each leaf.
 pub fn variable_kinds(
     alloc: Global,
     cx: &Interner,
@@ -251,7 +245,7 @@ fn variable_kind(cx: &Interner, leaf: GenericArgKind) -> CanonicalVarKind
     }
 }
 
-/// The goal with the canonical variables in the place of its leaves.
+/// The goal with its leaves replaced by canonical variables.
 fn number_leaves(
     alloc: Global,
     cx: &mut Interner,
@@ -277,7 +271,7 @@ fn number_leaves(
     })
 }
 
-/// The predicate with the canonical variables in the place of its leaves: itself, where it has none.
+/// The predicate with its leaves replaced by canonical variables.
 fn number_predicate(
     alloc: Global,
     cx: &mut Interner,

@@ -1,4 +1,4 @@
-//! Canonical variables replaced by values.
+//! The replacement of canonical variables by values.
 ghost use Rattle.type_terms.specs.Growth.{GrewOrFull};
 ghost use Rattle.std.specs.Prelude.{◌≡◌, ℕ, List, IfOk, IfSome, option_map};
 ghost use Rattle.std.specs.List.{slice_get};
@@ -21,24 +21,24 @@ use type_terms::kinds::{Const, ConstKind, GenericArgKind, Ty, TyKind};
 use type_terms::number::{BoundVar, BoundVarIndexKind};
 use type_terms::region::{Region, RegionKind};
 
-/// The flags of bound variables, canonical ones among them.
+/// The flags of terms with bound variables. Canonical variables are among these.
 pub const BOUND_FLAGS: u32 = TypeFlags::HAS_TY_BOUND.0
     | TypeFlags::HAS_RE_BOUND.0
     | TypeFlags::HAS_CT_BOUND.0;
 
-/// No bound variable stands in terms with these flags: one look, however large they are.
+/// Whether terms with these flags have no bound variable.
 fn is_unbound(flags: TypeFlags) -> bool
     ensures { result ≡ are_unbound_flags flags.0 }
 {
     flags.0 & BOUND_FLAGS == 0
 }
 
-/// Puts values in the place of canonical variables. A variable with no value of its sort stays.
+/// A folder that replaces canonical variables by values. A variable without a value of its kind is unchanged.
 ///
-/// `CanonicalInstantiator` of `rustc_type_ir`. It stops at a type in which no bound variable stands.
+/// rustc's `CanonicalInstantiator`. It does not enter a type without bound variables.
 #[derive(Clone, Copy)]
 pub struct CanonicalInstantiator<'a> {
-    /// Value i is that of canonical variable i.
+    /// Value i is the value of canonical variable i.
     pub values: &'a [GenericArgKind],
 }
 
@@ -180,11 +180,10 @@ impl TypeFolder for CanonicalInstantiator<'_> {
     }
 }
 
-/// The goal with value i in the place of canonical variable i.
+/// The goal with canonical variable i replaced by value i.
 ///
-/// A variable with no value of its sort stays. Values lead out of no binder, so none is shifted. With the values
-/// that `canonicalize_goal` gives the goal comes back. `Full` comes only where some kind of term has reached its
-/// limit, `Memory` where memory is refused. `Canonical::instantiate` of the original.
+/// A variable without a value of its kind is unchanged. Values have no escaping bound variables, so none is shifted. With
+/// the values of `canonicalize_goal` the result is the resolved goal. rustc's `Canonical::instantiate`.
 pub fn instantiate_with_values(
     alloc: Global,
     cx: &mut Interner,

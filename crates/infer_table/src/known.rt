@@ -1,4 +1,4 @@
-//! Facts for the prover alone. Each function tells it what its contract says, and does nothing when it runs.
+//! Facts for proofs. These functions do nothing at run time.
 ghost use Rattle.indexmap.specs.IndexMap.{IsUnique};
 ghost use Rattle.type_terms.specs.Promised.Handles.{Is, Has, types, consts};
 ghost use Rattle.type_terms.specs.Kinds.{kind_trees, const_trees};
@@ -10,14 +10,14 @@ use indexmap::IndexMap;
 use type_terms::interner::Interner;
 use type_terms::kinds::{Const, Ty};
 
-/// No variable has two values.
+/// No variable has two values in a map.
 pub(crate) fn one_value_each(values: &IndexMap<TermVid, Term>)
     ensures { IsUnique ⟦<TermVid as PartialEq>⟧.eq values.now }
 {
     let _ = values.len();
 }
 
-/// The type's trees are those of some kind.
+/// The tree of a type is that of some kind.
 pub(crate) fn type_has_kind(cx: &Interner, ty: Ty)
     requires { Has cx.now.entries types ty.0 }
     ensures { (kind : TyKind) × Is cx.now.entries types ty.0 (kind_trees cx.now.entries kind) }
@@ -25,7 +25,7 @@ pub(crate) fn type_has_kind(cx: &Interner, ty: Ty)
     let _ = cx.kind(ty);
 }
 
-/// The constant's trees are those of some kind.
+/// The tree of a constant is that of some kind.
 pub(crate) fn const_has_kind(cx: &Interner, constant: Const)
     requires { Has cx.now.entries consts constant.0 }
     ensures { (kind : ConstKind) × Is cx.now.entries consts constant.0 (const_trees kind) }

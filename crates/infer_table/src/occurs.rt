@@ -1,4 +1,4 @@
-//! The search for a variable in a type.
+//! The occurs check.
 ghost use Rattle.std.specs.Prelude.{◌≡◌, IfOk, OnOk, true, false};
 ghost use Rattle.type_terms.specs.Promised.Label.{of_type};
 ghost use Rattle.type_terms.specs.Promised.Handles.{Has, types, consts, trees_at};
@@ -19,10 +19,10 @@ use type_terms::kinds::{Const, GenericArgKind, Ty, TyKind};
 use type_terms::number::TyVid;
 
 impl InferCtxt {
-    /// The variable stands in the type, once that is resolved.
+    /// Whether the variable occurs in the type, once this is resolved.
     ///
-    /// What is still to be looked at is a list in memory, so a type may be nested as deep as memory goes; a type that stands in
-    /// many places is looked at once, and one in which no variable stands is not walked.
+    /// The search uses a worklist instead of the stack, so a type may be nested deeply. Each type is visited once, and a type
+    /// without inference variables is not entered.
     pub(crate) fn occurs(&self, cx: &Interner, variable: TyVid, ty: Ty) -> Result<bool, AllocError>
         requires held { Has cx.now.entries types ty.0 }
         requires ready { Ready cx.now.entries self.now }
@@ -42,8 +42,8 @@ impl InferCtxt {
         Ok(false)
     }
 
-    /// The type, once it is followed, is the variable. If it is not, the types that stand in it are put on the list, unless
-    /// that was done before.
+    /// Whether the type resolves to the variable itself. If not, the types in it are put on the list, unless that was done
+    /// before.
     fn look_at(
         &self,
         cx: &Interner,
@@ -78,7 +78,7 @@ impl InferCtxt {
         }
     }
 
-    /// The types among the arguments are put on the list. In a lifetime and in a constant stands no type variable.
+    /// Puts the types among the arguments on the list. A lifetime or a constant has no type variable.
     fn push_types(
         &self,
         cx: &Interner,
@@ -104,7 +104,7 @@ impl InferCtxt {
         Ok(())
     }
 
-    /// No type variable stands in a constant. It does nothing: the prover learns it so.
+    /// No type variable occurs in a constant. This is a fact for proofs. It does nothing at run time.
     fn constant_is_without(&self, cx: &Interner, variable: TyVid, constant: Const)
         requires held { Has cx.now.entries consts constant.0 }
         requires ready { Ready cx.now.entries self.now }

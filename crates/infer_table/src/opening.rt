@@ -1,4 +1,4 @@
-//! Binders opened.
+//! The folder that opens a binder.
 ghost use Rattle.std.specs.Prelude.{◌≡◌, ◌+◌, ◌≤◌};
 ghost use Rattle.type_terms.specs.declared.TheConstants.{MAX_INDEX};
 
@@ -12,14 +12,14 @@ use type_terms::number::{BoundVarIndexKind, RegionVid};
 use type_terms::region::{Region, RegionKind};
 use type_terms::{Fault, MAX_INDEX};
 
-/// Puts variables in the place of the lifetimes that the binder around a value binds.
+/// A folder that replaces the lifetimes of the binder around a value by lifetime variables.
 ///
-/// `BoundVarReplacer` of the original. It stops at a type that no binder number leads out of.
+/// rustc's `BoundVarReplacer`. It does not enter a type without escaping bound variables.
 #[derive(Clone, Copy)]
 pub(crate) struct BoundVarReplacer {
     /// The number of the variable for the binder's first lifetime.
     pub(crate) first: u32,
-    /// How many lifetimes the binder binds.
+    /// The number of lifetimes of the binder.
     pub(crate) count: u32,
     ghost in_range: { first + count ≤ MAX_INDEX },
 }

@@ -1,4 +1,4 @@
-//! The answer that says nothing.
+//! The response that constrains nothing.
 ghost use Rattle.type_terms.specs.Growth.{Grew};
 ghost use Rattle.std.specs.Prelude.{◌≡◌, ℕ, ◌<◌, List, [], IfOk, OnErr, Err};
 ghost use Rattle.type_terms.specs.Promised.Handles.{types, consts, held};
@@ -22,7 +22,7 @@ use type_terms::number::{BoundVar, BoundVarIndexKind};
 use type_terms::region::{Region, RegionKind};
 use type_terms::{Fault, MAX_INDEX};
 
-/// The canonical variable of this number, of the sort of its kind.
+/// The canonical variable with this number, as a value of its kind.
 pub fn canonical_variable(
     cx: &mut Interner,
     kind: CanonicalVarKind,
@@ -49,14 +49,11 @@ pub fn canonical_variable(
     }
 }
 
-/// The answer in which each variable stands for itself and no lifetime is constrained.
+/// The response in which each variable is its own value and no lifetime is constrained.
 ///
-/// It is what is left to say where a search gave up: an answer whose certainty is an overflow is this one, over the
-/// variables of the goal that was asked. Whoever builds answers asks for it in that case; `canonicalize_response`
-/// does not look at the certainty.
-///
-/// `Full` comes where one of the interner's tables is full, `Memory` where memory is refused or there are more variables
-/// than numbers for them. `response_no_constraints_raw` of the original.
+/// It is the response of a search that gave up, which is an overflow. `canonicalize_response` does not check for this, so
+/// callers choose between the two. The call also fails with `Memory` if there are more variables than numbers. rustc's
+/// `response_no_constraints_raw`.
 pub fn response_no_constraints_raw(
     alloc: Global,
     cx: &mut Interner,
@@ -70,7 +67,7 @@ pub fn response_no_constraints_raw(
     ensures held { IfOk result (λ r. ArgsHeld cx.new.entries r.var_values.items) }
     ensures values { IfOk result (λ r. values_of cx.new.entries r.var_values.items ≡ variables_from 0 variables.items) }
 
-    // Its variables are of its kinds, and it agrees with all values of their sorts.
+    // The variables of the response are of its kinds, and it agrees with all values of these kinds.
     ensures numbered { IfOk result (λ r. AreNumbered r.variables.items (args_trees cx.new.entries r.var_values.items)) }
     ensures agrees { IfOk result (λ r. AgreesWithAllOf variables.items (args_trees cx.new.entries r.var_values.items)) }
     ensures full { result ≡ Err Fault.Full → IsFull cx.new.entries cx.new.limit }

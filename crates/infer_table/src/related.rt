@@ -1,4 +1,4 @@
-//! The pairs of types that an equation has related.
+//! The cache of pairs of types that an equation has related.
 ghost use Rattle.std.specs.Prelude.{◌≡◌, ◌⊎◌, ◌∷◌, List, [], IsTrue, true, length};
 ghost use Rattle.std.specs.HashSet.{contains};
 ghost use Rattle.type_terms.specs.Promised.Handles.{Entry};
@@ -12,17 +12,18 @@ use std::alloc::Global;
 use std::collections::HashSet;
 use type_terms::kinds::GenericArgKind;
 
-/// So many pairs are entered before an equation begins to keep them, so that a small one costs no set.
+/// The number of pairs that are entered before the cache is used, so that a small equation allocates none.
 const BEFORE: u32 = 32;
 
-/// Two types, by their handles.
+/// The handles of two types.
 #[derive(Clone, Copy, PartialEq, Eq, Hash)]
 pub struct Pair {
     pub left: u32,
     pub right: u32,
 }
 
-/// A pair whose parts are being related: how many equations come after them, and how many variables of lifetimes the table had before.
+/// A pair whose parts are being related, with the number of equations after these parts and the number of lifetime
+/// variables that the table had before.
 #[derive(Clone, Copy)]
 pub struct Begun {
     pub pair: Pair,
@@ -31,7 +32,7 @@ pub struct Begun {
 }
 
 impl Begun {
-    /// No lifetime was opened since then, where the table has so many variables of lifetimes now.
+    /// Whether no binder was opened since, if the table has this number of lifetime variables now.
     fn opened_none(self, lifetimes: u32) -> bool
         ensures { IsTrue result → self.lifetimes ≡ lifetimes }
     {
@@ -39,17 +40,17 @@ impl Begun {
     }
 }
 
-/// The pairs of types that were related to their end, and those that were begun, the last one last.
+/// The pairs of types that are completely related, and a stack of those that were begun.
 ///
-/// A pair that comes again needs nothing done: all that it asks for is done, and a constraint on lifetimes is recorded once. It is not
-/// kept if lifetimes were opened while it was related, since each time that it comes others are opened.
+/// A related pair that occurs again can be skipped, since a constraint on lifetimes is recorded once. A pair is not cached
+/// if a binder was opened while it was related, since each opening takes new variables.
 pub struct Related {
     pub steps: u32,
     pub settled: HashSet<Pair>,
     pub begun: Vec<Begun>,
 }
 
-// Written, so that what owns one drops it by one call at each way out, and not field by field.
+// Written by hand, so that an owner drops it by one call instead of field by field.
 impl Drop for Related {
     fn drop(self) {
         let Related {
@@ -61,7 +62,7 @@ impl Drop for Related {
 }
 
 impl Related {
-    /// None is related, and no memory is taken.
+    /// An empty cache. It allocates nothing.
     pub fn new(alloc: Global) -> Related
         ensures { (es : List Entry) (t : Table) (todo : Worklist) → TracksOpen es t todo result }
     {
@@ -72,7 +73,7 @@ impl Related {
         }
     }
 
-    /// The equation is of a pair that was related to its end.
+    /// Whether the equation is of a completely related pair.
     pub fn is_settled(&self, equation: Equation) -> bool
         ensures settled { IsTrue result → (es : List Entry) (t : Table) (todo : Worklist) → Tracks es t todo self.now
             → RestsIn es t [] (equation_trees es equation ∷ []) }
@@ -89,8 +90,8 @@ impl Related {
         }
     }
 
-    /// The pair of an equation of types is begun, whose parts come before so many other equations. The table had so many variables of
-    /// lifetimes before it. The first pairs are not kept, nor is one for which memory is refused.
+    /// Begins the pair of an equation of types. `left` equations follow its parts, and the table had `lifetimes` lifetime
+    /// variables before it. The first pairs are not cached. If memory is refused, the pair is not cached.
     pub fn begin(&mut self, equation: Equation, left: usize, lifetimes: u32)
         ensures settled { self.new.settled ≡ self.old.settled }
         ensures begun { Begins equation left lifetimes self.old.begun.items self.new.begun.items }
@@ -118,8 +119,8 @@ impl Related {
         }
     }
 
-    /// The pairs that were begun and have no parts left are related to their end, where so many equations are left, and the table has so
-    /// many variables of lifetimes. Those that opened lifetimes are not kept.
+    /// Caches the begun pairs whose parts are solved, if `left` equations remain and the table has `lifetimes` lifetime
+    /// variables. Pairs that opened a binder are not cached.
     pub fn finish(&mut self, left: usize, lifetimes: u32)
         ensures tracks { (es : List Entry) (t : Table) (todo : Worklist) → Tracks es t todo self.old → length todo ≡ left → lifetimes ≡ t.region_vars
             → TracksOpen es t todo self.new }
@@ -135,7 +136,7 @@ impl Related {
         }
     }
 
-    /// The pair is related to its end. Where memory is refused it is not kept, and is then related again where it comes again.
+    /// Caches a pair. If memory is refused, the pair is not cached, and is related again if it occurs again.
     fn settle(&mut self, pair: Pair)
         ensures begun { self.new.begun ≡ self.old.begun }
         ensures one { (p : Pair) → contains pair_eq self.new.settled p ≡ true → (contains pair_eq self.old.settled p ≡ true) ⊎ (p ≡ pair) }

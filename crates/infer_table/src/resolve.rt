@@ -1,4 +1,4 @@
-//! Variables replaced by their values, all the way.
+//! Resolution: variables are replaced by their values.
 ghost use Rattle.type_terms.specs.Growth.{GrewOrFull};
 ghost use Rattle.std.specs.Prelude.{◌≡◌, List, IfOk};
 ghost use Rattle.type_terms.specs.Pieces.{each_piece};
@@ -16,9 +16,9 @@ use type_terms::interner::Interner;
 use type_terms::kinds::{Const, ConstKind, Ty, TyKind};
 use type_terms::region::{Region, RegionKind};
 
-/// Puts the values of a table in the place of its variables.
+/// A folder that replaces the variables of a table by their values.
 ///
-/// `EagerResolver` of the original. It stops at a type in which no variable stands.
+/// rustc's `EagerResolver`. It does not enter a type without inference variables.
 #[derive(Clone, Copy)]
 struct EagerResolver<'a> {
     table: &'a InferCtxt,
@@ -109,11 +109,10 @@ impl TypeFolder for EagerResolver<'_> {
 }
 
 impl InferCtxt {
-    /// The value with each variable that has a value replaced by it, and so on in the values.
+    /// The value with each variable replaced by its resolved value, if it has one. rustc's `eager_resolve_vars`.
     ///
-    /// What comes of it has no variable left that has a value, and is the same term under each solution of the table.
-    /// Lifetimes stay as they are. `Full` comes only where some kind of term has reached its limit, `Memory` where
-    /// memory is refused. `eager_resolve_vars` of the original.
+    /// The result has no variable with a value, and the same instance as `value` under each solution of the table
+    /// (`resolving_laws`). Lifetimes do not change.
     pub fn eager_resolve_vars<T: TypeFoldable>(
         &self,
         cx: &mut Interner,
@@ -125,7 +124,7 @@ impl InferCtxt {
         ensures terms { GrewOrFull cx.old cx.new result }
         ensures held { IfOk result (λ r. T.held r cx.new.entries) }
         ensures outline { IfOk result (λ r. T.outline r ≡ T.outline value) }
-        // Each part is the part as it was, with the values in the place of variables.
+        // Each piece of the result is the resolved piece of the value.
         ensures resolved { IfOk result (λ r. T.pieces r cx.new.entries
             ≡ each_piece (λ d t. resolved (content cx.old.entries self.now.values) t) (T.pieces value cx.old.entries)) }
     {

@@ -1,4 +1,4 @@
-//! Goals resolved by a table.
+//! Resolution of goals.
 ghost use Rattle.type_terms.specs.Growth.{GrewOrFull};
 ghost use Rattle.std.specs.Prelude.{◌≡◌, IfOk};
 ghost use Rattle.infer_table.specs.Content.{content, Ready};
@@ -12,10 +12,7 @@ use term_folds::predicate::Clause;
 use type_terms::Fault;
 use type_terms::interner::Interner;
 
-/// The goal with each variable that has a value replaced by it, and so on in the values.
-///
-/// `Full` comes only where some kind of term has reached its limit, `Memory` where memory is refused.
-/// `eager_resolve_vars` of a goal.
+/// The goal with each variable replaced by its resolved value, if it has one. It is `eager_resolve_vars` for a goal.
 pub fn resolve_goal(
     alloc: Global,
     cx: &mut Interner,

@@ -1,15 +1,14 @@
-//! Answers to canonical goals.
+//! Responses to canonical goals.
 use crate::canonical::CanonicalVarKind;
 use crate::certainty::Certainty;
 use crate::terms::RegionConstraint;
 use std::alloc::AllocError;
 use type_terms::kinds::GenericArgKind;
 
-/// An answer to a canonical goal, in canonical form.
+/// The response to a canonical goal, in canonical form.
 ///
-/// `Canonical<Response>` of `rustc_type_ir`, whose `max_universe` and opaque types have no place here. Value i of
-/// `var_values` is what the answer says of variable i of the goal, and constraints are kept in the order in which
-/// they were recorded. Both speak of the answer's own `variables`.
+/// rustc's `Canonical<Response>`, without `max_universe` and opaque types. Value i of `var_values` is the value of variable
+/// i of the goal. Constraints are in the order of recording. Both are over the response's own `variables`.
 #[derive(PartialEq, Eq, Hash)]
 pub struct CanonicalResponse {
     pub variables: Vec<CanonicalVarKind>,
@@ -18,7 +17,7 @@ pub struct CanonicalResponse {
     pub region_constraints: Vec<RegionConstraint>,
 }
 
-// Written, so that what owns one drops it by one call at each way out, and not field by field.
+// Written by hand, so that an owner drops it by one call instead of field by field.
 impl Drop for CanonicalResponse {
     fn drop(self) {
         let CanonicalResponse {

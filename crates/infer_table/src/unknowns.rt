@@ -1,4 +1,4 @@
-//! Canonical variables replaced by new unknowns.
+//! The replacement of canonical variables by new inference variables.
 ghost use Rattle.type_terms.specs.Growth.{GrewOrFull};
 ghost use Rattle.std.specs.Prelude.{◌≡◌, IfOk, OnOk, OnErr, IsErr, IfErr, Err, ◌↔◌, ◌≤◌};
 ghost use Rattle.type_terms.specs.Promised.Handles.{ArgsHeld};
@@ -19,20 +19,18 @@ use type_terms::interner::Interner;
 use type_terms::kinds::{ConstKind, GenericArgKind, TyKind};
 use type_terms::{Fault, MAX_INDEX};
 
-/// A goal made of its canonical form, with the values that stand for the form's variables.
+/// A goal that was instantiated from its canonical form, with the values of the form's variables.
 #[derive(Drop)]
 pub struct Instantiated {
     pub goal: Goal,
     pub values: Vec<GenericArgKind>,
 }
 
-/// The goal of a canonical form, with a new unknown of the table in the place of each variable.
+/// The goal of a canonical form, with each canonical variable replaced by a new value. rustc's `instantiate_canonical`.
 ///
-/// An unknown type becomes a new type variable, an unknown constant a new constant variable, and a lifetime a new
-/// lifetime variable. A type or constant that stands for any becomes the placeholder with its variable's place, which
-/// stands nowhere else in the goal. `Full` comes only where some kind of term has reached its limit, `Memory`
-/// where memory is refused or there is no number left for a variable. After a refusal the table is as before. The
-/// original's `instantiate_canonical`.
+/// The value is a new inference variable for a variable of the kind `Ty`, `Const` or `Region`. For `PlaceholderTy` and
+/// `PlaceholderConst` it is the placeholder with the index of the canonical variable, which is not elsewhere in the goal.
+/// The call also fails with `Memory` if there is no number for a variable. If it fails, the table does not change.
 pub fn instantiate_canonical(
     alloc: Global,
     cx: &mut Interner,
@@ -44,7 +42,7 @@ pub fn instantiate_canonical(
     ensures ready { Ready cx.new.entries table.new }
     ensures terms { GrewOrFull cx.old cx.new result }
 
-    // The values are new unknowns, in the order of the variables.
+    // The values are new leaves, in the order of the variables.
     ensures held { IfOk result (λ r. AreLeaves cx.new.entries r.values.items) }
     ensures args { IfOk result (λ r. ArgsHeld cx.new.entries r.values.items) }
     ensures unknowns { IfOk result (λ r. labels cx.new.entries r.values.items ≡ next_labels table.old 0 input.now.variables.items) }
@@ -52,12 +50,12 @@ pub fn instantiate_canonical(
     ensures grows { Grows table.old table.new }
     ensures refused { OnErr result (table.new ≡ table.old) }
 
-    // The goal is the form with the values put in.
+    // The goal is the form with these values for its variables.
     ensures goal { IfOk result (λ r. GoalHeld cx.new.entries r.goal) }
     ensures filled { IfOk result (λ r. goal_trees cx.new.entries r.goal
         ≡ goal_filled (values_of cx.new.entries r.values.items) (goal_trees cx.old.entries input.now.goal)) }
 
-// A full table names the error only where some kind of term has reached its limit.
+// `Full` is returned only if some kind of term has reached its limit.
 {
     let place = table.snapshot();
     match instantiate_in(alloc, cx, table, input) {
@@ -69,7 +67,7 @@ pub fn instantiate_canonical(
     }
 }
 
-/// `instantiate_canonical`, which may leave new unknowns in the table where it is refused.
+/// `instantiate_canonical`, except that a failed call may leave new variables in the table.
 fn instantiate_in(
     alloc: Global,
     cx: &mut Interner,
@@ -94,11 +92,10 @@ fn instantiate_in(
     Ok(Instantiated { goal, values })
 }
 
-/// A new unknown of the table for each variable of a canonical form, in their order: what `instantiate_canonical` puts into its goal.
+/// A new value for each variable of a canonical form, in order, as `instantiate_canonical` uses them.
 ///
-/// The errors are the same. After one, some of the unknowns may be in the table.
-///
-/// `CanonicalVarValues::instantiate` of `rustc_type_ir`.
+/// The errors are the same, but a failed call may leave new variables in the table. rustc's
+/// `CanonicalVarValues::instantiate`.
 pub fn next_values(
     alloc: Global,
     cx: &mut Interner,
@@ -122,7 +119,7 @@ pub fn next_values(
     Ok(values)
 }
 
-/// A new unknown for the variable at this place.
+/// A new value for the variable at this index.
 fn next_value(
     cx: &mut Interner,
     table: &mut InferCtxt,
@@ -152,7 +149,7 @@ fn next_value(
     }
 }
 
-/// The number of the placeholder for the variable at this place; `Memory` where there is none.
+/// The index of the placeholder for the variable at this index. The call fails with `Memory` if it is too great.
 fn placeholder_index(place: usize) -> Result<u32, Fault>
     ensures number { IfOk result (λ index. index ≡ place) }
     ensures refused_only { IsErr result ↔ (MAX_INDEX ≤ place) }
