@@ -1,4 +1,4 @@
--- The tables with one unknown keep the laws of tables.
+-- The tables with one variable satisfy the laws of tables.
 use Rattle.std.proofs.Common.{◌≡◌, ℕ, Bool, true, false, ◌==◌, if◌then◌else◌, List, [], ◌∷◌, inl, refl, sym, ◌∙◌, ap, subst, Option, Some, None, is_some, arith}
 use Rattle.std.proofs.lemmas.Bool.{eqb-true, eq-eqb}
 use Rattle.infer_table.specs.declared.certainty.Certainty.{Certainty}

@@ -1,4 +1,4 @@
--- The smallest tables with an unknown: a goal is a predicate of one argument, which is an atom or the one unknown `?x`.
+-- The smallest tables with a variable. A goal is a predicate of one argument, which is an atom or the one variable `?x`.
 use Rattle.std.specs.Prelude.{◌≡◌, ℕ, Bool, true, false, ◌&&◌, ◌==◌, if◌then◌else◌, ◌+◌, length, List, [], ◌∷◌, map, Option, Some, None, is_some}
 use Rattle.infer_table.specs.declared.certainty.Certainty.{Certainty}
 use Rattle.infer_table.specs.declared.certainty.Certainty.TheVariants.{Yes, Maybe}
@@ -17,23 +17,23 @@ pub data Argument : Type 0 where
   atom : ℕ → Argument
   unknown : Argument
 
--- the argument with this atom for the unknown
+-- the argument with this atom for the variable
 abbrev pub value_at : Argument → ℕ → ℕ
 value_at (atom a) x = a
 value_at unknown x = x
 
--- the predicate of the argument, asked by a coinductive step or by another
+-- the predicate of the argument, as a nested goal of a coinductive step or of another step
 pub record Goal : Type 0 where
   pub predicate : ℕ
   pub argument : Argument
   pub coinductive : Bool
 
--- a response gives the unknown a value or leaves it free
+-- a response gives the variable a value or leaves it free
 pub record Response : Type 0 where
   pub certainty : Certainty
   pub value : Option ℕ
 
--- ---- a table is the unknown's value, if it has one
+-- ---- a table is the value of the variable, if it has one
 abbrev pub AllowsValue : Option ℕ → ℕ → Type 0
 AllowsValue None x = Unit {0}
 AllowsValue (Some a) x = x ≡ a
@@ -60,13 +60,13 @@ abbrev pub unify_all : List (Argument × Argument) → Option ℕ → Option (Op
 unify_all [] table = Some table
 unify_all (e ∷ es) table = then_unify (unify_all es) (unify table e)
 
--- a value comes only for a goal whose argument is still unknown
+-- a response gives a value only if the argument of the goal is the variable
 abbrev pub put : Option ℕ → Argument → Option ℕ → Option ℕ
 put table (atom a) value = table
 put table unknown None = table
 put table unknown (Some a) = Some a
 
--- an overflow carries no value
+-- the response with this value and certainty. An overflow has no value
 abbrev pub answer_with : Option ℕ → Certainty → Response
 answer_with table (Maybe Overflow) = record { certainty = Maybe Overflow; value = None }
 answer_with table (Maybe Ambiguity) = record { certainty = Maybe Ambiguity; value = table }
@@ -111,7 +111,7 @@ atoms = record {
 }
 
 -- ---- the handler of a list of rules
--- `predicate(shape)` holds if the premises do; the unknown stands for the same atom in all of them
+-- `predicate(shape)` holds if the premises do. The variable is the same atom in all of them
 pub record AtomRule : Type 0 where
   pub predicate : ℕ
   pub shape : Argument
@@ -121,13 +121,13 @@ pub record AtomRuleBook : Type 0 where
   pub rules : List AtomRule
   pub coinductive : ℕ → Bool
 
--- the reference follows by the rule from these
+-- the predicate of an atom follows from these premises by the rule
 pub record AtomIsBy (f : ℕ × ℕ) (premises : List (ℕ × ℕ)) (r : AtomRule) : Type 0 where
   pub concludes : r.predicate ≡ f.0
   pub fits : value_at r.shape f.1 ≡ f.1
   pub needs : map (λ (n : Goal). (n.predicate, value_at n.argument f.1)) r.premises ≡ premises
 
--- the goal's argument for the rule's unknown
+-- the goal's argument replaces the variable of the rule
 abbrev pub put_in : Argument → Argument → Argument
 put_in argument (atom a) = atom a
 put_in argument unknown = argument
@@ -159,7 +159,7 @@ abbrev pub without_first : {A : Type 0} → List A → List A
 without_first [] = []
 without_first (x ∷ xs) = xs
 
--- what is left of the candidates after these were considered
+-- the remaining candidates after these were considered
 abbrev pub remaining : List (Considered (workings atoms)) → List (Spec (workings atoms)) → List (Spec (workings atoms))
 remaining [] specs = specs
 remaining (c ∷ seen) specs = without_first (remaining seen specs)
@@ -177,12 +177,12 @@ abbrev pub if_refused : Option Response → ℕ → List ℕ → List ℕ
 if_refused None n ns = n ∷ ns
 if_refused (Some r) n ns = ns
 
--- the numbers of the candidates that were refused
+-- the numbers of the candidates that failed
 abbrev pub refused_numbers : List (Considered (workings atoms)) → List ℕ
 refused_numbers [] = []
 refused_numbers (c ∷ seen) = if_refused c.response c.number (refused_numbers seen)
 
--- the next rule, or the merge of all responses; refused candidates are ignored
+-- the next rule, or the merge of all responses. Candidates that failed are ignored
 abbrev pub next_of : List (Considered (workings atoms)) → List (Spec (workings atoms)) → Next (workings atoms)
 next_of seen [] = answer (merge_or_flounder atoms (is_always_applicable atoms) same_response None (responses atoms seen)) (refused_numbers seen)
 next_of seen (s ∷ specs) = consider s

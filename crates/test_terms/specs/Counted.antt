@@ -1,9 +1,9 @@
--- Workings whose tables also count the answers that were put into them.
+-- Workings whose tables also count the responses that were applied to them.
 use Rattle.std.specs.Prelude.{◌≡◌, ℕ, suc, Option, Some, None}
 use Rattle.goal_evaluator.specs.Operations.{Workings}
 use Rattle.goal_evaluator.specs.Correspondences.{CandidateCorrespondence}
 
--- a table, and how many answers were put into it
+-- a table, and the number of responses that were applied to it
 pub record CountedAnswers (Table : Type 0) : Type 0 where
   pub table : Table
   pub answers : ℕ
@@ -32,7 +32,7 @@ module _ {Question Response : Type 0} (t : Workings Question Response) where
     respond = λ T sure. t.respond T.table sure;
   }
 
-  -- all but the tables corresponds to itself
+  -- everything except tables corresponds to itself
   abbrev pub but_for_tables : (t.operations.Table → CountedAnswers t.operations.Table → Type 0) → CandidateCorrespondence t counting
   but_for_tables Tables = record {
     rounds = record { Tables = Tables; Goals = λ n m. n ≡ m; Questions = λ p q. p ≡ q; Responses = λ q r s. r ≡ s };

@@ -1,4 +1,4 @@
--- Small lists of rules, and what the frames of their goals ask and answer.
+-- Small lists of rules, and the requests of the frames of their goals.
 use Rattle.std.specs.Prelude.{◌≡◌, ℕ, zero, suc, ◌==◌, true, false, List, [], ◌∷◌, Option, Some, None}
 use Rattle.infer_table.specs.declared.certainty.Certainty.TheVariants.{Yes, Maybe}
 use Rattle.infer_table.specs.declared.certainty.MaybeCause.TheVariants.{Ambiguity, Overflow}
@@ -6,7 +6,7 @@ use Rattle.goal_evaluator.specs.History.{Request, Reply, evaluated, asks}
 use Rattle.goal_evaluator.specs.Promises.{frame_of_goal}
 use Rattle.test_terms.specs.Atoms.{Argument, atom, unknown, Goal, Response, atoms, AtomRuleBook, AtomRule, handled_by}
 
--- the atoms u8 and bool, and the predicates of the rules; the steps to `send` are those of its own rule, which are coinductive
+-- The atoms u8 and bool, and the predicates of the rules. The rule of `send` has coinductive steps
 abbrev pub u8 : ℕ
 u8 = 0
 
@@ -72,7 +72,7 @@ maybe = Some (record { certainty = Maybe Ambiguity; value = None })
 abbrev pub overflow : Option Response
 overflow = Some (record { certainty = Maybe Overflow; value = None })
 
--- so many rounds more, in each of which the one premise is answered with the value u8
+-- this number of further rounds, in each of which the response to the one premise is the value u8
 abbrev pub rounds_with_values : ℕ → List (Reply (Option Response)) → List (Reply (Option Response))
 rounds_with_values zero heard = heard
 rounds_with_values (suc n) heard = evaluated (yes_with u8) ∷ rounds_with_values n heard

@@ -1,4 +1,4 @@
-//! Answers: made, applied and refused.
+//! Responses: made, applied and refused.
 ghost use Rattle.std.specs.Prelude.{IfOk};
 ghost use Rattle.type_terms.specs.Promised.Handles.{Keeps};
 ghost use Rattle.infer_table.specs.Content.{Ready};
@@ -18,7 +18,7 @@ use type_terms::interner::Interner;
 use type_terms::kinds::{GenericArgKind, Ty, TyKind, UintTy};
 use type_terms::number::{BoundVar, BoundVarIndexKind, TyVid};
 
-/// Whether the values of an answer that says nothing of a type and a lifetime are two, of which the type's is the variable itself, and
+/// A response that constrains nothing, for a type and a lifetime. Whether it has two values, the type is the variable itself, and
 /// no lifetime is constrained.
 fn says_nothing(alloc: Global, cx: &mut Interner) -> Result<[bool; 3], Fault> {
     let variables = vec![in alloc; CanonicalVarKind::Ty, CanonicalVarKind::Region]?;
@@ -39,7 +39,7 @@ fn an_answer_that_says_nothing_gives_each_variable_itself(rt: HostRuntime) -> Re
     Ok(())
 }
 
-/// An answer with two values, which both are `u8`.
+/// A response with two values, both `u8`.
 fn bytes(alloc: Global, cx: &mut Interner, table: &InferCtxt) -> Result<CanonicalResponse, Fault>
     requires { Ready cx.old.entries table.now }
     ensures ready { Ready cx.new.entries table.now }
@@ -52,7 +52,7 @@ fn bytes(alloc: Global, cx: &mut Interner, table: &InferCtxt) -> Result<Canonica
 
 const THIRD: Sample = Sample::Unknown(TyVid { index: 3 });
 
-/// Whether that answer can be applied to `?3` and this type, and what `?3` stands for then.
+/// Whether that response can be applied to `?3` and this type, and the value of `?3` after that.
 fn applied_to(alloc: Global, cx: &mut Interner, other: Sample) -> Result<(bool, Ty), Fault> {
     let other = make(alloc, cx, Shape::Plain(other))?;
     let unknown = make(alloc, cx, Shape::Plain(THIRD))?;
@@ -63,7 +63,7 @@ fn applied_to(alloc: Global, cx: &mut Interner, other: Sample) -> Result<(bool, 
     Ok((equated(applied)?, table.shallow_resolve(cx, unknown)))
 }
 
-/// Whether that answer can be applied so, and whether `?3` stands for this type then.
+/// Whether that response can be applied so, and whether `?3` then has this type as its value.
 fn is_applied(
     alloc: Global,
     cx: &mut Interner,
@@ -75,7 +75,7 @@ fn is_applied(
     Ok([is_applied, found == value])
 }
 
-// It is refused after `?3` was made `u8`.
+// The response is refused after `?3` got the value `u8`.
 #[test]
 fn an_answer_is_applied_whole_or_not_at_all(rt: HostRuntime) -> Result<(), Fault> {
     for (other, value, wanted) in [

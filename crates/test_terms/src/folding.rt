@@ -19,7 +19,7 @@ use type_terms::kinds::{Mutability, Ty, TyKind, UintTy};
 use type_terms::number::{BoundVar, BoundVarIndexKind, DebruijnIndex};
 use type_terms::region::{Region, RegionKind};
 
-/// Each lifetime is `'static`.
+/// Replaces each lifetime by `'static`.
 #[derive(Clone, Copy)]
 struct AllStatic;
 
@@ -35,7 +35,7 @@ impl RegionMap for AllStatic {
     }
 }
 
-/// The lifetime with this place in the list of a binder.
+/// The lifetime with this index in a binder.
 fn bound_region(binder: u32, place: u32) -> RegionKind
     requires binder { binder < 16 }
     requires place { place < 16 }
@@ -99,7 +99,7 @@ fn clauses_become_static(alloc: Global, cx: &mut Interner) -> Result<[bool; 2], 
     ])
 }
 
-/// Whether types and clauses do so.
+/// Both checks: of types and of clauses.
 fn all_become_static(alloc: Global, cx: &mut Interner) -> Result<(bool, [bool; 2]), Fault> {
     let ty = type_becomes_static(alloc, cx)?;
     Ok((ty, clauses_become_static(alloc, cx)?))
@@ -112,7 +112,7 @@ fn free_lifetimes_become_static(rt: HostRuntime) -> Result<(), Fault> {
     Ok(())
 }
 
-/// Whether a shift by one moves a lifetime of the innermost binder out by one, and whether a shift by none leaves it.
+/// Whether a shift by one adds one to the binder number of a lifetime, and whether a shift by zero changes nothing.
 fn shifts(alloc: Global, cx: &mut Interner) -> Result<[bool; 2], Fault> {
     let wanted = byte_reference(cx, bound_region(1, 0))?;
     let ty = byte_reference(cx, bound_region(0, 0))?;
@@ -128,7 +128,7 @@ fn a_shift_moves_outer_lifetimes(rt: HostRuntime) -> Result<(), Fault> {
     Ok(())
 }
 
-/// Whether the second lifetime of a binder is found to be wrong below it, with one lifetime and with two.
+/// Whether the second lifetime of a binder is a mismatch if the binder has one lifetime, and if it has two.
 fn mismatches(cx: &mut Interner) -> Result<[bool; 3], Fault> {
     let ty = byte_reference(cx, bound_region(0, 1))?;
     let mut one = ValidateBoundVars::new(1);

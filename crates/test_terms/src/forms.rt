@@ -18,7 +18,7 @@ use type_terms::kinds::{GenericArgKind, GenericArgs, Ty};
 use type_terms::number::TyVid;
 use type_terms::{Fault, TraitId};
 
-/// That the type is `Show`.
+/// The predicate that the type is `Show`.
 fn shown(alloc: Global, cx: &mut Interner, ty: Ty) -> Result<TraitPredicate, Fault>
     requires { Has cx.old.entries types ty.0 }
     ensures keeps { Keeps cx.old.entries cx.new.entries }
@@ -66,7 +66,7 @@ const THIRD: Sample = Sample::Unknown(TyVid { index: 3 });
 
 const FIFTH: Sample = Sample::Unknown(TyVid { index: 5 });
 
-/// The canonical form, in a table without variables, of the goal that a type of this shape is `Show`.
+/// The canonical form of the goal that a type of this shape is `Show`, over a table without variables.
 fn form(alloc: Global, cx: &mut Interner, shape: Shape) -> Result<Canonicalized, Fault>
     ensures keeps { Keeps cx.old.entries cx.new.entries }
     ensures held { IfOk result (λ r. GoalHeld cx.new.entries r.input.goal) }
@@ -76,7 +76,7 @@ fn form(alloc: Global, cx: &mut Interner, shape: Shape) -> Result<Canonicalized,
     shown_goal(alloc, cx, &table, ty)
 }
 
-/// Whether that two types are `Show` is one question.
+/// Whether the goals that two types are `Show` have the same canonical form.
 fn is_one_question(
     alloc: Global,
     cx: &mut Interner,
@@ -88,7 +88,7 @@ fn is_one_question(
     Ok(is_same_question(cx, &left.input, &right.input))
 }
 
-// Whatever the numbers of the unknowns are, but not whatever their pattern is.
+// The numbers of the inference variables do not matter, but their pattern does.
 #[test]
 fn goals_are_one_question_up_to_the_numbers_of_unknowns(rt: HostRuntime) -> Result<(), Fault> {
     let mut cx = Interner::new(rt.alloc(), 100);
@@ -101,7 +101,7 @@ fn goals_are_one_question_up_to_the_numbers_of_unknowns(rt: HostRuntime) -> Resu
     Ok(())
 }
 
-/// Whether no lifetime stands in what the question asks in a table without variables, and the arguments of its trait there.
+/// The goal of a canonical form over a table without variables: whether it has no lifetime, and the arguments of its trait.
 fn opened(
     alloc: Global,
     cx: &mut Interner,
@@ -115,7 +115,7 @@ fn opened(
     Ok((found.is_continue(), inside.goal.predicate.trait_ref.args))
 }
 
-/// Whether the form of `V<?3>: Show` has one value, and gives `V<?0>: Show`, in which no lifetime stands.
+/// Whether the form of `V<?3>: Show` has one value, gives `V<?0>: Show`, and has no lifetime.
 fn form_is_opened(alloc: Global, cx: &mut Interner) -> Result<[bool; 3], Fault> {
     let form = form(alloc, cx, Shape::VecOf(THIRD))?;
     let (has_no_lifetime, args) = opened(alloc, cx, &form.input)?;

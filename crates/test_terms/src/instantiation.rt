@@ -26,7 +26,7 @@ fn one(alloc: Global, cx: &mut Interner, arg: GenericArgKind) -> Result<GenericA
     cx.mk_args(list)
 }
 
-/// `V<T>` with these arguments, which have no bound variable of others.
+/// `V<T>` with these arguments, which have no escaping bound variables.
 fn instantiated(
     rt: &impl Abort,
     alloc: Global,
@@ -81,7 +81,7 @@ fn is_list_of_bytes(
     Ok(instantiated(rt, alloc, cx, args)? == list)
 }
 
-/// The same, if it is no fault.
+/// The same result, unless it is a fault.
 fn without_fault(
     rt: &impl Abort,
     alloc: Global,
@@ -107,7 +107,7 @@ fn a_parameter_becomes_its_argument_if_it_is_there(rt: HostRuntime) -> Result<()
     Ok(())
 }
 
-/// Whether `u8` is the self type of `u8: Show` and of its reference, and with `bool` in its place that is `bool: Show`.
+/// Whether `u8` is the self type of `u8: Show` and of its trait reference, and with the self type `bool` it is `bool: Show`.
 fn self_type_is_replaced(alloc: Global, cx: &mut Interner) -> Result<[bool; 4], Fault> {
     let byte = cx.mk_ty(TyKind::Uint(UintTy::U8))?;
     let args = one(alloc, cx, GenericArgKind::Ty(byte))?;

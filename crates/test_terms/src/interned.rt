@@ -1,4 +1,4 @@
-//! What a full table answers, and that terms made twice are one.
+//! Full tables, and terms that are interned twice.
 ghost use Rattle.std.specs.Prelude.{IfOk};
 ghost use Rattle.type_terms.specs.Promised.Handles.{Has, bounds_lists};
 ghost use Rattle.type_terms.specs.Terms.{args_lists};
@@ -14,7 +14,7 @@ use type_terms::kinds::{
 use type_terms::region::{Region, RegionKind};
 use type_terms::{Fault, TraitId};
 
-/// Whether a term was refused because a table is full.
+/// Whether the interner refused a term because a table is full.
 fn is_full<T: Copy>(answer: Result<T, Fault>) -> Result<bool, Fault> {
     match answer {
         Ok(_) => Ok(false),
@@ -23,7 +23,7 @@ fn is_full<T: Copy>(answer: Result<T, Fault>) -> Result<bool, Fault> {
     }
 }
 
-/// Types that are made in a table for two: `u8` twice, `bool`, `char` and `bool`; which of them are one, and that `char` is refused.
+/// A table for two types. `u8` twice, `bool`, `char` and `bool` are interned: which of them are equal, and that `char` is refused.
 fn types_for_two(cx: &mut Interner) -> Result<[bool; 4], Fault> {
     let byte = cx.mk_ty(TyKind::Uint(UintTy::U8))?;
     let same = cx.mk_ty(TyKind::Uint(UintTy::U8))?;
@@ -61,7 +61,7 @@ fn lifetimes(
     ]?)
 }
 
-/// Constants that are made twice.
+/// Constants that are interned twice.
 fn constants(cx: &mut Interner) -> Result<[bool; 3], Fault> {
     let three = cx.mk_const(ConstKind::Value(3))?;
     let has_value = cx.const_kind(three) == ConstKind::Value(3);
@@ -70,7 +70,7 @@ fn constants(cx: &mut Interner) -> Result<[bool; 3], Fault> {
     Ok([has_value, three == same, three == other])
 }
 
-/// Lists of lifetimes that are made twice.
+/// Lists of lifetimes that are interned twice.
 fn lists_of_lifetimes(alloc: Global, cx: &mut Interner) -> Result<[bool; 3], Fault> {
     let there = lifetimes(cx, alloc, STATIC, PARAMETER)?;
     let has_two = cx.args(there).len() == 2;
@@ -79,7 +79,7 @@ fn lists_of_lifetimes(alloc: Global, cx: &mut Interner) -> Result<[bool; 3], Fau
     Ok([has_two, there == same, there == back])
 }
 
-/// Lists of types that are made twice; then the table is full.
+/// Lists of types that are interned twice, until the table is full.
 fn lists_of_types(alloc: Global, cx: &mut Interner) -> Result<[bool; 4], Fault> {
     let there = pair(alloc, cx, Sample::Byte, Sample::Bool)?;
     let has_two = cx.tys(there).len() == 2;
@@ -93,7 +93,7 @@ const FIRST: TraitId = TraitId { index: 1 };
 
 const SECOND: TraitId = TraitId { index: 2 };
 
-/// The bounds `dyn for<'a> P + A` of a principal without arguments and an auto trait.
+/// The bounds of `dyn for<'a> P + A`, with a principal trait without arguments and an auto trait.
 fn object_bounds(cx: &mut Interner, alloc: Global, auto_trait: TraitId) -> Result<Bounds, Fault>
     ensures { IfOk result (λ b. Has cx.new.entries bounds_lists b.0) }
 {
@@ -126,8 +126,8 @@ fn equal_terms_have_one_handle(rt: HostRuntime) -> Result<(), Fault> {
     Ok(())
 }
 
-/// Bounds that are made twice: which of them are one; and the flags, the outer binder and the depth of the first, and how many auto
-/// traits it has.
+/// Bounds that are interned twice. Which of them are equal, the flags, outer binder and depth of the first, and the number of its
+/// auto traits.
 fn bounds(alloc: Global, cx: &mut Interner) -> Result<([bool; 2], [u32; 3], usize), Fault> {
     let first = object_bounds(cx, alloc, FIRST)?;
     let outer = cx.outer_exclusive_binder(first).index;

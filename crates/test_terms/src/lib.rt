@@ -1,6 +1,6 @@
-//! Tests of terms, folds, tables, canonical forms and answers, by public calls; and worked frames of small handlers.
+//! Tests of terms, folds, tables, canonical forms and responses by public calls, and worked frames of small handlers.
 //!
-//! They stand above the crates that they test, so that each of those is proved once and not a second time with its tests.
+//! They are a crate of their own, so that the tested crates are not proved a second time with their tests.
 #![tactic(auto)]
 
 #[cfg(test)]

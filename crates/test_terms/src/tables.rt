@@ -1,4 +1,4 @@
-//! Variables of a table, its equations, and what undoes them.
+//! Variables of a table, equations, and their undoing.
 ghost use Rattle.std.specs.Prelude.{IfOk};
 ghost use Rattle.type_terms.specs.Promised.Handles.{Has, Keeps, types};
 ghost use Rattle.type_terms.specs.Terms.{type_lists};
@@ -104,7 +104,7 @@ pub(crate) fn equated(answer: Result<(), EqError>) -> Result<bool, Fault> {
     }
 }
 
-/// A type with the values of its variables.
+/// A resolved type.
 fn resolve(alloc: Global, cx: &mut Interner, table: &InferCtxt, shape: Shape) -> Result<Ty, Fault>
     requires { Ready cx.old.entries table.now }
 {
@@ -112,7 +112,7 @@ fn resolve(alloc: Global, cx: &mut Interner, table: &InferCtxt, shape: Shape) ->
     table.eager_resolve_vars(cx, ty)
 }
 
-/// What a variable stands for.
+/// The value of a variable.
 fn value_of(alloc: Global, cx: &mut Interner, table: &InferCtxt, shape: Shape) -> Result<Ty, Fault>
     requires { Ready cx.old.entries table.now }
 {
@@ -120,7 +120,7 @@ fn value_of(alloc: Global, cx: &mut Interner, table: &InferCtxt, shape: Shape) -
     Ok(table.shallow_resolve(cx, ty))
 }
 
-/// Equates two types and undoes that.
+/// Equates two types and undoes the equation.
 fn equate_and_undo(
     alloc: Global,
     cx: &mut Interner,
@@ -145,7 +145,7 @@ pub(crate) fn empty_table(alloc: Global, cx: &Interner) -> InferCtxt
     InferCtxt::new(alloc)
 }
 
-/// Makes two unknown types.
+/// Makes two type variables.
 fn two_unknowns(cx: &mut Interner, table: &mut InferCtxt) -> Result<(), Fault>
     requires { Ready cx.old.entries table.old }
     ensures { IfOk result (λ _. Ready cx.new.entries table.new) }
@@ -167,14 +167,14 @@ fn second_unknown(cx: &mut Interner, table: &mut InferCtxt) -> Result<TyKind, Fa
     Ok(cx.kind(second))
 }
 
-/// The first lifetime variable of a table, and how many constraints it has once one on that lifetime is registered.
+/// The first lifetime variable of a table, and the number of constraints after one on that lifetime is registered.
 fn constrained_lifetime(table: &mut InferCtxt) -> Result<(RegionKind, usize), Fault> {
     let lifetime = table.next_region_var()?;
     table.register_region_constraint(RegionConstraint::RegionOutlives(lifetime, lifetime))?;
     Ok((lifetime.kind, table.region_constraints().len()))
 }
 
-/// Both.
+/// A type variable, and a constrained lifetime.
 fn variables(alloc: Global, cx: &mut Interner) -> Result<(TyKind, (RegionKind, usize)), Fault> {
     let mut table = empty_table(alloc, cx);
     let second = second_unknown(cx, &mut table)?;
@@ -190,7 +190,7 @@ fn variables_are_numbered_from_zero(rt: HostRuntime) -> Result<(), Fault> {
     Ok(())
 }
 
-/// Whether `V<?0>` is `V<u8>` once they are equated in this table.
+/// Whether `V<?0>` is `V<u8>` after they are equated in this table.
 fn list_gets_its_type(
     alloc: Global,
     cx: &mut Interner,
@@ -205,7 +205,7 @@ fn list_gets_its_type(
     Ok(resolved == make(alloc, cx, bytes)?)
 }
 
-/// Whether an unknown constant is the first, and is 3 once they are equated.
+/// Whether a const variable is the first, and resolves to 3 after they are equated.
 fn constant_gets_its_value(alloc: Global, cx: &mut Interner) -> Result<[bool; 2], EqError> {
     let three = cx.mk_const(ConstKind::Value(3))?;
     let mut table = empty_table(alloc, cx);
@@ -216,7 +216,7 @@ fn constant_gets_its_value(alloc: Global, cx: &mut Interner) -> Result<[bool; 2]
     Ok([is_first, table.shallow_resolve_const(cx, unknown) == three])
 }
 
-/// Both.
+/// The values of a type variable and of a const variable.
 fn values(alloc: Global, cx: &mut Interner) -> Result<(bool, [bool; 2]), EqError> {
     let mut table = empty_table(alloc, cx);
     let list = list_gets_its_type(alloc, cx, &mut table)?;
@@ -230,7 +230,7 @@ fn equations_give_unknowns_their_values(rt: HostRuntime) -> Result<(), EqError> 
     Ok(())
 }
 
-/// Whether two types are refused, and `?1` is without value then and no lifetime constrained.
+/// Whether the equation of two types is refused, and leaves `?1` without value and no lifetime constrained.
 fn are_refused(
     alloc: Global,
     cx: &mut Interner,
@@ -248,7 +248,7 @@ fn are_refused(
     Ok(!equated(answer)? && is_unchanged)
 }
 
-/// Whether `?1` is without value once its equation with `u8` is undone.
+/// Whether `?1` is without value after its equation with `u8` is undone.
 fn is_undone(alloc: Global, cx: &mut Interner, table: &mut InferCtxt) -> Result<bool, EqError>
     requires { Ready cx.old.entries table.old }
 {
@@ -259,7 +259,7 @@ fn is_undone(alloc: Global, cx: &mut Interner, table: &mut InferCtxt) -> Result<
     Ok(value == make(alloc, cx, left)?)
 }
 
-// The last one is refused after `?1` was made `bool`.
+// The last equation is refused after `?1` got the value `bool`.
 #[test]
 fn a_refused_equation_leaves_the_table_unchanged(rt: HostRuntime) -> Result<(), Fault> {
     for (left, right) in [
@@ -317,7 +317,7 @@ const FREE: Region = Region {
     kind: RegionKind::ReVar(RegionVid { index: 0 }),
 };
 
-/// Whether `for<'a> fn(&'a u8) -> &'a u8` has a lifetime variable for `'a` once it is opened.
+/// Whether `for<'a> fn(&'a u8) -> &'a u8` has a lifetime variable for `'a` after it is opened.
 fn is_opened(alloc: Global, cx: &mut Interner) -> Result<bool, Fault> {
     let value = signature(alloc, cx, BOUND)?;
     let mut table = empty_table(alloc, cx);
@@ -337,7 +337,7 @@ fn has_input_and_output(alloc: Global, cx: &mut Interner) -> Result<[bool; 2], F
     Ok([sig.inputs(cx).len() == 1, sig.output(cx) == truth])
 }
 
-/// Both.
+/// An opened signature, and one with an input and an output.
 fn signatures(alloc: Global, cx: &mut Interner) -> Result<(bool, [bool; 2]), Fault> {
     let is_opened = is_opened(alloc, cx)?;
     Ok((is_opened, has_input_and_output(alloc, cx)?))

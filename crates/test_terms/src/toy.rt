@@ -1,4 +1,4 @@
-//! Small handlers that show that the laws of tables and of handlers can be met, and what their frames ask and answer.
+//! Small handlers. They show that the laws of tables and handlers can be satisfied, and what frames do.
 
 ghost use Rattle.std.specs.Prelude.{◌≡◌, List, [], ◌∷◌, None};
 ghost use Rattle.goal_evaluator.specs.Table.{IsTable, workings};
@@ -17,7 +17,7 @@ use goal_evaluator::promises::{
     rounds_correspond,
 };
 
-/// The handlers of all lists of rules, over tables with one unknown.
+/// The handlers of all lists of rules, over tables with one variable.
 pub struct RuleBooks;
 
 impl Evaluation for RuleBooks {
@@ -32,12 +32,12 @@ impl Evaluation for RuleBooks {
     ghost handled = { λ goal. handled_by goal.0 goal.1 };
 }
 
-/// The tables with one unknown are lawful.
+/// The tables with one variable satisfy the laws of tables.
 pub fn atoms_are_lawful()
     ensures { IsTable atoms }
 {}
 
-/// The handler of each list of rules is lawful.
+/// The handler of each list of rules satisfies the laws of handlers.
 pub fn rule_books_are_lawful()
     ensures { (book : AtomRuleBook) (goal : Goal) → IsHandler atoms (handled_by book goal) }
 {}
@@ -47,7 +47,7 @@ pub fn rule_books_are_systems()
     ensures { (book : AtomRuleBook) → IsSystem atoms (system_of book) }
 {}
 
-/// So the promises hold of their frames.
+/// So the promises about frames hold of their frames.
 pub fn rule_books_keep_promises()
     ensures yes { (book : AtomRuleBook) (goal : Goal) → DefiniteYesFollows atoms (handled_by book goal) }
     ensures covers { (book : AtomRuleBook) (goal : Goal) → AnswerCoversGoal atoms (handled_by book goal) }
@@ -71,7 +71,7 @@ impl GoalSystem for CoinductiveRule {
     ghost system = { system_of coinductive_rule };
 }
 
-/// So a proof graph of a goal of this rule, which needs itself, gives each of its instances a proof.
+/// A proof graph of a goal of this rule, which needs itself, gives each of its instances a proof.
 pub fn coinductive_graphs_prove()
     ensures { GraphsProve atoms (system_of coinductive_rule) }
 {
@@ -79,7 +79,7 @@ pub fn coinductive_graphs_prove()
     graph_has_proof::<CoinductiveRule>();
 }
 
-/// The tables with one unknown, and the same tables with the number of answers that were put into them.
+/// The tables with one variable, and the same tables with the number of responses that were applied to them.
 pub struct CountedAtoms;
 
 impl CorrespondingOperations for CountedAtoms {
@@ -114,7 +114,7 @@ impl CorrespondingWorkings for CountedAtoms {
     ghost correspondence = { but_for_tables (workings atoms) (λ table counted. table ≡ counted.table) };
 }
 
-/// Counting changes nothing of what rounds, candidates and frames ask and answer.
+/// Counting does not change the requests and results of rounds, candidates and frames.
 #[tactic(auto, using(crate::proofs::Counted::atoms_correspond))]
 pub fn counting_changes_nothing()
     ensures rounds { RoundsCorrespond (workings atoms).operations (counting (workings atoms)).operations (but_for_counts (workings atoms)).rounds }
@@ -126,12 +126,12 @@ pub fn counting_changes_nothing()
     frames_correspond::<CountedAtoms>();
 }
 
-/// Without a rule there is no candidate, and the goal is refused at once.
+/// Without a rule there is no candidate, and the goal fails at once.
 pub fn no_rule_is_refused()
     ensures { ToyAsks no_rule (show (atom u8)) (begin ∷ []) (returns None) }
 {}
 
-/// `show(u8)` holds by a rule without premises; `show(bool)` is refused by its equation; an unknown is given its value.
+/// `show(u8)` holds by a rule without premises. `show(bool)` fails by its equation. A variable gets the value `u8`.
 pub fn one_rule_answers()
     ensures begins { ToyAsks one_rule (show (atom u8)) (begin ∷ []) enter_candidate }
     ensures ends { ToyAsks one_rule (show (atom u8)) (entered ∷ begin ∷ []) finish_candidate }
@@ -141,38 +141,40 @@ pub fn one_rule_answers()
     ensures bound { ToyAsks one_rule (show unknown) (finished 0 ∷ entered ∷ begin ∷ []) (returns (yes_with u8)) }
 {}
 
-/// Two rules with different values leave the unknown open.
+/// Two rules with different values leave the goal ambiguous.
 pub fn two_rules_are_ambiguous()
     ensures known { ToyAsks two_rules (show (atom bool)) (ignored ∷ finished 1 ∷ entered ∷ finished 0 ∷ entered ∷ begin ∷ []) (returns yes) }
     ensures open { ToyAsks two_rules (show unknown) (finished 1 ∷ entered ∷ finished 0 ∷ entered ∷ begin ∷ []) (returns maybe) }
 {}
 
-/// Three premises are asked in order; where the second is refused, the third is not asked.
+/// Three premises are evaluated in order. If the second fails, the third is not evaluated.
 pub fn three_premises_are_asked_in_order()
     ensures first { ToyAsks three_premises (show (atom u8)) (entered ∷ begin ∷ []) (evaluate (clone (atom u8))) }
     ensures second { ToyAsks three_premises (show (atom u8)) (evaluated yes ∷ entered ∷ begin ∷ []) (evaluate (copy (atom u8))) }
     ensures third { ToyAsks three_premises (show (atom u8)) (evaluated yes ∷ evaluated yes ∷ entered ∷ begin ∷ []) (evaluate (sized (atom u8))) }
-    ensures yes { ToyAsks three_premises (show (atom u8)) (finished 0 ∷ evaluated yes ∷ evaluated yes ∷ evaluated yes ∷ entered ∷ begin ∷ []) (returns yes) }
+    ensures yes { ToyAsks three_premises (show (atom u8))
+        (finished 0 ∷ evaluated yes ∷ evaluated yes ∷ evaluated yes ∷ entered ∷ begin ∷ []) (returns yes) }
     ensures refused { ToyAsks three_premises (show (atom u8)) (evaluated None ∷ evaluated yes ∷ entered ∷ begin ∷ []) finish_candidate }
 
-    // In a round without values, those that are not yes stay, and an overflow among them is the cause.
+    // In a round without values, the premises that are not yes remain, and an overflow among them is the cause.
     ensures ambiguous { ToyAsks three_premises (show (atom u8))
         (finished 0 ∷ evaluated yes ∷ evaluated maybe ∷ evaluated yes ∷ entered ∷ begin ∷ []) (returns maybe) }
     ensures overflowed { ToyAsks three_premises (show (atom u8))
         (finished 0 ∷ evaluated maybe ∷ evaluated overflow ∷ evaluated yes ∷ entered ∷ begin ∷ []) (returns overflow) }
 {}
 
-/// A premise that binds the unknown is asked again with its value; after eight rounds with values the answer is an overflow
-/// without values.
+/// A premise that gives the variable a value is evaluated again with it. After eight rounds with values the result is an
+/// overflow without values.
 pub fn premise_binds_unknown()
     ensures asked { ToyAsks premise_binds (show unknown) (entered ∷ begin ∷ []) (evaluate (clone unknown)) }
     ensures asked_again { ToyAsks premise_binds (show unknown) (evaluated (yes_with u8) ∷ entered ∷ begin ∷ []) (evaluate (clone (atom u8))) }
-    ensures bound { ToyAsks premise_binds (show unknown) (finished 0 ∷ evaluated yes ∷ evaluated (yes_with u8) ∷ entered ∷ begin ∷ []) (returns (yes_with u8)) }
+    ensures bound { ToyAsks premise_binds (show unknown)
+        (finished 0 ∷ evaluated yes ∷ evaluated (yes_with u8) ∷ entered ∷ begin ∷ []) (returns (yes_with u8)) }
     ensures eighth { ToyAsks premise_binds (show unknown) (rounds_with_values 7 (entered ∷ begin ∷ [])) (evaluate (clone (atom u8))) }
     ensures no_ninth { ToyAsks premise_binds (show unknown) (finished 0 ∷ rounds_with_values 8 (entered ∷ begin ∷ [])) (returns overflow) }
 {}
 
-/// A coinductive goal that needs itself has a proof, and its frame asks for itself.
+/// A coinductive goal that needs itself has a proof, and its frame evaluates itself.
 pub fn coinductive_rule_needs_itself()
     ensures asked { ToyAsks coinductive_rule (send (atom u8)) (entered ∷ begin ∷ []) (evaluate (send (atom u8))) }
     ensures yes { ToyAsks coinductive_rule (send (atom u8)) (finished 0 ∷ evaluated yes ∷ entered ∷ begin ∷ []) (returns yes) }

@@ -1,4 +1,4 @@
-//! Folds that change nothing or fail, and what stands in a value.
+//! Folds that change nothing or fail, and visits of values.
 ghost use Rattle.std.specs.Prelude.{◌≡◌, IfOk};
 ghost use Rattle.type_terms.specs.Promised.Handles.{Has, Keeps, types};
 ghost use Rattle.type_terms.specs.Promised.Handles.{RegionHeld};
@@ -25,7 +25,7 @@ use type_terms::visitable::TypeVisitable;
 use type_terms::visitable_ext::TypeVisitableExt;
 use type_terms::{AdtId, Fault, TraitId};
 
-/// Leaves everything as it is.
+/// Changes nothing.
 #[derive(Clone, Copy)]
 struct Identity;
 
@@ -85,7 +85,7 @@ impl TypeFolder for Identity {
     }
 }
 
-/// Why a fold by `NoBool` ends.
+/// Why a fold by `NoBool` fails.
 #[derive(Clone, Copy)]
 enum Refusal {
     Bool,
@@ -102,7 +102,7 @@ impl From<Fault> for Refusal {
     }
 }
 
-/// Refuses `bool`.
+/// Fails at `bool`.
 #[derive(Clone, Copy)]
 struct NoBool;
 
@@ -170,7 +170,7 @@ impl FallibleTypeFolder for NoBool {
     }
 }
 
-/// Breaks with the first lifetime.
+/// Breaks at the first lifetime.
 #[derive(Clone, Copy)]
 pub(crate) struct FirstRegion;
 
@@ -230,7 +230,7 @@ const FOLDS: [Fold; 4] = [
     Fold::FallibleBelow,
 ];
 
-/// Whether this fold by the identity gives the same type.
+/// Whether this fold by the identity returns the same type.
 fn type_stays(alloc: Global, cx: &mut Interner, fold: Fold) -> Result<bool, Fault> {
     let ty = reference(cx, BOUND)?;
     let folded = match fold {
@@ -242,7 +242,7 @@ fn type_stays(alloc: Global, cx: &mut Interner, fold: Fold) -> Result<bool, Faul
     Ok(folded == ty)
 }
 
-/// Whether it gives the same constant.
+/// Whether this fold by the identity returns the same constant.
 fn constant_stays(alloc: Global, cx: &mut Interner, fold: Fold) -> Result<bool, Fault> {
     let three = cx.mk_const(ConstKind::Value(3))?;
     let folded = match fold {
@@ -254,7 +254,7 @@ fn constant_stays(alloc: Global, cx: &mut Interner, fold: Fold) -> Result<bool, 
     Ok(folded == three)
 }
 
-/// Both.
+/// Both checks: of a type and of a constant.
 fn stay(alloc: Global, cx: &mut Interner, fold: Fold) -> Result<[bool; 2], Fault> {
     let ty = type_stays(alloc, cx, fold)?;
     Ok([ty, constant_stays(alloc, cx, fold)?])
@@ -269,7 +269,7 @@ fn identity_folds_give_the_same_handle(rt: HostRuntime) -> Result<(), Fault> {
     Ok(())
 }
 
-/// Whether `NoBool` leaves `V` of this type as it is, or none where it refuses it.
+/// Whether `NoBool` does not change `V` of this type, or none if it fails.
 fn without_bool(alloc: Global, cx: &mut Interner, argument: Sample) -> Result<Option<bool>, Fault> {
     let ty = make(alloc, cx, Shape::VecOf(argument))?;
     match ty.try_fold_with(alloc, cx, &NoBool) {
@@ -288,7 +288,7 @@ fn a_refusal_below_a_struct_is_the_answer(rt: HostRuntime) -> Result<(), Fault> 
     Ok(())
 }
 
-/// What shows whether a lifetime stands in a value: a visit that looks for one; the flags; and the outer binder.
+/// Three results about the lifetimes of a value: of a visit that finds one, the flags, and the outer binder.
 type Shown = (bool, u32, u32);
 
 fn shown<T: TypeVisitableExt>(cx: &Interner, value: T) -> Shown
@@ -302,7 +302,7 @@ fn shown<T: TypeVisitableExt>(cx: &Interner, value: T) -> Shown
     )
 }
 
-/// What shows in the value, and whether it is itself after a fold by the identity.
+/// These results for a value, and whether a fold by the identity returns the same value.
 fn shown_and_folded<T: TypeVisitableExt + TypeFoldable + PartialEq>(
     alloc: Global,
     cx: &mut Interner,
@@ -315,7 +315,7 @@ fn shown_and_folded<T: TypeVisitableExt + TypeFoldable + PartialEq>(
     Ok((shown, folded == value))
 }
 
-/// A value in which the bound lifetime stands: a term.
+/// A term with the bound lifetime.
 #[derive(Clone, Copy)]
 enum Term {
     Region,
@@ -325,7 +325,7 @@ enum Term {
     Tys,
 }
 
-/// What shows in the term, and whether it stays.
+/// These results for a term, and whether the identity does not change it.
 fn term_shows(alloc: Global, cx: &mut Interner, term: Term) -> Result<(Shown, bool), Fault> {
     let argument = GenericArgKind::Lifetime(BOUND);
     match term {
@@ -363,7 +363,7 @@ fn a_bound_lifetime_shows_in_terms_and_stays(rt: HostRuntime) -> Result<(), Faul
     Ok(())
 }
 
-/// A value in which it stands: one that is made of terms. The second clause is under the lifetime's binder.
+/// A value of several terms with the bound lifetime. The second clause is below the binder of the lifetime.
 #[derive(Clone, Copy)]
 enum Value {
     Clause,
@@ -373,7 +373,7 @@ enum Value {
     FnSig,
 }
 
-/// What shows in the value, and whether it stays.
+/// These results for a value, and whether the identity does not change it.
 fn value_shows(alloc: Global, cx: &mut Interner, value: Value) -> Result<(Shown, bool), Fault> {
     let clause = Clause::RegionOutlives(BOUND, BOUND);
     let def_id = TraitId { index: 4 };
@@ -434,7 +434,7 @@ fn constant_shows(alloc: Global, cx: &mut Interner) -> Result<(Shown, bool), Fau
     shown_and_folded(alloc, cx, three)
 }
 
-/// Whether a parameter, an unknown, a type parameter and a bound variable stand in `V<T>`.
+/// Whether `V<T>` has a parameter, an inference variable, a type parameter and a bound variable.
 fn parameter_shows(alloc: Global, cx: &mut Interner) -> Result<[bool; 4], Fault> {
     let parameter = cx.mk_ty(TyKind::Param(0))?;
     let args = cx.mk_args(vec![in alloc; GenericArgKind::Ty(parameter)]?)?;
@@ -447,7 +447,7 @@ fn parameter_shows(alloc: Global, cx: &mut Interner) -> Result<[bool; 4], Fault>
     ])
 }
 
-/// What shows in auto traits and in a constant, and whether they stay.
+/// These results for auto traits and for a constant, and whether the identity does not change them.
 fn rest_shows(alloc: Global, cx: &mut Interner) -> Result<[(Shown, bool); 2], Fault> {
     let bounds = bounds_show(alloc, cx)?;
     Ok([bounds, constant_shows(alloc, cx)?])
