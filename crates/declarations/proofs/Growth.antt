@@ -14,7 +14,7 @@ use Rattle.declarations.specs.declared.items.AdtDef.{AdtDef}
 use Rattle.declarations.specs.declared.items.TraitDef.{TraitDef}
 use Rattle.declarations.specs.declared.items.ImplDef.{ImplDef}
 use Rattle.declarations.specs.Apart.{is_fixed}
-use Rattle.declarations.specs.Heads.{head_of, begins_declared}
+use Rattle.declarations.specs.Heads.{head_of, inner_head_of, begins_declared}
 use Rattle.declarations.specs.Promised.Elaboration.{Each}
 use Rattle.declarations.specs.Unsizing.{field_trees, unsizing_flags}
 use Rattle.declarations.specs.Items.{Items, HeldImpl, reference_in, struct_in, trait_in, impl_in, written, declared}
@@ -94,6 +94,11 @@ module _ (old new : List Entry) (k : Keeps old new) where
   heads-kept [] h e = tt
   heads-kept (i ∷ is) h e = (e.0 ∙ ap head_of (sym (args-same i.def.header h.0.header)), heads-kept is h.1 e.1)
 
+  inner-kept : (is : List HeldImpl) → Each (λ i. ImplHeld old i.def) is → Each (λ (i : HeldImpl). i.inner_head ≡ inner_head_of (trees_at old i.def.header.args.0)) is
+      → Each (λ (i : HeldImpl). i.inner_head ≡ inner_head_of (trees_at new i.def.header.args.0)) is
+  inner-kept [] h e = tt
+  inner-kept (i ∷ is) h e = (e.0 ∙ ap inner_head_of (sym (args-same i.def.header h.0.header)), inner-kept is h.1 e.1)
+
   fixed-kept : (is : List HeldImpl) → Each (λ i. ImplHeld old i.def) is → Each (λ (i : HeldImpl). i.is_fixed ≡ is_fixed (trees_at old i.def.header.args.0)) is
       → Each (λ (i : HeldImpl). i.is_fixed ≡ is_fixed (trees_at new i.def.header.args.0)) is
   fixed-kept [] h e = tt
@@ -106,6 +111,7 @@ module _ (old new : List Entry) (k : Keeps old new) where
         traits = each-kept (λ (x : TraitId × TraitDef). TraitHeld old x.1) (λ x. TraitHeld new x.1) (λ x g. references-kept x.1.bounds.items g) d.traits h.traits;
         impls = each-kept (λ (i : HeldImpl). ImplHeld old i.def) (λ i. ImplHeld new i.def) (λ i g. impl-kept i.def g) d.impls h.impls;
         heads = heads-kept d.impls h.impls h.heads;
+        inner = inner-kept d.impls h.impls h.inner;
         fixed = fixed-kept d.impls h.impls h.fixed;
       }
 

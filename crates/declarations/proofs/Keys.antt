@@ -1,5 +1,5 @@
 -- The derived equality of keys, and what a map of keys lists.
-use Rattle.std.proofs.Common.{◌≡◌, Bool, true, false, cond, ◌&&◌, List, [], ◌∷◌, ◌++◌, Option, Some, None, refl, sym, ap, ◌∙◌, if◌then◌else◌}
+use Rattle.std.proofs.Common.{◌≡◌, Bool, true, false, cond, ◌&&◌, ◌||◌, Result, Ok, Err, OnOk, List, [], ◌∷◌, ◌++◌, Option, Some, None, refl, sym, ap, ◌∙◌, if◌then◌else◌}
 use Rattle.std.specs.Prelude.{◌==◌}
 use Rattle.std.specs.Option.{option_map, option_map_or, option_eq}
 use Rattle.std.specs.HashMap.{HashMap, get_by}
@@ -27,7 +27,7 @@ use Rattle.declarations.specs.declared.simplify.SimplifiedType.TheVariants.{Bool
 use Rattle.declarations.specs.declared.heads.ImplHead.{ImplHead}
 use Rattle.declarations.specs.declared.heads.ImplIds.{ImplIds}
 use Rattle.declarations.specs.declared.heads.ImplKey.{ImplKey}
-use Rattle.declarations.specs.declared.heads.ImplKey.TheVariants.{Headed, Open, Fixed}
+use Rattle.declarations.specs.declared.heads.ImplKey.TheVariants.{Headed, Open, Fixed, Shallow, Inner}
 use Rattle.declarations.specs.Heads.{label_of, same_self}
 use Rattle.declarations.specs.Index.{ids_in, is_head, is_key, listed}
 use Rattle.declarations.proofs.Lookups.{lookup-agree, one-number}
@@ -138,34 +138,83 @@ heads-agree h k e j =
 index-tells : (h k : ImplKey) → index.eq h k ≡ is_key h k
 index-tells (Headed h) (Headed k) = key-tells h k
 index-tells (Headed h) (Open k) = refl
-index-tells (Headed h) (Fixed s) = refl
+index-tells (Headed h) (Fixed q) = refl
+index-tells (Headed h) (Shallow u) = refl
+index-tells (Headed h) (Inner k u) = refl
 index-tells (Open h) (Headed k) = refl
 index-tells (Open h) (Open k) = key-tells h k
-index-tells (Open h) (Fixed s) = refl
+index-tells (Open h) (Fixed q) = refl
+index-tells (Open h) (Shallow u) = refl
+index-tells (Open h) (Inner k u) = refl
 index-tells (Fixed r) (Headed k) = refl
 index-tells (Fixed r) (Open k) = refl
-index-tells (Fixed r) (Fixed s) = refl
+index-tells (Fixed r) (Fixed q) = refl
+index-tells (Fixed r) (Shallow u) = refl
+index-tells (Fixed r) (Inner k u) = refl
+index-tells (Shallow t) (Headed k) = refl
+index-tells (Shallow t) (Open k) = refl
+index-tells (Shallow t) (Fixed q) = refl
+index-tells (Shallow t) (Shallow u) = refl
+index-tells (Shallow t) (Inner k u) = refl
+index-tells (Inner h s) (Headed k) = refl
+index-tells (Inner h s) (Open k) = refl
+index-tells (Inner h s) (Fixed q) = refl
+index-tells (Inner h s) (Shallow u) = refl
+index-tells (Inner h s) (Inner k u) = ap (λ b. b && head.eq s u) (key-tells h k) ∙ ap (λ b. is_head h k && b) (head-tells s u)
 
 -- and so are two equal keys
 keys-agree : (h k : ImplKey) → is_key h k ≡ true → (j : ImplKey) → is_key h j ≡ is_key k j
 keys-agree (Headed h) (Headed k) e (Headed j) = heads-agree h k e j
 keys-agree (Headed h) (Headed k) e (Open j) = refl
-keys-agree (Headed h) (Headed k) e (Fixed q) = refl
+keys-agree (Headed h) (Headed k) e (Fixed p) = refl
+keys-agree (Headed h) (Headed k) e (Shallow w) = refl
+keys-agree (Headed h) (Headed k) e (Inner j w) = refl
 keys-agree (Headed h) (Open k) e j = absurd cc
-keys-agree (Headed h) (Fixed s) e j = absurd cc
+keys-agree (Headed h) (Fixed q) e j = absurd cc
+keys-agree (Headed h) (Shallow u) e j = absurd cc
+keys-agree (Headed h) (Inner k u) e j = absurd cc
 keys-agree (Open h) (Headed k) e j = absurd cc
 keys-agree (Open h) (Open k) e (Headed j) = refl
 keys-agree (Open h) (Open k) e (Open j) = heads-agree h k e j
-keys-agree (Open h) (Open k) e (Fixed q) = refl
-keys-agree (Open h) (Fixed s) e j = absurd cc
+keys-agree (Open h) (Open k) e (Fixed p) = refl
+keys-agree (Open h) (Open k) e (Shallow w) = refl
+keys-agree (Open h) (Open k) e (Inner j w) = refl
+keys-agree (Open h) (Fixed q) e j = absurd cc
+keys-agree (Open h) (Shallow u) e j = absurd cc
+keys-agree (Open h) (Inner k u) e j = absurd cc
 keys-agree (Fixed r) (Headed k) e j = absurd cc
 keys-agree (Fixed r) (Open k) e j = absurd cc
-keys-agree (Fixed r) (Fixed s) e (Headed j) = refl
-keys-agree (Fixed r) (Fixed s) e (Open j) = refl
-keys-agree (Fixed r) (Fixed s) e (Fixed q) =
-    let p = and-both (r.def_id.index == s.def_id.index) _ e in
-    ap (λ n. (n == q.def_id.index) && (r.args.0 == q.args.0)) (one-number r.def_id.index s.def_id.index p.0)
-    ∙ ap (λ n. (s.def_id.index == q.def_id.index) && (n == q.args.0)) (one-number r.args.0 s.args.0 p.1)
+keys-agree (Fixed r) (Fixed q) e (Headed j) = refl
+keys-agree (Fixed r) (Fixed q) e (Open j) = refl
+keys-agree (Fixed r) (Fixed q) e (Fixed p) =
+    let b = and-both (r.def_id.index == q.def_id.index) _ e in
+    ap (λ n. (n == p.def_id.index) && (r.args.0 == p.args.0)) (one-number r.def_id.index q.def_id.index b.0)
+    ∙ ap (λ n. (q.def_id.index == p.def_id.index) && (n == p.args.0)) (one-number r.args.0 q.args.0 b.1)
+keys-agree (Fixed r) (Fixed q) e (Shallow w) = refl
+keys-agree (Fixed r) (Fixed q) e (Inner j w) = refl
+keys-agree (Fixed r) (Shallow u) e j = absurd cc
+keys-agree (Fixed r) (Inner k u) e j = absurd cc
+keys-agree (Shallow t) (Headed k) e j = absurd cc
+keys-agree (Shallow t) (Open k) e j = absurd cc
+keys-agree (Shallow t) (Fixed q) e j = absurd cc
+keys-agree (Shallow t) (Shallow u) e (Headed j) = refl
+keys-agree (Shallow t) (Shallow u) e (Open j) = refl
+keys-agree (Shallow t) (Shallow u) e (Fixed p) = refl
+keys-agree (Shallow t) (Shallow u) e (Shallow w) = ap (λ n. n == w.index) (one-number t.index u.index e)
+keys-agree (Shallow t) (Shallow u) e (Inner j w) = refl
+keys-agree (Shallow t) (Inner k u) e j = absurd cc
+keys-agree (Inner h s) (Headed k) e j = absurd cc
+keys-agree (Inner h s) (Open k) e j = absurd cc
+keys-agree (Inner h s) (Fixed q) e j = absurd cc
+keys-agree (Inner h s) (Shallow u) e j = absurd cc
+keys-agree (Inner h s) (Inner k u) e (Headed j) = refl
+keys-agree (Inner h s) (Inner k u) e (Open j) = refl
+keys-agree (Inner h s) (Inner k u) e (Fixed p) = refl
+keys-agree (Inner h s) (Inner k u) e (Shallow w) = refl
+keys-agree (Inner h s) (Inner k u) e (Inner j w) =
+    let b = and-both (is_head h k) _ e in
+    ap (λ z. z && same_label (label_of s) (label_of w)) (heads-agree h k b.0 j)
+    ∙ ap (λ l. is_head k j && same_label l (label_of w)) (same-label-sound (label_of s) (label_of u) b.1)
 
 pub same-self-itself : (a : Option Label) → same_self a a ≡ true
 same-self-itself None = refl
@@ -178,6 +227,8 @@ key-itself : (k : ImplKey) → is_key k k ≡ true
 key-itself (Headed h) = head-itself h
 key-itself (Open h) = head-itself h
 key-itself (Fixed r) = ap (λ b. b && (r.args.0 == r.args.0)) (self-number r.def_id.index) ∙ self-number r.args.0
+key-itself (Shallow t) = self-number t.index
+key-itself (Inner h s) = ap (λ b. b && same_label (label_of s) (label_of s)) (head-itself h) ∙ same-label-itself (label_of s)
 
 module _ {S : Type 0} where
   pub same-listed : (m : HashMap ImplKey ImplIds S) (h k : ImplKey) → is_key h k ≡ true → listed m h ≡ listed m k
@@ -232,6 +283,26 @@ module _ {S : Type 0} where
           ∙ taken (listed m h) i (added h ∙ ap (λ b. if b then listed m h ++ i ∷ [] else listed m h) (key-itself h))
           ∙ same-listed m h k e
       by false e = others k e ∙ added k ∙ ap (λ b. if b then listed m k ++ i ∷ [] else listed m k) e
+
+-- ---- an impl that is added to lists one after another
+-- no list has both, so each has it once
+pub added-second : (a b : Bool) (old mid new : List ImplId) (i : ImplId) → (a ≡ true → b ≡ false) → mid ≡ (if a then old ++ i ∷ [] else old) → new ≡ (if b then mid ++ i ∷ [] else mid)
+    → new ≡ (if a || b then old ++ i ∷ [] else old)
+added-second true true old mid new i u e f = let bad : true ≡ false = u refl in absurd cc
+added-second true false old mid new i u e f = f ∙ e
+added-second false true old mid new i u e f = f ∙ ap (λ l. l ++ i ∷ []) e
+added-second false false old mid new i u e f = f ∙ e
+
+pub added-first : (a b : Bool) (old mid new : List ImplId) (i : ImplId) → (b ≡ true → a ≡ false) → mid ≡ (if a then old ++ i ∷ [] else old) → new ≡ (if b then mid ++ i ∷ [] else mid)
+    → new ≡ (if b || a then old ++ i ∷ [] else old)
+added-first true true old mid new i u e f = let bad : true ≡ false = u refl in absurd cc
+added-first true false old mid new i u e f = f ∙ e
+added-first false true old mid new i u e f = f ∙ ap (λ l. l ++ i ∷ []) e
+added-first false false old mid new i u e f = f ∙ e
+
+pub on-ok : {T E : Type 0} (P Q : Type 0) (r : Result T E) → (P → Q) → OnOk r P → OnOk r Q
+on-ok P Q (Ok x) f p = f p
+on-ok P Q (Err e) f p = tt
 
 -- ---- what ends is not empty
 pub no-end : (ids : List ImplId) (id : ImplId) → [] ≡ ids ++ id ∷ [] → ⊥

@@ -20,6 +20,7 @@ pub mod Meeting
 pub mod MeetingKinds
 pub mod Walking
 pub mod Matched
+pub mod InnerHeads
 pub mod Fixed
 pub mod MeetingLaws
 pub mod Sound

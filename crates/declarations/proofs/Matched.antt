@@ -88,14 +88,14 @@ module _ (es : List Entry) (t : ℕ) (args : Trees) (starts : StartsWithType arg
       by none s = absurd s
       by (tree l c o) s = relevant-one l c o (trees_at es i.def.header.args.0) h.begins ∙ ap (wanted (head_of (tree l c o))) (sym e)
 
-  open-match : (i : HeldImpl) → ImplHeld es i.def → i.self_head ≡ head_of (trees_at es i.def.header.args.0)
+  pub open-match : (i : HeldImpl) → ImplHeld es i.def → i.self_head ≡ head_of (trees_at es i.def.header.args.0)
       → (rel t (head_of args) i && meets es args i) ≡ is_match t args (impl_in es i.id i.def)
   open-match i h e =
       joined (i.def.header.def_id.index == t) (wanted (head_of args) i.self_head) (meets es args i)
       ∙ ap (λ w. (i.def.header.def_id.index == t) && (w && meets es args i)) (sym (relevant-is i h e))
 
 -- ---- all of them
-matched : (es : List Entry) (t : ℕ) (args : Trees) (p : HeldImpl → Bool) (is : List HeldImpl) → Each (λ (i : HeldImpl). p i ≡ is_match t args (impl_in es i.id i.def)) is
+pub matched : (es : List Entry) (t : ℕ) (args : Trees) (p : HeldImpl → Bool) (is : List HeldImpl) → Each (λ (i : HeldImpl). p i ≡ is_match t args (impl_in es i.id i.def)) is
     → impl_indices (ids_of p is) ≡ map (λ i. i.name) (filter (is_match t args) (map (λ i. impl_in es i.id i.def) is))
 matched es t args p [] h = refl
 matched es t args p (i ∷ is) h =

@@ -70,7 +70,7 @@ sort-erased (canonical of_const i) = refl
 sort-erased (bound of_const i j) = refl
 sort-erased l = refl
 
-rigid-closed : (l : Label) → is_rigid l ≡ true → is_open l ≡ false
+pub rigid-closed : (l : Label) → is_rigid l ≡ true → is_open l ≡ false
 rigid-closed (param s i) h = absurd (false-true h)
 rigid-closed (placeholder s i) h = absurd (false-true h)
 rigid-closed (infer s i) h = absurd (false-true h)
@@ -94,7 +94,7 @@ open-left l m b h = ap (λ z. z || (is_open m || (same_label (erase_label l) (er
 open-right : (l m : Label) (b : Bool) → is_open m ≡ true → tops_may_meet l m b ≡ true
 open-right l m b h = ap (λ z. is_open l || (z || (same_label (erase_label l) (erase_label m) && (not (has_parts l) || b)))) h ∙ sym (true-or (is_open l))
 
-closed-tops : (l m : Label) (s b : Bool) → is_open l ≡ false → is_open m ≡ false → same_label (erase_label l) (erase_label m) ≡ s → tops_may_meet l m b ≡ (s && (not (has_parts l) || b))
+pub closed-tops : (l m : Label) (s b : Bool) → is_open l ≡ false → is_open m ≡ false → same_label (erase_label l) (erase_label m) ≡ s → tops_may_meet l m b ≡ (s && (not (has_parts l) || b))
 closed-tops l m s b h g e =
     ap (λ z. z || (is_open m || (same_label (erase_label l) (erase_label m) && (not (has_parts l) || b)))) h
     ∙ ap (λ z. z || (same_label (erase_label l) (erase_label m) && (not (has_parts l) || b))) g
@@ -315,7 +315,7 @@ abbrev pub top_has_parts : Trees → Bool
 top_has_parts none = false
 top_has_parts (tree l c o) = has_parts l
 
-head-is : (l m : Label) (c o : Trees) → head_of (tree l c o) ≡ Some m → (is_rigid l ≡ true) × (erase_label l ≡ m)
+pub head-is : (l m : Label) (c o : Trees) → head_of (tree l c o) ≡ Some m → (is_rigid l ≡ true) × (erase_label l ≡ m)
 head-is l m c o e = by (is_rigid l) refl e
   where
     by : (b : Bool) → is_rigid l ≡ b → (if b then Some (erase_label l) else None) ≡ Some m → (is_rigid l ≡ true) × (erase_label l ≡ m)

@@ -30,6 +30,36 @@ abbrev pub head_of : Trees → Option Label
 head_of none = None
 head_of (tree l c o) = if is_rigid l then Some (erase_label l) else None
 
+-- A reference, a raw pointer or a slice: it is made of one type.
+abbrev pub is_pointer : Label → Bool
+is_pointer slice = true
+is_pointer (ref b) = true
+is_pointer (raw_pointer b) = true
+is_pointer _ = false
+
+-- The type that a reference, a raw pointer or a slice is made of, among the nodes below it. In a reference it follows a lifetime.
+abbrev pub pointee : Label → Trees → Trees
+pointee slice t = t
+pointee (ref b) none = none
+pointee (ref b) (tree l c o) = o
+pointee (raw_pointer b) t = t
+pointee _ t = none
+
+-- The head one level below the head of a reference, a raw pointer or a slice. Of `&V<u8>` it is `V`; `&T` has none, and `V<u8>` neither.
+abbrev pub inner_head_of : Trees → Option Label
+inner_head_of none = None
+inner_head_of (tree l c o) = head_of (pointee l c)
+
+-- A type with this head, but no inner head, can match one that has an inner head: it has no head, or it is a reference, raw pointer or slice.
+abbrev pub matches_inner : Option Label → Bool
+matches_inner None = true
+matches_inner (Some l) = is_pointer l
+
+-- A self type with this head and this inner head is shallow: it can match types of more than one inner head.
+abbrev pub is_shallow : Option Label → Option Label → Bool
+is_shallow h None = matches_inner h
+is_shallow h (Some k) = false
+
 -- The first type is a parameter, or is rigid.
 abbrev pub begins_declared : Trees → Bool
 begins_declared none = false

@@ -7,7 +7,7 @@ use Rattle.declarations.specs.declared.items.AdtDef.{AdtDef}
 use Rattle.declarations.specs.declared.items.TraitDef.{TraitDef}
 use Rattle.declarations.specs.declared.items.ImplDef.{ImplDef}
 use Rattle.declarations.specs.Apart.{is_fixed}
-use Rattle.declarations.specs.Heads.{head_of, begins_declared}
+use Rattle.declarations.specs.Heads.{head_of, inner_head_of, begins_declared}
 use Rattle.declarations.specs.Promised.Elaboration.{Each}
 use Rattle.declarations.specs.Unsizing.{field_trees, unsizing_flags}
 use Rattle.declarations.specs.Items.{Items, HeldImpl}
@@ -30,10 +30,11 @@ pub record ImplHeld (es : List Entry) (def : ImplDef) : Type 0 where
   pub clauses : Each (ReferenceHeld es) def.clauses.items
   pub begins : begins_declared (trees_at es def.header.args.0) ≡ true
 
--- All of them are, the head of each impl is that of its self type, and its header is told to be fixed where it is.
+-- All of them are, the heads of each impl are those of its self type, and its header is stated to be fixed if it is.
 pub record AreHeld (es : List Entry) (d : Items) : Type 0 where
   pub structs : Each (λ x. StructHeld es x.1) d.structs
   pub traits : Each (λ x. TraitHeld es x.1) d.traits
   pub impls : Each (λ i. ImplHeld es i.def) d.impls
   pub heads : Each (λ (i : HeldImpl). i.self_head ≡ head_of (trees_at es i.def.header.args.0)) d.impls
+  pub inner : Each (λ (i : HeldImpl). i.inner_head ≡ inner_head_of (trees_at es i.def.header.args.0)) d.impls
   pub fixed : Each (λ (i : HeldImpl). i.is_fixed ≡ is_fixed (trees_at es i.def.header.args.0)) d.impls

@@ -1,5 +1,5 @@
 -- Impls by their keys: the trait and the head of their self type, or their header.
-use Rattle.std.specs.Prelude.{Bool, false, ◌==◌, ◌&&◌, not, List, [], ◌∷◌, map, filter, Option, None, Some}
+use Rattle.std.specs.Prelude.{Bool, false, ◌==◌, ◌&&◌, ◌||◌, not, if◌then◌else◌, List, [], ◌∷◌, map, filter, Option, None, Some}
 use Rattle.std.specs.Option.{option_map, option_map_or}
 use Rattle.std.specs.HashMap.{HashMap, get_by}
 use Rattle.type_terms.specs.declared.ImplId.{ImplId}
@@ -9,9 +9,10 @@ use Rattle.declarations.specs.declared.heads.ImplHead.{ImplHead}
 use Rattle.declarations.specs.declared.heads.ImplIds.{ImplIds}
 use Rattle.declarations.specs.declared.heads.ImplIds.TheVariants.{Empty, One, More}
 use Rattle.declarations.specs.declared.heads.ImplKey.{ImplKey}
-use Rattle.declarations.specs.declared.heads.ImplKey.TheVariants.{Headed, Open, Fixed}
+use Rattle.declarations.specs.declared.heads.ImplKey.TheVariants.{Headed, Open, Fixed, Shallow, Inner}
 use Rattle.declarations.specs.declared.simplify.SimplifiedType.{SimplifiedType}
-use Rattle.declarations.specs.Heads.{label_of, same_self}
+use Rattle.type_terms.specs.Codes.{same_label}
+use Rattle.declarations.specs.Heads.{label_of, same_self, matches_inner, is_shallow}
 use Rattle.declarations.specs.Items.{HeldImpl}
 
 -- Two heads are one.
@@ -23,7 +24,14 @@ abbrev pub is_key : ImplKey → ImplKey → Bool
 is_key (Headed h) (Headed k) = is_head h k
 is_key (Open h) (Open k) = is_head h k
 is_key (Fixed r) (Fixed s) = (r.def_id.index == s.def_id.index) && (r.args.0 == s.args.0)
+is_key (Shallow t) (Shallow u) = t.index == u.index
+is_key (Inner h s) (Inner k u) = is_head h k && same_label (label_of s) (label_of u)
 is_key _ _ = false
+
+-- The key exists, and it is this one.
+abbrev pub is_that_key : Option ImplKey → ImplKey → Bool
+is_that_key None k = false
+is_that_key (Some h) k = is_key h k
 
 -- The impls that are kept under a key.
 abbrev pub ids_in : ImplIds → List ImplId
@@ -44,6 +52,17 @@ abbrev pub has_key : ImplKey → HeldImpl → Bool
 has_key (Headed h) i = has_head h i
 has_key (Open h) i = has_head h i && not i.is_fixed
 has_key (Fixed r) i = i.is_fixed && ((i.def.header.def_id.index == r.def_id.index) && (i.def.header.args.0 == r.args.0))
+has_key (Shallow t) i = (i.def.header.def_id.index == t.index) && is_shallow i.self_head i.inner_head
+has_key (Inner h s) i = has_head h i && same_self (Some (label_of s)) i.inner_head
+
+-- The key by the inner head of an impl with this head. A self type that can match no type with an inner head has none.
+abbrev pub inner_key : ImplHead → Option SimplifiedType → Option ImplKey
+inner_key h None = if matches_inner (option_map label_of h.self_ty) then Some (Shallow h.trait_id) else None
+inner_key h (Some s) = Some (Inner h s)
+
+-- The impl has one of the two keys by which a type with this head and inner head looks for impls.
+abbrev pub has_inner_key : ImplHead → SimplifiedType → HeldImpl → Bool
+has_inner_key h s i = has_key (Shallow h.trait_id) i || has_key (Inner h s) i
 
 -- The numbers of the impls that are so.
 abbrev pub ids_of : (HeldImpl → Bool) → List HeldImpl → List ImplId

@@ -12,7 +12,14 @@ use Rattle.declarations.specs.declared.declarations.Declarations.TheInside.{Insi
 
 -- An impl of the table.
 abbrev pub impl_of : ImplId × ImplEntry → HeldImpl
-impl_of x = record { id = x.0; def = x.1.def; self_head = option_map label_of x.1.self_ty; is_fixed = x.1.is_fixed }
+impl_of x =
+    record {
+      id = x.0;
+      def = x.1.def;
+      self_head = option_map label_of x.1.self_ty;
+      inner_head = option_map label_of x.1.inner;
+      is_fixed = x.1.is_fixed;
+    }
 
 -- The lists that the tables hold.
 abbrev pub items_of : Inside → Items

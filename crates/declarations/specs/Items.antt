@@ -12,14 +12,15 @@ use Rattle.declarations.specs.declared.items.AdtDef.{AdtDef}
 use Rattle.declarations.specs.declared.items.TraitDef.{TraitDef}
 use Rattle.declarations.specs.declared.items.ImplDef.{ImplDef}
 use Rattle.declarations.specs.Apart.{is_fixed}
-use Rattle.declarations.specs.Heads.{head_of, same_self}
+use Rattle.declarations.specs.Heads.{head_of, inner_head_of, same_self}
 use Rattle.declarations.specs.Promised.Elaboration.{Each}
 
--- An impl with its number, the head of its self type, if that is no parameter, and whether its header is fixed.
+-- An impl with its number, the head and the inner head of its self type, if it has them, and whether its header is fixed.
 pub record HeldImpl : Type 0 where
   pub id : ImplId
   pub def : ImplDef
   pub self_head : Option Label
+  pub inner_head : Option Label
   pub is_fixed : Bool
 
 -- The crate that asks, and the structs, traits and impls that it sees, in the order in which they were added.
@@ -41,9 +42,11 @@ with_trait d x = record d { traits = d.traits ++ x ∷ [] }
 abbrev pub with_impl : Items → HeldImpl → Items
 with_impl d x = record d { impls = d.impls ++ x ∷ [] }
 
--- An impl with the head that its self type has among the terms of an interner.
+-- An impl with the heads that its self type has among the terms of an interner.
 abbrev pub held_impl : List Entry → ImplId → ImplDef → HeldImpl
-held_impl es i def = let args = trees_at es def.header.args.0 in record { id = i; def = def; self_head = head_of args; is_fixed = is_fixed args }
+held_impl es i def =
+    let args = trees_at es def.header.args.0 in
+    record { id = i; def = def; self_head = head_of args; inner_head = inner_head_of args; is_fixed = is_fixed args }
 
 -- The number is above those of all impls.
 abbrev pub IsAbove : ℕ → Items → Type 0

@@ -1,5 +1,5 @@
 //! The table of declarations.
-ghost use Rattle.std.specs.Prelude.{◌≡◌, ◌==◌, ◌||◌, List, [], ◌∷◌, ◌++◌, map, filter, true, if◌then◌else◌, IfSome, IfErr, OnOk, OnErr};
+ghost use Rattle.std.specs.Prelude.{◌≡◌, ◌==◌, ◌||◌, List, [], ◌∷◌, ◌++◌, map, filter, true, if◌then◌else◌, Some, IfSome, IfErr, OnOk, OnErr};
 ghost use Rattle.std.specs.Option.{option_map};
 ghost use Rattle.type_terms.specs.Promised.Handles.{Entry, Has, types, trees_at};
 ghost use Rattle.type_terms.specs.Terms.{args_lists};
@@ -9,8 +9,8 @@ ghost use Rattle.type_terms.specs.Promised.Worlds.{structs_named, traits_named};
 ghost use Rattle.type_terms.specs.Promised.Walks.{trait_is};
 ghost use Rattle.term_folds.specs.Signatures.{StartsWithType};
 ghost use Rattle.declarations.specs.Apart.{is_fixed};
-ghost use Rattle.declarations.specs.Heads.{label_of, head_of};
-ghost use Rattle.declarations.specs.Index.{has_key, has_open_head, ids_of};
+ghost use Rattle.declarations.specs.Heads.{label_of, head_of, inner_head_of};
+ghost use Rattle.declarations.specs.Index.{has_key, has_open_head, ids_of, inner_key};
 ghost use Rattle.declarations.specs.Items.{IsOnly, ids_with, ids_headed, reference_in, with_struct, with_trait, with_impl, struct_in, trait_in, impl_in, struct_at, trait_at, impl_at, written, declared, held_impl, IsAbove};
 ghost use Rattle.declarations.specs.Merges.{Rises, IsMerge};
 ghost use Rattle.declarations.specs.Held.{AreHeld, ReferenceHeld, StructHeld, TraitHeld, ImplHeld};
@@ -22,7 +22,7 @@ use crate::apart::{are_apart, is_fixed};
 use crate::heads::{ImplHead, ImplIds, ImplKey, add_keys, impls_with_key};
 use crate::items::{AdtDef, ImplDef, TraitDef};
 use crate::merge::{first_above, for_each_merged, ids_above, smaller, split_smaller};
-use crate::simplify::{SimplifiedType, simplify_type};
+use crate::simplify::{SimplifiedType, matches_inner, simplify_inner, simplify_type};
 use indexmap::IndexMap;
 use std::alloc::Global;
 use std::marker::Model;
@@ -31,11 +31,12 @@ use type_terms::interner::Interner;
 use type_terms::kinds::{GenericArgs, Ty};
 use type_terms::{AdtId, CrateId, Fault, ImplId, TraitId};
 
-/// An impl with the head of its self type, and whether its header is fixed.
+/// An impl with the head and the inner head of its self type, and whether its header is fixed.
 #[derive(Drop)]
 struct ImplEntry {
     def: ImplDef,
     self_ty: Option<SimplifiedType>,
+    inner: Option<SimplifiedType>,
     is_fixed: bool,
 }
 
@@ -48,6 +49,22 @@ fn own_key(head: ImplHead, header: TraitRef, is_fixed: bool) -> ImplKey
         ImplKey::Fixed(header)
     } else {
         ImplKey::Open(head)
+    }
+}
+
+/// What an impl is found by two levels deep, if its self type can match one that has an inner head.
+fn inner_key(head: ImplHead, inner: Option<SimplifiedType>) -> Option<ImplKey>
+    ensures { result ≡ inner_key head inner }
+{
+    match inner {
+        Some(inner) => Some(ImplKey::Inner(head, inner)),
+        None => {
+            if matches_inner(head.self_ty) {
+                Some(ImplKey::Shallow(head.trait_id))
+            } else {
+                None
+            }
+        }
     }
 }
 
@@ -170,7 +187,9 @@ impl Declarations {
         ensures memory { IfErr result (λ fault. fault ≡ Memory) }
     {
         let header = def.header;
-        let self_ty = simplify_type(cx, header.self_ty(cx));
+        let self_type = header.self_ty(cx);
+        let self_ty = simplify_type(cx, self_type);
+        let inner = simplify_inner(cx, self_type);
         let is_fixed = is_fixed(cx, header.args);
         let head = ImplHead {
             trait_id: header.def_id,
@@ -178,10 +197,19 @@ impl Declarations {
         };
         let own = own_key(head, header, is_fixed);
         self.impls.reserve(1)?;
-        add_keys(self.alloc, &mut self.keys, ImplKey::Headed(head), own, id)?;
+        let deep = inner_key(head, inner);
+        add_keys(
+            self.alloc,
+            &mut self.keys,
+            ImplKey::Headed(head),
+            own,
+            deep,
+            id,
+        )?;
         let entry = ImplEntry {
             def,
             self_ty,
+            inner,
             is_fixed,
         };
         match self.impls.insert(id, entry) {
@@ -330,12 +358,38 @@ impl Declarations {
         ensures rises { Rises (map (λ i. i.id) self.now.impls) }
     {
         cx.lawful();
-        let head = simplify_type(cx, trait_ref.self_ty(cx));
+        let self_type = trait_ref.self_ty(cx);
+        let head = simplify_type(cx, self_type);
         if is_fixed(cx, trait_ref.args) {
-            self.next_of_fixed(cx, trait_ref, head, last)
-        } else {
-            self.next_of_open(cx, trait_ref, head, last)
+            return self.next_of_fixed(cx, trait_ref, head, last);
         }
+        match simplify_inner(cx, self_type) {
+            Some(inner) => self.next_of_inner(cx, trait_ref, head, inner, last),
+            None => self.next_of_open(cx, trait_ref, head, last),
+        }
+    }
+
+    /// `next_matching_impl` for a reference whose self type has an inner head. Impls with another inner head are disjoint from it.
+    fn next_of_inner(
+        &self,
+        cx: &Interner,
+        trait_ref: TraitRef,
+        self_ty: Option<SimplifiedType>,
+        inner: SimplifiedType,
+        last: Option<ImplId>,
+    ) -> Option<ImplId>
+        requires held { AreHeld cx.now.entries self.now }
+        requires reference { ReferenceHeld cx.now.entries trait_ref }
+        requires first { StartsWithType (trees_at cx.now.entries trait_ref.args.0) }
+        requires head { option_map label_of self_ty ≡ head_of (trees_at cx.now.entries trait_ref.args.0) }
+        requires inner { Some (label_of inner) ≡ inner_head_of (trees_at cx.now.entries trait_ref.args.0) }
+        ensures is { option_map (λ i. i.index) result ≡ next_above last (matches_in cx.now.entries self.now (reference_in cx.now.entries trait_ref)) }
+        ensures rises { Rises (map (λ i. i.id) self.now.impls) }
+    {
+        let trait_id = trait_ref.def_id;
+        let shallow = self.with_key(ImplKey::Shallow(trait_id));
+        let same_inner = self.with_key(ImplKey::Inner(ImplHead { trait_id, self_ty }, inner));
+        self.next_meeting(cx, trait_ref.args, shallow, same_inner, last)
     }
 
     /// `next_matching_impl` for a reference in which something is open, or a lifetime stands.

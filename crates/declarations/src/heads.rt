@@ -2,7 +2,7 @@
 ghost use Rattle.std.specs.Prelude.{◌≡◌, ◌||◌, ◌++◌, ◌∷◌, [], true, false, List, OnOk, OnErr, IfErr, if◌then◌else◌};
 ghost use Rattle.type_terms.specs.declared.ImplId.{ImplId};
 ghost use Rattle.type_terms.specs.declared.Fault.TheVariants.{Memory};
-ghost use Rattle.declarations.specs.Index.{ids_in, listed, is_key};
+ghost use Rattle.declarations.specs.Index.{ids_in, listed, is_key, is_that_key};
 
 use crate::simplify::SimplifiedType;
 use indexmap::IndexMap;
@@ -27,6 +27,10 @@ pub(crate) enum ImplKey {
     Open(ImplHead),
     /// Those whose header is this one, which is fixed.
     Fixed(TraitRef),
+    /// Those of this trait that can match a type whatever its inner head is: for `T`, `&T`, `&mut T`, `*const T`, `*mut T` or `[T]`.
+    Shallow(TraitId),
+    /// Those with this trait and head, and this head one level below: for `&V<T>` they are `&` and `V`.
+    Inner(ImplHead, SimplifiedType),
 }
 
 /// Impls by rising number. One alone takes no memory of its own, and few keys have more.
@@ -120,7 +124,7 @@ fn take_last(keys: &mut IndexMap<ImplKey, ImplIds>, key: ImplKey)
 }
 
 /// Puts an impl behind those that have the first key, and behind those that have the second. After an error it is behind none.
-pub(crate) fn add_keys(
+fn add_two_keys(
     alloc: Global,
     keys: &mut IndexMap<ImplKey, ImplIds>,
     first: ImplKey,
@@ -139,6 +143,37 @@ pub(crate) fn add_keys(
         Err(fault) => {
             take_last(keys, first);
             Err(fault)
+        }
+    }
+}
+
+/// Puts an impl behind those that have one of these keys. After an error it is behind none.
+pub(crate) fn add_keys(
+    alloc: Global,
+    keys: &mut IndexMap<ImplKey, ImplIds>,
+    first: ImplKey,
+    second: ImplKey,
+    third: Option<ImplKey>,
+    id: ImplId,
+) -> Result<(), Fault>
+    requires apart { (k : ImplKey) → is_key first k ≡ true → is_key second k ≡ false }
+    requires third_apart { (k : ImplKey) → (is_key first k || is_key second k) ≡ true → is_that_key third k ≡ false }
+    ensures added { OnOk result ((k : ImplKey) → listed keys.new k
+        ≡ (if (is_key first k || is_key second k) || is_that_key third k then listed keys.old k ++ id ∷ [] else listed keys.old k)) }
+    ensures refused { OnErr result ((k : ImplKey) → listed keys.new k ≡ listed keys.old k) }
+    ensures memory { IfErr result (λ fault. fault ≡ Memory) }
+{
+    match third {
+        None => add_two_keys(alloc, keys, first, second, id),
+        Some(key) => {
+            add_key(alloc, keys, key, id)?;
+            match add_two_keys(alloc, keys, first, second, id) {
+                Ok(()) => Ok(()),
+                Err(fault) => {
+                    take_last(keys, key);
+                    Err(fault)
+                }
+            }
         }
     }
 }

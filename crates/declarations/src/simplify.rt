@@ -2,7 +2,7 @@
 ghost use Rattle.std.specs.Prelude.{◌≡◌};
 ghost use Rattle.std.specs.Option.{option_map};
 ghost use Rattle.type_terms.specs.Promised.Handles.{Has, types, trees_at};
-ghost use Rattle.declarations.specs.Heads.{label_of, head_of};
+ghost use Rattle.declarations.specs.Heads.{label_of, head_of, inner_head_of, matches_inner};
 
 use type_terms::AdtId;
 use type_terms::interner::Interner;
@@ -50,5 +50,43 @@ pub fn simplify_type(cx: &Interner, ty: Ty) -> Option<SimplifiedType>
         TyKind::FnPtr(_, _) => Some(SimplifiedType::Function),
         TyKind::Dynamic(_, _) => Some(SimplifiedType::Dynamic),
         TyKind::Param(_) | TyKind::Placeholder(_) | TyKind::Bound(_, _) | TyKind::Infer(_) => None,
+    }
+}
+
+/// The head one level below a reference, a raw pointer or a slice: of `&V<u8>` it is `V`. `&T` has none, and neither has any other type.
+pub(crate) fn simplify_inner(cx: &Interner, ty: Ty) -> Option<SimplifiedType>
+    requires { Has cx.now.entries types ty.0 }
+    ensures { option_map label_of result ≡ inner_head_of (trees_at cx.now.entries ty.0) }
+{
+    match cx.kind(ty) {
+        TyKind::Ref(_, inner, _) => simplify_type(cx, inner),
+        TyKind::RawPtr(inner, _) => simplify_type(cx, inner),
+        TyKind::Slice(inner) => simplify_type(cx, inner),
+        _ => None,
+    }
+}
+
+/// Whether a type with this head, but no inner head, can match a type that has an inner head.
+pub(crate) fn matches_inner(head: Option<SimplifiedType>) -> bool
+    ensures { result ≡ matches_inner (option_map label_of head) }
+{
+    match head {
+        None => true,
+        Some(SimplifiedType::Ref(_)) => true,
+        Some(SimplifiedType::Ptr(_)) => true,
+        Some(SimplifiedType::Slice) => true,
+        Some(
+            SimplifiedType::Bool
+            | SimplifiedType::Char
+            | SimplifiedType::Int(_)
+            | SimplifiedType::Uint(_)
+            | SimplifiedType::Adt(_)
+            | SimplifiedType::Str
+            | SimplifiedType::Array
+            | SimplifiedType::Never
+            | SimplifiedType::Tuple
+            | SimplifiedType::Dynamic
+            | SimplifiedType::Function,
+        ) => false,
     }
 }
