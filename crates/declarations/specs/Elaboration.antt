@@ -15,6 +15,6 @@ abbrev pub diamond : World
 diamond =
     record { crates = []; structs = []; traits = trait_with_supers 0 [] ∷ trait_with_supers 1 (0 ∷ []) ∷ trait_with_supers 2 (0 ∷ []) ∷ trait_with_supers 3 (1 ∷ 2 ∷ []) ∷ []; impls = [] }
 
--- The type u8 asked for each of the traits.
+-- `u8` with each of the traits.
 abbrev pub asked_of_u8 : List ℕ → List Reference
 asked_of_u8 ts = map (λ t. asked t (leaf (uint 0))) ts

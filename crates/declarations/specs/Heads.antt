@@ -1,4 +1,4 @@
--- What stands outermost in a type.
+-- The heads of a type.
 use Rattle.std.specs.Prelude.{Bool, true, false, Option, Some, None, if◌then◌else◌}
 use Rattle.type_terms.specs.Promised.Label.{Label, bool, char, str, never, array, slice, tuple, dynamic, int, uint, adt, fn_ptr, ref, raw_pointer, of_type, param}
 use Rattle.type_terms.specs.Promised.Trees.{Trees, none, tree, erase_label}
@@ -7,7 +7,7 @@ use Rattle.type_terms.specs.Kinds.{int_number, uint_number, is_mut}
 use Rattle.declarations.specs.declared.simplify.SimplifiedType.{SimplifiedType}
 use Rattle.declarations.specs.declared.simplify.SimplifiedType.TheVariants.{Bool as SBool, Char as SChar, Int as SInt, Uint as SUint, Adt as SAdt, Str as SStr, Array as SArray, Slice as SSlice, Ref as SRef, Ptr as SPtr, Never as SNever, Tuple as STuple, Dynamic as SDynamic, Function as SFunction}
 
--- The label of a type that is no parameter, variable, placeholder or bound type.
+-- The label of a type that is no parameter, inference variable, placeholder or bound type.
 abbrev pub is_rigid : Label → Bool
 is_rigid bool = true
 is_rigid char = true
@@ -25,7 +25,7 @@ is_rigid (ref b) = true
 is_rigid (raw_pointer b) = true
 is_rigid _ = false
 
--- The head of the first type: its label up to lifetimes, if it is rigid. Of `V<u8>` it is `V`, and a parameter has none.
+-- The head of the first type: its label up to lifetimes, if it is rigid. Of `V<u8>` it is `V`. A parameter has none.
 abbrev pub head_of : Trees → Option Label
 head_of none = None
 head_of (tree l c o) = if is_rigid l then Some (erase_label l) else None
@@ -45,7 +45,7 @@ pointee (ref b) (tree l c o) = o
 pointee (raw_pointer b) t = t
 pointee _ t = none
 
--- The head one level below the head of a reference, a raw pointer or a slice. Of `&V<u8>` it is `V`; `&T` has none, and `V<u8>` neither.
+-- The inner head of a reference, a raw pointer or a slice: the head one level below. Of `&V<u8>` it is `V`. `&T` and `V<u8>` have none.
 abbrev pub inner_head_of : Trees → Option Label
 inner_head_of none = None
 inner_head_of (tree l c o) = head_of (pointee l c)
@@ -66,7 +66,7 @@ begins_declared none = false
 begins_declared (tree (param of_type i) c o) = true
 begins_declared (tree l c o) = is_rigid l
 
--- The label that a head stands for.
+-- The label of a head.
 abbrev pub label_of : SimplifiedType → Label
 label_of SBool = bool
 label_of SChar = char
@@ -83,7 +83,7 @@ label_of STuple = tuple
 label_of SDynamic = dynamic
 label_of SFunction = fn_ptr 0
 
--- Two heads are one, or neither is there.
+-- The heads are equal, or neither exists.
 abbrev pub same_self : Option Label → Option Label → Bool
 same_self None None = true
 same_self (Some l) (Some m) = same_label l m

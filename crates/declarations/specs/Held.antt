@@ -1,4 +1,4 @@
--- Declarations whose terms are an interner's.
+-- Declarations of this interner: their terms are in it.
 use Rattle.std.specs.Prelude.{◌≡◌, true, List, length}
 use Rattle.type_terms.specs.Promised.Handles.{Entry, Has, types, trees_at}
 use Rattle.type_terms.specs.Terms.{args_lists}
@@ -12,25 +12,25 @@ use Rattle.declarations.specs.Promised.Elaboration.{Each}
 use Rattle.declarations.specs.Unsizing.{field_trees, unsizing_flags}
 use Rattle.declarations.specs.Items.{Items, HeldImpl}
 
--- The reference's arguments are the interner's.
+-- The arguments of the trait reference are of this interner.
 abbrev pub ReferenceHeld : List Entry → TraitRef → Type 0
 ReferenceHeld es r = Has es args_lists r.args.0
 
--- The fields are the interner's, and each parameter is told to be unsizing where it is.
+-- The fields are of this interner, and the flags state which parameters are unsizing.
 abbrev pub StructHeld : List Entry → AdtDef → Type 0
 StructHeld es def = Each (λ t. Has es types t.0) def.fields.items × (def.unsizing_params.items ≡ unsizing_flags (field_trees es def.fields.items) (length def.params.items))
 
--- The supertraits are the interner's.
+-- The supertraits are of this interner.
 abbrev pub TraitHeld : List Entry → TraitDef → Type 0
 TraitHeld es def = Each (ReferenceHeld es) def.bounds.items
 
--- The header and the where-clauses are the interner's, and the self type is a parameter or rigid.
+-- The header and the where-clauses are of this interner, and the self type is a parameter or rigid.
 pub record ImplHeld (es : List Entry) (def : ImplDef) : Type 0 where
   pub header : ReferenceHeld es def.header
   pub clauses : Each (ReferenceHeld es) def.clauses.items
   pub begins : begins_declared (trees_at es def.header.args.0) ≡ true
 
--- All of them are, the heads of each impl are those of its self type, and its header is stated to be fixed if it is.
+-- All items are of this interner. For each impl the stored heads are those of its self type, and `is_fixed` states whether its header is.
 pub record AreHeld (es : List Entry) (d : Items) : Type 0 where
   pub structs : Each (λ x. StructHeld es x.1) d.structs
   pub traits : Each (λ x. TraitHeld es x.1) d.traits

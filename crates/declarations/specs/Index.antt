@@ -1,4 +1,4 @@
--- Impls by their keys: the trait and the head of their self type, or their header.
+-- Impls by their keys: the trait and the heads of their self type, or their header.
 use Rattle.std.specs.Prelude.{Bool, false, ◌==◌, ◌&&◌, ◌||◌, not, if◌then◌else◌, List, [], ◌∷◌, map, filter, Option, None, Some}
 use Rattle.std.specs.Option.{option_map, option_map_or}
 use Rattle.std.specs.HashMap.{HashMap, get_by}
@@ -15,11 +15,11 @@ use Rattle.type_terms.specs.Codes.{same_label}
 use Rattle.declarations.specs.Heads.{label_of, same_self, matches_inner, is_shallow}
 use Rattle.declarations.specs.Items.{HeldImpl}
 
--- Two heads are one.
+-- The heads are equal.
 abbrev pub is_head : ImplHead → ImplHead → Bool
 is_head h k = (h.trait_id.index == k.trait_id.index) && same_self (option_map label_of h.self_ty) (option_map label_of k.self_ty)
 
--- Two keys are one.
+-- The keys are equal.
 abbrev pub is_key : ImplKey → ImplKey → Bool
 is_key (Headed h) (Headed k) = is_head h k
 is_key (Open h) (Open k) = is_head h k
@@ -28,12 +28,12 @@ is_key (Shallow t) (Shallow u) = t.index == u.index
 is_key (Inner h s) (Inner k u) = is_head h k && same_label (label_of s) (label_of u)
 is_key _ _ = false
 
--- The key exists, and it is this one.
+-- The key exists and is this one.
 abbrev pub is_that_key : Option ImplKey → ImplKey → Bool
 is_that_key None k = false
 is_that_key (Some h) k = is_key h k
 
--- The impls that are kept under a key.
+-- The impls that are stored under a key.
 abbrev pub ids_in : ImplIds → List ImplId
 ids_in Empty = []
 ids_in (One i) = i ∷ []
@@ -43,7 +43,7 @@ ids_in (More v) = v.items
 abbrev pub listed : {S : Type 0} → HashMap ImplKey ImplIds S → ImplKey → List ImplId
 listed m k = option_map_or ids_in (get_by (is_key k) m) []
 
--- The impl is of this trait, and its self type has this head; no head for one whose self type is a parameter.
+-- The impl is of this trait, and its self type has this head. No head means that it is a parameter.
 abbrev pub has_head : ImplHead → HeldImpl → Bool
 has_head h i = (i.def.header.def_id.index == h.trait_id.index) && same_self (option_map label_of h.self_ty) i.self_head
 
@@ -64,15 +64,15 @@ inner_key h (Some s) = Some (Inner h s)
 abbrev pub has_inner_key : ImplHead → SimplifiedType → HeldImpl → Bool
 has_inner_key h s i = has_key (Shallow h.trait_id) i || has_key (Inner h s) i
 
--- The numbers of the impls that are so.
+-- The numbers of the impls that satisfy the predicate.
 abbrev pub ids_of : (HeldImpl → Bool) → List HeldImpl → List ImplId
 ids_of p is = map (λ i. i.id) (filter p is)
 
--- The trait of a reference with the head of a self type.
+-- The trait of a trait reference, with a head.
 abbrev pub head_with : TraitRef → Option SimplifiedType → ImplHead
 head_with r s = record { trait_id = r.def_id; self_ty = s }
 
--- The impl is of this trait, its self type has this head, and its header is not fixed; without a head it is none.
+-- The impl is of this trait, its self type has this head, and its header is not fixed. Without a head there is no such impl.
 abbrev pub has_open_head : TraitId → Option SimplifiedType → HeldImpl → Bool
 has_open_head t None i = false
 has_open_head t (Some s) i = has_key (Open (record { trait_id = t; self_ty = Some s })) i

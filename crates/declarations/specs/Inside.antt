@@ -1,4 +1,4 @@
--- What the fields of declarations say.
+-- The meaning of the fields of declarations.
 use Rattle.std.specs.Prelude.{◌≡◌, map}
 use Rattle.std.specs.Option.{option_map}
 use Rattle.type_terms.specs.declared.ImplId.{ImplId}
@@ -21,11 +21,11 @@ impl_of x =
       is_fixed = x.1.is_fixed;
     }
 
--- The lists that the tables hold.
+-- The lists in the tables.
 abbrev pub items_of : Inside → Items
 items_of a = record { local = a.local.index; structs = a.adts.entries; traits = a.traits.entries; impls = map impl_of a.impls.entries }
 
--- Numbers of impls rise, and under each key are the impls that have it.
+-- The numbers of impls rise, and under each key are the impls that have it.
 pub record IndexIsSound (a : Inside) : Type 0 where
   pub rises : Rises (map (λ i. i.id) (items_of a).impls)
   pub indexed : (k : ImplKey) → listed a.keys k ≡ ids_of (has_key k) (items_of a).impls

@@ -1,4 +1,4 @@
--- What a contract sees of declarations, and the world that they are.
+-- What contracts see of declarations, and the world that they declare.
 use Rattle.std.specs.Prelude.{◌≡◌, ℕ, Bool, ◌<◌, ◌==◌, ◌&&◌, if◌then◌else◌, List, [], ◌∷◌, ◌++◌, map, filter, length, Option, None, Some}
 use Rattle.type_terms.specs.Promised.Label.{Label}
 use Rattle.type_terms.specs.Promised.Worlds.{World, Reference, StructDecl, TraitDecl, ImplDecl}
@@ -23,7 +23,7 @@ pub record HeldImpl : Type 0 where
   pub inner_head : Option Label
   pub is_fixed : Bool
 
--- The crate that asks, and the structs, traits and impls that it sees, in the order in which they were added.
+-- The local crate, and the structs, traits and impls that are visible to it, in the order in which they were added.
 pub record Items : Type 0 where
   pub local : ℕ
   pub structs : List (AdtId × AdtDef)
@@ -48,11 +48,11 @@ held_impl es i def =
     let args = trees_at es def.header.args.0 in
     record { id = i; def = def; self_head = head_of args; inner_head = inner_head_of args; is_fixed = is_fixed args }
 
--- The number is above those of all impls.
+-- The number is above the numbers of all impls.
 abbrev pub IsAbove : ℕ → Items → Type 0
 IsAbove n d = Each (λ i. i.id.index < n) d.impls
 
--- A reference, over the terms of an interner.
+-- A trait reference, over the terms of an interner.
 abbrev pub reference_in : List Entry → TraitRef → Reference
 reference_in es r = record { trait = r.def_id.index; args = trees_at es r.args.0 }
 
@@ -69,39 +69,39 @@ abbrev pub impl_in : List Entry → ImplId → ImplDef → ImplDecl
 impl_in es i def =
     record { name = i.index; home = def.home.index; params = length def.params.items; header = reference_in es def.header; clauses = map (reference_in es) def.clauses.items }
 
--- The declarations as they are written, with lifetimes.
+-- The declarations with lifetimes.
 abbrev pub written : List Entry → Items → World
 written es d = record { crates = []; structs = map (struct_in es) d.structs; traits = map (trait_in es) d.traits; impls = map (λ i. impl_in es i.id i.def) d.impls }
 
--- The world of the declarations, from which rules are read: without lifetimes.
+-- The world of the declarations without lifetimes, from which rules are read.
 abbrev pub declared : List Entry → Items → World
 declared es d = erased_world (written es d)
 
--- The numbers of the impls of a trait whose self type has this head; without a head of those whose self type is a parameter.
+-- The numbers of the impls of a trait whose self type has this head. Without a head they are those whose self type is a parameter.
 abbrev pub ids_with : ℕ → Option Label → List HeldImpl → List ImplId
 ids_with t h is = map (λ i. i.id) (filter (λ i. (i.def.header.def_id.index == t) && same_self h i.self_head) is)
 
--- The numbers of the impls of a trait whose self type has this head; without a head there are none.
+-- The numbers of the impls of a trait whose self type has this head. Without a head there are none.
 abbrev pub ids_headed : ℕ → Option Label → List HeldImpl → List ImplId
 ids_headed t None is = []
 ids_headed t (Some l) is = ids_with t (Some l) is
 
--- The trait of a number.
+-- The trait with a number.
 abbrev pub trait_at : ℕ → List (TraitId × TraitDef) → Option TraitDef
 trait_at n [] = None
 trait_at n (x ∷ xs) = if n == x.0.index then Some x.1 else trait_at n xs
 
--- The struct of a number.
+-- The struct with a number.
 abbrev pub struct_at : ℕ → List (AdtId × AdtDef) → Option AdtDef
 struct_at n [] = None
 struct_at n (x ∷ xs) = if n == x.0.index then Some x.1 else struct_at n xs
 
--- The impl of a number.
+-- The impl with a number.
 abbrev pub impl_at : ℕ → List HeldImpl → Option ImplDef
 impl_at n [] = None
 impl_at n (i ∷ is) = if n == i.id.index then Some i.def else impl_at n is
 
--- What was found, read as f reads it, is the only item; where nothing was found there is none.
+-- The value, as f reads it, is the only item. Without a value there is none.
 abbrev pub IsOnly : {R D : Type 0} → (R → D) → Option R → List D → Type 0
 IsOnly f None ds = ds ≡ []
 IsOnly f (Some v) ds = ds ≡ f v ∷ []

@@ -13,6 +13,6 @@ abbrev pub IsMerge : List ImplId → List ImplId → List ImplId → Type 0
 IsMerge xs ys [] = (xs ≡ []) × (ys ≡ [])
 IsMerge xs ys (z ∷ zs) = ((r : List ImplId) × (xs ≡ z ∷ r) × IsMerge r ys zs) ⊎ ((r : List ImplId) × (ys ≡ z ∷ r) × IsMerge xs r zs)
 
--- The number is the first of the third list, which goes on as a merge of the first two.
+-- The number is the first of the third list, whose rest is a merge of the first two.
 abbrev pub IsNext : ImplId → List ImplId → List ImplId → List ImplId → Type 0
 IsNext x xs ys zs = (rest : List ImplId) × (zs ≡ x ∷ rest) × IsMerge xs ys rest

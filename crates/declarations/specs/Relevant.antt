@@ -9,7 +9,7 @@ use Rattle.type_terms.specs.declared.ImplId.{ImplId}
 use Rattle.declarations.specs.Apart.{are_apart}
 use Rattle.declarations.specs.Items.{Items, declared, written}
 
--- The impls of a number.
+-- The impls with a number.
 abbrev pub impls_named : World → ℕ → List ImplDecl
 impls_named W n = filter (λ i. i.name == n) W.impls
 
@@ -30,30 +30,30 @@ impl_indices ids = map (λ i. i.index) ids
 abbrev pub relevant_in : List Entry → Items → ℕ → Trees → List ℕ
 relevant_in es d t S = map (λ i. i.name) (relevant_impls (declared es d) t (erase S))
 
--- The impl is of the trait, its self type can match the first of the arguments, and its own are not apart from them.
+-- The impl is of the trait, its self type can match the first argument, and its arguments are not disjoint from these.
 abbrev pub is_match : ℕ → Trees → ImplDecl → Bool
 is_match t args i = (i.header.trait == t) && (is_relevant_to (erase args) (erase i.header.args) && not (are_apart args i.header.args))
 
--- The numbers of the impls that can match the reference, as heads tell and a look at the first levels of the arguments.
+-- The numbers of the impls that can match the trait reference, as far as heads and the first levels of the arguments tell.
 abbrev pub matches_in : List Entry → Items → Reference → List ℕ
 matches_in es d r = map (λ i. i.name) (filter (is_match r.trait r.args) (written es d).impls)
 
--- The number is above the last one considered, if there is one.
+-- The number is above the last one that was considered, if there is one.
 abbrev pub is_above : Option ImplId → ℕ → Bool
 is_above None n = true
 is_above (Some last) n = nat_lt last.index n
 
--- The first of the numbers that is above the last one considered.
+-- The first of the numbers that is above the last one that was considered.
 abbrev pub next_above : Option ImplId → List ℕ → Option ℕ
 next_above last [] = None
 next_above last (n ∷ ns) = if is_above last n then Some n else next_above last ns
 
--- The smaller of two numbers, where both are there; else the one that is.
+-- The smaller of two numbers. If only one exists, that one.
 abbrev pub smaller_of : Option ℕ → Option ℕ → Option ℕ
 smaller_of None n = n
 smaller_of (Some m) None = Some m
 smaller_of (Some m) (Some n) = if nat_lt m n then Some m else Some n
 
--- Steps of a closure, one at each impl of these numbers, in their order.
+-- Steps of a closure, one for each impl with these numbers, in their order.
 abbrev pub CallsAtEach : {F : Type 0} → (F → ImplId → F → Type 0) → F → List ℕ → Type 0
 CallsAtEach {F} step f names = (ids : List ImplId) × (last : F) × (impl_indices ids ≡ names) × FoldsTo step f ids last

@@ -1,4 +1,4 @@
--- Stacks of references.
+-- Stacks of trait references.
 use Rattle.std.specs.Prelude.{◌≡◌, List, ◌++◌}
 use Rattle.type_terms.specs.Promised.Proofs.{In}
 use Rattle.type_terms.specs.Promised.Handles.{Entry}
@@ -7,7 +7,7 @@ use Rattle.declarations.specs.declared.elaborate.Elaborator.{Elaborator}
 use Rattle.declarations.specs.Promised.Elaboration.{new_of}
 use Rattle.declarations.specs.Applied.{references_in}
 
--- Those of the references that were not put on the stack before are put there, each once.
+-- The trait references that were never on the stack are pushed, each once.
 pub record StacksUnseen (es : List Entry) (references : List TraitRef) (old new : Elaborator) : Type 0 where
   pub added : List TraitRef
   pub are_new : references_in es added ≡ new_of (references_in es old.visited.items) (references_in es references)

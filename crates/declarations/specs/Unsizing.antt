@@ -14,22 +14,22 @@ use Rattle.type_terms.specs.declared.visit.Seen.TheVariants.{Break, Enter}
 abbrev pub field_trees : List Entry → List Ty → List Trees
 field_trees es ts = map (λ t. trees_at es t.0) ts
 
--- For each of the first n parameters whether it is unsizing for a struct with these fields.
+-- For each of the first n parameters, whether it is unsizing for a struct with these fields.
 abbrev pub unsizing_flags : List Trees → ℕ → List Bool
 unsizing_flags fs zero = []
 unsizing_flags fs (suc n) = unsizing_flags fs n ++ is_unsizing fs n ∷ []
 
--- The flags tell of the parameters of the only struct whether they are unsizing; where there are none there is no struct.
+-- The flags state which parameters of the only struct are unsizing. Without flags there is no struct.
 abbrev pub TellUnsizing : {R : Type 0} → (R → List Bool) → Option R → List StructDecl → Type 0
 TellUnsizing f None xs = xs ≡ []
 TellUnsizing f (Some r) xs = (x : StructDecl) × (xs ≡ x ∷ []) × (f r ≡ unsizing_flags x.fields (length (f r)))
 
--- What is answered at a node by who looks for parameter i.
+-- The outcome at a node of a search for parameter i.
 abbrev pub looked_for : ℕ → Trees → Seen (Unit {0})
 looked_for i none = Enter
 looked_for i (tree l c o) = cond (is_parameter i l) (Break tt) Enter
 
--- The bounds of a `dyn` are no parameters.
+-- No parameter is the bound of a `dyn`.
 pub bounds-are-entered : (i : ℕ) (t : Trees) → IsBound t → Enter ≡ looked_for i t
 bounds-are-entered i (tree (principal n j) c o) h = refl
 bounds-are-entered i (tree (auto_trait j) c o) h = refl

@@ -1,4 +1,4 @@
--- A walk along impls that passes over those that are apart from a reference.
+-- A visit of impls that skips those that are disjoint from a trait reference.
 use Rattle.std.specs.Prelude.{Bool, false, not, if◌then◌else◌, List, [], ◌∷◌, Option, None, Some}
 use Rattle.std.specs.Option.{option_map_or}
 use Rattle.type_terms.specs.Promised.Trees.{Trees}
@@ -7,7 +7,7 @@ use Rattle.type_terms.specs.declared.ImplId.{ImplId}
 use Rattle.declarations.specs.Apart.{are_apart}
 use Rattle.declarations.specs.Items.{Items, impl_at}
 
--- The impl is there, and the arguments of its header are not apart from these.
+-- The impl exists, and the arguments of its header are not disjoint from these.
 abbrev pub header_meets : List Entry → Items → Trees → ImplId → Bool
 header_meets es d args i = option_map_or (λ def. not (are_apart args (trees_at es def.header.args.0))) (impl_at i.index d.impls) false
 

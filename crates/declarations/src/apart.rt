@@ -1,4 +1,4 @@
-//! What keeps the arguments of an impl's header apart from those of a reference, so that the impl can be passed over.
+//! Whether the arguments of an impl's header are disjoint from those of a trait reference. Such an impl is passed over.
 ghost use Rattle.std.specs.Prelude.{◌≡◌, ◌≢◌, ℕ, suc, ◌&&◌, ◌||◌, List};
 ghost use Rattle.type_terms.specs.Promised.Handles.{Entry, Has, types, consts, bounds_lists, trees_at};
 ghost use Rattle.type_terms.specs.Terms.{args_lists};
@@ -22,7 +22,7 @@ const LEVELS: u32 = 9;
 /// The parts of two types with one head: those of the left one, and then those of the right one.
 #[derive(Clone, Copy)]
 enum Parts {
-    /// What `&T`, `*const T` and `[T]` are made of, beside lifetimes.
+    /// The `T` of `&T`, `*const T` and `[T]`, without lifetimes.
     Inner(Ty, Ty),
     /// The elements and the lengths of `[T; N]`.
     Array(Ty, Const, Ty, Const),
@@ -34,18 +34,18 @@ enum Parts {
     Bounds(Bounds, Bounds),
 }
 
-/// What the outermost nodes of two types, or the bounds of two `dyn` types, tell of whether they can become one.
+/// Whether two types, or the bounds of two `dyn` types, can become one, as far as their outermost nodes tell.
 #[derive(Clone, Copy)]
 enum Tops {
-    /// They can, whatever stands below.
+    /// They can, whatever is below.
     MayMeet,
-    /// They can not.
+    /// They cannot.
     Differ,
-    /// They can where their parts can.
+    /// They can if their parts can.
     Parts(Parts),
 }
 
-/// Whether nothing is open in the arguments, and no lifetime stands in them. Their flags tell, and no type is walked.
+/// Whether the arguments have no open node and no lifetime. Their flags tell, so no type is visited.
 pub(crate) fn is_fixed(cx: &Interner, args: GenericArgs) -> bool
     requires { Has cx.now.entries args_lists args.0 }
     ensures { result ≡ is_fixed (trees_at cx.now.entries args.0) }
@@ -62,7 +62,7 @@ fn are_fixed(cx: &Interner, left: GenericArgs, right: GenericArgs) -> bool
     is_fixed(cx, left) && is_fixed(cx, right)
 }
 
-/// Whether an argument is a parameter, a variable, a placeholder or bound.
+/// Whether an argument is a parameter, an inference variable, a placeholder or bound.
 fn is_open(cx: &Interner, arg: GenericArgKind) -> bool
     requires { ArgHeld cx.now.entries arg }
     ensures { result ≡ top_is_open (arg_trees cx.now.entries arg) }
@@ -84,7 +84,7 @@ fn is_open(cx: &Interner, arg: GenericArgKind) -> bool
     }
 }
 
-/// Whether two arguments of two sorts can become one: only where one of them is open.
+/// Whether two arguments of different kinds can become one: only if one of them is open.
 fn unlike_may_meet(cx: &Interner, left: GenericArgKind, right: GenericArgKind) -> bool
     requires left { ArgHeld cx.now.entries left }
     requires right { ArgHeld cx.now.entries right }
@@ -160,7 +160,7 @@ fn parts_of(cx: &Interner, left: Ty, right: Ty) -> Tops
     }
 }
 
-/// What the outermost nodes of two types tell.
+/// Compares the outermost nodes of two types.
 fn compare_tops(cx: &Interner, left: Ty, right: Ty) -> Tops
     requires left { Has cx.now.entries types left.0 }
     requires right { Has cx.now.entries types right.0 }
@@ -186,8 +186,8 @@ fn compare_tops(cx: &Interner, left: Ty, right: Ty) -> Tops
     }
 }
 
-/// What the principal traits of two `dyn` types tell: they differ if they are two traits or one is missing, and else their arguments
-/// are left. How many lifetimes they bind tells nothing.
+/// Compares the principal traits of two `dyn` types. They differ if they are two traits or one is missing. Otherwise their arguments
+/// remain to be compared. How many lifetimes they bind does not matter.
 fn compare_principals(left: Option<Principal>, right: Option<Principal>) -> Tops
     ensures held { (es : List Entry) → PrincipalHeld es left → PrincipalHeld es right → TopsHeld es result }
     ensures tell { (es : List Entry) → tell es result (principal_trees es left) (principal_trees es right) }
@@ -210,7 +210,7 @@ fn compare_principals(left: Option<Principal>, right: Option<Principal>) -> Tops
     }
 }
 
-/// What the bounds of two `dyn` types tell: they differ where their auto traits do, and else their principal traits tell.
+/// Compares the bounds of two `dyn` types. They differ if their auto traits do. Otherwise their principal traits decide.
 fn compare_bounds(cx: &Interner, left: Bounds, right: Bounds) -> Tops
     requires left { Has cx.now.entries bounds_lists left.0 }
     requires right { Has cx.now.entries bounds_lists right.0 }
@@ -226,7 +226,7 @@ fn compare_bounds(cx: &Interner, left: Bounds, right: Bounds) -> Tops
     }
 }
 
-/// Whether two types can become one, as their outermost nodes and so many levels below these tell.
+/// Whether two types can become one, as far as their outermost nodes and so many levels below tell.
 #[cycle(meeting)]
 fn types_may_meet(cx: &Interner, left: Ty, right: Ty, levels_below: u32) -> bool
     requires left { Has cx.now.entries types left.0 }
@@ -236,7 +236,7 @@ fn types_may_meet(cx: &Interner, left: Ty, right: Ty, levels_below: u32) -> bool
     tops_may_meet(cx, compare_tops(cx, left, right), levels_below)
 }
 
-/// Whether two types, or the bounds of two `dyn` types, can become one, by what is told of them and so many levels below.
+/// Whether two compared types or bounds can become one, as far as so many further levels tell.
 #[cycle(meeting)]
 fn tops_may_meet(cx: &Interner, tops: Tops, levels_below: u32) -> bool
     requires { TopsHeld cx.now.entries tops }
@@ -279,7 +279,7 @@ fn parts_may_meet(cx: &Interner, parts: Parts, levels_below: u32) -> bool
     }
 }
 
-/// Whether each argument can become the one in its place, and none is left over.
+/// Whether each argument can become the other at its position, and none remains.
 #[cycle(meeting)]
 fn args_may_meet(
     cx: &Interner,
@@ -335,7 +335,7 @@ fn arg_may_meet(
     }
 }
 
-/// Whether each type can become the one in its place, and none is left over.
+/// Whether each type can become the other at its position, and none remains.
 #[cycle(meeting)]
 fn tys_may_meet(cx: &Interner, left: &[Ty], right: &[Ty], levels_below: u32) -> bool
     requires left { TysHeld cx.now.entries left.now }
@@ -358,13 +358,13 @@ fn tys_may_meet(cx: &Interner, left: &[Ty], right: &[Ty], levels_below: u32) -> 
     right_items.is_empty()
 }
 
-/// Whether no impl has both a reference with the one list as an instance and the other as its header's: both are fixed and two, or
-/// what stands on their first levels keeps them apart. `V<[T]>` and `V<&u8>` are apart so, and `u8, T` and `u16, ?x`, whatever is put
-/// in for T and `?x`; of `V<T, T>` and `V<u8, u16>` it is not told, as each place is compared by itself.
+/// Whether two lists of arguments are disjoint: an impl whose header has one list cannot match a trait reference with the other.
+/// They are if both are fixed and differ, or if their first levels differ. `V<[T]>` and `V<&u8>` are disjoint. So are `u8, T` and
+/// `u16, ?x`, whatever `T` and `?x` become. `V<T, T>` and `V<u8, u16>` are not found to be, as each position is compared by itself.
 ///
-/// It takes no memory, and it looks at nine levels: the lengths and constants in types of the eighth, as `DeepRejectCtxt` of the
-/// original, which tells placeholders and parameters of the question apart besides. Of a `dyn` type the bounds are a level and their
-/// arguments the next.
+/// It takes no memory. It looks at nine levels, so at the lengths and constants in types of the eighth, as `DeepRejectCtxt` of the
+/// original does. That one also compares placeholders and parameters of the goal. The bounds of a `dyn` type are one level, and
+/// their arguments the next.
 pub fn are_apart(cx: &Interner, left: GenericArgs, right: GenericArgs) -> bool
     requires left { Has cx.now.entries args_lists left.0 }
     requires right { Has cx.now.entries args_lists right.0 }

@@ -40,8 +40,8 @@ struct ImplEntry {
     is_fixed: bool,
 }
 
-/// What an impl is found by beside its trait and head: its header if that is fixed, so that others with this trait and head are not
-/// looked at; else both as one that is not fixed.
+/// The second key of an impl. A fixed header is a key of its own, so that a fixed trait reference finds it without looking at others
+/// with this trait and head.
 fn own_key(head: ImplHead, header: TraitRef, is_fixed: bool) -> ImplKey
     ensures { result ≡ (if is_fixed then ImplKey.Fixed header else ImplKey.Open head) }
 {
@@ -52,7 +52,7 @@ fn own_key(head: ImplHead, header: TraitRef, is_fixed: bool) -> ImplKey
     }
 }
 
-/// What an impl is found by two levels deep, if its self type can match one that has an inner head.
+/// The third key of an impl, by its inner head. It exists if the self type can match one that has an inner head.
 fn inner_key(head: ImplHead, inner: Option<SimplifiedType>) -> Option<ImplKey>
     ensures { result ≡ inner_key head inner }
 {
@@ -68,12 +68,12 @@ fn inner_key(head: ImplHead, inner: Option<SimplifiedType>) -> Option<ImplKey>
     }
 }
 
-/// The structs, traits and impls that one crate sees, each found by its number, and the impls of a trait by the heads of their
-/// self types, as `TraitImpls` of the original; those whose headers are fixed also by their headers.
+/// The structs, traits and impls that are visible to one crate, each found by its number. Impls of a trait are also found by the
+/// heads of their self types, as in `TraitImpls` of the original. Beyond that they are found by inner heads and by fixed headers.
 ///
-/// A contract sees them as lists in the order in which they were added; `declared` is the world that these are, without
-/// lifetimes, over the terms of an interner. It has no list of crates: which of them are seen was decided when the declarations
-/// were taken. The terms are handles of one interner. It may grow, and no handle is made or lost here.
+/// A contract sees them as lists in the order in which they were added. `declared` is their world without lifetimes, over the terms
+/// of an interner. It has no list of crates: only items of visible crates are added. The terms are handles of one interner, which
+/// may grow. No handle is made here.
 pub struct Declarations {
     local: CrateId,
     adts: IndexMap<AdtId, AdtDef>,
@@ -83,7 +83,7 @@ pub struct Declarations {
     alloc: Global,
 }
 
-// Written, so that what owns one drops it by one call at each way out, and not field by field.
+// Written out, so that an owner drops it by one call at each exit.
 impl Drop for Declarations {
     fn drop(self) {
         let Declarations {
@@ -110,7 +110,7 @@ impl Model for Declarations {
 }
 
 impl Declarations {
-    /// No declarations, asked in the crate `local`. It takes no memory before the first item.
+    /// No declarations, for queries in the crate `local`. It takes no memory until the first item.
     pub fn new(alloc: Global, local: CrateId) -> Declarations
         ensures { result ≡ record { local = local.index; structs = []; traits = []; impls = [] } }
     {
@@ -124,7 +124,7 @@ impl Declarations {
         }
     }
 
-    /// Room for so many further structs, traits and impls, so that the tables do not grow step by step. The error is `Memory`.
+    /// Reserves room for so many further structs, traits and impls, so that the tables do not grow step by step. The error is `Memory`.
     pub fn reserve(&mut self, adts: usize, traits: usize, impls: usize) -> Result<(), Fault>
         ensures same { self.new ≡ self.old }
         ensures memory { IfErr result (λ fault. fault ≡ Memory) }
@@ -133,12 +133,12 @@ impl Declarations {
         self.traits.reserve(traits)?;
         self.impls.reserve(impls)?;
 
-        // An impl has two keys, and mostly no other impl has them.
+        // An impl has two or three keys, and most have two that no other impl has.
         self.keys.reserve(impls.saturating_mul(2))?;
         Ok(())
     }
 
-    /// The same declarations, asked in another crate.
+    /// The same declarations, for queries in another crate.
     pub fn ask_in(&mut self, local: CrateId)
         ensures asked { self.new ≡ record self.old { local = local.index } }
         ensures held { (es : List Entry) → AreHeld es self.old → AreHeld es self.new }
@@ -146,7 +146,7 @@ impl Declarations {
         self.local = local;
     }
 
-    /// Adds a struct, whose number is new. After an error, which is `Memory`, nothing has changed.
+    /// Adds a struct, whose number is new. The error is `Memory`, and then nothing has changed.
     pub fn add_struct(&mut self, id: AdtId, def: AdtDef) -> Result<(), Fault>
         requires { structs_named (declared [] self.old) id.index ≡ [] }
         ensures added { OnOk result (self.new ≡ with_struct self.old (id, def)) }
@@ -160,7 +160,7 @@ impl Declarations {
         Ok(())
     }
 
-    /// Adds a trait, whose number is new. After an error, which is `Memory`, nothing has changed.
+    /// Adds a trait, whose number is new. The error is `Memory`, and then nothing has changed.
     pub fn add_trait(&mut self, id: TraitId, def: TraitDef) -> Result<(), Fault>
         requires { traits_named (declared [] self.old) id.index ≡ [] }
         ensures added { OnOk result (self.new ≡ with_trait self.old (id, def)) }
@@ -174,8 +174,8 @@ impl Declarations {
         Ok(())
     }
 
-    /// Adds an impl, whose number is above those of the others. Its self type is a parameter, or no variable, placeholder or
-    /// bound type. After an error, which is `Memory`, nothing has changed.
+    /// Adds an impl, whose number is above those of the others. Its self type is a parameter or has a head. The error is `Memory`, and
+    /// then nothing has changed.
     pub fn add_impl(&mut self, cx: &Interner, id: ImplId, def: ImplDef) -> Result<(), Fault>
         requires above { IsAbove id.index self.old }
         requires held { ImplHeld cx.now.entries def }
@@ -229,8 +229,8 @@ impl Declarations {
         self.adts.get(&id)
     }
 
-    /// For each parameter of a struct whether it is unsizing, if the struct is declared. Of `struct S<T>(u8, V<T>)` T is, and of
-    /// `struct S<T>(T, V<T>)` it is not (`unsizing_params_for_adt`).
+    /// For each parameter of a struct whether it is unsizing, if the struct is declared (`unsizing_params_for_adt`). In
+    /// `struct S<T>(u8, V<T>)` the parameter is, and in `struct S<T>(T, V<T>)` it is not.
     pub fn unsizing_params_for_adt(&self, id: AdtId) -> Option<&[bool]>
         ensures { (es : List Entry) → AreHeld es self.now → TellUnsizing (λ flags. flags.now) result (structs_named (declared es self.now) id.index) }
     {
@@ -265,7 +265,7 @@ impl Declarations {
         }
     }
 
-    /// Whether the crate is the one that asks (`DefId::is_local`).
+    /// Whether the crate is the local one (`DefId::is_local`).
     pub fn is_local(&self, home: CrateId) -> bool
         ensures { result ≡ (home.index == self.now.local) }
     {
@@ -282,8 +282,8 @@ impl Declarations {
         }
     }
 
-    /// Whether the trait of the reference is of the crate that asks, or fundamental: then no other crate may add an impl for a
-    /// local type, and what isn't there is refused (`trait_ref_is_local_or_fundamental`).
+    /// Whether the trait of the reference is local or fundamental (`trait_ref_is_local_or_fundamental`). If so, no other crate may add
+    /// an impl for a local type.
     pub fn trait_ref_is_local_or_fundamental(&self, trait_ref: TraitRef) -> bool
         ensures { (es : List Entry) → result ≡ trait_is (λ x. (x.home == self.now.local) || x.is_fundamental) (declared es self.now) trait_ref.def_id.index }
     {
@@ -293,10 +293,10 @@ impl Declarations {
         }
     }
 
-    /// Calls `f` at each impl of the trait that can match the self type, by rising number: those whose self type is a
-    /// parameter or has the same head. No other impl is looked at (`for_each_relevant_impl`).
+    /// Calls `f` for each impl of the trait that can match the self type, by rising number (`for_each_relevant_impl`). The impl's self
+    /// type is a parameter or has the same head. No other impl is looked at.
     ///
-    /// `impl<T> Show for T` and `impl Show for V<u8>` can match `V<bool>`, and `impl Show for u8` can not.
+    /// `impl<T> Show for T` and `impl Show for V<u8>` can match `V<bool>`, but `impl Show for u8` cannot.
     pub fn for_each_relevant_impl<F: FnMut(ImplId)>(
         &self,
         cx: &Interner,
@@ -315,8 +315,8 @@ impl Declarations {
         for_each_merged(blanket, same_head, f);
     }
 
-    /// The first impl above `last` at which `for_each_relevant_impl` calls. So a walk over these impls may stop at each, and go on
-    /// behind it without the others being looked at again.
+    /// The first impl above `last` of those that `for_each_relevant_impl` visits. A visit of these impls may stop at each and continue
+    /// after it, without looking at the previous ones again.
     pub fn next_relevant_impl(
         &self,
         cx: &Interner,
@@ -338,13 +338,14 @@ impl Declarations {
         )
     }
 
-    /// The first impl above `last` that can match a reference, as heads and a look at the first levels tell: those at which
-    /// `for_each_relevant_impl` calls, but for those whose arguments are apart from the reference's (`are_apart`). So `[u8; 1]` meets
-    /// `impl Show for [u8; 1]` and `impl<T> Show for [T; 1]`, and neither `impl Show for [u8; 2]` nor `impl<T> Show for [T; 2]`; `V<S, ?x>`
-    /// meets `impl<U> Show for V<S, U>`, and not `impl<U> Show for V<R, U>` (the part of `DeepRejectCtxt` of the original that we have).
+    /// The first impl above `last` that can match a trait reference. It is one that `for_each_relevant_impl` visits, and its arguments
+    /// are not disjoint from the reference's (`are_apart`). So `[u8; 1]` can match `impl Show for [u8; 1]` and
+    /// `impl<T> Show for [T; 1]`, but neither `impl Show for [u8; 2]` nor `impl<T> Show for [T; 2]`. `V<S, ?x>` can match
+    /// `impl<U> Show for V<S, U>`, but not `impl<U> Show for V<R, U>`. This is a part of `DeepRejectCtxt` of the original.
     ///
-    /// It goes once along the impls above `last` that have the trait and the head, or no head, up to the one that it finds. Of these a
-    /// fixed reference passes over those with a fixed header: the one that it matches is found by its handle.
+    /// It looks once at each impl above `last` with the trait and the head, or no head, up to the one that it returns. There are two
+    /// exceptions. A fixed reference skips other fixed headers: the one that it matches is found by its handle. An open reference for
+    /// `&V<T>` skips impls for another type below `&`, such as `&W`. The same holds for `&mut`, raw pointers and slices.
     pub fn next_matching_impl(
         &self,
         cx: &Interner,
@@ -369,7 +370,7 @@ impl Declarations {
         }
     }
 
-    /// `next_matching_impl` for a reference whose self type has an inner head. Impls with another inner head are disjoint from it.
+    /// `next_matching_impl` for a trait reference whose self type has an inner head. Impls with another inner head are disjoint from it.
     fn next_of_inner(
         &self,
         cx: &Interner,
@@ -392,7 +393,7 @@ impl Declarations {
         self.next_meeting(cx, trait_ref.args, shallow, same_inner, last)
     }
 
-    /// `next_matching_impl` for a reference in which something is open, or a lifetime stands.
+    /// `next_matching_impl` for a trait reference that is not fixed, and whose self type has no inner head.
     fn next_of_open(
         &self,
         cx: &Interner,
@@ -412,7 +413,7 @@ impl Declarations {
         self.next_meeting(cx, trait_ref.args, blanket, same_head, last)
     }
 
-    /// `next_matching_impl` for a fixed reference: an impl whose header is not fixed, or the one with its own header.
+    /// `next_matching_impl` for a fixed trait reference: an impl whose header is not fixed, or the one with this header.
     fn next_of_fixed(
         &self,
         cx: &Interner,
@@ -440,7 +441,7 @@ impl Declarations {
         smaller(open, first_above(own, last))
     }
 
-    /// The first impl above `last` of two lists whose header is not apart from these arguments. It goes once along them.
+    /// The first impl above `last` of two lists whose header is not disjoint from these arguments. It visits the lists once.
     fn next_meeting(
         &self,
         cx: &Interner,
@@ -471,7 +472,7 @@ impl Declarations {
         None
     }
 
-    /// Whether the arguments of an impl's header are not apart from these.
+    /// Whether the arguments of an impl's header are not disjoint from these.
     fn header_meets(&self, cx: &Interner, args: GenericArgs, id: ImplId) -> bool
         requires held { AreHeld cx.now.entries self.now }
         requires args { Has cx.now.entries args_lists args.0 }
@@ -491,7 +492,7 @@ impl Declarations {
         impls_with_key(&self.keys, key)
     }
 
-    /// The impls of a trait whose self type has that head; without a head those whose self type is a parameter.
+    /// The impls of a trait whose self type has that head, or without a head those whose self type is a parameter.
     fn impls_with(&self, trait_id: TraitId, self_ty: Option<SimplifiedType>) -> &[ImplId]
         ensures is { result.now ≡ ids_with trait_id.index (option_map label_of self_ty) self.now.impls }
         ensures rises { Rises (map (λ i. i.id) self.now.impls) }
@@ -499,7 +500,7 @@ impl Declarations {
         self.with_key(ImplKey::Headed(ImplHead { trait_id, self_ty }))
     }
 
-    /// Those of the impls of a trait whose self type has that head that are not fixed; without a head none.
+    /// The impls of a trait whose self type has that head and whose header is not fixed. Without a head there are none.
     fn open_with_head(&self, trait_id: TraitId, self_ty: Option<SimplifiedType>) -> &[ImplId]
         ensures { result.now ≡ ids_of (has_open_head trait_id self_ty) self.now.impls }
     {
@@ -509,7 +510,7 @@ impl Declarations {
         }
     }
 
-    /// The impls of a trait whose self type has that head; without a head none.
+    /// The impls of a trait whose self type has that head. Without a head there are none.
     fn with_head(&self, trait_id: TraitId, self_ty: Option<SimplifiedType>) -> &[ImplId]
         ensures { result.now ≡ ids_headed trait_id.index (option_map label_of self_ty) self.now.impls }
     {

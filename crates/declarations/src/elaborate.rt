@@ -1,4 +1,4 @@
-//! Supertraits of references.
+//! Supertraits of trait references.
 ghost use Rattle.std.specs.Prelude.{◌≡◌, ◌&&◌, ◌==◌, ◌++◌, ◌∷◌, [], IfOk, IfErr, OnOk, None};
 ghost use Rattle.std.specs.List.{list_any};
 ghost use Rattle.type_terms.specs.Trees.{outer_binder};
@@ -26,7 +26,7 @@ use type_terms::Fault;
 use type_terms::interner::Interner;
 use type_terms::kinds::GenericArgs;
 
-/// A reference with arguments in the place of its parameters.
+/// A trait reference with its parameters replaced by arguments.
 fn with_arguments(
     alloc: Global,
     cx: &mut Interner,
@@ -50,7 +50,7 @@ fn with_arguments(
     }
 }
 
-/// Puts a reference behind the others. The error is `Memory`.
+/// Appends a trait reference. The error is `Memory`.
 fn put(found: &mut Vec<TraitRef>, next: TraitRef) -> Result<(), Fault>
     ensures put { OnOk result (found.new.items ≡ found.old.items ++ next ∷ []) }
     ensures memory { IfErr result (λ fault. fault ≡ Memory) }
@@ -59,8 +59,8 @@ fn put(found: &mut Vec<TraitRef>, next: TraitRef) -> Result<(), Fault>
     Ok(())
 }
 
-/// The supertraits that a trait is declared with, with the arguments of a reference to it. With `trait Sub<U>: Sup<U>` and the
-/// arguments `[u8, bool]` it is `u8: Sup<bool>`.
+/// The declared supertraits of a trait, with the arguments of a reference to it. With `trait Sub<U>: Sup<U>` and the arguments
+/// `[u8, bool]` it is `u8: Sup<bool>`.
 fn instantiate_bounds(
     alloc: Global,
     cx: &mut Interner,
@@ -94,7 +94,7 @@ fn is_among(references: &[TraitRef], trait_ref: TraitRef) -> bool
     })
 }
 
-/// References that wait to be elaborated, and those that were put among them at any time (`Elaborator`).
+/// The trait references that wait to be elaborated, and all that ever did (`Elaborator`).
 #[derive(Drop)]
 struct Elaborator {
     stack: Vec<TraitRef>,
@@ -102,7 +102,7 @@ struct Elaborator {
 }
 
 impl Elaborator {
-    /// Puts those on the stack that were not put there before (`extend_deduped`). The error is `Memory`.
+    /// Pushes those that were never pushed before (`extend_deduped`). The error is `Memory`.
     fn extend_deduped(&mut self, cx: &Interner, references: &[TraitRef]) -> Result<(), Fault>
         requires held { TraitRefsHeld cx.now.entries references.now }
         requires visited { TraitRefsHeld cx.now.entries self.old.visited.items }
@@ -123,7 +123,7 @@ impl Elaborator {
 }
 
 impl Declarations {
-    /// The supertraits that the reference's trait is declared with, with the reference's arguments.
+    /// The declared supertraits of the reference's trait, with the reference's arguments.
     fn written_supertraits(
         &self,
         alloc: Global,
@@ -146,10 +146,10 @@ impl Declarations {
         }
     }
 
-    /// The references with their supertraits through all levels, each once: they are put on a stack in their order, and each step
-    /// takes the last one off and puts its written supertraits on (`elaborate`). For `S: A1 + B1` it is S, B1, A1.
+    /// The trait references with their supertraits through all levels, each once (`elaborate`). They are pushed on a stack in their
+    /// order. Each step pops the last one and pushes its declared supertraits. For `S: A1 + B1` it is `S`, `B1`, `A1`.
     ///
-    /// Each reference has its trait's arguments, and no trait is its own supertrait. The error is a refusal of memory, or `Full`.
+    /// Each reference has its trait's arguments, and no trait is its own supertrait. The error is `Memory` or `Full`.
     pub fn elaborate(
         &self,
         alloc: Global,
@@ -180,7 +180,7 @@ impl Declarations {
         Ok(found)
     }
 
-    /// The strict supertraits of a reference through all levels, each once, in the order of `elaborate` (`supertraits`).
+    /// The strict supertraits of a trait reference through all levels, each once, in the order of `elaborate` (`supertraits`).
     pub fn supertraits(
         &self,
         alloc: Global,

@@ -1,4 +1,4 @@
-//! Impls by their trait and the head of their self type, and by their header.
+//! Impls by their trait and the heads of their self type, and by their header.
 ghost use Rattle.std.specs.Prelude.{◌≡◌, ◌||◌, ◌++◌, ◌∷◌, [], true, false, List, OnOk, OnErr, IfErr, if◌then◌else◌};
 ghost use Rattle.type_terms.specs.declared.ImplId.{ImplId};
 ghost use Rattle.type_terms.specs.declared.Fault.TheVariants.{Memory};
@@ -23,17 +23,18 @@ pub(crate) struct ImplHead {
 pub(crate) enum ImplKey {
     /// Those with this trait and head.
     Headed(ImplHead),
-    /// Those of them whose headers are not fixed.
+    /// Those with this trait and head whose headers are not fixed.
     Open(ImplHead),
     /// Those whose header is this one, which is fixed.
     Fixed(TraitRef),
-    /// Those of this trait that can match a type whatever its inner head is: for `T`, `&T`, `&mut T`, `*const T`, `*mut T` or `[T]`.
+    /// Those with this trait whose self type has no inner head but can match one that has: `T`, `&T`, `&mut T`, `*const T`, `*mut T`
+    /// and `[T]`.
     Shallow(TraitId),
     /// Those with this trait and head, and this head one level below: for `&V<T>` they are `&` and `V`.
     Inner(ImplHead, SimplifiedType),
 }
 
-/// Impls by rising number. One alone takes no memory of its own, and few keys have more.
+/// Impls by rising number. A single one takes no memory of its own, and few keys have more.
 #[derive(Drop)]
 pub(crate) enum ImplIds {
     Empty,
@@ -52,7 +53,7 @@ impl ImplIds {
         }
     }
 
-    /// Puts an impl behind them.
+    /// Appends an impl.
     fn push(&mut self, alloc: Global, id: ImplId) -> Result<(), AllocError>
         ensures pushed { OnOk result (ids_in self.new ≡ ids_in self.old ++ id ∷ []) }
         ensures refused { OnErr result (ids_in self.new ≡ ids_in self.old) }
@@ -68,7 +69,7 @@ impl ImplIds {
         Ok(())
     }
 
-    /// Takes the last one away.
+    /// Removes the last one.
     fn pop(&mut self)
         ensures { (ids : List ImplId) (id : ImplId) → ids_in self.old ≡ ids ++ id ∷ [] → ids_in self.new ≡ ids }
     {
@@ -92,7 +93,7 @@ pub(crate) fn impls_with_key(keys: &IndexMap<ImplKey, ImplIds>, key: ImplKey) ->
     }
 }
 
-/// Puts an impl behind those that have the key.
+/// Appends an impl to those that have the key.
 fn add_key(
     alloc: Global,
     keys: &mut IndexMap<ImplKey, ImplIds>,
@@ -112,7 +113,7 @@ fn add_key(
     Ok(())
 }
 
-/// Takes the last impl away from those that have the key.
+/// Removes the last impl of those that have the key.
 fn take_last(keys: &mut IndexMap<ImplKey, ImplIds>, key: ImplKey)
     ensures taken { (ids : List ImplId) (id : ImplId) → listed keys.old key ≡ ids ++ id ∷ [] → listed keys.new key ≡ ids }
     ensures others { (k : ImplKey) → is_key key k ≡ false → listed keys.new k ≡ listed keys.old k }
@@ -123,7 +124,7 @@ fn take_last(keys: &mut IndexMap<ImplKey, ImplIds>, key: ImplKey)
     }
 }
 
-/// Puts an impl behind those that have the first key, and behind those that have the second. After an error it is behind none.
+/// Appends an impl to those that have the first key and to those that have the second, or to none after an error.
 fn add_two_keys(
     alloc: Global,
     keys: &mut IndexMap<ImplKey, ImplIds>,
@@ -147,7 +148,7 @@ fn add_two_keys(
     }
 }
 
-/// Puts an impl behind those that have one of these keys. After an error it is behind none.
+/// Appends an impl to those that have one of these keys, or to none after an error.
 pub(crate) fn add_keys(
     alloc: Global,
     keys: &mut IndexMap<ImplKey, ImplIds>,

@@ -12,7 +12,7 @@ use type_terms::interner::Interner;
 use type_terms::kinds::Ty;
 use type_terms::{CrateId, Fault};
 
-/// What a parameter of an item stands for (`GenericParamDefKind`).
+/// The kind of a parameter (`GenericParamDefKind`).
 #[derive(Clone, Copy, PartialEq, Eq, Hash)]
 pub enum GenericParamKind {
     Lifetime,
@@ -26,14 +26,14 @@ pub struct AdtDef {
     pub home: CrateId,
     /// Whether it is `#[fundamental]` (RFC 1023).
     pub is_fundamental: bool,
-    /// Its parameters; a term speaks of them by their places from 0.
+    /// Its parameters. A term refers to them by index, from 0.
     pub params: Vec<GenericParamKind>,
     pub fields: Vec<Ty>,
-    /// For each parameter whether it is unsizing: the last field mentions it, and no earlier one does (RFC 982).
+    /// For each parameter whether it is unsizing: the last field mentions it and no earlier one does (RFC 982).
     pub unsizing_params: Vec<bool>,
 }
 
-// Written, so that what owns one drops it by one call at each way out, and not field by field.
+// Written out, so that an owner drops it by one call at each exit.
 impl Drop for AdtDef {
     fn drop(self) {
         let AdtDef {
@@ -47,7 +47,7 @@ impl Drop for AdtDef {
 }
 
 impl AdtDef {
-    /// A struct with what is read off its fields: which parameters are unsizing. The error is `Memory`.
+    /// A struct. Its fields tell which parameters are unsizing. The error is `Memory`.
     pub fn new(
         alloc: Global,
         cx: &Interner,
@@ -75,21 +75,21 @@ impl AdtDef {
     }
 }
 
-/// A trait (`TraitDef`). `trait Sub<U>: Sup<U>` has two parameters, of which Self is the first, and one bound.
+/// A trait (`TraitDef`). `trait Sub<U>: Sup<U>` has two parameters, the first of which is `Self`, and one bound.
 pub struct TraitDef {
     /// The crate that declares it.
     pub home: CrateId,
     /// Whether it is `#[fundamental]` (RFC 1023).
     pub is_fundamental: bool,
-    /// Whether it is declared `auto`: a proof of it may rest on itself, and types have it by their parts (RFC 19).
+    /// Whether it is declared `auto`: proofs may be cyclic, and types implement it by their parts (RFC 19).
     pub is_auto: bool,
-    /// Self and its further parameters; a term speaks of them by their places from 0.
+    /// `Self` and its further parameters. A term refers to them by index, from 0.
     pub params: Vec<GenericParamKind>,
-    /// The supertraits as they are written, of parameter 0.
+    /// The supertraits as declared. Their self type is parameter 0.
     pub bounds: Vec<TraitRef>,
 }
 
-// Written, so that what owns one drops it by one call at each way out, and not field by field.
+// Written out, so that an owner drops it by one call at each exit.
 impl Drop for TraitDef {
     fn drop(self) {
         let TraitDef {
@@ -107,15 +107,15 @@ impl Drop for TraitDef {
 pub struct ImplDef {
     /// The crate that declares it.
     pub home: CrateId,
-    /// Its parameters; a term speaks of them by their places from 0.
+    /// Its parameters. A term refers to them by index, from 0.
     pub params: Vec<GenericParamKind>,
-    /// The reference that it proves.
+    /// The trait reference that it proves.
     pub header: TraitRef,
-    /// The where-clauses as they are written, over the same parameters as the header.
+    /// The where-clauses as declared, over the same parameters as the header.
     pub clauses: Vec<TraitRef>,
 }
 
-// Written, so that what owns one drops it by one call at each way out, and not field by field.
+// Written out, so that an owner drops it by one call at each exit.
 impl Drop for ImplDef {
     fn drop(self) {
         let ImplDef {

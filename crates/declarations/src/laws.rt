@@ -1,4 +1,4 @@
-//! Laws of declarations, over what the contracts speak of.
+//! Laws of declarations, over the definitions that contracts use.
 ghost use Rattle.std.specs.Prelude.{◌≡◌, ◌∷◌, [], List};
 ghost use Rattle.type_terms.specs.Promised.Worlds.{World, Reference};
 ghost use Rattle.type_terms.specs.Promised.Handles.{Entry, Keeps};
@@ -9,8 +9,8 @@ ghost use Rattle.declarations.specs.Applied.{HaveBounds, IsApplied};
 ghost use Rattle.declarations.specs.Promised.Elaboration.{elaborate, supertraits};
 ghost use Rattle.declarations.specs.Elaboration.{diamond, asked_of_u8};
 
-/// Declarations whose terms are an interner's stay so as it grows, and they are the same world, with supertraits that can be read
-/// off references. A reference that has its trait's arguments has them still.
+/// As an interner grows, declarations of this interner remain so. They declare the same world, and its supertraits can still be read
+/// off trait references. A trait reference that has its trait's arguments still has them.
 pub fn declarations_are_kept()
     ensures held { (old new : List Entry) (d : Items) → Keeps old new → AreHeld old d → AreHeld new d }
     ensures declares { (old new : List Entry) (d : Items) → Keeps old new → AreHeld old d → declared new d ≡ declared old d }
@@ -19,8 +19,8 @@ pub fn declarations_are_kept()
     ensures applied { (old new : List Entry) (d : Items) (r : TraitRef) → Keeps old new → ReferenceHeld old r → IsApplied old d r → IsApplied new d r }
 {}
 
-/// To elaborate one reference gives it and then its supertraits. With `trait Bottom: Left + Right`, both of which have `Top`,
-/// `u8: Bottom` gives Bottom, Right, Top and Left, as a stack does, and Top once.
+/// Elaborating one trait reference gives it and then its supertraits. With `trait Bottom: Left + Right`, where both have `Top`,
+/// `u8: Bottom` gives `Bottom`, `Right`, `Top` and `Left`. This is the order of a stack, and `Top` comes once.
 pub fn elaborating_laws()
     ensures begins { (V : World) (r : Reference) → elaborate V (r ∷ []) ≡ r ∷ supertraits V r }
     ensures order { elaborate diamond (asked_of_u8 (3 ∷ [])) ≡ asked_of_u8 (3 ∷ 2 ∷ 0 ∷ 1 ∷ []) }

@@ -1,5 +1,5 @@
-//! The declarations that rules are read from: the structs, traits and impls of the crates that one crate sees, as terms of an
-//! interner, and what makes them quick to search.
+//! The declarations that rules are read from: the structs, traits and impls of the visible crates, as terms of an interner, and
+//! indices to search them.
 #![tactic(auto)]
 
 pub mod apart;

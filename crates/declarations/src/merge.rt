@@ -1,4 +1,4 @@
-//! Two rising lists, one after the other by rising numbers.
+//! Two rising lists, merged by rising numbers.
 ghost use Rattle.std.specs.Prelude.{◌≡◌, ◌∷◌, [], ◌+◌, List, MatchOption, length, filter, Some, None};
 ghost use Rattle.std.specs.List.{FoldsTo};
 ghost use Rattle.declarations.specs.Merges.{IsMerge, IsNext, Rises};
@@ -8,7 +8,7 @@ ghost use Rattle.type_terms.specs.declared.ImplId.{ImplId};
 
 use type_terms::ImplId;
 
-/// Those of rising numbers that are above `last`; all where there is none.
+/// Those of rising numbers that are above `last`, or all if there is none.
 pub(crate) fn ids_above(ids: &[ImplId], last: Option<ImplId>) -> &[ImplId]
     requires { Rises ids.now }
     ensures { result.now ≡ filter (λ i. is_above last i.index) ids.now }
@@ -33,7 +33,7 @@ pub(crate) fn first_above(ids: &[ImplId], last: Option<ImplId>) -> Option<ImplId
     }
 }
 
-/// The smaller of two numbers, where both are there; else the one that is.
+/// The smaller of two numbers. If only one exists, that one.
 pub(crate) fn smaller(first: Option<ImplId>, second: Option<ImplId>) -> Option<ImplId>
     ensures { option_map (λ i. i.index) result ≡ smaller_of (option_map (λ i. i.index) first) (option_map (λ i. i.index) second) }
 {
@@ -50,7 +50,7 @@ pub(crate) fn smaller(first: Option<ImplId>, second: Option<ImplId>) -> Option<I
     }
 }
 
-/// The smaller of the first of two lists, with what is left of both.
+/// The smaller of the first elements of two lists, with what remains of both.
 pub(crate) fn split_smaller<'a>(
     first: &'a [ImplId],
     second: &'a [ImplId],

@@ -1,4 +1,4 @@
-//! The head of a type, as far as it tells which impls can match.
+//! The heads of a type, by which impls that can match are found.
 ghost use Rattle.std.specs.Prelude.{◌≡◌};
 ghost use Rattle.std.specs.Option.{option_map};
 ghost use Rattle.type_terms.specs.Promised.Handles.{Has, types, trees_at};
@@ -8,7 +8,7 @@ use type_terms::AdtId;
 use type_terms::interner::Interner;
 use type_terms::kinds::{IntTy, Mutability, Ty, TyKind, UintTy};
 
-/// What stands outermost in a type that is no parameter, variable or placeholder (`SimplifiedType`).
+/// The outermost constructor of a type that is no parameter, inference variable or placeholder (`SimplifiedType`).
 #[derive(Clone, Copy, PartialEq, Eq, Hash)]
 pub enum SimplifiedType {
     Bool,
@@ -29,7 +29,7 @@ pub enum SimplifiedType {
     Function,
 }
 
-/// The head of a type: of `V<u8>` it is `V`. A parameter, a variable and a placeholder have none (`simplify_type`).
+/// The head of a type: of `V<u8>` it is `V`. A parameter, an inference variable and a placeholder have none (`simplify_type`).
 pub fn simplify_type(cx: &Interner, ty: Ty) -> Option<SimplifiedType>
     requires { Has cx.now.entries types ty.0 }
     ensures { option_map label_of result ≡ head_of (trees_at cx.now.entries ty.0) }
@@ -53,7 +53,8 @@ pub fn simplify_type(cx: &Interner, ty: Ty) -> Option<SimplifiedType>
     }
 }
 
-/// The head one level below a reference, a raw pointer or a slice: of `&V<u8>` it is `V`. `&T` has none, and neither has any other type.
+/// The inner head of a type: the head of what a reference, a raw pointer or a slice is made of. Of `&V<u8>` it is `V`. `&T` and all
+/// other types have none.
 pub(crate) fn simplify_inner(cx: &Interner, ty: Ty) -> Option<SimplifiedType>
     requires { Has cx.now.entries types ty.0 }
     ensures { option_map label_of result ≡ inner_head_of (trees_at cx.now.entries ty.0) }

@@ -66,7 +66,7 @@ impl TypeVisitor for ParamFinder {
     }
 }
 
-/// Whether the type or const parameter stands in the type.
+/// Whether the type or const parameter occurs in the type.
 fn mentions_param(cx: &Interner, ty: Ty, index: usize) -> bool
     requires { Has cx.now.entries types ty.0 }
     ensures { result ≡ some_node (is_parameter index) (trees_at cx.now.entries ty.0) }
@@ -77,7 +77,7 @@ fn mentions_param(cx: &Interner, ty: Ty, index: usize) -> bool
     }
 }
 
-/// Whether the parameter stands in the last field and in no earlier one.
+/// Whether the parameter occurs in the last field and in no earlier one.
 fn is_unsizing_param(cx: &Interner, fields: &[Ty], index: usize) -> bool
     requires { Each (λ t. Has cx.now.entries types t.0) fields.now }
     ensures { result ≡ is_unsizing (field_trees cx.now.entries fields.now) index }
@@ -95,7 +95,7 @@ fn is_unsizing_param(cx: &Interner, fields: &[Ty], index: usize) -> bool
     false
 }
 
-/// For each of `count` parameters whether it is unsizing for a struct with these fields.
+/// For each of `count` parameters, whether it is unsizing for a struct with these fields.
 pub(crate) fn unsizing_params(
     alloc: Global,
     cx: &Interner,
