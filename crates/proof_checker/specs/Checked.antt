@@ -8,36 +8,36 @@ use Rattle.type_terms.specs.Promised.Handles as terms
 use Rattle.proof_checker.specs.declared.steps.Step.{Step}
 use Rattle.proof_checker.specs.Steps.{term_of, at_places, IsWayOf}
 
--- The premises make a rule of the reference by this way.
+-- The premises and the trait reference are a rule of this kind.
 abbrev pub IsRuleByWay : World → List Reference → Reference → rule.Way → List Reference → Type 0
 IsRuleByWay W E r w ps = In (let u : Rule = record { way = w; premises = ps } in u) (rules W E r)
 
--- Some supertrait of the where-clause at this place is the reference.
+-- Some supertrait of the where-clause at this position is the trait reference.
 abbrev pub IsSuperRule : World → List Reference → Reference → ℕ → Type 0
 IsSuperRule W E r k = (n : ℕ) × IsRuleByWay W E r (by_super k n) []
 
--- Some built-in row concludes the reference from the premises.
+-- Some built-in rule concludes the trait reference from the premises.
 abbrev pub IsBuiltInRule : World → List Reference → Reference → List Reference → Type 0
 IsBuiltInRule W E r ps = (b : BuiltIn) × IsRuleByWay W E r (built_in b) ps
 
--- By the step's way its premises conclude its reference, where rs are the references of all steps.
+-- By the step's rule instance its premises conclude its trait reference. rs are the trait references of all steps.
 pub record StepHasRule (W : World) (E : List Reference) (es : List terms.Entry) (rs : List Reference) (s : Step) : Type 0 where
   pub way : rule.Way
   pub of_step : IsWayOf s.way way
   pub rule : IsRuleByWay W E (term_of es s.reference) way (at_places rs s.premises.items)
 
--- The premises are among the references rs, and among the first k of them unless the trait of what they conclude is coinductive.
+-- The premises are among the trait references rs, and among the first k of them unless the trait of the conclusion is coinductive.
 abbrev pub PremisesStand : World → List Reference → ℕ → ℕ → List Reference → Type 0
 PremisesStand W rs k t ps = Every (λ p. In p (if is_coinductive W t then rs else take k rs)) ps
 
--- The first of the references rs are the premises.
+-- The first of the trait references rs are the premises.
 abbrev pub AreFirstOf : List Reference → List Reference → Type 0
 AreFirstOf rs ps = (others : List Reference) × (rs ≡ ps ++ others)
 
--- By this way the reference follows from these premises, and maybe further ones behind them.
+-- By this rule instance the trait reference follows from premises of which the first are these.
 abbrev pub IsConcludedFrom : World → List Reference → Reference → rule.Way → List Reference → Type 0
 IsConcludedFrom W E r w ps = (others : List Reference) × IsRuleByWay W E r w (ps ++ others)
 
--- It does so by some built-in row.
+-- It follows from such premises by some built-in rule.
 abbrev pub IsBuiltInConclusion : World → List Reference → Reference → List Reference → Type 0
 IsBuiltInConclusion W E r ps = (b : BuiltIn) × IsConcludedFrom W E r (built_in b) ps

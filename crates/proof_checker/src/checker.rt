@@ -27,7 +27,7 @@ use type_terms::{Fault, TraitId};
 /// The number of `Sized`.
 const SIZED: u32 = 0;
 
-/// Whether a proof of the trait may rest on itself (`trait_is_coinductive`).
+/// Whether a proof of the trait may be cyclic (`trait_is_coinductive`).
 fn is_coinductive(declarations: &Declarations, id: TraitId) -> bool
     ensures { (es : List Entry) → result ≡ is_coinductive (declared es declarations.now) id.index }
 {
@@ -37,7 +37,7 @@ fn is_coinductive(declarations: &Declarations, id: TraitId) -> bool
     }
 }
 
-/// Whether the references are those of the steps at these places, one for one, each below `allowed`.
+/// Whether the trait references are those of the steps at these positions, one for one. Each position is below `allowed`.
 fn premises_stand(
     alloc: Global,
     cx: &mut Interner,
@@ -79,7 +79,7 @@ fn is_leaf(step: &Step) -> bool
     step.premises.is_empty()
 }
 
-/// Whether a step follows by its way from steps that stand before its place, or from any steps if its trait is coinductive.
+/// Whether a step follows by its rule instance from preceding steps, or from any steps if its trait is coinductive.
 fn is_step(
     alloc: Global,
     cx: &mut Interner,
@@ -132,7 +132,7 @@ fn is_step(
     }
 }
 
-/// Whether each of the steps follows: they are a proof.
+/// Whether each of the steps follows, so that they are a proof.
 fn is_proof(
     alloc: Global,
     cx: &mut Interner,
@@ -158,13 +158,13 @@ fn is_proof(
     Ok(true)
 }
 
-/// Whether steps are a proof by the declarations and the where-clauses, and by what the steps assume, the last of which concludes
-/// the reference.
+/// Whether steps are a proof by the declarations, the where-clauses and what the steps assume, and the last step concludes the trait
+/// reference.
 ///
-/// `true` says that they are one, in the order in which they stand: each has a rule with these premises, each premise stands before
-/// it, or anywhere if the trait of the step is coinductive. `false` says nothing: a proof in which references differ in the lifetimes
-/// of a `for` may be refused. References are compared up to lifetimes, and so are headers of impls. The steps may come from anyone.
-/// The fault is `Memory` where memory is refused, or `Full` where a kind of term is full.
+/// `true` means that they are a proof in their order. Each step has a rule instance with these premises. Each premise precedes it, or
+/// is anywhere if the trait of the step is coinductive. `false` means nothing: a proof in which trait references differ in the
+/// lifetimes of a `for` may be refused. Trait references and headers of impls are compared up to lifetimes. The steps may come from
+/// anyone. The fault is `Memory` if memory is refused, or `Full` if a kind of term is full.
 pub fn is_proof_of(
     alloc: Global,
     cx: &mut Interner,

@@ -1,4 +1,4 @@
-//! The fields of structs, with arguments in the place of parameters.
+//! The fields of structs, with parameters replaced by arguments.
 ghost use Rattle.std.specs.Prelude.{◌≡◌, map, IfOk, IfSome, None};
 ghost use Rattle.type_terms.specs.Kinds.{TysHeld, tys_trees};
 ghost use Rattle.type_terms.specs.Promised.Handles.{Has, types, trees_at};
@@ -22,7 +22,7 @@ use type_terms::interner::Interner;
 use type_terms::kinds::{GenericArgs, Ty};
 use type_terms::{AdtId, Fault};
 
-/// A field with arguments in the place of its struct's parameters, if they fit.
+/// A field with its struct's parameters replaced by arguments, if these fit.
 fn field_with(
     alloc: Global,
     cx: &mut Interner,
@@ -47,7 +47,7 @@ fn field_with(
     }
 }
 
-/// Fields with arguments in the place of their struct's parameters, if they fit all of them.
+/// Fields with their struct's parameters replaced by arguments, if these fit all of them.
 fn fields_with(
     alloc: Global,
     cx: &mut Interner,
@@ -78,7 +78,7 @@ fn fields_with(
     Ok(Some(found))
 }
 
-/// The fields of a struct with arguments in the place of its parameters, if it is declared and they fit.
+/// The fields of a struct with its parameters replaced by arguments, if it is declared and they fit.
 pub(crate) fn struct_fields(
     alloc: Global,
     cx: &mut Interner,

@@ -1,4 +1,4 @@
-//! Proofs as data, and a checker of them: what it lets through is a proof in the words of the definitions, however it was found.
+//! Proofs as data, and a checker of them. What it accepts is a proof by the definitions, however it was found.
 #![tactic(auto)]
 
 pub mod checker;

@@ -1,4 +1,4 @@
-//! References compared up to lifetimes.
+//! Comparison of trait references up to lifetimes.
 ghost use Rattle.std.specs.Prelude.{◌≡◌, true, IfOk};
 ghost use Rattle.type_terms.specs.Growth.{GrewOrFull};
 ghost use Rattle.declarations.specs.Held.{ReferenceHeld};
@@ -26,7 +26,7 @@ impl RegionMap for AllStatic {
     }
 }
 
-/// The reference with `'static` for each lifetime that no binder of it binds.
+/// The trait reference with `'static` for each lifetime that no binder of it binds.
 fn without_lifetimes(
     alloc: Global,
     cx: &mut Interner,
@@ -40,7 +40,7 @@ fn without_lifetimes(
     fold_regions(alloc, cx, reference, &AllStatic)
 }
 
-/// Whether two references are found to be one up to lifetimes. Those that differ in lifetimes of `for` may be missed.
+/// Whether two trait references are found to be equal up to lifetimes. Equal ones that differ in lifetimes of a `for` may be missed.
 pub(crate) fn are_one(
     alloc: Global,
     cx: &mut Interner,

@@ -1,4 +1,4 @@
-//! Whether an impl, or a built-in rule, is asked for a reference, and asks for others.
+//! Whether an impl or a built-in rule concludes a trait reference from others.
 ghost use Rattle.std.specs.Prelude.{◌≡◌, true, List, IfOk};
 ghost use Rattle.type_terms.specs.Promised.Rules.{by_impl};
 ghost use Rattle.type_terms.specs.Promised.Handles.{Has};
@@ -21,7 +21,7 @@ use type_terms::interner::Interner;
 use type_terms::kinds::GenericArgs;
 use type_terms::{Fault, ImplId};
 
-/// Whether the first of these references are the premises, one for one.
+/// Whether the first of these trait references are the premises, one for one.
 fn are_first(
     alloc: Global,
     cx: &mut Interner,
@@ -50,10 +50,10 @@ fn are_first(
     Ok(true)
 }
 
-/// Whether the reference follows by the impl with these arguments, from premises of which the first are these.
+/// Whether the trait reference follows by the impl with these arguments, from premises of which the first are these.
 ///
-/// `false` says nothing: references that differ in the lifetimes of a `for` may be missed.
-/// The fault is `Memory` where memory is refused, or `Full` where a kind of term is full.
+/// `false` means nothing: trait references that differ in the lifetimes of a `for` may be missed.
+/// The fault is `Memory` if memory is refused, or `Full` if a kind of term is full.
 pub fn follows_by_impl(
     alloc: Global,
     cx: &mut Interner,
@@ -78,10 +78,10 @@ pub fn follows_by_impl(
     }
 }
 
-/// Whether the reference follows by a built-in rule that is checked, from premises of which the first are these.
+/// Whether the trait reference follows by a built-in rule that is checked, from premises of which the first are these.
 ///
-/// `false` says nothing: references that differ in the lifetimes of a `for` may be missed, and not each built-in rule is checked.
-/// The fault is `Memory` where memory is refused, or `Full` where a kind of term is full.
+/// `false` means nothing: trait references that differ in the lifetimes of a `for` may be missed, and not each built-in rule is checked.
+/// The fault is `Memory` if memory is refused, or `Full` if a kind of term is full.
 pub fn follows_by_built_in(
     alloc: Global,
     cx: &mut Interner,

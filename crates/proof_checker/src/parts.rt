@@ -1,4 +1,4 @@
-//! The types that a type is made of, as the rules that read declarations ask for them: those of auto traits, and `Sized` for structs.
+//! The types that a type is made of, as the rules that read declarations need them: those of auto traits, and `Sized` for structs.
 ghost use Rattle.std.specs.Prelude.{◌≡◌, ℕ, true, IfOk, IfSome};
 ghost use Rattle.type_terms.specs.Kinds.{TysHeld};
 ghost use Rattle.type_terms.specs.Promised.Label.{slice, uint};
@@ -21,7 +21,7 @@ use type_terms::{Fault, TraitId};
 /// The number of `Sized`.
 const SIZED: u32 = 0;
 
-/// The type that has to be `Sized` for a struct to be so: its last field.
+/// The type that has to be `Sized` for a struct to be `Sized`: its last field.
 fn sized_part(
     alloc: Global,
     cx: &mut Interner,
@@ -60,7 +60,7 @@ fn str_bytes(cx: &mut Interner) -> Result<Ty, Fault>
     Ok(bytes)
 }
 
-/// The types that have to have an auto trait for the type to have it by the trait's own rule, if that speaks of the type.
+/// The types that must implement an auto trait so that the type does by the trait's own rule, if that covers the type.
 fn auto_parts(
     alloc: Global,
     cx: &mut Interner,
@@ -121,7 +121,7 @@ fn auto_parts(
     }
 }
 
-/// Whether a trait is an auto trait of which no impl is written for the type, so that its own rule stands.
+/// Whether a trait is an auto trait without an impl for the type, so that its own rule applies.
 fn has_own_rule(cx: &Interner, declarations: &Declarations, id: TraitId, self_ty: Ty) -> bool
     requires declared { AreHeld cx.now.entries declarations.now }
     requires self_held { Has cx.now.entries types self_ty.0 }
@@ -138,7 +138,7 @@ fn has_own_rule(cx: &Interner, declarations: &Declarations, id: TraitId, self_ty
     }
 }
 
-/// The types that a built-in rule asks for a trait, if one concludes it of the type that reads the declarations.
+/// The types that must implement a trait so that the type does by a built-in rule that reads the declarations, if there is one.
 pub(crate) fn parts_asked(
     alloc: Global,
     cx: &mut Interner,

@@ -1,4 +1,4 @@
-//! The premises by which a built-in rule concludes a reference.
+//! The premises by which a built-in rule concludes a trait reference.
 ghost use Rattle.std.specs.Prelude.{◌≡◌, true, [], List, IfOk, IfErr, IfSome};
 ghost use Rattle.type_terms.specs.Kinds.{TysHeld};
 ghost use Rattle.type_terms.specs.Promised.Rules.{asked, sized, sized_rules, copy_rules, tuple_rules, fn_ptr_rules};
@@ -49,7 +49,7 @@ pub(crate) fn last_alone(alloc: Global, tys: &[Ty]) -> Result<Vec<Ty>, Fault>
     }
 }
 
-/// The types that have to be `Sized` for the type to be so, if a rule makes it so that reads the type alone. The error is `Memory`.
+/// The types that must be `Sized` so that the type is by a rule that reads only the type, if there is one. The error is `Memory`.
 fn sized_types(alloc: Global, cx: &Interner, self_ty: Ty) -> Result<Option<Vec<Ty>>, Fault>
     requires { Has cx.now.entries types self_ty.0 }
     ensures asks { IfOk result (λ o. IfSome o (λ v. (V : World)
@@ -83,7 +83,7 @@ fn sized_types(alloc: Global, cx: &Interner, self_ty: Ty) -> Result<Option<Vec<T
     }
 }
 
-/// The types that have to be `Copy` or `Clone` for the type to be so, if a built-in rule makes it so. The error is `Memory`.
+/// The types that must be `Copy` or `Clone` so that the type is by a built-in rule, if there is one. The error is `Memory`.
 fn copy_types(
     alloc: Global,
     cx: &Interner,
@@ -138,14 +138,15 @@ fn is_fn_ptr(cx: &Interner, ty: Ty) -> bool
     matches!(cx.kind(ty), TyKind::FnPtr(_, _))
 }
 
-/// No types, where this holds.
+/// No types, if this holds.
 fn nothing_if(alloc: Global, holds: bool) -> Option<Vec<Ty>>
     ensures { IfSome result (λ v. (v.items ≡ []) × (holds ≡ true)) }
 {
     if holds { Some(Vec::new(alloc)) } else { None }
 }
 
-/// The types that a built-in rule asks for a trait, if one concludes it of the type that reads no declarations. The error is `Memory`.
+/// The types that must implement a trait so that the type does by a built-in rule that reads no declarations, if there is one. The
+/// error is `Memory`.
 fn types_asked(
     alloc: Global,
     cx: &Interner,
@@ -173,7 +174,7 @@ fn types_asked(
     Ok(None)
 }
 
-/// A type asked for a trait without further parameters.
+/// The trait reference of a type and a trait without further parameters.
 fn type_asked(alloc: Global, cx: &mut Interner, def_id: TraitId, ty: Ty) -> Result<TraitRef, Fault>
     requires { Has cx.old.entries types ty.0 }
     ensures terms { GrewOrFull cx.old cx.new result }
@@ -185,7 +186,7 @@ fn type_asked(alloc: Global, cx: &mut Interner, def_id: TraitId, ty: Ty) -> Resu
     Ok(TraitRef { def_id, args })
 }
 
-/// Each of the types asked for a trait without further parameters.
+/// The trait references of the types and a trait without further parameters.
 fn all_asked(
     alloc: Global,
     cx: &mut Interner,
@@ -226,7 +227,7 @@ fn only_type(cx: &Interner, args: GenericArgs) -> Option<Ty>
     }
 }
 
-/// The premises by which a built-in rule that reads the declarations concludes a trait of a type, if one does that is checked.
+/// The premises by which a built-in rule that reads the declarations concludes a trait of a type, if one that is checked does.
 fn by_parts(
     alloc: Global,
     cx: &mut Interner,
@@ -251,8 +252,8 @@ fn by_parts(
     }
 }
 
-/// The premises by which a built-in rule concludes the reference, if one does that is checked: those of `Sized`, `Copy`, `Clone`, `Tuple`
-/// and `FnPtr`, and those of auto traits.
+/// The premises by which a built-in rule concludes the trait reference, if one that is checked does. Checked are the rules of `Sized`,
+/// `Copy`, `Clone`, `Tuple` and `FnPtr`, and those of auto traits.
 pub fn by_built_in(
     alloc: Global,
     cx: &mut Interner,

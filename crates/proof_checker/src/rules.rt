@@ -1,4 +1,4 @@
-//! The premises by which one way concludes a reference.
+//! The premises by which a rule instance concludes a trait reference.
 ghost use Rattle.std.specs.Prelude.{◌≡◌, true, [], List, IfOk, IfSome, None};
 ghost use Rattle.type_terms.specs.Promised.Rules.{by_impl, by_clause};
 ghost use Rattle.type_terms.specs.Promised.Handles.{Has, trees_at};
@@ -25,7 +25,7 @@ use type_terms::interner::Interner;
 use type_terms::kinds::GenericArgs;
 use type_terms::{Fault, ImplId};
 
-/// A reference with arguments in the place of its parameters, if they fit.
+/// A trait reference with its parameters replaced by arguments, if these fit.
 fn with_arguments(
     alloc: Global,
     cx: &mut Interner,
@@ -50,7 +50,7 @@ fn with_arguments(
     }
 }
 
-/// References with arguments in the place of their parameters, if they fit all of them.
+/// Trait references with their parameters replaced by arguments, if these fit all of them.
 pub(crate) fn all_with_arguments(
     alloc: Global,
     cx: &mut Interner,
@@ -81,7 +81,7 @@ pub(crate) fn all_with_arguments(
     Ok(Some(found))
 }
 
-/// The premises by which an impl with these arguments concludes the reference, if its header with them is the reference up to
+/// The premises by which an impl with these arguments concludes the trait reference, if its header with them is the reference up to
 /// lifetimes.
 pub(crate) fn by_impl(
     alloc: Global,
@@ -119,7 +119,7 @@ pub(crate) fn by_impl(
     all_with_arguments(alloc, cx, &def.clauses, args)
 }
 
-/// Whether the where-clause at this place concludes the reference.
+/// Whether the where-clause at this position concludes the trait reference.
 pub fn by_clause(
     alloc: Global,
     cx: &mut Interner,

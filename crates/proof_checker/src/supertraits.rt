@@ -20,10 +20,10 @@ use term_folds::predicate::TraitRef;
 use type_terms::Fault;
 use type_terms::interner::Interner;
 
-/// How many supertraits of a where-clause are looked at, a trait that is reached twice being counted twice.
+/// How many supertraits of a where-clause are looked at. A trait that is reached twice counts twice.
 const LOOKED_AT: u32 = 1024;
 
-/// The supertraits that the reference's trait is declared with, with the reference's arguments; none if these do not fit.
+/// The declared supertraits of the reference's trait, with the reference's arguments, or none if these do not fit.
 fn written_supertraits(
     alloc: Global,
     cx: &mut Interner,
@@ -51,7 +51,7 @@ fn written_supertraits(
     }
 }
 
-/// Puts references behind others. The error is `Memory`.
+/// Appends trait references. The error is `Memory`.
 fn put_all(waiting: &mut Vec<TraitRef>, references: &[TraitRef]) -> Result<(), Fault>
     ensures put { OnOk result (waiting.new.items ≡ waiting.old.items ++ references.now) }
     ensures memory { IfErr result (λ fault. fault ≡ Memory) }
@@ -60,7 +60,7 @@ fn put_all(waiting: &mut Vec<TraitRef>, references: &[TraitRef]) -> Result<(), F
     Ok(())
 }
 
-/// Whether the reference is found among the strict supertraits of another, through any number of levels.
+/// Whether the trait reference is found among the strict supertraits of another, through any number of levels.
 fn is_supertrait_of(
     alloc: Global,
     cx: &mut Interner,
@@ -93,7 +93,7 @@ fn is_supertrait_of(
     Ok(false)
 }
 
-/// Whether the reference is found among the supertraits of the where-clause at this place.
+/// Whether the trait reference is found among the supertraits of the where-clause at this position.
 pub fn by_supertrait(
     alloc: Global,
     cx: &mut Interner,
