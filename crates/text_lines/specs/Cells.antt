@@ -1,9 +1,9 @@
--- A type as a list of cells: what stands inside a cell comes before it, and the cell says where that begins.
+-- A type as a list of cells: the inner parts of a cell precede it, and the cell has the index at which they begin.
 use Rattle.std.specs.Prelude.{ℕ, Bool, List, [], ◌∷◌, ◌++◌, length, Option}
 use Rattle.type_terms.specs.Promised.Label.{Label}
 use Rattle.text_language.specs.Promised.Syntax.{TypeTree, of_primitive, never_type, variable_type, named, reference_to, pointer_to, slice_of, array_of, tuple_of, fn_of, fn_to, dyn_of, Types, no_types, and_type, Args, no_args, and_arg, Arg, lifetime_arg, number_arg, type_arg, Item, bound_item, lifetime_item, DynBounds, no_items, and_item, Length}
 
--- `start` is the place of the first cell inside; the names of a binder stand there, up to `inner`. The output of a fn is the last cell inside.
+-- `start` is the index of the first cell inside. If there is a binder, its names come first, up to `inner`. The output of a `fn` is the last cell inside.
 pub data Cell : Type 0 where
   primitive_cell : Label → Cell
   never_cell slice_cell : Cell
@@ -17,12 +17,12 @@ pub data Cell : Type 0 where
   fn_cell fn_to_cell : (start inner : ℕ) → Cell
   bound_cell : List ℕ → (start inner : ℕ) → Cell
 
--- the names of a binder, behind the cells that are there
+-- the names of a binder, appended to the given cells
 abbrev pub binder_onto : List (List ℕ) → List Cell → List Cell
 binder_onto [] out = out
 binder_onto (n ∷ ns) out = binder_onto ns (out ++ binder_cell n ∷ [])
 
--- the cells of a type, behind those that are there
+-- the cells of a type, appended to the given cells
 abbrev mutual
   pub type_onto : TypeTree → List Cell → List Cell
   type_onto (of_primitive p) out = out ++ primitive_cell p ∷ []

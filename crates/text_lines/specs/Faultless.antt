@@ -1,4 +1,4 @@
--- What is known of a line without a fault, after the declarations of the lines before it.
+-- What is true of a line without a fault, after the declarations of the lines that precede it.
 use Rattle.std.specs.Prelude.{◌≡◌, ℕ, ◌<◌, ◌≤◌, ◌^◌, Bool, true, false, ◌||◌, List, [], ◌∷◌, length, Some, None, count_by, if◌then◌else◌}
 use Rattle.std.specs.List.{list_all}
 use Rattle.std.specs.Option.{option_map_or}
@@ -10,7 +10,7 @@ use Rattle.text_language.specs.Faults.{fault_of, is_misplaced, takes_names, uses
 use Rattle.text_language.specs.Promised.Faults.{with_own}
 use Rattle.text_language.specs.Faults.{is_line_param, is_param_of, is_type_of, is_trait_of, static_name, is_in_scope, is_bad_dyn, is_bound, parts, once, variables_in, param_limit, part_limit, list_limit, variable_limit, depth_limit}
 
--- no test of a fault holds
+-- each test for a fault fails
 pub record PassesTests (d : Declarations) (l : Line) : Type 0 where
   pub is_placed : is_misplaced d l ≡ false
   pub has_free_names : takes_names d l ≡ false
@@ -30,14 +30,14 @@ pub record PassesTests (d : Declarations) (l : Line) : Type 0 where
 abbrev pub FaultlessPasses : Type 0
 FaultlessPasses = (d : Declarations) (l : Line) → fault_of d l ≡ None → PassesTests d l
 
--- What it declares has a new name.
+-- The name that it declares is new.
 abbrev pub DeclaresNew : Type 0
 DeclaresNew = (d : Declarations) (l : Line) (n : List ℕ) → fault_of d l ≡ None → declared_name l ≡ Some n → known d n ≡ None
 
 abbrev pub names_crate : Declarations → List ℕ → Bool
 names_crate d n = option_map_or is_crate (known d n) false
 
--- where a line names crates, they are crates
+-- each name of a crate is that of a declared crate
 abbrev pub NamesCrates : Declarations → Line → Type 0
 NamesCrates d (crate_line n us) = list_all (names_crate d) us ≡ true
 NamesCrates d (prove_line c ps a ks) = names_crate d c ≡ true
@@ -49,15 +49,15 @@ NamesCrates d _ = Unit {0}
 abbrev pub UsesCrates : Type 0
 UsesCrates = (d : Declarations) (l : Line) → fault_of d l ≡ None → NamesCrates d l
 
--- A struct, trait or impl belongs to a crate other than `core`; one in a section of a later version is an impl.
+-- A struct, trait or impl belongs to a crate other than `core`. In a section of a later version it is an impl.
 abbrev pub BelongsToCrate : Type 0
 BelongsToCrate =
     (d : Declarations) (l : Line) → fault_of d l ≡ None → belongs_to_crate l ≡ true
     → (d.in_section ≡ false → 1 < length d.crates) × (d.in_section ≡ true → is_impl l ≡ true)
 
--- ---- what such a line uses
--- A name is a parameter of the sort of its place, or a struct with as many arguments as it takes; a trait has as many as it takes; a
--- lifetime is in scope; and what is counted is within its limit.
+-- ---- the uses of such a line
+-- A name is a parameter of the kind of its position, or a struct with as many arguments as it takes. A trait has as many arguments as
+-- it takes. A lifetime is in scope. Each count is within its limit.
 abbrev pub UseFits : Declarations → Line → Use → Type 0
 UseFits d l (crate_use n) = names_crate d n ≡ true
 UseFits d l (name_use p n k) = (if is_line_param l n then is_param_of l p n k else option_map_or (is_type_of p k) (known (with_own d l) n) false) ≡ true
@@ -77,7 +77,7 @@ UsesFit d l (u ∷ us) = UseFits d l u × UsesFit d l us
 abbrev pub FaultlessUses : Type 0
 FaultlessUses = (d : Declarations) (l : Line) → fault_of d l ≡ None → UsesFit d l (uses (with_own d l) l)
 
--- ---- how much such a line holds
+-- ---- the size of such a line
 pub record KeepsLimits (d : Declarations) (l : Line) : Type 0 where
   pub params : length (kinds_of (params_of l)) ≤ param_limit
   pub lists : parts l ≤ part_limit

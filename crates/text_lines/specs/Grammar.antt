@@ -1,4 +1,4 @@
--- A line says at most one thing; and worked lines that say nothing.
+-- Bytes spell at most one line. Worked lines that nothing spells.
 use Rattle.std.specs.Prelude.{◌≡◌, ℕ, List, [], ◌∷◌, ◌++◌, Result, Err, codes}
 use Rattle.text_language.specs.Promised.Syntax.{Line}
 use Rattle.text_language.specs.Syntax.{spelling}
@@ -6,24 +6,24 @@ use Rattle.text_language.specs.Promised.Declarations.{Declarations}
 use Rattle.text_language.specs.Written.{IsWritten}
 use Rattle.text_language.specs.Text.{TextGives}
 
--- No two lines are spelled alike. So bytes are written as one line at most.
+-- No two lines have the same spelling. So bytes are the spelling of one line at most.
 abbrev pub OneLine : Type 0
 OneLine = (l m : Line) → spelling l ≡ spelling m → l ≡ m
 
--- A text gives one thing: the same declarations, or the same fault, however it is read.
+-- A text has one outcome: the same declarations, or the same fault, however it is read.
 abbrev pub OneOutcome : Type 0
 OneOutcome = (bytes : List ℕ) (r s : Result Declarations (ℕ × ℕ)) → TextGives bytes r → TextGives bytes s → r ≡ s
 
--- The bytes say nothing.
+-- The bytes spell no line.
 abbrev pub IsUnwritten : List ℕ → Type 0
 IsUnwritten bytes = (l : Line) → IsWritten bytes l → ⊥
 
--- None of these says anything.
+-- None of these spells a line.
 abbrev pub AllUnwritten : List (List ℕ) → Type 0
 AllUnwritten [] = Unit {0}
 AllUnwritten (b ∷ bs) = IsUnwritten b × AllUnwritten bs
 
--- Lines that are cut off, brackets around nothing or around a single type, parameters in another order, what may not stand there.
+-- Truncated lines, brackets around nothing or around a single type, parameters out of order, and parts where they may not occur.
 abbrev pub cut_off : List (List ℕ)
 cut_off =
     codes "crate" ∷ codes "crate b uses" ∷ codes "struct" ∷ codes "impl Show for" ∷ codes "impl Show for &'static" ∷ codes "impl Show for fn(u8" ∷ codes "impl Show for dyn"
@@ -41,8 +41,8 @@ out_of_place = codes "refute in base u8: Show where u8: Show" ∷ codes "trait S
 abbrev pub UnwrittenLines : Type 0
 UnwrittenLines = AllUnwritten cut_off × AllUnwritten bracketed × AllUnwritten out_of_order × AllUnwritten out_of_place
 
--- A struct line before any crate is 2 and not 3 where it is not written; a byte of 128 or more is 1, in a comment too, and in a line
--- that is not written.
+-- A `struct` line that precedes every crate has fault 2, not 3, if the grammar has no such line. A byte of 128 or more has fault 1, also
+-- in a comment and in a line that the grammar does not have.
 abbrev pub SyntaxFaults : Type 0
 SyntaxFaults =
     TextGives (codes "struct") (Err (1, 2))

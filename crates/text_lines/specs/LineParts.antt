@@ -1,4 +1,4 @@
--- The types and bounds of a line in the order in which they are written, whatever kind of line it is; and what the line uses, by these.
+-- The types and bounds of a line of any kind, in the order of the text, and the uses of the line in terms of them.
 use Rattle.std.specs.Prelude.{◌≡◌, ℕ, List, [], ◌∷◌, ◌++◌, map}
 use Rattle.std.specs.List.{flat_map}
 use Rattle.type_terms.specs.Promised.Label.{of_type}
@@ -33,7 +33,7 @@ line_parts (refute_line c ps k) = clause_parts k
 line_parts (later_line n) = []
 line_parts (supers_line n) = []
 
--- ---- where they stand
+-- ---- their spans
 abbrev pub type_place : Span → places.LinePart
 type_place s = place.Type s
 
@@ -58,11 +58,11 @@ PartStands cells (type_part t) (place.Type s) = TypeStands cells t s
 PartStands cells (bound_part b) (place.Bound s) = BoundStands cells b s
 PartStands cells _ _ = ⊥
 
--- Each part of a line stands where its statement says.
+-- Each part of a line is at its span in the statement.
 abbrev pub PartsStand : Type 0
 PartsStand = (l : Line) → EachOf (PartStands (line_cells l)) (line_parts l) (places_in (line_statement l))
 
--- ---- what a line uses
+-- ---- the uses of a line
 abbrev pub part_uses : Declarations → LinePart → List Use
 part_uses d (type_part t) = type_uses d [] of_type t
 part_uses d (bound_part b) = bound_uses d b
@@ -80,19 +80,19 @@ named_crates (later_line n) = n ∷ []
 named_crates (supers_line n) = n ∷ []
 named_crates l = []
 
--- the asked reference of a question
+-- the queried trait reference
 abbrev pub asked_parts : Line → List LinePart
 asked_parts (prove_line c ps k ks) = clause_parts k
 asked_parts (refute_line c ps k) = clause_parts k
 asked_parts l = []
 
--- A line uses the crates that it names, and what its parts use.
+-- A line uses the crates that it names and the names in its parts.
 abbrev pub UsesOfParts : Type 0
 UsesOfParts = (d : Declarations) (l : Line) → uses d l ≡ map crate_use (named_crates l) ++ flat_map (part_uses d) (line_parts l)
 
 abbrev pub AskedOfParts : Type 0
 AskedOfParts = (d : Declarations) (l : Line) → asked_uses d l ≡ flat_map (part_uses d) (asked_parts l)
 
--- It is as deep as its deepest part.
+-- The depth of a line is that of its deepest part.
 abbrev pub DepthOfParts : Type 0
 DepthOfParts = (d : Declarations) (l : Line) → line_depth d l ≡ greatest_number (map (part_depth d) (line_parts l))

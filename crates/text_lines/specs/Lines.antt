@@ -1,4 +1,4 @@
--- What the reader of lines promises.
+-- The promises of the reader of lines.
 use Rattle.std.specs.Prelude.{◌≡◌, ℕ, List}
 use Rattle.text_language.specs.Promised.Syntax.{Line}
 use Rattle.text_language.specs.Written.{IsWritten}
@@ -7,10 +7,10 @@ use Rattle.text_lines.specs.Statement.{line_statement, line_cells}
 use Rattle.text_lines.specs.Views.{statement_of}
 use Rattle.text_lines.specs.declared.statement.LineRead.{LineRead}
 
--- This line was read: its statement, and the cells of its types one behind the other.
+-- This line was read: its statement, and the cells of its types one after another.
 abbrev pub ReadsLine : Line → LineRead → Type 0
 ReadsLine l r = (statement_of r.statement ≡ line_statement l) × (cells_in r.cells.items ≡ line_cells l)
 
--- what was read is what the bytes say
+-- the bytes spell the line that was read
 abbrev pub SaysLine : List ℕ → LineRead → Type 0
 SaysLine bytes r = (l : Line) × IsWritten bytes l × ReadsLine l r

@@ -1,11 +1,11 @@
--- Reading a type with a stack of what is open: each step reads the tokens at the front, or closes what is on top.
+-- Reading a type with a stack of open parts: each step reads the tokens at the front, or closes the part on top.
 use Rattle.std.specs.Prelude.{◌≡◌, ℕ, zero, suc, Bool, true, false, List, [], ◌∷◌, ◌++◌, length, Option, Some, None}
 use Rattle.text_language.specs.Words.{mut_word, const_word, fn_word, dyn_word, for_word, open_angle, close_angle, open_round, close_round, open_square, close_square, comma, semicolon, ampersand, star, plus, exclamation}
 use Rattle.text_language.specs.Tokens.{Token, keyword, primitive, name, lifetime, variable, number, sign, arrow}
 use Rattle.text_language.specs.Promised.Syntax.{Length, number_length, name_length, variable_length}
 use Rattle.text_lines.specs.Cells.{binder_onto, Cell, primitive_cell, never_cell, slice_cell, variable_cell, lifetime_cell, number_cell, named_cell, reference_cell, pointer_cell, array_cell, tuple_cell, dyn_cell, fn_cell, fn_to_cell, bound_cell}
 
--- What is open, with the places where it began among the cells.
+-- A part that is open, with the indices of the cells at which it began.
 pub data Open : Type 0 where
   -- the arguments of a type
   open_args : List ℕ → (start : ℕ) → Open
@@ -14,21 +14,21 @@ pub data Open : Type 0 where
   open_reference : Option (List ℕ) → Bool → Open
   open_pointer : Bool → Open
   open_brackets : Open
-  -- a tuple before its first comma, and behind it
+  -- a tuple before its first comma, and after it
   open_tuple open_items : (start : ℕ) → Open
   open_inputs open_output : (start inner : ℕ) → Open
 
 pub data State : Type 0 where
-  -- a type is to come, or another argument
+  -- a type is next, or an argument of another kind
   opening : List Open → List Cell → List Token → State
-  -- an item of the `dyn` that began at `start` is to come
+  -- an item of the `dyn` that began at `start` is next
   item : List Open → List Cell → (start : ℕ) → List Token → State
   -- a type has been read
   closing : List Open → List Cell → List Token → State
   finished : List Cell → List Token → State
   stuck : State
 
--- the names of a binder behind `for`, and what is left
+-- the names of a binder after `for`, and the remaining tokens
 abbrev pub in_front : List ℕ → Option (List (List ℕ) × List Token) → Option (List (List ℕ) × List Token)
 in_front n None = None
 in_front n (Some x) = Some (n ∷ x.0, x.1)
@@ -46,7 +46,7 @@ abbrev pub binder_at : List Token → Option (List (List ℕ) × List Token)
 binder_at (sign open_angle ∷ ts) = first_binder ts
 binder_at _ = None
 
--- ---- behind an item of a `dyn`
+-- ---- after an item of a `dyn`
 abbrev pub item_end : List Open → List Cell → ℕ → List Token → State
 item_end s out d (sign plus ∷ ts) = item s out d ts
 item_end s out d ts = closing s (out ++ dyn_cell d ∷ []) ts
@@ -54,7 +54,7 @@ item_end s out d ts = closing s (out ++ dyn_cell d ∷ []) ts
 abbrev pub bound_end : List Open → List Cell → ℕ → ℕ → ℕ → List ℕ → List Token → State
 bound_end s out d start inner n ts = item_end s (out ++ bound_cell n start inner ∷ []) d ts
 
--- ---- behind an argument
+-- ---- after an argument
 abbrev pub args_end : List Open → List Cell → List ℕ → ℕ → List Token → State
 args_end s out n start (sign comma ∷ ts) = opening (open_args n start ∷ s) out ts
 args_end s out n start (sign close_angle ∷ ts) = closing s (out ++ named_cell n start ∷ []) ts
@@ -65,13 +65,13 @@ bound_args_end s out d start inner n (sign comma ∷ ts) = opening (open_bound d
 bound_args_end s out d start inner n (sign close_angle ∷ ts) = bound_end s out d start inner n ts
 bound_args_end s out d start inner n _ = stuck
 
--- a lifetime or a number where a type may stand: it has to be an argument
+-- a lifetime or a number in the position of a type: it must be an argument
 abbrev pub arg_end : List Open → List Cell → List Token → State
 arg_end (open_args n start ∷ s) out ts = args_end s out n start ts
 arg_end (open_bound d start inner n ∷ s) out ts = bound_args_end s out d start inner n ts
 arg_end _ out ts = stuck
 
--- ---- behind the first tokens of a type
+-- ---- after the first tokens of a type
 abbrev pub name_step : List Open → List Cell → List ℕ → List Token → State
 name_step s out n (sign open_angle ∷ ts) = opening (open_args n (length out) ∷ s) out ts
 name_step s out n ts = closing s (out ++ named_cell n (length out) ∷ []) ts
@@ -105,12 +105,12 @@ abbrev pub inputs_step : List Open → List Cell → ℕ → List Token → Stat
 inputs_step s out start (sign close_round ∷ ts) = inputs_end s out start (length out) ts
 inputs_step s out start ts = opening (open_inputs start (length out) ∷ s) out ts
 
--- behind `fn`; the binder before it began at `start`
+-- after `fn`; the binder that precedes it began at `start`
 abbrev pub fn_step : List Open → List Cell → ℕ → List Token → State
 fn_step s out start (sign open_round ∷ ts) = inputs_step s out start ts
 fn_step s out start _ = stuck
 
--- behind a binder: a fn, or a bound of a `dyn`
+-- after a binder: a `fn`, or a bound of a `dyn`
 abbrev pub bound_fn : List Open → List Cell → Option (List (List ℕ) × List Token) → State
 bound_fn s out (Some (b, keyword fn_word ∷ ts)) = fn_step s (binder_onto b out) (length out) ts
 bound_fn s out _ = stuck
@@ -157,7 +157,7 @@ brackets_end s out (sign close_square ∷ ts) = closing s (out ++ slice_cell ∷
 brackets_end s out (sign semicolon ∷ ts) = length_step s out ts
 brackets_end s out _ = stuck
 
--- behind the first comma of a tuple
+-- after the first comma of a tuple
 abbrev pub second_step : List Open → List Cell → ℕ → List Token → State
 second_step s out start (sign close_round ∷ ts) = closing s (out ++ tuple_cell start ∷ []) ts
 second_step s out start ts = opening (open_items start ∷ s) out ts

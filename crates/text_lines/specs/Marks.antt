@@ -1,4 +1,4 @@
--- What stands behind a mark, a word or a sign that is next.
+-- The tokens after a mark: a word or a sign that is next.
 use Rattle.std.specs.Prelude.{◌≡◌, ℕ, Bool, true, false, List, [], ◌∷◌, Option, Some, None, Result, Ok, Err}
 use Rattle.text_language.specs.Words.{open_angle, close_angle, open_round, close_round, comma, colon, plus, uses_word, where_word, for_word, in_word}
 use Rattle.text_language.specs.Tokens.{Token, keyword, name, sign}
@@ -49,7 +49,7 @@ abbrev pub after_in : List Token → Option (List Token)
 after_in (keyword in_word ∷ ts) = Some ts
 after_in _ = None
 
--- the name that is next, and what stands behind it
+-- the name that is next, and the tokens after it
 abbrev pub name_front : List Token → Option (List ℕ × List Token)
 name_front (name n ∷ ts) = Some (n, ts)
 name_front _ = None
@@ -62,22 +62,22 @@ abbrev pub is_nil : List Token → Bool
 is_nil [] = true
 is_nil (t ∷ ts) = false
 
--- The mark was read if it is next; else nothing was.
+-- The mark was read if it is next. Otherwise nothing was read.
 abbrev pub Passed : Bool → Option (List Token) → List Token → List Token → Type 0
 Passed true behind old new = behind ≡ Some new
 Passed false behind old new = (behind ≡ None) × (new ≡ old)
 
--- an error says that nothing of the kind stands there, or that memory ran out
+-- the error states that no such part is next, or that memory was refused
 abbrev pub Fails : {Y : Type 0} → LineError → Option Y → Type 0
 Fails errors.Memory read = Unit {0}
 Fails errors.Syntax read = read ≡ None
 
--- the mark was read, which has to stand there
+-- the required mark was read
 abbrev pub PassesMark : Result (Unit {0}) LineError → Option (List Token) → List Token → Type 0
 PassesMark (Ok u) behind new = behind ≡ Some new
 PassesMark (Err e) behind new = Fails e behind
 
--- what was returned, and what is left, is what stands there
+-- the returned value and the remaining tokens are those of the part that is next
 abbrev pub Takes : {X Y : Type 0} → (X → Y) → Result X LineError → Option (Y × List Token) → List Token → Type 0
 Takes view (Ok x) read new = read ≡ Some (view x, new)
 Takes view (Err e) read new = Fails e read

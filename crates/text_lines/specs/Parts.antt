@@ -1,4 +1,4 @@
--- Reading the parts of a line from left to right. None of this is promised: it is what the methods of the reader do, one by one.
+-- Reading the parts of a line from left to right. None of this is promised: it describes the methods of the reader, one by one.
 use Rattle.std.specs.Prelude.{ℕ, zero, suc, Bool, true, false, ◌&&◌, List, [], ◌∷◌, length, Option, Some, None, nat_le, if◌then◌else◌}
 use Rattle.text_language.specs.Words.{crate_word, fundamental_word, struct_word, auto_word, trait_word, impl_word, prove_word, refute_word, later_word, supers_word, const_word}
 use Rattle.text_language.specs.Tokens.{Token, keyword, name, lifetime, tokens_of}
@@ -9,15 +9,15 @@ use Rattle.text_lines.specs.declared.statement.Span.{Span}
 use Rattle.text_lines.specs.declared.statement.ClauseSpans.{ClauseSpans}
 use Rattle.text_lines.specs.Statement.{Param, lifetime_param, type_param, const_param, Statement, crate_statement, struct_statement, trait_statement, impl_statement, prove_statement, refute_statement, later_statement, supers_statement}
 
--- the cells of what has been read, and the tokens that are left
+-- the cells read so far, and the remaining tokens
 abbrev pub Progress : Type 0
 Progress = List Cell × List Token
 
--- what stands at the front, and how far it goes; none where it doesn't stand there
+-- the part at the front, and the progress after it; `None` if there is no such part
 abbrev pub Part : Type 0 → Type 0
 Part Y = Progress → Option (Y × Progress)
 
--- the tokens behind a word or a sign that has to be next
+-- the tokens after a required word or sign
 abbrev pub Mark : Type 0
 Mark = List Token → Option (List Token)
 
@@ -26,7 +26,7 @@ abbrev pub ◌>>=◌ : {A B : Type 0} → Option A → (A → Option B) → Opti
 (Some x) >>= f = f x
 None >>= f = None
 
--- ---- how parts are put together
+-- ---- combining parts
 abbrev pub given : {Y Z : Type 0} → (Y → Z) → Part Y → Part Z
 given h f p = f p >>= λ x. Some (h x.0, x.1)
 
@@ -42,7 +42,7 @@ before_mark f m p = f p >>= λ x. m x.1.1 >>= λ ts. Some (x.0, (x.1.0, ts))
 abbrev pub kept : {Y : Type 0} → (Y → Bool) → Part Y → Part Y
 kept test f p = f p >>= λ x. if test x.0 then Some x else None
 
--- a list behind a mark, or nothing
+-- a list after a mark, or the empty list
 abbrev pub list_behind : {Y : Type 0} → Option (List Token) → Part (List Y) → Part (List Y)
 list_behind (Some ts) f p = f (p.0, ts)
 list_behind None f p = Some ([], p)
@@ -50,7 +50,7 @@ list_behind None f p = Some ([], p)
 abbrev pub optional : {Y : Type 0} → Mark → Part (List Y) → Part (List Y)
 optional m f p = list_behind (m p.1) f p
 
--- at least one, with a mark between each two
+-- one part or more, with a mark between each two
 abbrev pub next_with : {Y : Type 0} → Option (List Token) → Part (List Y) → Y × Progress → Option (List Y × Progress)
 next_with (Some ts) more x = more (x.1.0, ts) >>= λ ys. Some (x.0 ∷ ys.0, ys.1)
 next_with None more x = Some (x.0 ∷ [], x.1)
@@ -97,7 +97,7 @@ rank (lifetime_param n) = 0
 rank (type_param n) = 1
 rank (const_param n) = 2
 
--- none is of a kind that stands before one of these
+-- each parameter has the rank of the one that precedes it, or a higher one
 abbrev pub is_ordered_from : ℕ → List Param → Bool
 is_ordered_from k [] = true
 is_ordered_from k (p ∷ ps) = nat_le k (rank p) && is_ordered_from (rank p) ps
@@ -118,7 +118,7 @@ bounds_at p = optional after_colon (parts_between bound_at after_plus) p
 unfoldable pub where_at : Part (List ClauseSpans)
 where_at p = optional after_where (parts_between clause_at after_comma) p
 
--- ---- lines, behind their first word
+-- ---- lines, after their first word
 unfoldable pub crate_at : Part Statement
 crate_at p = given (λ x. crate_statement x.0 x.1) (both name_at uses_at) p
 
@@ -170,7 +170,7 @@ statement_front o _ = None
 unfoldable pub statement_at : Part Statement
 statement_at p = statement_front p.0 p.1
 
--- what the tokens of a line say, and the cells of its types
+-- the statement of the tokens of a line, and the cells of its types
 unfoldable pub line_at : List Token → Option (Statement × List Cell)
 line_at ts = statement_at ([], ts) >>= λ s. if is_nil s.1.1 then Some (s.0, s.1.0) else None
 

@@ -1,4 +1,4 @@
--- Where the types of a line stand among its cells.
+-- The spans of the types of a line in its cells.
 use Rattle.std.specs.Prelude.{◌≡◌, ◌<◌, ◌≤◌, List, [], ◌∷◌, length, take}
 use Rattle.text_language.specs.Promised.Syntax.{TypeTree, named, Bound, Clause, Line, crate_line, struct_line, trait_line, impl_line, prove_line, refute_line, later_line, supers_line}
 use Rattle.text_lines.specs.Cells.{Cell, type_onto}
@@ -6,7 +6,7 @@ use Rattle.text_lines.specs.Statement.{Statement, crate_statement, struct_statem
 use Rattle.text_lines.specs.declared.statement.Span.{Span}
 use Rattle.text_lines.specs.declared.statement.ClauseSpans.{ClauseSpans}
 
--- The span holds the cells of the type, put behind the cells before it; there is at least one.
+-- The span holds the cells of the type, at least one, appended to the cells that precede the span.
 abbrev pub TypeStands : List Cell → TypeTree → Span → Type 0
 TypeStands cells t s = (s.start < s.end) × (s.end ≤ length cells) × (take s.end cells ≡ type_onto t (take s.start cells))
 
@@ -16,13 +16,13 @@ BoundStands cells b s = TypeStands cells (named b.trait b.args) s
 abbrev pub ClauseStands : List Cell → Clause → ClauseSpans → Type 0
 ClauseStands cells k s = TypeStands cells k.subject s.subject × BoundStands cells k.bound s.bound
 
--- as many of these as of those, and it holds of each two
+-- both lists have the same length, and P holds of each two elements with the same index
 abbrev pub EachOf : {T Y : Type 0} → (T → Y → Type 0) → List T → List Y → Type 0
 EachOf P [] [] = Unit {0}
 EachOf P (t ∷ ts) (y ∷ ys) = P t y × EachOf P ts ys
 EachOf P _ _ = ⊥
 
--- each type and bound of the line stands where the statement says
+-- each type and bound of the line is at its span in the statement
 abbrev pub LineStands : List Cell → Line → Statement → Type 0
 LineStands cells (crate_line n us) (crate_statement m vs) = Unit {0}
 LineStands cells (struct_line f n ps ts) (struct_statement g m qs ss) = EachOf (TypeStands cells) (type_list ts) ss

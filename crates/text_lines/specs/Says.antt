@@ -1,4 +1,4 @@
--- What a line says without its types.
+-- A statement apart from its types.
 use Rattle.std.specs.Prelude.{◌≡◌, ℕ, Bool, true, false, ◌||◌, ◌&&◌, not, List, [], length, Option, Some, None, ◌==◌}
 use Rattle.std.specs.List.{list_any}
 use Rattle.std.specs.Option.{option_map_or}
@@ -24,7 +24,7 @@ params_said (refute_statement c ps k) = ps
 params_said (later_statement n) = []
 params_said (supers_statement n) = []
 
--- fields, supertraits or clauses
+-- the number of fields, supertraits or clauses
 abbrev pub count_said : Statement → ℕ
 count_said (crate_statement n us) = 0
 count_said (struct_statement f n ps ss) = length ss
@@ -56,7 +56,7 @@ refutes_some _ = false
 abbrev pub has_long : Statement → Bool
 has_long s = option_map_or is_long (name_said s) false || list_any (λ p. is_long (param_name p)) (params_said s)
 
--- ---- of the statement of a line it is what the definitions say of the line
+-- ---- For the statement of a line these agree with the definitions of the line.
 abbrev pub NameIsSaid : Type 0
 NameIsSaid = (l : Line) → name_said (line_statement l) ≡ declared_name l
 

@@ -1,4 +1,4 @@
--- What a line says, with its types as places in one list of cells.
+-- The statement of a line. Its types are spans in one list of cells.
 use Rattle.std.specs.Prelude.{ℕ, Bool, List, [], ◌∷◌, ◌++◌, map, length}
 use Rattle.text_language.specs.Promised.Syntax.{TypeTree, named, Types, no_types, and_type, Params, Bound, Clause, Line, crate_line, struct_line, trait_line, impl_line, prove_line, refute_line, later_line, supers_line}
 use Rattle.text_lines.specs.Cells.{Cell, type_onto}
@@ -23,11 +23,11 @@ pub data Statement : Type 0 where
   later_statement : (changed : List ℕ) → Statement
   supers_statement : (asked : List ℕ) → Statement
 
--- lifetimes, types and consts, in this order
+-- lifetimes, then types, then constants
 abbrev pub param_list : Params → List Param
 param_list p = map lifetime_param p.lifetimes ++ (map type_param p.types ++ map const_param p.consts)
 
--- ---- cells that are put behind those that are there, and where they stand then
+-- ---- cells appended to a list, and their span in it
 abbrev pub type_span : TypeTree → List Cell → Span
 type_span t o = record { start = length o; end = length (type_onto t o) }
 
@@ -52,7 +52,7 @@ header_onto h o = type_onto h.subject (bound_onto h.bound o)
 abbrev pub header_spans : Clause → List Cell → ClauseSpans
 header_spans h o = record { subject = type_span h.subject (bound_onto h.bound o); bound = bound_span h.bound o }
 
--- one behind the other
+-- one after another
 abbrev pub all_onto : {T : Type 0} → (T → List Cell → List Cell) → List T → List Cell → List Cell
 all_onto onto [] o = o
 all_onto onto (t ∷ ts) o = all_onto onto ts (onto t o)
@@ -65,7 +65,7 @@ abbrev pub type_list : Types → List TypeTree
 type_list no_types = []
 type_list (and_type t ts) = t ∷ type_list ts
 
--- ---- a line, the first of whose types begins at the first cell
+-- ---- a line, whose first type begins at the first cell
 abbrev pub line_cells : Line → List Cell
 line_cells (crate_line n us) = []
 line_cells (struct_line f n ps fs) = all_onto type_onto (type_list fs) []

@@ -1,4 +1,4 @@
--- What the values of the code stand for among the definitions.
+-- Values of the code as values of the definitions: tokens.
 use Rattle.std.specs.Prelude.{ℕ, List, map}
 use Rattle.std.specs.Borrow.{Bor}
 use Rattle.type_terms.specs.Promised.Label.{Label, bool, char, str, int, uint}
@@ -13,7 +13,7 @@ use Rattle.text_lines.specs.declared.token.Sign.TheVariants as signs
 use Rattle.text_lines.specs.declared.token.Token.{Token}
 use Rattle.text_lines.specs.declared.token.Token.TheVariants as tokens
 
--- the keyword of the definitions
+-- the same keyword in the definitions
 abbrev pub keyword_of : Keyword → words.Keyword
 keyword_of keywords.Crate = words.crate_word
 keyword_of keywords.Uses = words.uses_word
@@ -34,7 +34,7 @@ keyword_of keywords.Const = words.const_word
 keyword_of keywords.Fn = words.fn_word
 keyword_of keywords.Dyn = words.dyn_word
 
--- the label of a primitive type's tree
+-- the label of a primitive type
 abbrev pub primitive_label : Primitive → Label
 primitive_label primitives.Bool = bool
 primitive_label primitives.Char = char
@@ -52,7 +52,7 @@ primitive_label primitives.U64 = uint 3
 primitive_label primitives.U128 = uint 4
 primitive_label primitives.Usize = uint 5
 
--- the sign of the definitions
+-- the same sign in the definitions
 abbrev pub sign_of : Sign → words.Sign
 sign_of signs.OpenAngle = words.open_angle
 sign_of signs.CloseAngle = words.close_angle
@@ -68,7 +68,7 @@ sign_of signs.Star = words.star
 sign_of signs.Plus = words.plus
 sign_of signs.Exclamation = words.exclamation
 
--- A token; names and numbers by their bytes in the line.
+-- A token. Names and numbers are the bytes of the line.
 abbrev pub token_of : Token → token.Token
 token_of (tokens.Keyword k) = token.keyword (keyword_of k)
 token_of (tokens.Primitive p) = token.primitive (primitive_label p)
@@ -83,6 +83,6 @@ token_of tokens.Arrow = token.arrow
 abbrev pub tokens_in : List Token → List token.Token
 tokens_in ts = map token_of ts
 
--- the bytes of a name that stands in the line
+-- the bytes of a name that is borrowed from the line
 abbrev pub text_of : Bor (List ℕ) → List ℕ
 text_of n = n.now

@@ -1,4 +1,4 @@
--- The type at the front of tokens, as a function.
+-- The type at the front of a list of tokens, as a function.
 use Rattle.std.specs.Prelude.{◌≡◌, ◌+◌, ◌*◌, List, [], length, Option, Some, None, Result, Ok, Err}
 use Rattle.text_language.specs.Tokens.{Token}
 use Rattle.text_lines.specs.declared.line_error.LineError.{LineError}
@@ -12,11 +12,11 @@ abbrev pub ended : State → Option (List Cell × List Token)
 ended (finished out left) = Some (out, left)
 ended _ = None
 
--- The cells of the type at the front, behind those that are there, and the tokens behind the type. The machine has ended after so many steps.
+-- The given cells with those of the type at the front appended, and the tokens after the type. The machine ends within this number of steps.
 unfoldable pub type_read : List Cell → List Token → Option (List Cell × List Token)
 type_read o ts = ended (run (2 * length ts + 1) (opening [] o ts))
 
--- What was returned is what reading gives; if memory ran out nothing is said.
+-- The result is that of the function. Nothing is stated if memory was refused.
 abbrev pub GivesType : Result TypeRead LineError → Option (List Cell × List Token) → Type 0
 GivesType (Ok r) read = read ≡ Some (cells_in r.cells.items, r.left)
 GivesType (Err errors.Memory) read = Unit {0}

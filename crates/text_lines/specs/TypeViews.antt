@@ -1,4 +1,4 @@
--- What the values of the code stand for among the definitions.
+-- Values of the code as values of the definitions: cells, and what is open.
 use Rattle.std.specs.Prelude.{List, [], ◌∷◌, map}
 use Rattle.std.specs.Option.{option_map}
 use Rattle.text_language.specs.Tokens.{number_from}
@@ -20,7 +20,7 @@ length_of (lengths.Number w) = syntax.number_length (number_from 0 w.now)
 length_of (lengths.Name w) = syntax.name_length w.now
 length_of (lengths.Variable w) = syntax.variable_length w.now
 
--- a cell, with names by their bytes
+-- a cell, with the bytes of its names
 abbrev pub cell_of : Cell → cell.Cell
 cell_of (cells.Primitive p) = cell.primitive_cell (primitive_label p)
 cell_of cells.Never = cell.never_cell
@@ -55,11 +55,11 @@ open_of (open_parts.Items start) = machine.open_items start
 open_of (open_parts.Inputs start inner) = machine.open_inputs start inner
 open_of (open_parts.Output start inner) = machine.open_output start inner
 
--- the last one in the vector is the innermost
+-- the last part of the vector is the innermost
 abbrev pub opens_onto : List Open → List machine.Open → List machine.Open
 opens_onto [] s = s
 opens_onto (o ∷ os) s = opens_onto os (open_of o ∷ s)
 
--- the stack, with the innermost on top
+-- the stack, with the innermost part on top
 abbrev pub opens_in : List Open → List machine.Open
 opens_in os = opens_onto os []

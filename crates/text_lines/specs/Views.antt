@@ -1,4 +1,4 @@
--- What the values of the code stand for among the definitions.
+-- Values of the code as values of the definitions: statements.
 use Rattle.std.specs.Prelude.{ℕ, List, map}
 use Rattle.std.specs.Borrow.{Bor}
 use Rattle.text_lines.specs.TokenViews.{text_of}
@@ -23,7 +23,7 @@ params_in ps = map param_of ps
 abbrev pub texts_in : List (Bor (List ℕ)) → List (List ℕ)
 texts_in ns = map text_of ns
 
--- a statement, with names by their bytes
+-- a statement, with the bytes of its names
 abbrev pub statement_of : Statement → said.Statement
 statement_of (statements.Crate n us) = said.crate_statement n.now (texts_in us.items)
 statement_of (statements.Struct f n ps fs) = said.struct_statement f n.now (params_in ps.items) fs.items

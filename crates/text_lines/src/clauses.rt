@@ -1,4 +1,4 @@
-//! Clauses, and the clauses behind `where`.
+//! Clauses, and the `where` part of a line.
 ghost use Rattle.text_lines.specs.Marks.{after_comma};
 ghost use Rattle.text_lines.specs.Parts.{clause_at, where_at, parts_between};
 ghost use Rattle.text_lines.specs.Steps.{Reads};
@@ -19,7 +19,7 @@ impl<'t, 'a> Reader<'t, 'a> {
         Ok(ClauseSpans { subject, bound })
     }
 
-    /// Clauses with commas between them.
+    /// Clauses, separated by commas.
     fn clauses(&mut self) -> Result<Vec<ClauseSpans>, LineError>
         ensures { Reads (λ v. v.items) result (parts_between clause_at after_comma) self.old self.new }
     {
@@ -33,7 +33,7 @@ impl<'t, 'a> Reader<'t, 'a> {
         }
     }
 
-    /// The clauses behind `where`, or none.
+    /// The clauses after `where`, or none.
     #[tactic(auto, unfolding(crate::specs::Parts::where_at))]
     pub(crate) fn where_clauses(&mut self) -> Result<Vec<ClauseSpans>, LineError>
         ensures { Reads (λ v. v.items) result where_at self.old self.new }

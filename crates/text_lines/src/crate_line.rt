@@ -1,4 +1,4 @@
-//! `crate NAME uses NAME, NAME, ..`, `later NAME` and `supers in NAME`
+//! `crate NAME uses NAME, NAME, ...`, `later NAME` and `supers in NAME`
 ghost use Rattle.text_lines.specs.Marks.{after_comma};
 ghost use Rattle.text_lines.specs.Parts.{name_at, uses_at, crate_at, later_at, supers_at, parts_between};
 ghost use Rattle.text_lines.specs.Steps.{Reads};
@@ -9,7 +9,7 @@ use crate::reader::Reader;
 use crate::statement::Statement;
 
 impl<'t, 'a> Reader<'t, 'a> {
-    /// Names with commas between them.
+    /// Names, separated by commas.
     fn names(&mut self) -> Result<Vec<&'a [u8]>, LineError>
         ensures { Reads (λ v. texts_in v.items) result (parts_between name_at after_comma) self.old self.new }
     {
@@ -23,7 +23,7 @@ impl<'t, 'a> Reader<'t, 'a> {
         }
     }
 
-    /// The names behind `uses`, or none.
+    /// The names after `uses`, or none.
     #[tactic(auto, unfolding(crate::specs::Parts::uses_at))]
     fn uses(&mut self) -> Result<Vec<&'a [u8]>, LineError>
         ensures { Reads (λ v. texts_in v.items) result uses_at self.old self.new }
@@ -35,7 +35,7 @@ impl<'t, 'a> Reader<'t, 'a> {
         }
     }
 
-    /// Behind `crate`.
+    /// The rest of the line after `crate`.
     #[tactic(auto, unfolding(crate::specs::Parts::crate_at))]
     pub(crate) fn crate_line(&mut self) -> Result<Statement<'a>, LineError>
         ensures { Reads statement_of result crate_at self.old self.new }
@@ -45,7 +45,7 @@ impl<'t, 'a> Reader<'t, 'a> {
         Ok(Statement::Crate { name, uses })
     }
 
-    /// Behind `later`.
+    /// The rest of the line after `later`.
     #[tactic(auto, unfolding(crate::specs::Parts::later_at))]
     pub(crate) fn later_line(&mut self) -> Result<Statement<'a>, LineError>
         ensures { Reads statement_of result later_at self.old self.new }
@@ -54,7 +54,7 @@ impl<'t, 'a> Reader<'t, 'a> {
         Ok(Statement::Later { crate_name })
     }
 
-    /// Behind `supers`.
+    /// The rest of the line after `supers`.
     #[tactic(auto, unfolding(crate::specs::Parts::supers_at))]
     pub(crate) fn supers_line(&mut self) -> Result<Statement<'a>, LineError>
         ensures { Reads statement_of result supers_at self.old self.new }

@@ -11,7 +11,7 @@ use crate::line_error::LineError;
 use crate::token::{Keyword, Sign, Token};
 use std::marker::Model;
 
-/// The tokens of a line that are not read yet. Contracts see it as the list of these.
+/// The tokens of a line that are not read yet. In contracts a cursor is the list of these tokens.
 #[derive(Drop)]
 pub struct Cursor<'t, 'a> {
     tokens: &'t [Token<'a>],
@@ -31,14 +31,14 @@ impl<'t, 'a> Model for Cursor<'t, 'a> {
 impl<'t, 'a> Cursor<'t, 'a> {
     ghost use Rattle.text_lines.specs.TokenViews.{token_of, tokens_in};
 
-    /// Nothing of the line is read.
+    /// A cursor at the start of a line.
     pub fn new(tokens: &'t [Token<'a>]) -> Self
         ensures { result ≡ tokens_in tokens.now }
     {
         Cursor { tokens, at: 0 }
     }
 
-    /// Reads the next token; none is left behind the last one.
+    /// Reads the next token. Returns `None` after the last one.
     pub fn next(&mut self) -> Option<Token<'a>>
         ensures { MatchOption result (self.old ≡ []) (λ t. self.old ≡ token_of t ∷ self.new) }
     {
@@ -135,7 +135,7 @@ impl<'t, 'a> Cursor<'t, 'a> {
         None
     }
 
-    /// A cursor of its own over the tokens that are left.
+    /// A separate cursor over the remaining tokens.
     pub fn rest(&self) -> Self
         ensures { result ≡ self.now }
     {
@@ -152,7 +152,7 @@ impl<'t, 'a> Cursor<'t, 'a> {
         self.at >= self.tokens.len()
     }
 
-    /// Whether a name is next, which is not read.
+    /// Whether the next token is a name. It is not read.
     pub fn is_name(&self) -> bool
         ensures { result ≡ is_name self.now }
     {
@@ -235,7 +235,7 @@ impl<'t, 'a> Cursor<'t, 'a> {
         false
     }
 
-    /// Reads a name, which has to stand there.
+    /// Reads a name. Fails unless it is next.
     pub fn name(&mut self) -> Result<&'a [u8], LineError>
         ensures { Takes text_of result (name_front self.old) self.new }
     {
@@ -245,7 +245,7 @@ impl<'t, 'a> Cursor<'t, 'a> {
         }
     }
 
-    /// Reads `:`, which has to stand there.
+    /// Reads `:`. Fails unless it is next.
     pub fn expect_colon(&mut self) -> Result<(), LineError>
         ensures { PassesMark result (after_colon self.old) self.new }
     {
@@ -255,7 +255,7 @@ impl<'t, 'a> Cursor<'t, 'a> {
         }
     }
 
-    /// Reads `)`, which has to stand there.
+    /// Reads `)`. Fails unless it is next.
     pub fn expect_close_round(&mut self) -> Result<(), LineError>
         ensures { PassesMark result (after_close_round self.old) self.new }
     {
@@ -265,7 +265,7 @@ impl<'t, 'a> Cursor<'t, 'a> {
         }
     }
 
-    /// Reads `>`, which has to stand there.
+    /// Reads `>`. Fails unless it is next.
     pub fn expect_close_angle(&mut self) -> Result<(), LineError>
         ensures { PassesMark result (after_close_angle self.old) self.new }
     {
@@ -275,7 +275,7 @@ impl<'t, 'a> Cursor<'t, 'a> {
         }
     }
 
-    /// Reads `for`, which has to stand there.
+    /// Reads `for`. Fails unless it is next.
     pub fn expect_for(&mut self) -> Result<(), LineError>
         ensures { PassesMark result (after_for self.old) self.new }
     {
@@ -285,7 +285,7 @@ impl<'t, 'a> Cursor<'t, 'a> {
         }
     }
 
-    /// Reads `in`, which has to stand there.
+    /// Reads `in`. Fails unless it is next.
     pub fn expect_in(&mut self) -> Result<(), LineError>
         ensures { PassesMark result (after_in self.old) self.new }
     {

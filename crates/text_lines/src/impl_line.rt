@@ -1,4 +1,4 @@
-//! `impl<..> BOUND for TYPE where TYPE: BOUND, ..`
+//! `impl<...> BOUND for TYPE where TYPE: BOUND, ...`
 ghost use Rattle.text_lines.specs.Parts.{header_at, impl_at};
 ghost use Rattle.text_lines.specs.Steps.{Reads};
 ghost use Rattle.text_lines.specs.Views.{statement_of};
@@ -19,7 +19,7 @@ impl<'t, 'a> Reader<'t, 'a> {
         Ok(ClauseSpans { subject, bound })
     }
 
-    /// Behind `impl`.
+    /// The rest of the line after `impl`.
     #[tactic(auto, unfolding(crate::specs::Parts::impl_at))]
     pub(crate) fn impl_line(&mut self) -> Result<Statement<'a>, LineError>
         ensures { Reads statement_of result impl_at self.old self.new }

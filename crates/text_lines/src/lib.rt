@@ -1,8 +1,8 @@
-//! Lines: their tokens, the types in them, and whole lines; bytes in, a statement out.
+//! Lines: their tokens, the types in them, and whole lines. Bytes go in, and a statement comes out.
 //!
-//! A cursor reads the tokens of a line, and the reader of types works with a stack of its own, so that types may be nested in any
-//! depth: what it gives is a flat list of cells, in which the types of a line are places. The laws of the grammar stand here too: a
-//! line says at most one thing, a text gives one, and what is known of a line without a fault.
+//! A cursor reads the tokens of a line. The reader of types has a stack of its own, so types may be nested to any depth. It produces a
+//! flat list of cells, and the types of a line are spans of this list. The laws of the grammar are here too: bytes spell at most one
+//! line, a text has exactly one outcome, and what is true of a line without a fault.
 #![tactic(auto)]
 
 ghost use Rattle.text_lines.specs.Laws.{OneType, MachineFinds, MachineReads, MachineReadsBound, MachineRefuses};
@@ -39,12 +39,12 @@ pub use statement::{ClauseSpans, LineRead, Param, Span, Statement};
 pub use token::{Keyword, Primitive, Sign, Token, tokens};
 pub use type_machine::{TypeRead, read_type};
 
-/// What the tokens at the front of a line spell is at most one type.
+/// The front of a list of tokens spells at most one type.
 pub fn one_type()
     ensures { OneType }
 {}
 
-/// The machine ends with a type exactly where one is spelled, and with its cells.
+/// The machine ends with a type exactly if the tokens spell one, and then with its cells.
 pub fn machine_laws()
     ensures finds { MachineFinds }
     ensures reads { MachineReads }
@@ -52,14 +52,14 @@ pub fn machine_laws()
     ensures refuses { MachineRefuses }
 {}
 
-/// Each type and bound of a line stands where its statement says: within the cells, one or more, as if it had been put behind the cells
-/// before it.
+/// The span of each type and bound holds its cells, at least one. These are the cells of the type appended to those that precede the
+/// span.
 pub fn spans_stand()
     ensures { SpansStand }
 {}
 
-/// The types and bounds of a line, whatever its kind: each stands where the statement's part says, and what the line uses, what its
-/// question asks and how deep it is follows from them.
+/// The types and bounds of a line of any kind. Each is at its span in the statement. The names that the line uses, the bound that its
+/// query evaluates and the depth of the line follow from them.
 pub fn line_parts()
     ensures stand { PartsStand }
     ensures uses { UsesOfParts }
@@ -67,7 +67,7 @@ pub fn line_parts()
     ensures depth { DepthOfParts }
 {}
 
-/// What a statement says without its types is what its line says.
+/// Apart from its types, a statement is what its line is.
 pub fn what_is_said()
     ensures name { NameIsSaid }
     ensures params { ParamsAreSaid }
@@ -76,25 +76,25 @@ pub fn what_is_said()
     ensures tests { TestsAgree }
 {}
 
-/// A line says at most one thing.
+/// Bytes spell at most one line.
 pub fn one_line()
     ensures { OneLine }
 {}
 
-/// A text gives one thing: the same declarations, or the same fault, however it is read.
+/// A text has one outcome: the same declarations, or the same fault, however it is read.
 pub fn one_outcome()
     ensures { OneOutcome }
 {}
 
-/// Worked lines that say nothing, and the fault of a text with such a line.
+/// Worked lines that nothing spells, and the fault of a text with such a line.
 pub fn worked_syntax_faults()
     ensures lines { UnwrittenLines }
     ensures texts { SyntaxFaults }
 {}
 
-/// A line without a fault fails none of the tests: what it declares has a new name, the crates that it names are crates, an item
-/// stands behind the line of a crate, each name that it uses stands for what its place needs with as many arguments as it takes, and
-/// no limit is passed.
+/// A line without a fault fails none of the tests. The name that it declares is new. The crates that it names are declared. An item is
+/// preceded by the line of a crate. Each name that it uses has the kind that its position needs, and as many arguments as it takes. No
+/// limit is exceeded.
 pub fn faultless_lines()
     ensures tests { FaultlessPasses }
     ensures names { DeclaresNew }

@@ -1,4 +1,4 @@
-//! One line.
+//! A whole line.
 ghost use Rattle.std.specs.Prelude.{◌≡◌, ◌==◌, length, take_while, IfOk, IsErrOf};
 ghost use Rattle.text_language.specs.Promised.Syntax.{Line};
 ghost use Rattle.text_language.specs.Written.{IsWritten};
@@ -17,7 +17,7 @@ use crate::token::{Keyword, Token, tokens};
 use std::alloc::Global;
 
 impl<'t, 'a> Reader<'t, 'a> {
-    /// Behind `auto`.
+    /// The rest of the line after `auto`.
     fn auto_line(&mut self, is_fundamental: bool) -> Result<Statement<'a>, LineError>
         ensures { Reads statement_of result (λ p. auto_front is_fundamental p.0 p.1) self.old self.new }
     {
@@ -27,7 +27,7 @@ impl<'t, 'a> Reader<'t, 'a> {
         }
     }
 
-    /// Behind `fundamental`.
+    /// The rest of the line after `fundamental`.
     fn fundamental_line(&mut self) -> Result<Statement<'a>, LineError>
         ensures { Reads statement_of result (λ p. fundamental_front p.0 p.1) self.old self.new }
     {
@@ -72,7 +72,7 @@ fn spaces(line: &[u8]) -> usize
     line.iter().take_while(|b| **b == b' ').count()
 }
 
-/// Whether a line has nothing to read: spaces, and behind them nothing or a comment.
+/// Whether a line is blank: spaces, and then nothing or a comment.
 pub fn is_blank(line: &[u8]) -> bool
     ensures { result ≡ is_blank line.now }
 {
@@ -112,14 +112,15 @@ fn read(alloc: Global, line: &[u8]) -> Result<LineRead<'_>, LineError>
     read_tokens(alloc, &found)
 }
 
-/// Reads a line, whose names the answer borrows. The error is `Syntax` where the grammar has no such line, also where it is blank, and
-/// `Memory` where a request for memory was refused.
+/// Reads a line. The names of the statement are borrowed from the bytes.
+///
+/// Fails with `Syntax` if the grammar has no such line, or if the line is blank. Fails with `Memory` if memory is refused.
 pub fn read_line(alloc: Global, line: &[u8]) -> Result<LineRead<'_>, LineError>
-    // What is read is written so.
+    // If a line is returned, the bytes spell it.
     ensures found { IfOk result (λ r. SaysLine line.now r) }
-    // What is written so is read, unless memory runs out.
+    // If the bytes spell a line, it is returned, unless memory is refused.
     ensures only { (l : Line) → IsWritten line.now l → IfOk result (λ r. ReadsLine l r) }
-    // Nothing is refused that the grammar has.
+    // The error is `Syntax` only if the bytes spell no line.
     ensures refused { IsErrOf result LineError.Syntax → (l : Line) → IsWritten line.now l → ⊥ }
 {
     read(alloc, line)

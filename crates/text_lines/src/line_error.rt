@@ -8,7 +8,7 @@ use std::alloc::{AllocError, AllocFailed};
 /// Why a line was not read.
 #[derive(Clone, Copy, Debug, PartialEq, Eq, thiserror::Error)]
 pub enum LineError {
-    /// A request for memory was refused.
+    /// Memory was refused.
     #[error("out of memory")]
     Memory,
     /// The grammar has no such line.

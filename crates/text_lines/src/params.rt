@@ -10,7 +10,7 @@ use crate::reader::Reader;
 use crate::statement::Param;
 use crate::token::{Keyword, Token};
 
-/// Lifetimes first, then types, then consts.
+/// Lifetimes come first, then types, then constants.
 fn is_ordered(params: &[Param<'_>]) -> bool
     ensures { result ≡ is_ordered_from 0 (params_in params.now) }
 {
@@ -43,7 +43,7 @@ impl<'t, 'a> Reader<'t, 'a> {
         }
     }
 
-    /// Parameters with commas between them, in any order.
+    /// Parameters in any order, separated by commas.
     fn param_list(&mut self) -> Result<Vec<Param<'a>>, LineError>
         ensures { Reads (λ v. params_in v.items) result (parts_between param_at after_comma) self.old self.new }
     {
@@ -57,7 +57,7 @@ impl<'t, 'a> Reader<'t, 'a> {
         }
     }
 
-    /// The parameters between `<` and `>`, in their order, or none.
+    /// The parameters between `<` and `>`, or none. Fails if they are out of order.
     #[tactic(auto, unfolding(crate::specs::Parts::params_at))]
     pub(crate) fn params(&mut self) -> Result<Vec<Param<'a>>, LineError>
         ensures { Reads (λ v. params_in v.items) result params_at self.old self.new }

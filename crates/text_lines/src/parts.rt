@@ -1,4 +1,4 @@
-//! The types and bounds of a line, whatever kind of line it is.
+//! The types and bounds of a line of any kind.
 ghost use Rattle.std.specs.Prelude.{◌≡◌, ◌∷◌, map, IfOk};
 ghost use Rattle.std.specs.List.{flat_map};
 ghost use Rattle.text_lines.specs.LineParts.{type_place, bound_place, clause_places, places_in};
@@ -7,7 +7,7 @@ ghost use Rattle.text_lines.specs.Views.{statement_of};
 use crate::statement::{ClauseSpans, Span, Statement};
 use std::alloc::{AllocError, Global};
 
-/// A type or a bound of a line, where it stands.
+/// A type or a bound of a line, by its span.
 #[derive(Clone, Copy)]
 pub enum LinePart {
     Type(Span),
@@ -32,7 +32,7 @@ fn bound_parts(alloc: Global, spans: &[Span]) -> Result<Vec<LinePart>, AllocErro
         .collect(alloc)
 }
 
-/// Those of a header or of what is asked, and those of the clauses.
+/// The parts of the header or of the queried bound, and those of the clauses.
 fn clause_parts(
     alloc: Global,
     first: LinePart,
@@ -54,7 +54,7 @@ fn clause_parts(
 }
 
 impl<'a> Statement<'a> {
-    /// The types and bounds of the line, in the order in which they are written. The error says that a request for memory was refused.
+    /// The types and bounds of the line, in the order of the text. Fails only if memory is refused.
     pub fn parts(&self, alloc: Global) -> Result<Vec<LinePart>, AllocError>
         ensures { IfOk result (λ v. v.items ≡ places_in (statement_of self.now)) }
     {

@@ -1,4 +1,4 @@
-//! `prove in CRATE<..> TYPE: BOUND where ..`, and `refute in CRATE<..> TYPE: BOUND`
+//! `prove in CRATE<...> TYPE: BOUND where ...`, and `refute in CRATE<...> TYPE: BOUND`
 ghost use Rattle.text_lines.specs.Parts.{prove_at, refute_at};
 ghost use Rattle.text_lines.specs.Steps.{Reads};
 ghost use Rattle.text_lines.specs.Views.{statement_of};
@@ -8,7 +8,7 @@ use crate::reader::Reader;
 use crate::statement::Statement;
 
 impl<'t, 'a> Reader<'t, 'a> {
-    /// Behind `prove`.
+    /// The rest of the line after `prove`.
     #[tactic(auto, unfolding(crate::specs::Parts::prove_at))]
     pub(crate) fn prove_line(&mut self) -> Result<Statement<'a>, LineError>
         ensures { Reads statement_of result prove_at self.old self.new }
@@ -26,7 +26,7 @@ impl<'t, 'a> Reader<'t, 'a> {
         })
     }
 
-    /// Behind `refute`.
+    /// The rest of the line after `refute`.
     #[tactic(auto, unfolding(crate::specs::Parts::refute_at))]
     pub(crate) fn refute_line(&mut self) -> Result<Statement<'a>, LineError>
         ensures { Reads statement_of result refute_at self.old self.new }

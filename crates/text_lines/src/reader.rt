@@ -1,4 +1,4 @@
-//! How far a line has been read: names, types and bounds.
+//! The state of reading a line, and the names, types and bounds that it reads.
 ghost use Rattle.text_lines.specs.TokenViews.{text_of};
 ghost use Rattle.text_lines.specs.Parts.{name_at, type_at, bound_at};
 ghost use Rattle.text_lines.specs.Steps.{Reads};
@@ -11,7 +11,7 @@ use crate::type_machine::{TypeRead, read_type};
 use std::alloc::Global;
 use std::mem;
 
-/// How far a line has been read: the tokens that are left, and the cells of the types that were read.
+/// The state of reading a line: the remaining tokens, and the cells of the types read so far.
 #[derive(Drop)]
 pub(crate) struct Reader<'t, 'a> {
     pub alloc: Global,
@@ -20,7 +20,7 @@ pub(crate) struct Reader<'t, 'a> {
 }
 
 impl<'t, 'a> Reader<'t, 'a> {
-    /// A name, which is read.
+    /// Reads a name.
     #[tactic(auto, unfolding(crate::specs::Parts::name_at))]
     pub fn name(&mut self) -> Result<&'a [u8], LineError>
         ensures { Reads text_of result name_at self.old self.new }
@@ -28,7 +28,7 @@ impl<'t, 'a> Reader<'t, 'a> {
         self.cursor.name()
     }
 
-    /// A type: its cells are put behind those that were read before it. The span is that of its own cells.
+    /// Reads a type, and appends its cells. The span is that of these cells.
     #[tactic(auto, unfolding(crate::specs::Parts::type_at))]
     pub fn read_type(&mut self) -> Result<Span, LineError>
         ensures { Reads (λ s. s) result type_at self.old self.new }
@@ -42,7 +42,7 @@ impl<'t, 'a> Reader<'t, 'a> {
         Ok(Span { start, end })
     }
 
-    /// A trait's name, and its arguments.
+    /// Reads a bound: a trait's name and its arguments.
     #[tactic(auto, unfolding(crate::specs::Parts::bound_at))]
     pub fn bound(&mut self) -> Result<Span, LineError>
         ensures { Reads (λ s. s) result bound_at self.old self.new }

@@ -1,4 +1,4 @@
-//! What a line says without its types.
+//! A line apart from its types.
 ghost use Rattle.std.specs.Prelude.{◌≡◌, false};
 ghost use Rattle.std.specs.List.{list_any};
 ghost use Rattle.std.specs.Option.{option_map, option_map_or};
@@ -10,11 +10,11 @@ ghost use Rattle.text_lines.specs.Views.{param_of, params_in, statement_of};
 
 use crate::statement::{Param, Statement};
 
-/// The greatest length of a name.
+/// The maximum length of a name.
 const NAME_LIMIT: usize = 64;
 
 impl<'a> Param<'a> {
-    /// Its name, without what says of which kind it is.
+    /// The name without `'` or `const`.
     pub fn name(&self) -> &'a [u8]
         ensures { result.now ≡ said.param_name (param_of self.now) }
     {
@@ -27,7 +27,7 @@ impl<'a> Param<'a> {
 }
 
 impl<'a> Statement<'a> {
-    /// The crate, struct or trait that it declares.
+    /// The name of the crate, struct or trait that the line declares.
     pub fn declared_name(&self) -> Option<&'a [u8]>
         ensures { option_map text_of result ≡ name_said (statement_of self.now) }
     {
@@ -39,7 +39,7 @@ impl<'a> Statement<'a> {
         }
     }
 
-    /// Its parameters, in their order.
+    /// The parameters, in order.
     pub fn params(&self) -> &[Param<'a>]
         ensures { params_in result.now ≡ params_said (statement_of self.now) }
     {
@@ -54,7 +54,7 @@ impl<'a> Statement<'a> {
         }
     }
 
-    /// How many fields, supertraits or clauses it has.
+    /// The number of fields, supertraits or clauses.
     pub fn part_count(&self) -> usize
         ensures { result ≡ count_said (statement_of self.now) }
     {
@@ -68,7 +68,7 @@ impl<'a> Statement<'a> {
         }
     }
 
-    /// Whether it is a struct, a trait or an impl, which belong to a crate.
+    /// Whether it declares a struct, a trait or an impl. These belong to a crate.
     pub fn belongs_to_crate(&self) -> bool
         ensures { result ≡ is_item (statement_of self.now) }
     {
@@ -78,14 +78,14 @@ impl<'a> Statement<'a> {
         )
     }
 
-    /// Whether it is an impl, which may stand in a section of a later version.
+    /// Whether it declares an impl. Only impls may occur in a section of a later version.
     pub fn is_impl(&self) -> bool
         ensures { result ≡ is_said_impl (statement_of self.now) }
     {
         matches!(self, Statement::Impl { .. })
     }
 
-    /// Whether it is an auto trait with parameters or supertraits.
+    /// Whether it declares an auto trait with parameters or supertraits.
     pub fn is_loaded_auto(&self) -> bool
         ensures { result ≡ is_loaded (statement_of self.now) }
     {
@@ -110,7 +110,7 @@ impl<'a> Statement<'a> {
         }
     }
 
-    /// Whether the name that it declares is longer than names may be.
+    /// Whether the declared name exceeds the limit.
     fn has_long_declared_name(&self) -> bool
         ensures { result ≡ option_map_or is_long (name_said (statement_of self.now)) false }
     {
@@ -120,7 +120,7 @@ impl<'a> Statement<'a> {
         }
     }
 
-    /// Whether the name that it declares, or that of a parameter, is longer than names may be.
+    /// Whether the declared name or the name of a parameter exceeds the limit.
     pub fn has_long_name(&self) -> bool
         ensures { result ≡ has_long (statement_of self.now) }
     {

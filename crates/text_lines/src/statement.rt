@@ -1,19 +1,19 @@
-//! What a line says, with its types as places in one list of cells.
+//! The statement of a line. Its types are spans in one list of cells.
 ghost use Rattle.std.specs.Prelude.{◌≡◌};
 ghost use Rattle.text_lines.specs.Parts.{rank};
 ghost use Rattle.text_lines.specs.Views.{param_of};
 
 use crate::cell::Cell;
 
-/// Where the cells of a type stand: from `start` on, and before `end`. The last of them is the type's own. A bound stands there as the
-/// type of its name and arguments: its last cell is a `Named` with the trait's name.
+/// The cells of a type: from the index `start` on, up to but excluding `end`. The last of them is the cell of the type itself. A bound is
+/// stored as the type of its name and arguments: its last cell is a `Named` with the trait's name.
 #[derive(Clone, Copy)]
 pub struct Span {
     pub start: usize,
     pub end: usize,
 }
 
-/// `type: bound`, and an impl's `bound for type`.
+/// `type: bound`, or `bound for type` in an impl.
 #[derive(Clone, Copy)]
 pub struct ClauseSpans {
     pub subject: Span,
@@ -23,7 +23,7 @@ pub struct ClauseSpans {
 /// A declared parameter.
 #[derive(Clone, Copy)]
 pub enum Param<'a> {
-    /// `'a`, without its sign.
+    /// `'a`, without the `'`.
     Lifetime(&'a [u8]),
     Type(&'a [u8]),
     /// `const N`
@@ -31,7 +31,7 @@ pub enum Param<'a> {
 }
 
 impl<'a> Param<'a> {
-    /// Lifetimes stand first, then types, then consts.
+    /// The rank of the kind: lifetimes come first, then types, then constants.
     pub(crate) fn rank(&self) -> u8
         ensures { result ≡ rank (param_of self.now) }
     {
@@ -43,23 +43,23 @@ impl<'a> Param<'a> {
     }
 }
 
-/// A line as it is written. Names are those of the text, and nothing is looked up. Spans are places in the cells of the line; types and
-/// bounds stand there one behind the other, in the order in which they are written.
+/// A line as written. Names are borrowed from the text and not looked up. Spans are of the cells of the line. The cells of its types and
+/// bounds follow each other in the order of the text.
 #[derive(Drop)]
 pub enum Statement<'a> {
-    /// `crate NAME`, or `crate NAME uses NAME, NAME, ..`
+    /// `crate NAME`, or `crate NAME uses NAME, NAME, ...`
     Crate {
         name: &'a [u8],
         uses: Vec<&'a [u8]>,
     },
-    /// `struct NAME<..>(TYPE, ..)`
+    /// `struct NAME<...>(TYPE, ...)`
     Struct {
         is_fundamental: bool,
         name: &'a [u8],
         params: Vec<Param<'a>>,
         fields: Vec<Span>,
     },
-    /// `trait NAME<..>: BOUND + ..`
+    /// `trait NAME<...>: BOUND + ...`
     Trait {
         is_fundamental: bool,
         is_auto: bool,
@@ -67,13 +67,13 @@ pub enum Statement<'a> {
         params: Vec<Param<'a>>,
         bounds: Vec<Span>,
     },
-    /// `impl<..> BOUND for TYPE where TYPE: BOUND, ..`
+    /// `impl<...> BOUND for TYPE where TYPE: BOUND, ...`
     Impl {
         params: Vec<Param<'a>>,
         header: ClauseSpans,
         clauses: Vec<ClauseSpans>,
     },
-    /// `prove in CRATE<..> TYPE: BOUND where TYPE: BOUND, ..`
+    /// `prove in CRATE<...> TYPE: BOUND where TYPE: BOUND, ...`
     Prove {
         crate_name: &'a [u8],
         params: Vec<Param<'a>>,
@@ -88,7 +88,7 @@ pub enum Statement<'a> {
     Supers {
         crate_name: &'a [u8],
     },
-    /// `refute in CRATE<..> TYPE: BOUND`
+    /// `refute in CRATE<...> TYPE: BOUND`
     Refute {
         crate_name: &'a [u8],
         params: Vec<Param<'a>>,
@@ -103,7 +103,7 @@ pub struct LineRead<'a> {
     pub statement: Statement<'a>,
 }
 
-// Written, so that what owns one drops it by one call at each way out, and not field by field.
+// Written by hand: an owner then drops it by one call at each exit, instead of field by field.
 impl Drop for LineRead<'_> {
     fn drop(self) {
         let LineRead {

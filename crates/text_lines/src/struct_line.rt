@@ -1,4 +1,4 @@
-//! `struct NAME<..>(TYPE, ..)`
+//! `struct NAME<...>(TYPE, ...)`
 ghost use Rattle.text_lines.specs.Marks.{after_comma};
 ghost use Rattle.text_lines.specs.Parts.{type_at, fields_at, struct_at, parts_between};
 ghost use Rattle.text_lines.specs.Steps.{Reads};
@@ -9,7 +9,7 @@ use crate::reader::Reader;
 use crate::statement::{Span, Statement};
 
 impl<'t, 'a> Reader<'t, 'a> {
-    /// Types with commas between them.
+    /// Types, separated by commas.
     fn types(&mut self) -> Result<Vec<Span>, LineError>
         ensures { Reads (λ v. v.items) result (parts_between type_at after_comma) self.old self.new }
     {
@@ -36,7 +36,7 @@ impl<'t, 'a> Reader<'t, 'a> {
         Ok(fields)
     }
 
-    /// Behind `struct`.
+    /// The rest of the line after `struct`.
     #[tactic(auto, unfolding(crate::specs::Parts::struct_at))]
     pub(crate) fn struct_line(&mut self, is_fundamental: bool) -> Result<Statement<'a>, LineError>
         ensures { Reads statement_of result (struct_at is_fundamental) self.old self.new }

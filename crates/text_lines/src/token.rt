@@ -9,7 +9,7 @@ ghost use Rattle.text_lines.specs.TokenReading.{of_word, itself, arrow_at, lone_
 
 use std::alloc::{AllocError, Global};
 
-/// A word with a meaning of its own, primitive types aside.
+/// A reserved word other than the primitive types.
 #[derive(Clone, Copy)]
 pub enum Keyword {
     Crate,
@@ -52,7 +52,7 @@ pub enum Primitive {
     Usize,
 }
 
-/// Each keyword by its word.
+/// Each keyword with its word.
 const KEYWORDS: [(&[u8], Keyword); 18] = [
     (b"crate", Keyword::Crate),
     (b"uses", Keyword::Uses),
@@ -74,7 +74,7 @@ const KEYWORDS: [(&[u8], Keyword); 18] = [
     (b"dyn", Keyword::Dyn),
 ];
 
-/// The keyword that is spelled so.
+/// The keyword with this spelling.
 fn keyword_named(word: &[u8]) -> Option<Keyword>
     ensures { option_map keyword_of result ≡ keyword_named word.now }
 {
@@ -86,7 +86,7 @@ fn keyword_named(word: &[u8]) -> Option<Keyword>
     None
 }
 
-/// Each primitive type by its name.
+/// Each primitive type with its name.
 const PRIMITIVES: [(&[u8], Primitive); 15] = [
     (b"bool", Primitive::Bool),
     (b"char", Primitive::Char),
@@ -105,7 +105,7 @@ const PRIMITIVES: [(&[u8], Primitive); 15] = [
     (b"usize", Primitive::Usize),
 ];
 
-/// The primitive type that is spelled so.
+/// The primitive type with this name.
 fn primitive_named(word: &[u8]) -> Option<Primitive>
     ensures { option_map primitive_label result ≡ primitive_named word.now }
 {
@@ -129,7 +129,7 @@ fn is_word_byte(b: u8) -> bool
     b.is_ascii_alphanumeric() || b == b'_'
 }
 
-/// The sign that a byte is.
+/// The sign of this byte.
 fn sign_at(b: u8) -> Option<Sign>
     ensures { option_map sign_of result ≡ sign_at b }
 {
@@ -151,7 +151,7 @@ fn sign_at(b: u8) -> Option<Sign>
     }
 }
 
-/// How many bytes of the front are those of a word.
+/// The number of bytes of the word at the front.
 fn word_len(bytes: &[u8]) -> usize
     ensures { result ≡ length (take_while is_word_byte bytes.now) }
 {
@@ -176,19 +176,19 @@ pub enum Sign {
     Exclamation,
 }
 
-/// A word, `'word`, `?word`, `->` or a sign, words as they stand in the line.
+/// A word, `'word`, `?word`, `->` or a sign. Words are borrowed from the line.
 #[derive(Clone, Copy)]
 pub enum Token<'a> {
-    /// A reserved word that is no primitive type.
+    /// A reserved word other than the primitive types.
     Keyword(Keyword),
     Primitive(Primitive),
-    /// A word that is not reserved and begins with no digit.
+    /// A word that is not reserved and does not begin with a digit.
     Name(&'a [u8]),
-    /// `'a`, without its sign.
+    /// `'a`, without the `'`.
     Lifetime(&'a [u8]),
-    /// `?x`, without its sign.
+    /// `?x`, without the `?`.
     Variable(&'a [u8]),
-    /// Decimal digits, as many as there are: the number may pass any limit.
+    /// Decimal digits, however many there are: the number may exceed every limit.
     Number(&'a [u8]),
     Sign(Sign),
     /// `->`
@@ -219,7 +219,7 @@ fn word_token(word: &[u8]) -> Option<Token<'_>>
     Some(Token::Name(word))
 }
 
-/// `'word`, where the word is a name.
+/// `'word`, if the word is a name.
 fn lifetime_token(word: &[u8]) -> Option<Token<'_>>
     ensures { option_map token_of result ≡ as_lifetime (word_token word.now) }
 {
@@ -229,7 +229,7 @@ fn lifetime_token(word: &[u8]) -> Option<Token<'_>>
     }
 }
 
-/// `?word`, where the word is a name.
+/// `?word`, if the word is a name.
 fn variable_token(word: &[u8]) -> Option<Token<'_>>
     ensures { option_map token_of result ≡ as_variable (word_token word.now) }
 {
@@ -278,7 +278,7 @@ fn variable_at(bytes: &[u8]) -> Option<(Token<'_>, &[u8])>
     }
 }
 
-/// What stands behind the `-` of an arrow.
+/// What follows the `-` of an arrow.
 fn arrow_at(bytes: &[u8]) -> Option<(Token<'_>, &[u8])>
     ensures { option_map (λ x. (token_of x.0, x.1.now)) result ≡ arrow_at bytes.now }
 {
@@ -288,7 +288,7 @@ fn arrow_at(bytes: &[u8]) -> Option<(Token<'_>, &[u8])>
     }
 }
 
-/// The sign that a byte is, and the bytes behind it.
+/// The sign of a byte, and the bytes after it.
 fn lone_sign(b: u8, rest: &[u8]) -> Option<(Token<'_>, &[u8])>
     ensures { option_map (λ x. (token_of x.0, x.1.now)) result ≡ lone_sign b rest.now }
 {
@@ -298,7 +298,7 @@ fn lone_sign(b: u8, rest: &[u8]) -> Option<(Token<'_>, &[u8])>
     }
 }
 
-/// The first token of bytes that begin with no space, and the bytes after it.
+/// The first token of bytes that do not begin with a space, and the bytes after it.
 #[tactic(auto, unfolding(crate::specs::TokenReading::token_at))]
 fn token_at(bytes: &[u8]) -> Option<(Token<'_>, &[u8])>
     ensures { option_map (λ x. (token_of x.0, x.1.now)) result ≡ token_at bytes.now }
@@ -321,8 +321,8 @@ fn token_at(bytes: &[u8]) -> Option<(Token<'_>, &[u8])>
     }
 }
 
-/// The tokens of a line, from left to right, or nothing where it holds what is no token: another byte, a sign alone of `'`, `?` or
-/// `-`, a word that begins with a digit and holds others than digits. The error says that a request for memory was refused.
+/// The tokens of a line, from left to right. Returns `None` if something in it is no token: another byte, a `'`, `?` or `-` alone, or a
+/// word that begins with a digit and has other characters. Fails only if memory is refused.
 pub fn tokens(alloc: Global, line: &[u8]) -> Result<Option<Vec<Token<'_>>>, AllocError>
     ensures { IfOk result (λ found. option_map (λ v. tokens_in v.items) found ≡ tokens_of line.now) }
 {

@@ -1,4 +1,4 @@
-//! `trait NAME<..>: BOUND + ..`
+//! `trait NAME<...>: BOUND + ...`
 ghost use Rattle.text_lines.specs.Marks.{after_plus};
 ghost use Rattle.text_lines.specs.Parts.{bound_at, bounds_at, trait_at, parts_between};
 ghost use Rattle.text_lines.specs.Steps.{Reads};
@@ -9,7 +9,7 @@ use crate::reader::Reader;
 use crate::statement::{Span, Statement};
 
 impl<'t, 'a> Reader<'t, 'a> {
-    /// Bounds with `+` between them.
+    /// Bounds, separated by `+`.
     fn bound_list(&mut self) -> Result<Vec<Span>, LineError>
         ensures { Reads (λ v. v.items) result (parts_between bound_at after_plus) self.old self.new }
     {
@@ -23,7 +23,7 @@ impl<'t, 'a> Reader<'t, 'a> {
         }
     }
 
-    /// The bounds behind `:`, or none.
+    /// The bounds after `:`, or none.
     #[tactic(auto, unfolding(crate::specs::Parts::bounds_at))]
     fn bounds(&mut self) -> Result<Vec<Span>, LineError>
         ensures { Reads (λ v. v.items) result bounds_at self.old self.new }
@@ -35,7 +35,7 @@ impl<'t, 'a> Reader<'t, 'a> {
         }
     }
 
-    /// Behind `trait`.
+    /// The rest of the line after `trait`.
     #[tactic(auto, unfolding(crate::specs::Parts::trait_at))]
     pub(crate) fn trait_line(
         &mut self,

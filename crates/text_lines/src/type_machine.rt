@@ -1,4 +1,4 @@
-//! The reader of types: a stack of what is open, and the cells of what has been read.
+//! The reader of types: a stack of open parts, and the cells read so far.
 ghost use Rattle.std.specs.Prelude.{◌≡◌, ◌<◌, ◌∷◌, ◌++◌, [], length, OnOk, IfOk, IfErr, IsErrOf, MatchOption};
 ghost use Rattle.std.specs.Option.{option_map};
 ghost use Rattle.text_language.specs.Tokens.{keyword, sign};
@@ -25,7 +25,7 @@ impl<'t, 'a> Reader<'t, 'a> {
     ghost use Rattle.text_lines.specs.TypeSteps.{ReaderSteps, Binds, BindsNext, Turns, ReaderEnds, state_in, begun};
     ghost use Rattle.text_lines.specs.Machine.{item_end, bound_end, args_end, bound_args_end, arg_end, name_step, bound_step, reference_step, ampersand_step, star_step, tuple_step, inputs_end, inputs_step, fn_step, length_end, length_step, brackets_end, second_step, tuple_end, items_end, input_end, binder_at, first_binder, more_binder, bound_fn, bound_item, open_step, item_step, close_step, step, opening, closing};
 
-    /// Puts a cell behind the others.
+    /// Appends a cell.
     fn add_cell(&mut self, cell: Cell<'a>) -> Result<(), LineError>
         ensures cells { IfOk result (λ _. cells_in self.new.cells.items ≡ cells_in self.old.cells.items ++ cell_of cell.entry ∷ []) }
         ensures memory { IfErr result (λ e. e ≡ LineError.Memory) }
@@ -36,7 +36,7 @@ impl<'t, 'a> Reader<'t, 'a> {
         Ok(())
     }
 
-    /// Puts a cell behind the others: a type has been read.
+    /// Appends a cell, with which a type ends.
     fn push_cell(&mut self, cell: Cell<'a>) -> Result<Next, LineError>
         ensures { ReaderSteps result (λ s out ts. closing s (out ++ cell_of cell.entry ∷ []) ts) self.old self.new }
     {
@@ -44,7 +44,7 @@ impl<'t, 'a> Reader<'t, 'a> {
         Ok(Next::Closing)
     }
 
-    /// Puts a part on the stack: a type is to come inside it.
+    /// Opens a part. A type inside it is read next.
     fn push_open(&mut self, part: Open<'a>) -> Result<Next, LineError>
         ensures { ReaderSteps result (λ s out ts. opening (open_of part.entry ∷ s) out ts) self.old self.new }
     {
@@ -52,7 +52,7 @@ impl<'t, 'a> Reader<'t, 'a> {
         Ok(Next::Opening)
     }
 
-    /// Reads the next token; none is left behind the last one.
+    /// Reads the next token. Returns `None` after the last one.
     fn next(&mut self) -> Option<Token<'a>>
         ensures left { MatchOption result (self.old.cursor ≡ []) (λ t. self.old.cursor ≡ token_of t ∷ self.new.cursor) }
         ensures cells { self.new.cells ≡ self.old.cells }
@@ -70,7 +70,7 @@ impl<'t, 'a> Reader<'t, 'a> {
         self.stack.pop()
     }
 
-    /// Behind an item of the `dyn` that began at `start`.
+    /// After an item of the `dyn` that began at `start`.
     fn item_end(&mut self, start: usize) -> Result<Next, LineError>
         ensures { ReaderSteps result (λ s out ts. item_end s out start ts) self.old self.new }
     {
@@ -80,7 +80,7 @@ impl<'t, 'a> Reader<'t, 'a> {
         self.push_cell(Cell::Dyn { start })
     }
 
-    /// Behind a bound of a `dyn`.
+    /// After a bound of a `dyn`.
     fn bound_end(
         &mut self,
         dyn_start: usize,
@@ -94,7 +94,7 @@ impl<'t, 'a> Reader<'t, 'a> {
         self.item_end(dyn_start)
     }
 
-    /// Behind an argument of a type.
+    /// After an argument of a type.
     fn args_end(&mut self, name: &'a [u8], start: usize) -> Result<Next, LineError>
         ensures { ReaderSteps result (λ s out ts. args_end s out name.now start ts) self.old self.new }
     {
@@ -105,7 +105,7 @@ impl<'t, 'a> Reader<'t, 'a> {
         }
     }
 
-    /// Behind an argument of a bound of a `dyn`.
+    /// After an argument of a bound of a `dyn`.
     fn bound_args_end(
         &mut self,
         dyn_start: usize,
@@ -129,7 +129,7 @@ impl<'t, 'a> Reader<'t, 'a> {
         }
     }
 
-    /// Behind a lifetime or a number where a type may stand: it has to be an argument.
+    /// After a lifetime or a number in the position of a type. It must be an argument.
     fn arg_end(&mut self) -> Result<Next, LineError>
         ensures { ReaderSteps result arg_end self.old self.new }
     {
@@ -147,7 +147,7 @@ impl<'t, 'a> Reader<'t, 'a> {
         }
     }
 
-    /// Behind the name of a type.
+    /// After the name of a type.
     fn name_step(&mut self, name: &'a [u8]) -> Result<Next, LineError>
         ensures { ReaderSteps result (λ s out ts. name_step s out name.now ts) self.old self.new }
     {
@@ -158,7 +158,7 @@ impl<'t, 'a> Reader<'t, 'a> {
         self.push_cell(Cell::Named { name, start })
     }
 
-    /// Behind the name of a bound of a `dyn`.
+    /// After the name of a bound of a `dyn`.
     fn bound_step(
         &mut self,
         dyn_start: usize,
@@ -179,7 +179,7 @@ impl<'t, 'a> Reader<'t, 'a> {
         self.bound_end(dyn_start, start, inner, name)
     }
 
-    /// Behind `&` and its lifetime.
+    /// After `&` and its lifetime.
     fn reference_step(&mut self, lifetime: Option<&'a [u8]>) -> Result<Next, LineError>
         ensures { ReaderSteps result (λ s out ts. reference_step s out (option_map text_of lifetime.entry) ts) self.old self.new }
     {
@@ -187,7 +187,7 @@ impl<'t, 'a> Reader<'t, 'a> {
         self.push_open(Open::Reference { lifetime, is_mut })
     }
 
-    /// Behind `&`.
+    /// After `&`.
     fn ampersand_step(&mut self) -> Result<Next, LineError>
         ensures { ReaderSteps result ampersand_step self.old self.new }
     {
@@ -195,7 +195,7 @@ impl<'t, 'a> Reader<'t, 'a> {
         self.reference_step(lifetime)
     }
 
-    /// Behind `*`.
+    /// After `*`.
     fn star_step(&mut self) -> Result<Next, LineError>
         ensures { ReaderSteps result star_step self.old self.new }
     {
@@ -206,7 +206,7 @@ impl<'t, 'a> Reader<'t, 'a> {
         }
     }
 
-    /// Behind the `(` of a tuple.
+    /// After the `(` of a tuple.
     fn tuple_step(&mut self) -> Result<Next, LineError>
         ensures { ReaderSteps result tuple_step self.old self.new }
     {
@@ -217,7 +217,7 @@ impl<'t, 'a> Reader<'t, 'a> {
         self.push_open(Open::Tuple { start })
     }
 
-    /// Behind the `)` of a fn.
+    /// After the `)` of a `fn`.
     fn inputs_end(&mut self, start: usize, inner: usize) -> Result<Next, LineError>
         ensures { ReaderSteps result (λ s out ts. inputs_end s out start inner ts) self.old self.new }
     {
@@ -227,7 +227,7 @@ impl<'t, 'a> Reader<'t, 'a> {
         self.push_cell(Cell::Fn { start, inner })
     }
 
-    /// Behind the `(` of a fn.
+    /// After the `(` of a `fn`.
     fn inputs_step(&mut self, start: usize) -> Result<Next, LineError>
         ensures { ReaderSteps result (λ s out ts. inputs_step s out start ts) self.old self.new }
     {
@@ -238,7 +238,7 @@ impl<'t, 'a> Reader<'t, 'a> {
         self.push_open(Open::Inputs { start, inner })
     }
 
-    /// Behind `fn`; the binder before it began at `start`.
+    /// After `fn`. The binder that precedes it began at `start`.
     fn fn_step(&mut self, start: usize) -> Result<Next, LineError>
         ensures { ReaderSteps result (λ s out ts. fn_step s out start ts) self.old self.new }
     {
@@ -248,7 +248,7 @@ impl<'t, 'a> Reader<'t, 'a> {
         }
     }
 
-    /// Behind the length of an array.
+    /// After the length of an array.
     fn length_end(&mut self, length: Length<'a>) -> Result<Next, LineError>
         ensures { ReaderSteps result (λ s out ts. length_end s out (length_of length.entry) ts) self.old self.new }
     {
@@ -258,7 +258,7 @@ impl<'t, 'a> Reader<'t, 'a> {
         }
     }
 
-    /// Behind the `;` of an array.
+    /// After the `;` of an array.
     fn length_step(&mut self) -> Result<Next, LineError>
         ensures { ReaderSteps result length_step self.old self.new }
     {
@@ -270,7 +270,7 @@ impl<'t, 'a> Reader<'t, 'a> {
         }
     }
 
-    /// Behind the type between brackets.
+    /// After the type between brackets.
     fn brackets_end(&mut self) -> Result<Next, LineError>
         ensures { ReaderSteps result brackets_end self.old self.new }
     {
@@ -281,7 +281,7 @@ impl<'t, 'a> Reader<'t, 'a> {
         }
     }
 
-    /// Behind the first comma of a tuple.
+    /// After the first comma of a tuple.
     fn second_step(&mut self, start: usize) -> Result<Next, LineError>
         ensures { ReaderSteps result (λ s out ts. second_step s out start ts) self.old self.new }
     {
@@ -291,7 +291,7 @@ impl<'t, 'a> Reader<'t, 'a> {
         self.push_open(Open::Items { start })
     }
 
-    /// Behind the first item of a tuple.
+    /// After the first item of a tuple.
     fn tuple_end(&mut self, start: usize) -> Result<Next, LineError>
         ensures { ReaderSteps result (λ s out ts. tuple_end s out start ts) self.old self.new }
     {
@@ -301,7 +301,7 @@ impl<'t, 'a> Reader<'t, 'a> {
         }
     }
 
-    /// Behind a further item of a tuple.
+    /// After a further item of a tuple.
     fn items_end(&mut self, start: usize) -> Result<Next, LineError>
         ensures { ReaderSteps result (λ s out ts. items_end s out start ts) self.old self.new }
     {
@@ -312,7 +312,7 @@ impl<'t, 'a> Reader<'t, 'a> {
         }
     }
 
-    /// Behind an input of a fn.
+    /// After an input of a `fn`.
     fn input_end(&mut self, start: usize, inner: usize) -> Result<Next, LineError>
         ensures { ReaderSteps result (λ s out ts. input_end s out start inner ts) self.old self.new }
     {
@@ -323,7 +323,7 @@ impl<'t, 'a> Reader<'t, 'a> {
         }
     }
 
-    /// One more name of a binder, or its end.
+    /// The next name of a binder, or its end.
     fn binder_step(&mut self) -> Result<bool, LineError>
         ensures binds { BindsNext result (more_binder self.old.cursor) more_binder
             (cells_in self.old.cells.items) (cells_in self.new.cells.items) self.new.cursor }
@@ -343,7 +343,7 @@ impl<'t, 'a> Reader<'t, 'a> {
         }
     }
 
-    /// The names of a binder behind `for`.
+    /// The names of a binder, after `for`.
     fn binder(&mut self) -> Result<(), LineError>
         ensures binds { Binds result (binder_at self.old.cursor)
             (λ b. binder_onto b (cells_in self.old.cells.items)) (cells_in self.new.cells.items) self.new.cursor }
@@ -378,7 +378,7 @@ impl<'t, 'a> Reader<'t, 'a> {
         Ok(())
     }
 
-    /// Behind `for`: a fn.
+    /// After `for`: a `fn`.
     fn bound_fn(&mut self) -> Result<Next, LineError>
         ensures { ReaderSteps result (λ s out ts. bound_fn s out (binder_at ts)) self.old self.new }
     {
@@ -390,7 +390,7 @@ impl<'t, 'a> Reader<'t, 'a> {
         }
     }
 
-    /// Behind `for`: a bound of a `dyn`.
+    /// After `for`: a bound of a `dyn`.
     fn bound_item(&mut self, dyn_start: usize) -> Result<Next, LineError>
         ensures { ReaderSteps result (λ s out ts. bound_item s out dyn_start (binder_at ts)) self.old self.new }
     {
@@ -402,7 +402,7 @@ impl<'t, 'a> Reader<'t, 'a> {
         }
     }
 
-    /// A lifetime or a number, which has to be an argument.
+    /// A lifetime or a number, which must be an argument.
     fn argument(&mut self, cell: Cell<'a>) -> Result<Next, LineError>
         ensures { ReaderSteps result (λ s out ts. arg_end s (out ++ cell_of cell.entry ∷ []) ts) self.old self.new }
     {
@@ -410,7 +410,7 @@ impl<'t, 'a> Reader<'t, 'a> {
         self.arg_end()
     }
 
-    /// Behind the sign that begins a type.
+    /// After the sign that begins a type.
     fn sign_step(&mut self, first: Sign) -> Result<Next, LineError>
         ensures { ReaderSteps result (λ s out ts. open_step s out (sign (sign_of first) ∷ ts)) self.old self.new }
     {
@@ -424,7 +424,7 @@ impl<'t, 'a> Reader<'t, 'a> {
         }
     }
 
-    /// Behind the keyword that begins a type.
+    /// After the keyword that begins a type.
     fn keyword_step(&mut self, first: Keyword) -> Result<Next, LineError>
         ensures { ReaderSteps result (λ s out ts. open_step s out (keyword (keyword_of first) ∷ ts)) self.old self.new }
     {
@@ -437,7 +437,7 @@ impl<'t, 'a> Reader<'t, 'a> {
         }
     }
 
-    /// What begins a type.
+    /// The first token of a type.
     fn open_step(&mut self) -> Result<Next, LineError>
         ensures { ReaderSteps result open_step self.old self.new }
     {
@@ -469,7 +469,7 @@ impl<'t, 'a> Reader<'t, 'a> {
         }
     }
 
-    /// Behind a type, inside this part, which was on top of the stack.
+    /// After a type inside this part, which was on top of the stack.
     fn close_step(&mut self, part: Open<'a>) -> Result<Next, LineError>
         ensures { ReaderSteps result (λ s out ts. close_step (open_of part.entry ∷ s) out ts) self.old self.new }
     {
@@ -494,7 +494,7 @@ impl<'t, 'a> Reader<'t, 'a> {
         }
     }
 
-    /// One step; nothing is to come behind the last type.
+    /// One step. Returns `None` after the last type.
     fn turn(&mut self, next: Next) -> Result<Option<Next>, LineError>
         ensures { Turns result (step (state_in next self.old)) self.new }
     {
@@ -508,7 +508,7 @@ impl<'t, 'a> Reader<'t, 'a> {
         }
     }
 
-    /// The rest of a type.
+    /// Reads the rest of a type.
     fn run(&mut self) -> Result<(), LineError>
         ensures { ReaderEnds result (begun self.old) (cells_in self.new.cells.items) self.new.cursor }
     {
@@ -523,30 +523,28 @@ impl<'t, 'a> Reader<'t, 'a> {
 /// A type that was read.
 #[derive(Drop)]
 pub struct TypeRead<'t, 'a> {
-    /// The cells that were there before, and then those of the type.
+    /// The given cells, and then those of the type.
     pub cells: Vec<Cell<'a>>,
-    /// At the tokens behind the type.
+    /// The tokens after the type.
     pub left: Cursor<'t, 'a>,
 }
 
-/// Reads the type at the front of the tokens, and puts its cells behind those that are there. It reads as far as a type can go: a `<`
-/// behind its last name, a `+` behind an item of its last `dyn` and a `->` behind its last fn belong to it. However deep the type is
-/// nested, nothing recurses.
+/// Reads the type at the front of the tokens, and appends its cells. It reads as far as a type can extend: a `<` after its last name, a
+/// `+` after an item of its last `dyn` and a `->` after its last `fn` belong to it. It does not recurse, however deep the type is.
 ///
-/// The error is `Syntax` where no type stands at the front, and `Memory` where a request for memory was refused; then cursor and cells
-/// are gone.
+/// Fails with `Syntax` if no type is at the front, and with `Memory` if memory is refused. Cursor and cells are dropped then.
 pub fn read_type<'t, 'a>(
     alloc: Global,
     cursor: Cursor<'t, 'a>,
     cells: Vec<Cell<'a>>,
 ) -> Result<TypeRead<'t, 'a>, LineError>
-    // What is read is spelled so.
+    // If a type is returned, the tokens spell it.
     ensures found { IfOk result (λ r. SpellsType cursor.entry (cells_in cells.entry.items) (cells_in r.cells.items) r.left) }
-    // What is spelled so is read, unless memory runs out.
+    // If the tokens spell a type, it is returned, unless memory is refused.
     ensures only { IfSpelled cursor.entry (λ t rest. IfOk result (λ r. ReadsType t (cells_in cells.entry.items) (cells_in r.cells.items) rest r.left)) }
-    // Nothing is refused that spells a type.
+    // The error is `Syntax` only if the tokens spell no type.
     ensures refused { IsErrOf result LineError.Syntax → IfSpelled cursor.entry (λ t rest. ⊥) }
-    // All of this at once: what is returned is what the function of the definitions gives.
+    // All of this in one clause: the function of the definitions gives the result.
     ensures reads { GivesType result (type_read (cells_in cells.entry.items) cursor.entry) }
 {
     let mut reader = Reader {
