@@ -1,4 +1,4 @@
--- What the calls of a walk answer.
+-- The results of the orphan check and of knowability, from the steps of their walks.
 use Rattle.std.specs.Prelude.{◌≡◌, ◌⊎◌, ℕ, Bool, true, false, List, Option, Some, None, Result, Ok, Err}
 use Rattle.type_terms.specs.Promised.Trees.{Trees}
 use Rattle.type_terms.specs.Promised.Handles.{Entry, trees_at}
@@ -23,24 +23,24 @@ Passes k (Some (met_local t)) = Unit {0}
 Passes Remote (Some (met_open t)) = Unit {0}
 Passes k s = ⊥
 
--- The first local type of a second walk, which a refusal ends without one.
+-- The result of the second walk is its first local type. There is none if the normalizer fails before it.
 abbrev pub IsLocalType : {E : Type 0} → List Entry → Option Ty → Option (Step E) → Type 0
 IsLocalType es (Some t) (Some (met_local u)) = u ≡ trees_at es t.0
 IsLocalType es None None = Unit {0}
 IsLocalType es None (Some (refused e)) = Unit {0}
 IsLocalType es t s = ⊥
 
--- The type lies deeper than the limit.
+-- The walk ends at a type that is nested deeper than the limit.
 abbrev pub IsDeep : {E : Type 0} → Option (Step E) → Type 0
 IsDeep (Some (too_deep t first)) = Unit {0}
 IsDeep s = ⊥
 
--- An open place ends the walk of the crate that asks.
+-- The walk in `Local` ends at this uncovered type.
 abbrev pub IsUncovered : {E : Type 0} → InCrate → Option (Step E) → Trees → Type 0
 IsUncovered (Local mode) s t = s ≡ Some (met_open t)
 IsUncovered Remote s t = ⊥
 
--- A type lies deeper than the limit before anything decides, or behind an uncovered place before the first local type.
+-- A type is nested deeper than the limit. The first walk ends there, or the second one, which follows an uncovered type.
 abbrev pub IsTooDeep : {E : Type 0} → InCrate → List (Step E) → Type 0
 IsTooDeep k ss = IsDeep (first_end ss) ⊎ ((t : Trees) × IsUncovered k (first_end ss) t × IsDeep (second_end ss))
 
@@ -57,11 +57,11 @@ IsOrphanAnswer es k ss (Err Memory) = Unit {0}
 abbrev pub IsOrphanBy : {E : Type 0} → List Entry → Items → Table → (Trees → Result Trees E) → InCrate → ℕ → TraitRef → Result (Result (Unit {0}) (OrphanCheckErr Ty)) (WalkError E) → Type 0
 IsOrphanBy es d t f k limit r a = IsOrphanAnswer es k (steps (reading es d t f k) limit (trees_at es r.args.0)) a
 
--- No type passes, and none is uncovered or refused: the first walk ran out.
+-- The first walk visits all types. None is local or uncovered, and the normalizer fails for none.
 abbrev pub RanOut : {E : Type 0} → List (Step E) → Type 0
 RanOut ss = first_end ss ≡ None
 
--- No local type comes first: all types are of others, or an open place is met.
+-- No local type ends the walk. It ends at an uncovered type, or visits all types.
 abbrev pub IsBarred : {E : Type 0} → Option (Step E) → Type 0
 IsBarred None = Unit {0}
 IsBarred (Some (met_open t)) = Unit {0}

@@ -1,4 +1,4 @@
--- What decides a walk of a reference as it is written, with no value of a variable in its place.
+-- The kind of type that ends an orphan walk, if values of variables are not read.
 use Rattle.std.specs.Prelude.{Bool, true, false, List, [], ◌∷◌, Option, Some, None}
 use Rattle.type_terms.specs.Promised.Trees.{Trees}
 use Rattle.type_terms.specs.Promised.Walks.{Met, local, open_place, visited}
@@ -9,18 +9,18 @@ use Rattle.orphan_check.specs.declared.decisive.Decisive.TheVariants.{Local, Unc
 use Rattle.orphan_check.specs.declared.errors.InCrate.{InCrate}
 use Rattle.orphan_check.specs.Steps.{home_in}
 
--- The first of what a walk meets that decides: a local type, or an open place.
+-- The first visited type that ends the walk: a local or an uncovered one.
 abbrev pub first_decisive : List Met → Option Decisive
 first_decisive [] = None
 first_decisive (local ∷ ms) = Some Local
 first_decisive (open_place ∷ ms) = Some Uncovered
 first_decisive (m ∷ ms) = first_decisive ms
 
--- What decides the walk of these trees among these declarations.
+-- The kind of type that ends the walk of these arguments, by these declarations.
 abbrev pub decisive_in : List Entry → Items → InCrate → Trees → Option Decisive
 decisive_in es d k t = first_decisive (visited (declared es d) (home_in d.local k) t)
 
--- An open place decides.
+-- The walk ends at an uncovered type.
 abbrev pub is_uncovered : Option Decisive → Bool
 is_uncovered (Some Uncovered) = true
 is_uncovered (Some Local) = false

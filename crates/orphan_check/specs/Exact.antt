@@ -1,5 +1,5 @@
--- What the calls answer where nothing has to be normalized, in the words of the walk of a reference with the values of its
--- variables.
+-- The results of the public functions if the normalizer returns its input: they are those of the promised orphan walk, with the values of
+-- variables put in.
 use Rattle.std.specs.Prelude.{◌≡◌, ℕ, ◌<◌, Bool, true, false, List, map, Some, None, Result, Ok, Err}
 use Rattle.std.specs.Option.{option_map}
 use Rattle.type_terms.specs.Promised.Trees.{Trees}
@@ -25,22 +25,23 @@ use Rattle.orphan_check.specs.Promised.Errors.{is_first}
 use Rattle.type_terms.specs.Promised.OrphanErrors.{OrphanError, nonlocal, uncovered, items, foreign_leaves, orphan_error}
 use Rattle.orphan_check.specs.Knowing.{meets_open, is_knowable, is_written_in}
 
--- A normalizer that answers its input.
+-- The normalizer returns its input.
 abbrev pub AnswersItsInput : {E : Type 0} → (Trees → Result Trees E) → Type 0
 AnswersItsInput f = (t : Trees) → f t ≡ Ok t
 
--- The reference with the values of its variables in their places.
+-- A trait reference with the values of its variables put in.
 abbrev pub reference_read : List Entry → Table → TraitRef → Reference
 reference_read es t r = record { trait = r.def_id.index; args = resolved (content es t.values) (trees_at es r.args.0) }
 
--- A type, with the values of its variables.
+-- A type with the values of its variables put in.
 abbrev pub type_read : List Entry → Table → Ty → Trees
 type_read es t x = resolved (content es t.values) (trees_at es x.0)
+-- A list of types with flags, with the values of variables put in.
 
 abbrev pub leaves_read : List Entry → Table → List (Ty × IsFirstInputType) → List (Trees × Bool)
 leaves_read es t ps = map (λ p. (type_read es t p.0, is_first p.1)) ps
 
--- The error, with the values of variables.
+-- An orphan error with the values of variables put in.
 abbrev pub error_read : List Entry → Table → OrphanCheckErr Ty → OrphanError
 error_read es t (NonLocalInputType v) = nonlocal (leaves_read es t v.items)
 error_read es t (UncoveredTyParams u) = uncovered (type_read es t u.uncovered) (option_map (type_read es t) u.local_ty)

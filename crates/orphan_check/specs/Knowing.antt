@@ -1,4 +1,4 @@
--- Which references that may hold unknowns are known to a crate: those of which no other crate can have an impl for an instance.
+-- Which trait references with variables are knowable: no crate outside the view can have an impl for an instance.
 use Rattle.std.specs.Prelude.{ℕ, Bool, true, not, ◌&&◌, ◌||◌, ◌==◌, List, None, Result}
 use Rattle.std.specs.List.{list_any, list_all}
 use Rattle.type_terms.specs.Promised.Worlds.{World, Reference}
@@ -16,15 +16,16 @@ use Rattle.orphan_check.specs.declared.errors.InCrate.TheVariants.{Local, Remote
 use Rattle.orphan_check.specs.Steps.{reading, steps}
 use Rattle.orphan_check.specs.Answers.{IsKnowableAnswer}
 
--- The open walk of the reference visits a parameter, a variable, a placeholder or a bound type.
+-- The open walk visits an uncovered type: a parameter, an inference variable, a placeholder or a bound type.
 abbrev pub meets_open : World → Reference → Bool
 meets_open V r = list_any is_open_place (visited V None r.args)
 
--- Known as it is written, and no open place is visited: else a crate that uses this one may write its own type there.
+-- The view alone makes it knowable, and the open walk visits no uncovered type. For `&?x: Local`, a crate that uses this one may have an
+-- impl with a type of its own for `?x`.
 abbrev pub is_knowable : World → ℕ → Reference → Bool
 is_knowable V c r = is_known_in V c r && not (meets_open V r)
 
--- What the open walk of the reference meets is declared, and so is its trait.
+-- The trait is declared, and so are the structs and traits that the open walk visits.
 abbrev pub is_written_in : World → Reference → Bool
 is_written_in V r = trait_is (λ _. true) V r.trait && list_all (item_in V) (open_walk V r)
 

@@ -1,2 +1,2 @@
--- What the promises of the calls rest on.
+-- The definitions that promises of this crate use.
 pub mod Errors

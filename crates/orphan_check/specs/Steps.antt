@@ -1,4 +1,4 @@
--- The steps of a walk that reads types by the values of variables and by a normalizer, down to a limit.
+-- The steps of an orphan walk that reads values of variables, applies a normalizer and has a limit of depth.
 use Rattle.std.specs.Prelude.{ℕ, zero, suc, Bool, true, false, if◌then◌else◌, List, [], ◌∷◌, ◌++◌, Option, Some, None, Result, Ok, Err}
 use Rattle.type_terms.specs.Promised.Label.{of_type}
 use Rattle.type_terms.specs.Promised.Trees.{Trees, none, tree, is_sort, sort_of}
@@ -20,7 +20,7 @@ pub record Reading (E : Type 0) : Type 0 where
   pub values : List Binding
   pub answers : Trees → Result Trees E
 
--- In the walk of another crate nothing is local.
+-- The crate whose items are local. In `Remote` there is none.
 abbrev pub home_in : ℕ → InCrate → Option ℕ
 home_in c (Local mode) = Some c
 home_in c Remote = None
@@ -28,24 +28,28 @@ home_in c Remote = None
 abbrev pub reading : {E : Type 0} → List Entry → Items → Table → (Trees → Result Trees E) → InCrate → Reading E
 reading es d t f k = record { view = declared es d; home = home_in d.local k; values = content es t.values; answers = f }
 
--- One step: the normalizer refused a type; a type lies deeper than the limit; a type was entered; or it was met as local, as an
--- open place, or as a leaf.
+-- One step:
+-- - `refused`: the normalizer fails for a type,
+-- - `too_deep`: a type is nested deeper than the limit,
+-- - `entered`: a type is entered,
+-- - `met_local`, `met_open`, `met_foreign`: a type is local, uncovered or non-local.
+-- What a walk reads, from the data of its context.
 pub data Step (E : Type 0) : Type 0 where
   refused : E → Step E
   too_deep met_foreign : Trees → Bool → Step E
   entered : Step E
   met_local met_open : Trees → Step E
 
--- A type is read as the normalizer answers it, or as it is where that is a variable.
+-- A type is read as the normalizer returns it, or as it was if the normalizer returns a variable.
 abbrev pub settled : {E : Type 0} → Trees → Result Trees E → Result Trees E
 settled t (Ok u) = if is_open_leaf u then Ok t else Ok u
 settled t (Err e) = Err e
 
--- The normalizer is handed the type with the value of a variable in its place.
+-- The normalizer gets the value of a variable in place of the variable.
 abbrev pub read : {E : Type 0} → Reading E → Trees → Result Trees E
 read r t = settled (followed r.values t) (r.answers (followed r.values t))
 
--- The steps of the types of a list, of which the first may be the first of all.
+-- The steps of the types of a list. `first`: its first type is the first input type.
 abbrev pub steps_in : {E : Type 0} → (Bool → Trees → List (Step E)) → Bool → Trees → List (Step E)
 steps_in go first none = []
 steps_in go first (tree l c o) = if is_sort (sort_of l) of_type then go first (tree l c none) ++ steps_in go false o else steps_in go first o
@@ -55,29 +59,31 @@ step_of local_type t first inner = met_local t ∷ []
 step_of open_type t first inner = met_open t ∷ []
 step_of leaf_type t first inner = met_foreign t first ∷ []
 step_of passage t first inner = entered ∷ inner
+-- The steps of a type of this look. `inner` are the steps of the types in it.
 
 abbrev pub steps_at : {E : Type 0} → (Bool → Trees → List (Step E)) → Reading E → Bool → Result Trees E → List (Step E)
 steps_at go r first (Ok none) = []
 steps_at go r first (Ok (tree l c o)) = step_of (look r.view r.home l c) (tree l c o) first (steps_in go first c)
 steps_at go r first (Err e) = refused e ∷ []
 
--- The steps at a type, in which so many types may lie in one another.
+-- The steps of a type that was read so.
+-- The steps of a type, down to a number of levels that includes its own.
 abbrev pub steps_to : {E : Type 0} → Reading E → ℕ → Bool → Trees → List (Step E)
 steps_to r zero first t = too_deep t first ∷ []
 steps_to r (suc n) first t = steps_at (λ f u. steps_to r n f u) r first (read r t)
 
--- The steps at all arguments.
+-- The steps of all arguments.
 abbrev pub steps : {E : Type 0} → Reading E → ℕ → Trees → List (Step E)
 steps r limit args = steps_in (λ f u. steps_to r limit f u) true args
 
--- What ends a first walk: all but a leaf.
+-- The step that ends the first walk: any but `entered` and `met_foreign`.
 abbrev pub first_end : {E : Type 0} → List (Step E) → Option (Step E)
 first_end [] = None
 first_end (entered ∷ ss) = first_end ss
 first_end (met_foreign t first ∷ ss) = first_end ss
 first_end (s ∷ ss) = Some s
 
--- What ends a second walk, which looks for a local type alone.
+-- The step that ends the second walk, which does not end at uncovered types.
 abbrev pub second_end : {E : Type 0} → List (Step E) → Option (Step E)
 second_end [] = None
 second_end (entered ∷ ss) = second_end ss
@@ -85,7 +91,7 @@ second_end (met_foreign t first ∷ ss) = second_end ss
 second_end (met_open t ∷ ss) = second_end ss
 second_end (s ∷ ss) = Some s
 
--- The leaves.
+-- The non-local types, with their flags.
 abbrev pub leaves : {E : Type 0} → List (Step E) → List (Trees × Bool)
 leaves [] = []
 leaves (met_foreign t first ∷ ss) = (t, first) ∷ leaves ss

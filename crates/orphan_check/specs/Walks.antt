@@ -1,4 +1,4 @@
--- What the parts of a walk answer.
+-- The results of the parts of an orphan walk.
 use Rattle.std.specs.Prelude.{◌≡◌, ◌⊎◌, ℕ, Bool, true, false, List, [], ◌∷◌, ◌++◌, Option, Some, None, Result, Ok, Err}
 use Rattle.type_terms.specs.Promised.Trees.{Trees, none, tree, ◌+++◌}
 use Rattle.type_terms.specs.Promised.Worlds.{World}
@@ -27,7 +27,7 @@ use Rattle.orphan_check.specs.Promised.Errors.{is_first}
 use Rattle.orphan_check.specs.Flags.{leaves_in}
 use Rattle.orphan_check.specs.Steps.{Reading, Step, refused, too_deep, entered, met_local, met_open, met_foreign, home_in, reading, steps_in, steps_to, first_end, second_end, leaves}
 
--- The type is taken as it looks; what is entered is there with its arguments.
+-- The case of a type is that of its look. The type or the arguments to visit next are those in it.
 abbrev pub IsTaken : List Entry → World → Option ℕ → Trees → Taken → Type 0
 IsTaken es V d none k = ⊥
 IsTaken es V d (tree l c o) Local = look V d l c ≡ local_type
@@ -37,15 +37,16 @@ IsTaken es V d (tree l c o) (Reference to) = (look V d l c ≡ passage) × Has e
 IsTaken es V d (tree l c o) (Fundamental args) = (look V d l c ≡ passage) × Has es args_lists args.0 × (c ≡ trees_at es args.0)
 
 abbrev pub IsTakenIn : List Entry → Items → InCrate → Trees → Taken → Type 0
+-- The same by these declarations.
 IsTakenIn es d k t x = IsTaken es (declared es d) (home_in d.local k) t x
 
--- A type is read so, or refused.
+-- The type that a walk reads, or the error of the normalizer.
 abbrev pub TypeIsRead : {E : Type 0} → List Entry → Result Trees E → Result Ty (WalkError E) → Type 0
 TypeIsRead es u (Ok t) = (u ≡ Ok (trees_at es t.0)) × Has es types t.0
 TypeIsRead es u (Err (Normalize e)) = u ≡ Err e
 TypeIsRead es u (Err x) = ⊥
 
--- Where a walk reads, with what its normalizer answers.
+-- What a walk reads.
 abbrev pub reads : {N E : Type 0} → (N → Trees → Result Trees E) → Walk N → Reading E
 reads answers w = reading w.cx.now.entries w.decls.now w.infcx.now (answers w.normalize.now) w.in_crate
 
@@ -53,7 +54,7 @@ reads answers w = reading w.cx.now.entries w.decls.now w.infcx.now (answers w.no
 abbrev pub ArePending : List Entry → List Pending → Type 0
 ArePending es ps = Each (λ p. Has es types p.ty.0) ps
 
--- The steps at the types that wait, the last of which comes first, and then further ones.
+-- The steps of the pending types, the last one first, and then the steps ss.
 abbrev pub steps_before : {E : Type 0} → List Entry → Reading E → List Pending → List (Step E) → List (Step E)
 steps_before es r [] ss = ss
 steps_before es r (p ∷ ps) ss = steps_before es r ps (steps_to r p.limit (is_first p.first) (trees_at es p.ty.0) ++ ss)
@@ -61,11 +62,12 @@ steps_before es r (p ∷ ps) ss = steps_before es r ps (steps_to r p.limit (is_f
 abbrev pub pending_steps : {E : Type 0} → List Entry → Reading E → List Pending → List (Step E)
 pending_steps es r ps = steps_before es r ps []
 
--- The steps at types that were put on the stack come first.
+-- The steps of the types of `args`, which were pushed, come before those of the types that were pending.
 abbrev pub ArePushed : {E : Type 0} → List Entry → Reading E → ℕ → Bool → Trees → List Pending → List Pending → Type 0
+-- The steps of the pending types.
 ArePushed es r limit first args old new = pending_steps es r new ≡ steps_in (λ f u. steps_to r limit f u) first args ++ pending_steps es r old
 
--- What was put on the stack lies above what was there, and from it on so many types may lie in one another.
+-- Pending types were only added, and all of these have this limit.
 abbrev pub AreOnTop : ℕ → List Pending → List Pending → Type 0
 AreOnTop limit old new = (above : List Pending) × (new ≡ old ++ above) × Each (λ p. p.limit ≡ limit) above
 
@@ -74,19 +76,20 @@ step_met es Entered = entered
 step_met es (MetLocal t) = met_local (trees_at es t.0)
 step_met es (MetUncovered t) = met_open (trees_at es t.0)
 step_met es (MetNonLocal t first) = met_foreign (trees_at es t.0) (is_first first)
+-- The result of one visit as a step.
 
--- The first step of a list, and the others.
+-- `before` begins with this step, and the other steps are `after`.
 abbrev pub IsFirstStep : {E : Type 0} → List Entry → List (Step E) → Result Met (WalkError E) → List (Step E) → Type 0
 IsFirstStep es before (Ok m) after = before ≡ step_met es m ∷ after
 IsFirstStep {E} es before (Err (Normalize e)) after = (rest : List (Step E)) × (before ≡ refused e ∷ rest)
 IsFirstStep {E} es before (Err Deep) after = (t : Trees) × (first : Bool) × (rest : List (Step E)) × (before ≡ too_deep t first ∷ rest)
 IsFirstStep es before (Err Memory) after = Unit {0}
 
--- The first step at a type that comes before those that wait.
+-- A visit makes the first step of its type. Its other steps come before those of the pending types.
 abbrev pub IsVisit : {E : Type 0} → List Entry → Reading E → Pending → List Pending → Result Met (WalkError E) → List Pending → Type 0
 IsVisit es r p old x new = IsFirstStep es (steps_to r p.limit (is_first p.first) (trees_at es p.ty.0) ++ pending_steps es r old) x (pending_steps es r new)
 
--- The first step of a list, if there is one, and the others.
+-- The same for the next pending type, if there is one.
 abbrev pub IsStep : {E : Type 0} → List Entry → List (Step E) → Result (Option Met) (WalkError E) → List (Step E) → Type 0
 IsStep es before (Ok None) after = before ≡ []
 IsStep es before (Ok (Some m)) after = before ≡ step_met es m ∷ after
@@ -94,7 +97,7 @@ IsStep {E} es before (Err (Normalize e)) after = (rest : List (Step E)) × (befo
 IsStep {E} es before (Err Deep) after = (t : Trees) × (first : Bool) × (rest : List (Step E)) × (before ≡ too_deep t first ∷ rest)
 IsStep es before (Err Memory) after = Unit {0}
 
--- What ends a first walk; where nothing does, these are all leaves.
+-- The end of the first walk. Without an end these are the non-local types.
 abbrev pub IsFirstEnd : {E : Type 0} → List Entry → List (Step E) → Result End (WalkError E) → Type 0
 IsFirstEnd es ss (Ok EndLocal) = (t : Trees) × (first_end ss ≡ Some (met_local t))
 IsFirstEnd es ss (Ok (EndUncovered t)) = first_end ss ≡ Some (met_open (trees_at es t.0))
@@ -103,7 +106,7 @@ IsFirstEnd es ss (Err (Normalize e)) = first_end ss ≡ Some (refused e)
 IsFirstEnd es ss (Err Deep) = (t : Trees) × (first : Bool) × (first_end ss ≡ Some (too_deep t first))
 IsFirstEnd es ss (Err Memory) = Unit {0}
 
--- What ends a second walk: a local type, or none where the steps run out or a type is refused.
+-- The end of the second walk: a local type, or none if the steps run out or the normalizer fails.
 abbrev pub IsSecondEnd : {E : Type 0} → List Entry → List (Step E) → Result (Option Ty) (WalkError E) → Type 0
 IsSecondEnd es ss (Ok (Some t)) = second_end ss ≡ Some (met_local (trees_at es t.0))
 IsSecondEnd {E} es ss (Ok None) = (second_end ss ≡ None) ⊎ ((e : E) × (second_end ss ≡ Some (refused e)))
@@ -111,7 +114,7 @@ IsSecondEnd es ss (Err (Normalize e)) = ⊥
 IsSecondEnd es ss (Err Deep) = (t : Trees) × (first : Bool) × (second_end ss ≡ Some (too_deep t first))
 IsSecondEnd es ss (Err Memory) = Unit {0}
 
--- What decides a walk: a local type or an open place, or nothing where the steps run out.
+-- The kind of type that ends a walk: local or uncovered, or none if the steps run out.
 abbrev pub IsDecisive : {E : Type 0} → List (Step E) → Result (Option Decisive) (WalkError E) → Type 0
 IsDecisive ss (Ok (Some DecidesLocal)) = (t : Trees) × (first_end ss ≡ Some (met_local t))
 IsDecisive ss (Ok (Some DecidesOpen)) = (t : Trees) × (first_end ss ≡ Some (met_open t))
@@ -120,7 +123,7 @@ IsDecisive ss (Err (Normalize e)) = first_end ss ≡ Some (refused e)
 IsDecisive ss (Err Deep) = (t : Trees) × (first : Bool) × (first_end ss ≡ Some (too_deep t first))
 IsDecisive ss (Err Memory) = Unit {0}
 
--- A local type decides, and no open place.
+-- The walk ends at a local type.
 abbrev pub is_local : Option Decisive → Bool
 is_local (Some DecidesLocal) = true
 is_local (Some DecidesOpen) = false

@@ -1,4 +1,4 @@
--- Worked cases of the orphan check and of known references, computed from the definitions.
+-- Worked cases of the orphan check and of knowability. Each is computed from the definitions.
 use Rattle.std.specs.Prelude.{◌≡◌, ℕ, Bool, true, false, [], ◌∷◌, Some, None}
 use Rattle.type_terms.specs.Promised.Label.{of_type, bool, tuple, dynamic, static, uint, adt, ref, principal, infer}
 use Rattle.type_terms.specs.Promised.Trees.{Trees, none, tree, leaf, ◌+++◌}
@@ -7,14 +7,16 @@ use Rattle.type_terms.specs.Promised.Walks.{is_known_in}
 use Rattle.type_terms.specs.Promised.OrphanErrors.{nonlocal, uncovered, orphan_error}
 use Rattle.orphan_check.specs.Knowing.{meets_open, is_knowable}
 
+-- Struct s of a crate.
 abbrev pub struct : ℕ → ℕ → Bool → StructDecl
 struct s home fundamental = record { name = s; home = home; is_fundamental = fundamental; fields = [] }
 
+-- Trait t of a crate.
 abbrev pub trait : ℕ → ℕ → TraitDecl
 trait t home = record { name = t; home = home; is_fundamental = false; is_auto = false; bounds = [] }
 
--- Crate 1 declares `struct Vec<T>; fundamental struct Box<T>; fundamental struct Pair<T, U>; trait Num; trait Tr<U>`, and crate 2,
--- which sees it, `struct Loc<T>; fundamental struct Own<T>; trait Mine`.
+-- Crate 1 has `struct Vec<T>; fundamental struct Box<T>; fundamental struct Pair<T, U>; trait Num; trait Tr<U>`. Crate 2 uses it, and has
+-- `struct Loc<T>; fundamental struct Own<T>; trait Mine`.
 abbrev pub shop : World
 shop =
     record {
@@ -42,7 +44,7 @@ own t = tree (adt 4) t none
 abbrev pub reference_to : Trees → Trees
 reference_to t = tree (ref false) (leaf static +++ t) none
 
--- `u8`, `bool`, a variable, and `dyn Mine`.
+-- `u8`, `bool`, `?0` and `dyn Mine`.
 abbrev pub u8 : Trees
 u8 = leaf (uint 0)
 
@@ -55,39 +57,40 @@ unknown = leaf (infer of_type 0)
 abbrev pub dyn_mine : Trees
 dyn_mine = tree dynamic (tree (principal 0 2) none (leaf static)) none
 
--- Which headers keep the rule of crate 2, and why the others break it.
+-- Headers in crate 2, each with its orphan error. The variable stands for T.
 pub record Headers : Type 0 where
-  -- `impl<T> Tr<Loc<T>> for Vec<T>`: Vec isn't entered
+  -- `impl<T> Tr<Loc<T>> for Vec<T>`: Vec covers T
   pub behind_a_leaf : orphan_error shop 2 (vec unknown +++ loc unknown) ≡ None
-  -- `impl<T> Tr<Loc<T>> for Box<T>`: Box is
+  -- `impl<T> Tr<Loc<T>> for Box<T>`: Box does not
   pub behind_a_place : orphan_error shop 2 (boxed unknown +++ loc unknown) ≡ Some (uncovered unknown (Some (loc unknown)))
-  -- `impl<T> Num for Box<Vec<Loc<T>>>`
+  -- `impl<T> Num for Box<Vec<Loc<T>>>`: Vec is not entered
   pub inside_a_leaf : orphan_error shop 2 (boxed (vec (loc unknown))) ≡ Some (nonlocal ((vec (loc unknown), true) ∷ []))
-  -- `impl Num for (u8, bool)`: a tuple isn't entered
+  -- `impl Num for (u8, bool)`: a tuple is not entered
   pub tuples : orphan_error shop 2 (tree tuple (u8 +++ truth) none) ≡ Some (nonlocal ((tree tuple (u8 +++ truth) none, true) ∷ []))
-  -- `impl Tr<u8> for &bool`: by the second leaf a type has been left
+  -- `impl Tr<u8> for &bool`: bool is the first input type, and u8 is not
   pub references : orphan_error shop 2 (reference_to truth +++ u8) ≡ Some (nonlocal ((truth, true) ∷ (u8, false) ∷ []))
-  -- `impl Num for Pair<u8, bool>`
+  -- `impl Num for Pair<u8, bool>`: u8 is the first input type, and bool is not
   pub flags : orphan_error shop 2 (pair u8 truth) ≡ Some (nonlocal ((u8, true) ∷ (truth, false) ∷ []))
-  -- `impl<T> Num for Pair<Loc<T>, T>`: what stands behind the local type isn't looked at
+  -- `impl<T> Num for Pair<Loc<T>, T>`: the walk ends at the local type, before T
   pub first_decides : orphan_error shop 2 (pair (loc unknown) unknown) ≡ None
-  -- `impl Num for dyn Mine`, and in crate 1, which has Num, the same
+  -- `impl Num for dyn Mine`: Mine is local to crate 2, and not to crate 1
   pub principals : orphan_error shop 2 dyn_mine ≡ None
   pub of_others : orphan_error shop 1 dyn_mine ≡ Some (nonlocal ((dyn_mine, true) ∷ []))
 
--- What is asked of Num, in crate 2.
+-- A trait reference to Num.
 abbrev pub num : Trees → Reference
 num t = record { trait = 0; args = t }
 
+-- Which trait references to Num are knowable for crate 2.
 pub record KnownRow : Type 0 where
-  -- `u8: Num`: crate 1 may add it
+  -- `u8: Num` is not knowable: crate 1 may add the impl
   pub upstream : is_known_in shop 2 (num u8) ≡ false
   pub upstream_is_closed : meets_open shop (num u8) ≡ false
-  -- `&?x: Num`: a crate that uses this one may
+  -- `&?x: Num` is not: a crate that uses crate 2 may have an impl for `&Theirs`
   pub downstream : meets_open shop (num (reference_to unknown)) ≡ true
-  -- `Loc<u8>: Num`, and `Loc<?x>: Num`, since Loc isn't entered
+  -- `Loc<u8>: Num` is knowable, and so is `Loc<?x>: Num`, because Loc covers `?x`
   pub own_type : is_knowable shop 2 (num (loc u8)) ≡ true
   pub own_type_open : is_knowable shop 2 (num (loc unknown)) ≡ true
-  -- `Own<?x>: Num`: a crate that uses this one may write it for its own type in the fundamental struct
+  -- `Own<?x>: Num` is not: a crate that uses crate 2 may have an impl for `Own<Theirs>`. `Own<u8>: Num` is
   pub own_fundamental_open : meets_open shop (num (own unknown)) ≡ true
   pub own_fundamental : is_knowable shop 2 (num (own u8)) ≡ true

@@ -1,4 +1,5 @@
-//! `IsFirstInputType` as a leaf of visits and folds: it holds no term, so a visit passes it over and a fold leaves it.
+//! Visits and folds of `IsFirstInputType`. It contains no term: a visit skips it, and a fold returns it unchanged. rustc:
+//! `TrivialTypeTraversalImpls`.
 use crate::errors::IsFirstInputType;
 use std::alloc::Global;
 use std::ops::ControlFlow;

@@ -1,4 +1,4 @@
-//! Which references are known to a crate.
+//! Which trait references are knowable: no crate outside the view can have an impl for them.
 ghost use Rattle.std.specs.Prelude.{◌≡◌};
 ghost use Rattle.type_terms.specs.Promised.Handles.{Has, trees_at};
 ghost use Rattle.type_terms.specs.Terms.{args_lists};
@@ -19,13 +19,20 @@ use term_folds::predicate::TraitRef;
 use type_terms::interner::Interner;
 use type_terms::kinds::GenericArgs;
 
-/// Whether all impls that could apply to the reference are known to the crate that asks (`trait_ref_is_knowable`).
+/// Returns whether all impls that could apply to the trait reference are in this crate's view, today and in later versions of the crates
+/// that it uses.
 ///
-/// `Downstream` where a crate that uses this one may write an impl, since it may put a type of its own into an open place.
-/// `Upstream` where the trait's crate may add one without breaking this crate, since the trait is neither this crate's nor
-/// fundamental, and no type of this crate comes first. The errors are those of `orphan_check_trait_ref`.
+/// The first case that applies decides. `Local` and `LocalTy` are of this crate, and `Foreign` is not.
 ///
-/// No leaf is listed, so a type that was visited at the same depth before is passed over.
+/// 1. The orphan check passes in `InCrate::Remote`: `Downstream`. For `&?x: Local` or `Box<?x>: Foreign`, a crate that uses this one may
+///    have an impl for `&Theirs` or `Box<Theirs>`.
+/// 2. The trait is local or fundamental: knowable. No crate outside the view may have an impl for `Vec<?x>: Local`, because `Vec` covers
+///    `?x`. The crate of a fundamental trait promises to add no impl.
+/// 3. The orphan check passes in `InCrate::Local`: knowable. Only this crate may have an impl for `LocalTy: Foreign`.
+/// 4. Otherwise: `Upstream`. For `Vec<u8>: Foreign`, a later version of the crate of `Foreign` may add the impl, and must not break this
+///    crate.
+///
+/// The errors are those of `orphan_check_trait_ref`.
 pub fn trait_ref_is_knowable<N: Normalize>(
     alloc: Global,
     cx: &Interner,
@@ -70,7 +77,7 @@ fn decisive<N: Normalize>(
     walk.decisive(alloc, args, limit)
 }
 
-/// Whether a local type decides.
+/// Returns whether the orphan walk ends at a local type.
 pub(crate) fn is_local(decisive: Option<Decisive>) -> bool
     ensures { result ≡ is_local decisive }
 {
@@ -80,8 +87,8 @@ pub(crate) fn is_local(decisive: Option<Decisive>) -> bool
     }
 }
 
-/// The answer by the walk for other crates and, where that meets no open place and the trait does not decide, by that for the
-/// crate that asks.
+/// The cases of `trait_ref_is_knowable`. The orphan check passes in `InCrate::Remote` if the walk ends at an uncovered type, and in
+/// `InCrate::Local` if it ends at a local type.
 fn knowable_by_walks<N: Normalize>(
     alloc: Global,
     cx: &Interner,

@@ -1,4 +1,4 @@
-//! The orphan check (RFC 2451), and which references are known to a crate.
+//! The orphan check (RFC 2451), and which trait references are knowable. rustc: `coherence`.
 #![tactic(auto)]
 
 mod decisive;

@@ -1,4 +1,4 @@
-//! How a walk takes a type.
+//! The cases of the orphan walk, by the kind of a type.
 ghost use Rattle.std.specs.Prelude.{◌≡◌, List};
 ghost use Rattle.type_terms.specs.Promised.Label.{adt, dynamic};
 ghost use Rattle.type_terms.specs.Promised.Trees.{none, tree, ◌+++◌};
@@ -17,20 +17,22 @@ use type_terms::interner::Interner;
 use type_terms::kinds::{Bounds, GenericArgs, Ty, TyKind};
 use type_terms::{AdtId, CrateId, TraitId};
 
-/// How a walk takes a type.
+/// The case of a type. `orphan_check_trait_ref` has the list with examples.
 #[derive(Clone, Copy)]
 pub(crate) enum Taken {
+    /// Of the crate of the check.
     Local,
+    /// Any other type. The walk does not enter it.
     NonLocal,
-    /// A parameter, a variable, a placeholder or a bound type.
+    /// A parameter, an inference variable, a placeholder or a bound type.
     Uncovered,
-    /// `&T` or `&mut T`: T is walked.
+    /// `&T` or `&mut T`. The walk goes on with `T`.
     Reference(Ty),
-    /// A fundamental struct that is not local: its arguments are walked.
+    /// A fundamental struct that is not local. The walk goes on with its arguments.
     Fundamental(GenericArgs),
 }
 
-/// Whether an item of this crate is local in the walk.
+/// Returns whether items of the crate `home` are local. rustc: `OrphanChecker::def_id_is_local`.
 fn def_id_is_local(decls: &Declarations, in_crate: InCrate, home: CrateId) -> bool
     ensures { result ≡ is_home (home_in decls.now.local in_crate) home.index }
 {
@@ -40,7 +42,7 @@ fn def_id_is_local(decls: &Declarations, in_crate: InCrate, home: CrateId) -> bo
     }
 }
 
-/// How a walk takes a struct.
+/// Returns the case of a struct. A struct that is not declared is non-local.
 fn take_adt(decls: &Declarations, in_crate: InCrate, id: AdtId, args: GenericArgs) -> Taken
     ensures { (es : List Entry) → Has es args_lists args.0 → IsTakenIn es decls.now in_crate (tree (adt id.index) (trees_at es args.0) none) result }
 {
@@ -58,7 +60,7 @@ fn take_adt(decls: &Declarations, in_crate: InCrate, id: AdtId, args: GenericArg
     }
 }
 
-/// Whether a trait is declared by a crate whose items are local in the walk.
+/// Returns whether a trait is local.
 fn trait_is_local(decls: &Declarations, in_crate: InCrate, id: TraitId) -> bool
     ensures { (es : List Entry) → result ≡ trait_is (λ x. is_home (home_in decls.now.local in_crate) x.home) (declared es decls.now) id.index }
 {
@@ -68,7 +70,7 @@ fn trait_is_local(decls: &Declarations, in_crate: InCrate, id: TraitId) -> bool
     }
 }
 
-/// How a walk takes a `dyn`: by its principal.
+/// Returns the case of a `dyn` type, by its principal trait: `dyn Local + Send` is local, `dyn Send` is not.
 fn take_dyn(cx: &Interner, decls: &Declarations, in_crate: InCrate, bounds: Bounds) -> Taken
     requires { Has cx.now.entries bounds_lists bounds.0 }
     ensures { let es = cx.now.entries in (r : Region) → IsTakenIn es decls.now in_crate (tree dynamic (trees_at es bounds.0 +++ region_trees r) none) result }
@@ -85,7 +87,7 @@ fn take_dyn(cx: &Interner, decls: &Declarations, in_crate: InCrate, bounds: Boun
     }
 }
 
-/// How a walk takes a type, which was read before.
+/// Returns the case of a type. It was read before, so a variable has no value.
 pub(crate) fn take(cx: &Interner, decls: &Declarations, in_crate: InCrate, ty: Ty) -> Taken
     requires { Has cx.now.entries types ty.0 }
     ensures { IsTakenIn cx.now.entries decls.now in_crate (trees_at cx.now.entries ty.0) result }

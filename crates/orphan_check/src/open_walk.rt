@@ -1,4 +1,4 @@
-//! The walk of a reference as it is written, parameters and all, which takes no memory.
+//! The orphan walk of a declared header, with its parameters. It takes no memory.
 ghost use Rattle.std.specs.Prelude.{◌≡◌, IsTrue, None};
 ghost use Rattle.type_terms.specs.Promised.Versions.{open_walk_meets_param};
 ghost use Rattle.type_terms.specs.Promised.Handles.{Has, types, trees_at};
@@ -18,7 +18,7 @@ use type_terms::interner::Interner;
 use type_terms::kinds::{GenericArgKind, GenericArgs, Ty};
 use type_terms::visitable_ext::TypeVisitableExt;
 
-/// The flags of types that are open places.
+/// The flags of terms that contain an uncovered type.
 const OPEN_TYPES: TypeFlags = TypeFlags(
     TypeFlags::HAS_TY_PARAM.0
         | TypeFlags::HAS_TY_INFER.0
@@ -26,7 +26,7 @@ const OPEN_TYPES: TypeFlags = TypeFlags(
         | TypeFlags::HAS_TY_BOUND.0,
 );
 
-/// Whether one look tells that nothing in the type decides: in another crate's walk nothing is local, and no open place stands there.
+/// Returns `true` only if no type in this one ends the walk. For another crate nothing is local, so one look at the flags suffices.
 fn is_closed(cx: &Interner, in_crate: InCrate, ty: Ty) -> bool
     requires { Has cx.now.entries types ty.0 }
     ensures { IsTrue result → (d : Items) → decisive_in cx.now.entries d in_crate (trees_at cx.now.entries ty.0) ≡ None }
@@ -37,7 +37,7 @@ fn is_closed(cx: &Interner, in_crate: InCrate, ty: Ty) -> bool
     }
 }
 
-/// What decides the walk of a type.
+/// Returns the kind of type that ends the walk of a type.
 #[cycle(written)]
 fn decisive_in_ty(
     cx: &Interner,
@@ -61,7 +61,7 @@ fn decisive_in_ty(
     }
 }
 
-/// What decides the walk of an argument: lifetimes and constants are passed over.
+/// Returns the kind of type that ends the walk of an argument. Lifetimes and constants are skipped.
 #[cycle(written)]
 fn decisive_in_arg(
     cx: &Interner,
@@ -79,7 +79,7 @@ fn decisive_in_arg(
     }
 }
 
-/// What decides the walk of these arguments: what decides in the first in which anything does.
+/// Returns the kind of type that ends the walk of these arguments, in order.
 #[cycle(written)]
 pub(crate) fn decisive_in_args(
     cx: &Interner,
@@ -98,7 +98,7 @@ pub(crate) fn decisive_in_args(
     None
 }
 
-/// Whether an open place decides.
+/// Returns whether the orphan walk ends at an uncovered type.
 fn is_uncovered(decisive: Option<Decisive>) -> bool
     ensures { result ≡ is_uncovered decisive }
 {
@@ -108,18 +108,23 @@ fn is_uncovered(decisive: Option<Decisive>) -> bool
     }
 }
 
-/// Whether the open walk of a reference ends at a parameter, or at a variable, a placeholder or a bound type: nothing is local in it,
-/// references and fundamental structs are entered, and all other types are left.
+/// Returns whether the *open walk* of a header ends at a parameter, inference variable, placeholder or bound type. The open walk is the
+/// orphan walk in which nothing is local. It enters references and fundamental structs, and no other type.
 ///
-/// The header of an impl is walked as it is declared, with its parameters. Where its walk ends at one, the impl is a blanket impl for
-/// crates that use this one: they may have an impl for a type of their own that it would overlap, so a later version may not add it
-/// (RFC 1105 with RFC 2451). `impl<T> Num for &T` and `impl<T> Tr<T> for Loc` are such, `impl<T> Num for Vec<T>` is not. It is the
-/// orphan check of the original (`orphan_check_trait_ref`) asked with `InCrate::Remote`.
+/// If it does, the impl is a blanket impl for crates that use this one. They may have an impl for a type of their own that it would
+/// overlap, so a later version may not add it (RFC 1105 with RFC 2451):
 ///
-/// No memory is taken, and no variable is read for its value. The stack grows with the references and fundamental structs that lie in
-/// one another, at most 64 in a text. A type in which no open place stands is not entered; any other that is entered is gone through
-/// wherever it stands, so the time is that of the written-out tree, at most the text's length for a header of a text: a fundamental
-/// struct of two parameters with one type for both, n times in itself, takes 2^n steps where nothing decides.
+/// - `impl<T> Num for &T` is blanket: a crate may have `impl Num for &Theirs`.
+/// - `impl<T> Tr<T> for Local` is blanket: a crate may have `impl Tr<Theirs> for Local`.
+/// - `impl<T> Num for Vec<T>` is not: no other crate may have `impl Num for Vec<Theirs>`.
+///
+/// This is the result of `orphan_check_trait_ref` in `InCrate::Remote` for variables without values. Costs:
+///
+/// - No memory is taken, and values of variables are not read.
+/// - The stack grows with the nesting of references and fundamental structs, at most 64 levels in a text.
+/// - A type without parameters, variables, placeholders and bound types is not entered. Any other type is visited at each occurrence. So
+///   the time is at most the length of the header in a text. Terms that share subterms can take more: a fundamental `Pair<A, A>`, nested n
+///   times, takes 2^n steps if no type ends the walk.
 pub fn open_walk_meets_param(cx: &Interner, decls: &Declarations, trait_ref: TraitRef) -> bool
     requires { ReferenceHeld cx.now.entries trait_ref }
     ensures { result ≡ open_walk_meets_param (declared cx.now.entries decls.now) (reference_in cx.now.entries trait_ref) }

@@ -1,4 +1,4 @@
-//! The walk of a reference's types, which keeps the types that are still to be visited on a stack of its own.
+//! The orphan walk. The types that are still to be visited are in a vector, so deep types cannot overflow the call stack.
 ghost use Rattle.std.specs.Prelude.{◌-◌, false, IfErr, IfOk, IfSome, OnOk};
 ghost use Rattle.type_terms.specs.Promised.Handles.{Has, types, trees_at};
 ghost use Rattle.type_terms.specs.Terms.{args_lists};
@@ -23,31 +23,33 @@ use type_terms::kinds::{GenericArgKind, GenericArgs, Ty, TyKind};
 #[derive(Clone, Copy)]
 pub(crate) struct Pending {
     pub ty: Ty,
-    /// How many types may lie in one another from here on.
+    /// How many levels the walk may visit from here on, this type included.
     pub limit: u32,
-    /// Whether no visited type will have been left before it.
+    /// Whether no other type will be finished before it.
     pub first: IsFirstInputType,
 }
 
-/// What was met at a type.
+/// The result of one visit.
 #[derive(Clone, Copy)]
 pub(crate) enum Met {
-    /// A reference or a fundamental struct, whose arguments are pending now.
+    /// A reference or a fundamental struct. The types in it are pending now.
     Entered,
     Local(Ty),
     Uncovered(Ty),
     NonLocal(Ty, IsFirstInputType),
 }
 
-/// What ended a walk that stops at the first local type or open place.
+    /// At a local type.
+/// How an orphan walk ended.
+    /// At an uncovered type.
 pub(crate) enum End {
     Local,
     Uncovered(Ty),
-    /// Nothing: these are all types that were met.
+    /// At neither. These are the non-local types, in order.
     NonLocal(Vec<(Ty, IsFirstInputType)>),
 }
 
-/// Where a walk reads types (`OrphanChecker`).
+/// One orphan walk. rustc: `OrphanChecker`.
 #[derive_where(Clone, Copy)]
 pub(crate) struct Walk<'a, N> {
     pub cx: &'a Interner,
@@ -61,7 +63,8 @@ impl<N: Normalize> Walk<'_, N> {
     ghost use Rattle.orphan_check.specs.Answers.{IsOrphanAnswer};
     ghost use Rattle.orphan_check.specs.Walks.{TypeIsRead, IsVisit, IsStep, IsFirstEnd, IsSecondEnd, ArePending, ArePushed, AreOnTop, pending_steps, reads};
 
-    /// The type as the normalizer answers it, or as it is where that is a variable. Variables have their values.
+    /// Returns the type as the normalizer returns it, or as it was if the normalizer returns a variable. A variable with a value is
+    /// replaced first.
     fn read(&self, ty: Ty) -> Result<Ty, WalkError<N::Error>>
         requires held { Has self.now.cx.now.entries types ty.0 }
         requires ready { Ready self.now.cx.now.entries self.now.infcx.now }
@@ -77,7 +80,7 @@ impl<N: Normalize> Walk<'_, N> {
         }
     }
 
-    /// Puts the types of a list on the stack, of which the first of all types is not one.
+    /// Pushes the types of a list that are not the first input type, the first of the list last.
     fn push_others(
         &self,
         args: &[GenericArgKind],
@@ -106,7 +109,7 @@ impl<N: Normalize> Walk<'_, N> {
         Ok(())
     }
 
-    /// Puts the types of these arguments on the stack, the first one uppermost.
+    /// Pushes the types of these arguments, the first one last. Lifetimes and constants are skipped.
     pub fn push_types(
         &self,
         args: GenericArgs,
@@ -138,7 +141,7 @@ impl<N: Normalize> Walk<'_, N> {
         Ok(())
     }
 
-    /// Visits a type. Where it is entered, what stands in it waits above all that waited before, with one less of the limit.
+    /// Visits a type. If it is entered, the types in it are pushed, with the limit reduced by one.
     pub fn visit(
         &self,
         next: Pending,
@@ -177,7 +180,7 @@ impl<N: Normalize> Walk<'_, N> {
         }
     }
 
-    /// Visits the next type, if there is one.
+    /// Visits the next pending type. `None` if there is none.
     fn step(&self, pending: &mut Vec<Pending>) -> Result<Option<Met>, WalkError<N::Error>>
         requires ready { Ready self.now.cx.now.entries self.now.infcx.now }
         requires pending_held { ArePending self.now.cx.now.entries pending.old.items }
@@ -192,7 +195,7 @@ impl<N: Normalize> Walk<'_, N> {
         }
     }
 
-    /// Walks to the first local type or open place.
+    /// Visits types up to the first local or uncovered type.
     pub fn first_end(
         &self,
         alloc: Global,
@@ -218,7 +221,7 @@ impl<N: Normalize> Walk<'_, N> {
         Ok(End::NonLocal(leaves))
     }
 
-    /// Walks to the first local type, if there is one before a type that is refused.
+    /// Returns the first local type. `None` if there is none, or if the normalizer fails before it.
     pub fn first_local(
         &self,
         alloc: Global,
@@ -242,7 +245,7 @@ impl<N: Normalize> Walk<'_, N> {
         }
     }
 
-    /// The answer of the check: what ends the first walk, and behind an uncovered place the first local type of a second one.
+    /// The orphan check of these arguments. After an uncovered type a second walk finds the first local type.
     pub fn orphan_check(
         &self,
         alloc: Global,

@@ -1,4 +1,4 @@
--- Pairs of impls over the terms of an interner: with unknowns for their parameters, and with equal headers.
+-- Headers of impls with fresh variables for the parameters, and pairs of impls whose headers are equated.
 use Rattle.std.specs.Prelude.{◌≡◌, zero, false, List, [], map, Some}
 use Rattle.type_terms.specs.Promised.Label.{Sort}
 use Rattle.type_terms.specs.Promised.Trees.{Trees, erase, instantiate, some_node}
@@ -25,54 +25,56 @@ use Rattle.overlap_check.specs.Goals.{unknown_kinds, HasGoals}
 use Rattle.overlap_check.specs.declared.header.ImplHeader.{ImplHeader}
 use Rattle.overlap_check.specs.declared.intersection.ImplIntersection.{ImplIntersection}
 
--- The sorts of an impl's parameters.
+-- The kinds of an impl's parameters.
 abbrev pub sorts_of_impl : ImplDef → List Sort
 sorts_of_impl def = map sort_of_param def.params.items
 
--- The table's next unknowns, for them.
+-- The table's next variables, for these parameters.
 abbrev pub unknowns_for : Table → ImplDef → Trees
 unknowns_for t def = fresh_unknowns t (sorts_of_impl def)
 
--- The table that has these.
+-- The table with these variables.
 abbrev pub with_unknowns_for : Table → ImplDef → Table
 with_unknowns_for t def = with_unknowns t (sorts_of_impl def)
 
--- The header's arguments are the table's next unknowns for the impl's parameters.
+-- The header's list of arguments is that of the table's next variables for the impl's parameters.
 pub record IsUnknownsFor (es : List Entry) (t : Table) (def : ImplDef) (h : ImplHeader) : Type 0 where
   pub held : Has es args_lists h.impl_args.0
   pub are : trees_at es h.impl_args.0 ≡ unknowns_for t def
 
--- The header, over an interner that has grown, is the impl's with the table's next unknowns for its parameters.
+-- The header is that of the impl, with the table's next variables for the parameters. The interner may have grown.
 pub record IsHeaderOver (old : List Entry) (t : Table) (def : ImplDef) (new : List Entry) (h : ImplHeader) : Type 0 where
   pub unknowns : IsUnknownsFor new t def h
   pub held : ReferenceHeld new h.trait_ref
   pub is : reference_in new h.trait_ref ≡ with_args (unknowns_for t def) (reference_in old def.header)
 
--- The header's arguments.
+-- The arguments of the header's trait reference.
 abbrev pub args_at : List Entry → ImplHeader → Trees
 args_at es h = trees_at es h.trait_ref.args.0
 
 -- ---- pairs
+-- The table without variables.
 abbrev pub empty_table : Table
 empty_table = record { ty_vars = 0; const_vars = 0; region_vars = 0; values = []; constraints = [] }
 
--- The table of a pair: with unknowns for the parameters of the first impl and then for those of the second one.
+-- The table of a pair: with variables for the parameters of the first impl, and then for those of the second one.
 abbrev pub pair_table : ImplDef → ImplDef → Table
 pair_table w x = with_unknowns_for (with_unknowns_for empty_table w) x
 
--- The arguments of their headers, over it.
+-- The arguments of the first header, with these variables.
 abbrev pub left_args : List Entry → ImplDef → Trees
 left_args es w = instantiate zero (unknowns_for empty_table w) (trees_at es w.header.args.0)
 
+-- The arguments of the second header, with these variables.
 abbrev pub right_args : List Entry → ImplDef → ImplDef → Trees
 right_args es w x = instantiate zero (unknowns_for (with_unknowns_for empty_table w) x) (trees_at es x.header.args.0)
 
--- Whatever their numbers are, the impls have no common instance.
+-- The impls have no common instance. Their indices do not matter.
 abbrev pub AreDisjointImpls : List Entry → ImplDef → ImplDef → Type 0
 AreDisjointImpls es w x = (i j : ImplId) → CommonInstance (erased_impl (impl_in es i w)) (erased_impl (impl_in es j x)) → ⊥
 
--- The headers of both, over an interner that has grown, are equal in this table: its solutions are the values that make them equal, and
--- what it holds is a function of their trees.
+-- The headers are equated in this table: its solutions are the values that make them equal. The table depends only on the headers as terms.
+-- The interner may have grown.
 pub record AreEqualHeaders (old : List Entry) (w x : ImplDef) (new : List Entry) (u : Table) (left right : ImplHeader) : Type 0 where
   pub ready : Ready new u
   pub grows : Grows (pair_table w x) u
@@ -86,19 +88,19 @@ pub record AreEqualHeaders (old : List Entry) (w x : ImplDef) (new : List Entry)
   pub equates : Equates [] (content new u.values) (left_args old w) (right_args old w x)
   pub exact : solved_in_turn (table_trees new (pair_table w x)) (left_args old w) (right_args old w x) ≡ Some (table_trees new u)
 
--- The reference with the values of unknowns for these, without lifetimes.
+-- A trait reference with the values of variables put in, without lifetimes.
 abbrev pub resolved_reference : List Binding → Reference → Reference
 resolved_reference bs r = record { trait = r.trait; args = erase (resolved bs r.args) }
 
--- The reference with the assigned terms for its unknowns, without lifetimes.
+-- A trait reference with assigned terms for its variables, without lifetimes.
 abbrev pub with_instance : Assignment → Reference → Reference
 with_instance s r = record { trait = r.trait; args = instance s r.args }
 
--- What is asked by references over a table.
+-- Trait references over a table as goals.
 abbrev pub goals_over : List Entry → Table → List TraitRef → List Reference
 goals_over es t rs = map (resolved_reference (content es t.values)) (references_in es rs)
 
--- What was found of the impls, over an interner that has grown: the goals of the pair, whatever the numbers of the impls are.
+-- The intersection of two impls has the goals of the pair. The indices of the impls do not matter. The interner may have grown.
 pub record IsIntersection (old : List Entry) (w x : ImplDef) (new : List Entry) (found : ImplIntersection) : Type 0 where
   pub ready : Ready new found.table
   pub left_held : TraitRefsHeld new found.left.items
@@ -106,25 +108,24 @@ pub record IsIntersection (old : List Entry) (w x : ImplDef) (new : List Entry) 
   pub goals : (i j : ImplId) → HasGoals (erased_impl (impl_in old i w)) (erased_impl (impl_in old j x)) (unknown_kinds found.table)
       (goals_over new found.table found.left.items) (goals_over new found.table found.right.items)
 
--- The table is what making the headers equal leaves, and what is to be asked are the where-clauses, with its unknowns in the place of
--- parameters.
+-- The table is the result of equating the headers. The goals are the where-clauses, with its variables for the parameters.
 pub record IsSolved (old : List Entry) (w x : ImplDef) (new : List Entry) (found : ImplIntersection) : Type 0 where
   pub table : solved_in_turn (table_trees new (pair_table w x)) (left_args old w) (right_args old w x) ≡ Some (table_trees new found.table)
   pub left : references_in new found.left.items ≡ all_with_args (unknowns_for empty_table w) (references_in old w.clauses.items)
   pub right : references_in new found.right.items ≡ all_with_args (unknowns_for (with_unknowns_for empty_table w) x) (references_in old x.clauses.items)
 
--- ---- what is left to ask speaks of the table's own unknowns
--- No unknown and no canonical variable stands in the impl's terms, of lifetimes neither.
+-- ---- the variables in goals are those of the table
+-- No variables occur in the impl's terms: no inference variables, no canonical variables, and none for lifetimes.
 pub record IsWithoutVariables (es : List Entry) (def : ImplDef) : Type 0 where
   pub header : some_node is_variable (trees_at es def.header.args.0) ≡ false
   pub clauses : Each (λ (r : TraitRef). some_node is_variable (trees_at es r.args.0) ≡ false) def.clauses.items
 
--- As the table resolves it, the reference speaks of the table's own unknowns and of no canonical variable.
+-- With the values of variables put in, only inference variables of the table occur in the trait reference, and no canonical variables.
 pub record IsOfTable (es : List Entry) (t : Table) (r : TraitRef) : Type 0 where
   pub known : AreKnown (variables_of t) (resolved (content es t.values) (trees_at es r.args.0))
   pub clean : HasNoCanonical (resolved (content es t.values) (trees_at es r.args.0))
 
--- So do all that are to be asked; and the table speaks of no others.
+-- The same for all goals, and for the values in the table.
 pub record IsPosed (es : List Entry) (found : ImplIntersection) : Type 0 where
   pub table : IsOfKnown (variables_of found.table) (content es found.table.values)
   pub left : Each (IsOfTable es found.table) found.left.items

@@ -1,5 +1,5 @@
--- What equating the headers of two impls says of their common instances, and what the answers to its goals say of the pair. The impls
--- w and x are as they are written, with lifetimes.
+-- Equating the headers of two impls finds their common instances, and the answers to the goals decide the pair. The impls w and x have their
+-- lifetimes.
 use Rattle.std.specs.Prelude.{◌≡◌, ℕ, ◌≤◌, List, [], map, ◌⊎◌}
 use Rattle.type_terms.specs.Promised.Label.{Sort}
 use Rattle.type_terms.specs.Promised.Trees.{Trees}
@@ -20,18 +20,18 @@ use Rattle.overlap_check.specs.Fresh.{fresh_unknowns, with_unknowns}
 use Rattle.overlap_check.specs.Goals.{IsPairWith, header_with, unknown_kinds, goal_of, HasGoals}
 use Rattle.overlap_check.specs.Headers.{IsOfTable, resolved_reference, with_instance}
 
--- Where no values make the headers equal, the impls have no common instance.
+-- If no values make the headers equal, the impls have no common instance.
 abbrev pub ApartHaveNoInstance : Type 0
 ApartHaveNoInstance =
     (w x : ImplDecl) (t : Table) (ps qs : List Sort) → IsPairWith t ps qs w x
     → HasNoSolution [] (header_with (fresh_unknowns t ps) w) (header_with (fresh_unknowns (with_unknowns t ps) qs) x)
     → CommonInstance (erased_impl w) (erased_impl x) → ⊥
 
--- Nor do impls of two traits.
+-- Impls of different traits have no common instance.
 abbrev pub OtherTraitsHaveNoInstance : Type 0
 OtherTraitsHaveNoInstance = (w x : ImplDecl) → (w.header.trait ≡ x.header.trait → ⊥) → CommonInstance (erased_impl w) (erased_impl x) → ⊥
 
--- A table whose solutions are the values that make the headers of one trait equal has the goals of the pair.
+-- The traits are equal, and the solutions of a table are the values that make the headers equal. Then the table gives the goals of the pair.
 abbrev pub EquatedHaveGoals : Type 0
 EquatedHaveGoals =
     (w x : ImplDecl) (t : Table) (ps qs : List Sort) → IsPairWith t ps qs w x → w.header.trait ≡ x.header.trait
@@ -40,20 +40,20 @@ EquatedHaveGoals =
     → HasGoals (erased_impl w) (erased_impl x) (unknown_kinds u) (map (goal_of (content es u.values) (fresh_unknowns t ps)) w.clauses)
     (map (goal_of (content es u.values) (fresh_unknowns (with_unknowns t ps) qs)) x.clauses)
 
--- One goal that is refused in coherence is enough to pass the pair.
+-- One refuted goal is enough to accept the pair.
 abbrev pub RefusedGoalPasses : Type 0
 RefusedGoalPasses =
     (V : World) (c : ℕ) (i j : ImplDecl) (ks : List Sort) (left right : List Reference) → HasGoals i j ks left right
     → (g : Reference) → In g left ⊎ In g right → IsRefuted V c ks g → IsPassed V c i j
 
--- A pair none of whose goals is refused is refused itself. `unrefuted` promises that no goal without unknowns that is impossible was left.
+-- If no goal is refuted, the pair is refused. The answer `unrefuted` promises that the goal is possible if it has no variables.
 abbrev pub OpenGoalsRefuse : Type 0
 OpenGoalsRefuse =
     (limit : ℕ) (V : World) (c : ℕ) (i j : ImplDecl) (ks : List Sort) (left right : List Reference) → HasGoals i j ks left right
     → ((g : Reference) → In g left ⊎ In g right → IsRefuteAnswer limit V c ks g unrefuted) → IsRefused limit V c i j
 
--- Values for a table's unknowns are those of one of its solutions: a goal over the table, with the values put in, is the instance by
--- it. So where no solution of the table has a proof of the goal, no values have.
+-- All values for the variables of a table come from a solution of it: a goal with the values put in is its instance by that solution. So
+-- if a goal has a proof for no solution, it has a proof for no values.
 abbrev pub ValuesAreOfSolutions : Type 0
 ValuesAreOfSolutions =
     (es : List Entry) → Lawful es → (t : Table) → Ready es t → (ts : List Trees) → FitKinds (unknown_kinds t) ts

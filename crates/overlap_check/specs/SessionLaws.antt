@@ -1,4 +1,4 @@
--- What follows from the promises, and what the promises follow from. Each law stands on the contract of a function of its name.
+-- Consequences of the promises, and laws that imply the promises. Each law is the contract of a function of its name.
 use Rattle.std.specs.Prelude.{◌≡◌, ℕ, true, false, IsTrue, List, [], ◌++◌, ◌⊎◌}
 use Rattle.type_terms.specs.Promised.Label.{Sort}
 use Rattle.type_terms.specs.Promised.Trees.{Trees, some_node}
@@ -15,7 +15,8 @@ use Rattle.type_terms.specs.Promised.Verdicts.{IsVerdict, accepted, IsCleared, K
 use Rattle.type_terms.specs.Promised.Questions.{FitKinds, filled_reference, SolutionBy, ProveAnswer, yes, unproved, IsProveAnswer, no, unrefuted, IsRefuteAnswer, IsRefuted}
 use Rattle.type_terms.specs.Promised.SetLaws.{Headline, AnswersHold}
 
--- Both of a set whose crates were held too, and in which others were asked. Then nothing is assumed of the supertraits of headers.
+-- The two laws of `Headline` and `AnswersHold` for a joined set whose crates are `accepted` and `held`, and in which other crates were
+-- queried. Nothing is assumed about supertraits of headers.
 abbrev pub HeadlineOfHeldSets : Type 0
 HeadlineOfHeldSets =
     (limit : ℕ) (W : World) (accepted_views asked_views : List View) (rank : ℕ → ℕ) → JoinedSet W (accepted_views ++ asked_views) rank
@@ -38,17 +39,18 @@ abbrev pub HeadlineInAnyOrder : Type 0
 HeadlineInAnyOrder =
     (limit : ℕ) (W : World) (accepted_texts asked_texts : List Listed) (rank : ℕ → ℕ) → LinkedSet W [] rank
     → ((o : Listed) → In o (accepted_texts ++ asked_texts) → HoldsInOrder W o.order o.view)
+-- These laws hold in each linked set of such texts.
     → ((i : ImplDecl) → In i W.impls → IsAnsweredInOrder accepted_texts i)
     → ((o : Listed) → In o accepted_texts → IsVerdict limit o.view.world o.view.asker accepted)
     → HeadlineInOrder limit W accepted_texts asked_texts
 
--- What the check of a pair has to find
--- Headers without a common instance are cleared: where unification over fresh variables is refused, there is none.
+-- ---- the check of a pair
+-- A pair without a common instance is cleared. If equating the headers with fresh variables fails, there is none.
 abbrev pub ApartIsCleared : Type 0
 ApartIsCleared = (V : World) (c : ℕ) (i j : ImplDecl) → (CommonInstance i j → ⊥) → IsCleared V c i j
 
--- The goal g, with unknowns of these kinds, covers a where-clause of i: each common instance of the pair makes the clause an
--- instance of g. So does the clause after unification of the headers.
+-- The goal g, with variables of the kinds ks, covers the where-clause k of i: for each common instance of the pair, the where-clause is an
+-- instance of g. The where-clause after unification of the headers is such a goal.
 pub record CoversLeft (i j : ImplDecl) (k : Reference) (ks : List Sort) (g : Reference) : Type 0 where
   pub clause : In k i.clauses
   pub values : CommonInstance i j → List Trees
@@ -56,7 +58,7 @@ pub record CoversLeft (i j : ImplDecl) (k : Reference) (ks : List Sort) (g : Ref
   pub closed : (m : CommonInstance i j) → Every (λ t. IsTrue (is_closed t)) (values m)
   pub instance_of : (m : CommonInstance i j) → with_args m.left k ≡ filled_reference ks (values m) g
 
--- The same of a where-clause of j.
+-- The same for a where-clause of j.
 pub record CoversRight (i j : ImplDecl) (k : Reference) (ks : List Sort) (g : Reference) : Type 0 where
   pub clause : In k j.clauses
   pub values : CommonInstance i j → List Trees
@@ -67,11 +69,12 @@ pub record CoversRight (i j : ImplDecl) (k : Reference) (ks : List Sort) (g : Re
 abbrev pub CoversClause : ImplDecl → ImplDecl → List Sort → Reference → Type 0
 CoversClause i j ks g = ((k : Reference) × CoversLeft i j k ks g) ⊎ ((k : Reference) × CoversRight i j k ks g)
 
--- A pair is cleared by a where-clause whose goal was refused in coherence.
+-- A pair is cleared if a goal that covers a where-clause is refuted.
+-- The goal covers some where-clause of the pair.
 abbrev pub RefusedClauseClears : Type 0
 RefusedClauseClears = (V : World) (c : ℕ) (i j : ImplDecl) (ks : List Sort) (g : Reference) → CoversClause i j ks g → IsRefuted V c ks g → IsCleared V c i j
 
--- What `check_crate` does to a pair that it does not refuse.
+-- `check_crate` accepts a pair only if it has no common instance, or a goal that covers a where-clause is refuted.
 abbrev pub IsPassed : World → ℕ → ImplDecl → ImplDecl → Type 0
 IsPassed V c i j = (CommonInstance i j → ⊥) ⊎ ((ks : List Sort) × (g : Reference) × CoversClause i j ks g × IsRefuted V c ks g)
 
@@ -79,6 +82,7 @@ abbrev pub PassedIsAccepted : Type 0
 PassedIsAccepted = (V : World) (c : ℕ) → KeepsOrphanRule V c → ((i j : ImplDecl) → IsPair V c i j → IsPassed V c i j) → IsAccepted V c
 
 -- What `check_crate` finds of a pair that it refuses: a common instance, and for each where-clause a goal that covers it, holds no
+-- A crate that keeps the orphan rule, and of which each pair is accepted, is accepted.
 -- unknown where the clause is fixed, and was left open.
 pub record IsRefused (limit : ℕ) (V : World) (c : ℕ) (i j : ImplDecl) : Type 0 where
   pub common : CommonInstance i j
@@ -88,17 +92,18 @@ pub record IsRefused (limit : ℕ) (V : World) (c : ℕ) (i j : ImplDecl) : Type
 abbrev pub RefusedIsReal : Type 0
 RefusedIsReal = (limit : ℕ) (V : World) (c : ℕ) (i j : ImplDecl) → IsRefused limit V c i j → IsRealOverlap limit V c i j
 
--- Answers
--- A decided reference gets `yes` if it has a proof, and `unproved` if it has none.
+-- ---- answers
+-- The answer for an unambiguous trait reference is `yes` if it has a proof, and `unproved` if it has none.
 abbrev pub DecidedIsAnswered : Type 0
 DecidedIsAnswered =
     (limit : ℕ) (V : World) (ks : List Sort) (E : List Reference) (r : Reference) (a : ProveAnswer) → IsUnambiguous limit V E r → IsProveAnswer limit V ks E r a
     → ((ts : List Trees) × (a ≡ yes ts) × HasProof V E r) ⊎ ((a ≡ unproved) × (HasProof V E r → ⊥))
 
--- A bounded reference may be answered `no` exactly if it is not possible; then it has no proof at all by the view.
+-- The answer for a bounded trait reference may be `no` exactly if it is impossible. Then it has no proof by the view.
 abbrev pub BoundedIsRefuted : Type 0
 BoundedIsRefuted =
     (limit : ℕ) (V : World) (c : ℕ) (ks : List Sort) (r : Reference) → is_bounded limit V c r ≡ true
     → (is_possible limit V c r ≡ false → IsRefuteAnswer limit V c ks r no)
+-- A refused pair really overlaps.
     × (IsRefuteAnswer limit V c ks r no → is_possible limit V c r ≡ false)
     × (IsRefuteAnswer limit V c ks r no → HasProof V [] r → ⊥)

@@ -1,5 +1,5 @@
--- Worked crates: their verdicts, and answers to their questions. Crate first uses base; structs count from 10, traits from 20 and
--- impls from 100.
+-- Worked crates: verdicts, and answers to queries. Crate first uses base. The indices of structs begin at 10, those of traits at 20 and
+-- those of impls at 100.
 use Rattle.std.specs.Prelude.{◌≡◌, ℕ, true, false, IsTrue, [], ◌∷◌, Some}
 use Rattle.type_terms.specs.Promised.Label.{of_type, of_const, bool, char, str, tuple, uint, adt, fn_ptr, value, infer, param, placeholder}
 use Rattle.type_terms.specs.Promised.Trees.{Trees, none, tree, leaf}
@@ -15,29 +15,29 @@ use Rattle.type_terms.specs.Promised.OrphanErrors.{nonlocal, uncovered, items, f
 use Rattle.type_terms.specs.Promised.Verdicts.{IsCleared, IsVerdict, accepted, orphan, overlap}
 use Rattle.type_terms.specs.Promised.Questions.{Solution, IsProveAnswer, yes, unproved, maybe, IsRefuteAnswer, no}
 
--- The orphan rule
--- `crate base; trait Show; crate first uses base; impl Show for u8`: u8, the first type, is foreign.
+-- ---- the orphan rule
+-- `crate base; trait Show; crate first uses base; impl Show for u8`: u8, the first type, is not local.
 abbrev pub ForeignLeaf : Type 0
 ForeignLeaf =
     let V = view_of (beside_core [] (trait_of 20 base [] ∷ []) (impl_of 100 first 0 (asked 20 u8) [] ∷ [])) first in
     IsVerdict 8 V first (orphan 100 (nonlocal ((u8, true) ∷ [])))
 
--- `crate base; trait Show<U>; crate first uses base; struct B; impl<T> Show<B> for Box<T>`: T, a variable in the error, stands before
--- the local B.
+-- `crate base; trait Show<U>; crate first uses base; struct B; impl<T> Show<B> for Box<T>`: T precedes the local B. In the error T is a
+-- variable.
 abbrev pub VariableUncoveredBeforeLocal : Type 0
 VariableUncoveredBeforeLocal =
     let V = view_of (beside_core (struct 10 first [] ∷ []) (trait_of 20 base [] ∷ []) (impl_of 100 first 1 (to 20 (applied box T) (leaf (adt 10))) [] ∷ [])) first in
     IsVerdict 8 V first (orphan 100 (uncovered (leaf (infer of_type 0)) (Some (leaf (adt 10)))))
 
--- `crate base; fundamental struct Pair<T, U>`: of `Pair<u8, bool>, str` u8 alone has the flag.
+-- `crate base; fundamental struct Pair<T, U>`: in `Pair<u8, bool>, str` only u8 has the flag of the first input type.
 abbrev pub FlagsOfLeaves : Type 0
 FlagsOfLeaves =
     let V = beside_core (fundamental_struct 10 base ∷ []) [] [] in
     foreign_leaves (items V (Some first) true (tree (adt 10) (tree (uint 0) none (leaf bool)) (leaf str))) ≡ (u8, true) ∷ (leaf bool, false) ∷ (leaf str, false) ∷ []
 
--- Pairs
+-- ---- pairs
 -- `crate base; trait Show; trait Num; impl<T> Show for T where T: Num; crate first uses base; struct A; impl Show for A`: the headers
--- have a common instance, and first is accepted, since nobody else may write `impl Num for A`.
+-- have a common instance. Still first is accepted, because only first may have `impl Num for A`.
 abbrev pub show_blanket : ImplDecl
 show_blanket = impl_of 100 base 1 (asked 20 T) (asked 21 T ∷ [])
 
@@ -59,7 +59,7 @@ day_view =
 abbrev pub RefusedForSomeDay : Type 0
 RefusedForSomeDay = IsVerdict 8 day_view first (overlap 101 100)
 
--- `crate base; trait Show; impl Show for for<'a> fn(&'a u8); impl Show for fn(&'static u8)`: they differ in lifetimes alone.
+-- `crate base; trait Show; impl Show for for<'a> fn(&'a u8); impl Show for fn(&'static u8)`: they differ only in lifetimes.
 abbrev pub lifetimes_view : World
 lifetimes_view =
     view_of
@@ -69,8 +69,8 @@ lifetimes_view =
 abbrev pub LifetimesAlone : Type 0
 LifetimesAlone = IsVerdict 8 lifetimes_view base (overlap 101 100)
 
--- Both together: impls 101 and 100 are the first pair with a common instance, and cleared; 103 and 102 are refused. A promise that
--- the first pair with a common instance is named would be wrong.
+-- Both in one crate: impls 101 and 100 are the first pair with a common instance, and cleared. Impls 103 and 102 are refused. So the verdict
+-- need not name the first pair with a common instance.
 abbrev pub mine_blanket : ImplDecl
 mine_blanket = impl_of 102 first 1 (asked 22 T) (asked 21 T ∷ [])
 
@@ -91,8 +91,8 @@ ALaterPairIsRefused =
     × IsVerdict 8 later_view first (overlap 103 102)
     × (IsVerdict 8 later_view first (overlap 101 100) → ⊥)
 
--- `crate base; trait Sup; trait Sub: Sup; impl Sub for u8; trait Show; impl Show for u8; impl Show for u8`: no linked set holds this
--- view, since nothing proves `u8: Sup`. It is not accepted all the same.
+-- `crate base; trait Sup; trait Sub: Sup; impl Sub for u8; trait Show; impl Show for u8; impl Show for u8`: no linked set has
+-- this view, because `u8: Sup` has no proof. Still the crate is not accepted.
 abbrev pub unlinked_view : World
 unlinked_view =
     view_of
@@ -103,21 +103,22 @@ unlinked_view =
 abbrev pub NotAcceptedUnlinked : Type 0
 NotAcceptedUnlinked = IsVerdict 8 unlinked_view base accepted → ⊥
 
--- Two crates, each accepted in a text of its own where it is crate 2 and its struct is 10, stand in one set, and no reference has
--- proofs by two impls there.
+-- Two crates are accepted, each in its own text. In both texts the crate is crate 2 and its struct is struct 10. In a set with both crates
+-- no trait reference has proofs by two impls.
 abbrev pub TwoTextsAccepted : Type 0
 TwoTextsAccepted =
     IsVerdict 8 text_of_a_user 2 accepted
     × ((r : Reference) → IsTrue (is_closed r.args) → (n k : ℕ) → HasProofByImpl set_of_two_users [] r n → HasProofByImpl set_of_two_users [] r k → n ≡ k)
 
--- Questions
+-- ---- queries
 -- `trait Conv<U, const N>; impl Conv<bool, 4> for u8; prove u8: Conv<?x, ?n>`: ?x = bool, ?n = 4.
 abbrev pub ValuesOfBothKinds : Type 0
 ValuesOfBothKinds =
     let V = beside_core [] (trait_of 20 base [] ∷ []) (impl_of 100 base 0 (to 20 u8 (tree bool none (leaf (value 4)))) [] ∷ []) in
     IsProveAnswer 8 V (of_type ∷ of_const ∷ []) [] (to 20 u8 (tree (infer of_type 0) none (leaf (infer of_const 0)))) (yes (leaf bool ∷ leaf (value 4) ∷ []))
 
--- `prove <T> V<T>: Show where T: Show` is `yes`, and without the where-clause `unproved`; neither may be `maybe`.
+-- `prove <T> V<T>: Show where T: Show` is `yes`, and without the where-clause it is `unproved`. `prove V<u8>: Show` is neither `maybe` nor
+-- `unproved`.
 abbrev pub ParametersStandForThemselves : Type 0
 ParametersStandForThemselves =
     let P = leaf (placeholder of_type 0) in
@@ -126,8 +127,8 @@ ParametersStandForThemselves =
     × (IsProveAnswer 8 show_world [] [] (asked 20 (applied 10 u8)) maybe → ⊥)
     × (IsProveAnswer 8 show_world [] [] (asked 20 (applied 10 u8)) unproved → ⊥)
 
--- `crate base; trait Num; struct V<T>; refute in base V<?x>: Num` is `no`: whatever ?x is, nobody but base may write it. The
--- reference is not bounded, since it holds an unknown.
+-- `crate base; trait Num; struct V<T>; refute in base V<?x>: Num` is `no`: only base may have such an impl, for
+-- any ?x. The trait reference is not bounded, because it has a variable.
 abbrev pub num_view : World
 num_view = view_of (beside_core (struct 10 base [] ∷ []) (trait_of 20 base [] ∷ []) []) base
 
@@ -135,9 +136,9 @@ abbrev pub RefutedForAllValues : Type 0
 RefutedForAllValues = IsRefuteAnswer 8 num_view base (of_type ∷ []) (asked 20 (applied 10 (leaf (infer of_type 0)))) no
 
 -- `crate base; trait Sub<A>: FnOnce<(A,)>; impl Sub<bool> for fn(char); crate first uses base; struct S<A>; trait Mine; impl Mine for bool;
--- impl<A> Mine for S<A> where fn(char): Sub<A>, A: Mine; refute in first S<?a>: Mine` is `no`: wherever `fn(char): Sub<?a>` has its
--- supertrait proved, ?a is char, and nobody but first may write `char: Mine`. Yet by the view `S<bool>: Mine` has a proof, without the
--- supertrait `fn(char): FnOnce<(bool,)>`; so no linked set holds the view.
+-- impl<A> Mine for S<A> where fn(char): Sub<A>, A: Mine; refute in first S<?a>: Mine` is `no`. If `fn(char): Sub<?a>` has its
+-- supertrait, ?a is char, and only first may have an impl of `char: Mine`. By the view alone `S<bool>: Mine` has a proof, without the
+-- supertrait `fn(char): FnOnce<(bool,)>`. So no linked set has this view.
 abbrev pub fn_of_char : Trees → Trees
 fn_of_char others = tree (fn_ptr 0) (tree char none (leaf tuple)) others
 

@@ -1,4 +1,4 @@
--- Impls as a text writes them, over the terms of an interner.
+-- The impls that a text can declare.
 use Rattle.std.specs.Prelude.{◌≡◌, false, List, map}
 use Rattle.type_terms.specs.Promised.Trees.{some_node, erase}
 use Rattle.type_terms.specs.Promised.Erased.{erased_impl}
@@ -17,8 +17,8 @@ use Rattle.declarations.specs.declared.items.ImplDef.{ImplDef}
 use Rattle.overlap_check.specs.Fresh.{fresh_unknowns}
 use Rattle.overlap_check.specs.Goals.{IsInstantiable}
 
--- The header and the where-clauses speak of the impl's parameters, no other place is open in them, and each type or constant that a
--- where-clause speaks of stands in the header: `impl<T> Show for u8 where T: Num` is refused.
+-- Only parameters of the impl occur in its header and where-clauses, and no variables, placeholders or free bound terms. Each type or
+-- constant parameter in a where-clause occurs in the header: `impl<T> Show for u8 where T: Num` is refused.
 pub record IsWrittenWell (es : List Entry) (def : ImplDef) : Type 0 where
   pub header : SpeaksOf (map sort_of_param def.params.items) (trees_at es def.header.args.0)
   pub clauses : Each (λ (r : TraitRef). SpeaksOf (map sort_of_param def.params.items) (trees_at es r.args.0)) def.clauses.items
@@ -26,7 +26,7 @@ pub record IsWrittenWell (es : List Entry) (def : ImplDef) : Type 0 where
   pub plain_clauses : Each (λ (r : TraitRef). some_node is_stray (erase (trees_at es r.args.0)) ≡ false) def.clauses.items
   pub covered : (id : ImplId) → IsCovered (erased_impl (impl_in es id def))
 
--- Such impls have arguments in the unknowns for their parameters, whichever these are.
+-- Fresh variables are arguments for all parameters of such an impl, whatever variables the table has.
 abbrev pub WrittenIsInstantiable : Type 0
 WrittenIsInstantiable =
     (es : List Entry) → Lawful es → (id : ImplId) (def : ImplDef) → ImplHeld es def → IsWrittenWell es def

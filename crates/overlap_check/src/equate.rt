@@ -1,4 +1,4 @@
-//! Headers made equal.
+//! Equating the headers of two impls.
 ghost use Rattle.std.specs.Prelude.{◌≡◌, ◌≢◌, ◌⊎◌, OnOk, OnErr, Err, Some};
 ghost use Rattle.type_terms.specs.Promised.Handles.{ArgsHeld};
 ghost use Rattle.type_terms.specs.Kinds.{args_trees};
@@ -18,7 +18,7 @@ use std::alloc::Global;
 use type_terms::interner::Interner;
 use type_terms::kinds::GenericArgKind;
 
-/// Makes each argument equal to the one in its place; lists of two lengths have no solution.
+/// Equates two lists of arguments, position by position. Lists of different lengths have no solution.
 fn equate_args(
     cx: &mut Interner,
     table: &mut InferCtxt,
@@ -56,11 +56,16 @@ fn equate_args(
     }
 }
 
-/// Makes two headers equal, with values for as few unknowns as that takes (`equate_impl_headers`).
+/// Equates two headers: `V<?0>: Show` and `V<u8>: Show` give `?0` the value `u8`. Variables get no more values than needed: the solutions
+/// of the table are then its former ones that make the arguments equal. rustc: `equate_impl_headers`.
 ///
-/// Afterwards the solutions of the table are those from before that make the arguments equal. `NoSolution` comes where the headers
-/// are of two traits, or where there is no solution. `Fault(Full)` comes only where some kind of term has reached its limit,
-/// `Fault(Memory)` where memory is refused or no number is left for a lifetime. After a refusal the table is as before.
+/// Fails with:
+///
+/// - `NoSolution` if the headers are of different traits, or no values make them equal.
+/// - `Fault(Full)` only if the terms of some kind are at their limit.
+/// - `Fault(Memory)` if memory is refused or no index remains for a lifetime.
+///
+/// If it fails, the table is unchanged.
 pub fn equate_impl_headers(
     alloc: Global,
     cx: &mut Interner,

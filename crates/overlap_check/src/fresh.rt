@@ -1,4 +1,4 @@
-//! Fresh unknowns for the parameters of impls.
+//! Fresh inference variables for the parameters of impls.
 ghost use Rattle.std.specs.Prelude.{◌≡◌, map, IfOk, OnOk};
 ghost use Rattle.type_terms.specs.Promised.Label.{infer};
 ghost use Rattle.type_terms.specs.Promised.Trees.{leaf};
@@ -17,7 +17,7 @@ use type_terms::Fault;
 use type_terms::interner::Interner;
 use type_terms::kinds::{GenericArgKind, GenericArgs};
 
-/// A new unknown for a parameter (`var_for_def`).
+/// Returns a new inference variable for a parameter of this kind. rustc: `var_for_def`.
 fn var_for_param(
     cx: &mut Interner,
     table: &mut InferCtxt,
@@ -46,10 +46,10 @@ fn var_for_param(
     }
 }
 
-/// A new unknown of the table for each of an item's parameters, in order (`fresh_args_for_item`).
+/// Returns a new inference variable for each parameter of an item, in order. rustc: `fresh_args_for_item`.
 ///
-/// `Full` comes only where some kind of term has reached its limit, `Memory` where memory is refused or no number is left for an
-/// unknown. After a refusal the table may have some of the unknowns.
+/// Fails with `Full` only if the terms of some kind are at their limit, and with `Memory` if memory is refused or no index remains for a
+/// variable. Then the table may have some of the variables.
 pub fn fresh_args_for_item(
     alloc: Global,
     cx: &mut Interner,

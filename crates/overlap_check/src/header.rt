@@ -1,4 +1,4 @@
-//! Headers and where-clauses of impls over fresh unknowns.
+//! Headers and where-clauses of impls, with fresh inference variables for the parameters.
 ghost use Rattle.std.specs.Prelude.{◌≡◌, IfOk, OnOk, None};
 ghost use Rattle.type_terms.specs.Trees.{outer_binder};
 ghost use Rattle.type_terms.specs.Promised.Worlds.{with_args, all_with_args};
@@ -26,16 +26,17 @@ use type_terms::Fault;
 use type_terms::interner::Interner;
 use type_terms::kinds::GenericArgs;
 
-/// The header of an impl with unknowns for its parameters (`ImplHeader`): `?0` and `V<?0>: Show` of `impl<T> Show for V<T>`.
+/// The header of an impl with inference variables for its parameters: `?0` and `V<?0>: Show` for `impl<T> Show for V<T>`. rustc:
+/// `ImplHeader`.
 #[derive(Clone, Copy, PartialEq, Eq)]
 pub struct ImplHeader {
-    /// The unknowns.
+    /// The variables, one for each parameter.
     pub impl_args: GenericArgs,
-    /// The reference that the impl proves, with the unknowns.
+    /// The trait reference that the impl implements, with the variables.
     pub trait_ref: TraitRef,
 }
 
-/// A reference with arguments in the place of its parameters. The fault is a refusal of memory, or `Full`.
+/// Instantiates a trait reference: arguments replace its parameters. Fails with `Memory` or `Full`.
 pub fn instantiate_trait_ref(
     alloc: Global,
     cx: &mut Interner,
@@ -59,8 +60,7 @@ pub fn instantiate_trait_ref(
     }
 }
 
-/// Each where-clause with arguments in the place of its parameters, in order (`predicates_of`, instantiated). The fault is a refusal of
-/// memory, or `Full`.
+/// Instantiates each where-clause, in order. Fails with `Memory` or `Full`. rustc: `predicates_of(..).instantiate`.
 pub fn instantiate_clauses(
     alloc: Global,
     cx: &mut Interner,
@@ -86,10 +86,10 @@ pub fn instantiate_clauses(
     Ok(found)
 }
 
-/// The header of an impl with new unknowns of the table for its parameters (`fresh_impl_header`).
+/// Returns the header of an impl with new inference variables for its parameters. rustc: `fresh_impl_header`.
 ///
-/// `Full` comes only where some kind of term has reached its limit, `Memory` where memory is refused or no number is left for an
-/// unknown. After a refusal the table may have some of the unknowns.
+/// Fails with `Full` only if the terms of some kind are at their limit, and with `Memory` if memory is refused or no index remains for a
+/// variable. Then the table may have some of the variables.
 pub fn fresh_impl_header(
     alloc: Global,
     cx: &mut Interner,

@@ -1,4 +1,4 @@
-//! A look at two headers that tells most pairs apart, before anything is made of them.
+//! A quick test that finds most pairs of headers to be disjoint, without equating them.
 ghost use Rattle.std.specs.Prelude.{◌≡◌, true};
 ghost use Rattle.declarations.specs.Held.{ImplHeld};
 ghost use Rattle.overlap_check.specs.Headers.{AreDisjointImpls};
@@ -7,13 +7,22 @@ use declarations::apart::are_apart;
 use declarations::items::ImplDef;
 use type_terms::interner::Interner;
 
-/// Whether a look at their arguments, some levels deep, tells that the headers of two impls have no common instance: at one place two
-/// different types, constants or constructors stand in them, or both are without parameters and lifetimes, and two.
+/// Returns `true` only if the headers of two impls are disjoint: they have no common instance. It compares the arguments some levels deep,
+/// and looks for one position with different constructors or constants, or with different terms that have no parameters and lifetimes.
+/// rustc: `DeepRejectCtxt`.
 ///
-/// `impl<T> Show for V<[T]>` and `impl<T> Show for V<&T>` are told apart so, and `impl<T> Show for S<u8, T>` and
-/// `impl<T> Show for S<bool, T>`; of `impl<T> Show for (T, T)` and `impl Show for (u8, bool)` it is not told, since each argument is
-/// looked at by itself, nor of `impl<T> Show for fn(T)` and `impl Show for fn()`, since only parts of structs, tuples, arrays, slices,
-/// references and raw pointers are looked at. It takes no memory (`DeepRejectCtxt` of `rustc_type_ir`).
+/// Disjoint by this test:
+///
+/// - `impl<T> Show for V<[T]>` and `impl<T> Show for V<&T>`
+/// - `impl<T> Show for S<u8, T>` and `impl<T> Show for S<bool, T>`
+///
+/// Disjoint, but not by this test:
+///
+/// - `impl<T> Show for (T, T)` and `impl Show for (u8, bool)`, because each position is compared alone.
+/// - `impl<T> Show for fn(T)` and `impl Show for fn()`, because only structs, tuples, arrays, slices, references and raw pointers are
+///   entered.
+///
+/// It takes no memory.
 pub fn headers_differ(cx: &Interner, left: &ImplDef, right: &ImplDef) -> bool
     requires left { ImplHeld cx.now.entries left.now }
     requires right { ImplHeld cx.now.entries right.now }

@@ -1,4 +1,4 @@
-//! What two impls have in common: their headers made equal, and what is left to ask.
+//! The intersection of two impls: a table in which their headers are equal, and their where-clauses as goals over it.
 ghost use Rattle.std.specs.Prelude.{◌≡◌, IfOk, IfSome, Ok, None};
 ghost use Rattle.type_terms.specs.Promised.Worlds.{all_with_args};
 ghost use Rattle.type_terms.specs.Promised.Handles.{trees_at};
@@ -21,18 +21,18 @@ use type_terms::interner::Interner;
 
 /// Two impls whose headers have a common instance.
 ///
-/// `impl<T> Show for V<T> where T: Num` and `impl<U> Show for V<U> where U: Copy` leave a table where `?1` is `?0`, and to be asked over
-/// it are `?0: Num` of the first one and `?1: Copy` of the second one.
+/// For `impl<T> Show for V<T> where T: Num` and `impl<U> Show for V<U> where U: Copy`, `?1` has the value `?0` in the table. The goals are
+/// `?0: Num` of the first impl and `?1: Copy` of the second one.
 pub struct ImplIntersection {
-    /// The table in which the headers are equal.
+    /// The table that makes the headers equal.
     pub table: InferCtxt,
-    /// The where-clauses of the first impl, over the table's unknowns.
+    /// The where-clauses of the first impl, with variables of the table.
     pub left: Vec<TraitRef>,
-    /// The where-clauses of the second impl, over the table's unknowns.
+    /// The where-clauses of the second impl, with variables of the table.
     pub right: Vec<TraitRef>,
 }
 
-// Written, so that what owns one drops it by one call at each way out, and not field by field.
+// Hand-written so that the prover sees one drop call: docs/PROVING.md#drop.
 impl Drop for ImplIntersection {
     fn drop(self) {
         let ImplIntersection {
@@ -43,12 +43,14 @@ impl Drop for ImplIntersection {
     }
 }
 
-/// What two impls have in common, with new unknowns for the parameters of both in a table of its own; `None` where their headers
-/// cannot be made equal, so that they have no common instance.
+/// Returns the intersection of two impls, in a new table with variables for the parameters of both. `None` if their headers cannot be
+/// equated. Then the impls have no common instance.
 ///
-/// The where-clauses are goals that cover those of the impls: each common instance makes a where-clause an instance of its goal.
-/// `Full` comes only where some kind of term has reached its limit, `Memory` where memory is refused or no number is left for an
-/// unknown. It is what `overlap` of the original does before it asks whether an obligation is impossible.
+/// Each goal covers its where-clause: for each common instance, the where-clause is an instance of the goal. So if a goal has no solution,
+/// the where-clause never holds. rustc: the part of `overlap` that precedes the search for an impossible obligation.
+///
+/// Fails with `Full` only if the terms of some kind are at their limit, and with `Memory` if memory is refused or no index remains for a
+/// variable.
 pub fn impl_intersection(
     alloc: Global,
     cx: &mut Interner,
@@ -61,16 +63,16 @@ pub fn impl_intersection(
     requires right_written { IsWrittenWell cx.old.entries right.now }
     ensures terms { GrewOrFull cx.old cx.new result }
 
-    // Without an intersection the impls have no common instance.
+    // `None`: the impls have no common instance.
     ensures apart { result ≡ Ok None → AreDisjointImpls cx.old.entries left.now right.now }
 
-    // With one they have, and what is to be asked are the goals of the pair.
+    // `Some`: they have one, and the goals are those of the pair.
     ensures found { IfOk result (λ found. IfSome found (IsIntersection cx.old.entries left.now right.now cx.new.entries)) }
 
-    // These are their where-clauses, over the table that making the headers equal leaves.
+    // The goals are the where-clauses, and the table is the result of equating the headers.
     ensures solved { IfOk result (λ found. IfSome found (IsSolved cx.old.entries left.now right.now cx.new.entries)) }
 
-    // Where the impls speak of no unknowns, the goals speak of the table's own.
+    // If no variables occur in the impls, only variables of the table occur in the goals.
     ensures posed { IsWithoutVariables cx.old.entries left.now → IsWithoutVariables cx.old.entries right.now
         → IfOk result (λ found. IfSome found (IsPosed cx.new.entries)) }
 {
@@ -84,7 +86,7 @@ pub fn impl_intersection(
     Ok(Some(ImplIntersection { table, left, right }))
 }
 
-/// The headers of two impls, with new unknowns for the parameters of both, made equal in an empty table; `None` where that cannot be.
+/// Equates the headers of two impls in an empty table, with new variables for the parameters of both. `None` if that is impossible.
 fn equate_fresh_headers(
     alloc: Global,
     cx: &mut Interner,
@@ -111,7 +113,7 @@ fn equate_fresh_headers(
     }
 }
 
-/// The where-clauses of both impls, over the unknowns of their headers.
+/// Instantiates the where-clauses of both impls with the variables of their headers.
 fn instantiate_both(
     alloc: Global,
     cx: &mut Interner,

@@ -1,5 +1,5 @@
-//! Laws of pairs of impls, and of what a session promises: from the solutions of equated headers to common instances and back, and from
-//! answers to verdicts.
+//! Laws about pairs of impls, and about the promises of a session. The solutions of equated headers are the common instances. The answers to
+//! queries give the verdicts.
 
 ghost use Rattle.type_terms.specs.Promised.ReadByLaws.{ImplRulesAreInstances};
 ghost use Rattle.type_terms.specs.Promised.SetLaws.{AnswersHoldEverywhere, HeadlineHolds};
@@ -11,66 +11,68 @@ ghost use Rattle.overlap_check.specs.Worked.{ALaterPairIsRefused, ClearedByAClau
 
 // ---- pairs of impls
 
-/// Headers over fresh unknowns that cannot be made equal have no common instance. Those that can have one, and the where-clauses, with
-/// the values of the unknowns put in, are goals that cover them: each common instance makes a where-clause an instance of its goal. A
-/// where-clause that is the same in all common instances is a goal without unknowns.
+/// Headers with fresh variables:
+///
+/// - `apart`, `other_traits`: if they cannot be equated, the impls have no common instance.
+/// - `goals`: otherwise they have one. The where-clauses with the values of variables put in are the goals. Each goal covers its
+///   where-clause. It has no variables if the where-clause is fixed: one bound in all common instances.
 pub fn headers_over_fresh_unknowns()
     ensures apart { ApartHaveNoInstance }
     ensures other_traits { OtherTraitsHaveNoInstance }
     ensures goals { EquatedHaveGoals }
 {}
 
-/// Impls whose terms are an interner's, as a text writes them, have arguments in fresh unknowns.
+/// Fresh variables are arguments for the parameters of each impl that a text can declare.
 pub fn written_impls_are_instantiable()
     ensures { WrittenIsInstantiable }
 {}
 
-/// What the answers to the goals of a pair say of it: one that is refused passes it, and it is refused where none is.
+/// If one goal of a pair is refuted, the pair is accepted. If none is, the pair is refused.
 pub fn answers_to_goals()
     ensures passed { RefusedGoalPasses }
     ensures refused { OpenGoalsRefuse }
 {}
 
-/// Values for the unknowns of a table are those of one of its solutions: a goal over the table with the values put in is the instance by
-/// it. So a goal that has a proof at no solution of the table has none at any values of its unknowns.
+/// All values for the variables of a table come from a solution of it: a goal with the values put in is its instance by that solution. So if
+/// a goal has a proof for no solution, it has a proof for no values.
 pub fn values_are_of_solutions()
     ensures { ValuesAreOfSolutions }
 {}
 
-/// Who looks at all numbers below one that is above those of the impls, finds each pair that a crate brings together.
+/// If the indices of all impls are below `end`, so are those of each pair that a crate has to check.
 pub fn pairs_have_numbers_below()
     ensures { PairsAreBelow }
 {}
 
-// ---- what a session promises of its answers, and what follows from it
+// ---- promises of a session, and their consequences
 
-/// In a linked set of accepted crates, of one text or of several, no closed reference has proofs by two impls.
+/// In a linked set of accepted crates, of one text or of several, no concrete trait reference has proofs by two impls.
 pub fn accepted_sets_have_one_impl()
     ensures { HeadlineHolds }
 {}
 
-/// In every linked set with the crates that were asked, what was answered `no` has no solution, and what was answered `yes` without
+/// In every linked set with the queried crates, a query with the answer `no` has no solution. One with the answer `yes` and without
 /// where-clauses has a proof.
 pub fn answers_hold_in_linked_sets()
     ensures { AnswersHoldEverywhere }
 {}
 
-/// Both hold of a set whose crates were accepted and held, and then nothing is assumed of the supertraits of headers.
+/// Both laws hold for a joined set whose crates are all `accepted` and `held`. Nothing is assumed about supertraits of headers.
 pub fn held_sets_have_one_impl()
     ensures { HeadlineOfHeldSets }
 {}
 
-/// Both hold of texts that each list the auto traits of a `dyn` in an order of its own.
+/// Both laws hold for texts that list the auto traits of a `dyn` type in different orders.
 pub fn accepted_texts_in_any_order()
     ensures { HeadlineInAnyOrder }
 {}
 
-/// A pair whose headers have no common instance is cleared.
+/// A pair of impls without a common instance is cleared.
 pub fn apart_is_cleared()
     ensures { ApartIsCleared }
 {}
 
-/// A pair with a where-clause whose goal was refused in coherence is cleared.
+/// A pair of impls with a refuted goal is cleared.
 pub fn a_refused_clause_clears()
     ensures { RefusedClauseClears }
 {}
@@ -80,24 +82,24 @@ pub fn passed_is_accepted()
     ensures { PassedIsAccepted }
 {}
 
-/// Of a decided reference `yes` and `unproved` say whether it has a proof.
+/// For an unambiguous trait reference, the answer is `yes` if it has a proof, and `unproved` if it has none.
 pub fn decided_is_answered()
     ensures { DecidedIsAnswered }
 {}
 
-/// Of a bounded reference `no` says that it is not possible, and so has no proof by the view.
+/// For a bounded trait reference, the answer `no` means exactly that it is impossible. Then it has no proof by the view.
 pub fn bounded_is_refuted()
     ensures { BoundedIsRefuted }
 {}
 
-/// Worked headers: why they break the orphan rule.
+/// Worked orphan errors.
 pub fn worked_headers()
     ensures foreign { ForeignLeaf }
     ensures uncovered { VariableUncoveredBeforeLocal }
     ensures flags { FlagsOfLeaves }
 {}
 
-/// Worked pairs of impls: which are cleared, and which refused.
+/// Worked verdicts on pairs of impls.
 pub fn worked_pairs()
     ensures cleared { ClearedByAClause }
     ensures some_day { RefusedForSomeDay }
@@ -106,7 +108,8 @@ pub fn worked_pairs()
     ensures unlinked { NotAcceptedUnlinked }
 {}
 
-/// Two texts in one set, and answers to questions: among them a `no` beside a proof by a view that no linked set holds.
+/// Two texts in one linked set, and worked answers. One is a `no` for a trait reference that has a proof by the view, but no linked set has
+/// that view.
 pub fn worked_answers()
     ensures two_texts { TwoTextsAccepted }
     ensures values { ValuesOfBothKinds }
@@ -115,13 +118,13 @@ pub fn worked_answers()
     ensures alone { ProvedAloneAndRefuted }
 {}
 
-/// A pair of which no where-clause was refused, each asked by a goal that covers it, really overlaps.
+/// If each where-clause of a pair has a goal that covers it and is not refuted, the pair really overlaps.
 pub fn refused_is_real()
     ensures { RefusedIsReal }
 {}
 
-/// The rule that an impl gives for a reference is that of any arguments that fit and make its header the reference; it gives none where
-/// there are no such. So what `proofs` are made of is said without the way in which arguments are found.
+/// An impl gives a rule for a trait reference exactly if some fitting arguments make its header the trait reference. The rule is the one for
+/// these arguments. So the meaning of a proof does not depend on how the arguments are computed.
 pub fn impl_rules_are_instances()
     ensures { ImplRulesAreInstances }
 {}

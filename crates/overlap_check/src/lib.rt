@@ -1,8 +1,12 @@
-//! Whether two impls overlap: a pair of them, up to the goals that its where-clauses are.
+//! The overlap check of two impls, up to the goals that the solver has to refute, and the orphan check of a crate's impls. rustc:
+//! `overlap` and `orphan_check_impl`.
 //!
-//! `impl<T> Show for V<T> where T: Num` and `impl<U> Show for V<U> where U: Copy` have the headers `V<?0>: Show` and `V<?1>: Show`
-//! over fresh unknowns. Once they are equal, `?1` is `?0`, and what is left to ask is `?0: Num` and `?0: Copy`: where one of them has no
-//! solution in any linked set, the impls do not overlap (`overlap` in the original's coherence).
+//! For example, `impl<T> Show for V<T> where T: Num` and `impl<U> Show for V<U> where U: Copy`:
+//!
+//! 1. With fresh inference variables the headers are `V<?0>: Show` and `V<?1>: Show`.
+//! 2. Equating them makes `?1` equal to `?0`. If that fails, the impls do not overlap.
+//! 3. The where-clauses are now the goals `?0: Num` and `?0: Copy`. If one of them has no solution in any linked set, the impls do not
+//!    overlap.
 #![tactic(auto)]
 
 pub mod equate;

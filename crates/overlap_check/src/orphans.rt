@@ -27,7 +27,7 @@ use type_terms::interner::Interner;
 use type_terms::kinds::Ty;
 use type_terms::{Fault, ImplId, TraitId};
 
-/// Whether a trait is declared by the crate that asks.
+/// Returns whether a trait is of this crate.
 fn trait_is_local(declarations: &Declarations, id: TraitId) -> bool
     ensures { (es : List Entry) → result ≡ trait_is (λ x. x.home == declarations.now.local) (declared es declarations.now) id.index }
 {
@@ -37,8 +37,8 @@ fn trait_is_local(declarations: &Declarations, id: TraitId) -> bool
     }
 }
 
-/// Why the crate that asks may not write an impl for a reference over unknowns that have no values; `None` where the walk of its types
-/// ends at a local one. The error is `Memory`.
+/// Returns the orphan error of a trait reference whose variables have no values. `None` if the orphan walk ends at a local type. Fails only
+/// with `Memory`.
 fn walk_error(
     alloc: Global,
     cx: &Interner,
@@ -54,7 +54,7 @@ fn walk_error(
     ensures held { IfOk result (λ found. IfSome found (ErrorHeld cx.now.entries)) }
     ensures memory { IfErr result (λ fault. fault ≡ Memory) }
 {
-    // No walk goes deeper than the arguments are.
+    // With this limit, `Deep` is impossible.
     let limit = cx.depth(trait_ref.args);
     let in_crate = InCrate::Local {
         mode: OrphanCheckMode::Proper,
@@ -81,8 +81,8 @@ fn walk_error(
     }
 }
 
-/// Why the walk of an impl's header with unknowns for its parameters, in an empty table, does not end at a local type; `None` where it
-/// does.
+/// Returns the orphan error of an impl's header, with new variables for its parameters in an empty table. `None` if the orphan walk ends at
+/// a local type.
 fn fresh_header_error(
     alloc: Global,
     cx: &mut Interner,
@@ -106,12 +106,12 @@ fn fresh_header_error(
     walk_error(alloc, cx, table, declarations, header.trait_ref)
 }
 
-/// Why the header of an impl of the crate that asks breaks the orphan rule; `None` where it keeps it (`orphan_check_impl`).
+/// Returns the orphan error of the header of an impl of this crate. `None` if it keeps the orphan rule: the trait is local, or the orphan
+/// walk ends at a local type. The parameters are variables in the error: `?0` for `T` in `impl<T> Foreign for T`. rustc:
+/// `orphan_check_impl`.
 ///
-/// A header of a local trait keeps it, and so does one whose walk, with an unknown for each parameter, ends at a local type.
-///
-/// `Full` comes only where some kind of term has reached its limit, `Memory` where memory is refused or no number is left for an
-/// unknown.
+/// Fails with `Full` only if the terms of some kind are at their limit, and with `Memory` if memory is refused or no index remains for a
+/// variable.
 pub fn header_error(
     alloc: Global,
     cx: &mut Interner,
@@ -134,7 +134,7 @@ pub fn header_error(
     fresh_header_error(alloc, cx, &mut table, declarations, def)
 }
 
-/// Why the impl with a number breaks the orphan rule, if it is of the crate that asks and does.
+/// Returns the orphan error of the impl with this index, if it is of this crate and breaks the orphan rule.
 fn impl_error(
     alloc: Global,
     cx: &mut Interner,
@@ -157,11 +157,11 @@ fn impl_error(
     }
 }
 
-/// The first impl of the crate that asks whose header breaks the orphan rule, by rising number, with the error; `None` where all keep
-/// it. The numbers of impls are below `end`.
+/// Returns the first impl of this crate that breaks the orphan rule, with its error. `None` if all impls of this crate keep it. The indices
+/// of all impls are below `end`.
 ///
-/// `Full` comes only where some kind of term has reached its limit, `Memory` where memory is refused or no number is left for an
-/// unknown.
+/// Fails with `Full` only if the terms of some kind are at their limit, and with `Memory` if memory is refused or no index remains for a
+/// variable.
 pub fn first_orphan(
     alloc: Global,
     cx: &mut Interner,

@@ -1,4 +1,4 @@
-//! The pairs of impls that a crate brings together.
+//! The pairs of impls that a crate has to check for overlap.
 ghost use Rattle.std.specs.Prelude.{◌≡◌, List, IfSome, IfNone};
 ghost use Rattle.type_terms.specs.Promised.Handles.{Entry};
 ghost use Rattle.declarations.specs.Held.{AreHeld, ImplHeld};
@@ -11,7 +11,7 @@ use declarations::declarations::Declarations;
 use declarations::items::ImplDef;
 use type_terms::ImplId;
 
-/// Whether an impl is of the crate that asks, and another one is of the same trait and not a later one of that crate.
+/// Returns whether the first impl is of this crate, and the second one of the same trait and either of another crate or earlier.
 fn are_partners(
     declarations: &Declarations,
     later: ImplId,
@@ -26,10 +26,10 @@ fn are_partners(
         && (!declarations.is_local(right.home) || earlier.index < later.index)
 }
 
-/// The impls of two numbers, where the crate that asks has to compare them: the first is its own, and the second is of the same trait
-/// and of a crate that it sees, or its own too with a smaller number. `None` where there is no such pair with these numbers.
+/// Returns the impls with these indices if this crate has to check them for overlap. `None` otherwise. The first impl is of this crate. The
+/// second one is of the same trait, and either of another crate in the view or of this crate with a smaller index.
 ///
-/// A crate's pairs of one trait are what it gives for all numbers below that of the impls. Pairs of two traits have nothing in common.
+/// Calls with all pairs of indices give all pairs of impls of one trait. Impls of different traits never overlap.
 pub fn pair_at<'d>(
     declarations: &'d Declarations,
     later: ImplId,
