@@ -16,7 +16,7 @@ use Rattle.test_delegate.specs.declared.Script.{Script}
 use Rattle.test_delegate.specs.declared.Scripts.{Scripts}
 use Rattle.search_graph.specs.Meaning.{Meaning}
 
--- the result of a frame of this rule that hears this answer, if it is done with it
+-- the result of a frame of this rule that gets this answer, if the frame ends with it
 abbrev pub decided : Rule → ℕ → Option ℕ
 decided All a = cond (a == 2) None (Some a)
 decided Any a = cond (a == 2) (Some 2) None
@@ -30,7 +30,7 @@ request_at (Some Enter) otherwise = EnterCandidate
 request_at (Some Finish) otherwise = FinishCandidate
 request_at (Some (Ignore n)) otherwise = IgnoreCandidate n
 
--- no script is read further than this many steps
+-- at most this many steps of a script are read
 abbrev pub step_at : Script → ℕ → Request ℕ ℕ
 step_at s n = cond (nat_lt n 64) (request_at (slice_get s.steps.items n) s.otherwise) (Done 1)
 
@@ -57,7 +57,7 @@ toy_initial Unknown = 1
 toy_initial Coinductive = 2
 toy_initial ForcedAmbiguity = 1
 
--- a frame of the goal is done with a yes
+-- a frame of the goal ends with a yes
 abbrev pub EndsInYes : Scripts → ℕ → Type 0
 EndsInYes w g = (heard : List (Reply ℕ)) × (toy_asks w g heard ≡ Done 2)
 

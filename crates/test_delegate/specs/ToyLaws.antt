@@ -91,7 +91,7 @@ known_request c FinishCandidate = tt
 known_request c (IgnoreCandidate n) = tt
 known_request c (Done a) = tt
 
--- after 65 replies each frame is done
+-- after 65 replies each frame ends
 past_is_done : (b : Bool) (q : Request ℕ ℕ) → (b ≡ true → ⊥) → cond b q (Done 1) ≡ Done 1
 past_is_done true q never = absurd (never refl)
 past_is_done false q never = refl
@@ -133,7 +133,7 @@ has_steps_left c f reply due =
     let left = due.2.2 in
     (omega arith, omega arith)
 
--- a frame that asks what its script says takes its step
+-- a frame that makes the request of its script takes a step
 pub toy_steps : (c : Scripts) (f h : ToyFrame) (reply : Reply ℕ) (q : Request ℕ ℕ) → h.goal ≡ f.goal → h.heard ≡ f.heard + 1 → h.left + 1 ≡ f.left → q ≡ asks_next (slice_get c.goals.items f.goal) f.heard reply → Steps toy_meaning c f reply c h q
 toy_steps c f h reply q goal count left is = (
   known_request c q,

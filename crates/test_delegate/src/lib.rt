@@ -1,4 +1,4 @@
-//! A delegate over scripts: a lawful one, to try the search graph on small goals.
+//! A lawful delegate over scripts, to test the search graph on small goals.
 #![tactic(auto)]
 
 ghost use Rattle.std.specs.Prelude.{◌≡◌, slice_get};
@@ -9,7 +9,7 @@ use type_terms::Fault;
 
 /// The answer no.
 pub const NO: u8 = 0;
-/// An overflow: the limit of the depth or of the runs was met.
+/// The answer of an overflow: the limit of the depth or of the runs was met.
 pub const OVERFLOW: u8 = 1;
 /// The answer yes.
 pub const YES: u8 = 2;
@@ -19,7 +19,7 @@ pub const AMBIGUOUS: u8 = 3;
 /// A request of a script.
 #[derive(Clone, Copy)]
 pub enum Step {
-    /// Asks a goal by a step of this kind.
+    /// Evaluates a nested goal, by a step of this kind.
     Ask(usize, PathKind),
     /// Enters a candidate.
     Enter,
@@ -29,19 +29,19 @@ pub enum Step {
     Ignore(usize),
 }
 
-/// What a frame makes of the answers that it hears.
+/// How a frame's result depends on the answers of its nested goals.
 #[derive(Clone, Copy)]
 pub enum Rule {
-    /// It is done with the first answer that is no yes.
+    /// The frame ends at the first answer that is not a yes, with that answer.
     All,
-    /// It is done with a yes at the first yes.
+    /// The frame ends at the first yes, with a yes.
     Any,
-    /// It is done at the first answer, with what stands for it here: for no, for an overflow, for yes and for another ambiguity.
+    /// The frame ends at the first answer, with the result given here for it: for no, for an overflow, for yes, for another ambiguity.
     Map(u8, u8, u8, u8),
 }
 
 impl Rule {
-    /// The result of a frame that hears this answer, if it is done with it.
+    /// Returns the result of a frame that gets this answer, if the frame ends with it.
     pub fn decides(self, answer: u8) -> Option<u8>
         ensures { result ≡ decided self answer }
     {
@@ -63,16 +63,16 @@ impl Rule {
     }
 }
 
-/// What the frame of a goal does.
+/// The script of a goal's frame.
 pub struct Script {
-    /// Its requests, in order. No more than the first 64 are made.
+    /// Its requests, in order. At most the first 64 are made.
     pub steps: Vec<Step>,
     pub rule: Rule,
     /// The result after the last step.
     pub otherwise: u8,
 }
 
-// Written, so that what owns one drops it by one call at each way out, and not field by field.
+// Written by hand, so that owners drop it in one call (docs/PROVING.md, 'Drop').
 impl Drop for Script {
     fn drop(self) {
         let Script {
@@ -93,9 +93,9 @@ pub struct Scripts {
 #[derive(Drop)]
 pub struct ToyFrame {
     pub goal: usize,
-    /// How many replies it has had.
+    /// How many replies it has received.
     pub heard: usize,
-    /// It takes no more steps than this.
+    /// It takes at most this many steps.
     pub left: usize,
 }
 
@@ -243,7 +243,7 @@ impl Delegate for Toy {
         ensures steps { IfOk result (λ q. Steps toy_meaning cx.old frame.old reply cx.new frame.new q) }
         ensures falls { IfOk result (λ q. frame.new.left < frame.old.left) }
 
-        // What the script says, unless the frame has no step left or has heard as many replies as can be counted.
+        // The request of the script, unless the frame has no step left, or its number of replies is the greatest.
         ensures is { IfOk result (λ q. q ≡ asks_next (slice_get cx.old.goals.items frame.old.goal) frame.old.heard reply) }
         ensures counts { OnOk result ((frame.new.goal ≡ frame.old.goal) × (frame.new.heard ≡ frame.old.heard + 1) × (frame.new.left + 1 ≡ frame.old.left)) }
         ensures room { 1 ≤ frame.old.left → frame.old.heard + 1 < 2 ^ 64 → IsOk result }
@@ -271,7 +271,7 @@ impl Delegate for Toy {
     ghost divides = { lit≤ tt };
 }
 
-/// What the frame of a goal asks after so many replies and this one.
+/// Returns the request of the frame of a goal, after this many replies and this one.
 fn next_request(scripts: &Scripts, goal: usize, next: usize, reply: Reply<u8>) -> Request<usize, u8>
     ensures { result ≡ asks_next (slice_get scripts.now.goals.items goal) next reply }
 {
