@@ -1,4 +1,4 @@
-//! What equating variables and resolving them costs.
+//! The cost of equating and resolving variables.
 ghost use Rattle.std.specs.Prelude.{◌≤◌, ◌<◌};
 ghost use Rattle.type_terms.specs.Promised.Handles.{Keeps};
 ghost use Rattle.infer_table.specs.Content.{Ready};
@@ -14,7 +14,7 @@ use type_terms::interner::Interner;
 use type_terms::kinds::{GenericArgKind, TyKind};
 use type_terms::number::TyVid;
 
-/// In which order the pairs of neighbours are equated.
+/// The order in which the pairs of neighbours are equated.
 #[derive(Clone, Copy)]
 pub enum Order {
     /// The first pair first.
@@ -35,7 +35,7 @@ fn link(cx: &mut Interner, table: &mut InferCtxt, left: u32, right: u32) -> Resu
     table.eq(cx, GenericArgKind::Ty(left), GenericArgKind::Ty(right))
 }
 
-/// Equates each of so many type variables with the next.
+/// Equates each of `count` type variables with the next.
 fn link_all(
     cx: &mut Interner,
     table: &mut InferCtxt,
@@ -56,7 +56,7 @@ fn link_all(
     Ok(())
 }
 
-/// Resolves so many type variables; answers how many of them stand for the first.
+/// Resolves `count` type variables. Returns how many of them resolve to the first.
 fn resolve_all(cx: &mut Interner, table: &InferCtxt, count: u32) -> Result<u32, Fault>
     requires count { count ≤ MOST }
     requires ready { Ready cx.old.entries table.now }
@@ -73,7 +73,7 @@ fn resolve_all(cx: &mut Interner, table: &InferCtxt, count: u32) -> Result<u32, 
     Ok(found)
 }
 
-/// Equates each of so many type variables with the next, and resolves them all; answers how many stand for the first.
+/// Equates each of `count` type variables with the next, and resolves all of them. Returns how many resolve to the first.
 fn link_and_resolve(
     cx: &mut Interner,
     table: &mut InferCtxt,
@@ -87,7 +87,7 @@ fn link_and_resolve(
     Ok(resolve_all(cx, table, count)?)
 }
 
-/// Does so in a new interner and table.
+/// Does this in a new interner and table.
 pub fn chained(alloc: Global, count: u32, order: Order) -> Result<u32, EqError>
     requires { count ≤ MOST }
 {
@@ -108,7 +108,7 @@ fn nest(cx: &mut Interner, table: &mut InferCtxt, index: u32) -> Result<(), EqEr
     table.eq(cx, GenericArgKind::Ty(variable), GenericArgKind::Ty(value))
 }
 
-/// Gives each of so many type variables the slice of the next one as its value.
+/// Gives each of `count` type variables the slice of the next one as its value.
 fn nest_all(cx: &mut Interner, table: &mut InferCtxt, count: u32) -> Result<(), EqError>
     requires count { count ≤ MOST }
     requires ready { Ready cx.old.entries table.old }
@@ -120,9 +120,9 @@ fn nest_all(cx: &mut Interner, table: &mut InferCtxt, count: u32) -> Result<(), 
     Ok(())
 }
 
-/// Gives each of so many type variables the slice of the next one as its value, and resolves the first; answers how deep it is.
+/// Gives each of `count` type variables the slice of the next one as its value, and resolves the first. Returns how deep it is.
 ///
-/// No type that was equated is deep, but what comes out is.
+/// No equated type is deep, but the result is.
 fn nest_and_resolve(cx: &mut Interner, table: &mut InferCtxt, count: u32) -> Result<u32, EqError>
     requires count { count ≤ MOST }
     requires ready { Ready cx.old.entries table.old }
@@ -133,7 +133,7 @@ fn nest_and_resolve(cx: &mut Interner, table: &mut InferCtxt, count: u32) -> Res
     Ok(cx.depth(resolved))
 }
 
-/// Does so in a new interner and table.
+/// Does this in a new interner and table.
 pub fn nested_values(alloc: Global, count: u32) -> Result<u32, EqError>
     requires { count ≤ MOST }
 {

@@ -1,4 +1,4 @@
-//! What canonical forms cost.
+//! The cost of canonical forms.
 ghost use Rattle.std.specs.Prelude.{IfOk};
 ghost use Rattle.type_terms.specs.Promised.Handles.{Keeps};
 ghost use Rattle.type_terms.specs.Kinds.{TysHeld};
@@ -16,7 +16,7 @@ use type_terms::interner::Interner;
 use type_terms::kinds::{GenericArgKind, Ty, TyKind};
 use type_terms::{Fault, TraitId};
 
-/// So many unknown types.
+/// Returns `count` inference variables for types.
 fn unknowns(
     alloc: Global,
     cx: &mut Interner,
@@ -36,7 +36,7 @@ fn unknowns(
     Ok(tys)
 }
 
-/// A goal about the tuple of these types.
+/// Returns a goal about the tuple of these types.
 pub fn tuple_goal(alloc: Global, cx: &mut Interner, items: Vec<Ty>) -> Result<Goal, Fault>
     requires { TysHeld cx.old.entries items.items }
     ensures keeps { Keeps cx.old.entries cx.new.entries }
@@ -56,7 +56,7 @@ pub fn tuple_goal(alloc: Global, cx: &mut Interner, items: Vec<Ty>) -> Result<Go
     })
 }
 
-/// A goal about a tuple of so many new unknowns.
+/// Returns a goal about a tuple of `count` new inference variables.
 fn goal_of_unknowns(
     alloc: Global,
     cx: &mut Interner,
@@ -71,7 +71,7 @@ fn goal_of_unknowns(
     tuple_goal(alloc, cx, items)
 }
 
-/// Gives the canonical form of such a goal; answers how many variables it has.
+/// Makes the canonical form of such a goal. Returns how many variables it has.
 fn form_of_unknowns(
     alloc: Global,
     cx: &mut Interner,
@@ -85,7 +85,7 @@ fn form_of_unknowns(
     Ok(form.input.variables.len())
 }
 
-/// Does so in a new interner and table.
+/// Does this in a new interner and table.
 pub fn canonical(alloc: Global, count: u32) -> Result<usize, Fault> {
     let mut cx = Interner::new(alloc, HANDLES);
     let mut table = InferCtxt::new(alloc);

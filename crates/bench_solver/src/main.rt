@@ -1,7 +1,10 @@
 //! Small programs that show what the layers cost: `bench_solver NAME COUNT`, for timing by the scripts in `benches/`.
 //!
-//! They print what they made and no times. Exit statuses: 0 where that was printed, 2 where the words are not a program and
-//! a count, and 3 where a run, printing or memory failed.
+//! They print their results and no times. Exit statuses:
+//!
+//! - 0: the result was printed.
+//! - 2: the arguments are not a program and a count.
+//! - 3: a run or printing failed, or memory was refused.
 #![tactic(auto)]
 
 mod equations;
@@ -27,17 +30,17 @@ enum Program {
     Nested,
     /// Instances of one deep type.
     Instantiated,
-    /// The canonical form of a goal with many unknowns.
+    /// The canonical form of a goal with many inference variables.
     Canonical,
-    /// Goals that each ask ten which are cached.
+    /// Goals with ten cached nested goals each.
     Cached,
-    /// Goals that ask one another round.
+    /// Goals that are nested goals of each other, in a cycle.
     Cyclic,
-    /// A walk of a large term.
+    /// A traversal of a large term.
     Walked(Walk, Shape),
-    /// Variables that are each equated with the next, in this order of the pairs.
+    /// Variables, each equated with the next, in this order of the pairs.
     Chained(Order),
-    /// Variables whose values are slices of the next.
+    /// Variables, each with the slice of the next as its value.
     NestedValues,
 }
 
@@ -71,7 +74,7 @@ const SHAPES: [(&str, Shape); 3] = [
     ("structs", Shape::Structs),
 ];
 
-/// What has this name in the table.
+/// Returns the entry of the table with this name.
 fn named<T: Copy>(table: &[(&str, T)], name: &str) -> Option<T> {
     for (known, found) in table {
         if *known == name {
@@ -89,7 +92,7 @@ fn program_named(name: &str) -> Option<Program> {
     Some(Program::Walked(named(&WALKS, walk)?, named(&SHAPES, shape)?))
 }
 
-/// A program and a count of at most a million, where these are the words.
+/// Returns the program and a count of at most a million, if the arguments are these.
 fn program_and_count(name: &str, count: &str) -> Option<(Program, u32)>
     ensures { IfSome result (λ words. words.1 ≤ MOST) }
 {
@@ -101,7 +104,7 @@ fn program_and_count(name: &str, count: &str) -> Option<(Program, u32)>
     Some((program, count))
 }
 
-/// The program and the count that the words are, if they are no more than these.
+/// Returns the program and the count that the arguments are, if there are no more arguments.
 fn read_words<R: Env + Alloc>(rt: &R) -> Option<(Program, u32)>
     ensures { IfSome result (λ words. words.1 ≤ MOST) }
 {
@@ -115,7 +118,7 @@ fn read_words<R: Env + Alloc>(rt: &R) -> Option<(Program, u32)>
     }
 }
 
-/// Runs so much of a program, and prints what came of it; nothing where a table is full, or memory or printing failed.
+/// Runs a program with this count, and prints its result. Returns `None` if a table is full, memory is refused or printing fails.
 fn run(rt: &impl Print, alloc: Global, program: Program, count: u32) -> Option<()>
     requires { count ≤ MOST }
 {
@@ -131,7 +134,7 @@ fn print_counts(rt: &impl Print, counts: Counts) -> Option<()> {
     println!(rt; "{goals} goals, {yes} yes, {frames} frames").ok()
 }
 
-/// A number, with what is printed before it and after it.
+/// A number, with the text preceding it and the text after it.
 type Made = (&'static str, usize, &'static str);
 
 fn print_made(rt: &impl Print, made: Made) -> Option<()> {
@@ -139,7 +142,7 @@ fn print_made(rt: &impl Print, made: Made) -> Option<()> {
     println!(rt; "{before}{number}{after}").ok()
 }
 
-/// What comes of so much of a program that does not search.
+/// Runs a program that does not search, with this count.
 fn made(alloc: Global, program: Program, count: u32) -> Option<Made>
     requires { count ≤ MOST }
 {
@@ -170,7 +173,7 @@ fn made(alloc: Global, program: Program, count: u32) -> Option<Made>
     }
 }
 
-/// What comes of a walk of a term of that shape, so many levels deep.
+/// Runs a traversal of a term of that shape, `levels` levels deep.
 fn walked(alloc: Global, walk: Walk, shape: Shape, levels: u32) -> Option<Made> {
     let found = walks::run(alloc, walk, shape, levels)?;
     let (before, after) = match walk {

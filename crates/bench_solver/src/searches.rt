@@ -1,4 +1,4 @@
-//! The searches, over scripts.
+//! Searches over scripts.
 
 ghost use Rattle.std.specs.Prelude.{◌≤◌, ◌<◌, IfOk};
 ghost use Rattle.search_graph.specs.Cache.{AreJustified};
@@ -9,10 +9,10 @@ use std::alloc::{AllocError, Global};
 use std::ops::Range;
 use test_delegate::{Rule, Script, Scripts, Step, Toy, YES};
 
-/// What a search came to.
+/// The outcome of a search.
 #[derive(Clone, Copy)]
 pub struct Counts {
-    /// How many goals were evaluated by themselves.
+    /// How many root goals were evaluated.
     pub goals: usize,
     /// How many of them were answered by a yes.
     pub yes: usize,
@@ -20,10 +20,10 @@ pub struct Counts {
     pub frames: u64,
 }
 
-/// How many goals each goal asks that is evaluated over cached results.
+/// How many cached nested goals each goal has.
 const ASKED: usize = 10;
 
-/// Adds a goal that is a yes where all that it asks are.
+/// Adds a goal whose answer is yes if those of all its nested goals are.
 fn add_goal(scripts: &mut Scripts, steps: Vec<Step>) -> Result<(), AllocError> {
     scripts.goals.push(Script {
         steps,
@@ -33,7 +33,7 @@ fn add_goal(scripts: &mut Scripts, steps: Vec<Step>) -> Result<(), AllocError> {
     Ok(())
 }
 
-/// Steps that ask all of the ten facts.
+/// Returns steps that evaluate all of the ten facts.
 fn steps_over_facts(alloc: Global) -> Result<Vec<Step>, AllocError> {
     let mut steps = Vec::with_capacity(alloc, ASKED)?;
     for fact in 0..ASKED {
@@ -42,7 +42,7 @@ fn steps_over_facts(alloc: Global) -> Result<Vec<Step>, AllocError> {
     Ok(steps)
 }
 
-/// Adds ten facts, and so many goals that each ask all of these.
+/// Adds ten facts, and `count` goals with all of these as nested goals.
 fn add_facts_and_goals(
     alloc: Global,
     scripts: &mut Scripts,
@@ -58,7 +58,7 @@ fn add_facts_and_goals(
     Ok(())
 }
 
-/// Adds so many goals of which each asks the one after it, the last the first, and each the one before it.
+/// Adds `count` goals. The nested goals of each are the next one, or the first after the last, and the previous one.
 fn add_ring(alloc: Global, scripts: &mut Scripts, count: usize) -> Result<(), AllocError> {
     for goal in 0..count {
         let after = if goal + 1 < count { goal + 1 } else { 0 };
@@ -72,7 +72,7 @@ fn add_ring(alloc: Global, scripts: &mut Scripts, count: usize) -> Result<(), Al
     Ok(())
 }
 
-/// Evaluates a goal in a new search with this depth; answers its result, and how many frames were started.
+/// Evaluates a goal in a new search with this depth. Returns its result, and how many frames were started.
 fn evaluate(
     alloc: Global,
     scripts: &mut Scripts,
@@ -89,7 +89,7 @@ fn evaluate(
     Ok((answer, graph.frames()))
 }
 
-/// Evaluates the goals in turn on this cache, with this depth.
+/// Evaluates the goals one after another on this cache, with this depth.
 fn evaluate_each(
     alloc: Global,
     scripts: &mut Scripts,
@@ -116,7 +116,7 @@ fn evaluate_each(
     Ok(counts)
 }
 
-/// Evaluates the goals in turn on one new cache, with this depth.
+/// Evaluates the goals one after another on one new cache, with this depth.
 fn evaluate_all(
     alloc: Global,
     scripts: &mut Scripts,
@@ -135,7 +135,7 @@ fn no_goals(alloc: Global) -> Scripts {
     }
 }
 
-/// So many goals that each ask ten whose results are cached.
+/// Evaluates `count` goals with ten cached nested goals each.
 pub fn cached(alloc: Global, count: usize) -> Result<Counts, GraphFault>
     requires { count ≤ 1000000 }
 {
@@ -144,7 +144,7 @@ pub fn cached(alloc: Global, count: usize) -> Result<Counts, GraphFault>
     evaluate_all(alloc, &mut scripts, 8, ASKED..ASKED + count)
 }
 
-/// So many goals that ask one another, from the first on.
+/// Evaluates `count` goals that are nested goals of each other, from the first on.
 pub fn cyclic(alloc: Global, count: usize) -> Result<Counts, GraphFault>
     requires { count ≤ 1000000 }
 {

@@ -1,4 +1,4 @@
-//! What making and instantiating terms costs.
+//! The cost of making and instantiating terms.
 ghost use Rattle.std.specs.Prelude.{IfOk};
 ghost use Rattle.type_terms.specs.Promised.Handles.{Has, Keeps, types};
 ghost use Rattle.type_terms.specs.Terms.{args_lists};
@@ -14,7 +14,7 @@ use type_terms::{AdtId, Fault};
 /// More handles of each kind than a run makes.
 pub const HANDLES: u32 = 16_777_216;
 
-/// A type in so many slices, one in the other.
+/// Returns a type in `count` nested slices.
 pub fn slices(cx: &mut Interner, leaf: Ty, count: u32) -> Result<Ty, Fault>
     requires leaf { Has cx.old.entries types leaf.0 }
     ensures made { IfOk result (λ ty. Has cx.new.entries types ty.0) }
@@ -27,7 +27,7 @@ pub fn slices(cx: &mut Interner, leaf: Ty, count: u32) -> Result<Ty, Fault>
     Ok(ty)
 }
 
-/// A type in so many structs of one argument, one in the other.
+/// Returns a type in `count` nested structs of one argument.
 pub fn structs(cx: &mut Interner, alloc: Global, leaf: Ty, count: u32) -> Result<Ty, Fault>
     requires leaf { Has cx.old.entries types leaf.0 }
     ensures made { IfOk result (λ ty. Has cx.new.entries types ty.0) }
@@ -41,20 +41,20 @@ pub fn structs(cx: &mut Interner, alloc: Global, leaf: Ty, count: u32) -> Result
     Ok(ty)
 }
 
-/// Makes so many types, each nested in the next; answers how deep the last one is.
+/// Makes `count` types, each nested in the next. Returns how deep the last one is.
 fn nest(cx: &mut Interner, count: u32) -> Result<u32, Fault> {
     let leaf = cx.mk_ty(TyKind::Param(0))?;
     let ty = slices(cx, leaf, count)?;
     Ok(cx.depth(ty))
 }
 
-/// Does so in a new interner.
+/// Does this in a new interner.
 pub fn nested(alloc: Global, count: u32) -> Result<u32, Fault> {
     let mut cx = Interner::new(alloc, HANDLES);
     nest(&mut cx, count)
 }
 
-/// The list of the argument `u8` alone.
+/// Returns the list of the argument `u8` alone.
 pub fn byte_args(cx: &mut Interner, alloc: Global) -> Result<GenericArgs, Fault>
     ensures made { IfOk result (λ args. Has cx.new.entries args_lists args.0) }
     ensures keeps { Keeps cx.old.entries cx.new.entries }
@@ -63,10 +63,10 @@ pub fn byte_args(cx: &mut Interner, alloc: Global) -> Result<GenericArgs, Fault>
     cx.mk_args(vec![in alloc; GenericArgKind::Ty(byte)]?)
 }
 
-/// How deep the type with a parameter is that `instantiated` uses.
+/// The depth of the type with a parameter that `instantiated` uses.
 const DEEP: u32 = 64;
 
-/// Puts the arguments for the parameters of the type so many times; answers how often another type came out.
+/// Instantiates the type with the arguments `count` times. Returns how often the result is another type.
 fn instantiate_often(
     alloc: Global,
     cx: &mut Interner,
@@ -91,7 +91,7 @@ fn instantiate_often(
     Ok(made)
 }
 
-/// Puts `u8` for the parameter of a type that is 64 deep, so many times; answers how often another type came out.
+/// Instantiates the parameter of a type that is 64 levels deep with `u8`, `count` times. Returns how often the result is another type.
 fn instantiate_deep(alloc: Global, cx: &mut Interner, count: u32) -> Result<u32, InstantiateError> {
     let args = byte_args(cx, alloc)?;
     let leaf = cx.mk_ty(TyKind::Param(0))?;
@@ -99,13 +99,13 @@ fn instantiate_deep(alloc: Global, cx: &mut Interner, count: u32) -> Result<u32,
     instantiate_often(alloc, cx, ty, args, count)
 }
 
-/// Does so in a new interner.
+/// Does this in a new interner.
 pub fn instantiated(alloc: Global, count: u32) -> Result<u32, InstantiateError> {
     let mut cx = Interner::new(alloc, HANDLES);
     instantiate_deep(alloc, &mut cx, count)
 }
 
-/// A type at the ends of pairs of pairs, so many levels deep: a tree that doubles at each level.
+/// Returns pairs of pairs over a type, `levels` levels deep. The written-out type doubles at each level.
 pub fn pairs(cx: &mut Interner, alloc: Global, leaf: Ty, levels: u32) -> Result<Ty, Fault>
     requires leaf { Has cx.old.entries types leaf.0 }
     ensures made { IfOk result (λ ty. Has cx.new.entries types ty.0) }

@@ -1,4 +1,4 @@
-//! What walks of one large term cost, by what they do and by how the term is built.
+//! The cost of traversals of one large term, by their purpose and by the shape of the term.
 ghost use Rattle.std.specs.Prelude.{IfOk};
 ghost use Rattle.type_terms.specs.Promised.Handles.{Has, Keeps, types};
 ghost use Rattle.infer_table.specs.Content.{Ready};
@@ -21,36 +21,36 @@ use type_terms::kinds::{GenericArgKind, Mutability, Ty, TyKind, UintTy};
 use type_terms::number::{RegionVid, TyVid};
 use type_terms::region::{Region, RegionKind};
 
-/// How a large term is built over its leaf.
+/// The shape of a large term over its leaf.
 #[derive(Clone, Copy)]
 pub enum Shape {
-    /// Pairs of pairs: the tree doubles at each level.
+    /// Pairs of pairs: the written-out term doubles at each level.
     Pairs,
     Slices,
     /// Structs of one argument.
     Structs,
 }
 
-/// What is done with a large term, and what number comes of it.
+/// What is done with a large term, and the number that is returned.
 #[derive(Clone, Copy)]
 pub enum Walk {
-    /// An argument is put for its parameter; how deep the instance is.
+    /// Its parameter is instantiated. Returns how deep the instance is.
     Instantiated,
-    /// Its variable gets a value, and it is resolved; how deep what comes out is.
+    /// Its variable gets a value, and the term is resolved. Returns how deep the result is.
     Resolved,
-    /// It becomes a variable's value; how deep that is.
+    /// It becomes a variable's value. Returns how deep that is.
     Bound,
-    /// It is equated with such a term over another variable; how deep they are.
+    /// It is equated with such a term over another variable. Returns how deep they are.
     Equated,
-    /// It is equated with such a term over another lifetime; how many constraints that records.
+    /// It is equated with such a term over another lifetime. Returns how many constraints that records.
     Related,
-    /// A goal about it gets its canonical form; how many variables that has.
+    /// A goal about it gets its canonical form. Returns how many variables that has.
     Canonicalized,
-    /// And the form gets new unknowns; how many.
+    /// The canonical form is also instantiated with new inference variables. Returns how many.
     Reopened,
 }
 
-/// A type over a leaf, so many levels deep.
+/// Returns a type over a leaf, `levels` levels deep.
 fn tower(cx: &mut Interner, alloc: Global, shape: Shape, leaf: Ty, levels: u32) -> Result<Ty, Fault>
     requires { Has cx.old.entries types leaf.0 }
     ensures made { IfOk result (λ ty. Has cx.new.entries types ty.0) }
@@ -63,7 +63,7 @@ fn tower(cx: &mut Interner, alloc: Global, shape: Shape, leaf: Ty, levels: u32) 
     }
 }
 
-/// Puts `u8` for the parameter at the ends of a type; answers how deep the instance is.
+/// Instantiates the parameter at the leaves of a type with `u8`. Returns how deep the instance is.
 fn instantiated(
     alloc: Global,
     cx: &mut Interner,
@@ -81,7 +81,7 @@ fn instantiated(
     Ok(cx.depth(instance) as usize)
 }
 
-/// The first two type variables.
+/// Returns two new type variables.
 fn unknowns(cx: &mut Interner) -> Result<(Ty, Ty), Fault>
     ensures first { IfOk result (λ tys. Has cx.new.entries types tys.0.0) }
     ensures second { IfOk result (λ tys. Has cx.new.entries types tys.1.0) }
@@ -103,7 +103,7 @@ fn equate(cx: &mut Interner, table: &mut InferCtxt, left: Ty, right: Ty) -> Resu
     table.eq(cx, GenericArgKind::Ty(left), GenericArgKind::Ty(right))
 }
 
-/// Gives a variable that stands at the ends of a type the value `u8`, and resolves the type; answers how deep what comes out is.
+/// Gives the variable at the leaves of a type the value `u8`, and resolves the type. Returns how deep the result is.
 fn resolved(
     alloc: Global,
     cx: &mut Interner,
@@ -121,7 +121,7 @@ fn resolved(
     Ok(cx.depth(resolved) as usize)
 }
 
-/// Equates a new variable with a type over another; answers how deep its value is.
+/// Equates a new variable with a type over another. Returns how deep its value is.
 fn bound(
     alloc: Global,
     cx: &mut Interner,
@@ -138,7 +138,7 @@ fn bound(
     Ok(cx.depth(value) as usize)
 }
 
-/// Equates two types over these leaves; answers how deep they are.
+/// Equates two types over these leaves. Returns how deep they are.
 fn towers_equated(
     alloc: Global,
     cx: &mut Interner,
@@ -157,7 +157,7 @@ fn towers_equated(
     Ok(cx.depth(right) as usize)
 }
 
-/// Equates two types, each over a variable of its own; answers how deep they are.
+/// Equates two types, each over a variable of its own. Returns how deep they are.
 fn equated(
     alloc: Global,
     cx: &mut Interner,
@@ -171,7 +171,7 @@ fn equated(
     towers_equated(alloc, cx, table, shape, leaves, levels)
 }
 
-/// References to `u8` with two lifetime variables.
+/// Returns references to `u8` with two lifetime variables.
 fn references(cx: &mut Interner) -> Result<(Ty, Ty), Fault>
     ensures first { IfOk result (λ tys. Has cx.new.entries types tys.0.0) }
     ensures second { IfOk result (λ tys. Has cx.new.entries types tys.1.0) }
@@ -183,17 +183,17 @@ fn references(cx: &mut Interner) -> Result<(Ty, Ty), Fault>
     Ok((first, second))
 }
 
-/// A lifetime variable.
+/// Returns a lifetime variable.
 const FIRST: Region = Region {
     kind: RegionKind::ReVar(RegionVid { index: 0 }),
 };
 
-/// Another.
+/// Returns another lifetime variable.
 const SECOND: Region = Region {
     kind: RegionKind::ReVar(RegionVid { index: 1 }),
 };
 
-/// Equates two types that differ in the lifetime at their ends; answers how many constraints that records.
+/// Equates two types that differ in the lifetime at their leaves. Returns how many constraints that records.
 fn related(
     alloc: Global,
     cx: &mut Interner,
@@ -208,7 +208,7 @@ fn related(
     Ok(table.region_constraints().len())
 }
 
-/// A goal about a type over a new unknown.
+/// Returns a goal about a type over a new inference variable.
 fn tower_goal(
     alloc: Global,
     cx: &mut Interner,
@@ -225,7 +225,7 @@ fn tower_goal(
     tuple_goal(alloc, cx, vec![in alloc; ty]?)
 }
 
-/// The canonical form of a goal about a type over an unknown.
+/// Returns the canonical form of a goal about a type over an inference variable.
 fn form(
     alloc: Global,
     cx: &mut Interner,
@@ -242,7 +242,7 @@ fn form(
     Ok(form.input)
 }
 
-/// Gives the canonical form of a goal about a type over an unknown; answers how many variables it has.
+/// Makes the canonical form of a goal about a type over an inference variable. Returns how many variables it has.
 fn canonicalized(
     alloc: Global,
     cx: &mut Interner,
@@ -256,7 +256,7 @@ fn canonicalized(
     Ok(input.variables.len())
 }
 
-/// Gives such a form, and makes the goal of it that has new unknowns; answers how many it has.
+/// Makes such a canonical form, and instantiates it with new inference variables. Returns how many there are.
 fn reopened(
     alloc: Global,
     cx: &mut Interner,
@@ -271,7 +271,7 @@ fn reopened(
     Ok(opened.values.len())
 }
 
-/// What the walk of such a term comes to, over this interner and table.
+/// Traverses such a term, in this interner and table. Returns the number of the traversal.
 fn walked(
     alloc: Global,
     cx: &mut Interner,
@@ -293,10 +293,10 @@ fn walked(
     }
 }
 
-/// Walks a term of that shape, so many levels deep, in a new interner; answers the walk's number, or nothing where a table is full or
-/// memory was refused.
+/// Traverses a term of that shape, `levels` levels deep, in a new interner. Returns the number of the traversal, or `None` if a table is
+/// full or memory was refused.
 ///
-/// It alone owns the tables, and has one way out: what owns much is dear to prove at each `?`.
+/// It alone owns the tables, and has one exit, since each `?` of a function that owns much makes its proof slower.
 pub fn run(alloc: Global, walk: Walk, shape: Shape, levels: u32) -> Option<usize> {
     let mut cx = Interner::new(alloc, HANDLES);
     let mut table = InferCtxt::new(alloc);
