@@ -1,4 +1,4 @@
--- The results of a cache as a caller sees them.
+-- The results of a cache, as clauses of public calls describe them.
 use Rattle.std.proofs.Common.{◌≡◌, ◌<◌, ◌+◌, ℕ, zero, suc, Bool, true, List, [], ◌∷◌, ◌++◌, ◌⊎◌, length, inl, inr, refl, sym, ap, ◌∙◌, subst, Some, slice_get, take, drop}
 use Rattle.std.proofs.lemmas.Option.{none-some, same_Some}
 use Rattle.search_graph.specs.declared.cache.CacheEntry.{CacheEntry}

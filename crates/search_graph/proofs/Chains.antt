@@ -1,4 +1,4 @@
--- How the walk along the results of a goal meets each of them.
+-- The traversal of the results of a goal visits each of them.
 use Rattle.std.proofs.Common.{◌≡◌, ℕ, zero, suc, ◌+◌, ◌<◌, ◌≤◌, sym, ap, refl, ◌∙◌, Bool, true, false, cond, nat_eq, List, [], ◌∷◌, ◌++◌, length, get_or, slice_get, take, set, subst, Option, Some, None, Result, Ok, Err, IfOk, IfSome, IfNone, ◌⊎◌, inl, inr, arith}
 use Rattle.std.proofs.lemmas.Bool.{eqb-true, eq-eqb}
 use Rattle.std.proofs.lemmas.Option.{none-some, same_Some, slice_get_within}

@@ -1,4 +1,4 @@
--- A goal is put on the stack with its list, and leaves it with that.
+-- A goal is pushed with its list of entries, and popped with it.
 use Rattle.std.proofs.Common.{◌≡◌, ◌+◌, true, false, List, [], ◌∷◌, ◌++◌, Option, Some, None, Result, Ok, Err, length, refl, ap, arith}
 use Rattle.std.specs.Option.{option_to_list, IsSome}
 use Rattle.std.specs.Result.{OnOk}

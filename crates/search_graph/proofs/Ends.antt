@@ -1,4 +1,4 @@
--- The reply to a question whose goal is run no more.
+-- The result of a goal after its last run.
 use Rattle.std.proofs.Common.{◌≡◌, ◌∙◌, ◌≤◌, ℕ, Bool, false, List, [], length, sym, Result, Ok, Err}
 use Rattle.std.specs.Result.{IfOk, OnOk}
 use Rattle.search_graph.specs.declared.path_kind.PathKind.{PathKind}

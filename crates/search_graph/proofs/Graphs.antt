@@ -1,4 +1,4 @@
--- Proof graphs over stacks, and what stacks, caches and runs keep.
+-- Proof graphs over stacks, and what stacks, caches and runs preserve.
 use Rattle.std.proofs.Common.{◌≡◌, ℕ, ◌+◌, ◌↔◌, Bool, true, false, cond, List, [], ◌∷◌, ◌++◌, inl, inr, refl, sym, ◌∙◌, ap, subst, Option, Some, None, MatchOption, zero, suc, arith, take, drop, length, unwrap_or}
 use Rattle.std.proofs.Common.{get_or, slice_get}
 use Rattle.std.proofs.lemmas.Option.{slice_get_within, get_or_from_slice_get, MatchOption-at_some}

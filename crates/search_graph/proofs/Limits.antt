@@ -1,4 +1,4 @@
--- Answers in which no limit had a part.
+-- Answers that depend on no limit.
 use Rattle.std.proofs.Common.{◌≡◌, ℕ, ◌+◌, Bool, true, false, List, [], ◌∷◌, ◌++◌, inl, inr, refl, sym, ◌∙◌, subst, Option, Some, None, MatchOption, take, drop, slice_get}
 use Rattle.search_graph.specs.declared.path_kind.PathKind.{PathKind}
 use Rattle.search_graph.specs.declared.stack.StackEntry.{StackEntry}

@@ -1,4 +1,4 @@
--- Goals are noted where they are listed as asked.
+-- Goals are recorded if they are listed as evaluated.
 use Rattle.std.proofs.Common.{◌≡◌, ◌∙◌, ◌≤◌, ◌<◌, ◌+◌, ℕ, suc, zero, sym, ap, refl, subst, Bool, true, false, nat_eq, List, [], ◌∷◌, ◌++◌, length, get_or, slice_get, Some, All, ◌⊎◌, inl, inr, arith, IsSome}
 use Rattle.std.proofs.Math.ListN.{set}
 use Rattle.std.proofs.lemmas.Bool.{eqb-true, eq-eqb}

@@ -1,4 +1,4 @@
--- Orders of places and of counts, on numbers alone.
+-- Orders of indices and of counts, on numbers alone.
 use Rattle.std.proofs.Common.{◌≡◌, ℕ, ◌+◌, ◌-◌, ◌^◌, ◌<◌, ◌≤◌, min, arith}
 
 pub from_zero : (n m : ℕ) → n ≡ 0 → n ≤ m

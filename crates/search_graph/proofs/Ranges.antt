@@ -1,4 +1,4 @@
--- The ranges of cached results and of the stack hold the goals that they should.
+-- The ranges of cached results and of the stack contain the numbers of their goals.
 use Rattle.std.proofs.Common.{◌≡◌, ℕ, zero, suc, ◌+◌, ◌-◌, ◌<◌, ◌≤◌, sym, ap, refl, ◌∙◌, subst, Bool, true, false, nat_eq, List, [], ◌∷◌, ◌++◌, length, get_or, slice_get, take, Some, None, if◌then◌else◌, All, ◌⊎◌, inl, inr, arith, IsSome, IsTrue}
 use Rattle.std.proofs.lemmas.Bool.{eqb-true, eq-eqb}
 use Rattle.std.proofs.lemmas.Option.{none-some, same_Some, slice_get_within, get_or_from_slice_get, slice_get-get_or}

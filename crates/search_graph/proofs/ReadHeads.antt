@@ -1,4 +1,4 @@
--- What was read by heads that were reached through another one.
+-- The paths of heads that were read through another head.
 use Rattle.std.proofs.Common.{◌≡◌, ℕ, zero, suc, ◌<◌, ◌↔◌, ◌⊎◌, inl, inr, true, false, cond, eqb, not, filter, All, List, [], ◌∷◌, ◌++◌, Option, None, Some, IfSome, IfNone, unwrap_or, get_or, length, refl, sym, ap, subst, ◌∙◌, arith}
 use Rattle.std.proofs.lemmas.Bool.{eq-eqb, ne_eqb}
 use Rattle.std.proofs.lemmas.List.Quantifiers.{position-Some}

@@ -1,4 +1,4 @@
--- What a refusal says of a result: a claim on what was found says nothing.
+-- If a call failed, a claim about its result says nothing.
 use Rattle.std.proofs.Common.{◌≡◌, Result, Ok, Err, ◌⊎◌, inr}
 use Rattle.std.specs.Result.{IfOk, OnOk}
 use Rattle.search_graph.proofs.Errors.{ok_not_err}

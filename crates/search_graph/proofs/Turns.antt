@@ -1,4 +1,4 @@
--- What a frame's request brings, by the candidates.
+-- What is due after a frame's request, by its candidates.
 use Rattle.std.proofs.Common.{◌≡◌, Bool, true, false, List, [], ◌∷◌, ◌++◌, Some, length, ℕ, slice_get, slice_set, refl, sym, ◌∙◌, ap, subst}
 use Rattle.search_graph.specs.declared.delegate.Request.{Request}
 use Rattle.search_graph.specs.declared.delegate.Request.TheVariants.{Evaluate, EnterCandidate, FinishCandidate, IgnoreCandidate, Done}

@@ -1,7 +1,7 @@
 -- Laws of an operation.
 use Rattle.std.specs.Prelude.{◌≡◌}
 
--- of three in a row either two may be taken together first
+-- of three in a row, the first two or the last two may be combined first
 abbrev pub IsAssociative : {A : Type 0} → (A → A → A) → Type 0
 IsAssociative {A} f = (a b c : A) → f (f a b) c ≡ f a (f b c)
 

@@ -3,7 +3,7 @@ use Rattle.std.specs.Prelude.{◌≡◌, ◌-◌, ◌^◌, ◌≤◌, ◌++◌, 
 use Rattle.search_graph.specs.declared.nested_goals.Span.{Span}
 use Rattle.search_graph.specs.declared.nested_goals.NestedGoals.{NestedGoals}
 
--- the goal of this number lies in the range
+-- the range contains this number
 abbrev pub IsWithin : Span → ℕ → Type 0
 IsWithin span number = (span.lowest ≤ number) × (number ≤ span.highest)
 
@@ -19,14 +19,14 @@ one_goal number = record { lowest = number; highest = number }
 abbrev pub covered : Span → Span → Span
 covered a b = record { lowest = min a.lowest b.lowest; highest = max a.highest b.highest }
 
--- the goal of this number was asked, and nothing else
+-- the goal of this number was evaluated, and nothing else
 abbrev pub AsksAlone : ℕ → NestedGoals → Type 0
 AsksAlone number nested = (nested.goals.items ≡ number ∷ []) × (nested.cached.items ≡ []) × (nested.span ≡ covered no_goal (one_goal number))
 
--- the cached result at this place was used, and nothing else
+-- the stored result with this index was used, and nothing else
 abbrev pub UsesAlone : ℕ → NestedGoals → Type 0
 UsesAlone place nested = (nested.goals.items ≡ []) × (nested.cached.items ≡ place ∷ [])
 
--- after the first ones the goal of this number was asked
+-- the goal of this number is added to the first ones
 abbrev pub AlsoAsks : NestedGoals → ℕ → NestedGoals → Type 0
 AlsoAsks nested number more = (more.goals.items ≡ nested.goals.items ++ number ∷ []) × (more.cached ≡ nested.cached)

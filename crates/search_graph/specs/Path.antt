@@ -1,10 +1,10 @@
--- Kinds of steps, and the paths that they make.
+-- Kinds of steps, and of the paths that they make.
 use Rattle.std.specs.Prelude.{◌≡◌, ◌+◌, ◌^◌, ◌↔◌, ℕ, Bool, true, false, Option, Some, None}
 use Rattle.std.specs.Int.{bit_at}
 use Rattle.search_graph.specs.declared.path_kind.PathKind.{PathKind}
 use Rattle.search_graph.specs.declared.path_kind.PathKind.TheVariants.{Inductive, Unknown, Coinductive, ForcedAmbiguity}
 
--- the place of a kind in the order
+-- the position of a kind in the order
 abbrev pub rank : PathKind → ℕ
 rank Inductive = 0
 rank Unknown = 1
@@ -31,22 +31,22 @@ greater Coinductive Coinductive = Coinductive
 greater Coinductive ForcedAmbiguity = ForcedAmbiguity
 greater ForcedAmbiguity k = ForcedAmbiguity
 
--- A path is known by the greatest kind of its steps, and the path without a step is none.
+-- A path is represented by the greatest kind of its steps, and the path without a step by None.
 -- This is the kind of a path that is extended by a step of the kind k
 abbrev pub after : Option PathKind → PathKind → PathKind
 after None k = k
 after (Some j) k = greater j k
 
--- the place of a path's flag
+-- the index of a path's bit
 abbrev pub flag_of : Option PathKind → ℕ
 flag_of None = 0
 flag_of (Some k) = 1 + rank k
 
--- A set of paths is the number whose bits are their flags. It has this path
+-- A set of paths is a number with a bit for each. The set has this path
 abbrev pub HasPath : ℕ → Option PathKind → Type 0
 HasPath paths path = bit_at paths (flag_of path) ≡ 1
 
--- the set of this path alone
+-- the set with this path alone
 abbrev pub only : Option PathKind → ℕ
 only path = 2 ^ flag_of path
 
@@ -62,6 +62,6 @@ AreExtendedWhere kinds k paths longer = (path : Option PathKind) → HasPath lon
 abbrev pub IsExtended : ℕ → ℕ → Option PathKind → Type 0
 IsExtended kinds paths path = (k : PathKind) × HasPath kinds (Some k) × (shorter : Option PathKind) × HasPath paths shorter × (path ≡ Some (after shorter k))
 
--- the third set has exactly these
+-- the third set has exactly these paths
 abbrev pub AreExtendedByEach : ℕ → ℕ → ℕ → Type 0
 AreExtendedByEach kinds paths longer = (path : Option PathKind) → HasPath longer path ↔ IsExtended kinds paths path

@@ -1,4 +1,4 @@
--- Plain recursion over frames: no stack, no cycle, no rerun, no cache and no limit.
+-- Plain recursion over frames, without stack, cycles, reruns, cache and limit.
 use Rattle.std.specs.Prelude.{◌≡◌, ◌≤◌, ◌<◌, ℕ, List, [], ◌∷◌}
 use Rattle.std.proofs.Common.{suc, zero}
 use Rattle.search_graph.specs.declared.delegate.Request.TheVariants.{Done}
@@ -7,27 +7,28 @@ use Rattle.search_graph.specs.declared.delegate.Reply.TheVariants.{Begin}
 use Rattle.search_graph.specs.Meaning.{Meaning, IsDueAt, IsReplyBy}
 
 module _ {C I R F : Type 0} (m : Meaning C I R F) where
-  -- after what was heard, the newest first, these replies come in order, to questions by P, and then the frame is done with a
+  -- After the replies `heard`, the newest first, these replies come in order, and the frame ends with a. P is true of each
+  -- nested goal and its answer
   abbrev pub Completes : m.World → (m.Goal → m.Answer → Type 0) → m.Goal → List (Reply m.Answer) → List (Reply m.Answer) → m.Answer → Type 0
   Completes w P g heard [] a = m.asks w g heard ≡ Done a
   Completes w P g heard (reply ∷ rest) a = IsDueAt m w g heard (m.asks w g heard) reply × IsReplyBy m P (m.asks w g heard) reply × Completes w P g (reply ∷ heard) rest a
 
-  -- the goal is answered so by recursion over frames, in chains of fewer than n questions
+  -- plain recursion gives the goal this answer, in chains of fewer than n nested goals
   abbrev pub IsPlain : m.World → ℕ → m.Goal → m.Answer → Type 0
   IsPlain w zero g a = ⊥
   IsPlain w (suc n) g a = (rest : List (Reply m.Answer)) × Completes w (IsPlain w n) g (Begin ∷ []) rest a
 
-  -- each plain answer in chains of fewer than limit questions is a
+  -- each answer of plain recursion in chains of fewer than `limit` nested goals is a
   abbrev pub IsExact : m.World → ℕ → m.Goal → m.Answer → Type 0
   IsExact w limit g a = (n : ℕ) (b : m.Answer) → n ≤ limit → IsPlain w n g b → b ≡ a
 
   abbrev pub IsNotPlain : m.World → ℕ → m.Goal → Type 0
   IsNotPlain w limit g = (n : ℕ) (b : m.Answer) → n ≤ limit → IsPlain w n g b → ⊥
 
-  -- plain recursion on h asks g, on a shorter chain
+  -- plain recursion on h evaluates g, in a shorter chain
   abbrev pub Descends : m.World → ℕ → m.Goal → m.Goal → Type 0
   Descends w limit h g = (n : ℕ) (b : m.Answer) → n ≤ limit → IsPlain w n h b → (k : ℕ) × (c : m.Answer) × (k < n) × IsPlain w k g c
 
-  -- what was heard is what plain recursion hears
+  -- the replies are those of plain recursion
   abbrev pub IsOnTrack : m.World → ℕ → m.Goal → List (Reply m.Answer) → Type 0
   IsOnTrack w limit g heard = (n : ℕ) (a : m.Answer) → suc n ≤ limit → IsPlain w (suc n) g a → (rest : List (Reply m.Answer)) × Completes w (IsPlain w n) g heard rest a

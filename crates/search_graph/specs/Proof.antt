@@ -1,4 +1,4 @@
--- Proofs: finitely many goals, each derived by rules down to coinductive questions of goals among them.
+-- Proofs: finitely many goals, each derived by rules, down to coinductive steps to goals among them.
 use Rattle.std.specs.Prelude.{◌≡◌, true, List, [], ◌∷◌, ◌⊎◌}
 use Rattle.search_graph.specs.declared.path_kind.PathKind.{PathKind}
 use Rattle.search_graph.specs.Path.{is_coinductive_path}
@@ -7,13 +7,13 @@ abbrev pub IsAmong : {G : Type 0} → G → List G → Type 0
 IsAmong g [] = ⊥
 IsAmong g (h ∷ goals) = (g ≡ h) ⊎ IsAmong g goals
 
--- the questions are derived by rules, down to coinductive questions of goals that are assumed
+-- the nested goals are derived by rules, down to coinductive steps to assumed goals
 pub data Derivation (G : Type 0) (Follows : G → List (G × PathKind) → Type 0) (assumed : List G) : List (G × PathKind) → Type 0 where
   end : Derivation G Follows assumed []
   again : {rest : List (G × PathKind)} {g : G} {k : PathKind} → is_coinductive_path k ≡ true → IsAmong g assumed → Derivation G Follows assumed rest → Derivation G Follows assumed ((g, k) ∷ rest)
   by_rule : {rest premises : List (G × PathKind)} {g : G} {k : PathKind} → Follows g premises → Derivation G Follows assumed premises → Derivation G Follows assumed rest → Derivation G Follows assumed ((g, k) ∷ rest)
 
--- some rule concludes the goal, and its premises are derived
+-- a rule concludes the goal, and its premises are derived
 abbrev pub IsDerived : (G : Type 0) → (G → List (G × PathKind) → Type 0) → List G → G → Type 0
 IsDerived G Follows assumed g = (premises : List (G × PathKind)) × Follows g premises × Derivation G Follows assumed premises
 

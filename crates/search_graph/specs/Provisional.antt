@@ -1,4 +1,4 @@
--- Results that rest on goals of the stack, kept for the runs of those goals: a list of entries for each goal of the stack.
+-- Provisional entries: results that depend on goals of the stack, stored during the runs of those goals.
 use Rattle.std.specs.Prelude.{◌≡◌, ◌≤◌, ◌+◌, ◌↔◌, ◌⊎◌, ℕ, Bool, true, false, length, take, drop, List, [], ◌∷◌, ◌++◌, Option, Some, slice_get}
 use Rattle.std.specs.Global.{Vec}
 use Rattle.search_graph.specs.declared.path_kind.PathKind.{PathKind}
@@ -19,14 +19,14 @@ use Rattle.search_graph.specs.Rests.{ShownFor}
 use Rattle.search_graph.specs.Faithful.{HeadsDescend}
 
 module _ {I R : Type 0} where
-  -- the entry is of this goal, for a path of this kind, and needs no more than this depth
+  -- the entry is of this goal, for a path of this kind, and needed at most this depth
   pub record IsServing (number : ℕ) (input : I) (path : PathKind) (depth : ℕ) (e : ProvisionalEntry I R) : Type 0 where
     pub numbered : e.number ≡ number
     pub same : e.input ≡ input
     pub alike : e.kind ≡ path
     pub within : e.required_depth ≤ depth
 
-  -- the entry stands at this place of the list of the goal at that place of the stack
+  -- the entry has the index `place` in the list of the goal with the index `head` in the stack
   abbrev pub IsEntryAt : List (Vec (ProvisionalEntry I R)) → ℕ → ℕ → ProvisionalEntry I R → Type 0
   IsEntryAt lists head place e = (list : Vec (ProvisionalEntry I R)) × (slice_get lists head ≡ Some list) × (slice_get list.items place ≡ Some e)
 
@@ -34,52 +34,52 @@ module _ {I R : Type 0} where
   abbrev pub NoneIsLeft : List (Vec (ProvisionalEntry I R)) → Type 0
   NoneIsLeft lists = (head place : ℕ) (e : ProvisionalEntry I R) → IsEntryAt lists head place e → ⊥
 
-  -- an entry stands there that serves the question: it is of the goal, and of the kind of the path from its head to the question
+  -- an entry with this position can be used: it is of the goal, and of the kind of the path from its head to the goal
   abbrev pub IsServingAt : List (Vec (ProvisionalEntry I R)) → List (StackEntry I R) → ℕ → I → PathKind → ℕ → ℕ → ℕ → Type 0
   IsServingAt lists stack number input k depth head place =
       (e : ProvisionalEntry I R) × IsEntryAt lists head place e × IsServing number input (kind_after (drop (head + 1) stack) k) depth e
 
-  -- no entry serves it
+  -- no entry can be used
   abbrev pub NoneServes : List (Vec (ProvisionalEntry I R)) → List (StackEntry I R) → ℕ → I → PathKind → ℕ → Type 0
   NoneServes lists stack number input k depth = (head place : ℕ) → IsServingAt lists stack number input k depth head place → ⊥
 
-  -- an entry is added to the list of the goal at this place, and nothing else changes
+  -- an entry is added to the list of the goal with this index, and nothing else changes
   pub record AddsEntry (old new : List (Vec (ProvisionalEntry I R))) (head : ℕ) (e : ProvisionalEntry I R) : Type 0 where
     pub added : (list : Vec (ProvisionalEntry I R)) → slice_get old head ≡ Some list → (more : Vec (ProvisionalEntry I R)) × (slice_get new head ≡ Some more) × (more.items ≡ list.items ++ e ∷ [])
     pub others : (other : ℕ) → (other ≡ head → ⊥) → slice_get new other ≡ slice_get old other
     pub goals : length new ≡ length old
 
-  -- The goal that ended over this stack was asked by a step of the kind j, and under it was asked what is listed at the place.
-  -- An entry whose nearest head it was moves to the list of the goal at the place next
+  -- An entry moves from the list of the goal that ended over this stack to that of the goal with the index `next`. The goal
+  -- that ended was reached by a step of the kind j. Its nested goals have the index `asked` in the cache
   pub record IsMoved (stack : List (StackEntry I R)) (j : PathKind) (ended : EvaluationResult R) (asked next : ℕ) (old new : ProvisionalEntry I R) : Type 0 where
     pub input : new.input ≡ old.input
     pub number : new.number ≡ old.number
     pub result : new.result ≡ old.result
     pub depth : new.required_depth ≡ old.required_depth
     pub asked_under : new.asked ≡ asked
-    -- both have one result
+    -- the entry's result is that of the goal that ended
     pub same : old.result ≡ ended.result
-    -- it rests on what both rest on, but for the goal itself, and the newest of these is its nearest head
+    -- it depends on what both depend on, except the goal that ended. The newest of these is its nearest head
     pub rests : (place : ℕ) → RestsOn new.heads.items place ↔ ((RestsOn old.heads.items place × (place ≡ length stack → ⊥)) ⊎ RestsOn ended.dependencies.heads.items place)
     pub nearest : RestsOn new.heads.items next × AreBelow (next + 1) (indices new.heads.items)
-    -- it read what it read, and by its reads of the goal what that read
+    -- it has its own reads, and through its reads of the goal that ended the reads of that goal
     pub reads : (place : ℕ) → (place ≡ length stack → ⊥) → (path : Option PathKind)
         → HasPath (paths_to new.heads.items place) path ↔ (HasPath (paths_to old.heads.items place) path ⊎ IsExtended (first_paths old.heads.items (length stack)) (paths_to ended.dependencies.heads.items place) path)
-    -- no forced step hides a coinductive one of the path from there
+    -- no forced step on the path from there hides a coinductive one
     pub kind : new.kind ≡ kind_after (drop (next + 1) stack) (greater j old.kind)
     pub free : new.kind ≡ ForcedAmbiguity → ⊥
 
-  -- where no overflow was met some of these entries moved into the lists, and nothing else came in
+  -- some of these entries moved into the lists, if no overflow was met, and nothing else was added
   abbrev pub AreMoved : List (StackEntry I R) → Bool → List (ProvisionalEntry I R) → PathKind → EvaluationResult R → ℕ → List (Vec (ProvisionalEntry I R)) → List (Vec (ProvisionalEntry I R)) → Type 0
   AreMoved stack met left j ended asked old new =
       (head place : ℕ) (e : ProvisionalEntry I R) → IsEntryAt new head place e
       → IsEntryAt old head place e ⊎ ((met ≡ false) × (i : ℕ) × (from : ProvisionalEntry I R) × (slice_get left i ≡ Some from) × IsMoved stack j ended asked head from e)
 
 module _ {C I R F : Type 0} (m : Meaning C I R F) where
-  -- An entry over the goals of the stack up to the one in whose list it stands, the oldest first. It is the result of its
-  -- goal, and rests on its heads alone: a yes is shown as the reply to a question of the newest of these goals, by one step
-  -- of the entry's kind. Plain recursion has no answer to the goal, where that on the heads descends to it, or where no
-  -- overflow was met in the call. What was asked under it is listed
+  -- An entry over the goals of the stack up to its nearest head, the oldest first. It is a result of its goal, and depends
+  -- on its heads alone: a yes is shown for the goal as a nested goal of the newest of these goals, by a step of the entry's
+  -- kind. Plain recursion has no answer for the goal, if that on the heads descends to it, or if no overflow was met in the
+  -- call. Its nested goals are listed in the cache
   pub record IsProvisionalEntry (w : m.World) (met : Bool) (c : C) (asked : List Asked) (before : List (m.Goal × PathKind)) (e : ProvisionalEntry I R) : Type 0 where
     pub input : m.IsInput c e.input
     pub known : m.IsResult c e.result
@@ -92,20 +92,20 @@ module _ {C I R F : Type 0} (m : Meaning C I R F) where
     pub never : met ≡ false → (limit : ℕ) → IsNotPlain m w limit (m.goal_of c e.input)
     pub listed : (a : Asked) × (slice_get asked e.asked ≡ Some a)
 
-  -- so is each entry in the list of a goal of the stack, over the stack up to that goal
+  -- the same of each entry in the list of a goal of the stack, over the stack up to that goal
   abbrev pub AreProvisional : m.World → Bool → C → List Asked → List (m.Goal × PathKind) → List (Vec (ProvisionalEntry I R)) → Type 0
   AreProvisional w met c asked steps lists =
       (head place : ℕ) (e : ProvisionalEntry I R) → IsEntryAt lists head place e → IsProvisionalEntry w met c asked (take (head + 1) steps) e
 
-  -- and each in the list of the newest goal, which leaves the stack with it
+  -- the same of each entry in the list of the newest goal, after that goal was popped
   abbrev pub AreLeft : m.World → Bool → C → List Asked → List (m.Goal × PathKind) → List (ProvisionalEntry I R) → Type 0
   AreLeft w met c asked steps left = (place : ℕ) (e : ProvisionalEntry I R) → slice_get left place ≡ Some e → IsProvisionalEntry w met c asked steps e
 
-  -- no limit had a part in their results, but for those that were known before
+  -- their results depend on no limit, except through answers that were known before
   abbrev pub AreEntriesWithin : m.World → List (m.Goal × m.Answer) → C → List (Vec (ProvisionalEntry I R)) → Type 0
   AreEntriesWithin w before c lists =
       (head place : ℕ) (e : ProvisionalEntry I R) → IsEntryAt lists head place e → IsWithin m w before (m.goal_of c e.input) (m.answer_of c e.result)
 
-  -- nor in these and those of a cache
+  -- the same of these and the results of a cache
   abbrev pub AreKeptWithin : m.World → List (m.Goal × m.Answer) → C → List (CacheEntry I R) → List (Vec (ProvisionalEntry I R)) → Type 0
   AreKeptWithin w before c es lists = AreCachedWithin m w before c es × AreEntriesWithin w before c lists

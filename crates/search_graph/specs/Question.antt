@@ -1,4 +1,4 @@
--- What is promised of a question on a goal over a stack: its input was asked in the context c, and its result came in d.
+-- What is promised of a nested goal over a stack. It is evaluated in the context c, and its result is in the context d.
 use Rattle.std.specs.Prelude.{◌≡◌, ◌≤◌, ◌+◌, ◌++◌, ◌⊎◌, ℕ, Bool, false, List, [], ◌∷◌, length}
 use Rattle.search_graph.specs.declared.path_kind.PathKind.{PathKind}
 use Rattle.search_graph.specs.declared.stack.StackEntry.{StackEntry}
@@ -20,15 +20,15 @@ use Rattle.search_graph.specs.Heads.{AreHeadsBut}
 use Rattle.search_graph.specs.Stack.{question_of, steps_of, IsAnswer, IsProvisional, IsWithin, IsLastWithin, AreLastWithin, AreCachedWithin}
 
 module _ {C I R F : Type 0} (m : Meaning C I R F) where
-  -- a reply to the question, which rests on these goals of the stack
+  -- a result of the nested goal, which depends on these goals of the stack
   abbrev pub IsReplyOver : C → List (StackEntry I R) → I → PathKind → List CycleHead → C → R → Type 0
   IsReplyOver c es input k heads d r = IsAnswer m (m.world c) (steps_of m c es) (m.goal_of c input, k) (indices heads) d r
 
-  -- a reply that is read of the entry at the place, which rests on it and on what its last result rests on
+  -- a result that is read from the entry with this index, which depends on it and on what its last result depends on
   abbrev pub IsReadOver : C → List (StackEntry I R) → I → PathKind → ℕ → StackEntry I R → C → R → Type 0
   IsReadOver c es input k place e d r = IsAnswer m (m.world c) (steps_of m c es) (m.goal_of c input, k) (place ∷ e.heads.items) d r
 
-  -- a result of a run of the entry's goal, which rests on these goals, of which the goal itself may be one
+  -- a result of a run of the entry's goal, which depends on these goals. The goal itself may be one of them
   abbrev pub IsRunOver : C → List (StackEntry I R) → StackEntry I R → List CycleHead → C → R → Type 0
   IsRunOver c es entry heads d r =
       AreBelow (length es + 1) (indices heads)
@@ -38,7 +38,7 @@ module _ {C I R F : Type 0} (m : Meaning C I R F) where
   abbrev pub IsInitial : C → I → Cycle → C → R → Type 0
   IsInitial c input cycle d r = m.answer_of d r ≡ m.initial (m.world c) (m.goal_of c input) cycle.path_kind
 
-  -- up to reach, and past it if there was no overflow, the result is plain recursion's
+  -- up to `reach`, and beyond it if there was no overflow, the result is that of plain recursion
   abbrev pub IsFaithfulOver : C → List (StackEntry I R) → I → ℕ → C → EvaluationResult R → Type 0
   IsFaithfulOver c es input reach d o =
       IsFaithful m (m.world c) reach (steps_of m c es) (m.goal_of c input) (m.answer_of d o.result) o.dependencies.encountered_overflow (indices o.dependencies.heads.items)
@@ -47,64 +47,64 @@ module _ {C I R F : Type 0} (m : Meaning C I R F) where
   abbrev pub IsUntouchedOver : C → List (StackEntry I R) → I → ℕ → Dependencies → Type 0
   IsUntouchedOver c es input reach found = IsUntouched m (m.world c) reach (steps_of m c es) (m.goal_of c input) found.encountered_overflow (indices found.heads.items)
 
-  -- and of a cached result of this depth, which rests on no stack
+  -- the same of a cached result of this depth, which depends on no goal of the stack
   abbrev pub IsKeptResult : C → I → R → ℕ → Bool → Type 0
   IsKeptResult c input r depth overflowed = IsKept m (m.world c) (m.goal_of c input) (m.answer_of c r) depth overflowed
 
-  -- up to reach, plain recursion has no answer to the goal where that on each goal of the stack descends to it
+  -- up to `reach`, plain recursion has no answer for the goal, if that on each goal of the stack descends to it
   abbrev pub IsNotPlainOver : C → List (StackEntry I R) → I → ℕ → Type 0
   IsNotPlainOver c es input reach =
       (limit : ℕ) → limit ≤ reach → AllDescend m (m.world c) limit (steps_of m c es) (m.goal_of c input) → IsNotPlain m (m.world c) limit (m.goal_of c input)
 
-  -- it has none up to reach, whatever the stack
+  -- it has none up to `reach`, whatever the stack
   abbrev pub IsNotPlainUpTo : C → I → ℕ → Type 0
   IsNotPlainUpTo c input reach = (limit : ℕ) → limit ≤ reach → IsNotPlain m (m.world c) limit (m.goal_of c input)
 
-  -- it has none where that on the goal at the place descends to it
+  -- it has none if that on the goal with this index descends to it
   abbrev pub IsNotPlainUnder : C → List (StackEntry I R) → I → ℕ → Type 0
   IsNotPlainUnder c es input place =
       (limit : ℕ) → HeadsDescend m (m.world c) limit (place ∷ []) (steps_of m c es) (m.goal_of c input) → IsNotPlain m (m.world c) limit (m.goal_of c input)
 
-  -- it has none up to the depth, nor past it if there was no overflow
+  -- it has none up to the depth, nor beyond it if there was no overflow
   abbrev pub IsNotPlainAt : C → I → ℕ → Bool → Type 0
   IsNotPlainAt c input depth overflowed = (limit : ℕ) → (limit ≤ depth + 1) ⊎ (overflowed ≡ false) → IsNotPlain m (m.world c) limit (m.goal_of c input)
 
-  -- no more frames than the bound for each number that the goal does not exceed
+  -- at most as many frames as the bound, for each width that is at least the goal's number
   abbrev pub AreFramesWithin : C → I → ℕ → ℕ → (ℕ → ℕ) → Type 0
   AreFramesWithin c input old new bound = (width : ℕ) → m.number_of (m.world c) (m.goal_of c input) ≤ width → new ≤ old + bound width
 
-  -- no limit had a part in the result, but for those that the cache held
+  -- the result depends on no limit, except through results that were cached before
   abbrev pub IsWithinKnown : C → List (KnownResult I R) → I → C → R → Type 0
   IsWithinKnown c ks input d r = IsWithin m (m.world c) (answers_in m c ks) (m.goal_of c input) (m.answer_of d r)
 
-  -- none had a part in the result if none had in the cached results
+  -- the result depends on no limit, if no cached result does
   abbrev pub IsWithinAsCached : C → List (CacheEntry I R) → I → R → Type 0
   IsWithinAsCached c es input r =
       (before : List (m.Goal × m.Answer)) → AreCachedWithin m (m.world c) before c es → IsWithin m (m.world c) before (m.goal_of c input) (m.answer_of c r)
 
-  -- none had if none had in the results of the last runs
+  -- it depends on none, if no result of the last runs does
   abbrev pub IsWithinAsStack : C → List (StackEntry I R) → I → C → R → Type 0
   IsWithinAsStack c es input d r =
       (before : List (m.Goal × m.Answer)) → AreLastWithin m (m.world c) before c es → IsWithin m (m.world c) before (m.goal_of c input) (m.answer_of d r)
 
-  -- none had in the new cached results if none had in the old ones and in this result
+  -- the new cached results depend on no limit, if the old ones and this result do not
   abbrev pub KeepsWithin : C → List (CacheEntry I R) → I → R → List (CacheEntry I R) → Type 0
   KeepsWithin c old input r new =
       (before : List (m.Goal × m.Answer)) → AreCachedWithin m (m.world c) before c old → IsWithin m (m.world c) before (m.goal_of c input) (m.answer_of c r) → AreCachedWithin m (m.world c) before c new
 
-  -- if none was met, none had a part in the result and the new cached results, where none had in the old and the last runs' ones
+  -- if no limit was met, the result and the new cached results depend on none, if the old ones and those of the last runs do not
   abbrev pub StaysWithin : C → List (StackEntry I R) → List (CacheEntry I R) → I → Bool → C → List (CacheEntry I R) → R → Type 0
   StaysWithin c es old input met d new r =
       (before : List (m.Goal × m.Answer)) → met ≡ false → AreLastWithin m (m.world c) before c es → AreCachedWithin m (m.world c) before c old
       → AreCachedWithin m (m.world c) before d new × IsWithin m (m.world c) before (m.goal_of c input) (m.answer_of d r)
 
-  -- none had if none had in what the cache and the entries hold
+  -- the result depends on no limit, if the results of the cache and of the entries do not
   abbrev pub IsWithinAsKept : C → List (CacheEntry I R) → List (Vec (ProvisionalEntry I R)) → I → R → Type 0
   IsWithinAsKept c es lists input r =
       (before : List (m.Goal × m.Answer)) → AreKeptWithin m (m.world c) before c es lists → IsWithin m (m.world c) before (m.goal_of c input) (m.answer_of c r)
 
-  -- if none was met, none had a part in the result and in what the cache and the entries hold now, where none had in what they held,
-  -- nor in the last runs' results
+  -- if no limit was met, the result and those of the cache and the entries afterwards depend on none, if those of the cache and the
+  -- entries before and of the last runs do not
   abbrev pub AllStayWithin : C → List (StackEntry I R) → List (CacheEntry I R) → List (Vec (ProvisionalEntry I R)) → I → Bool
       → C → List (CacheEntry I R) → List (Vec (ProvisionalEntry I R)) → R → Type 0
   AllStayWithin c es old lists input met d new more r =
@@ -118,33 +118,33 @@ module _ {C I R F : Type 0} (m : Meaning C I R F) where
       (before : List (m.Goal × m.Answer)) → met ≡ false → AreLastWithin m (m.world c) before c es → IsLastWithin m (m.world c) before c entry → AreKeptWithin m (m.world c) before c old lists
       → AreKeptWithin m (m.world c) before d new more × IsWithin m (m.world c) before (m.goal_of c entry.input) (m.answer_of d r)
 
-  -- where no overflow was met, plain recursion on each goal of the stack descends to this one, in chains of any length
+  -- if no overflow was met, plain recursion on each goal of the stack descends to this one, in chains of any length
   abbrev pub AllDescendTo : C → List (StackEntry I R) → I → Bool → Type 0
   AllDescendTo c es input met = met ≡ false → (limit : ℕ) → AllDescend m (m.world c) limit (steps_of m c es) (m.goal_of c input)
 
-  -- the entries in these lists stand over the stack
+  -- the entries in these lists are entries over the stack
   abbrev pub AreEntriesOver : C → List (StackEntry I R) → List Asked → Bool → List (Vec (ProvisionalEntry I R)) → Type 0
   AreEntriesOver c es asked met lists = AreProvisional m (m.world c) met c asked (steps_of m c es) lists
 
-  -- those that are there now stand over the stack as it was in the context c
+  -- the entries afterwards are entries over the stack as it was in the context c
   abbrev pub AreEntriesStill : C → List (StackEntry I R) → C → List Asked → Bool → List (Vec (ProvisionalEntry I R)) → Type 0
   AreEntriesStill c es d asked met lists = AreProvisional m (m.world c) met d asked (steps_of m c es) lists
 
-  -- the entries that a goal left with stand over the stack and the goal, which was asked by a step of this kind
+  -- the entries of a goal that was popped are entries over the stack with the goal, which was reached by a step of this kind
   abbrev pub AreLeftOver : C → List (StackEntry I R) → I → PathKind → C → List Asked → Bool → List (ProvisionalEntry I R) → Type 0
   AreLeftOver c es input k d asked met left = AreLeft m (m.world c) met d asked (steps_of m c es ++ (m.goal_of c input, k) ∷ []) left
 
-  -- no limit had a part in the result if none had in the entries
+  -- the result depends on no limit, if no entry does
   abbrev pub IsWithinAsEntries : C → List (Vec (ProvisionalEntry I R)) → I → R → Type 0
   IsWithinAsEntries c lists input r =
       (before : List (m.Goal × m.Answer)) → AreEntriesWithin m (m.world c) before c lists → IsWithin m (m.world c) before (m.goal_of c input) (m.answer_of c r)
 
-  -- none had in the new entries if none had in the old ones and in this result
+  -- the new entries depend on no limit, if the old ones and this result do not
   abbrev pub EntriesStayWithin : C → List (Vec (ProvisionalEntry I R)) → I → R → List (Vec (ProvisionalEntry I R)) → Type 0
   EntriesStayWithin c old input r new =
       (before : List (m.Goal × m.Answer)) → AreEntriesWithin m (m.world c) before c old → IsWithin m (m.world c) before (m.goal_of c input) (m.answer_of c r)
       → AreEntriesWithin m (m.world c) before c new
 
-  -- a result of the goal over the stack, which it left and by which it was asked by a step of this kind
+  -- a result of the goal over the stack, after it was popped. It was reached by a step of this kind
   abbrev pub IsResultOver : C → List (StackEntry I R) → I → PathKind → EvaluationResult R → Type 0
   IsResultOver c es input k o = IsProvisional m (m.world c) (steps_of m c es) (m.goal_of c input, k) (indices o.dependencies.heads.items) c o.result

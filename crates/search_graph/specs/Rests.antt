@@ -1,4 +1,4 @@
--- What a yes over a stack rests on: its heads, by their places, and nothing else of the stack.
+-- What a yes over a stack depends on: its heads, by their indices, and nothing else of the stack.
 use Rattle.std.specs.Prelude.{◌≡◌, ℕ, Bool, true, length, List, [], ◌∷◌, ◌++◌}
 use Rattle.search_graph.specs.declared.path_kind.PathKind.{PathKind}
 use Rattle.search_graph.specs.declared.path_kind.PathKind.TheVariants.{Coinductive, ForcedAmbiguity}
@@ -7,49 +7,49 @@ use Rattle.search_graph.specs.Shown.{Shown}
 use Rattle.search_graph.specs.KeptPaths.{kind_of, kept_path, step_after, AreKept, AreBelow}
 
 module _ (G : Type 0) (Follows : G → List (G × PathKind) → Type 0) where
-  -- a question is shown whatever goals of the stack are kept beside the heads
+  -- the nested goal is shown, whatever goals of the stack are kept in addition to the heads
   abbrev pub ShownFor : List ℕ → List (G × PathKind) → G → PathKind → Type 0
   ShownFor heads steps g k = (kept : ℕ → Bool) → AreKept kept heads → Shown G Follows (kept_path kept steps) ((g, step_after kept steps k) ∷ [])
 
-  -- The goal of the question follows by a rule whose premises are so shown below it: a result of a run
+  -- the result of a run: the goal follows by a rule whose premises are shown below it in the same way
   abbrev pub DerivedFor : List ℕ → List (G × PathKind) → G → PathKind → Type 0
   DerivedFor heads steps g k = (premises : List (G × PathKind)) × Follows g premises × ((kept : ℕ → Bool) → AreKept kept heads → Shown G Follows ((g, step_after kept steps k) ∷ kept_path kept steps) premises)
 
-  -- what was answered by a yes in a run of the goal q, which was asked by a step of the kind j
+  -- the nested goals with a yes in a run of the goal q, which was reached by a step of the kind j
   abbrev pub RunShownFor : List ℕ → List (G × PathKind) → G → PathKind → List (G × PathKind) → Type 0
   RunShownFor heads steps q j premises = (kept : ℕ → Bool) → AreKept kept heads → kept (length steps) ≡ true → Shown G Follows (kept_path kept (steps ++ (q, j) ∷ [])) premises
 
-  -- An entry serves wherever the path from the goals that it stood over is of its kind
+  -- an entry can be used if the path from the goals below it has its kind
   abbrev pub EntriesServe : Type 0
   EntriesServe = (heads : List ℕ) (before between : List (G × PathKind)) (g : G) (kind k : PathKind) → kind_of between k ≡ kind → ShownFor heads before g kind → ShownFor heads (before ++ between) g k
 
-  -- and a result that rests on no goal past those leaves one
+  -- a result that depends on none of the later goals gives an entry
   abbrev pub EntriesAreLeft : Type 0
   EntriesAreLeft = (heads : List ℕ) (before between : List (G × PathKind)) (g : G) (k : PathKind) → AreBelow (length before) heads → ShownFor heads (before ++ between) g k → ShownFor heads before g (kind_of between k)
 
-  -- the result of a run rests on what the run rested on, but for the goal itself
+  -- the result of a run depends on what the run depended on, except the goal itself
   abbrev pub RunsEnd : Type 0
   RunsEnd = (heads less : List ℕ) (steps premises : List (G × PathKind)) (q : G) (j : PathKind)
       → ((kept : ℕ → Bool) → AreKept kept less → kept (length steps) ≡ true → AreKept kept heads) → Follows q premises → RunShownFor heads steps q j premises → DerivedFor less steps q j
 
-  -- a result of a run is the reply to the question
+  -- a result of a run is a result of the nested goal
   abbrev pub RunsAnswer : Type 0
   RunsAnswer = (heads : List ℕ) (steps : List (G × PathKind)) (q : G) (j : PathKind) → DerivedFor heads steps q j → ShownFor heads steps q j
 
-  -- the last result of a head, read by any path, rests on the head and on what that result rested on
+  -- the last result of a head, read by any path, depends on the head and on what that result depended on
   abbrev pub LastResultsServe : Type 0
   LastResultsServe = (heads : List ℕ) (below between : List (G × PathKind)) (h : G) (j k : PathKind) → DerivedFor heads below h j → ShownFor (length below ∷ heads) (below ++ (h, j) ∷ between) h k
 
-  -- an initial yes of a head is read by coinductive paths alone, and rests on the head
+  -- an initial yes of a head is read by coinductive paths alone, and depends on the head
   abbrev pub InitialResultsServe : Type 0
   InitialResultsServe = (below between : List (G × PathKind)) (h : G) (j k : PathKind) → kind_of between k ≡ Coinductive → ShownFor (length below ∷ []) (below ++ (h, j) ∷ between) h k
 
-  -- what rests on no head is shown over any path
+  -- what depends on no head is shown over any path
   abbrev pub HeadlessServe : Type 0
   HeadlessServe = (steps now : List (G × PathKind)) (g : G) (j k : PathKind) → DerivedFor [] steps g j → ShownFor [] now g k
 
-  -- Where a goal p ends with a result, an entry under it moves to the goal before it: it rests on what both rest on, but
-  -- for p, whose proof is put in where the entry's looped to it. No forced step may hide one of the kinds
+  -- If a goal p ends with a result, an entry under it moves to the goal preceding it. The moved entry depends on what both
+  -- depend on, except p: the proof of p replaces each cycle through p. No forced step may hide one of the kinds
   abbrev pub EntriesMove : Type 0
   EntriesMove =
       (heads own moved : List ℕ) (below : List (G × PathKind)) (p g : G) (j kind : PathKind)
@@ -57,7 +57,7 @@ module _ (G : Type 0) (Follows : G → List (G × PathKind) → Type 0) where
       → ((kept : ℕ → Bool) → AreKept kept moved → greater (step_after kept below j) kind ≡ ForcedAmbiguity → ⊥)
       → DerivedFor own below p j → ShownFor heads (below ++ (p, j) ∷ []) g kind → ShownFor moved below g (greater j kind)
 
-  -- and down to its new nearest head s, where the kind that it has there isn't the forced one
+  -- it moves further down to its new nearest head s, if its kind there is not the forced one
   abbrev pub EntriesMoveDown : Type 0
   EntriesMoveDown =
       (heads own moved : List ℕ) (before between : List (G × PathKind)) (s : G × PathKind) (p g : G) (j kind : PathKind)

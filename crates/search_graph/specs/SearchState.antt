@@ -1,12 +1,12 @@
--- What a caller sees of a search.
+-- A search, as clauses of public calls describe it.
 use Rattle.std.specs.Prelude.{ℕ, Bool}
 
 pub record SearchState : Type 0 where
   -- the depth of a root goal
   pub root_depth : ℕ
-  -- how many goals are being evaluated
+  -- the number of goals that are being evaluated
   pub current_depth : ℕ
-  -- how many frames were started
+  -- the number of frames that were started
   pub frames : ℕ
-  -- whether a limit of the depth or of the runs gave a result, or a call was given up
+  -- whether the limit of the depth or of the runs gave a result, or a call was given up
   pub limits_met : Bool

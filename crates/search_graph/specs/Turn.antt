@@ -7,7 +7,7 @@ use Rattle.search_graph.specs.declared.candidates.Turn.{Turn}
 use Rattle.search_graph.specs.declared.candidates.Turn.TheVariants.{Ask, Tell, End}
 
 module _ {I R : Type 0} where
-  -- the request is in order where a candidate is open or not, and these were finished, each with whether it was ignored
+  -- the request is in order, if a candidate is open as the flag says, and the list says of each finished candidate whether it was ignored
   abbrev pub IsInTurn : Bool → List Bool → Request I R → Type 0
   IsInTurn one_open finished (Evaluate i k) = Unit {0}
   IsInTurn one_open finished EnterCandidate = one_open ≡ false
@@ -15,7 +15,7 @@ module _ {I R : Type 0} where
   IsInTurn one_open finished (IgnoreCandidate n) = slice_get finished n ≡ Some false
   IsInTurn one_open finished (Done r) = one_open ≡ false
 
-  -- so it is, this is due then, and the last two say the same of the candidates afterwards
+  -- the request is in order, `turn` is due then, and the last two are the flag and the list afterwards
   abbrev pub IsTurn : Bool → List Bool → Request I R → Turn I R → Bool → List Bool → Type 0
   IsTurn one_open finished (Evaluate i k) turn now later = (turn ≡ Ask i k) × (now ≡ one_open) × (later ≡ finished)
   IsTurn one_open finished EnterCandidate turn now later = (turn ≡ Tell Entered) × (one_open ≡ false) × (now ≡ true) × (later ≡ finished)

@@ -7,18 +7,18 @@ use Rattle.search_graph.specs.declared.path_kind.PathKind.{PathKind}
 use Rattle.search_graph.specs.declared.path_kind.PathKind.TheVariants.{Inductive, Unknown, Coinductive, ForcedAmbiguity}
 use Rattle.search_graph.specs.declared.head_usages.HeadUsages.{HeadUsages}
 
--- a sum that sticks at the greatest number of 32 bits
+-- a sum of at most `u32::MAX`
 abbrev pub sticking_sum : ℕ → ℕ → ℕ
 sticking_sum a b = min (a + b) (2 ^ 32 - 1)
 
--- how often by paths of this kind
+-- how often a result was read by paths of this kind
 abbrev pub count_by : HeadUsages → PathKind → ℕ
 count_by u Inductive = u.inductive
 count_by u Unknown = u.unknown
 count_by u Coinductive = u.coinductive
 count_by u ForcedAmbiguity = u.forced_ambiguity
 
--- never
+-- a result that was never read
 abbrev pub no_usages : HeadUsages
 no_usages = record { inductive = 0; unknown = 0; coinductive = 0; forced_ambiguity = 0 }
 

@@ -11,19 +11,19 @@ use std::alloc::Global;
 
 /// The candidates of a frame, by the requests that it made.
 ///
-/// What their questions read of the stack is kept beside them (`CandidateReads`).
+/// The goals of the stack whose results they read are stored apart, in `CandidateReads`.
 #[derive(Drop)]
 pub struct Candidates {
-    /// Whether the frame has entered a candidate that it has not finished; there is one at most.
+    /// Whether the frame has entered a candidate that it has not finished. There is one at most.
     pub open: bool,
-    /// Those that were finished, by number: whether each was ignored since.
+    /// The candidates that were finished, by number: whether each was ignored since.
     pub finished: Vec<bool>,
 }
 
 /// What is due after a request in order.
 #[derive(Drop)]
 pub(crate) enum Turn<I, R> {
-    /// The goal is asked, by a step of this kind.
+    /// The nested goal is evaluated, by a step of this kind.
     Ask(I, PathKind),
     /// The frame is given this reply.
     Tell(Reply<R>),
@@ -32,7 +32,7 @@ pub(crate) enum Turn<I, R> {
 }
 
 impl Candidates {
-    /// None.
+    /// Returns no candidates.
     pub fn new(alloc: Global) -> Candidates
         ensures open { result.open ≡ false }
         ensures finished { result.finished.items ≡ [] }
@@ -43,7 +43,7 @@ impl Candidates {
         }
     }
 
-    /// What is due after a request. It is refused where it is out of order (`Protocol`), and where memory is.
+    /// Returns what is due after a request. Fails if the request is out of order (`Protocol`), or if memory is refused.
     pub(crate) fn take<I: Drop, R: Drop>(
         &mut self,
         request: Request<I, R>,
@@ -72,7 +72,7 @@ impl Candidates {
         }
     }
 
-    /// Enters a candidate, where none is open.
+    /// Enters a candidate. Fails if one is open.
     pub fn enter(&mut self) -> Result<(), GraphFault>
         ensures entered { OnOk result ((self.old.open ≡ false) × (self.new.open ≡ true)) }
         ensures finished { self.new.finished ≡ self.old.finished }
@@ -87,7 +87,7 @@ impl Candidates {
         Ok(())
     }
 
-    /// Finishes the open candidate, and answers its number.
+    /// Finishes the open candidate, and returns its number.
     pub fn finish(&mut self) -> Result<usize, GraphFault>
         ensures number { IfOk result (λ number. number ≡ length self.old.finished.items) }
         ensures finished { OnOk result (self.new.finished.items ≡ self.old.finished.items ++ false ∷ []) }
@@ -105,7 +105,7 @@ impl Candidates {
         Ok(number)
     }
 
-    /// Ignores a candidate that was finished and not ignored before.
+    /// Ignores a candidate. Fails unless it was finished and not ignored since.
     pub fn ignore(&mut self, number: usize) -> Result<(), GraphFault>
         ensures ignored { OnOk result ((slice_get self.old.finished.items number ≡ Some false)
             × (self.new.finished.items ≡ slice_set self.old.finished.items number true)) }

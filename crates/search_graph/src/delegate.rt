@@ -1,4 +1,4 @@
-//! What a search is lent: a context with goals and results, and frames that evaluate a goal step by step.
+//! What a search is given: a context with goals and results, and frames that evaluate a goal step by step.
 
 ghost use Rattle.std.specs.Prelude.{◌≡◌, ◌↔◌, [], ℕ, ◌<◌, ◌≤◌, IfOk, IfErr, IsSome, true, false};
 ghost use Rattle.search_graph.specs.Meaning.{Meaning, Keeps, IsReply, IsDue, Steps, IsFair, IsLawful};
@@ -14,17 +14,17 @@ use type_terms::Fault;
 pub trait Cx {
     /// A goal to be evaluated, as a key.
     type Input: Drop + Eq + Hash;
-    /// What comes of a goal.
+    /// The result of a goal.
     type Result: Drop + Eq;
     /// Why a result is ambiguous.
     type AmbiguityInfo: Drop;
 
-    /// The same input, or a fault where memory is refused.
+    /// Returns the same input. Fails if memory is refused.
     fn copy_input(&self, input: &Self::Input) -> Result<Self::Input, Fault>
         ensures copy { IfOk result (λ copy. copy ≡ input.now) }
         ensures memory { IfErr result (λ fault. fault ≡ Memory) };
 
-    /// The same result, or a fault where memory is refused.
+    /// Returns the same result. Fails if memory is refused.
     fn copy_result(&self, of: &Self::Result) -> Result<Self::Result, Fault>
         ensures copy { IfOk result (λ copy. copy ≡ of.now) }
         ensures memory { IfErr result (λ fault. fault ≡ Memory) };
@@ -42,27 +42,27 @@ pub type InputOf<D> = <<D as Delegate>::Cx as Cx>::Input;
 /// The results of a delegate's context.
 pub type ResultOf<D> = <<D as Delegate>::Cx as Cx>::Result;
 
-/// What a frame wants next. A candidate is entered, asks its questions and is finished before the next one is entered.
+/// A request of a frame. A candidate is entered, evaluates its nested goals, and is finished before the next one is entered.
 #[derive(Drop)]
 pub enum Request<I, R> {
-    /// The result of a goal, asked by a step of this kind.
+    /// Evaluates a nested goal, by a step of this kind.
     Evaluate(I, PathKind),
-    /// From here on the frame's questions are those of one candidate.
+    /// Enters a candidate. The next nested goals are those of this candidate.
     EnterCandidate,
-    /// The open candidate asks no more.
+    /// Finishes the open candidate.
     FinishCandidate,
-    /// A candidate that was finished, by its number, and that nothing of the frame's result rests on. Each at most once.
+    /// Ignores a candidate that was finished, by its number: the frame's result does not depend on it. Each candidate at most once.
     IgnoreCandidate(usize),
-    /// The frame's result.
+    /// Ends the frame with this result.
     Done(R),
 }
 
-/// What a frame is given.
+/// A reply to a frame.
 #[derive(Drop)]
 pub enum Reply<R> {
     /// The first reply, before any request.
     Begin,
-    /// The result of the goal that was asked.
+    /// The result of the nested goal.
     Result(R),
     /// The candidate is open.
     Entered,
@@ -72,19 +72,22 @@ pub enum Reply<R> {
     Ignored,
 }
 
-/// How goals are evaluated. What a delegate means is its `meaning`, and the laws that a search rests on are its clauses and
-/// `lawful`: a definite yes follows by a rule from questions that were answered by a definite yes; answers cover their goals
-/// where the replies did; each frame asks no more than its goal's number of questions.
+/// How goals are evaluated. The ghost member `meaning` states what a delegate means. The search needs the delegate's clauses and the
+/// laws of `lawful`:
+///
+/// - A yes follows by a rule from nested goals that were answered by a yes.
+/// - An answer covers its goal if the replies to its frame did.
+/// - A frame evaluates at most as many nested goals as its goal's number.
 ///
 /// `Delegate` of `rustc_type_ir::search_graph`, with `start` and `step` in place of `compute_goal`.
 pub trait Delegate {
     type Cx: Cx;
-    /// A goal that is being evaluated.
+    /// The evaluation of one goal, between two of its steps.
     type Frame: Drop;
 
-    /// A goal whose own result was read is run at most so often, or once where this is 0.
+    /// How often a goal whose own result was read is run at most. 0 means once.
     const FIXPOINT_STEP_LIMIT: usize;
-    /// A goal that has met an overflow by depth gives its further questions its depth divided by this, rounded down.
+    /// After an overflow by depth, the further nested goals of a goal have its depth divided by this, rounded down.
     const DIVIDE_AVAILABLE_DEPTH_ON_OVERFLOW: usize;
 
     ghost FIXPOINT_STEP_LIMIT: { ℕ };
@@ -93,10 +96,10 @@ pub trait Delegate {
 
     /// What contexts, inputs, results and frames stand for.
     ghost meaning: { Meaning Self.Cx Self.Cx.Input Self.Cx.Result Self.Frame };
-    /// A number that falls at each step of a frame, by what the context declares.
+    /// A number that decreases at each step of a frame. It depends on what the context declares.
     ghost steps_left: { Self.Cx → Self.Frame → ℕ };
 
-    /// The result of a goal that is asked again by a path of this kind, before it has a result.
+    /// Returns the result of a goal that is reached again by a path of this kind before its first run ended.
     fn initial_provisional_result(
         cx: &mut Self::Cx,
         kind: PathKind,
@@ -108,7 +111,7 @@ pub trait Delegate {
         ensures is { IfOk result (λ r. meaning.IsResult cx.new r
             × (meaning.answer_of cx.new r ≡ meaning.initial (meaning.world cx.old) (meaning.goal_of cx.old input.now) kind)) };
 
-    /// Whether the goal's initial result for paths of this kind is this one.
+    /// Returns whether the goal's initial result for paths of this kind is this one.
     fn is_initial_provisional_result(
         cx: &Self::Cx,
         kind: PathKind,
@@ -119,7 +122,7 @@ pub trait Delegate {
         requires known { meaning.IsResult cx.now of.now }
         ensures { result ≡ true → meaning.answer_of cx.now of.now ≡ meaning.initial (meaning.world cx.now) (meaning.goal_of cx.now input.now) kind };
 
-    /// The result of a goal that is asked by a goal of depth 0.
+    /// Returns the result of a nested goal of a goal of depth 0.
     fn stack_overflow_result(
         cx: &mut Self::Cx,
         input: &InputOf<Self>,
@@ -130,7 +133,7 @@ pub trait Delegate {
         ensures is { IfOk result (λ r. meaning.IsResult cx.new r
             × (meaning.answer_of cx.new r ≡ meaning.stack_overflow (meaning.world cx.old) (meaning.goal_of cx.old input.now))) };
 
-    /// The result of a goal that was run as often as it may be.
+    /// Returns the result of a goal that was run as often as the limit allows.
     fn fixpoint_overflow_result(
         cx: &mut Self::Cx,
         input: &InputOf<Self>,
@@ -141,7 +144,7 @@ pub trait Delegate {
         ensures is { IfOk result (λ r. meaning.IsResult cx.new r
             × (meaning.answer_of cx.new r ≡ meaning.fixpoint_overflow (meaning.world cx.old) (meaning.goal_of cx.old input.now))) };
 
-    /// Why the result is ambiguous, where it is. A goal with such a result isn't run again.
+    /// Returns why the result is ambiguous, if it is. A goal with such a result is not run again.
     fn is_ambiguous_result(
         cx: &Self::Cx,
         of: &ResultOf<Self>,
@@ -149,7 +152,7 @@ pub trait Delegate {
         requires { meaning.IsResult cx.now of.now }
         ensures { IsSome result ↔ (meaning.is_ambiguous (meaning.answer_of cx.now of.now) ≡ true) };
 
-    /// An ambiguous result of a goal that depends on an ambiguous one.
+    /// Returns an ambiguous result for a goal that depends on an ambiguous one.
     fn propagate_ambiguity(
         cx: &mut Self::Cx,
         for_input: &InputOf<Self>,
@@ -162,20 +165,19 @@ pub trait Delegate {
         ensures fair { IfOk result (λ r. IsFair meaning (meaning.world cx.old) (meaning.goal_of cx.old for_input.now) (meaning.answer_of cx.new r)) }
         ensures no_yes { IfOk result (λ r. meaning.is_yes (meaning.answer_of cx.new r) ≡ false) };
 
-    /// How many times more than once each question of the goal counts, where the goal ends with a result that is not cached for all
-    /// (`UNCACHED_QUESTIONS_LIMIT`): about how much longer than for a small goal a question takes. Any number may be returned, since no
-    /// proof rests on it.
+    /// Returns how many times more than once each nested goal of the goal counts, if the goal is uncached
+    /// (`UNCACHED_QUESTIONS_LIMIT`). It estimates how much longer a nested goal takes than one of a small goal. No proof depends on it.
     fn cost_of(cx: &Self::Cx, input: &InputOf<Self>) -> usize
         requires { meaning.IsInput cx.now input.now };
 
-    /// The frame of a goal.
+    /// Starts a frame of a goal.
     fn start(cx: &mut Self::Cx, input: &InputOf<Self>) -> Result<Self::Frame, Fault>
         requires { meaning.IsInput cx.old input.now }
         ensures keeps { Keeps meaning cx.old cx.new }
         ensures full { result ≡ Err Full → meaning.IsFull cx.new }
         ensures started { IfOk result (λ f. meaning.HasHeard cx.new (meaning.goal_of cx.old input.now) [] f) };
 
-    /// Gives a frame the reply that it waits for, and answers what it wants next.
+    /// Gives a frame the reply that it waits for, and returns its next request.
     fn step(
         frame: &mut Self::Frame,
         cx: &mut Self::Cx,
@@ -190,12 +192,14 @@ pub trait Delegate {
 
     ghost lawful: { IsLawful meaning };
 
-    /// A context that keeps what another one knows leaves a frame that was started in it no more steps.
-    ghost steps_kept: { (c d : Self.Cx) (goal : meaning.Goal) (heard : _) (f : Self.Frame) → Keeps meaning c d → meaning.HasHeard c goal heard f → steps_left d f ≤ steps_left c f };
+    /// A frame has no more steps left in a context that preserves what an earlier one has.
+    ghost steps_kept: { (c d : Self.Cx) (goal : meaning.Goal) (heard : _) (f : Self.Frame) → Keeps meaning c d → meaning.HasHeard c goal heard f
+        → steps_left d f ≤ steps_left c f };
 
-    /// Results that stand for one answer are equal.
-    ghost same_answer: { (c : Self.Cx) (r s : Self.Cx.Result) → meaning.IsResult c r → meaning.IsResult c s → meaning.answer_of c r ≡ meaning.answer_of c s → Self.Cx.Result.eq r s ≡ true };
+    /// Results of equal answers are equal.
+    ghost same_answer: { (c : Self.Cx) (r s : Self.Cx.Result) → meaning.IsResult c r → meaning.IsResult c s
+        → meaning.answer_of c r ≡ meaning.answer_of c s → Self.Cx.Result.eq r s ≡ true };
 
-    /// Dividing makes the depth less.
+    /// Dividing decreases the depth.
     ghost divides: { 2 ≤ DIVIDE_AVAILABLE_DEPTH_ON_OVERFLOW };
 }

@@ -11,9 +11,9 @@ use crate::path_kind::PathsToNested;
 use bitflags::Flags;
 use std::alloc::{AllocError, Global};
 
-/// A goal of the stack on which a result rests, and the kinds of the paths by which its own result was read.
+/// A goal of the stack that a result depends on, and the kinds of the paths by which its own result was read.
 ///
-/// There are none where it was not read, and the result of a goal was that rests on it.
+/// There are no paths if its own result was not read, but a result that depends on it.
 /// An entry of `CycleHeads` of `rustc_type_ir::search_graph`.
 #[derive(Clone, Copy, PartialEq, Eq)]
 pub struct CycleHead {
@@ -21,23 +21,22 @@ pub struct CycleHead {
     pub paths: PathsToNested,
 }
 
-/// What the evaluation of a goal depends on, gathered over all its runs.
+/// What the evaluation of a goal depends on, over all its runs.
 #[derive(Drop)]
 pub struct Dependencies {
-    /// The goals of the stack on which the result rests: those whose results were read, and those on which a result rests that
-    /// was read.
+    /// The goals of the stack that the result depends on: those whose results were read, and those that such a result depends on.
     pub heads: Vec<CycleHead>,
-    /// Whether a goal at depth 0 asked a question anywhere under the goal, through a cached result too.
+    /// Whether a goal of depth 0 had a nested goal anywhere under the goal, through a cached result too.
     pub encountered_overflow: bool,
-    /// The depth that the goal needed, where it met no overflow.
+    /// The depth that the goal needed, if it met no overflow.
     pub required_depth: usize,
     pub nested_goals: NestedGoals,
-    /// How many questions the goal asked in all its runs, or the greatest `usize` if there were more.
+    /// The number of nested goals in all runs of the goal, at most `usize::MAX`.
     pub questions: usize,
 }
 
 impl Dependencies {
-    /// Those of a result that rests on no goal of the stack.
+    /// Returns the dependencies of a result that depends on no goal of the stack.
     pub fn new(alloc: Global) -> Dependencies
         ensures unread { result.heads.items ≡ [] }
         ensures within { result.encountered_overflow ≡ false }
@@ -53,8 +52,8 @@ impl Dependencies {
         }
     }
 
-    /// The result of the goal at this place of the stack was read, by paths of these kinds, which rests on the goals at those
-    /// places. After a refusal some of these may be missing.
+    /// Records that the result of the goal with this index was read, by paths of these kinds. That result depends on the goals with
+    /// those indices. If memory is refused, some of these may be missing.
     pub fn read_head(
         &mut self,
         index: usize,
@@ -71,11 +70,11 @@ impl Dependencies {
         rest_on(&mut self.heads, below)
     }
 
-    /// Adds those of a goal that was asked. After a refusal some of them may be missing.
+    /// Adds those of a nested goal. If memory is refused, some of them may be missing.
     pub fn gather(&mut self, nested: Dependencies) -> Result<(), AllocError>
         ensures overflow { OnOk result (self.new.encountered_overflow ≡ (self.old.encountered_overflow || nested.encountered_overflow)) }
 
-        // The asking goal needs one more than the asked one, as far as the numbers go.
+        // The goal needs one more than its nested goal, at most `usize::MAX`.
         ensures depth { OnOk result (self.new.required_depth ≡ max self.old.required_depth (min (nested.required_depth + 1) (2 ^ 64 - 1))) }
 
         ensures questions { OnOk result (self.new.questions ≡ min (self.old.questions + 1) (2 ^ 64 - 1)) }
@@ -106,7 +105,7 @@ impl Dependencies {
     }
 }
 
-/// Adds the goals at these places, whose own results were not read.
+/// Adds the goals with these indices. Their own results were not read.
 fn rest_on(heads: &mut Vec<CycleHead>, places: &[usize]) -> Result<(), AllocError>
     ensures added { OnOk result (indices heads.new.items ≡ indices heads.old.items ++ places.now) }
     ensures unread { OnOk result ((place : ℕ) → paths_to heads.new.items place ≡ paths_to heads.old.items place) }
@@ -120,7 +119,7 @@ fn rest_on(heads: &mut Vec<CycleHead>, places: &[usize]) -> Result<(), AllocErro
     Ok(())
 }
 
-/// The places of the heads.
+/// Returns the indices of the heads.
 pub(crate) fn places_of(alloc: Global, heads: &[CycleHead]) -> Result<Vec<usize>, AllocError>
     ensures { IfOk result (λ places. places.items ≡ indices heads.now) }
 {
@@ -131,7 +130,7 @@ pub(crate) fn places_of(alloc: Global, heads: &[CycleHead]) -> Result<Vec<usize>
     Ok(places)
 }
 
-/// The place of the newest goal of the stack among the heads.
+/// Returns the index of the nearest head, which is the newest goal of the stack among the heads.
 pub(crate) fn nearest_head(heads: &[CycleHead]) -> Option<usize>
     ensures head { IfSome result (RestsOn heads.now) }
     ensures nearest { IfSome result (λ place. AreBelow (place + 1) (indices heads.now)) }
@@ -144,7 +143,7 @@ pub(crate) fn nearest_head(heads: &[CycleHead]) -> Option<usize>
     Some(nearest)
 }
 
-/// Leaves the heads as if none of their results were read. After a refusal some may be missing.
+/// Sets the heads as if none of their own results were read. If memory is refused, some may be missing.
 pub(crate) fn forget_paths(alloc: Global, heads: &mut Vec<CycleHead>) -> Result<(), AllocError>
     ensures same { OnOk result (indices heads.new.items ≡ indices heads.old.items) }
     ensures unread { OnOk result ((place : ℕ) → paths_to heads.new.items place ≡ 0) }
@@ -154,7 +153,7 @@ pub(crate) fn forget_paths(alloc: Global, heads: &mut Vec<CycleHead>) -> Result<
     rest_on(heads, &places)
 }
 
-/// Adds the paths of a head, if it is there.
+/// Adds the paths of a head, if the list has it.
 fn add_paths(heads: &mut Vec<CycleHead>, read: CycleHead)
     ensures same { indices heads.new.items ≡ indices heads.old.items }
     ensures counted { (place : ℕ) → RestsOn heads.old.items place
@@ -166,7 +165,7 @@ fn add_paths(heads: &mut Vec<CycleHead>, read: CycleHead)
     }
 }
 
-/// Adds the paths of these heads, as far as they are there.
+/// Adds the paths of these heads, as far as the list has them.
 pub(crate) fn add_all_paths(heads: &mut Vec<CycleHead>, more: &[CycleHead])
     ensures same { indices heads.new.items ≡ indices heads.old.items }
     ensures counted { (place : ℕ) → RestsOn heads.old.items place
@@ -177,7 +176,7 @@ pub(crate) fn add_all_paths(heads: &mut Vec<CycleHead>, more: &[CycleHead])
     }
 }
 
-/// Adds the heads of a goal that was asked.
+/// Adds the heads of a nested goal.
 pub(crate) fn merge_heads(heads: &mut Vec<CycleHead>, more: &[CycleHead]) -> Result<(), AllocError>
     ensures unread { more.now ≡ [] → heads.new.items ≡ heads.old.items }
     ensures united { OnOk result ((place : ℕ) → paths_to heads.new.items place ≡ bit_or (paths_to heads.old.items place) (paths_to more.now place)) }
@@ -189,7 +188,7 @@ pub(crate) fn merge_heads(heads: &mut Vec<CycleHead>, more: &[CycleHead]) -> Res
     Ok(())
 }
 
-/// Adds the heads of a goal on which a result rests that read it by these paths, and so them by its paths and then these.
+/// Adds the heads of a goal whose result was read by these paths. They were read by its paths followed by these.
 pub(crate) fn rest_through(
     heads: &mut Vec<CycleHead>,
     more: &[CycleHead],
@@ -208,7 +207,7 @@ pub(crate) fn rest_through(
     Ok(())
 }
 
-/// Adds a head, or its paths where it is there.
+/// Adds a head, or its paths if the list has it.
 fn add_head(heads: &mut Vec<CycleHead>, head: CycleHead) -> Result<(), AllocError>
     ensures united { OnOk result ((place : ℕ) → paths_to heads.new.items place ≡ bit_or (paths_to heads.old.items place) (paths_to (head ∷ []) place)) }
     ensures rests { OnOk result (AreHeadsOfBoth heads.old.items (head ∷ []) heads.new.items) }
@@ -220,7 +219,7 @@ fn add_head(heads: &mut Vec<CycleHead>, head: CycleHead) -> Result<(), AllocErro
     Ok(())
 }
 
-/// Where in the list the head is that stands for the goal of this place of the stack.
+/// Returns the position in the list of the head that is the goal with this index in the stack.
 fn place_of(heads: &[CycleHead], index: usize) -> Option<usize>
     ensures first { result ≡ position (λ head. head.index == index) heads.now }
     ensures absent { IfNone result (All (λ head. head.index ≢ index) heads.now) }
@@ -228,8 +227,8 @@ fn place_of(heads: &[CycleHead], index: usize) -> Option<usize>
     heads.iter().position(|head| head.index == index)
 }
 
-/// Takes out a goal of the stack, if the result rests on it, with the kinds of the paths by which its own result was read: none,
-/// where it was not read.
+/// Removes a goal of the stack from the heads, if it is one. Returns the kinds of the paths by which its own result was read: none if
+/// it was not read.
 pub fn take_head(heads: &mut Vec<CycleHead>, index: usize) -> Option<PathsToNested>
     ensures unread { heads.old.items ≡ [] → (result ≡ None) × (heads.new.items ≡ []) }
     ensures taken { IfSome result (λ paths. IsFirstOf heads.old.items (record { index = index; paths = paths })) }
@@ -244,7 +243,7 @@ pub fn take_head(heads: &mut Vec<CycleHead>, index: usize) -> Option<PathsToNest
     Some(paths)
 }
 
-/// What came of a goal, and on what it depends.
+/// The result of a goal, and what it depends on.
 #[derive(Drop)]
 pub struct EvaluationResult<R> {
     pub result: R,

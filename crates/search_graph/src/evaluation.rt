@@ -1,4 +1,4 @@
-//! The search itself: goals that ask goals.
+//! The search itself: goals that evaluate nested goals.
 
 ghost use Rattle.std.specs.Prelude.{◌≡◌, [], ◌+◌, ◌*◌, ◌<◌, ◌≤◌, ◌⊎◌, length, max, IfOk, OnOk, true, false, cond};
 ghost use Rattle.search_graph.specs.Meaning.{Keeps};
@@ -28,7 +28,7 @@ use crate::steps::{
     take_turn,
 };
 
-/// The reply to a question from outside. Where the call is given up, it is an overflow by depth, which is kept.
+/// Returns the result of a root goal. If the call is given up, it is an overflow by depth, which is cached.
 pub(crate) fn evaluate_root<D: Delegate>(
     search: &mut Search<D>,
     cache: &mut CachedResults<D>,
@@ -73,7 +73,7 @@ pub(crate) fn evaluate_root<D: Delegate>(
     }
 }
 
-/// The reply to a question on a goal that is given this depth.
+/// Returns the result of a goal that has this depth. `evaluate_goal` of `rustc_type_ir::search_graph`.
 #[cycle(search)]
 pub(crate) fn evaluate<D: Delegate>(
     search: &mut Search<D>,
@@ -132,7 +132,9 @@ pub(crate) fn evaluate<D: Delegate>(
     }
 }
 
-/// The result of a goal that isn't on the stack: it is run until nothing changes.
+/// Returns the result of a goal that is not on the stack: runs it until its result no longer changes.
+///
+/// `evaluate_goal_in_task` of `rustc_type_ir::search_graph`.
 #[cycle(search)]
 fn evaluate_new<D: Delegate>(
     search: &mut Search<D>,
@@ -182,7 +184,7 @@ fn evaluate_new<D: Delegate>(
     let mut dependencies = Dependencies::new(search.alloc);
     let limit = run_limit::<D>();
     for _run in 0..limit {
-        // The entries whose nearest head this is go with each run but the last.
+        // After each run but the last, the entries are dropped whose nearest head is this goal.
         let (back, outcome, left) = run_once(search, cache, cx, entry, dependencies, depth)?;
         let EvaluationResult {
             result: answer,
@@ -228,9 +230,10 @@ fn evaluate_new<D: Delegate>(
     )
 }
 
-/// One run of a goal, whose dependencies are added to those of its earlier runs. With it come the entries that it left with.
+/// Runs a goal once, and adds its dependencies to those of the earlier runs. Returns the goal's stack entry, its result, and the
+/// provisional entries whose nearest head it is.
 ///
-/// A frame that is kept between two steps, to be resumed in place of this loop, would be kept beside its stack entry.
+/// A frame that is stored between two steps, to be resumed in place of this loop, would be stored next to its stack entry.
 #[cycle(search)]
 fn run_once<D: Delegate>(
     search: &mut Search<D>,
@@ -330,7 +333,7 @@ fn run_once<D: Delegate>(
     }
 }
 
-/// The reply to a question of a goal with this depth.
+/// Returns the result of a nested goal of a goal with this depth, which may have met an overflow by depth.
 #[cycle(search)]
 fn ask<D: Delegate>(
     search: &mut Search<D>,

@@ -22,12 +22,12 @@ pub enum GraphFault {
     Protocol,
 }
 
-/// Why a question gets no reply.
+/// Why a nested goal gets no result.
 #[derive(Clone, Copy, PartialEq, Eq)]
 pub(crate) enum Stop {
-    /// It is refused.
+    /// The evaluation failed.
     Fault(GraphFault),
-    /// The call from outside is given up: too many goals ended in it whose results rest on others, or that met an overflow.
+    /// The call from outside is given up: uncached goals have evaluated too many nested goals in it.
     Exhausted,
 }
 
@@ -46,7 +46,8 @@ impl From<Fault> for Stop {
     ghost use Rattle.search_graph.specs.declared.fault.GraphFault.TheVariants.{Full as FullFault, Conflict as ConflictFault, Protocol as ProtocolFault};
     ghost use Rattle.type_terms.specs.declared.Fault.TheVariants.{Full as FullTable};
 
-    ghost from_gives = { λ fault stop. (stop ≡ GivenUp → ⊥) × (stop ≡ Refused ConflictFault → ⊥) × (stop ≡ Refused ProtocolFault → ⊥) × (stop ≡ Refused FullFault → fault ≡ FullTable) };
+    ghost from_gives = { λ fault stop. (stop ≡ GivenUp → ⊥) × (stop ≡ Refused ConflictFault → ⊥) × (stop ≡ Refused ProtocolFault → ⊥)
+        × (stop ≡ Refused FullFault → fault ≡ FullTable) };
 
     fn from(fault: Fault) -> Self {
         match fault {
@@ -60,7 +61,8 @@ impl From<AllocError> for Stop {
     ghost use Rattle.search_graph.specs.declared.fault.Stop.TheVariants.{Fault as Refused, Exhausted as GivenUp};
     ghost use Rattle.search_graph.specs.declared.fault.GraphFault.TheVariants.{Full as FullFault, Conflict as ConflictFault, Protocol as ProtocolFault};
 
-    ghost from_gives = { λ _ stop. (stop ≡ GivenUp → ⊥) × (stop ≡ Refused ConflictFault → ⊥) × (stop ≡ Refused ProtocolFault → ⊥) × (stop ≡ Refused FullFault → ⊥) };
+    ghost from_gives = { λ _ stop. (stop ≡ GivenUp → ⊥) × (stop ≡ Refused ConflictFault → ⊥) × (stop ≡ Refused ProtocolFault → ⊥)
+        × (stop ≡ Refused FullFault → ⊥) };
 
     fn from(_: AllocError) -> Self {
         Stop::Fault(GraphFault::Memory)
@@ -71,7 +73,8 @@ impl<T: Drop> From<AllocFailed<T>> for Stop {
     ghost use Rattle.search_graph.specs.declared.fault.Stop.TheVariants.{Fault as Refused, Exhausted as GivenUp};
     ghost use Rattle.search_graph.specs.declared.fault.GraphFault.TheVariants.{Full as FullFault, Conflict as ConflictFault, Protocol as ProtocolFault};
 
-    ghost from_gives = { λ _ stop. (stop ≡ GivenUp → ⊥) × (stop ≡ Refused ConflictFault → ⊥) × (stop ≡ Refused ProtocolFault → ⊥) × (stop ≡ Refused FullFault → ⊥) };
+    ghost from_gives = { λ _ stop. (stop ≡ GivenUp → ⊥) × (stop ≡ Refused ConflictFault → ⊥) × (stop ≡ Refused ProtocolFault → ⊥)
+        × (stop ≡ Refused FullFault → ⊥) };
 
     fn from(_: AllocFailed<T>) -> Self {
         Stop::Fault(GraphFault::Memory)

@@ -1,4 +1,4 @@
-//! What a caller sees of a cache.
+//! The public interface of a cache.
 
 ghost use Rattle.std.specs.Prelude.{◌≡◌, [], IsOkAnd};
 
@@ -8,9 +8,9 @@ use std::alloc::Global;
 use std::marker::Model;
 use type_terms::Fault;
 
-/// Results that hold whatever is being evaluated, by their goals.
+/// The results that depend on no goal of the stack, by their goals.
 ///
-/// A clause sees the list of results, the oldest first. `GlobalCache` of `rustc_type_ir::search_graph`.
+/// In clauses it is the list of its results, the oldest first. `GlobalCache` of `rustc_type_ir::search_graph`.
 pub struct GlobalCache<D: Delegate> {
     pub(crate) results: CachedResults<D>,
 }
@@ -31,7 +31,7 @@ impl<D: Delegate> Drop for GlobalCache<D> {
 }
 
 impl<D: Delegate> GlobalCache<D> {
-    /// A cache without entries. It takes no memory yet.
+    /// Returns a cache without entries, without allocating.
     pub fn new(alloc: Global) -> Result<Self, Fault>
         ensures { IsOkAnd result (λ cache. cache ≡ []) }
     {

@@ -1,4 +1,4 @@
-//! The search graph: what a caller sees of a search.
+//! The search graph: the public interface of a search.
 
 ghost use Rattle.std.specs.Prelude.{◌≡◌, ◌+◌, ◌≤◌, ◌⊎◌, ◌↔◌, max, IfOk, IsOkAnd, IsTrue, true, false};
 ghost use Rattle.search_graph.specs.Meaning.{Keeps};
@@ -23,8 +23,8 @@ use type_terms::Fault;
 
 /// A search with its stack.
 ///
-/// A clause sees its depth, how many goals are being evaluated, how many frames were started, and whether a limit gave a
-/// result. `SearchGraph` of `rustc_type_ir::search_graph`.
+/// In clauses it is a `SearchState`: its depth, the number of goals that are being evaluated, the number of frames that were started,
+/// and whether a limit gave a result. `SearchGraph` of `rustc_type_ir::search_graph`.
 pub struct SearchGraph<D: Delegate> {
     root_depth: usize,
     search: Search<D>,
@@ -36,7 +36,12 @@ impl<D: Delegate> Model for SearchGraph<D> {
 
     ghost Value = { SearchState };
 
-    ghost view = { λ graph. record { root_depth = graph.root_depth; current_depth = length graph.search.stack.items; frames = graph.search.frames; limits_met = graph.search.limits_met } };
+    ghost view = { λ graph. record {
+      root_depth = graph.root_depth;
+      current_depth = length graph.search.stack.items;
+      frames = graph.search.frames;
+      limits_met = graph.search.limits_met;
+    } };
 }
 
 impl<D: Delegate> Drop for SearchGraph<D> {
@@ -49,7 +54,7 @@ impl<D: Delegate> Drop for SearchGraph<D> {
 }
 
 impl<D: Delegate> SearchGraph<D> {
-    /// A search whose root goals have this depth. It takes no memory yet.
+    /// Returns a search whose root goals have this depth, without allocating.
     pub fn new(alloc: Global, root_depth: usize) -> Result<Self, Fault>
         requires { 1 ≤ root_depth }
         ensures { IsOkAnd result (λ graph. graph ≡ record { root_depth = root_depth; current_depth = 0; frames = 0; limits_met = false }) }
@@ -60,45 +65,51 @@ impl<D: Delegate> SearchGraph<D> {
         })
     }
 
-    /// Whether no goal is being evaluated.
+    /// Returns whether no goal is being evaluated.
     pub fn is_empty(&self) -> bool
         ensures { IsTrue result ↔ (self.now.current_depth ≡ 0) }
     {
         self.search.stack.is_empty()
     }
 
-    /// How many goals are being evaluated.
+    /// Returns how many goals are being evaluated.
     pub fn debug_current_depth(&self) -> usize
         ensures { result ≡ self.now.current_depth }
     {
         self.search.stack.len()
     }
 
-    /// How many frames were started since `new`, each run of a goal by itself, or the greatest `u64` if there were more.
+    /// Returns the number of frames that were started since `new`, at most `u64::MAX`. Each run of a goal starts a frame.
     pub fn frames(&self) -> u64
         ensures { result ≡ self.now.frames }
     {
         self.search.frames
     }
 
-    /// Whether, since `new`, a goal at depth 0 asked a question, the limit of runs gave a result or a call was given up.
+    /// Returns whether a limit was met since `new`: a goal of depth 0 had a nested goal, the limit of runs gave a result, or a call was
+    /// given up.
     pub fn limits_met(&self) -> bool
         ensures { result ≡ self.now.limits_met }
     {
         self.search.limits_met
     }
 
-    /// The result of a goal. The kind of the step has no effect, since no goal is above the root.
+    /// Returns the result of a root goal. The kind of the step has no effect, since the root has no parent.
     ///
-    /// The call is given up when goals have asked 65,536 questions in it whose results rest on goals that are still evaluated, or that
-    /// met an overflow by depth. A question of a large goal counts more than once (`Delegate::cost_of`). The result is then
-    /// `stack_overflow_result`, which rustc does not give, and `limits_met` is set. `limits_met` is never set by a goal that plain
-    /// recursion answers within the depth.
+    /// The call is given up when uncached goals have evaluated 65,536 nested goals in it. A goal is uncached if its result depends on
+    /// goals that are still evaluated, or if it met an overflow by depth. A nested goal of a large goal counts more than once
+    /// (`Delegate::cost_of`). The result is then `stack_overflow_result`, which rustc does not return, and `limits_met` is set. A goal
+    /// that plain recursion answers within the depth never sets `limits_met`.
     ///
-    /// It is refused where memory is (`Memory`), where a table of the context is full (`Full`), where the frame of the goal or
-    /// of one that is asked under it makes a request out of order (`Protocol`), and where a new result differs from a cached one
-    /// of the same goal and kind (`Conflict`), which never comes for a goal that plain recursion answers within the depth. After
-    /// a refusal no goal is being evaluated. The cache keeps its results in any case, and may hold more than before.
+    /// The call fails in these cases:
+    ///
+    /// - `Memory`: memory was refused.
+    /// - `Full`: a table of the context is full.
+    /// - `Protocol`: a frame of the goal, or of a goal evaluated under it, made a request out of order.
+    /// - `Conflict`: a new result differs from a cached one of the same goal and kind. This never happens for a goal that plain
+    ///   recursion answers within the depth.
+    ///
+    /// After a failure no goal is being evaluated. In any case the cache preserves its results, and may have more than before.
     pub fn evaluate_goal(
         &mut self,
         cache: &mut GlobalCache<D>,
@@ -111,7 +122,7 @@ impl<D: Delegate> SearchGraph<D> {
         requires input { D.meaning.IsInput cx.old input }
         ensures keeps { Keeps D.meaning cx.old cx.new }
 
-        // After a refusal too.
+        // These hold after a failure too.
         ensures empty { self.new.current_depth ≡ 0 }
         ensures cache { AreJustified D.meaning cx.new cache.new }
         ensures consistent { AreConsistent cache.new }
@@ -123,7 +134,7 @@ impl<D: Delegate> SearchGraph<D> {
         ensures no_conflict { result ≡ Err GraphFault.Conflict
             → IsNotPlain D.meaning (D.meaning.world cx.old) (self.old.root_depth + 1) (D.meaning.goal_of cx.old input) }
 
-        // A request out of order is refused, and nothing else is: an answer comes of frames whose requests are all in order.
+        // `Protocol` means a request out of order. Otherwise all requests of the frames were in order.
         ensures computed { IfOk result
             (λ r. IsComputedOrGiven D.meaning (D.meaning.world cx.old) (D.meaning.goal_of cx.old input) (D.meaning.answer_of cx.new r)) }
         ensures protocol { result ≡ Err GraphFault.Protocol → MakesMisstep D.meaning (D.meaning.world cx.old) (D.meaning.goal_of cx.old input) }
@@ -133,21 +144,21 @@ impl<D: Delegate> SearchGraph<D> {
         ensures frames { AreFramesWithin D.meaning cx.old input self.old.frames self.new.frames
             (λ width. frame_bound (max D.FIXPOINT_STEP_LIMIT 1) width self.old.root_depth) }
 
-        // The count never falls, and an answer that the cache did not hold costs a frame.
+        // The count never decreases. A result that was not cached costs at least one frame.
         ensures rises { self.old.frames ≤ self.new.frames }
         ensures counted { IfOk result (λ r. IsKnown cache.old input self.old.root_depth r ⊎ IsCounted self.old.frames self.new.frames) }
 
-        // The result of a goal that the cache holds, and that it may use, costs no frame, and is one that the cache holds.
+        // If the cache has a result that may be used, the result is a cached one, and no frame is started.
         ensures cached { IfKnown cache.old input self.old.root_depth ((self.new.frames ≡ self.old.frames) × (cache.new ≡ cache.old)) }
         ensures known { IfKnown cache.old input self.old.root_depth (IfOk result (λ r. IsKnown cache.old input self.old.root_depth r)) }
 
-        // The cache holds each answer afterwards, for goals of this depth.
+        // Each result is cached afterwards, for goals of this depth.
         ensures kept { IfOk result (λ r. IsKnown cache.new input self.old.root_depth r) }
 
         ensures depth { self.new.root_depth ≡ self.old.root_depth }
 
-        // A limit that was met is noted, after a refusal too, and none is for a goal that plain recursion answers within the
-        // depth. Where none was, no overflow has a part in the answer, but for those that the cache held before.
+        // `limits_met` stays set, after a failure too. A goal that plain recursion answers within the depth never sets it. If it is
+        // not set, the result depends on no overflow, except through results that were cached before.
         ensures noted { self.old.limits_met ≡ true → self.new.limits_met ≡ true }
         ensures no_limit { self.old.limits_met ≡ false → self.new.limits_met ≡ true
             → IsNotPlain D.meaning (D.meaning.world cx.old) (self.old.root_depth + 1) (D.meaning.goal_of cx.old input) }

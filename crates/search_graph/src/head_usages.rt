@@ -1,4 +1,4 @@
-//! How often the results of goals of the stack were read.
+//! How often the results of goals of the stack were read, as rustc counts them.
 
 ghost use Rattle.std.specs.Prelude.{◌≡◌, ℕ, IfErr, OnOk, OnErr};
 ghost use Rattle.std.specs.FinMap as map;
@@ -15,7 +15,7 @@ use type_terms::Fault;
 
 /// How often the result of a goal of the stack was read, by the kinds of the paths that led to it.
 ///
-/// Each number sticks at the greatest u32. `HeadUsages` of `rustc_type_ir::search_graph`.
+/// Each number is at most `u32::MAX`. `HeadUsages` of `rustc_type_ir::search_graph`.
 #[derive(Clone, Copy, PartialEq, Eq)]
 pub struct HeadUsages {
     pub inductive: u32,
@@ -25,7 +25,7 @@ pub struct HeadUsages {
 }
 
 impl HeadUsages {
-    /// It was never read.
+    /// Returns that it was never read.
     pub fn new() -> HeadUsages
         ensures { result ≡ no_usages }
     {
@@ -37,7 +37,7 @@ impl HeadUsages {
         }
     }
 
-    /// How often it was read by paths of this kind.
+    /// Returns how often it was read by paths of this kind.
     pub fn count(&self, path: PathKind) -> u32
         ensures { result ≡ count_by self.now path }
     {
@@ -49,7 +49,7 @@ impl HeadUsages {
         }
     }
 
-    /// It was read once more, by a path of this kind.
+    /// Counts one more read, by a path of this kind.
     pub fn add_usage(&mut self, path: PathKind)
         ensures added { count_by self.new path ≡ sticking_sum (count_by self.old path) 1 }
         ensures others { (other : PathKind) → (other ≡ path → ⊥) → count_by self.new other ≡ count_by self.old other }
@@ -64,7 +64,7 @@ impl HeadUsages {
         }
     }
 
-    /// How often it was read in both.
+    /// Adds both.
     pub fn plus(self, other: HeadUsages) -> HeadUsages
         ensures { (path : PathKind) → count_by result path ≡ sticking_sum (count_by self path) (count_by other path) }
     {
@@ -77,15 +77,15 @@ impl HeadUsages {
     }
 }
 
-/// How often the results of goals of the stack were read while a candidate was looked at.
+/// How often the results of goals of the stack were read while a candidate was considered.
 ///
-/// `CandidateHeadUsages` of `rustc_type_ir::search_graph`, where numbers that grow too large end the process.
+/// `CandidateHeadUsages` of `rustc_type_ir::search_graph`, which panics if a number overflows.
 pub struct CandidateHeadUsages {
-    /// By the places of the goals on the stack.
+    /// By the indices of the goals in the stack.
     usages: IndexMap<usize, HeadUsages>,
 }
 
-// Written, so that what owns one drops it by one call at each way out, and not field by field.
+// Written by hand, so that owners drop it in one call (docs/PROVING.md, 'Drop').
 impl Drop for CandidateHeadUsages {
     fn drop(self) {
         let CandidateHeadUsages { usages: _ } = self;
@@ -111,7 +111,7 @@ impl Model for CandidateHeadUsages {
 }
 
 impl CandidateHeadUsages {
-    /// Nothing was read. It takes no memory yet.
+    /// Returns that nothing was read, without allocating.
     pub fn new(alloc: Global) -> CandidateHeadUsages
         ensures { result ≡ map.empty }
     {
@@ -120,7 +120,7 @@ impl CandidateHeadUsages {
         }
     }
 
-    /// How often the result of the goal at this place was read, by paths of this kind.
+    /// Returns how often the result of the goal with this index was read, by paths of this kind.
     pub fn count(&self, head: usize, path: PathKind) -> u32
         ensures { result ≡ usage_count self.now head path }
     {
@@ -130,7 +130,8 @@ impl CandidateHeadUsages {
         }
     }
 
-    /// The result of the goal at this place was read once more, by a path of this kind; or `Memory`, and nothing changes.
+    /// Counts one more read of the result of the goal with this index, by a path of this kind. Fails if memory is refused, and then
+    /// changes nothing.
     pub fn add_usage(&mut self, head: usize, path: PathKind) -> Result<(), Fault>
         ensures added { OnOk result (usage_count self.new head path ≡ sticking_sum (usage_count self.old head path) 1) }
         ensures others { OnOk result ((place : ℕ) (kind : PathKind) → (place ≡ head → kind ≡ path → ⊥)
@@ -145,12 +146,12 @@ impl CandidateHeadUsages {
         Ok(())
     }
 
-    /// Adds what was read elsewhere, each number to its own; or `Memory`, and nothing changes.
+    /// Adds other reads, each number to its own. Fails if memory is refused, and then changes nothing.
     pub fn merge_usages(&mut self, other: CandidateHeadUsages) -> Result<(), Fault>
         ensures sums { OnOk result ((head : ℕ) (path : PathKind)
             → usage_count self.new head path ≡ sticking_sum (usage_count self.old head path) (usage_count other head path)) }
 
-        // So neither the order nor the grouping of merges matters.
+        // Neither the order nor the grouping of merges matters.
         ensures commutative { IsCommutative sticking_sum }
         ensures associative { IsAssociative sticking_sum }
 

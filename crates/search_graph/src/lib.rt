@@ -1,7 +1,7 @@
-//! The search graph: goals that ask goals, with cycles, reruns, a limit on the depth and a cache.
+//! The search graph: goals that evaluate nested goals, with cycles, reruns, a limit on the depth and a cache.
 //!
-//! Below it stand the kinds of the paths between goals and what a result rests on, and above these the delegate of a search,
-//! its stack, the results that it keeps, and the steps that ask no goal.
+//! A port of `rustc_type_ir::search_graph`. From the lowest module up: the kinds of paths between goals, what a result depends on, the
+//! delegate of a search, its stack, its provisional entries and its cache, the steps that evaluate no nested goal, and the evaluation.
 #![tactic(auto)]
 
 mod cache;

@@ -1,4 +1,4 @@
-//! Entries of a goal that ended, on their way to the goals before it.
+//! Moves the provisional entries of a goal that ended to goals preceding it on the stack.
 
 ghost use Rattle.std.specs.Prelude.{◌≡◌, ◌+◌, ◌∷◌, [], ℕ, OnOk, Some, false, length, slice_get};
 ghost use Rattle.search_graph.specs.KeptPaths.{indices, AreBelow};
@@ -12,11 +12,11 @@ use crate::stack::{StackEntry, kind_of_path};
 use bitflags::Flags;
 use std::alloc::AllocError;
 
-/// Moves those of these entries that have the result with which their nearest head ended to their next heads on this stack. The
-/// others go.
+/// Moves the entries of a goal that ended to their next heads on the stack, if they have the goal's result. Drops the others.
 ///
-/// The head was asked by a step of this kind, and what was asked under it is listed at this place. After a refusal some entries may be
-/// missing. `rebase_provisional_cache_entries` of `rustc_type_ir::search_graph`, which asks for other conditions.
+/// `ended` is the result of the goal, `step_kind` the kind of the step to it, and `asked` the index of its nested goals in the cache.
+/// If memory is refused, some entries may be missing. `rebase_provisional_cache_entries` of `rustc_type_ir::search_graph`, which has
+/// other conditions.
 pub(crate) fn move_entries<D: Delegate>(
     entries: &mut ProvisionalEntries<D>,
     stack: &[StackEntry<InputOf<D>, ResultOf<D>>],
@@ -40,8 +40,8 @@ pub(crate) fn move_entries<D: Delegate>(
     Ok(())
 }
 
-/// Moves an entry to its next head. It goes where that is none, where a forced step lies on the path from there, and where an entry
-/// is there that serves wherever it would.
+/// Moves an entry to its next head. Drops it if there is none, if a forced step is on the path from that head, or if that head has an
+/// entry that can be used in the same cases.
 fn move_entry<D: Delegate>(
     entries: &mut ProvisionalEntries<D>,
     stack: &[StackEntry<InputOf<D>, ResultOf<D>>],

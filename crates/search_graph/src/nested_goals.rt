@@ -1,4 +1,4 @@
-//! The goals that were asked under a goal, by their numbers.
+//! The goals that were evaluated under a goal, by their numbers.
 
 ghost use Rattle.std.specs.Prelude.{◌≡◌, ◌≤◌, ◌++◌, ◌∷◌, [], ◌↔◌, ◌⊎◌, ℕ, IsTrue, IsPermutation, OnOk, OnErr};
 ghost use Rattle.search_graph.specs.Nested.{IsWithin, no_goal, one_goal, covered};
@@ -6,7 +6,7 @@ ghost use Rattle.search_graph.specs.Nested.{IsWithin, no_goal, one_goal, covered
 use std::alloc::{AllocError, Global};
 use std::mem;
 
-/// A range of numbers of goals that some goals lie in.
+/// A range that contains the numbers of some goals.
 #[derive(Clone, Copy, PartialEq, Eq)]
 pub struct Span {
     pub lowest: usize,
@@ -14,7 +14,7 @@ pub struct Span {
 }
 
 impl Span {
-    /// Of no goal.
+    /// Returns the range of no goal.
     pub fn empty() -> Span
         ensures is { result ≡ no_goal }
         ensures none { (number : ℕ) → IsWithin result number → ⊥ }
@@ -25,7 +25,7 @@ impl Span {
         }
     }
 
-    /// Of one goal.
+    /// Returns the range of one goal.
     pub fn of(number: usize) -> Span
         ensures is { result ≡ one_goal number }
         ensures one { (other : ℕ) → IsWithin result other ↔ (other ≡ number) }
@@ -36,7 +36,7 @@ impl Span {
         }
     }
 
-    /// Of the goals of both, and those between them.
+    /// Returns the least range that contains both.
     pub fn cover(self, other: Span) -> Span
         ensures is { result ≡ covered self other }
         ensures covers { (number : ℕ) → IsWithin self number ⊎ IsWithin other number → IsWithin result number }
@@ -47,14 +47,14 @@ impl Span {
         }
     }
 
-    /// Whether the goal of this number lies in it.
+    /// Returns whether the range contains this number.
     pub fn has(self, number: usize) -> bool
         ensures { IsTrue result ↔ IsWithin self number }
     {
         self.lowest <= number && number <= self.highest
     }
 
-    /// Whether a goal may lie in both.
+    /// Returns whether a number may be in both ranges.
     pub fn overlaps(self, other: Span) -> bool
         ensures shares { (number : ℕ) → IsWithin self number → IsWithin other number → IsTrue result }
         ensures meets { IsTrue result ↔ ((self.lowest ≤ other.highest) × (other.lowest ≤ self.highest)) }
@@ -63,22 +63,22 @@ impl Span {
     }
 }
 
-/// All goals that were asked under a goal, whatever answered them.
+/// All goals that were evaluated under a goal, in whatever way they got their results.
 ///
-/// What was asked under a result that was used is known by its place among what was asked. So the lists are no longer than the
-/// questions that were asked.
+/// A stored result that was used is listed by its index in the cache, which has the goals that were evaluated under it. So the lists
+/// are no longer than the number of nested goals.
 #[derive(Drop)]
 pub struct NestedGoals {
-    /// Goals whose results weren't there, as they were asked.
+    /// Goals that had no stored result, in the order of their evaluation.
     pub goals: Vec<usize>,
-    /// Places of what was asked under results that were there: their goals, and all that was asked under them.
+    /// Indices in the cache for stored results that were used: of their goals, with all that was evaluated under these.
     pub cached: Vec<usize>,
-    /// All of them lie in it.
+    /// A range that contains the numbers of all of them.
     pub span: Span,
 }
 
 impl NestedGoals {
-    /// None.
+    /// Returns no goals.
     pub fn new(alloc: Global) -> NestedGoals
         ensures goals { result.goals.items ≡ [] }
         ensures cached { result.cached.items ≡ [] }
@@ -91,8 +91,7 @@ impl NestedGoals {
         }
     }
 
-    /// Adds a goal whose result was not cached, by its number. The error is a refused request for memory, which changes neither goals nor
-    /// span.
+    /// Adds a goal that had no stored result, by its number. If memory is refused, `goals` and `span` stay the same.
     pub fn add_goal(&mut self, number: usize) -> Result<(), AllocError>
         ensures added { OnOk result (self.new.goals.items ≡ self.old.goals.items ++ number ∷ []) }
         ensures span { OnOk result (self.new.span ≡ covered self.old.span (one_goal number)) }
@@ -104,7 +103,7 @@ impl NestedGoals {
         Ok(())
     }
 
-    /// Adds a goal with all that was asked under it, which lie in the span, by its place.
+    /// Adds a goal and all goals that were evaluated under it, by their index in the cache. `span` contains their numbers.
     pub fn add_cached(&mut self, place: usize, span: Span) -> Result<(), AllocError>
         ensures added { OnOk result (self.new.cached.items ≡ self.old.cached.items ++ place ∷ []) }
         ensures span { OnOk result (self.new.span ≡ covered self.old.span span) }
@@ -118,7 +117,7 @@ impl NestedGoals {
 
     /// Adds the goals of another list. The shorter list is moved to the end of the longer one.
     ///
-    /// After a refusal some of them may be missing.
+    /// If memory is refused, some of them may be missing.
     pub fn extend(&mut self, more: NestedGoals) -> Result<(), AllocError>
         ensures goals { OnOk result (IsPermutation (self.old.goals.items ++ more.goals.items) self.new.goals.items) }
         ensures cached { OnOk result (IsPermutation (self.old.cached.items ++ more.cached.items) self.new.cached.items) }
@@ -136,7 +135,7 @@ impl NestedGoals {
     }
 }
 
-/// Adds the numbers of another list, in some order. The shorter list is moved to the end of the longer one.
+/// Adds the numbers of another list, in any order. The shorter list is moved to the end of the longer one.
 fn join(numbers: &mut Vec<usize>, mut more: Vec<usize>) -> Result<(), AllocError>
     ensures { OnOk result (IsPermutation (numbers.old.items ++ more.items) numbers.new.items) }
 {

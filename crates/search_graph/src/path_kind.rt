@@ -1,4 +1,4 @@
-//! Kinds of steps from a goal to a goal that it asks, and of the paths that such steps make.
+//! Kinds of steps from a goal to its nested goals, and of the paths that such steps make.
 
 ghost use Rattle.std.specs.Prelude.{⊤, ◌≡◌, ◌-◌, ◌↔◌, ℕ, [], ◌∷◌, codes, max, Option, Some};
 ghost use Rattle.std.specs.Int.RustNames.{bit_or};
@@ -9,25 +9,25 @@ ghost use Rattle.search_graph.specs.declared.path_kind.PathKind.TheVariants.{Ind
 
 use bitflags::{Flag, Flags, bitflag_items};
 
-/// The kind of a step from a goal to a goal that it asks, or of a path of steps, which is the greatest of theirs.
+/// The kind of a step from a goal to a nested goal, or of a path. The kind of a path is the greatest kind of its steps.
 ///
 /// Whether a cycle proves its goals depends on its kind. `PathKind` of `rustc_type_ir::search_graph`.
 #[derive(Clone, Copy, PartialEq, Eq)]
 pub enum PathKind {
-    /// Makes no progress: a cycle of such steps proves nothing.
+    /// A cycle of such steps proves nothing.
     Inductive,
-    /// Whether a cycle proves its goals isn't decided: it is ambiguous.
+    /// It is not decided whether a cycle proves its goals, so a cycle is ambiguous.
     Unknown,
-    /// A cycle that passes such a step holds.
+    /// A cycle with such a step proves its goals.
     Coinductive,
-    /// A cycle that passes such a step is ambiguous whatever its other steps are.
+    /// A cycle with such a step is ambiguous, whatever its other steps are.
     ForcedAmbiguity,
 }
 
 impl PathKind {
-    /// The kind of this path followed by that one: the greater of the two, as the variants are listed.
+    /// Returns the kind of this path followed by that one: the greater of the two, in the order of the variants.
     ///
-    /// Neither the order of the steps nor how often a kind is met matters.
+    /// Neither the order of the steps nor the number of steps of one kind matters.
     pub fn extend(self, rest: PathKind) -> PathKind
         ensures is { result ≡ greater self rest }
         ensures greatest { rank result ≡ max (rank self) (rank rest) }
@@ -49,7 +49,7 @@ impl PathKind {
     }
 }
 
-/// A set of paths by their kinds, the path without a step among them: a bit for each.
+/// A set of paths by their kinds. The path without a step is one of them. Each has a bit.
 ///
 /// `PathsToNested` of `rustc_type_ir::search_graph`.
 #[derive(Clone, Copy, PartialEq, Eq)]
@@ -91,7 +91,7 @@ impl Flags for PathsToNested {
 impl From<PathKind> for PathsToNested {
     ghost from_gives = { λ kind paths. paths.0 ≡ only (Some kind) };
 
-    /// The set of that kind alone.
+    /// Returns the set of that kind alone.
     fn from(kind: PathKind) -> PathsToNested {
         match kind {
             PathKind::Inductive => PathsToNested::INDUCTIVE,
@@ -102,7 +102,7 @@ impl From<PathKind> for PathsToNested {
     }
 }
 
-/// The paths that a step of this kind changes: the path without a step, and those of lesser kinds.
+/// Returns the paths that a step of this kind changes: the path without a step, and those of lesser kinds.
 fn lesser_paths(kind: PathKind) -> PathsToNested
     ensures { result.0 ≡ only (Some kind) - 1 }
 {
@@ -121,14 +121,14 @@ fn lesser_paths(kind: PathKind) -> PathsToNested
 }
 
 impl PathsToNested {
-    /// These paths, each extended by a step of this kind: lesser ones become paths of this kind, and the others stay.
+    /// Returns these paths, each extended by a step of this kind: lesser ones become paths of this kind, and the others stay.
     #[must_use]
     pub fn extend_with(mut self, path: PathKind) -> PathsToNested
         ensures exact { AreExtendedBy path self.0 result.0 }
 
-        // To extend each of two sets is to extend their union.
+        // Extending two sets and joining them gives the same as extending their union.
         ensures union { (k : PathKind) (a b c d : ℕ) → AreExtendedBy k a c → AreExtendedBy k b d → AreExtendedBy k (bit_or a b) (bit_or c d) }
-        // To extend by two steps in turn is to extend by one of the greater kind.
+        // Extending by two steps gives the same as extending by one step of the greater kind.
         ensures twice { (j k : PathKind) (a b c : ℕ) → AreExtendedBy j a b → AreExtendedBy k b c → AreExtendedBy (greater j k) a c }
     {
         let lesser = lesser_paths(path);
@@ -139,7 +139,7 @@ impl PathsToNested {
         self
     }
 
-    /// These paths, each extended by each of those.
+    /// Returns these paths, each extended by each of those.
     #[must_use]
     pub fn extend_with_each(self, paths: PathsToNested) -> PathsToNested
         ensures { AreExtendedByEach paths.0 self.0 result.0 }
@@ -150,7 +150,7 @@ impl PathsToNested {
             .union(self.extend_where(paths, PathKind::ForcedAmbiguity))
     }
 
-    /// These paths, each extended by the one of this kind, if that is among those, and else none.
+    /// Returns these paths, each extended by the path of this kind, if that is among those. Otherwise returns no paths.
     fn extend_where(self, paths: PathsToNested, kind: PathKind) -> PathsToNested
         ensures { AreExtendedWhere paths.0 kind self.0 result.0 }
     {
@@ -161,11 +161,11 @@ impl PathsToNested {
         }
     }
 
-    /// The only kind of these paths, or `None` where they have several kinds, no step or are none.
+    /// Returns the only kind of these paths. Returns `None` if there are several, if there is none, or for the path without a step.
     pub fn only_kind(self) -> Option<PathKind>
         ensures kind { (kind : PathKind) → (result ≡ Some kind) ↔ (self.0 ≡ only (Some kind)) }
 
-        // The set of one path has that path and no other.
+        // The set of one path has that path alone.
         ensures alone { (path other : Option PathKind) → HasPath (only path) other ↔ (other ≡ path) }
     {
         if self == PathsToNested::INDUCTIVE {

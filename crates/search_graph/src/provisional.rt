@@ -1,4 +1,4 @@
-//! Results that rest on goals of the stack, as long as the runs of those goals last.
+//! Provisional entries: results that depend on goals of the stack, stored as long as the runs of those goals last.
 
 ghost use Rattle.std.specs.Prelude.{◌≡◌, ◌<◌, ◌+◌, ◌++◌, ◌∷◌, [], ◌↔◌, ℕ, IfSome, IfNone, IsSome, OnOk, OnErr, Some, length, slice_get, option_to_list, true, false};
 ghost use Rattle.std.proofs.Props.{props};
@@ -10,8 +10,8 @@ use crate::path_kind::PathKind;
 use crate::stack::StackEntry;
 use std::alloc::{AllocError, Global};
 
-/// A result of a goal that rests on goals of the stack. It answers questions on the goal in the run of its nearest head in
-/// which it came.
+/// A result of a goal that depends on goals of the stack. It is used for the goal during the run of its nearest head in which it was
+/// computed.
 ///
 /// `ProvisionalCacheEntry` of `rustc_type_ir::search_graph`.
 #[derive(Drop)]
@@ -20,29 +20,29 @@ pub struct ProvisionalEntry<I, R> {
     pub input: I,
     /// The number of the goal.
     pub number: usize,
-    /// What came of the goal, without an overflow by depth.
+    /// The result of the goal. It met no overflow by depth.
     pub result: R,
-    /// The goals of the stack on which the result rests, and the kinds of the paths by which it read them.
+    /// The goals of the stack that the result depends on, and the kinds of the paths by which it read them.
     pub heads: Vec<CycleHead>,
     /// The kind of the path from its nearest head to the goal.
     pub kind: PathKind,
     /// The depth that the goal needed.
     pub required_depth: usize,
-    /// The place of what was asked under it.
+    /// The index of its nested goals in the cache.
     pub asked: usize,
 }
 
-/// The entries of a delegate's goals in the list of a goal of the stack.
+/// The list of the entries whose nearest head is one goal of the stack.
 pub(crate) type Entries<D> = Vec<ProvisionalEntry<InputOf<D>, ResultOf<D>>>;
 
-/// The provisional entries of a search: for each goal of the stack a list of those whose nearest head it is.
+/// The provisional entries of a search. Each goal of the stack has a list of the entries whose nearest head it is.
 ///
-/// So all of them go that rest on a run where it ends, with the list of its goal.
+/// When a run ends, the list of its goal is removed. So all entries are removed that depend on the run.
 pub struct ProvisionalEntries<D: Delegate> {
     alloc: Global,
-    /// The lists of the goals of the stack, the oldest first.
+    /// The lists of the goals of the stack, the oldest goal first.
     pub lists: Vec<Entries<D>>,
-    /// Whether an entry was left since no list was there. Where goals form no cycle none is, and none is looked for.
+    /// Whether an entry was stored since there was no list. If goals form no cycle there is no entry, and no lookup is needed.
     used: bool,
     ghost unused: { used ≡ false → NoneIsLeft lists.items } by { Prim.hlevel props },
 }
@@ -58,7 +58,7 @@ impl<D: Delegate> Drop for ProvisionalEntries<D> {
 }
 
 impl<D: Delegate> ProvisionalEntries<D> {
-    /// No lists. It takes no memory yet.
+    /// Returns no lists, without allocating.
     pub fn new(alloc: Global) -> Self
         ensures { result.lists.items ≡ [] }
     {
@@ -69,7 +69,7 @@ impl<D: Delegate> ProvisionalEntries<D> {
         }
     }
 
-    /// A run begins, of a goal that is put on the stack: no entry rests on it.
+    /// Begins a run of a goal that is pushed. No entry depends on it yet.
     pub fn begin(&mut self) -> Result<(), AllocError>
         ensures begun { OnOk result ((list : _) × (self.new.lists.items ≡ self.old.lists.items ++ list ∷ []) × (list.items ≡ [])) }
         ensures err { OnErr result (self.new.lists.items ≡ self.old.lists.items) }
@@ -78,7 +78,7 @@ impl<D: Delegate> ProvisionalEntries<D> {
         Ok(())
     }
 
-    /// The run of the newest goal ends, and the entries whose nearest head it is are no more among these.
+    /// Ends the run of the newest goal. Removes the entries whose nearest head it is, and returns them.
     pub fn end(&mut self) -> Option<Entries<D>>
         ensures lists { self.old.lists.items ≡ self.new.lists.items ++ option_to_list result }
         ensures some { IsSome result ↔ (0 < length self.old.lists.items) }
@@ -90,7 +90,7 @@ impl<D: Delegate> ProvisionalEntries<D> {
         Some(ended)
     }
 
-    /// Gives up all runs.
+    /// Removes all lists.
     pub fn clear(&mut self)
         ensures { self.new.lists.items ≡ [] }
     {
@@ -98,11 +98,11 @@ impl<D: Delegate> ProvisionalEntries<D> {
         self.used = false;
     }
 
-    /// Where an entry stands that answers a question on a goal over this stack, by a step of this kind and with this depth: the place
-    /// of its nearest head, and its place in the list of that.
+    /// Returns the position of an entry that may be used for a goal over this stack: the index of its nearest head, and its index in
+    /// that head's list.
     ///
-    /// The path from the nearest head to the question has to be of the entry's kind, and the goal may need no more depth than
-    /// there is. `lookup_provisional_cache` of `rustc_type_ir::search_graph`.
+    /// The path from the nearest head to the goal has the entry's kind, and the entry needed at most this depth.
+    /// `lookup_provisional_cache` of `rustc_type_ir::search_graph`.
     pub fn find(
         &self,
         stack: &[StackEntry<InputOf<D>, ResultOf<D>>],
@@ -131,7 +131,7 @@ impl<D: Delegate> ProvisionalEntries<D> {
         None
     }
 
-    /// Leaves an entry in the list of the goal at this place of the stack.
+    /// Stores an entry in the list of the goal with this index in the stack.
     pub fn leave(
         &mut self,
         head: usize,
@@ -148,7 +148,7 @@ impl<D: Delegate> ProvisionalEntries<D> {
     }
 }
 
-/// Where among these an entry of the goal stands for a path of this kind that needs no more than this depth.
+/// Returns the index of an entry of the goal for a path of this kind that needed at most this depth.
 pub(crate) fn find_among<D: Delegate>(
     entries: &[ProvisionalEntry<InputOf<D>, ResultOf<D>>],
     number: usize,
@@ -169,7 +169,7 @@ pub(crate) fn find_among<D: Delegate>(
     None
 }
 
-/// Whether the entry is of the goal, for a path of this kind, and needs no more than this depth.
+/// Returns whether the entry is of the goal, for a path of this kind, and needed at most this depth.
 fn serves<D: Delegate>(
     entry: &ProvisionalEntry<InputOf<D>, ResultOf<D>>,
     number: usize,

@@ -1,4 +1,4 @@
-//! What the candidates of a frame read of the stack.
+//! The goals of the stack whose results the candidates of a frame read.
 
 ghost use Rattle.std.specs.Prelude.{◌≡◌, ◌++◌, ◌∷◌, [], ℕ, true, false, Some, OnOk, slice_get};
 ghost use Rattle.std.specs.Int.RustNames.{bit_or};
@@ -11,12 +11,12 @@ use crate::dependencies::{CycleHead, add_all_paths, forget_paths, merge_heads};
 use std::alloc::{AllocError, Global};
 use std::mem;
 
-/// What the candidates of a frame read of the stack. What a candidate read that is ignored counts no more as read.
+/// The goals of the stack whose results the candidates of a frame read. The reads of an ignored candidate no longer count.
 pub(crate) struct CandidateReads {
     alloc: Global,
-    /// The goals of the stack whose results the open candidate read, with the kinds of the paths by which it did.
+    /// The goals of the stack whose results the open candidate read, with the kinds of the paths.
     pub(crate) unfinished: Vec<CycleHead>,
-    /// The same of the candidates that were finished, by number, and nothing for those that were ignored since.
+    /// The same for the candidates that were finished, by number. Empty for those that were ignored since.
     pub(crate) finished: Vec<Vec<CycleHead>>,
 }
 
@@ -31,7 +31,7 @@ impl Drop for CandidateReads {
 }
 
 impl CandidateReads {
-    /// Nothing, of no candidate.
+    /// Returns no reads, of no candidate.
     pub(crate) fn new(alloc: Global) -> CandidateReads
         ensures unfinished { result.unfinished.items ≡ [] }
         ensures finished { result.finished.items ≡ [] }
@@ -43,7 +43,7 @@ impl CandidateReads {
         }
     }
 
-    /// Notes a request of the frame: a candidate is finished, or ignored.
+    /// Records a request of the frame: a candidate is finished, or ignored.
     pub(crate) fn note<I, R>(&mut self, request: &Request<I, R>) -> Result<(), AllocError>
         ensures finished { OnOk result (request.now ≡ FinishCandidate
             → (self.new.finished.items ≡ self.old.finished.items ++ self.old.unfinished ∷ []) × (self.new.unfinished.items ≡ [])) }
@@ -65,7 +65,7 @@ impl CandidateReads {
         Ok(())
     }
 
-    /// Where a candidate is open, takes over the paths by which heads were read under it: so far it only rests on them.
+    /// If a candidate is open, moves the paths by which it read the heads from `heads` to itself. `heads` still has the heads.
     pub(crate) fn hold(
         &mut self,
         is_open: bool,
@@ -84,7 +84,7 @@ impl CandidateReads {
         forget_paths(self.alloc, heads)
     }
 
-    /// Counts what the candidates read that were finished and not ignored, as far as the heads are there.
+    /// Adds the paths of the candidates that were finished and not ignored, for the heads that the list has.
     pub(crate) fn count(&self, heads: &mut Vec<CycleHead>)
         ensures same { indices heads.new.items ≡ indices heads.old.items }
         ensures counted { (place : ℕ) → RestsOn heads.old.items place

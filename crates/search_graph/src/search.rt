@@ -1,4 +1,4 @@
-//! The goals that are being evaluated, and the steps of their evaluation that ask no goal.
+//! The goals that are being evaluated, and the steps of their evaluation that evaluate no nested goal.
 
 ghost use Rattle.std.specs.Prelude.{◌≡◌, [], ◌∷◌, ℕ, ◌+◌, ◌-◌, ◌^◌, ◌/◌, ◌<◌, ◌≤◌, ◌↔◌, ◌++◌, ◌⊎◌, length, max};
 ghost use Rattle.std.specs.Prelude.{min, IfOk, IfSome, IfNone, IsSome, OnOk, OnErr, None, nat_eq, slice_get, drop, true, false, option_to_list};
@@ -30,45 +30,45 @@ use indexmap::IndexMap;
 use std::alloc::{AllocError, Global};
 use type_terms::Fault;
 
-/// The reply to a question, with what it rests on.
+/// The result of a nested goal, with what it depends on.
 pub type Evaluation<D> = Result<EvaluationResult<ResultOf<D>>, GraphFault>;
 
-/// The reply to a question, where the call from outside may be given up under it.
+/// The same, if the call from outside may be given up during the evaluation.
 pub(crate) type Outcome<D> = Result<EvaluationResult<ResultOf<D>>, Stop>;
 
-/// A call from outside is given up when goals whose results are not cached for all have asked so many questions in it.
+/// A call from outside is given up when uncached goals have evaluated this many nested goals in it.
 ///
-/// Such a goal is one whose result rests on goals of the stack, or that met an overflow by depth. Each of its questions counts once,
-/// in all its runs, and once more for what its own types cost (`Delegate::cost_of`). The count is taken when the goal ends, and
+/// A goal is uncached if its result depends on goals of the stack, or if it met an overflow by depth. The goal is counted when it ends,
+/// with the nested goals of all its runs. Each counts once, and `Delegate::cost_of` times more for the goal's own types. The count
 /// begins anew with each call.
 ///
-/// These results are stored no longer than a run of their nearest head, if at all, so they are computed again where their goals are
-/// asked after it. In goals that ask each other by many paths that may happen exponentially often in the number of goals. All other
-/// goals are cached. So this bounds the time of a call. Goals that form no cycle and whose chains fit the depth are never counted,
-/// whatever they cost. The number is far above what types that grow at each step ask within a depth of 128.
+/// An uncached result is stored for one run of its nearest head at most. It is computed again if its goal is evaluated after that run.
+/// If goals reach each other by many paths, that may happen exponentially often in the number of goals. All other goals are cached, so
+/// this bounds the time of a call. Goals that form no cycle and whose chains fit the depth are never counted, whatever they cost. The
+/// number is far above the nested goals of types that grow at each step within a depth of 128.
 pub(crate) const UNCACHED_QUESTIONS_LIMIT: usize = 65536;
 
 /// The goals that are being evaluated, and what was counted.
 pub struct Search<D: Delegate> {
-    /// Where memory comes from.
+    /// The allocator.
     pub alloc: Global,
-    /// The goals that are being evaluated, each asked by the one before.
+    /// The goals that are being evaluated. Each is a nested goal of the one preceding it.
     pub stack: Vec<StackEntry<InputOf<D>, ResultOf<D>>>,
-    /// The place of each goal of the stack, by its number.
+    /// The index of each goal of the stack, by its number.
     positions: IndexMap<usize, usize>,
     ghost placed: { (number : ℕ) → get nat_eq positions number ≡ place_of stack.items number } by { Prim.hlevel props },
     ghost ranges: { AreInRanges stack.items } by { Prim.hlevel props },
-    /// The results that rest on goals of the stack: for each of these a list of those whose nearest head it is.
+    /// The results that depend on goals of the stack. Each goal of the stack has a list of the results whose nearest head it is.
     pub entries: ProvisionalEntries<D>,
     pub ghost listed: { length entries.lists.items ≡ length stack.items } by { Prim.hlevel props },
-    /// Whether a limit of the depth or of the runs gave a result, or a call was given up.
+    /// Whether the limit of the depth or of the runs gave a result, or a call was given up.
     pub limits_met: bool,
-    /// Whether a goal heard of an overflow by depth in this call from outside.
+    /// Whether a nested goal reported an overflow by depth in this call from outside.
     pub(crate) overflow_met: bool,
-    /// How many frames were started, or the greatest `u64` if there were more.
+    /// The number of frames that were started, at most `u64::MAX`.
     pub frames: u64,
-    /// How many questions the goals asked that ended in this call from outside with results that rest on goals of the stack, or
-    /// after an overflow by depth: each counts once, and once more for what its goal's types cost.
+    /// The number of nested goals of the uncached goals that ended in this call from outside, as `UNCACHED_QUESTIONS_LIMIT` counts
+    /// them.
     pub(crate) uncached_questions: usize,
 }
 
@@ -88,7 +88,7 @@ impl<D: Delegate> Drop for Search<D> {
 }
 
 impl<D: Delegate> Search<D> {
-    /// A search that has evaluated nothing.
+    /// Returns a search that has evaluated nothing.
     pub fn new(alloc: Global) -> Self
         ensures empty { result.stack.items ≡ [] }
         ensures unlisted { result.entries.lists.items ≡ [] }
@@ -107,7 +107,7 @@ impl<D: Delegate> Search<D> {
         }
     }
 
-    /// Gives up what is being evaluated.
+    /// Removes all goals that are being evaluated.
     pub fn clear(&mut self)
         ensures empty { self.new.stack.items ≡ [] }
         ensures unlisted { self.new.entries.lists.items ≡ [] }
@@ -119,7 +119,7 @@ impl<D: Delegate> Search<D> {
         self.entries.clear();
     }
 
-    /// Begins a call from outside, in which no goal has ended and no overflow was met.
+    /// Begins a call from outside. No goal has ended in it, and no overflow was met.
     pub(crate) fn count_anew(&mut self)
         ensures count { self.new.uncached_questions ≡ 0 }
         ensures calm { self.new.overflow_met ≡ false }
@@ -132,8 +132,7 @@ impl<D: Delegate> Search<D> {
         self.overflow_met = false;
     }
 
-    /// Counts the questions of a goal that ended, if it did so with a result that is not cached for all, or after an overflow: `cost`
-    /// in all. Returns whether the call may go on after it.
+    /// Adds `cost` for a goal that ended, if the goal is uncached. Returns whether the call may continue.
     pub(crate) fn count_end(&mut self, is_open: bool, cost: usize) -> bool
         ensures limit { is_open ≡ true → result ≡ true → self.new.uncached_questions < uncached_questions_limit }
         ensures count { is_open ≡ true → result ≡ true → self.new.uncached_questions ≡ self.old.uncached_questions + cost }
@@ -151,7 +150,7 @@ impl<D: Delegate> Search<D> {
         self.uncached_questions < UNCACHED_QUESTIONS_LIMIT
     }
 
-    /// The goals of the stack lie in it.
+    /// Returns a range that contains the numbers of all goals of the stack.
     fn span(&self) -> Span
         ensures { result ≡ span_of_newest self.now.stack.items }
     {
@@ -161,7 +160,7 @@ impl<D: Delegate> Search<D> {
         }
     }
 
-    /// The stack entry of a goal that is asked now, before its first run.
+    /// Returns the stack entry of a goal that is evaluated now, for its first run.
     pub fn new_entry(
         &self,
         number: usize,
@@ -185,8 +184,8 @@ impl<D: Delegate> Search<D> {
         }
     }
 
-    /// Puts a goal on the stack, of which a frame was started: no entry rests on it. It is refused where memory is; the frame is
-    /// counted then too.
+    /// Pushes a goal whose frame was started. No provisional entry depends on it yet. Fails if memory is refused. The frame is counted
+    /// in any case.
     pub fn begin(&mut self, entry: StackEntry<InputOf<D>, ResultOf<D>>) -> Result<(), AllocError>
         requires { entry.span ≡ covered (span_of_newest self.old.stack.items) (one_goal entry.number) }
         ensures stack { OnOk result (self.new.stack.items ≡ self.old.stack.items ++ entry ∷ []) }
@@ -208,7 +207,7 @@ impl<D: Delegate> Search<D> {
         Ok(())
     }
 
-    /// Takes the newest goal off the stack, and with it the entries whose nearest head it is.
+    /// Pops the newest goal, and the entries whose nearest head it is.
     pub fn pop(&mut self) -> Option<(StackEntry<InputOf<D>, ResultOf<D>>, Entries<D>)>
         ensures stack { IfSome result (λ p. self.old.stack.items ≡ self.new.stack.items ++ p.0 ∷ []) }
         ensures none { IfNone result (self.new.stack.items ≡ self.old.stack.items) }
@@ -226,8 +225,10 @@ impl<D: Delegate> Search<D> {
         Some((entry, left))
     }
 
-    /// The place of a cached result for the goal that one of this depth may use now: no goal that was asked under it is on the
-    /// stack. A success needed no more than this depth, and after an overflow by depth it had the same one. None is found only where none of the goal's number may be used.
+    /// Returns the index of a cached result of the goal that may be used at this depth now.
+    ///
+    /// No goal that was evaluated under such a result is on the stack. If the result met no overflow by depth, it needed at most this
+    /// depth. If it met one, it had exactly this depth.
     pub fn find_cached(
         &self,
         cache: &CachedResults<D>,
@@ -243,8 +244,8 @@ impl<D: Delegate> Search<D> {
         cache.find(&self.positions, self.span(), number, input, depth)
     }
 
-    /// Where an entry stands that answers a question on the goal now: the place of its nearest head, and its place in the list
-    /// of that. None is found only where there is none.
+    /// Returns the position of a provisional entry that may be used for the goal now: the index of its nearest head, and its index in
+    /// that head's list.
     pub fn find_entry(
         &self,
         number: usize,
@@ -259,8 +260,7 @@ impl<D: Delegate> Search<D> {
             .find(&self.stack, number, input, step_kind, depth)
     }
 
-    /// The entry at this place of the list of a goal of the stack, as the reply to a question. It is refused where memory is, or
-    /// as `copy_result` is.
+    /// Returns the entry at this position as the result of the goal. Fails if memory is refused, or if `copy_result` fails.
     pub fn use_entry(
         &self,
         cache: &CachedResults<D>,
@@ -301,8 +301,10 @@ impl<D: Delegate> Search<D> {
         })
     }
 
-    /// Leaves the result of a goal with its nearest head, which is at this place of the stack, and answers the same result with
-    /// what was asked for it. It is refused where memory is, or as `copy_result` is.
+    /// Stores the result of a goal in the list of its nearest head, which has the index `nearest`. Returns the same result, with the
+    /// nested goals in one list. Fails if memory is refused, or if `copy_result` fails.
+    ///
+    /// `insert_provisional_cache` of `rustc_type_ir::search_graph`.
     pub(crate) fn leave(
         &mut self,
         cache: &mut CachedResults<D>,
@@ -380,9 +382,10 @@ impl<D: Delegate> Search<D> {
         })
     }
 
-    /// Moves the entries that a goal left with to their next heads, if no overflow by depth was met in this call. The goal ended with
-    /// this reply, was asked by a step of this kind, and what was asked under it is listed at this place. After a refusal some
-    /// entries may be missing.
+    /// Moves the entries of a goal that ended to their next heads, if no overflow by depth was met in this call.
+    ///
+    /// `ended` is the result of the goal, `step_kind` the kind of the step to it, and `asked` the index of its nested goals in the
+    /// cache. If memory is refused, some entries may be missing.
     pub(crate) fn move_entries(
         &mut self,
         left: Entries<D>,
@@ -392,8 +395,8 @@ impl<D: Delegate> Search<D> {
     ) -> Result<(), AllocError>
         requires below { AreBelow (length self.old.stack.items) (indices ended.now.dependencies.heads.items) }
         requires rests { (place : ℕ) (e : _) → slice_get left.items place ≡ Some e → AreBelow (length self.old.stack.items + 1) (indices e.heads.items) }
-        ensures moved { OnOk result
-            (AreMoved self.old.stack.items self.old.overflow_met left.items step_kind ended.now asked self.old.entries.lists.items self.new.entries.lists.items) }
+        ensures moved { OnOk result (AreMoved self.old.stack.items self.old.overflow_met left.items step_kind ended.now asked
+            self.old.entries.lists.items self.new.entries.lists.items) }
         ensures stack { self.new.stack.items ≡ self.old.stack.items }
         ensures met { self.new.overflow_met ≡ self.old.overflow_met }
         ensures frames { self.new.frames ≡ self.old.frames }
@@ -406,7 +409,7 @@ impl<D: Delegate> Search<D> {
         move_entries::<D>(&mut self.entries, stack, left, step_kind, ended, asked)
     }
 
-    /// The cycle that a question closes, if its goal is on the stack.
+    /// Returns the cycle that the goal closes, if it is on the stack.
     pub fn find_cycle(
         &self,
         number: usize,
@@ -420,8 +423,9 @@ impl<D: Delegate> Search<D> {
         find_cycle::<D>(&self.stack, &self.positions, number, input, step_kind)
     }
 
-    /// The reply to a question on a goal of the stack: the result of the run before, or the initial one for the kind of the cycle.
-    /// It rests on the goal, and on what the result of the run before rests on. `check_cycle_on_stack` of
+    /// Returns the result of a goal that is on the stack: that of its previous run, or the initial one for the kind of the cycle.
+    ///
+    /// It depends on the goal, and on everything that the result of the previous run depends on. `check_cycle_on_stack` of
     /// `rustc_type_ir::search_graph`.
     pub fn close_cycle(
         &self,
@@ -457,7 +461,8 @@ impl<D: Delegate> Search<D> {
         }
     }
 
-    /// A cached result as the reply to a question. It is refused where memory is, or as `copy_result` is.
+    /// Returns the cached result at this index as the result of the goal. Fails if memory is refused, or if `copy_result` fails.
+    ///
     /// `lookup_global_cache` of `rustc_type_ir::search_graph`.
     pub fn use_cached(
         &self,
@@ -501,7 +506,9 @@ impl<D: Delegate> Search<D> {
         })
     }
 
-    /// The reply to a question of a goal of depth 0, which can ask nothing: `handle_overflow`. The limit is noted in any case.
+    /// Returns the result of a nested goal of a goal of depth 0, and sets `limits_met`.
+    ///
+    /// `handle_overflow` of `rustc_type_ir::search_graph`.
     pub fn overflow(
         &mut self,
         cx: &mut D::Cx,
@@ -539,7 +546,8 @@ impl<D: Delegate> Search<D> {
     }
 }
 
-/// The depth of a goal that is asked by one of this depth: one less, or divided once that one has met an overflow by depth.
+/// Returns the depth for a nested goal of a goal of this depth: one less, or divided if the goal has met an overflow by depth.
+///
 /// `allowed_depth_for_nested` of `rustc_type_ir::search_graph`.
 pub fn nested_depth<D: Delegate>(depth: usize, overflowed: bool) -> usize
     requires { 1 ≤ depth }
@@ -554,15 +562,20 @@ pub fn nested_depth<D: Delegate>(depth: usize, overflowed: bool) -> usize
     }
 }
 
-/// How often a goal may be run: as the delegate says, and at least once.
+/// Returns how often a goal may be run: the delegate's limit, and at least once.
 pub fn run_limit<D: Delegate>() -> usize
     ensures { result ≡ max D.FIXPOINT_STEP_LIMIT 1 }
 {
     D::FIXPOINT_STEP_LIMIT.max(1)
 }
 
-/// Whether a goal that had this result isn't run again: its own result wasn't read, the result is that of the run before, it
-/// is the first run and the result is the initial one for the only kind of path that read it, or the result is ambiguous.
+/// Returns whether the goal is not run again after this result. That is so in four cases:
+///
+/// - no nested goal read the goal's own result;
+/// - the result is that of the previous run;
+/// - this is the first run, one kind of path alone read the result, and the result is the initial one for that kind;
+/// - the result is ambiguous.
+///
 /// `reached_fixpoint` of `rustc_type_ir::search_graph`.
 pub fn is_last_run<D: Delegate>(
     cx: &D::Cx,
@@ -600,9 +613,10 @@ pub fn is_last_run<D: Delegate>(
     D::is_ambiguous_result(cx, found).is_some()
 }
 
-/// Keeps the result of a goal if it rests on no goal of the stack, and answers the same result with what was asked for it.
-/// It is refused where memory is, as `copy_result` is, and where the result differs from one that was kept for the goal
-/// (`Conflict`). `insert_global_cache` of `rustc_type_ir::search_graph`.
+/// Caches the result of a goal if it depends on no goal of the stack. Returns the same result, with the goal among its nested goals.
+///
+/// Fails if memory is refused, if `copy_result` fails, or if the result differs from a cached one of the goal (`Conflict`).
+/// `insert_global_cache` of `rustc_type_ir::search_graph`.
 pub fn finish<D: Delegate>(
     alloc: Global,
     cache: &mut CachedResults<D>,
@@ -682,7 +696,7 @@ pub fn finish<D: Delegate>(
             dependencies,
         });
     }
-    // The result rests on goals of the stack, so it is not cached. After an overflow no provisional entry is left either.
+    // The result depends on goals of the stack, so it is not cached. After an overflow it is no provisional entry either.
     let mut nested_goals = nested_goals;
     nested_goals.add_goal(number)?;
     let dependencies = Dependencies {

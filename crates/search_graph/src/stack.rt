@@ -1,4 +1,4 @@
-//! The goals that are being evaluated, each asked by the one before.
+//! The stack: the goals that are being evaluated. Each is a nested goal of the one preceding it.
 
 ghost use Rattle.std.specs.Prelude.{◌≡◌, ◌+◌, ◌<◌, ℕ, IfOk, IfSome, IfNone, OnOk, OnErr, Some, None, cond, nat_eq, length, slice_get, drop};
 ghost use Rattle.indexmap.specs.IndexMap.{get};
@@ -17,20 +17,20 @@ use std::alloc::{AllocError, Global};
 pub struct StackEntry<I, R> {
     /// The goal.
     pub input: I,
-    /// The kind of the step by which it was asked.
+    /// The kind of the step to it from the goal preceding it.
     pub step_kind: PathKind,
-    /// The result of the run before, if there was one.
+    /// The result of the previous run, if there was one.
     pub provisional_result: Option<R>,
-    /// The places of the goals of the stack on which that result rests.
+    /// The indices of the goals of the stack that this result depends on.
     pub heads: Vec<usize>,
     /// Its number in the cache.
     pub number: usize,
-    /// The goals of the stack up to this one lie in it.
+    /// A range that contains the numbers of the goals of the stack up to this one.
     pub span: Span,
 }
 
 impl<I: Drop, R: Drop> StackEntry<I, R> {
-    /// The goal alone.
+    /// Returns the goal alone.
     pub fn into_input(self) -> I
         ensures { result ≡ self.input }
     {
@@ -38,7 +38,7 @@ impl<I: Drop, R: Drop> StackEntry<I, R> {
         input
     }
 
-    /// The entry for the next run, after one with this result, which rests on these dependencies.
+    /// Returns the entry for the next run, after a run with this result and these dependencies.
     pub fn next_run(
         self,
         alloc: Global,
@@ -67,16 +67,16 @@ impl<I: Drop, R: Drop> StackEntry<I, R> {
     }
 }
 
-/// A goal of the stack that is asked again, and the kind of the path that leads from it back to it.
+/// A cycle: a goal of the stack that is reached again, and the kind of the path from it back to it.
 #[derive(Clone, Copy)]
 pub struct Cycle {
-    /// The place of the goal, counted from the oldest.
+    /// The index of the goal in the stack.
     pub index: usize,
     /// The maximum of the kinds of the steps from the goal to the top of the stack, and of the step that closes the cycle.
     pub path_kind: PathKind,
 }
 
-/// Gives the number of a goal a place, unless it has one.
+/// Stores the index of a goal by its number, unless the number has one.
 pub(crate) fn add_place(
     positions: &mut IndexMap<usize, usize>,
     number: usize,
@@ -95,7 +95,7 @@ pub(crate) fn add_place(
     Ok(())
 }
 
-/// Takes the place of a number away, if it is this one.
+/// Removes the index of a number, if it is `place`.
 pub(crate) fn remove_place(positions: &mut IndexMap<usize, usize>, number: usize, place: usize)
     ensures removed { get nat_eq positions.old number ≡ Some place → (other : ℕ)
         → get nat_eq positions.new other ≡ cond (nat_eq number other) None (get nat_eq positions.old other) }
@@ -109,7 +109,7 @@ pub(crate) fn remove_place(positions: &mut IndexMap<usize, usize>, number: usize
     }
 }
 
-/// The cycle that a question closes, if its goal is on the stack. `positions` has the place of each goal by its number.
+/// Returns the cycle that a goal closes, if it is on the stack. `positions` has the index of each goal by its number.
 pub(crate) fn find_cycle<D: Delegate>(
     stack: &[StackEntry<InputOf<D>, ResultOf<D>>],
     positions: &IndexMap<usize, usize>,
@@ -134,7 +134,7 @@ pub(crate) fn find_cycle<D: Delegate>(
     None
 }
 
-/// The greatest kind of the steps above a place and a closing one.
+/// Returns the greatest kind of the steps after the goal at `index`, and of a last step.
 pub(crate) fn kind_of_path<I, R>(
     stack: &[StackEntry<I, R>],
     index: usize,

@@ -1,4 +1,4 @@
-//! The parts of an evaluation that ask no goal, each with what the evaluation says of it.
+//! The parts of an evaluation that evaluate no nested goal. Each has the clauses that the evaluation needs of it.
 
 ghost use Rattle.std.specs.Prelude.{◌≡◌, [], ◌∷◌, ◌++◌, ◌+◌, ◌-◌, ◌^◌, ◌<◌, ◌≤◌, ◌||◌, ◌⊎◌, ℕ, min, max, IfOk, OnOk, IfSome, IsSome, IsPermutation, true, false, length};
 ghost use Rattle.search_graph.specs.Heads.{AreReadByBoth, AreHeadsOfBoth};
@@ -22,8 +22,8 @@ use crate::reads::CandidateReads;
 use crate::search::{Evaluation, Outcome, Search, finish};
 use crate::stack::{Cycle, StackEntry};
 
-/// The number of a goal, and a result that is kept as the reply to a question on it, if one of this depth may use it: a provisional
-/// entry, or else a cached result.
+/// Returns the number of a goal, and a stored result of it that may be used at this depth: a provisional entry, or else a cached
+/// result.
 pub(crate) fn look_up<D: Delegate>(
     search: &Search<D>,
     cache: &mut CachedResults<D>,
@@ -65,7 +65,7 @@ pub(crate) fn look_up<D: Delegate>(
     }
 }
 
-/// The reply to a question that closes a cycle.
+/// Returns the result of a goal that closes a cycle, with the goals that it depends on.
 pub(crate) fn reply_in_cycle<D: Delegate>(
     search: &Search<D>,
     cx: &mut D::Cx,
@@ -99,7 +99,7 @@ pub(crate) fn reply_in_cycle<D: Delegate>(
     })
 }
 
-/// The reply to a question of a goal of depth 0.
+/// Returns the result of a nested goal of a goal of depth 0, and gives the nested goal a number.
 pub(crate) fn reply_with_overflow<D: Delegate>(
     search: &mut Search<D>,
     cache: &mut CachedResults<D>,
@@ -132,7 +132,7 @@ pub(crate) fn reply_with_overflow<D: Delegate>(
     Ok(search.overflow(cx, number, &input, step_kind)?)
 }
 
-/// Puts a goal on the stack and starts a frame of it, up to its first request.
+/// Pushes a goal, starts its frame, and returns the frame with its first request.
 pub(crate) fn start_run<D: Delegate>(
     search: &mut Search<D>,
     cx: &mut D::Cx,
@@ -147,7 +147,7 @@ pub(crate) fn start_run<D: Delegate>(
     ensures met { search.new.overflow_met ≡ search.old.overflow_met }
     ensures counted { OnOk result (search.new.frames ≡ min (search.old.frames + 1) (2 ^ 64 - 1)) }
 
-    // After a refusal the frame may not have been started.
+    // If the call fails, the frame may not have been started.
     ensures frames { search.new.frames ≤ search.old.frames + 1 }
     ensures rises { search.old.frames ≤ search.new.frames }
     ensures limits { search.new.limits_met ≡ search.old.limits_met }
@@ -161,8 +161,8 @@ pub(crate) fn start_run<D: Delegate>(
     Ok((frame, request))
 }
 
-/// What is due after a request, of which the candidates and their reads take note. It is refused where it is out of order
-/// (`Protocol`), and where memory is.
+/// Returns what is due after a request, and records the request in `candidates` and `reads`. Fails if the request is out of order
+/// (`Protocol`), or if memory is refused.
 pub(crate) fn take_turn<I: Drop, R: Drop>(
     candidates: &mut Candidates,
     reads: &mut CandidateReads,
@@ -178,8 +178,8 @@ pub(crate) fn take_turn<I: Drop, R: Drop>(
     candidates.take(request)
 }
 
-/// Adds what a nested goal rests on to the dependencies of the goal that asked it, and gives its result to that goal's frame. What it
-/// read counts for the open candidate, if there is one.
+/// Adds the dependencies of a nested goal to those of its parent, and gives its result to the parent's frame. The results that the
+/// nested goal read count for the open candidate, if there is one.
 pub(crate) fn hear<D: Delegate>(
     frame: &mut D::Frame,
     cx: &mut D::Cx,
@@ -221,15 +221,17 @@ pub(crate) fn hear<D: Delegate>(
     Ok(request)
 }
 
-/// Whether an overflow by depth was met that may have been met before, or of which a goal told.
+/// Returns whether an overflow by depth was met: earlier in the call, or as the nested goal reports.
 pub(crate) fn is_met(before: bool, told: bool) -> bool
     ensures { result ≡ (before || told) }
 {
     before || told
 }
 
-/// Counts the end of a goal. If its result rests on goals of the stack and no overflow by depth was met, it is left with its nearest
-/// head, and the entries that the goal left with in its last run move. Else it is kept as `finish` does.
+/// Ends the evaluation of a goal: counts it, and stores its result.
+///
+/// If the result depends on goals of the stack and met no overflow by depth, it becomes a provisional entry, and the entries `left` of
+/// the goal's last run move to their next heads. Otherwise `finish` stores it.
 pub(crate) fn conclude<D: Delegate>(
     search: &mut Search<D>,
     cache: &mut CachedResults<D>,
@@ -269,7 +271,7 @@ pub(crate) fn conclude<D: Delegate>(
     ensures range { IfOk result (λ o. AreInRange cache.new.asked.items o.dependencies.nested_goals) }
     ensures within { OnOk result (KeepsWithin D.meaning cx.now cache.old.entries.items input evaluation.result cache.new.entries.items) }
 
-    // A goal whose result rests on no other and that met no overflow is never counted.
+    // A goal is never counted if its result depends on no other goal and it met no overflow.
     ensures exhausted { result ≡ Err Stop.Exhausted → (evaluation.dependencies.encountered_overflow ≡ true) ⊎ (evaluation.dependencies.heads.items ≡ [] → ⊥) }
     ensures no_conflict { result ≡ Err (Stop.Fault GraphFault.Conflict) → IsNotPlainUpTo D.meaning cx.now input (depth + 1) }
     ensures conflict { result ≡ Err (Stop.Fault GraphFault.Conflict) → HasConflict D.meaning cx.now (known_results cache.new.entries.items) }
@@ -300,7 +302,7 @@ pub(crate) fn conclude<D: Delegate>(
     Ok(finish(alloc, cache, cx, number, input, evaluation, depth)?)
 }
 
-/// The reply to a question from outside that is given up: an overflow by depth, which is kept for goals of this depth.
+/// Returns the result of a call from outside that is given up: an overflow by depth. It is cached for goals of this depth.
 pub(crate) fn give_up<D: Delegate>(
     search: &mut Search<D>,
     cache: &mut CachedResults<D>,
