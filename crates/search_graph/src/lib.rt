@@ -34,4 +34,4 @@ pub use nested_goals::{NestedGoals, Span};
 pub use path_kind::{PathKind, PathsToNested};
 pub use provisional::{ProvisionalEntries, ProvisionalEntry};
 pub use search::{Evaluation, Search, finish, is_last_run, nested_depth, run_limit};
-pub use stack::{Cycle, StackEntry};
+pub use stack::{Cycle, NestedGoal, StackEntry};

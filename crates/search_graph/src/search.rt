@@ -24,7 +24,9 @@ use crate::moves::move_entries;
 use crate::nested_goals::{NestedGoals, Span};
 use crate::path_kind::{PathKind, PathsToNested};
 use crate::provisional::{Entries, ProvisionalEntries, ProvisionalEntry};
-use crate::stack::{Cycle, StackEntry, add_place, find_cycle, kind_of_path, remove_place};
+use crate::stack::{
+    Cycle, NestedGoal, StackEntry, add_place, find_cycle, kind_of_path, remove_place,
+};
 use bitflags::Flags;
 use indexmap::IndexMap;
 use std::alloc::{AllocError, Global};
@@ -266,15 +268,15 @@ impl<D: Delegate> Search<D> {
         cache: &CachedResults<D>,
         cx: &D::Cx,
         at: (usize, usize),
-        number: usize,
         input: &InputOf<D>,
         step_kind: PathKind,
-        depth: usize,
     ) -> Evaluation<D>
         requires entries { AreEntriesOver D.meaning cx.now self.now.stack.items cache.now.asked.items self.now.overflow_met self.now.entries.lists.items }
-        requires place { IsServingAt self.now.entries.lists.items self.now.stack.items number input.now step_kind depth at.0 at.1 }
+        requires place { (number : ℕ) × (depth : ℕ)
+            × IsServingAt self.now.entries.lists.items self.now.stack.items number input.now step_kind depth at.0 at.1 }
         ensures success { IfOk result (λ o. o.dependencies.encountered_overflow ≡ false) }
-        ensures depth { IfOk result (λ o. o.dependencies.required_depth ≤ depth) }
+        ensures depth { IfOk result (λ o. (e : _) → IsEntryAt self.now.entries.lists.items at.0 at.1 e
+            → o.dependencies.required_depth ≡ e.required_depth) }
         ensures heads { IfOk result (λ o. (e : _) → IsEntryAt self.now.entries.lists.items at.0 at.1 e → o.dependencies.heads.items ≡ e.heads.items) }
         ensures asked { IfOk result (λ o. (e : _) → IsEntryAt self.now.entries.lists.items at.0 at.1 e → UsesAlone e.asked o.dependencies.nested_goals) }
         ensures range { IfOk result (λ o. AreInRange cache.now.asked.items o.dependencies.nested_goals) }
@@ -310,27 +312,26 @@ impl<D: Delegate> Search<D> {
         cache: &mut CachedResults<D>,
         cx: &D::Cx,
         nearest: usize,
-        number: usize,
-        input: InputOf<D>,
-        step_kind: PathKind,
+        goal: NestedGoal<InputOf<D>>,
         evaluation: EvaluationResult<ResultOf<D>>,
     ) -> Evaluation<D>
         requires entries { AreEntriesOver D.meaning cx.now self.old.stack.items cache.old.asked.items self.old.overflow_met self.old.entries.lists.items }
-        requires input { D.meaning.IsInput cx.now input }
+        requires input { D.meaning.IsInput cx.now goal.input }
         requires nested { AreInRange cache.old.asked.items evaluation.dependencies.nested_goals }
-        requires result { IsResultOver D.meaning cx.now self.old.stack.items input step_kind evaluation }
+        requires result { IsResultOver D.meaning cx.now self.old.stack.items goal.input goal.step_kind evaluation }
         requires success { evaluation.dependencies.encountered_overflow ≡ false }
-        requires faithful { IsFaithfulOver D.meaning cx.now self.old.stack.items input 0 cx.now evaluation }
-        requires descends { AllDescendTo D.meaning cx.now self.old.stack.items input self.old.overflow_met }
+        requires faithful { IsFaithfulOver D.meaning cx.now self.old.stack.items goal.input 0 cx.now evaluation }
+        requires descends { AllDescendTo D.meaning cx.now self.old.stack.items goal.input self.old.overflow_met }
         requires place { nearest < length self.old.stack.items }
         requires nearest { RestsOn evaluation.dependencies.heads.items nearest × AreBelow (nearest + 1) (indices evaluation.dependencies.heads.items) }
         ensures left { OnOk result ((e : _) × (e.result ≡ evaluation.result) × AddsEntry self.old.entries.lists.items self.new.entries.lists.items nearest e) }
         ensures entries { OnOk result
             (AreEntriesOver D.meaning cx.now self.old.stack.items cache.new.asked.items self.old.overflow_met self.new.entries.lists.items) }
-        ensures within { OnOk result (EntriesStayWithin D.meaning cx.now self.old.entries.lists.items input evaluation.result self.new.entries.lists.items) }
+        ensures within { OnOk result
+            (EntriesStayWithin D.meaning cx.now self.old.entries.lists.items goal.input evaluation.result self.new.entries.lists.items) }
         ensures reply { IfOk result (SaysSame evaluation) }
         ensures range { IfOk result (λ o. AreInRange cache.new.asked.items o.dependencies.nested_goals) }
-        ensures listed { OnOk result (AddsAsked cache.old.asked.items cache.new.asked.items number evaluation.dependencies.nested_goals) }
+        ensures listed { OnOk result (AddsAsked cache.old.asked.items cache.new.asked.items goal.number evaluation.dependencies.nested_goals) }
         ensures asked_before { KeepsResults cache.old.asked.items cache.new.asked.items }
         ensures cached { cache.new.entries ≡ cache.old.entries }
         ensures goals { cache.new.goals ≡ cache.old.goals }
@@ -353,6 +354,12 @@ impl<D: Delegate> Search<D> {
             nested_goals,
             questions,
         } = dependencies;
+        let NestedGoal {
+            number,
+            input,
+            step_kind,
+            ..
+        } = goal;
         let kind = kind_of_path(&self.stack, nearest, step_kind);
         let result = cx.copy_result(&answer)?;
         let rests_on = Vec::from_slice(self.alloc, &heads)?;
@@ -470,18 +477,17 @@ impl<D: Delegate> Search<D> {
         cx: &D::Cx,
         place: usize,
         input: &InputOf<D>,
-        step_kind: PathKind,
-        depth: usize,
     ) -> Evaluation<D>
         requires cache { AreCached D.meaning (D.meaning.world cx.now) cx.now cache.now.entries.items }
-        requires place { (e : _) × (slice_get cache.now.entries.items place ≡ Some e)
-            × (e.input ≡ input.now) × (e.encountered_overflow ≡ true → e.depth ≡ depth) }
+        requires place { (e : _) × (slice_get cache.now.entries.items place ≡ Some e) × (e.input ≡ input.now) }
         ensures same { IfOk result (λ o. (e : _) → slice_get cache.now.entries.items place ≡ Some e → IsReplyOf e o) }
         ensures unread { IfOk result (λ o. o.dependencies.heads.items ≡ []) }
         ensures asked { IfOk result (λ o. (e : _) → slice_get cache.now.entries.items place ≡ Some e → UsesAlone e.asked o.dependencies.nested_goals) }
         ensures range { IfOk result (λ o. AreInRange cache.now.asked.items o.dependencies.nested_goals) }
-        ensures answer { IfOk result (λ o. IsReplyOver D.meaning cx.now self.now.stack.items input.now step_kind o.dependencies.heads.items cx.now o.result) }
-        ensures faithful { IfOk result (IsFaithfulOver D.meaning cx.now self.now.stack.items input.now (depth + 1) cx.now) }
+        ensures answer { IfOk result (λ o. (step_kind : _)
+            → IsReplyOver D.meaning cx.now self.now.stack.items input.now step_kind o.dependencies.heads.items cx.now o.result) }
+        ensures faithful { IfOk result (λ o. (depth : ℕ) → (o.dependencies.encountered_overflow ≡ true → o.dependencies.required_depth ≡ depth)
+            → IsFaithfulOver D.meaning cx.now self.now.stack.items input.now (depth + 1) cx.now o) }
         ensures within { IfOk result (λ o. IsWithinAsCached D.meaning cx.now cache.now.entries.items input.now o.result) }
         ensures no_conflict { result ≡ Err GraphFault.Conflict → ⊥ }
         ensures in_order { result ≡ Err GraphFault.Protocol → ⊥ }
@@ -621,21 +627,19 @@ pub fn finish<D: Delegate>(
     alloc: Global,
     cache: &mut CachedResults<D>,
     cx: &D::Cx,
-    number: usize,
-    input: InputOf<D>,
+    goal: NestedGoal<InputOf<D>>,
     evaluation: EvaluationResult<ResultOf<D>>,
-    depth: usize,
 ) -> Evaluation<D>
     requires cache { AreCached D.meaning (D.meaning.world cx.now) cx.now cache.old.entries.items }
-    requires input { D.meaning.IsInput cx.now input }
+    requires input { D.meaning.IsInput cx.now goal.input }
     requires nested { AreInRange cache.old.asked.items evaluation.dependencies.nested_goals }
-    requires number { IsNumberOf D.Cx.Input.eq cache.old.goals.keys input number }
+    requires number { IsNumberOf D.Cx.Input.eq cache.old.goals.keys goal.input goal.number }
     requires alone { evaluation.dependencies.heads.items ≡ []
-        → IsProvisional D.meaning (D.meaning.world cx.now) [] (D.meaning.goal_of cx.now input, PathKind.Inductive) [] cx.now evaluation.result }
+        → IsProvisional D.meaning (D.meaning.world cx.now) [] (D.meaning.goal_of cx.now goal.input, PathKind.Inductive) [] cx.now evaluation.result }
     requires kept { evaluation.dependencies.heads.items ≡ []
-        → IsKeptResult D.meaning cx.now input evaluation.result depth evaluation.dependencies.encountered_overflow }
+        → IsKeptResult D.meaning cx.now goal.input evaluation.result goal.depth evaluation.dependencies.encountered_overflow }
     ensures kept { OnOk result (evaluation.dependencies.heads.items ≡ []
-        → AddsEvaluation cache.old.entries.items cache.new.entries.items cache.old.asked.items input number depth evaluation) }
+        → AddsEvaluation cache.old.entries.items cache.new.entries.items cache.old.asked.items goal.input goal.number goal.depth evaluation) }
     ensures unkept { OnOk result ((evaluation.dependencies.heads.items ≡ [] → ⊥) → cache.new.entries.items ≡ cache.old.entries.items) }
     ensures err { OnErr result ((cache.new.entries.items ≡ cache.old.entries.items)
         ⊎ ((e : _) × (cache.new.entries.items ≡ cache.old.entries.items ++ e ∷ []))) }
@@ -646,11 +650,11 @@ pub fn finish<D: Delegate>(
     ensures reply { IfOk result (SaysSame evaluation) }
     ensures found { IfOk result (λ o. evaluation.dependencies.heads.items ≡ [] → UsesAlone (length cache.old.asked.items) o.dependencies.nested_goals) }
     ensures asked { IfOk result (λ o. (evaluation.dependencies.heads.items ≡ [] → ⊥)
-        → AlsoAsks evaluation.dependencies.nested_goals number o.dependencies.nested_goals) }
+        → AlsoAsks evaluation.dependencies.nested_goals goal.number o.dependencies.nested_goals) }
     ensures range { IfOk result (λ o. AreInRange cache.new.asked.items o.dependencies.nested_goals) }
-    ensures within { OnOk result (KeepsWithin D.meaning cx.now cache.old.entries.items input evaluation.result cache.new.entries.items) }
-    ensures no_conflict { result ≡ Err GraphFault.Conflict → (limit : ℕ) → limit ≤ depth + 1
-        → IsNotPlain D.meaning (D.meaning.world cx.now) limit (D.meaning.goal_of cx.now input) }
+    ensures within { OnOk result (KeepsWithin D.meaning cx.now cache.old.entries.items goal.input evaluation.result cache.new.entries.items) }
+    ensures no_conflict { result ≡ Err GraphFault.Conflict → (limit : ℕ) → limit ≤ goal.depth + 1
+        → IsNotPlain D.meaning (D.meaning.world cx.now) limit (D.meaning.goal_of cx.now goal.input) }
     ensures conflict { result ≡ Err GraphFault.Conflict → HasConflict D.meaning cx.now (known_results cache.new.entries.items) }
     ensures in_order { result ≡ Err GraphFault.Protocol → ⊥ }
     ensures room { result ≡ Err GraphFault.Full → ⊥ }
@@ -666,6 +670,12 @@ pub fn finish<D: Delegate>(
         nested_goals,
         questions,
     } = dependencies;
+    let NestedGoal {
+        number,
+        input,
+        depth,
+        ..
+    } = goal;
     if heads.is_empty() {
         let kept_depth = if encountered_overflow {
             depth

@@ -12,6 +12,19 @@ use crate::path_kind::PathKind;
 use indexmap::IndexMap;
 use std::alloc::{AllocError, Global};
 
+/// A goal that is evaluated, with what its asker states about it.
+#[derive(Drop)]
+pub struct NestedGoal<I> {
+    /// Its number in the cache.
+    pub number: usize,
+    /// The goal.
+    pub input: I,
+    /// The kind of the step from its asker to it.
+    pub step_kind: PathKind,
+    /// The depth that is available to it. `AvailableDepth` of `rustc_type_ir::search_graph`.
+    pub depth: usize,
+}
+
 /// A goal that is being evaluated. `StackEntry` of `rustc_type_ir::search_graph`.
 #[derive(Drop)]
 pub struct StackEntry<I, R> {

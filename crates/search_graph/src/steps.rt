@@ -20,7 +20,7 @@ use crate::path_kind::{PathKind, PathsToNested};
 use crate::provisional::Entries;
 use crate::reads::CandidateReads;
 use crate::search::{Evaluation, Outcome, Search, finish};
-use crate::stack::{Cycle, StackEntry};
+use crate::stack::{Cycle, NestedGoal, StackEntry};
 
 /// Returns the number of a goal, and a stored result of it that may be used at this depth: a provisional entry, or else a cached
 /// result.
@@ -53,12 +53,12 @@ pub(crate) fn look_up<D: Delegate>(
 {
     let number = cache.number_of(cx, input)?;
     if let Some(at) = search.find_entry(number, input, step_kind, depth) {
-        let reply = search.use_entry(cache, cx, at, number, input, step_kind, depth)?;
+        let reply = search.use_entry(cache, cx, at, input, step_kind)?;
         return Ok((number, Some(reply)));
     }
     match search.find_cached(cache, number, input, depth)? {
         Some(place) => {
-            let cached = search.use_cached(cache, cx, place, input, step_kind, depth)?;
+            let cached = search.use_cached(cache, cx, place, input)?;
             Ok((number, Some(cached)))
         }
         None => Ok((number, None)),
@@ -290,16 +290,22 @@ pub(crate) fn conclude<D: Delegate>(
     if !search.count_end(is_open, cost) {
         return Err(Stop::Exhausted);
     }
+    let goal = NestedGoal {
+        number,
+        input,
+        step_kind,
+        depth,
+    };
     if !found.encountered_overflow {
         if let Some(nearest) = nearest_head(&found.heads) {
             let asked = cache.asked.len();
-            let reply = search.leave(cache, cx, nearest, number, input, step_kind, evaluation)?;
+            let reply = search.leave(cache, cx, nearest, goal, evaluation)?;
             search.move_entries(left, step_kind, &reply, asked)?;
             return Ok(reply);
         }
     }
     let alloc = search.alloc;
-    Ok(finish(alloc, cache, cx, number, input, evaluation, depth)?)
+    Ok(finish(alloc, cache, cx, goal, evaluation)?)
 }
 
 /// Returns the result of a call from outside that is given up: an overflow by depth. It is cached for goals of this depth.
@@ -332,5 +338,11 @@ pub(crate) fn give_up<D: Delegate>(
     let number = cache.number_of(cx, &input)?;
     let overflow = search.overflow(cx, number, &input, step_kind)?;
     let alloc = search.alloc;
-    finish(alloc, cache, cx, number, input, overflow, depth)
+    let goal = NestedGoal {
+        number,
+        input,
+        step_kind,
+        depth,
+    };
+    finish(alloc, cache, cx, goal, overflow)
 }

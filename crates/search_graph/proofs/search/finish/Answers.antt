@@ -58,16 +58,16 @@ returns-in_err-add_cached-clause-err g c =
 pub returns-then-is_empty-clause-range : goal.returns-then-is_empty-clause-range
 returns-then-is_empty-clause-range g c =
     let nested = c.args.evaluation.dependencies.nested_goals in
-    let here : Asked = record { number = c.args.number; nested_goals = nested } in
+    let here : Asked = record { number = c.args.goal.number; nested_goals = nested } in
     let at : slice_get c.insert.new.self.asked.items c.in_ok-asked.asked ≡ Some here = rw (c.in_ok-asked.ensures.recorded, c.in_ok-asked.ensures.place) (at_end c.args.cache.now.asked.items here) in
-    let span : c.cover-span.result ≡ covered c.args.evaluation.dependencies.nested_goals.span (one_goal c.args.number) = c.cover-span.ensures.is ∙ ap (covered nested.span) c.of.ensures.is in
+    let span : c.cover-span.result ≡ covered c.args.evaluation.dependencies.nested_goals.span (one_goal c.args.goal.number) = c.cover-span.ensures.is ∙ ap (covered nested.span) c.of.ensures.is in
     in_range_cached c.insert.new.self.asked.items c.add_cached.new.self c.in_ok-asked.asked here at
     (ap (λ v. v.items) c.add_cached.ensures.goals ∙ c.new-nested_goals.ensures.goals)
     (c.in_ok-add_cached.ensures.added ∙ ap (λ xs. xs ++ c.in_ok-asked.asked ∷ []) c.new-nested_goals.ensures.cached)
     (c.in_ok-add_cached.ensures.span ∙ ap (λ s. covered s c.cover-span.result) c.new-nested_goals.ensures.span ∙ ap (covered no_goal) span)
 
 pub returns-clause-range : goal.returns-clause-range
-returns-clause-range g c = in_range_goal c.args.cache.now.asked.items c.args.evaluation.dependencies.nested_goals c.add_goal.new.self c.args.number
+returns-clause-range g c = in_range_goal c.args.cache.now.asked.items c.args.evaluation.dependencies.nested_goals c.add_goal.new.self c.args.goal.number
     c.in_ok-add_goal.ensures.added (ap (λ v. v.items) c.add_goal.ensures.cached) c.in_ok-add_goal.ensures.span c.requires.nested
 
 pub returns-then-is_empty-clause-found : goal.returns-then-is_empty-clause-found

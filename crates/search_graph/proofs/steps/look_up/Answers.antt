@@ -7,7 +7,7 @@ use Rattle.search_graph.proofs.steps.look_up.Goals as goal
 pub use_cached-requires-clause-place : goal.use_cached-requires-clause-place
 use_cached-requires-clause-place g c =
     let found = rw c.in-Some-2.is at c.in_ok-place.ensures.found in
-    (found.0, found.1, found.2.same, found.2.within.0)
+    (found.0, found.1, found.2.same)
 
 pub returns-in_ok-cached-in-Some-2-clause-range : goal.returns-in_ok-cached-in-Some-2-clause-range
 returns-in_ok-cached-in-Some-2-clause-range g c = rw c.number_of.ensures.asked at c.in_ok-cached-in-Some-2.ensures.range
@@ -49,10 +49,13 @@ pub returns-in_ok-cached-in-Some-2-clause-number : goal.returns-in_ok-cached-in-
 returns-in_ok-cached-in-Some-2-clause-number g c = c.in_ok-number.ensures.place
 
 pub returns-in_ok-cached-in-Some-2-clause-answer : goal.returns-in_ok-cached-in-Some-2-clause-answer
-returns-in_ok-cached-in-Some-2-clause-answer g c = c.in_ok-cached-in-Some-2.ensures.answer
+returns-in_ok-cached-in-Some-2-clause-answer g c = c.in_ok-cached-in-Some-2.ensures.answer c.args.step_kind
 
 pub returns-in_ok-cached-in-Some-2-clause-faithful : goal.returns-in_ok-cached-in-Some-2-clause-faithful
-returns-in_ok-cached-in-Some-2-clause-faithful g c = c.in_ok-cached-in-Some-2.ensures.faithful
+returns-in_ok-cached-in-Some-2-clause-faithful g c =
+    let found = rw c.in-Some-2.is at c.in_ok-place.ensures.found in
+    let same = c.in_ok-cached-in-Some-2.ensures.same found.0 found.1 in
+    c.in_ok-cached-in-Some-2.ensures.faithful c.args.depth (λ on. same.1 ∙ found.2.within.0 (sym same.2 ∙ on))
 
 pub returns-in-None-clause-number : goal.returns-in-None-clause-number
 returns-in-None-clause-number g c = c.in_ok-number.ensures.place

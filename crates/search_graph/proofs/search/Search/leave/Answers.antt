@@ -18,14 +18,14 @@ returns-clause-entries g c =
     let lists = c.args.self.now.entries.lists.items in
     let old = c.args.cache.now.asked.items in
     let asked = c.list.new.self.asked.items in
-    let here : Asked = record { number = c.args.number; nested_goals = c.args.evaluation.dependencies.nested_goals } in
+    let here : Asked = record { number = c.args.goal.number; nested_goals = c.args.evaluation.dependencies.nested_goals } in
     let at : slice_get asked c.in_ok-asked.asked ≡ Some here = rw (c.in_ok-asked.ensures.recorded, c.in_ok-asked.ensures.place) (at_end old here) in
     let inside : c.args.nearest < length lists = subst (λ n. c.args.nearest < n) (sym c.args.self.now.listed) c.requires.place in
-    let kind = c.kind_of_path-kind.ensures ∙ ap (λ xs. kind_after (drop (c.args.nearest + 1) xs) c.args.step_kind) c.deref.ensures.value in
+    let kind = c.kind_of_path-kind.ensures ∙ ap (λ xs. kind_after (drop (c.args.nearest + 1) xs) c.args.goal.step_kind) c.deref.ensures.value in
     let on = c.in_ok-rests_on.ensures.items ∙ c.deref-2.ensures.value in
     entries_left m (m.world cx) c.args.self.now.overflow_met cx asked (steps_of m cx es) lists c.leave.new.self.lists.items c.args.nearest _ c.in_ok-leave.ensures.added inside
-    (left_entry m cx es c.args.step_kind c.args.nearest c.args.evaluation.dependencies.heads.items c.requires.place c.requires.nearest.0 c.requires.nearest.1
-    asked c.args.self.now.overflow_met c.args.input c.args.evaluation.result _ here refl c.in_ok-result.ensures.copy on kind at c.requires.input c.requires.result (rw c.requires.success at c.requires.faithful) c.requires.descends)
+    (left_entry m cx es c.args.goal.step_kind c.args.nearest c.args.evaluation.dependencies.heads.items c.requires.place c.requires.nearest.0 c.requires.nearest.1
+    asked c.args.self.now.overflow_met c.args.goal.input c.args.evaluation.result _ here refl c.in_ok-result.ensures.copy on kind at c.requires.input c.requires.result (rw c.requires.success at c.requires.faithful) c.requires.descends)
     (entries_keep m (m.world cx) c.args.self.now.overflow_met cx cx old asked (steps_of m cx es) lists (Keeps-refl m cx) c.list.ensures.asked c.requires.entries)
 
 pub returns-clause-within : goal.returns-clause-within
@@ -40,7 +40,7 @@ pub returns-clause-range : goal.returns-clause-range
 returns-clause-range g c =
     let old = c.args.cache.now.asked.items in
     let asked = c.list.new.self.asked.items in
-    let here : Asked = record { number = c.args.number; nested_goals = c.args.evaluation.dependencies.nested_goals } in
+    let here : Asked = record { number = c.args.goal.number; nested_goals = c.args.evaluation.dependencies.nested_goals } in
     let at : slice_get asked c.in_ok-asked.asked ≡ Some here = rw (c.in_ok-asked.ensures.recorded, c.in_ok-asked.ensures.place) (at_end old here) in
     in_range_cached asked c.add_cached.new.self c.in_ok-asked.asked here at
     (ap (λ v. v.items) c.add_cached.ensures.goals ∙ c.new-nested_goals.ensures.goals)

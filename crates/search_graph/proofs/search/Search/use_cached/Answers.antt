@@ -10,25 +10,19 @@ use Rattle.search_graph.proofs.Faithfuls.{faithful_kept}
 use Rattle.search_graph.proofs.search.Search.use_cached.Goals as goal
 
 pub returns-clause-answer : goal.returns-clause-answer
-returns-clause-answer g c =
+returns-clause-answer g c step_kind =
     let m = g.D.Delegate.meaning in
     let first = c.args.cx.now in
     let es = c.args.self.now.stack.items in
-    rw c.new-dependencies.ensures.unread (cached_answers m (m.world first) (steps_of m first es) (m.goal_of first c.args.input.now) Inductive c.args.step_kind first c.in_ok-cached.cached.result c.in_ok-cached.ensures.result)
+    rw c.new-dependencies.ensures.unread (cached_answers m (m.world first) (steps_of m first es) (m.goal_of first c.args.input.now) Inductive step_kind first c.in_ok-cached.cached.result c.in_ok-cached.ensures.result)
 
 pub returns-clause-faithful : goal.returns-clause-faithful
-returns-clause-faithful g c =
+returns-clause-faithful g c depth alike =
     let m = g.D.Delegate.meaning in
     let first = c.args.cx.now in
     let es = c.args.self.now.stack.items in
-    let entry = c.in_ok-cached.ensures.entry in
-    let found = c.requires.place in
-    let one : Some found.0 ≡ Some entry.0 = sym found.1 ∙ entry.1 in
-    let is : found.0 ≡ entry.0 = cc in
-    let depth : c.in_ok-cached.cached.encountered_overflow ≡ true → c.in_ok-cached.cached.depth ≡ c.args.depth =
-    λ o. entry.3 ∙ sym (ap (λ z. z.depth) is) ∙ found.3 (ap (λ z. z.encountered_overflow) is ∙ sym entry.4 ∙ o) in
-    faithful_kept m (m.world first) c.args.depth c.in_ok-cached.cached.depth (steps_of m first es) (m.goal_of first c.args.input.now) (m.answer_of first c.in_ok-cached.cached.result) c.in_ok-cached.cached.encountered_overflow (indices c.new-dependencies.result.heads.items)
-    depth (ap indices c.new-dependencies.ensures.unread) c.in_ok-cached.ensures.kept
+    faithful_kept m (m.world first) depth c.in_ok-cached.cached.depth (steps_of m first es) (m.goal_of first c.args.input.now) (m.answer_of first c.in_ok-cached.cached.result) c.in_ok-cached.cached.encountered_overflow (indices c.new-dependencies.result.heads.items)
+    alike (ap indices c.new-dependencies.ensures.unread) c.in_ok-cached.ensures.kept
 
 pub returns-clause-same : goal.returns-clause-same
 returns-clause-same g c = λ e at.

@@ -9,6 +9,11 @@ returns-clause-heads g c e at =
     let is = entry_read c.args.self.now.entries.lists.items c.args.at.0 c.args.at.1 e at c.index.result.now c.index-entry.result.now c.index.ensures c.index-entry.ensures in
     c.in_ok-dependencies.ensures.items ∙ c.deref.ensures.value ∙ ap (λ z. z.heads.items) (sym is)
 
+pub returns-clause-depth : goal.returns-clause-depth
+returns-clause-depth g c e at =
+    let is = entry_read c.args.self.now.entries.lists.items c.args.at.0 c.args.at.1 e at c.index.result.now c.index-entry.result.now c.index.ensures c.index-entry.ensures in
+    ap (λ z. z.required_depth) (sym is)
+
 pub returns-clause-asked : goal.returns-clause-asked
 returns-clause-asked g c e at =
     let is = entry_read c.args.self.now.entries.lists.items c.args.at.0 c.args.at.1 e at c.index.result.now c.index-entry.result.now c.index.ensures c.index-entry.ensures in (
@@ -18,7 +23,7 @@ returns-clause-asked g c e at =
 
 pub returns-clause-range : goal.returns-clause-range
 returns-clause-range g c =
-    let at = c.requires.place in
+    let at = c.requires.place.2 in
     let is = entry_read c.args.self.now.entries.lists.items c.args.at.0 c.args.at.1 at.0 at.1 c.index.result.now c.index-entry.result.now c.index.ensures c.index-entry.ensures in
     let listed = (c.requires.entries c.args.at.0 c.args.at.1 at.0 at.1).listed in
     let there : slice_get c.args.cache.now.asked.items c.index-entry.result.now.asked ≡ Some listed.0 = subst (λ z. slice_get c.args.cache.now.asked.items z.asked ≡ Some listed.0) is listed.1 in
@@ -29,28 +34,28 @@ returns-clause-range g c =
 
 pub returns-clause-answer : goal.returns-clause-answer
 returns-clause-answer g c =
-    let at = c.requires.place in
+    let at = c.requires.place.2 in
     let is = entry_read c.args.self.now.entries.lists.items c.args.at.0 c.args.at.1 at.0 at.1 c.index.result.now c.index-entry.result.now c.index.ensures c.index-entry.ensures in
     let on = c.in_ok-dependencies.ensures.items ∙ c.deref.ensures.value ∙ ap (λ z. z.heads.items) (sym is) in
     let copy = c.in_ok-answer.ensures.copy ∙ ap (λ z. z.result) (sym is) in
     rw (on, copy)
-    (entry_answers g.D.Delegate.meaning c.args.cx.now c.args.self.now.stack.items c.args.cache.now.asked.items c.args.self.now.overflow_met c.args.self.now.entries.lists.items c.requires.entries c.args.number c.args.input.now c.args.step_kind c.args.depth c.args.at.0 c.args.at.1 at)
+    (entry_answers g.D.Delegate.meaning c.args.cx.now c.args.self.now.stack.items c.args.cache.now.asked.items c.args.self.now.overflow_met c.args.self.now.entries.lists.items c.requires.entries c.requires.place.0 c.args.input.now c.args.step_kind c.requires.place.1 c.args.at.0 c.args.at.1 at)
 
 pub returns-clause-faithful : goal.returns-clause-faithful
 returns-clause-faithful g c reach =
-    let at = c.requires.place in
+    let at = c.requires.place.2 in
     let is = entry_read c.args.self.now.entries.lists.items c.args.at.0 c.args.at.1 at.0 at.1 c.index.result.now c.index-entry.result.now c.index.ensures c.index-entry.ensures in
     let on = c.in_ok-dependencies.ensures.items ∙ c.deref.ensures.value ∙ ap (λ z. z.heads.items) (sym is) in
     let copy = c.in_ok-answer.ensures.copy ∙ ap (λ z. z.result) (sym is) in
     rw (on, copy)
-    (entry_faithful g.D.Delegate.meaning c.args.cx.now c.args.self.now.stack.items c.args.cache.now.asked.items c.args.self.now.overflow_met c.args.self.now.entries.lists.items c.requires.entries c.args.number c.args.input.now c.args.step_kind c.args.depth c.args.at.0 c.args.at.1 at
+    (entry_faithful g.D.Delegate.meaning c.args.cx.now c.args.self.now.stack.items c.args.cache.now.asked.items c.args.self.now.overflow_met c.args.self.now.entries.lists.items c.requires.entries c.requires.place.0 c.args.input.now c.args.step_kind c.requires.place.1 c.args.at.0 c.args.at.1 at
     reach c.new-dependencies.result.encountered_overflow)
 
 pub returns-clause-within : goal.returns-clause-within
 returns-clause-within g c before stay =
-    let at = c.requires.place in
+    let at = c.requires.place.2 in
     let is = entry_read c.args.self.now.entries.lists.items c.args.at.0 c.args.at.1 at.0 at.1 c.index.result.now c.index-entry.result.now c.index.ensures c.index-entry.ensures in
     let copy = c.in_ok-answer.ensures.copy ∙ ap (λ z. z.result) (sym is) in
     rw copy
-    (entry_within g.D.Delegate.meaning c.args.cx.now c.args.self.now.stack.items c.args.cache.now.asked.items c.args.self.now.overflow_met c.args.self.now.entries.lists.items c.requires.entries c.args.number c.args.input.now c.args.step_kind c.args.depth c.args.at.0 c.args.at.1 at
+    (entry_within g.D.Delegate.meaning c.args.cx.now c.args.self.now.stack.items c.args.cache.now.asked.items c.args.self.now.overflow_met c.args.self.now.entries.lists.items c.requires.entries c.requires.place.0 c.args.input.now c.args.step_kind c.requires.place.1 c.args.at.0 c.args.at.1 at
     before stay)
