@@ -1,12 +1,16 @@
 -- The results of a cache, as clauses of public calls describe them.
-use Rattle.std.proofs.Common.{◌≡◌, ◌<◌, ◌+◌, ℕ, zero, suc, Bool, true, List, [], ◌∷◌, ◌++◌, ◌⊎◌, length, inl, inr, refl, sym, ap, ◌∙◌, subst, Some, slice_get, take, drop}
+use Rattle.std.proofs.Common.{◌≡◌, ◌<◌, ◌+◌, ℕ, zero, suc, Bool, true, false, List, [], ◌∷◌, ◌++◌, ◌⊎◌, length, inl, inr, refl, sym, ap, ◌∙◌, subst, Some, slice_get, take, drop}
 use Rattle.std.proofs.lemmas.Option.{none-some, same_Some}
 use Rattle.search_graph.specs.declared.cache.CacheEntry.{CacheEntry}
+use Rattle.search_graph.specs.declared.newest.Chain.{Chain}
+use Rattle.search_graph.specs.declared.newest.Chain.TheVariants.{Successes, Overflows}
+use Rattle.search_graph.specs.Chain.{chain_of, chain_of_entry}
 use Rattle.search_graph.specs.Meaning.{Meaning}
 use Rattle.search_graph.specs.Stack.{AreCached}
 use Rattle.search_graph.specs.Cache.{KnownResult, known_result, known_results, AreJustified, IsContradicted, HasConflict, IsAlike, AreConsistent, IsNumberOf, KeepsResults}
 use Rattle.search_graph.proofs.Chains.{push_cases}
 use Rattle.search_graph.proofs.Graphs.{split_some}
+use Rattle.type_terms.proofs.BooleanBasics.{true-false as true_not_false}
 
 module _ {C I R F : Type 0} (m : Meaning C I R F) where
   pub AreJustified-known : (c : C) (es : List (CacheEntry I R)) → AreCached m (m.world c) c es → AreJustified m c (known_results es)
@@ -23,6 +27,30 @@ module _ {C I R F : Type 0} (m : Meaning C I R F) where
 
   pub HasConflict-at : (c : C) (es : List (CacheEntry I R)) (i : ℕ) (e : CacheEntry I R) → slice_get es i ≡ Some e → IsContradicted m c (known_result e) → HasConflict m c (known_results es)
   HasConflict-at c es i e at h = subst (λ l. HasConflict m c (known_results l)) (sym (split_some es i e at)) (HasConflict-append c (take i es) (e ∷ drop (i + 1) es) (inl h))
+
+-- results of one chain are of one kind
+same_kind : (n m d e : ℕ) (a b : Bool) → chain_of n d a ≡ chain_of m e b → (a ≡ b) × (b ≡ true → d ≡ e)
+same_kind n m d e true true h = (refl, λ o. ap depth_in h)
+  where
+    depth_in : Chain → ℕ
+    depth_in (Successes number) = 0
+    depth_in (Overflows number depth) = depth
+same_kind n m d e true false h = cc
+same_kind n m d e false true h = cc
+same_kind n m d e false false h = (refl, λ o. absurd (true_not_false (sym o)))
+
+same_chain : (n m d e : ℕ) (b : Bool) → n ≡ m → (b ≡ true → d ≡ e) → chain_of n d b ≡ chain_of m e b
+same_chain n m d e true same at = rw (same, at refl) refl
+same_chain n m d e false same at = ap Successes same
+
+module _ {I R : Type 0} where
+  pub alike_in : (e : CacheEntry I R) (input : I) (number depth : ℕ) (overflowed : Bool) → e.input ≡ input → chain_of_entry e ≡ chain_of number depth overflowed → IsAlike input depth overflowed (known_result e)
+  alike_in e input number depth overflowed same along =
+      let kind = same_kind e.number number e.depth depth e.encountered_overflow overflowed along in
+      record { same = same; kind = kind.0; at = kind.1 }
+
+  pub chain_alike : (e : CacheEntry I R) (input : I) (number depth : ℕ) (overflowed : Bool) → e.number ≡ number → IsAlike input depth overflowed (known_result e) → chain_of_entry e ≡ chain_of number depth overflowed
+  chain_alike e input number depth overflowed same alike = ap (chain_of e.number e.depth) alike.kind ∙ same_chain e.number number e.depth depth overflowed same alike.at
 
 -- one more result leaves each at its place
 pub KeepsResults-push : {X : Type 0} (xs : List X) (y : X) → KeepsResults xs (xs ++ y ∷ [])

@@ -1,29 +1,65 @@
--- How a cache finds the results of a goal, and what was asked under them.
-use Rattle.std.specs.Prelude.{◌≡◌, ◌≤◌, ◌<◌, ◌+◌, ℕ, Bool, true, false, cond, nat_eq, get_or, List, [], ◌∷◌, ◌⊎◌, Option, Some, None, All, length, slice_get, take}
+-- How a cache finds the results of a goal, and their nested goals.
+use Rattle.std.specs.Prelude.{◌≡◌, ◌≤◌, ◌<◌, ◌+◌, ◌&&◌, ℕ, Bool, true, false, cond, nat_eq, get_or, List, [], ◌∷◌, ◌⊎◌, Option, Some, None, All, length, slice_get, take}
+use Rattle.indexmap.specs.IndexMap.{get}
 use Rattle.search_graph.specs.declared.nested_goals.Span.{Span}
 use Rattle.search_graph.specs.declared.nested_goals.NestedGoals.{NestedGoals}
 use Rattle.search_graph.specs.Nested.{IsWithin, covered, one_goal}
+use Rattle.search_graph.specs.declared.newest.Chain.{Chain}
+use Rattle.search_graph.specs.declared.newest.Chain.TheVariants.{Successes, Overflows}
+use Rattle.search_graph.specs.declared.newest.Newest.{Newest}
 use Rattle.search_graph.specs.declared.cache.CacheEntry.{CacheEntry}
 use Rattle.search_graph.specs.declared.cache.Asked.{Asked}
 use Rattle.search_graph.specs.declared.stack.StackEntry.{StackEntry}
 
--- a goal of this depth may use the result of a goal that needed that depth, or that had it where it met an overflow by depth
+-- A goal of this depth may use a result that needed that depth. After an overflow by depth both depths are equal.
 abbrev pub IsWithinDepth : Bool → ℕ → ℕ → Type 0
 IsWithinDepth overflowed needed depth = (overflowed ≡ true → needed ≡ depth) × (overflowed ≡ false → needed ≤ depth)
 
+-- the chain of a result of the goal with the number
+abbrev pub chain_of : ℕ → ℕ → Bool → Chain
+chain_of number depth overflowed = cond overflowed (Overflows number depth) (Successes number)
+
+-- the number of the goal whose results are in the chain
+abbrev pub number_of_chain : Chain → ℕ
+number_of_chain (Successes number) = number
+number_of_chain (Overflows number depth) = number
+
+-- whether the numbers of the goals and the depths of the overflows are equal
+abbrev pub is_overflow_of : ℕ × ℕ → ℕ × ℕ → Bool
+is_overflow_of x y = nat_eq x.0 y.0 && nat_eq x.1 y.1
+
+-- whether the chains are equal
+abbrev pub is_chain : Chain → Chain → Bool
+is_chain (Successes n) (Successes m) = nat_eq n m
+is_chain (Successes n) (Overflows m e) = false
+is_chain (Overflows n d) (Successes m) = false
+is_chain (Overflows n d) (Overflows m e) = is_overflow_of (n, d) (m, e)
+
+-- the index that is stored for the chain
+abbrev pub newest_in : Newest → Chain → Option ℕ
+newest_in newest (Successes number) = get_or newest.successes.items number None
+newest_in newest (Overflows number depth) = get is_overflow_of newest.overflows (number, depth)
+
 module _ {I R : Type 0} where
-  -- the place of the last entry with the number, where the first entry's place is given, or else the last that was met before
-  abbrev pub newest_from : ℕ → List (CacheEntry I R) → ℕ → Option ℕ → Option ℕ
-  newest_from place [] number last = last
-  newest_from place (e ∷ es) number last = newest_from (place + 1) es number (cond (nat_eq number e.number) (Some place) last)
+  abbrev pub chain_of_entry : CacheEntry I R → Chain
+  chain_of_entry e = chain_of e.number e.depth e.encountered_overflow
 
-  -- the place of the newest result of a goal, by the goal's number
-  abbrev pub newest_of : List (CacheEntry I R) → ℕ → Option ℕ
-  newest_of es number = newest_from 0 es number None
+  -- the index of the last entry of the chain, if the first of these entries has this index, or else the last that was found before
+  abbrev pub newest_from : ℕ → List (CacheEntry I R) → Chain → Option ℕ → Option ℕ
+  newest_from place [] chain last = last
+  newest_from place (e ∷ es) chain last = newest_from (place + 1) es chain (cond (is_chain (chain_of_entry e) chain) (Some place) last)
 
-  -- each result leads to the one of its goal that was cached before
+  -- the index of the newest result of a chain
+  abbrev pub newest_of : List (CacheEntry I R) → Chain → Option ℕ
+  newest_of es chain = newest_from 0 es chain None
+
+  -- each result leads to the one before it in its chain
   abbrev pub AreLinked : List (CacheEntry I R) → Type 0
-  AreLinked es = (place : ℕ) (e : CacheEntry I R) → slice_get es place ≡ Some e → e.previous ≡ newest_of (take place es) e.number
+  AreLinked es = (place : ℕ) (e : CacheEntry I R) → slice_get es place ≡ Some e → e.previous ≡ newest_of (take place es) (chain_of_entry e)
+
+  -- the result at the index is of this input and in the chain
+  abbrev pub IsInChainAt : Chain → List (CacheEntry I R) → I → ℕ → Type 0
+  IsInChainAt chain es input place = (e : CacheEntry I R) × (slice_get es place ≡ Some e) × (e.input ≡ input) × (chain_of_entry e ≡ chain)
 
 -- the numbers of the goals under which was asked
 abbrev pub numbers_of : List Asked → List ℕ
@@ -45,20 +81,25 @@ IsAskedUnder asked place number = ((e : Asked) × (slice_get asked place ≡ Som
     ⊎ ((below : ℕ) × (e : Asked) × IsUsedUnder asked place below × (slice_get asked below ≡ Some e) × ((e.number ≡ number) ⊎ IsAsked e number))
 
 module _ {I R : Type 0} where
-  -- the goal with this number, input and depth may use the result: no goal that was asked under it is on the stack
+  -- the goal with this number, input and depth may use the result: none of its nested goals is on the stack
   pub record IsUsable (asked : List Asked) (IsOnStack : ℕ → Type 0) (number : ℕ) (input : I) (depth : ℕ) (e : CacheEntry I R) : Type 0 where
     pub numbered : e.number ≡ number
     pub same : e.input ≡ input
     pub within : IsWithinDepth e.encountered_overflow e.depth depth
     pub clear : (n : ℕ) → IsAskedUnder asked e.asked n → IsOnStack n → ⊥
 
-  -- such a result is at the place
+  -- such a result is at the index
   abbrev pub IsUsableAt : List (CacheEntry I R) → List Asked → (ℕ → Type 0) → ℕ → I → ℕ → ℕ → Type 0
   IsUsableAt es asked IsOnStack number input depth place = (e : CacheEntry I R) × (slice_get es place ≡ Some e) × IsUsable asked IsOnStack number input depth e
 
-  -- there is none
+  -- no result is usable
   abbrev pub NoneIsUsable : List (CacheEntry I R) → List Asked → (ℕ → Type 0) → ℕ → I → ℕ → Type 0
   NoneIsUsable es asked IsOnStack number input depth = (place : ℕ) (e : CacheEntry I R) → slice_get es place ≡ Some e → IsUsable asked IsOnStack number input depth e → ⊥
+
+  -- no result of the chain is usable
+  abbrev pub NoneIsUsableAlong : Chain → List (CacheEntry I R) → List Asked → (ℕ → Type 0) → I → ℕ → Type 0
+  NoneIsUsableAlong chain es asked IsOnStack input depth =
+      (place : ℕ) (e : CacheEntry I R) → slice_get es place ≡ Some e → chain_of_entry e ≡ chain → IsUsable asked IsOnStack (number_of_chain chain) input depth e → ⊥
 
   -- each result names what was asked under its goal
   abbrev pub AreRecorded : List (CacheEntry I R) → List Asked → Type 0

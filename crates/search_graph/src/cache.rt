@@ -3,8 +3,9 @@
 ghost use Rattle.std.specs.Prelude.{◌≡◌, ◌↔◌, ◌+◌, ◌<◌, ◌≤◌, ◌⊎◌, [], ℕ, All, length, get_or, IfOk, IfErr, OnOk, OnErr, IfSome, IfNone, IsTrue, Some, None, nat_eq, slice_get, true, false};
 ghost use Rattle.std.proofs.Props.{props};
 ghost use Rattle.indexmap.specs.IndexMap.{ContainsKey};
-ghost use Rattle.search_graph.specs.Chain.{newest_of, AreLinked, IsAskedUnder, IsWithinDepth, AllInRange, AreCovered, AreRecorded};
-ghost use Rattle.search_graph.specs.Chain.{AreInRange, range_of, IsUsableAt, NoneIsUsable, IsReachedOrApart, IsNotedBy, KeepsNoted, AreNoted};
+ghost use Rattle.search_graph.specs.declared.newest.Chain.{Chain};
+ghost use Rattle.search_graph.specs.Chain.{newest_of, newest_in, number_of_chain, IsInChainAt, AreLinked, IsAskedUnder, IsWithinDepth, AllInRange, AreCovered, AreRecorded};
+ghost use Rattle.search_graph.specs.Chain.{AreInRange, range_of, IsUsableAt, NoneIsUsable, NoneIsUsableAlong, IsReachedOrApart, IsNotedBy, KeepsNoted, AreNoted};
 ghost use Rattle.search_graph.specs.Nested.{IsWithin};
 ghost use Rattle.indexmap.specs.IndexSet.{insert_key};
 ghost use Rattle.search_graph.specs.Meaning.{Keeps};
@@ -16,41 +17,42 @@ ghost use Rattle.search_graph.specs.Question.{IsKeptResult, IsNotPlainAt, IsWith
 use crate::delegate::{Cx, Delegate, InputOf, ResultOf};
 use crate::fault::GraphFault;
 use crate::nested_goals::{NestedGoals, Span};
+use crate::newest::{Chain, Newest};
 use crate::path_kind::PathKind;
 use indexmap::{IndexMap, IndexSet};
 use std::alloc::{AllocError, Global};
 use type_terms::Fault;
 
-/// A result that rests on no goal of a stack. `CacheEntry` of `rustc_type_ir::search_graph`.
+/// A result that rests on no goal of the stack. `CacheEntry` of `rustc_type_ir::search_graph`.
 #[derive(Drop)]
 pub struct CacheEntry<I, R> {
     /// The goal.
     pub input: I,
-    /// What came of the goal: a success, or after an overflow by depth what stands for that.
+    /// The result of the goal: a success, or the result for an overflow by depth.
     pub result: R,
-    /// The depth that the goal needed, or after an overflow by depth the depth that it had.
+    /// The depth that the goal needed, or the depth that it had if there was an overflow by depth.
     pub depth: usize,
-    /// Whether a goal under this one was asked by a goal of depth 0.
+    /// Whether there was an overflow by depth: a goal of depth 0 had a nested goal.
     pub encountered_overflow: bool,
     /// The number of the goal.
     pub number: usize,
-    /// The place of the goal's result that was cached before this one.
+    /// The index of the result before this one in its chain.
     pub previous: Option<usize>,
-    /// The place of what was asked under it.
+    /// The index in `asked` of the goal with its nested goals.
     pub asked: usize,
 }
 
-/// A goal that was evaluated, with the goals that were asked under it.
+/// A goal that was evaluated, with its nested goals.
 #[derive(Drop)]
 pub struct Asked {
     /// The number of the goal.
     pub number: usize,
-    /// The goals that were asked under it.
+    /// The nested goals.
     pub nested_goals: NestedGoals,
 }
 
 impl Asked {
-    /// The goal and all that were asked under it lie in it.
+    /// A range with the goal and all of its nested goals.
     fn span(&self) -> Span
         ensures { result ≡ range_of self.now }
     {
@@ -67,7 +69,7 @@ pub(crate) struct Cached<R> {
     pub(crate) asked: usize,
 }
 
-/// Whether a goal of this depth may use a result that needed that depth.
+/// Whether a goal of depth `depth` may use a result that needed depth `needed`.
 fn is_usable(encountered_overflow: bool, needed: usize, depth: usize) -> bool
     ensures overflow { result ≡ true → encountered_overflow ≡ true → needed ≡ depth }
     ensures success { result ≡ true → encountered_overflow ≡ false → needed ≤ depth }
@@ -80,20 +82,20 @@ fn is_usable(encountered_overflow: bool, needed: usize, depth: usize) -> bool
     }
 }
 
-/// The results that a search keeps, found by their goals. They rest on no goal of a stack.
+/// The cached results, found by their goals. They rest on no goal of the stack.
 pub struct CachedResults<D: Delegate> {
     alloc: Global,
-    /// The goals that were asked, each with its place here as its number.
+    /// The goals that were asked. The number of a goal is its index here.
     pub goals: IndexSet<InputOf<D>>,
-    /// The place of each goal's newest result.
-    newest: Vec<Option<usize>>,
+    /// The index of the newest result of each chain.
+    newest: Newest,
     /// The results, the oldest first.
     pub entries: Vec<CacheEntry<InputOf<D>, ResultOf<D>>>,
-    /// What was asked under goals whose results were kept, the oldest first.
+    /// The goals with their nested goals, the oldest first.
     pub asked: Vec<Asked>,
-    /// The first place in `asked` at which each goal is listed, or the greatest one, by the goal's number.
+    /// The first index in `asked` at which each goal is listed, or `usize::MAX`, by the goal's number.
     first: Vec<usize>,
-    ghost listed: { (number : ℕ) → get_or newest.items number None ≡ newest_of entries.items number } by { Prim.hlevel props },
+    ghost listed: { (chain : Chain) → newest_in newest chain ≡ newest_of entries.items chain } by { Prim.hlevel props },
     ghost linked: { AreLinked entries.items } by { Prim.hlevel props },
     pub ghost numbered: { (place : ℕ) (e : _) → slice_get entries.items place ≡ Some e → IsNumberOf D.Cx.Input.eq goals.keys e.input e.number } by { Prim.hlevel props },
     pub ghost recorded: { AreRecorded entries.items asked.items } by { Prim.hlevel props },
@@ -116,7 +118,7 @@ impl<D: Delegate> Drop for CachedResults<D> {
 }
 
 impl<D: Delegate> CachedResults<D> {
-    /// No results. It takes no memory yet.
+    /// A cache without results. It allocates nothing yet.
     pub fn new(alloc: Global) -> Self
         ensures entries { result.entries.items ≡ [] }
         ensures goals { result.goals.keys ≡ [] }
@@ -125,14 +127,14 @@ impl<D: Delegate> CachedResults<D> {
         CachedResults {
             alloc,
             goals: IndexSet::new(alloc),
-            newest: Vec::new(alloc),
+            newest: Newest::new(alloc),
             entries: Vec::new(alloc),
             asked: Vec::new(alloc),
             first: Vec::new(alloc),
         }
     }
 
-    /// The number of a goal, by one hash of its input unless it is new. It is refused as `copy_input` is.
+    /// The number of a goal, by one hash of its input unless the goal is new. It fails where `copy_input` fails.
     pub fn number_of(&mut self, cx: &D::Cx, input: &InputOf<D>) -> Result<usize, GraphFault>
         ensures number { IfOk result (λ number. slice_get self.new.goals.keys number ≡ Some input.now) }
         ensures place { IfOk result (λ number. IsNumberOf D.Cx.Input.eq self.new.goals.keys input.now number) }
@@ -154,17 +156,9 @@ impl<D: Delegate> CachedResults<D> {
         Ok(number)
     }
 
-    /// The place of a goal's newest result.
-    fn newest_of(&self, number: usize) -> Option<usize>
-        ensures { result ≡ newest_of self.now.entries.items number }
-    {
-        match self.newest.get(number) {
-            Some(place) => *place,
-            None => None,
-        }
-    }
-
-    /// The place of a result for the goal that one of this depth may use over a stack with these goals.
+    /// The index of a result that the goal may use at this depth, over a stack with these goals.
+    ///
+    /// It reads the successes of the goal and its overflows at this very depth. No other overflow may be used.
     pub(crate) fn find(
         &self,
         positions: &IndexMap<usize, usize>,
@@ -179,7 +173,36 @@ impl<D: Delegate> CachedResults<D> {
         ensures none { IfOk result
             (λ found. IfNone found (NoneIsUsable self.now.entries.items self.now.asked.items (ContainsKey nat_eq positions.now) number input.now depth)) }
     {
-        let mut next = self.newest_of(number);
+        let successes = Chain::Successes(number);
+        let found = self.find_along(positions, on_stack, successes, input, depth)?;
+        if found.is_some() {
+            return Ok(found);
+        }
+        self.find_along(
+            positions,
+            on_stack,
+            Chain::Overflows(number, depth),
+            input,
+            depth,
+        )
+    }
+
+    /// The index of such a result in the chain.
+    fn find_along(
+        &self,
+        positions: &IndexMap<usize, usize>,
+        on_stack: Span,
+        chain: Chain,
+        input: &InputOf<D>,
+        depth: usize,
+    ) -> Result<Option<usize>, AllocError>
+        requires range { AllInRange (ContainsKey nat_eq positions.now) on_stack }
+        ensures found { IfOk result (λ found. IfSome found
+            (IsUsableAt self.now.entries.items self.now.asked.items (ContainsKey nat_eq positions.now) (number_of_chain chain) input.now depth)) }
+        ensures none { IfOk result (λ found. IfNone found
+            (NoneIsUsableAlong chain self.now.entries.items self.now.asked.items (ContainsKey nat_eq positions.now) input.now depth)) }
+    {
+        let mut next = self.newest.get(chain);
         for _ in 0..self.entries.len() {
             let Some(place) = next else {
                 return Ok(None);
@@ -199,7 +222,7 @@ impl<D: Delegate> CachedResults<D> {
         Ok(None)
     }
 
-    /// Whether no goal that was asked under the one at a place is on the stack.
+    /// Whether no nested goal of the goal at `asked[place]` is on the stack.
     fn is_clear_of(
         &self,
         positions: &IndexMap<usize, usize>,
@@ -219,7 +242,7 @@ impl<D: Delegate> CachedResults<D> {
         if !range.overlaps(on_stack) {
             return Ok(true);
         }
-        // A goal that is evaluated for the first time was asked under nothing yet, so mostly this is all.
+        // A goal that is evaluated for the first time is a nested goal of none that is listed, so mostly this is all.
         if !is_any_noted(positions, range, &self.first, place) {
             return Ok(true);
         }
@@ -241,7 +264,7 @@ impl<D: Delegate> CachedResults<D> {
         Ok(true)
     }
 
-    /// Adds those of the places under which a goal of this range may have been asked.
+    /// Adds those of the indices whose goals may have a nested goal in this range.
     fn reach(
         &self,
         reached: &mut IndexSet<usize>,
@@ -261,7 +284,7 @@ impl<D: Delegate> CachedResults<D> {
         Ok(())
     }
 
-    /// The goal at a place and all that were asked under it lie in it.
+    /// A range with the goal at `asked[place]` and all of its nested goals.
     pub(crate) fn span_of(&self, place: usize) -> Span
         ensures { (e : _) → slice_get self.now.asked.items place ≡ Some e → result ≡ range_of e }
     {
@@ -271,8 +294,7 @@ impl<D: Delegate> CachedResults<D> {
         }
     }
 
-    /// A copy of the result at a place of the cache, with the depth that it needed and whether an overflow is in it. The only fault is
-    /// `Memory`.
+    /// A copy of the result at an index, with the depth that it needed and whether there was an overflow. The only fault is `Memory`.
     pub(crate) fn get(
         &self,
         cx: &D::Cx,
@@ -298,30 +320,19 @@ impl<D: Delegate> CachedResults<D> {
         })
     }
 
-    /// The place of a result for the goal that is of the same kind: a success, or an overflow at this depth.
-    fn find_alike(
-        &self,
-        number: usize,
-        input: &InputOf<D>,
-        depth: usize,
-        encountered_overflow: bool,
-    ) -> Option<usize>
-        ensures found { IfSome result (λ place. (e : _) × (slice_get self.now.entries.items place ≡ Some e)
-            × IsAlike input.now depth encountered_overflow (known_result e)) }
-        ensures none { IfNone result ((place : ℕ) (e : _) → slice_get self.now.entries.items place ≡ Some e → e.number ≡ number
-            → IsAlike input.now depth encountered_overflow (known_result e) → ⊥) }
+    /// The index of a result of the goal in the chain.
+    fn find_alike(&self, chain: Chain, input: &InputOf<D>) -> Option<usize>
+        ensures found { IfSome result (IsInChainAt chain self.now.entries.items input.now) }
+        ensures none { IfNone result ((place : ℕ) → IsInChainAt chain self.now.entries.items input.now place → ⊥) }
     {
-        let mut next = self.newest_of(number);
+        let mut next = self.newest.get(chain);
         for _ in 0..self.entries.len() {
             let place = next?;
             if place >= self.entries.len() {
                 return None;
             }
             let entry = &self.entries[place];
-            if entry.input == *input
-                && entry.encountered_overflow == encountered_overflow
-                && is_alike(entry.encountered_overflow, entry.depth, depth)
-            {
+            if entry.input == *input {
                 return Some(place);
             }
             next = entry.previous;
@@ -329,7 +340,7 @@ impl<D: Delegate> CachedResults<D> {
         None
     }
 
-    /// Whether the cache has another result of the input, where both are successes or both overflows at one depth.
+    /// Whether the cache has a different result of the input, if both are successes or both are overflows at one depth.
     fn differs(
         &self,
         number: usize,
@@ -343,7 +354,7 @@ impl<D: Delegate> CachedResults<D> {
         ensures none { result ≡ false → (place : ℕ) (e : _) → slice_get self.now.entries.items place ≡ Some e
             → IsAlike input.now depth encountered_overflow (known_result e) → e.result ≡ found.now }
     {
-        match self.find_alike(number, input, depth, encountered_overflow) {
+        match self.find_alike(Chain::of(number, depth, encountered_overflow), input) {
             Some(place) => {
                 let entry = &self.entries[place];
                 entry.result != *found
@@ -352,7 +363,7 @@ impl<D: Delegate> CachedResults<D> {
         }
     }
 
-    /// Lists a goal, whose result is kept elsewhere, with what was asked under it, and answers the place of that.
+    /// Lists a goal, whose result is stored elsewhere, with its nested goals. Returns the index in `asked`.
     pub(crate) fn list(
         &mut self,
         number: usize,
@@ -374,7 +385,7 @@ impl<D: Delegate> CachedResults<D> {
         Ok(asked)
     }
 
-    /// Keeps a result that rests on no goal of the stack, and answers the place of what was asked under it.
+    /// Caches a result that rests on no goal of the stack. Returns the index in `asked` of its nested goals.
     pub(crate) fn insert(
         &mut self,
         cx: &D::Cx,
@@ -412,14 +423,16 @@ impl<D: Delegate> CachedResults<D> {
         let result = cx.copy_result(found)?;
         let place = self.entries.len();
         let asked = self.asked.len();
-        let previous = self.newest_of(number);
-        make_room(&mut self.newest, number)?;
+        let chain = Chain::of(number, depth, encountered_overflow);
+        let previous = self.newest.get(chain);
+        self.entries.reserve(1)?;
         note_asked(&mut self.first, number, &nested_goals, asked)?;
         self.asked.push(Asked {
             number,
             nested_goals,
         })?;
-        self.entries.push(CacheEntry {
+        self.newest.put(chain, place)?;
+        self.entries.push_reserved(CacheEntry {
             input,
             result,
             depth,
@@ -427,8 +440,7 @@ impl<D: Delegate> CachedResults<D> {
             number,
             previous,
             asked,
-        })?;
-        self.newest[number] = Some(place);
+        });
         Ok(asked)
     }
 }
@@ -445,7 +457,7 @@ fn is_any_on_stack(positions: &IndexMap<usize, usize>, goals: &[usize]) -> bool
     false
 }
 
-/// Whether a goal of the stack lies in the range and is listed at the place or at an older one.
+/// Whether a goal of the stack is in the range and is listed at the index or before it.
 fn is_any_noted(
     positions: &IndexMap<usize, usize>,
     range: Span,
@@ -465,14 +477,14 @@ fn is_any_noted(
     false
 }
 
-/// Whether the goal with the number lies in the range and is listed at the place or at an older one.
+/// Whether the goal with the number is in the range and is listed at the index or before it.
 fn may_be_under(range: Span, first: &[usize], place: usize, number: usize) -> bool
     ensures { IsWithin range number → IsNotedBy first.now place number → result ≡ true }
 {
     range.has(number) && number < first.len() && first[number] <= place
 }
 
-/// Notes that the goal and those that it asked are listed at the place.
+/// Notes that the goal and its nested goals are listed at the index.
 fn note_asked(
     first: &mut Vec<usize>,
     number: usize,
@@ -489,7 +501,7 @@ fn note_asked(
     Ok(())
 }
 
-/// Notes that the goal with the number is listed at the place.
+/// Notes that the goal with the number is listed at the index.
 fn note(first: &mut Vec<usize>, number: usize, place: usize) -> Result<(), AllocError>
     ensures noted { OnOk result (IsNotedBy first.new.items place number) }
     ensures others { KeepsNoted first.old.items first.new.items }
@@ -501,23 +513,4 @@ fn note(first: &mut Vec<usize>, number: usize, place: usize) -> Result<(), Alloc
         first[number] = place;
     }
     Ok(())
-}
-
-/// Adds goals without results, up to the one with the number.
-fn make_room(newest: &mut Vec<Option<usize>>, number: usize) -> Result<(), AllocError>
-    ensures room { OnOk result (number < length newest.new.items) }
-    ensures same { (other : ℕ) → get_or newest.new.items other None ≡ get_or newest.old.items other None }
-{
-    while newest.len() <= number {
-        newest.push(None)?;
-    }
-    Ok(())
-}
-
-/// Whether two overflows had one depth; successes are alike at any.
-fn is_alike(encountered_overflow: bool, one: usize, other: usize) -> bool
-    ensures alike { result ≡ true → encountered_overflow ≡ true → one ≡ other }
-    ensures apart { (encountered_overflow ≡ true → one ≡ other) → result ≡ true }
-{
-    !encountered_overflow || one == other
 }

@@ -1,51 +1,8 @@
-use Rattle.std.proofs.Common.{◌≡◌, ◌<◌, ◌∙◌, length, sym, ap, refl, arith, nat_eq, slice_get, Some, true}
-use Rattle.std.proofs.lemmas.Option.{slice_get_read, slice_get_within, same_Some}
+use Rattle.std.proofs.Common.{sym, ◌∙◌, nat_eq}
 use Rattle.indexmap.specs.IndexMap.{ContainsKey}
-use Rattle.search_graph.specs.Chain.{IsUsable}
-use Rattle.search_graph.proofs.Chains.{ahead_start, ahead_none, ahead_at, ahead_step, ahead_end}
+use Rattle.search_graph.proofs.Chains.{none_usable}
 use Rattle.search_graph.proofs.cache.CachedResults.find.Goals as goal
-use Rattle.search_graph.proofs.cache.CachedResults.find.Goals.{else-eq-via-then-eq+then-is_usable+in_ok-is_clear_of+else-branch, else-eq-via-then-eq+else-is_usable, else-eq-via-else-eq}
-use Rattle.type_terms.proofs.BooleanBasics.{true-false as true_not_false, equal}
-
-pub loop-init : goal.loop-init
-loop-init g c = ahead_start c.args.self.now.entries.items c.args.number (λ place. IsUsable c.args.self.now.asked.items (ContainsKey nat_eq c.args.positions.now) c.args.number c.args.input.now c.args.depth) c.newest_of-next.result c.newest_of-next.ensures (λ place e fits. fits.numbered)
-
-pub returns-then-branch-clause-found : goal.returns-then-branch-clause-found
-returns-then-branch-clause-found g c =
-    let there = ahead_at c.args.self.now.entries.items c.args.number (λ place. IsUsable c.args.self.now.asked.items (ContainsKey nat_eq c.args.positions.now) c.args.number c.args.input.now c.args.depth) c.loop.counter c.in-Some.place c.loop.next c.in-Some.is c.loop.invariant in
-    let inside : c.in-Some.place < length c.args.self.now.entries.items = omega arith in
-    let at : slice_get c.args.self.now.entries.items c.in-Some.place ≡ Some c.index-entry.result.now = slice_get_read _ _ _ _ refl inside c.index-entry.ensures in
-    let same : there.0 ≡ c.index-entry.result.now = same_Some there.0 c.index-entry.result.now (sym there.1 ∙ at) in (
-      c.index-entry.result.now,
-      at,
-      record {
-        numbered = ap (λ z. z.number) (sym same) ∙ there.2;
-        same = g.met.D.Cx.Cx.same_input _ _ (sym c.if-eq.ensures);
-        within = (c.is_usable.ensures.overflow c.if-is_usable.true, c.is_usable.ensures.success c.if-is_usable.true);
-        clear = c.in_ok-is_clear_of.ensures.clear c.if-branch.true;
-      },
-    )
-
-pub returns-in_default-clause-none : goal.returns-in_default-clause-none
-returns-in_default-clause-none g c = ahead_none c.args.self.now.entries.items c.args.number (λ place. IsUsable c.args.self.now.asked.items (ContainsKey nat_eq c.args.positions.now) c.args.number c.args.input.now c.args.depth) c.loop.counter c.loop.next c.in_default.is c.loop.invariant
-
-pub returns-then-place-len-clause-none : goal.returns-then-place-len-clause-none
-returns-then-place-len-clause-none g c =
-    let there = ahead_at c.args.self.now.entries.items c.args.number (λ place. IsUsable c.args.self.now.asked.items (ContainsKey nat_eq c.args.positions.now) c.args.number c.args.input.now c.args.depth) c.loop.counter c.in-Some.place c.loop.next c.in-Some.is c.loop.invariant in
-    let inside : c.in-Some.place < length c.args.self.now.entries.items = slice_get_within c.args.self.now.entries.items c.in-Some.place there.0 there.1 in
-    absurd (omega (arith, inside))
 
 pub returns-clause-none : goal.returns-clause-none
-returns-clause-none g c = ahead_end c.args.self.now.entries.items c.args.number (λ place. IsUsable c.args.self.now.asked.items (ContainsKey nat_eq c.args.positions.now) c.args.number c.args.input.now c.args.depth) c.loop.counter c.loop.next (omega arith) c.loop.invariant
-
-pub loop-preserved : goal.loop-preserved
-loop-preserved g c =
-    let inside : c.in-Some.place < length c.args.self.now.entries.items = omega arith in
-    let at : slice_get c.args.self.now.entries.items c.in-Some.place ≡ Some c.index-entry.result.now = slice_get_read _ _ _ _ refl inside c.index-entry.ensures in
-    ahead_step c.args.self.now.entries.items c.args.number (λ place. IsUsable c.args.self.now.asked.items (ContainsKey nat_eq c.args.positions.now) c.args.number c.args.input.now c.args.depth) c.loop.counter c.in-Some.place c.loop.next c.index-entry.result.now
-    c.args.self.now.linked c.in-Some.is c.loop.invariant at
-    (λ fits. elim c.else-eq.branch [
-      | else-eq-via-then-eq+then-is_usable+in_ok-is_clear_of+else-branch w ↦ let asked = w.in_ok-is_clear_of.ensures.asked w.if-branch.false in fits.clear asked.0 asked.1 asked.2
-      | else-eq-via-then-eq+else-is_usable w ↦ true_not_false (sym (w.is_usable.ensures.within fits.within) ∙ w.if-is_usable.false)
-      | else-eq-via-else-eq w ↦ true_not_false (sym (equal g.D.Cx.Input.PartialEq.eq _ _ g.met.D.Cx.Input.Eq.laws.refl fits.same) ∙ sym w.if-eq.ensures)
-    ])
+returns-clause-none g c = none_usable c.in_ok-found.found c.find_along-2.result c.args.self.now.entries.items c.args.self.now.asked.items (ContainsKey nat_eq c.args.positions.now) c.args.number c.args.input.now c.args.depth
+    (sym c.is_some.ensures ∙ c.if-is_some.false) c.in_ok-found.ensures.none c.find_along-2.ensures.none

@@ -1,7 +1,7 @@
-use Rattle.search_graph.specs.Cache.{IsAlike, known_result}
+use Rattle.std.proofs.Common.{◌≡◌}
+use Rattle.search_graph.specs.Chain.{chain_of_entry}
 use Rattle.search_graph.proofs.Chains.{IsAhead}
 use Rattle.search_graph.proofs.cache.CachedResults.find_alike.Given as goal
-use Rattle.std.proofs.Common.{◌≡◌}
 
 abbrev pub invariant-loop : goal.invariant-loop
-invariant-loop g l = IsAhead l.self.entries.items l.number (λ place e. (e.number ≡ l.number) × IsAlike l.input l.depth l.encountered_overflow (known_result e)) l.counter l.next
+invariant-loop g l = IsAhead l.self.entries.items l.fn.chain (λ place e. (e.input ≡ l.input) × (chain_of_entry e ≡ l.fn.chain)) l.counter l.next

@@ -1,4 +1,5 @@
-use Rattle.std.proofs.Common.{◌≡◌, length, ◌∙◌, ◌++◌, ◌∷◌, [], sym, refl, inr, ◌<◌, subst}
+use Rattle.std.proofs.Common.{◌≡◌, length, ◌∙◌, ◌++◌, ◌∷◌, [], sym, ap, cond, Some, refl, inr}
+use Rattle.search_graph.specs.Chain.{chain_of, is_chain, newest_in, newest_of}
 use Rattle.search_graph.proofs.Caches.{HasConflict-at, KeepsResults-push, AreConsistent-push, numbered_push}
 use Rattle.search_graph.proofs.Chains.{AreLinked-push, listed_push}
 use Rattle.search_graph.proofs.Graphs.{Keeps-refl, cached_insert, IsCached-at}
@@ -9,8 +10,8 @@ use Rattle.search_graph.proofs.cache.CachedResults.insert.Goals as goal
 use Rattle.type_terms.proofs.BooleanBasics.{true-false as true_not_false}
 
 pub returns-clause-cache : goal.returns-clause-cache
-returns-clause-cache g c = rw c.in_ok-push-2.ensures.items
-    (cached_insert g.D.Delegate.meaning c.args.cx.now c.args.cx.now c.args.self.now.entries.items (record { input = c.args.input; result = c.in_ok-result.result; depth = c.args.depth; encountered_overflow = c.args.encountered_overflow; number = c.args.number; previous = c.newest_of-previous.result; asked = c.len-asked.result }) c.args.found.now
+returns-clause-cache g c = rw (c.push_reserved.ensures.items, c.reserve.ensures.items)
+    (cached_insert g.D.Delegate.meaning c.args.cx.now c.args.cx.now c.args.self.now.entries.items (record { input = c.args.input; result = c.in_ok-result.result; depth = c.args.depth; encountered_overflow = c.args.encountered_overflow; number = c.args.number; previous = c.get-previous.result; asked = c.len-asked.result }) c.args.found.now
     c.requires.cache (Keeps-refl g.D.Delegate.meaning c.args.cx.now) c.requires.input c.in_ok-result.ensures.copy c.requires.result c.requires.kept)
 
 pub returns-then-differs-clause-no_conflict : goal.returns-then-differs-clause-no_conflict
@@ -41,90 +42,89 @@ returns-then-differs-clause-conflict g c = λ conflict.
     })
 
 pub returns-clause-within : goal.returns-clause-within
-returns-clause-within g c = λ before cached found. rw c.in_ok-push-2.ensures.items
-    (AreCachedWithin-push g.D.Delegate.meaning (g.D.Delegate.meaning.world c.args.cx.now) before c.args.cx.now c.args.self.now.entries.items (record { input = c.args.input; result = c.in_ok-result.result; depth = c.args.depth; encountered_overflow = c.args.encountered_overflow; number = c.args.number; previous = c.newest_of-previous.result; asked = c.len-asked.result }) cached (rw c.in_ok-result.ensures.copy found))
+returns-clause-within g c = λ before cached found. rw (c.push_reserved.ensures.items, c.reserve.ensures.items)
+    (AreCachedWithin-push g.D.Delegate.meaning (g.D.Delegate.meaning.world c.args.cx.now) before c.args.cx.now c.args.self.now.entries.items (record { input = c.args.input; result = c.in_ok-result.result; depth = c.args.depth; encountered_overflow = c.args.encountered_overflow; number = c.args.number; previous = c.get-previous.result; asked = c.len-asked.result }) cached (rw c.in_ok-result.ensures.copy found))
 
 pub invariant_of-self-2-clause-linked : goal.invariant_of-self-2-clause-linked
-invariant_of-self-2-clause-linked g c = rw c.in_ok-push-2.ensures.items (AreLinked-push _ _ c.args.self.now.linked c.newest_of-previous.ensures)
+invariant_of-self-2-clause-linked g c = rw (c.push_reserved.ensures.items, c.reserve.ensures.items) (AreLinked-push _ _ c.args.self.now.linked (c.get-previous.ensures ∙ c.args.self.now.listed c.of-chain.result ∙ ap (newest_of c.args.self.now.entries.items) c.of-chain.ensures))
 
 pub invariant_of-self-2-clause-listed : goal.invariant_of-self-2-clause-listed
 invariant_of-self-2-clause-listed g c =
     let size : c.len-place.result ≡ length c.args.self.now.entries.items = c.len-place.ensures ∙ c.args.self.now.entries.ok.0 in
-    rw (size, c.in_ok-push-2.ensures.items)
-    (listed_push c.args.self.now.entries.items (record { input = c.args.input; result = c.in_ok-result.result; depth = c.args.depth; encountered_overflow = c.args.encountered_overflow; number = c.args.number; previous = c.newest_of-previous.result; asked = c.len-asked.result }) c.args.self.now.newest.items c.make_room.new.newest.items c.args.self.now.listed c.in_ok-make_room.ensures.same c.in_ok-make_room.ensures.room)
+    rw (c.push_reserved.ensures.items, c.reserve.ensures.items)
+    (listed_push c.args.self.now.entries.items (record { input = c.args.input; result = c.in_ok-result.result; depth = c.args.depth; encountered_overflow = c.args.encountered_overflow; number = c.args.number; previous = c.get-previous.result; asked = c.len-asked.result }) c.args.self.now.newest c.put.new.self c.args.self.now.listed
+    (λ other. c.in_ok-put.ensures.put other ∙ ap (λ chain. cond (is_chain chain other) (Some c.len-place.result) (newest_in c.args.self.now.newest other)) c.of-chain.ensures
+    ∙ ap (λ place. cond (is_chain (chain_of c.args.number c.args.depth c.args.encountered_overflow) other) (Some place) (newest_in c.args.self.now.newest other)) size))
 
 pub invariant_of-self-2-clause-numbered : goal.invariant_of-self-2-clause-numbered
-invariant_of-self-2-clause-numbered g c = rw c.in_ok-push-2.ensures.items
-    (numbered_push g.D.Cx.Input.PartialEq.eq c.args.self.now.goals.keys c.args.self.now.entries.items (record { input = c.args.input; result = c.in_ok-result.result; depth = c.args.depth; encountered_overflow = c.args.encountered_overflow; number = c.args.number; previous = c.newest_of-previous.result; asked = c.len-asked.result }) c.args.self.now.numbered c.requires.number)
+invariant_of-self-2-clause-numbered g c = rw (c.push_reserved.ensures.items, c.reserve.ensures.items)
+    (numbered_push g.D.Cx.Input.PartialEq.eq c.args.self.now.goals.keys c.args.self.now.entries.items (record { input = c.args.input; result = c.in_ok-result.result; depth = c.args.depth; encountered_overflow = c.args.encountered_overflow; number = c.args.number; previous = c.get-previous.result; asked = c.len-asked.result }) c.args.self.now.numbered c.requires.number)
 
 pub invariant_of-self-2-clause-consistent : goal.invariant_of-self-2-clause-consistent
-invariant_of-self-2-clause-consistent g c = rw c.in_ok-push-2.ensures.items
-    (AreConsistent-push c.args.self.now.entries.items (record { input = c.args.input; result = c.in_ok-result.result; depth = c.args.depth; encountered_overflow = c.args.encountered_overflow; number = c.args.number; previous = c.newest_of-previous.result; asked = c.len-asked.result }) c.args.self.now.consistent
+invariant_of-self-2-clause-consistent g c = rw (c.push_reserved.ensures.items, c.reserve.ensures.items)
+    (AreConsistent-push c.args.self.now.entries.items (record { input = c.args.input; result = c.in_ok-result.result; depth = c.args.depth; encountered_overflow = c.args.encountered_overflow; number = c.args.number; previous = c.get-previous.result; asked = c.len-asked.result }) c.args.self.now.consistent
     (λ place e at alike. c.differs.ensures.none c.if-differs.false place e at alike ∙ sym c.in_ok-result.ensures.copy))
 
 pub returns-clause-results : goal.returns-clause-results
-returns-clause-results g c = rw c.in_ok-push-2.ensures.items (KeepsResults-push c.args.self.now.entries.items (record { input = c.args.input; result = c.in_ok-result.result; depth = c.args.depth; encountered_overflow = c.args.encountered_overflow; number = c.args.number; previous = c.newest_of-previous.result; asked = c.len-asked.result }))
+returns-clause-results g c = rw (c.push_reserved.ensures.items, c.reserve.ensures.items) (KeepsResults-push c.args.self.now.entries.items (record { input = c.args.input; result = c.in_ok-result.result; depth = c.args.depth; encountered_overflow = c.args.encountered_overflow; number = c.args.number; previous = c.get-previous.result; asked = c.len-asked.result }))
 
 pub invariant_of-self-in-Break-branch-3 : goal.invariant_of-self-in-Break-branch-3
 invariant_of-self-in-Break-branch-3 g c =
     let old = c.args.self.now in
     record {
-      listed = λ n. c.make_room.ensures.same n ∙ old.listed n;
-      linked = old.linked;
-      numbered = old.numbered;
-      recorded = old.recorded;
+      listed = rw c.reserve.ensures.items old.listed;
+      linked = rw c.reserve.ensures.items old.linked;
+      numbered = rw c.reserve.ensures.items old.numbered;
+      recorded = rw c.reserve.ensures.items old.recorded;
       covered = old.covered;
       noted = noted_keeps old.first.items c.note_asked.new.first.items old.asked.items old.noted c.note_asked.ensures.others;
-      consistent = old.consistent;
+      consistent = rw c.reserve.ensures.items old.consistent;
     }
 
 pub invariant_of-self-in-Break-branch-4 : goal.invariant_of-self-in-Break-branch-4
 invariant_of-self-in-Break-branch-4 g c =
     let old = c.args.self.now in
     record {
-      listed = λ n. c.make_room.ensures.same n ∙ old.listed n;
-      linked = old.linked;
-      numbered = old.numbered;
-      recorded = λ place e at. rw c.in_err-push.ensures.items (old.recorded place e at);
+      listed = rw c.reserve.ensures.items old.listed;
+      linked = rw c.reserve.ensures.items old.linked;
+      numbered = rw c.reserve.ensures.items old.numbered;
+      recorded = rw (c.reserve.ensures.items, c.in_err-push.ensures.items) old.recorded;
       covered = rw c.in_err-push.ensures.items old.covered;
       noted = rw c.in_err-push.ensures.items (noted_keeps old.first.items c.note_asked.new.first.items old.asked.items old.noted c.note_asked.ensures.others);
-      consistent = old.consistent;
+      consistent = rw c.reserve.ensures.items old.consistent;
     }
 
 pub invariant_of-self-in-Break-branch-5 : goal.invariant_of-self-in-Break-branch-5
 invariant_of-self-in-Break-branch-5 g c =
     let old = c.args.self.now in
     record {
-      listed = λ n. rw c.in_err-push-2.ensures.items (c.make_room.ensures.same n ∙ old.listed n);
-      linked = rw c.in_err-push-2.ensures.items old.linked;
-      numbered = rw c.in_err-push-2.ensures.items old.numbered;
-      recorded = rw (c.in_err-push-2.ensures.items, c.in_ok-push.ensures.items) (recorded_later old.entries.items old.asked.items (old.asked.items ++ record { number = c.args.number; nested_goals = c.args.nested_goals } ∷ []) (KeepsResults-push old.asked.items (record { number = c.args.number; nested_goals = c.args.nested_goals })) old.recorded);
+      listed = λ chain. rw c.reserve.ensures.items (c.in_err-put.ensures.err chain ∙ old.listed chain);
+      linked = rw c.reserve.ensures.items old.linked;
+      numbered = rw c.reserve.ensures.items old.numbered;
+      recorded = rw (c.reserve.ensures.items, c.in_ok-push.ensures.items) (recorded_later old.entries.items old.asked.items (old.asked.items ++ record { number = c.args.number; nested_goals = c.args.nested_goals } ∷ []) (KeepsResults-push old.asked.items (record { number = c.args.number; nested_goals = c.args.nested_goals })) old.recorded);
       covered = rw c.in_ok-push.ensures.items (covered_push old.asked.items (record { number = c.args.number; nested_goals = c.args.nested_goals }) old.covered c.requires.nested);
       noted = rw c.in_ok-push.ensures.items (let own = rw (c.len-asked.ensures ∙ c.args.self.now.asked.ok.0) at c.in_ok-note_asked.ensures.noted in noted_push c.args.self.now.first.items c.note_asked.new.first.items c.args.self.now.asked.items (record { number = c.args.number; nested_goals = c.args.nested_goals }) c.args.self.now.noted c.note_asked.ensures.others own.0 own.1);
-      consistent = rw c.in_err-push-2.ensures.items old.consistent;
+      consistent = rw c.reserve.ensures.items old.consistent;
     }
 
 pub invariant_of-self-2-clause-recorded : goal.invariant_of-self-2-clause-recorded
-invariant_of-self-2-clause-recorded g c = rw (c.in_ok-push-2.ensures.items, c.in_ok-push.ensures.items)
-    (recorded_push c.args.self.now.entries.items (record { input = c.args.input; result = c.in_ok-result.result; depth = c.args.depth; encountered_overflow = c.args.encountered_overflow; number = c.args.number; previous = c.newest_of-previous.result; asked = c.len-asked.result }) c.args.self.now.asked.items (record { number = c.args.number; nested_goals = c.args.nested_goals }) c.args.self.now.recorded (c.len-asked.ensures ∙ c.args.self.now.asked.ok.0) refl)
+invariant_of-self-2-clause-recorded g c = rw (c.push_reserved.ensures.items, c.reserve.ensures.items, c.in_ok-push.ensures.items)
+    (recorded_push c.args.self.now.entries.items (record { input = c.args.input; result = c.in_ok-result.result; depth = c.args.depth; encountered_overflow = c.args.encountered_overflow; number = c.args.number; previous = c.get-previous.result; asked = c.len-asked.result }) c.args.self.now.asked.items (record { number = c.args.number; nested_goals = c.args.nested_goals }) c.args.self.now.recorded (c.len-asked.ensures ∙ c.args.self.now.asked.ok.0) refl)
 
 pub invariant_of-self-2-clause-covered : goal.invariant_of-self-2-clause-covered
 invariant_of-self-2-clause-covered g c = rw c.in_ok-push.ensures.items (covered_push c.args.self.now.asked.items (record { number = c.args.number; nested_goals = c.args.nested_goals }) c.args.self.now.covered c.requires.nested)
 
 pub returns-clause-kept : goal.returns-clause-kept
-returns-clause-kept g c = (record { input = c.args.input; result = c.in_ok-result.result; depth = c.args.depth; encountered_overflow = c.args.encountered_overflow; number = c.args.number; previous = c.newest_of-previous.result; asked = c.len-asked.result }, c.in_ok-push-2.ensures.items, refl, c.in_ok-result.ensures.copy, refl, refl, refl, c.len-asked.ensures ∙ c.args.self.now.asked.ok.0)
+returns-clause-kept g c = (record { input = c.args.input; result = c.in_ok-result.result; depth = c.args.depth; encountered_overflow = c.args.encountered_overflow; number = c.args.number; previous = c.get-previous.result; asked = c.len-asked.result }, (c.push_reserved.ensures.items ∙ ap (λ es. es ++ record { input = c.args.input; result = c.in_ok-result.result; depth = c.args.depth; encountered_overflow = c.args.encountered_overflow; number = c.args.number; previous = c.get-previous.result; asked = c.len-asked.result } ∷ []) c.reserve.ensures.items), refl, c.in_ok-result.ensures.copy, refl, refl, refl, c.len-asked.ensures ∙ c.args.self.now.asked.ok.0)
 
 pub returns-clause-asked : goal.returns-clause-asked
 returns-clause-asked g c = rw c.in_ok-push.ensures.items (KeepsResults-push c.args.self.now.asked.items (record { number = c.args.number; nested_goals = c.args.nested_goals }))
 
-pub returns-in_err-push-2-clause-asked : goal.returns-in_err-push-2-clause-asked
-returns-in_err-push-2-clause-asked g c = rw c.in_ok-push.ensures.items (KeepsResults-push c.args.self.now.asked.items (record { number = c.args.number; nested_goals = c.args.nested_goals }))
+pub returns-in_err-put-clause-asked : goal.returns-in_err-put-clause-asked
+returns-in_err-put-clause-asked g c = rw c.in_ok-push.ensures.items (KeepsResults-push c.args.self.now.asked.items (record { number = c.args.number; nested_goals = c.args.nested_goals }))
 
 pub differs-requires : goal.differs-requires
 differs-requires g c = record { number = c.requires.number }
-
-pub index_mut-requires : goal.index_mut-requires
-index_mut-requires g c = subst (λ n. c.args.number < n) (sym c.make_room.new.newest.ok.0) c.in_ok-make_room.ensures.room
 
 pub returns-clause-place : goal.returns-clause-place
 returns-clause-place g c = c.len-asked.ensures ∙ c.args.self.now.asked.ok.0

@@ -1,5 +1,5 @@
 use Rattle.std.proofs.Common.{◌≡◌, ℕ, ◌+◌, ◌-◌, length, get_or, None}
-use Rattle.search_graph.proofs.cache.make_room.Given as goal
+use Rattle.search_graph.proofs.newest.make_room.Given as goal
 
 abbrev pub invariant-loop-newest : goal.invariant-loop-newest
 invariant-loop-newest l = (other : ℕ) → get_or l.newest.items other None ≡ get_or l.fn.newest.items other None
