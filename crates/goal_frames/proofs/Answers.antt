@@ -1,4 +1,4 @@
--- Answers are equal exactly if they say the same, and over a lawful interner exactly if their trees are.
+-- Responses are equal exactly if they state the same, and over a lawful interner exactly if their terms are equal.
 use Rattle.std.proofs.Common.{◌≡◌, List, [], ◌∷◌, refl, ap, sym}
 use Rattle.std.specs.Bool.{Decides}
 use Rattle.type_terms.specs.Promised.Handles.{Entry, Keeps, types, consts, trees_at}

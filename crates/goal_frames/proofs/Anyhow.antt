@@ -1,4 +1,4 @@
--- Replies that came in order did so whatever the results are to be.
+-- Replies that came in order did so without any requirement on the results.
 use Rattle.std.proofs.Common.{List, [], ◌∷◌}
 use Rattle.goal_evaluator.specs.Frame.{Frame}
 use Rattle.goal_evaluator.specs.History.{Reply, begin, entered, ignored, evaluated, finished, Position, position, IsAwaitedReply, CameInOrder}

@@ -1,4 +1,4 @@
--- Goals that are made as canonical forms are.
+-- Goals in canonical form.
 use Rattle.std.proofs.Common.{◌≡◌, Bool, true, false, List, [], ◌∷◌, map, refl, ◌∙◌, ap, subst, Option, Some, None, if◌then◌else◌}
 use Rattle.type_terms.specs.Promised.Label.{of_trait, predicate}
 use Rattle.type_terms.specs.Promised.Trees.{Trees, none, tree}

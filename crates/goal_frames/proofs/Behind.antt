@@ -1,4 +1,4 @@
--- A rule's terms behind the variables of a goal: they are read with the values that stand there, and are made as before.
+-- A rule's terms with variables numbered after those of a goal: their values, and that they are well-formed.
 use Rattle.std.proofs.Common.{◌≡◌, ℕ, zero, suc, ◌+◌, arith, true, false, List, ◌⊎◌, inl, inr, refl, sym, ◌∙◌, ap, Some, None}
 use Rattle.type_terms.specs.Promised.Label.{Label, of_type, of_const, of_lifetime, infer, param, placeholder, canonical, bound, static, of_trait, predicate}
 use Rattle.type_terms.specs.Promised.Trees.{Trees, none, tree}

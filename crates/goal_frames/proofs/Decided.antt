@@ -1,4 +1,4 @@
--- The questions that a list of rules asks are decided.
+-- The nested goals of a list of rules are decided.
 use Rattle.std.proofs.Common.{◌≡◌, ℕ, Bool, true, List, length, refl, ◌∙◌, ap, Option, Some, None}
 use Rattle.type_terms.specs.Promised.Label.{Label, canonical}
 use Rattle.type_terms.specs.Made.{terms, is_made}

@@ -1,4 +1,4 @@
--- A frame has fewer steps left with each reply.
+-- The number of remaining steps of a frame decreases with each reply.
 use Rattle.std.proofs.Common.{◌≡◌, ℕ, suc, ◌+◌, ◌-◌, ◌*◌, ◌<◌, ◌≤◌, List, [], ◌∷◌, ◌++◌, length, map, drop, refl, sym, ◌∙◌, ap, subst, Option, arith}
 use Rattle.std.proofs.Math.Nat.{suc-mul, le_refl}
 use Rattle.std.proofs.lemmas.List.{length-drop, length-reverse}

@@ -1,4 +1,4 @@
--- Terms for the unknowns of a goal and of a rule: those that are given.
+-- Values of the inference variables of a goal and of a rule: the given ones.
 use Rattle.std.proofs.Common.{◌≡◌, ℕ, zero, suc, ◌+◌, arith, true, List, [], ◌∷◌, ◌++◌, length, sym, ◌∙◌, ap, subst}
 use Rattle.type_terms.specs.Promised.Label.{Sort, of_type, of_const}
 use Rattle.type_terms.specs.Promised.Trees.{Trees}

@@ -1,4 +1,4 @@
--- The answers of candidates are well-formed.
+-- The responses of candidates are well-formed.
 use Rattle.std.proofs.Common.{◌≡◌, List, [], ◌∷◌, refl, subst, Bool, Option, Some, None}
 use Rattle.type_terms.specs.Promised.Label.{Label}
 use Rattle.infer_table.specs.declared.canonical.CanonicalVarKind.{CanonicalVarKind}

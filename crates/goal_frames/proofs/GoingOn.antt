@@ -1,4 +1,4 @@
--- What a frame does as its handler says.
+-- How a frame continues with its handler's request.
 use Rattle.std.proofs.Common.{◌≡◌, ℕ, List, [], map, sym, ◌∙◌, ap, subst, Option, Some, None}
 use Rattle.type_terms.specs.Promised.Handles.{Entry, Keeps}
 use Rattle.infer_table.specs.declared.certainty.TypingMode.{TypingMode}

@@ -1,4 +1,4 @@
--- The handles of a frame stay an interner's while it grows.
+-- The handles of a frame stay valid as the interner grows.
 use Rattle.std.proofs.Common.{List}
 use Rattle.type_terms.specs.Promised.Handles.{Entry, Keeps}
 use Rattle.infer_table.specs.declared.input.CanonicalInput.{CanonicalInput}

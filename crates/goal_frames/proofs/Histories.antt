@@ -1,4 +1,4 @@
--- A history of a search's replies is one of the frame's, and its premises hold the frame's questions that count.
+-- A history of a search's replies is one of the frame's, and its premises include the nested goals that count.
 use Rattle.std.proofs.Common.{◌≡◌, ℕ, zero, suc, ◌+◌, ◌≤◌, ◌<◌, Bool, true, false, cond, List, [], ◌∷◌, ◌++◌, length, ◌⊎◌, inl, inr, refl, sym, ◌∙◌, ap, subst, Option, Some, None, unwrap_or, slice_get, arith}
 use Rattle.std.specs.Prelude.{slice_set}
 use Rattle.std.proofs.lemmas.List.{length-set}

@@ -1,4 +1,4 @@
--- What keeping a value makes of a store.
+-- A store after a value is stored.
 use Rattle.std.proofs.Common.{◌≡◌, ◌∙◌, ℕ, List, [], ◌∷◌, ◌++◌, ap, sym, subst, inl, inr, ◌⊎◌, Result, Ok, Err, Some, true, false}
 use Rattle.std.specs.Prelude.{IsErrAnd}
 use Rattle.std.specs.List.{slice_get, list_any, IsDistinct}

@@ -1,4 +1,4 @@
--- What frames hold stays the same while the interner grows.
+-- The content of frames does not change as the interner grows.
 use Rattle.std.proofs.Common.{◌≡◌, List, [], ◌∷◌, map, refl, sym, ap, subst, Bool, Option, Some, None}
 use Rattle.type_terms.specs.Promised.Label.{Label}
 use Rattle.type_terms.specs.Promised.Trees.{Trees}

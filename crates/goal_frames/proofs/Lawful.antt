@@ -1,4 +1,4 @@
--- What the frames of lawful programs mean to a search is lawful.
+-- The meaning of the frames of lawful programs for a search is lawful.
 use Rattle.std.proofs.Common.{◌≡◌, ℕ, ◌*◌, ◌≤◌, ◌<◌, Bool, true, false, List, [], ◌∷◌, refl, sym, ◌∙◌, ap, subst, Option, Some, None, arith}
 use Rattle.search_graph.specs.declared.path_kind.PathKind.{PathKind}
 use Rattle.search_graph.specs.declared.delegate.Request.{Request}

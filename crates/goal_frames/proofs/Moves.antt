@@ -1,4 +1,4 @@
--- How a frame moves from place to place with the replies that it gets.
+-- How a frame's state changes with its replies.
 use Rattle.std.proofs.Common.{◌≡◌, ℕ, zero, suc, ◌+◌, ◌<◌, List, [], ◌∷◌, ◌++◌, length, map, drop, refl, sym, ◌∙◌, ap, subst, Option, arith}
 use Rattle.std.proofs.lemmas.List.{reverse-append}
 use Rattle.infer_table.specs.Responses.{AnswerTrees}

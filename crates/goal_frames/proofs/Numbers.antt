@@ -1,4 +1,4 @@
--- What the numbers of a store stand for.
+-- What the numbers of a store represent.
 use Rattle.std.proofs.Common.{rules, ◌≡◌, ◌∙◌, List, refl, ap, sym, subst, Option, Some, None, option_map, true}
 use Rattle.std.specs.Bool.{Decides}
 use Rattle.std.proofs.lemmas.Option.{same_Some}

@@ -1,4 +1,4 @@
--- What a frame does with what its open candidate came to.
+-- How a frame continues after a step of its open candidate.
 use Rattle.std.proofs.Common.{◌≡◌, ◌∙◌, ℕ, ◌+◌, ◌-◌, ◌*◌, ◌<◌, length, List, [], ◌∷◌, ◌++◌, map, refl, sym, ap, subst, arith, Option, Some, None, Result, Ok, Err}
 use Rattle.std.specs.Prelude.{IfOk, IfErr}
 use Rattle.type_terms.specs.Terms.{Terms}

@@ -1,4 +1,4 @@
--- Places in lists whose values are all different.
+-- Indices in lists without duplicates.
 use Rattle.std.proofs.Common.{◌≡◌, ℕ, zero, suc, Bool, true, false, List, [], ◌∷◌, ◌++◌, ◌||◌, refl, ap, sym, ◌∙◌, Some, subst, inl, inr, ◌⊎◌, if◌then◌else◌}
 use Rattle.std.specs.Bool.{Decides}
 use Rattle.std.specs.List.{slice_get, list_any, IsDistinct}

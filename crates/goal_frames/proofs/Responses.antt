@@ -1,4 +1,4 @@
--- Responses of one interner are the same in code exactly if their trees are.
+-- Responses over one interner are equal in code exactly if their terms are equal.
 use Rattle.std.proofs.Common.{◌≡◌, true, List, [], ◌∷◌, refl, subst}
 use Rattle.std.proofs.lemmas.Bool.Decides.{same_from_decides}
 use Rattle.type_terms.specs.Promised.Trees.{is_sort}

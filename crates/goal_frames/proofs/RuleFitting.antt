@@ -1,4 +1,4 @@
--- The candidates of a list of rules speak of the variables of the goal and of the rule alone.
+-- The candidates of a list of rules contain only the variables of the goal and of the rule.
 use Rattle.std.proofs.Common.{◌≡◌, ℕ, zero, suc, ◌+◌, arith, Bool, true, List, [], ◌∷◌, ◌++◌, length, refl, sym, ◌∙◌, ap, subst, Option, Some, None}
 use Rattle.std.specs.List.{slice_get}
 use Rattle.type_terms.specs.Promised.Label.{Label, Sort, infer, param, placeholder, canonical}

@@ -1,4 +1,4 @@
--- Lists of rules over trees are lawful programs.
+-- Lists of rules over terms are lawful programs.
 use Rattle.std.proofs.Common.{ℕ, ◌≤◌, arith, not, ◌||◌, refl, ap, is_some}
 use Rattle.std.specs.Prelude.{max}
 use Rattle.infer_table.specs.Canonical.{CanonicalForm}

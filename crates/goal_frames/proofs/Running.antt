@@ -1,4 +1,4 @@
--- What comes of an open candidate, as its evaluation over the replies to its questions does.
+-- The result of an open candidate is that of its evaluation with the replies to its nested goals.
 use Rattle.std.proofs.Common.{◌≡◌, List, [], ◌∷◌, map, refl, sym, ◌∙◌, ap, subst, Bool, Option, Some, None}
 use Rattle.type_terms.specs.Promised.Label.{Label}
 use Rattle.type_terms.specs.Promised.Handles.{Entry}

@@ -1,4 +1,4 @@
--- Answers that are found to be the same are equal; only definite yeses are always applicable.
+-- The test of equality for responses is sound, and only definite yeses are always applicable.
 use Rattle.std.proofs.Common.{◌≡◌, ℕ, suc, true, ◌&&◌, not, if◌then◌else◌, List, [], ◌∷◌, refl, ◌∙◌, ap}
 use Rattle.type_terms.specs.Promised.Label.{Sort, of_lifetime}
 use Rattle.type_terms.specs.Promised.Trees.{Trees, is_sort}

@@ -1,4 +1,4 @@
--- What the table with which a frame begins answers: each variable stands for itself.
+-- The response of the table with which a frame begins: each variable is its own value.
 use Rattle.std.proofs.Common.{◌≡◌, ℕ, suc, ◌+◌, List, [], ◌∷◌, ◌++◌, map, length, refl, sym, ◌∙◌, ap, if◌then◌else◌, is_some, true, Some}
 use Rattle.type_terms.specs.Promised.Label.{Label, canonical}
 use Rattle.type_terms.specs.Promised.Trees.{none, leaf, sort_of}

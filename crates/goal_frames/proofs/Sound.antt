@@ -1,4 +1,4 @@
--- A rule as a candidate: where its equation holds it is the rule, and its own unknowns are determined by the goal's.
+-- A rule as a candidate: if its equation holds it is the rule, and the goal's variables determine its own.
 use Rattle.std.proofs.Common.{◌≡◌, ℕ, Bool, true, false, ◌&&◌, List, [], ◌∷◌, map, length, refl, sym, ◌∙◌, ap, Some, if◌then◌else◌}
 use Rattle.type_terms.specs.Promised.Label.{adt, never, of_trait, predicate}
 use Rattle.type_terms.specs.Promised.Trees.{Trees, none, tree, leaf}

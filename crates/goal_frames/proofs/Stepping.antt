@@ -1,4 +1,4 @@
--- A frame's steps: from where it stood, by the reply that is due, to where its position is then.
+-- A frame's steps: from its state, by the reply that is due, to the state at the next position.
 use Rattle.std.proofs.Common.{◌≡◌, ℕ, suc, ◌<◌, List, [], ◌∷◌, ◌++◌, length, map, drop, refl, sym, ap, subst, Option, Result}
 use Rattle.type_terms.specs.Promised.Handles.{Entry}
 use Rattle.infer_table.specs.declared.input.CanonicalInput.{CanonicalInput}

@@ -1,4 +1,4 @@
--- Small facts on the types of the code.
+-- Small facts about the types of the code.
 use Rattle.std.proofs.Common.{List, ℕ, ◌≡◌, Some, [], ◌∷◌, zero, subst, suc}
 use Rattle.goal_evaluator.specs.FrameTables.{kind_at}
 use Rattle.goal_evaluator.specs.Lists.{Every}

@@ -1,4 +1,4 @@
--- What a handler's candidates and answers are made of.
+-- The variables in a handler's candidates and responses.
 use Rattle.std.specs.Prelude.{List, Option, Some, None}
 use Rattle.type_terms.specs.Promised.Label.{Label}
 use Rattle.type_terms.specs.Promised.Handles.{Entry}
@@ -20,8 +20,8 @@ use Rattle.goal_evaluator.specs.TableAnswers.{IsWellFormed}
 use Rattle.goal_evaluator.specs.Fitting.{AreOver, IsGoalOver, IsValueOver}
 use Rattle.goal_evaluator.specs.Candidates.{labels_of}
 
--- ---- answers
--- the values of each are terms over its own variables
+-- ---- responses
+-- each value is a term over the response's own variables
 abbrev pub AnswerFits : Option AnswerTrees → Type 0
 AnswerFits None = Unit {0}
 AnswerFits (Some a) = IsWellFormed a
@@ -37,7 +37,7 @@ ConsideredFits es done = Every (λ (d : Considered). ResultFits es d.result) don
 abbrev pub IsEquationOver : List Label → List Entry → Equation → Type 0
 IsEquationOver ls es e = IsValueOver ls (value_of es e.left) × IsValueOver ls (value_of es e.right)
 
--- the candidate's terms speak of the variables of a goal, which are of these kinds, and of its own alone
+-- the candidate's terms contain only variables of a goal, which are of these kinds, and its own
 pub record IsOver (kinds : List CanonicalVarKind) (es : List Entry) (s : CandidateSpec) : Type 0 where
   pub equations : Every (IsEquationOver (labels_of kinds s.variables.items) es) s.equations.items
   pub constraints : AreOver (labels_of kinds s.variables.items) (constraints_trees es s.region_constraints.items)

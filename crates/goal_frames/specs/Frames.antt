@@ -1,4 +1,4 @@
--- What frames in code have heard, and what they ask.
+-- The replies and requests of frames in code.
 use Rattle.std.specs.Prelude.{◌≡◌, ℕ, List, [], ◌∷◌, map, Option, option_map, Result, Ok, IfOk}
 use Rattle.type_terms.specs.Promised.Handles.{Entry, Keeps}
 use Rattle.infer_table.specs.declared.certainty.Certainty.{Certainty}
@@ -40,12 +40,12 @@ reply_read es Replied.Entered = entered
 reply_read es (Replied.Finished n) = finished n
 reply_read es Replied.Ignored = ignored
 
--- a result's handles are an interner's, and its values are terms over its own variables
+-- a result's handles are of this interner, and its values are terms over its own variables
 abbrev pub ReplyIsMade : List Entry → Replies.Reply (Option CanonicalResponse) → Type 0
 ReplyIsMade es (Replied.Result r) = ResultHeld es r × ResultFits es r
 ReplyIsMade es reply = Unit {0}
 
--- the code's request is this one, and what is asked is asked in this mode
+-- the request in code is this one, with nested goals in this typing mode
 abbrev pub IsRequestOf : TypingMode → List Entry → Requests.Request CanonicalInput (Option CanonicalResponse) → Request NestedQuestion (Option AnswerTrees) → Type 0
 IsRequestOf mode es (Requested.Evaluate input kind) (evaluate q) = (input.mode ≡ mode) × (form_of es input ≡ q.form) × (kind ≡ step_kind q.coinductive)
 IsRequestOf mode es Requested.EnterCandidate enter_candidate = Unit {0}
@@ -54,7 +54,7 @@ IsRequestOf mode es (Requested.IgnoreCandidate n) (ignore_candidate m) = n ≡ m
 IsRequestOf mode es (Requested.Done r) (returns a) = result_read es r ≡ a
 IsRequestOf mode es request other = ⊥
 
--- the handles of what is asked, or of an answer, are an interner's, and the answer is well-formed
+-- the handles of a nested goal or response are of this interner, and the response is well-formed
 abbrev pub RequestHeld : List Entry → Requests.Request CanonicalInput (Option CanonicalResponse) → Type 0
 RequestHeld es (Requested.Evaluate input kind) = GoalHeld es input.goal
 RequestHeld es (Requested.Done r) = ResultHeld es r × ResultFits es r
@@ -69,7 +69,7 @@ PlaceHeld goal es (InCode.Finishing source r) = ResultHeld es r × ResultFits es
 PlaceHeld goal es (InCode.Ignoring r ns at) = ResultHeld es r × ResultFits es r
 PlaceHeld goal es InCode.Over = Unit {0}
 
--- the handles of the frame are an interner's
+-- the handles of the frame are of this interner
 pub record FrameHeld (es : List Entry) (f : GoalFrame) : Type 0 where
   pub goal : GoalHeld es f.goal.goal
   pub considered : ConsideredHeld es f.considered.items
@@ -79,53 +79,53 @@ pub record FrameHeld (es : List Entry) (f : GoalFrame) : Type 0 where
 abbrev pub FrameHistory : Type 0
 FrameHistory = List (Reply (Option AnswerTrees))
 
--- no reply has come yet, or replies came in order and led to where the frame stands
+-- no reply has come yet, or replies came in order and led to the frame's state
 abbrev pub HasCome : List Entry → Handled frame_tables → CanonicalInput → List Considered → Place → FrameHistory → Type 0
 HasCome es h goal considered InCode.Begun heard = (heard ≡ []) × (considered ≡ [])
 HasCome es h goal considered place heard =
     CameInOrder (Anything frame_tables h) (frame_of_goal frame_tables h) heard
     × PositionStands h es goal (map (shown_by es) considered) place (position (frame_of_goal frame_tables h) heard)
 
--- the frame of a goal that its handler means this for has had these replies, the newest first
+-- the frame of a goal, for which its handler means `h`, has had these replies, the newest first
 pub record HasHeard (es : List Entry) (h : Handled frame_tables) (f : GoalFrame) (heard : FrameHistory) : Type 0 where
   pub held : FrameHeld es f
   pub came : HasCome es h f.goal f.considered.items f.place heard
 
--- the reply is one that the frame waits for
+-- the reply is one for which the frame waits
 abbrev pub ReplyIsDue : List Entry → Handled frame_tables → GoalFrame → Reply (Option AnswerTrees) → Type 0
 ReplyIsDue es h f reply = (heard : FrameHistory) × HasHeard es h f heard × CameInOrder (Anything frame_tables h) (frame_of_goal frame_tables h) (reply ∷ heard)
 
--- given the reply, the frame of before becomes the one of after and makes the request
+-- with this reply, the old frame becomes the new one and makes the request
 abbrev pub FrameSteps : List Entry → Handled frame_tables → GoalFrame → Reply (Option AnswerTrees) → List Entry → GoalFrame → Requests.Request CanonicalInput (Option CanonicalResponse) → Type 0
 FrameSteps old h before reply new after request =
     (heard : FrameHistory) → HasHeard old h before heard → CameInOrder (Anything frame_tables h) (frame_of_goal frame_tables h) (reply ∷ heard)
     → HasHeard new h after (reply ∷ heard) × IsRequestOf before.goal.mode new request (asks (frame_of_goal frame_tables h) (reply ∷ heard))
 
--- ---- frames on their way, at a position
--- the frame asks its handler what comes next
+-- ---- frames in progress, at a position
+-- the frame calls its handler
 abbrev pub AsksHandler : List Entry → Handled frame_tables → GoalFrame → FrameStanding → Type 0
 AsksHandler es h f p = IsBetween h (map (shown_by es) f.considered.items) p
 
--- the frame makes this request, in this mode, and is where it then stands
+-- the frame makes this request in this typing mode, and is in the state that follows
 abbrev pub AsksAt : TypingMode → List Entry → Handled frame_tables → GoalFrame → Requests.Request CanonicalInput (Option CanonicalResponse) → FrameStanding → Type 0
 AsksAt mode es h f q p = IsRequestOf mode es q (request p) × PositionStands h es f.goal (map (shown_by es) f.considered.items) f.place p
 
--- the open candidate of a frame, from this source, came to this: the frame of after makes this request, and is where it then stands
+-- after this step of the open candidate, from this source, the new frame makes this request and is in the state that follows
 abbrev pub GoesOnWith : List Entry → List Entry → Handled frame_tables → GoalFrame → CandidateSource → Result CandidateStep EvalError → GoalFrame → Requests.Request CanonicalInput (Option CanonicalResponse) → Type 0
 GoesOnWith old new h before source step after q =
     (p : FrameStanding) → Keeps old new → FrameHeld old before → IfOk step (CandidateHeld new) → ComesTo h new before.goal (map (shown_by old) before.considered.items) source step p
     → FrameHeld new after × RequestHeld new q × AsksAt before.goal.mode new h after q p
 
--- a candidate that waits is the open one, and else none is open
+-- the waiting candidate is the open one, or no candidate is open
 abbrev pub IsAtStep : Result CandidateStep EvalError → Place → Type 0
 IsAtStep (Ok (Ask waiting input asked_for)) place = (source : CandidateSource) × (place ≡ InCode.Inside source waiting)
 IsAtStep step place = (source : CandidateSource) × (r : Option CanonicalResponse) × (place ≡ InCode.Finishing source r)
 
--- one that has this answer, and is to ignore candidates of these numbers, makes this request and is at this place
+-- a frame with this result and these numbers to ignore makes this request and is in this state
 abbrev pub IgnoresAt : Option CanonicalResponse → List ℕ → Requests.Request CanonicalInput (Option CanonicalResponse) → Place → Type 0
 IgnoresAt answer numbers q place =
     (es : List Entry) (mode : TypingMode) (p : FrameStanding) → IsIgnoring (result_read es answer) numbers p → IsRequestOf mode es q (request p) × PlaceAnswers es place p
 
--- the frame's candidate, from this source, ended with a response of this certainty, or was refused
+-- the frame's candidate, from this source, ended with a response of this certainty, or without a solution
 abbrev pub IsFinishingWith : CandidateSource → Option Certainty → Place → Type 0
 IsFinishingWith source certainty place = (r : Option CanonicalResponse) × (place ≡ InCode.Finishing source r) × (option_map (λ (a : CanonicalResponse). a.certainty) r ≡ certainty)

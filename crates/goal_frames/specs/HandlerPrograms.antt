@@ -1,4 +1,4 @@
--- The goals of a handler as the programs that a search runs.
+-- The goals of a handler as the programs of a search.
 use Rattle.std.specs.Prelude.{◌≡◌, ◌≤◌, false, List, Option, Some, None}
 use Rattle.search_graph.specs.declared.path_kind.PathKind.{PathKind}
 use Rattle.search_graph.specs.declared.path_kind.PathKind.TheVariants.{Inductive, Unknown, Coinductive, ForcedAmbiguity}
@@ -23,17 +23,17 @@ use Rattle.goal_frames.specs.Programs.{Programs, ArePrograms}
 use Rattle.goal_evaluator.specs.FrameTables.{kinds_known}
 use Rattle.goal_frames.specs.Meanings.{Goals, HandlerMeaning}
 
--- ---- answers that are fixed for each goal
--- it says nothing of the goal's variables
+-- ---- fixed responses of each goal
+-- it has no values
 abbrev pub silent : CanonicalForm → Certainty → Option AnswerTrees
 silent f c = Some (respond (begin (kinds_known f.kinds)) c)
 
--- to a goal that is asked too deep or too often
+-- for a goal that exceeds the depth or the number of repetitions
 abbrev pub overflow_answer : CanonicalForm → Option AnswerTrees
 overflow_answer f = silent f (Maybe Overflow)
 
--- how sure a goal is taken to be that is asked under itself, by a path of this kind; none: it is refused. A coinductive cycle holds,
--- and an inductive one has no proof, but in coherence, where other crates may say more, nothing is refused for it
+-- The certainty of a goal that recurs by a path of this kind, or `None` if it has no solution. A coinductive cycle holds, and an
+-- inductive one has no proof. In coherence it is an overflow, since other crates may add impls.
 abbrev pub cycle_certainty : TypingMode → PathKind → Option Certainty
 cycle_certainty mode Coinductive = Some Yes
 cycle_certainty mode Unknown = Some (Maybe Overflow)
@@ -45,13 +45,13 @@ abbrev pub silent_if : CanonicalForm → Option Certainty → Option AnswerTrees
 silent_if f None = None
 silent_if f (Some c) = silent f c
 
--- to a goal that is asked under itself, by a path of this kind
+-- for a goal that recurs by a path of this kind
 abbrev pub cycle_answer : TypingMode → CanonicalForm → PathKind → Option AnswerTrees
 cycle_answer mode f k = silent_if f (cycle_certainty mode k)
 
--- ---- goals together
+-- ---- all goals
 module _ (m : Goals) where
-  -- what a search runs: a question asks the goal of its form, in the mode of the goal that asks it
+  -- the programs of a search, where a nested goal has its canonical form and the typing mode of its parent
   abbrev pub programs_of : Programs frame_tables
   programs_of = record {
     World = m.World;
@@ -71,30 +71,31 @@ module _ (m : Goals) where
 
   -- the laws of goals
   pub record AreLawfulGoals : Type 0 where
-    -- a frame begins with an unknown for each unknown of its goal
+    -- a frame begins with an inference variable for each one of its goal
     pub begins : (w : m.World) (mode : TypingMode) (g : CanonicalForm) → (m.handled w mode g).begin ≡ begin (kinds_known g.kinds)
-    -- the laws of candidates and of answers
+    -- the laws of candidates and of results
     pub handlers : (w : m.World) (mode : TypingMode) (g : CanonicalForm) → IsHandler frame_tables (m.handled w mode g)
-    -- a question has the instances of the goal of its form
+    -- the instances of a nested goal are those of its canonical form
     pub instances : (w : m.World) (mode : TypingMode) (q : NestedQuestion) (v : Values) → fact_of q v ≡ (m.handled w mode q.form).goal v
     -- a rule of one goal is a rule
     pub rules : (w : m.World) (mode : TypingMode) (g : CanonicalForm) (f : Fact) (premises : List Fact) → (m.handled w mode g).Rule f premises → m.Rule w f premises
     -- the instances of a goal are coinductive exactly if its trait is
     pub kinds : (w : m.World) (mode : TypingMode) (g : CanonicalForm) (v : Values) → m.coinductive w ((m.handled w mode g).goal v) ≡ (m.handled w mode g).coinductive
-    -- a question that is no wider than the terms of a goal's frame asks a goal whose frame makes no wider terms and asks no more questions
+    -- if a nested goal is no wider than the terms of its parent's frame, its own frame makes no wider terms and has no more
+    -- nested goals
     pub numbers : (w : m.World) (mode : TypingMode) (g : CanonicalForm) (q : NestedQuestion) → number_of q ≤ (m.handled w mode g).widest
         → ((m.handled w mode q.form).widest ≤ (m.handled w mode g).widest) × ((m.handled w mode q.form).number ≤ (m.handled w mode g).number)
-    -- the solutions of the goals that a goal's frame asks are looked for wherever those of the goal are
+    -- a nested goal's solutions are sought in every set of crates in which those of its parent are
     pub worlds : (w : m.World) (mode : TypingMode) (g : CanonicalForm) (heard : History frame_tables (m.handled w mode g)) (q : NestedQuestion)
         → CameInOrder (Anything frame_tables (m.handled w mode g)) (frame_of_goal frame_tables (m.handled w mode g)) heard
         → asks (frame_of_goal frame_tables (m.handled w mode g)) heard ≡ evaluate q
         → (x : (m.handled w mode g).World) → (y : (m.handled w mode q.form).World) × ((f : Fact) → (m.handled w mode g).Proves x f → (m.handled w mode q.form).Proves y f)
-    -- outside coherence no sets of crates are looked at
+    -- outside coherence no sets of crates are considered
     pub outside : (w : m.World) (g : CanonicalForm) → (m.handled w PostAnalysis g).World → ⊥
 
 -- the laws of a handler
 pub record HandlerIsLawful {Handler : Type 0} (m : HandlerMeaning Handler) : Type 0 where
-  -- handles stay ready while the interner grows, and the same is declared by them
+  -- as the interner grows, handles stay ready and represent the same declarations
   pub ready_kept : (h : Handler) (old new : List Entry) → Keeps old new → m.IsReady h old → m.IsReady h new
   pub world_kept : (h : Handler) (old new : List Entry) → Keeps old new → m.IsReady h old → m.world h new ≡ m.world h old
   pub goals : AreLawfulGoals m.goals

@@ -56,7 +56,7 @@ abbrev pub is_variable_label : Sort → ℕ → Label → Bool
 is_variable_label k i (canonical s j) = is_sort s k && (j == i)
 is_variable_label k i l = false
 
--- each variable that stands for a placeholder stands in the trees; the first kind is that of variable i
+-- Each placeholder variable occurs in the terms. The first kind is that of variable i.
 abbrev pub places_stand : ℕ → List CanonicalVarKind → Trees → Bool
 places_stand i [] t = true
 places_stand i (PlaceholderTy ∷ ks) t = some_node (is_variable_label of_type i) t && places_stand (suc i) ks t
@@ -71,12 +71,12 @@ asked_with None b = None
 asked_with (Some ks) None = None
 asked_with (Some ks) (Some b) = if is_asked ks b then Some (record { kinds = ks; bound = b }) else None
 
--- the goal that a canonical form asks, if it is made as such forms are and has no where-clauses
+-- the goal of a canonical form, if it is well-formed and has no where-clauses
 abbrev pub bare_goal : CanonicalForm → Option BareGoal
 bare_goal f = asked_with (all_known f.kinds) (bound_of f.goal.environment f.goal.predicate)
 
 -- ---- candidates
--- the rule's variables stand behind n others
+-- the rule's variables are numbered after n others
 abbrev pub moved : ℕ → Label → Option Trees
 moved n (canonical k i) = Some (leaf (canonical k (n + i)))
 moved n l = None
@@ -91,7 +91,7 @@ as_one b = record { sort = of_type; trees = tree (adt b.trait) b.arguments none 
 abbrev pub nested_of_bound : Bool → TraitBound → Nested
 nested_of_bound kind b = record { goal = goal_of b; coinductive = kind }
 
--- the rule as a candidate for the goal, with steps of this kind: the goal's arguments are the head's
+-- The rule as a candidate for the goal, with steps of this kind. It equates the goal's arguments with the head's.
 abbrev pub spec_of : Bool → BareGoal → FrameRule → Spec (workings frame_tables)
 spec_of kind a r = record {
   source = BuiltinImpl Misc;
@@ -123,12 +123,12 @@ abbrev pub number_of_premises : List TraitBound → ℕ
 number_of_premises [] = 0
 number_of_premises (b ∷ bs) = suc (width_of_bound b + number_of_premises bs)
 
--- no rule is wider, and all rules together have no more premises
+-- no rule is wider, and all rules together have at most so many premises
 abbrev pub number_of_rules : List FrameRule → ℕ
 number_of_rules [] = 0
 number_of_rules (r ∷ rules) = width_of_bound r.head + number_of_premises r.premises + number_of_rules rules
 
--- ---- answers that are equal
+-- ---- equal responses
 abbrev pub same_kind : CanonicalVarKind → CanonicalVarKind → Bool
 same_kind Ty Ty = true
 same_kind Const Const = true
@@ -150,8 +150,8 @@ same_values vs ws = false
 abbrev pub same_answer : AnswerTrees → AnswerTrees → Bool
 same_answer a b = same_kinds a.kinds b.kinds && (same_certainty a.certainty b.certainty && (same_values a.values b.values && same a.constraints b.constraints))
 
--- ---- answers that are always applicable
--- each value is the variable of its place, the first of which is this one: a lifetime too
+-- ---- responses that are always applicable
+-- each value, even a lifetime, is the variable with its index, counted from this number
 abbrev pub are_own_variables : ℕ → List Value → Bool
 are_own_variables i [] = true
 are_own_variables i (v ∷ vs) = is_variable_itself i v.sort v.trees && are_own_variables (suc i) vs
@@ -160,30 +160,30 @@ are_own_variables i (v ∷ vs) = is_variable_itself i v.sort v.trees && are_own_
 abbrev pub applies_always : AnswerTrees → Bool
 applies_always a = is_certain a.certainty && (are_own_variables 0 a.values && is_no_tree a.constraints)
 
--- ---- where solutions are looked for
--- a variable of these kinds stands for a placeholder
+-- ---- where solutions are sought
+-- a variable of these kinds is a placeholder
 abbrev pub has_placeholder : List CanonicalVarKind → Bool
 has_placeholder [] = false
 has_placeholder (PlaceholderTy ∷ ks) = true
 has_placeholder (PlaceholderConst ∷ ks) = true
 has_placeholder (k ∷ ks) = has_placeholder ks
 
--- The goal is decided, or it has no placeholder. The placeholders of other goals need not stand in the reference: then two of them can
--- have one value, and no table has that
+-- The goal is decided, or has no placeholder. The placeholders of other goals need not occur in the trait reference. Then two of
+-- them may have the same value, which no table allows.
 abbrev pub is_searched : CanonicalForm → Bool
 is_searched f = is_some (bare_goal f) || not (has_placeholder (kinds_known f.kinds))
 
--- in coherence the rules are those of one set of crates, and outside it no solutions are looked for
+-- in coherence the rules are those of one set of crates, and otherwise no solutions are sought
 abbrev pub world_of_search : TypingMode → CanonicalForm → Type 0
 world_of_search Coherence f = is_searched f ≡ true
 world_of_search PostAnalysis f = ⊥
 
 -- ---- the handler
--- no term of the goal's frame is wider, and no more questions are asked
+-- the greatest width of a term in the goal's frame, and the greatest number of its nested goals
 abbrev pub widest_of : RuleBook → CanonicalForm → ℕ
 widest_of book f = max (number_of (record { form = f; coinductive = false })) (number_of_rules book.rules)
 
--- a goal asked in a mode, with variables of these kinds; whether its trait is coinductive stands in its predicate
+-- A goal in a typing mode, with variables of these kinds. Its predicate determines whether its trait is coinductive.
 abbrev pub listing_of : RuleBook → TypingMode → CanonicalForm → List CanonicalVarKind → Option BareGoal → Listing frame_tables
 listing_of book mode f kinds o = record {
   goal = λ v. fact_of (record { form = f; coinductive = false }) v;
@@ -200,6 +200,6 @@ listing_of book mode f kinds o = record {
 abbrev pub handled_by : RuleBook → TypingMode → CanonicalForm → Handled frame_tables
 handled_by book mode f = listed frame_tables applies_always same_answer (listing_of book mode f (kinds_known f.kinds) (bare_goal f))
 
--- whatever form a goal has
+-- for every form of a goal
 abbrev pub HandlersAreLawful : Type 0
 HandlersAreLawful = (book : RuleBook) → AreRules book → (mode : TypingMode) (f : CanonicalForm) → IsHandler frame_tables (handled_by book mode f)

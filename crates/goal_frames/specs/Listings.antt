@@ -1,4 +1,4 @@
--- A list of candidates as a plan: one after the other, and then all their responses are merged.
+-- A list of candidates as a plan: one after another, and then a merge of all responses.
 use Rattle.std.specs.Prelude.{◌≡◌, ℕ, ◌≤◌, Bool, false, length, List, []}
 use Rattle.infer_table.specs.declared.certainty.Certainty.{Certainty}
 use Rattle.goal_evaluator.specs.Lists.{Every, SomeOf}
@@ -10,7 +10,7 @@ use Rattle.goal_evaluator.specs.Plans.{Plan, Planned, planned, each_of, nested_i
 use Rattle.goal_evaluator.specs.PlanAnswers.{all_merged}
 
 module _ {Question Response : Type 0} (t : Tables Question Response) where
-  -- a goal with the list of its candidates, and what counts as its proofs
+  -- a goal with the list of its candidates, and what its proofs are
   pub record Listing : Type 1 where
     pub goal : t.Values → t.Fact
     pub begin : t.Table
@@ -19,7 +19,7 @@ module _ {Question Response : Type 0} (t : Tables Question Response) where
     pub World : Type 0
     pub Proves : World → t.Fact → Type 0
     pub coinductive : Bool
-    -- how many nested goals the candidates have together at most, and how wide their terms are
+    -- the greatest number of nested goals of all candidates, and the greatest width of their terms
     pub number : ℕ
     pub widest : ℕ
 

@@ -1,4 +1,4 @@
--- What handlers of goals mean: the goals, and what is declared by a handler's handles.
+-- The meaning of handlers: their goals, and the declarations that their handles represent.
 use Rattle.std.specs.Prelude.{Bool, List}
 use Rattle.type_terms.specs.Promised.Handles.{Entry}
 use Rattle.infer_table.specs.Canonical.{CanonicalForm}
@@ -9,23 +9,23 @@ use Rattle.goal_evaluator.specs.Content.{Fact}
 use Rattle.goal_evaluator.specs.StepReadings.{handled_for}
 use Rattle.goal_evaluator.specs.Tables.{frame_tables}
 
--- all goals, by what is declared
+-- all goals, given the declarations
 pub record Goals : Type 1 where
-  -- what is declared
+  -- the declarations
   pub World : Type 0
-  -- what it means for a goal asked in a mode
+  -- the meaning for a goal in a typing mode
   pub handled : World → TypingMode → CanonicalForm → Handled frame_tables
-  -- the rules of all goals together, and which references are coinductive
+  -- the rules of all goals, and which trait references are coinductive
   pub Rule : World → Fact → List Fact → Type 0
   pub coinductive : World → Fact → Bool
 
--- what handlers mean
+-- the meaning of handlers
 pub record HandlerMeaning (Handler : Type 0) : Type 1 where
   pub goals : Goals
-  -- the handles that the handler holds are an interner's, and what it declares by them
+  -- the handler's handles are of this interner, and the declarations that they represent
   pub IsReady : Handler → List Entry → Type 0
   pub world : Handler → List Entry → goals.World
 
--- what a goal of an interner means to a handler
+-- the meaning of a goal of this interner for a handler
 abbrev pub goal_meaning : {Handler : Type 0} → HandlerMeaning Handler → Handler → List Entry → CanonicalInput → Handled frame_tables
 goal_meaning m handler es goal = handled_for m.goals.handled m.world handler es goal

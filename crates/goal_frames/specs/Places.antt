@@ -1,4 +1,4 @@
--- Where a frame stands.
+-- The state of a frame.
 use Rattle.std.specs.Prelude.{◌≡◌, ℕ, suc, ◌+◌, List, [], ◌∷◌, ◌++◌, length, drop, Option, Result}
 use Rattle.type_terms.specs.Promised.Handles.{Entry}
 use Rattle.infer_table.specs.declared.canonical.CanonicalVarKind.{CanonicalVarKind}
@@ -32,7 +32,7 @@ Heard = List (Finished NestedQuestion (Option AnswerTrees))
 abbrev pub FrameStanding : Type 0
 FrameStanding = Position NestedQuestion (Option AnswerTrees)
 
--- the frame has its answer, and candidates of these numbers are to be ignored
+-- the frame has its result, and candidates with these numbers have to be ignored
 pub record IsIgnoring (a : Option AnswerTrees) (ns : List ℕ) (p : FrameStanding) : Type 0 where
   pub heard : Heard
   pub gone : List ℕ
@@ -43,7 +43,7 @@ PlaceAnswers es (InCode.Ignoring r ns at) p = IsIgnoring (result_read es r) (dro
 PlaceAnswers es InCode.Over p = (a : Option AnswerTrees) × IsIgnoring a [] p
 PlaceAnswers es place p = ⊥
 
--- the answers of these questions, the newest first, in the order in which they came
+-- the results of these nested goals, given with the newest first, in the order in which they came
 abbrev pub answers_in : List (NestedQuestion × Option AnswerTrees) → List (Option AnswerTrees)
 answers_in [] = []
 answers_in (t ∷ told) = answers_in told ++ t.1 ∷ []
@@ -55,7 +55,7 @@ module _ (h : Handled frame_tables) where
   abbrev pub frame_with : ℕ → List (Considered (workings frame_tables)) → Frame NestedQuestion (Option AnswerTrees)
   frame_with fuel seen = frame (workings frame_tables) FIXPOINT_STEP_LIMIT h.begin h.next fuel seen
 
-  -- a history of the handler that shows these candidates, and how many there may be still
+  -- a history of the handler that shows these candidates, and the greatest number of further ones
   pub record Past (xs : List ShownCandidate) : Type 0 where
     pub seen : List (Considered (workings frame_tables))
     pub shows : Shows xs seen
@@ -65,18 +65,18 @@ module _ (h : Handled frame_tables) where
     pub heard : Heard
     pub numbers_are : numbers heard ≡ used_numbers (workings frame_tables) seen
 
-  -- the frame asks its handler what comes next
+  -- the frame calls its handler
   pub record IsBetween (xs : List ShownCandidate) (p : FrameStanding) : Type 0 where
     pub past : Past xs
     pub gone : List ℕ
     pub at : p ≡ between past.heard gone (frame_with (suc past.fuel) past.seen)
 
-  -- the handler wants this candidate to be considered
+  -- the handler requests this candidate
   pub record IsNextCandidate (xs : List ShownCandidate) (s : Spec (workings frame_tables)) : Type 0 where
     pub past : Past xs
     pub is : h.next past.seen ≡ consider s
 
-  -- then it goes on with the candidate's result and number
+  -- then it continues with the candidate's result and number
   abbrev pub with_result : {xs : List ShownCandidate} → {s : Spec (workings frame_tables)} → IsNextCandidate xs s → Option AnswerTrees → ℕ → Frame NestedQuestion (Option AnswerTrees)
   with_result {s = s} n a m = frame_with n.past.fuel (record { spec = s; response = a; number = m } ∷ n.past.seen)
 
@@ -91,7 +91,7 @@ module _ (h : Handled frame_tables) where
     pub replies_are : answers_in told ≡ replies
     pub at : p ≡ inside next.past.heard told (after (candidate_of s) replies) (with_result next)
 
-  -- and it waits at a question
+  -- and it waits for a nested goal
   pub record WaitsAtQuestion (xs : List ShownCandidate) (s : Spec (workings frame_tables)) (replies : List (Option AnswerTrees)) (p : FrameStanding) : Type 0 where
     pub inside : IsInside xs s replies p
     pub question : NestedQuestion
@@ -105,8 +105,8 @@ module _ (h : Handled frame_tables) where
     pub told : List (NestedQuestion × Option AnswerTrees)
     pub at : p ≡ inside next.past.heard told (done a) (with_result next)
 
-  -- a candidate of a goal with variables of these kinds, from this source, and replies to its questions: as frames have it, and as
-  -- evaluations do
+  -- A candidate of a goal with variables of these kinds, from this source, with replies to its nested goals: in a frame, and in
+  -- an evaluation.
   pub record Opened (kinds : List CanonicalVarKind) (source : CandidateSource) : Type 0 where
     pub spec : Spec (workings frame_tables)
     pub source_is : spec.source ≡ source
@@ -116,19 +116,19 @@ module _ (h : Handled frame_tables) where
     pub fit : Every AnswerFits replies
 
   module _ (es : List Entry) (goal : CanonicalInput) (xs : List ShownCandidate) where
-    -- the open candidate waits, where it does after the replies to its questions
+    -- the open candidate waits where it waits after the replies to its nested goals
     pub record IsWaiting (source : CandidateSource) (waiting : OpenCandidate) (p : FrameStanding) : Type 0 where
       pub opened : Opened goal.variables.items source
       pub replayed : IsReplayed goal.mode goal.variables.items opened.evaluated es opened.replies waiting
       pub asking : WaitsAtQuestion xs opened.spec opened.replies p
 
-    -- it came to this, as its evaluation does after these replies
+    -- it has this result, which is that of its evaluation with these replies
     pub record ComesTo (source : CandidateSource) (step : Result CandidateStep EvalError) (p : FrameStanding) : Type 0 where
       pub opened : Opened goal.variables.items source
       pub ends : EndsAsReplayed goal.mode goal.variables.items opened.evaluated es opened.replies step
       pub inside : IsInside xs opened.spec opened.replies p
 
-    -- the position of a frame that has begun is at this place, after these candidates
+    -- the position of a started frame is in this state, after these candidates
     abbrev pub PositionStands : Place → FrameStanding → Type 0
     PositionStands (InCode.Entering s) p = IsEntering xs (spec_read es h.coinductive s) p
     PositionStands (InCode.Inside source waiting) p = IsWaiting source waiting p

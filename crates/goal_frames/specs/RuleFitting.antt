@@ -1,4 +1,4 @@
--- The candidates of a list of rules fit the table of their frame, so that code can evaluate them.
+-- The candidates of a list of rules fit the table of their frame, so code can evaluate them.
 use Rattle.std.specs.Prelude.{List}
 use Rattle.type_terms.specs.Promised.Label.{Label}
 use Rattle.infer_table.specs.Canonical.{CanonicalForm}
@@ -13,11 +13,11 @@ use Rattle.goal_evaluator.specs.Fitting.{AreOver, IsGoalOver, IsValueOver}
 use Rattle.goal_frames.specs.Rules.{RuleBook, AreRules}
 use Rattle.goal_frames.specs.Handlers.{bare_goal, candidates_of}
 
--- what the canonical variables of a candidate's terms stand for: those of the goal, and behind them the candidate's own
+-- the values of the canonical variables in a candidate's terms: those of the goal, then the candidate's own
 abbrev pub slots_of : List CanonicalVarKind → List CanonicalVarKind → List Label
 slots_of kinds own = (fresh (begin kinds) own).labels
 
--- its terms speak of these variables alone
+-- its terms contain only these variables
 pub record IsOverSlots (labels : List Label) (c : Spec (workings frame_tables)) : Type 0 where
   pub equations : Every (λ (e : Equation). IsValueOver labels e.left × IsValueOver labels e.right) c.equations
   pub constraints : AreOver labels c.regions

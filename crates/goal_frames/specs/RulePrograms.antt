@@ -1,4 +1,4 @@
--- Lists of rules over trees as programs: a context declares the list.
+-- Lists of rules over terms as programs. The context declares the list.
 use Rattle.std.specs.Prelude.{ℕ, Bool, List}
 use Rattle.goal_evaluator.specs.Lists.{Every}
 use Rattle.goal_frames.specs.Rules.{FrameRule, RuleBook, IsRule, is_coinductive, FollowsByRule}
@@ -6,7 +6,7 @@ use Rattle.goal_frames.specs.Handlers.{handled_by}
 use Rattle.goal_frames.specs.Meanings.{Goals}
 use Rattle.goal_frames.specs.HandlerPrograms.{HandlersArePrograms}
 
--- rules as they are to be
+-- well-formed rules
 pub record DeclaredRules : Type 0 where
   pub rules : List FrameRule
   pub made : Every IsRule rules

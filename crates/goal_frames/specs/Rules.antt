@@ -1,4 +1,4 @@
--- Lists of rules over trees, and what they prove.
+-- Lists of rules over terms, and what they prove.
 use Rattle.std.specs.Prelude.{◌≡◌, ℕ, Bool, true, false, List, map, Option, Some, None}
 use Rattle.type_terms.specs.Promised.Label.{Sort, param, placeholder, canonical, of_trait, predicate}
 use Rattle.type_terms.specs.Promised.Trees.{Trees, none, tree}
@@ -22,8 +22,9 @@ pub record TraitBound : Type 0 where
 abbrev pub goal_of : TraitBound → GoalTrees
 goal_of b = record { environment = none; predicate = tree (predicate (of_trait b.trait)) b.arguments none }
 
--- the head holds if the premises do, whatever its variables stand for: of these kinds, in the terms the canonical variables 0, 1, ..
--- `impl<T: Show> Show for Vec<T>` has one variable, the head `Vec<^0>: Show`, and the premise `^0: Show`
+-- The head holds if the premises do, for all values of the rule's variables, which are of these kinds and occur as the canonical
+-- variables 0, 1 and so on. For example, `impl<T: Show> Show for Vec<T>` has one variable, the head `Vec<^0>: Show`, and the
+-- premise `^0: Show`.
 pub record FrameRule : Type 0 where
   pub kinds : List CanonicalVarKind
   pub head : TraitBound
@@ -34,8 +35,8 @@ pub record RuleBook : Type 0 where
   -- by the trait's number
   pub coinductive : ℕ → Bool
 
--- ---- rules as they are to be
--- a rule's own variable is a type or a const
+-- ---- well-formed rules
+-- a rule's own variable is a type or a constant
 abbrev pub IsUnknown : CanonicalVarKind → Type 0
 IsUnknown Ty = Unit {0}
 IsUnknown Const = Unit {0}
@@ -47,7 +48,7 @@ IsUnknown Region = ⊥
 abbrev pub BoundIsOver : List CanonicalVarKind → TraitBound → Type 0
 BoundIsOver kinds b = is_made (is_variable_over kinds) terms b.arguments ≡ true
 
--- what stands in a premise stands in the head
+-- each variable of a premise occurs in the head
 abbrev pub IsDeterminedBy : TraitBound → TraitBound → Type 0
 IsDeterminedBy head premise = (k : Sort) (i : ℕ) → LabelStandsIn (canonical k i) premise.arguments → LabelStandsIn (canonical k i) head.arguments
 
@@ -60,17 +61,18 @@ pub record IsRule (r : FrameRule) : Type 0 where
 abbrev pub AreRules : RuleBook → Type 0
 AreRules book = Every IsRule book.rules
 
--- ---- what follows
+-- ---- what is proved
 abbrev pub instance_of : Bool → List Trees → TraitBound → Fact
 instance_of proper values b = record { trait = Some b.trait; goal = goal_read (given values) (goal_of b); proper = proper }
 
--- the reference is the head, with some terms for the rule's variables, and the premises are the rule's with the same terms
+-- the trait reference is the head, with terms in place of the rule's variables, and the premises are the rule's with the same
+-- terms
 pub record IsBy (f : Fact) (premises : List Fact) (r : FrameRule) : Type 0 where
   pub values : List Trees
   pub concludes : f.goal ≡ goal_read (given values) (goal_of r.head)
   pub needs : map (instance_of f.proper values) r.premises ≡ premises
 
--- no parameter and no placeholder stands in the trees
+-- no parameter and no placeholder occurs in the terms
 abbrev pub HasNoPlace : Trees → Type 0
 HasNoPlace none = Unit {0}
 HasNoPlace (tree (param k i) c o) = ⊥
@@ -82,7 +84,7 @@ pub record IsClosedFact (f : Fact) : Type 0 where
   pub predicate : HasNoPlace f.goal.predicate
 
 module _ (book : RuleBook) where
-  -- what is no reference is not coinductive
+  -- terms that are no trait reference are not coinductive
   abbrev pub is_coinductive_trait : Option ℕ → Bool
   is_coinductive_trait None = false
   is_coinductive_trait (Some i) = book.coinductive i
@@ -90,13 +92,13 @@ module _ (book : RuleBook) where
   abbrev pub is_coinductive : Fact → Bool
   is_coinductive f = is_coinductive_trait f.trait
 
-  -- improper references don't count
+  -- only for proper trait references
   abbrev pub FollowsByRule : Fact → List Fact → Type 0
   FollowsByRule f premises = f.proper ≡ true → SomeOf (IsBy f premises) book.rules
 
   abbrev pub FollowsClosed : Fact → List Fact → Type 0
   FollowsClosed f premises = IsClosedFact f × SomeOf (IsBy f premises) book.rules
 
-  -- solutions are looked for among closed references
+  -- solutions are sought among concrete trait references
   abbrev pub HasProofByBook : Fact → Type 0
   HasProofByBook f = FactHasProof Fact FollowsClosed is_coinductive f

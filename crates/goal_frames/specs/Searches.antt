@@ -1,4 +1,4 @@
--- The frames of goals as a search graph runs them: what its contexts, inputs, results and frames mean.
+-- The frames of goals in a search graph: the meaning of its contexts, inputs, results and frames.
 use Rattle.std.specs.Prelude.{◌≡◌, ◌*◌, Bool, true, false, ◌&&◌, not, List, map, Option, Some, None}
 use Rattle.search_graph.specs.declared.path_kind.PathKind.{PathKind}
 use Rattle.search_graph.specs.declared.path_kind.PathKind.TheVariants.{Unknown, Coinductive}
@@ -18,7 +18,7 @@ use Rattle.goal_evaluator.specs.History as Frames
 use Rattle.goal_evaluator.specs.Promises.{frame_of_goal}
 use Rattle.goal_frames.specs.Programs.{Programs}
 
--- ---- requests and replies, as frames and as searches have them
+-- ---- requests and replies of frames and of searches
 abbrev pub reply_of : {A : Type 0} → Reply A → Frames.Reply A
 reply_of Begin = Frames.begin
 reply_of (Result a) = Frames.evaluated a
@@ -29,7 +29,7 @@ reply_of Ignored = Frames.ignored
 abbrev pub replies_of : {A : Type 0} → List (Reply A) → List (Frames.Reply A)
 replies_of heard = map reply_of heard
 
--- each question asks a goal by a step of a kind
+-- each nested goal is a goal with a kind of step
 abbrev pub request_of : {Q G A : Type 0} → (Q → G) → (Q → PathKind) → Frames.Request Q A → Request G A
 request_of goal kind (Frames.evaluate q) = Evaluate (goal q) (kind q)
 request_of goal kind Frames.enter_candidate = EnterCandidate
@@ -41,10 +41,10 @@ abbrev pub step_kind : Bool → PathKind
 step_kind true = Coinductive
 step_kind false = Unknown
 
--- what contexts C, inputs I, results R and frames F stand for
+-- what contexts C, inputs I, results R and frames F represent
 pub record Handles (C I R F World Goal Answer : Type 0) : Type 1 where
   pub world : C → World
-  -- a table of the context holds as many entries as its limit allows
+  -- a table of the context has as many entries as its limit allows
   pub IsFull : C → Type 0
   pub IsInput : C → I → Type 0
   pub goal_of : C → I → Goal
@@ -52,12 +52,12 @@ pub record Handles (C I R F World Goal Answer : Type 0) : Type 1 where
   pub answer_of : C → R → Answer
   -- the frame was started for the goal and has had these replies, the newest first
   pub HasHeard : C → Goal → List (Reply Answer) → F → Type 0
-  -- what a context holds beside these
+  -- the rest of a context's content
   pub Held : Type 0
   pub Holds : C → Held → Type 0
 
 module _ {Question Response : Type 0} (t : Tables Question Response) where
-  -- the step to a question
+  -- the kind of the step to a nested goal
   abbrev pub kind_of : Question → PathKind
   kind_of q = step_kind (t.is_coinductive q)
 
@@ -65,36 +65,36 @@ module _ {Question Response : Type 0} (t : Tables Question Response) where
   is_yes_answer None = false
   is_yes_answer (Some r) = is_yes (operations t) r
 
-  -- unsure, and nothing else is known
+  -- `Maybe` without values and constraints
   abbrev pub is_ambiguous_answer : Option Response → Bool
   is_ambiguous_answer None = false
   is_ambiguous_answer (Some r) = not (is_certain (t.certainty r)) && not (t.has_values r) && not (t.has_regions r)
 
   module _ (p : Programs t) where
-    -- a goal in the mode in which it is asked
+    -- a goal with its typing mode
     abbrev pub GoalInMode : Type 0
     GoalInMode = p.Mode × p.Goal
 
     abbrev pub goal_in : p.Mode → Question → GoalInMode
     goal_in mode q = (mode, p.goal_of q)
 
-    -- what the frame of a goal asks after these replies
+    -- the request of the goal's frame after these replies
     abbrev pub asks : p.World → GoalInMode → List (Reply (Option Response)) → Request GoalInMode (Option Response)
     asks w g heard = request_of (goal_in g.0) kind_of (Frames.asks (frame_of_goal t (p.handled w g.0 g.1)) (replies_of heard))
 
-    -- each instance of the goal follows by a rule from instances, by terms of its own values, of these questions
+    -- each instance of the goal follows by a rule from instances of these nested goals, by terms of its own values
     abbrev pub FollowsInMode : p.World → GoalInMode → List (GoalInMode × PathKind) → Type 0
     FollowsInMode w g premises =
         (v : t.Values)
         → FollowsFrom t (p.handled w g.0 g.1)
         (IsInstance t (λ q. IsAmong (goal_in g.0 q, kind_of q) premises × (t.is_coinductive q ≡ (p.handled w g.0 g.1).coinductive)) v) v
 
-    -- each solution of the goal agrees with the answer
+    -- each solution of the goal agrees with the response
     abbrev pub CoversGoal : p.World → GoalInMode → Option Response → Type 0
     CoversGoal w g a =
         (x : (p.handled w g.0 g.1).World) (v : t.Values) → (p.handled w g.0 g.1).Proves x ((p.handled w g.0 g.1).goal v) → AgreesTo t a v
 
-    -- each solution of the goal agrees with the answer, and the answer's terms are no wider than those of the goal's frame
+    -- each solution of the goal agrees with the response, whose terms are no wider than those of the goal's frame
     pub record AnswersGoal (w : p.World) (g : GoalInMode) (a : Option Response) : Type 0 where
       pub covers : CoversGoal w g a
       pub within : AnswerWithin t (p.handled w g.0 g.1).widest a
@@ -122,7 +122,7 @@ module _ {Question Response : Type 0} (t : Tables Question Response) where
         stack_overflow = λ w g. p.overflow w g.0 g.1;
         fixpoint_overflow = λ w g. p.overflow w g.0 g.1;
         Covers = AnswersGoal;
-        -- how many questions the goal's frame asks at most; how wide an answer is stands in what it covers
+        -- The greatest number of nested goals of the goal's frame. The width of a response is part of what it covers.
         number_of = λ w g. FIXPOINT_STEP_LIMIT * (p.handled w g.0 g.1).number;
         number_in = λ w a. 0;
       }

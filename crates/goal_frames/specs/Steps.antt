@@ -1,4 +1,4 @@
--- How many steps a frame has left, by what its handler means for its goal.
+-- The number of steps that a frame can still take, by its handler's meaning for its goal.
 use Rattle.std.specs.Prelude.{ℕ, suc, ◌+◌, ◌-◌, ◌*◌, ◌<◌, ◌≤◌, length, List, Option}
 use Rattle.type_terms.specs.Promised.Handles.{Entry}
 use Rattle.infer_table.specs.declared.input.CanonicalInput.{CanonicalInput}
@@ -15,18 +15,20 @@ use Rattle.goal_frames.specs.declared.frame.GoalFrame.{GoalFrame}
 use Rattle.goal_frames.specs.declared.frame.Place.{Place}
 use Rattle.goal_frames.specs.declared.frame.Place.TheVariants as InCode
 
--- a candidate that is entered asks no more questions than its nested goals are asked in all rounds, and one that goes on fewer than before
+-- A candidate that is entered requests at most as many responses as all rounds have nested goals. A resumed one can request fewer
+-- than before.
 abbrev pub AsksFewer : Place → Place → Type 0
 AsksFewer (InCode.Entering s) (InCode.Inside source waiting) = questions_left waiting ≤ FIXPOINT_STEP_LIMIT * length s.nested_goals.items
 AsksFewer (InCode.Inside source before) (InCode.Inside other waiting) = questions_left waiting < questions_left before
 AsksFewer before place = Unit {0}
 
 module _ (h : Handled frame_tables) where
-  -- a frame asks no more questions
+  -- the greatest number of nested goals of a frame
   abbrev pub most_questions : ℕ
   most_questions = FIXPOINT_STEP_LIMIT * h.number
 
-  -- once so many candidates are finished: each further one is entered, gets its replies and is finished, and each may be ignored
+  -- After `considered` finished candidates. Each further candidate is entered, gets its replies and is finished, and each may be
+  -- ignored.
   abbrev pub steps_after : ℕ → ℕ
   steps_after considered = (h.candidates - considered) * (most_questions + 2) + h.candidates
 
@@ -38,11 +40,11 @@ module _ (h : Handled frame_tables) where
   steps_at considered (InCode.Ignoring r numbers at) = length numbers.items - at
   steps_at considered InCode.Over = 0
 
-  -- the frame takes no more steps
+  -- the greatest number of steps that the frame can still take
   abbrev pub steps_left : GoalFrame → ℕ
   steps_left f = steps_at (length f.considered.items) f.place
 
-  -- with each step it has fewer left, as its open candidate asks fewer questions
+  -- each step decreases it, as the open candidate can request fewer responses
   abbrev pub StepsFall : Type 0
   StepsFall =
       (old new : List Entry) (before after : GoalFrame) (reply : Reply (Option AnswerTrees)) (q : Request CanonicalInput (Option CanonicalResponse))

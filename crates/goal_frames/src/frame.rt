@@ -27,35 +27,35 @@ use std::mem;
 use type_terms::Fault;
 use type_terms::interner::Interner;
 
-/// Where a frame stands.
+/// The state of a frame.
 #[derive(Drop)]
 enum Place {
     /// It has had no reply.
     Begun,
-    /// It has asked to enter this candidate.
+    /// It has requested to enter this candidate.
     Entering(CandidateSpec),
-    /// The open candidate, from this source, waits for the reply to its question.
+    /// The open candidate, from this source, waits for the response to a nested goal.
     Inside(CandidateSource, OpenCandidate),
-    /// The open candidate, from this source, ended so.
+    /// The open candidate, from this source, has this result.
     Finishing(CandidateSource, Option<CanonicalResponse>),
-    /// The answer, the candidates that are ignored, and the place of the one that the frame has asked to ignore.
+    /// The result, the numbers of the candidates to ignore, and the index of the one that the frame has requested to ignore.
     Ignoring(Option<CanonicalResponse>, Vec<usize>, usize),
-    /// It has answered.
+    /// It has returned its result.
     Over,
 }
 
-/// A goal that is being evaluated: it considers its handler's candidates one after the other, and then answers as the handler says.
+/// The evaluation of one goal. It evaluates its handler's candidates one after another, and then returns the handler's result.
 ///
-/// A candidate that is open goes on in its own table with each reply, and no reply is read twice. What a frame asks is a function of its
-/// goal and of the replies that it has had, as trees: no handle decides anything.
+/// An open candidate continues in its own table with each reply, and no reply is applied twice. The frame's requests are a
+/// function of its goal and its replies as terms: handles do not matter.
 pub struct GoalFrame {
     goal: CanonicalInput,
-    /// The candidates that are finished, the oldest first.
+    /// The finished candidates, the oldest first.
     considered: Vec<Considered>,
     place: Place,
 }
 
-// Written, so that what owns one drops it by one call at each way out, and not field by field.
+// Hand-written so that the prover sees one drop call: docs/PROVING.md#drop.
 impl Drop for GoalFrame {
     fn drop(self) {
         let GoalFrame {
@@ -66,7 +66,8 @@ impl Drop for GoalFrame {
     }
 }
 
-/// The kind of the step to a nested goal: coinductive exactly if the asking goal's trait is and the goal is a premise.
+/// The kind of the step to a nested goal. It is coinductive exactly if the goal is a premise and the trait of the frame's goal is
+/// coinductive.
 fn kind_of_step(coinductive: bool, source: GoalSource) -> PathKind
     ensures { result ≡ step_kind (is_coinductive_step coinductive source) }
 {
@@ -76,7 +77,7 @@ fn kind_of_step(coinductive: bool, source: GoalSource) -> PathKind
     }
 }
 
-/// How sure a response is; none where there is none.
+/// The certainty of a response, if there is one.
 fn certainty_of(response: &Option<CanonicalResponse>) -> Option<Certainty>
     ensures { result ≡ option_map (λ r. r.certainty) response.now }
 {
@@ -87,7 +88,7 @@ fn certainty_of(response: &Option<CanonicalResponse>) -> Option<Certainty>
 }
 
 impl GoalFrame {
-    /// The frame of a goal, which has had no reply.
+    /// The frame of a goal, without replies.
     pub fn new<H: GoalHandler>(alloc: Global, goal: CanonicalInput) -> GoalFrame
         ensures goal { result.goal ≡ goal }
         ensures heard { (es : List Entry) (m : H.meaning.goals.World) (mode : TypingMode) (form : CanonicalForm) → GoalHeld es goal.goal
@@ -100,7 +101,7 @@ impl GoalFrame {
         }
     }
 
-    /// The candidate that the frame has asked to enter; none where it has asked for something else.
+    /// The candidate that the frame has requested to enter. `None` after any other request.
     pub fn candidate(&self) -> Option<&CandidateSpec>
         ensures { (es : List Entry) → FrameHeld es self.now → IfSome result (λ s. SpecHeld es s.now) }
     {
@@ -110,7 +111,8 @@ impl GoalFrame {
         }
     }
 
-    /// What the candidate that the frame has asked to finish came to: where it is from, and how sure its response is, none if it was refused.
+    /// The source and the certainty of the candidate that the frame has requested to finish. The certainty is `None` if the
+    /// candidate has no solution.
     pub fn outcome(&self) -> Option<(CandidateSource, Option<Certainty>)>
         ensures { IfSome result (λ found. IsFinishingWith found.0 found.1 self.now.place) }
     {
@@ -120,8 +122,8 @@ impl GoalFrame {
         }
     }
 
-    /// Gives the frame the reply that it waits for, and answers what it wants next: what the frame of the goal asks, by what its
-    /// handler means for it, after these replies. Or a fault; then the frame is not to be used any more.
+    /// Passes the reply for which the frame waits, and returns its next request. By the meaning of its handler this is the
+    /// request of the goal's frame after these replies. After a fault the frame must not be used.
     pub fn step<H: GoalHandler>(
         &mut self,
         alloc: Global,
@@ -138,9 +140,7 @@ impl GoalFrame {
         ensures steps { IfOk result (let h = goal_meaning H.meaning handler.now cx.old.entries self.old.goal in
             FrameSteps cx.old.entries h self.old (reply_read cx.old.entries reply) cx.new.entries self.new) }
 
-        // `Full` comes only where some kind of term has reached the interner's limit.
-
-        // The open candidate has fewer questions left.
+        // The open candidate can request fewer responses than before.
         ensures fewer { IfOk result (λ _. AsksFewer self.old.place self.new.place) }
     {
         match (mem::replace(&mut self.place, Place::Over), reply) {
@@ -168,7 +168,7 @@ impl GoalFrame {
         }
     }
 
-    /// Asks the handler what comes next.
+    /// Calls the handler for the next request.
     fn go_on<H: GoalHandler>(
         &mut self,
         alloc: Global,
@@ -196,7 +196,7 @@ impl GoalFrame {
         }
     }
 
-    /// What the open candidate, from this source, came to.
+    /// Continues after a step of the open candidate, from this source.
     fn go_on_with<H: GoalHandler>(
         &mut self,
         handler: &H,
@@ -222,7 +222,7 @@ impl GoalFrame {
         }
     }
 
-    /// The open candidate ended so.
+    /// The open candidate has this result.
     fn finish(
         &mut self,
         source: CandidateSource,
@@ -235,7 +235,7 @@ impl GoalFrame {
         Request::FinishCandidate
     }
 
-    /// Asks to ignore the candidate at this place of the list, and answers where there is none.
+    /// Requests to ignore the candidate at this index of the list. If there is none, returns the frame's result.
     fn ignore_from(
         &mut self,
         answer: Option<CanonicalResponse>,

@@ -1,4 +1,4 @@
-//! Handlers of goals: what the rules of goals are, for the frames that evaluate them.
+//! Handlers: the rules of goals, for the frames that evaluate them.
 
 ghost use Rattle.type_terms.specs.Growth.{GrewOrFull};
 ghost use Rattle.std.specs.Prelude.{◌≡◌, List, IfOk};
@@ -21,20 +21,19 @@ use std::alloc::Global;
 use type_terms::interner::Interner;
 use type_terms::{Fault, TraitId};
 
-/// The rules of goals, as a frame asks for them: one candidate after the other, and then the answer. The original has methods of
-/// `EvalCtxt` and `SolverDelegate` in its place.
+/// The rules of goals, as frames use them: one candidate after another, and then the result. rustc has methods of `EvalCtxt` and
+/// `SolverDelegate` instead.
 ///
-/// A handler means for each goal what its `meaning` gives of what it declares, and all that is proved of frames rests on its `lawful`:
-/// where a spec's equations hold it is a rule, the candidates that were considered cover each solution, and the answer is a merge of
-/// their responses.
+/// `meaning` gives what a handler means for each goal. All that is proved of frames rests on `lawful`: a candidate whose
+/// equations hold is a rule, the candidates cover each solution, and the result is a merge of their responses.
 pub trait GoalHandler {
-    /// What the handler's goals mean, and what it declares by its handles.
+    /// The meaning of the handler's goals, and the declarations that its handles represent.
     ghost meaning: { HandlerMeaning Self };
 
-    /// What the goal's frame is to do next, after these candidates were considered, the oldest first; or a fault.
+    /// The next request of the goal's frame after these candidates, the oldest first, or a fault.
     ///
-    /// It follows from the goal, its mode and the candidates alone. A candidate's terms speak of the goal's variables and of its
-    /// own; the values of an answer speak of its own variables.
+    /// It depends only on the goal, its typing mode and the candidates. A candidate's terms contain only the goal's variables and
+    /// its own. The values of a response contain only its own variables.
     fn step(
         &self,
         alloc: Global,
@@ -47,15 +46,15 @@ pub trait GoalHandler {
         requires done { ConsideredHeld cx.old.entries done.now }
         requires fits { ConsideredFits cx.old.entries done.now }
         requires history { HasHistory cx.old.entries (goal_meaning meaning self.now cx.old.entries goal.now) done.now }
-        // `Full` comes only where some kind of term has reached the interner's limit.
+        // `Full` is returned only if some kind of term has reached the interner's limit.
         ensures terms { GrewOrFull cx.old cx.new result }
         ensures held { IfOk result (HandlerStepHeld cx.new.entries) }
         ensures fits { IfOk result (StepFits goal.now.variables.items cx.new.entries) }
 
-        // It is what comes next in each history that the candidates show.
+        // It is the next request after each history that the candidates show.
         ensures next { IfOk result (IsNextAfter cx.old.entries (goal_meaning meaning self.now cx.old.entries goal.now) done.now cx.new.entries) };
 
-    /// Whether the trait is coinductive: a goal of it holds if it needs nothing but itself.
+    /// Whether the trait is coinductive: a goal of it may be a premise of its own proof.
     fn trait_is_coinductive(&self, def_id: TraitId) -> bool
         ensures { (es : List Entry) (mode : TypingMode) (goal : CanonicalForm) → IsOfTrait def_id.index goal
             → result ≡ (meaning.goals.handled (meaning.world self.now es) mode goal).coinductive };
@@ -63,7 +62,7 @@ pub trait GoalHandler {
     ghost lawful: { HandlerIsLawful meaning };
 }
 
-/// The frames of a handler's goals keep all that is promised of frames, and with each step they have fewer left.
+/// The promises about frames hold of a handler's frames, and each step decreases the number of remaining steps.
 pub fn frames_keep_promises<H: GoalHandler>()
     ensures yes { (m : H.meaning.goals.World) (mode : TypingMode) (goal : CanonicalForm)
         → DefiniteYesFollows frame_tables (H.meaning.goals.handled m mode goal) }
@@ -76,8 +75,8 @@ pub fn frames_keep_promises<H: GoalHandler>()
     ensures steps { (m : H.meaning.goals.World) (mode : TypingMode) (goal : CanonicalForm) → StepsFall (H.meaning.goals.handled m mode goal) }
 {}
 
-/// A handler's goals are lawful programs for a search: so what a search finds out with their frames is right, where it answers a goal
-/// that is asked under itself, too deep, or too often as these programs say.
+/// A handler's goals are lawful programs for a search. So the search's results with their frames are correct, given these
+/// programs' results for cycles and for goals that exceed a limit.
 pub fn handlers_are_programs<H: GoalHandler>()
     ensures { HandlersArePrograms H.meaning.goals }
 {}

@@ -1,4 +1,4 @@
-//! What is kept, each once.
+//! Stores goals and responses without duplicates.
 ghost use Rattle.std.specs.Prelude.{◌≡◌, ◌≤◌, ℕ, List, [], length, Some, IfOk, OnOk, OnErr, Ok, Err, true, false};
 ghost use Rattle.std.specs.List.{slice_get};
 ghost use Rattle.indexmap.specs.IndexSet.{index_set_len, insert_key, contains, spare, IsUnique};
@@ -18,7 +18,7 @@ use std::hash::Hash;
 use type_terms::Fault;
 
 impl GoalStore {
-    /// An empty store with room for `limit` goals and as many answers. It takes no memory before the first.
+    /// An empty store with room for `limit` goals and as many responses. It allocates nothing before the first.
     pub fn new(alloc: Global, limit: u32) -> GoalStore
         ensures inputs { kept_inputs result ≡ [] }
         ensures responses { kept_responses result ≡ [] }
@@ -32,11 +32,11 @@ impl GoalStore {
         }
     }
 
-    /// The number of a goal: the one that it has already, or else a new one.
+    /// The number of a goal: its existing one, or a new one.
     ///
-    /// A goal that is there is found without memory, also where the store is full. `Full` comes where there are as many
-    /// goals as the limit allows and this one is new, `Memory` where a new one needs memory that is refused; the store
-    /// then holds what it held. It takes one hash of the goal.
+    /// A stored goal is found without memory, even if the store is full. `Full` is returned if the goal is new and there are as
+    /// many goals as the limit allows, and `Memory` if memory for a new goal is refused. Then the store is unchanged. The call
+    /// computes one hash of the goal.
     pub fn keep_input(&mut self, input: CanonicalInput) -> Result<InputId, Fault>
         ensures is { IfOk result (λ id. StandsForInput self.new id input) }
         ensures goal { IfOk result (λ id. (es : List Entry) → goal_at es self.new id ≡ Some (asked_goal es input)) }
@@ -46,7 +46,7 @@ impl GoalStore {
         ensures limit { limit_of self.new ≡ limit_of self.old }
         ensures held { (es : List Entry) → GoalHeld es input.goal → StoreIsHeld es self.old → StoreIsHeld es self.new }
 
-        // A goal that is there keeps its number, and so does one that asks the same, if under other names.
+        // A stored goal has its earlier number. So does a goal that is equal up to renaming.
         ensures found { (id : InputId) → StandsForInput self.old id input → result ≡ Ok id }
         ensures known { (es : List Entry) (id : InputId) → Lawful es → StoreIsHeld es self.old → GoalHeld es input.goal
             → goal_at es self.old id ≡ Some (asked_goal es input) → result ≡ Ok id }
@@ -62,7 +62,7 @@ impl GoalStore {
         Ok(InputId(place))
     }
 
-    /// The number of an answer, as `keep_input` for a goal.
+    /// The number of a response, like `keep_input` for a goal.
     pub fn keep_response(&mut self, response: CanonicalResponse) -> Result<ResponseId, Fault>
         ensures is { IfOk result (λ id. StandsForResponse self.new id response) }
         ensures answer { IfOk result (λ id. (es : List Entry) → answer_at es self.new id ≡ Some (answer_trees es response)) }
@@ -72,7 +72,7 @@ impl GoalStore {
         ensures limit { limit_of self.new ≡ limit_of self.old }
         ensures held { (es : List Entry) → ResponseHeld es response → StoreIsHeld es self.old → StoreIsHeld es self.new }
 
-        // An answer that is there keeps its number, and so does one that says the same.
+        // A stored response has its earlier number. So does an equal one.
         ensures found { (id : ResponseId) → StandsForResponse self.old id response → result ≡ Ok id }
         ensures known { (es : List Entry) (id : _) → Lawful es → StoreIsHeld es self.old → ResponseHeld es response
             → answer_at es self.old id ≡ Some (answer_trees es response) → result ≡ Ok id }
@@ -88,7 +88,7 @@ impl GoalStore {
     }
 }
 
-/// The place of the value among those that are kept: the one that it has, or else the next.
+/// The index of the value in the store: its existing one, or the next.
 fn keep<T: Eq + Hash + Drop>(kept: &mut IndexSet<T>, limit: u32, value: T) -> Result<u32, Fault>
     requires { index_set_len kept.old ≤ limit }
     ensures is { IfOk result (λ place. (k : T) × (slice_get kept.new.keys place ≡ Some k) × (T.eq value k ≡ true)) }

@@ -10,14 +10,14 @@ ghost use Rattle.goal_frames.specs.Stores.{AskedGoal, goal_at, answer_at, HasInp
 
 use crate::store::{InputId, ResponseId};
 
-/// Numbers that are equal are the same number.
+/// Equal numbers are the same number.
 pub fn number_laws()
     ensures inputs { (i j : InputId) → (⟦<InputId as PartialEq>⟧.eq i j ≡ true) ↔ (i ≡ j) }
     ensures responses { (i j : ResponseId) → (⟦<ResponseId as PartialEq>⟧.eq i j ≡ true) ↔ (i ≡ j) }
 {}
 
-/// Over a lawful interner a goal has one number, and so has an answer. The numbers of two goals are equal exactly if a renaming
-/// carries one goal to the other.
+/// Over a lawful interner each goal has one number, and so has each response. The numbers of two goals are equal exactly if a
+/// renaming maps one goal to the other.
 pub fn distinct_laws()
     ensures inputs { (es : List Entry) (s : GoalStore) (i j : InputId) (q : AskedGoal) → Lawful es → StoreIsHeld es s → goal_at es s i ≡ Some q
         → goal_at es s j ≡ Some q → i ≡ j }
@@ -26,14 +26,14 @@ pub fn distinct_laws()
     ensures questions { NumbersTellQuestions }
 {}
 
-/// While the interner grows, what is kept stays the interner's, and numbers stand for the same goals and answers.
+/// As the interner grows, all that is stored is still of this interner, and numbers represent the same goals and responses.
 pub fn interner_laws()
     ensures held { (old new : List Entry) (s : GoalStore) → Keeps old new → StoreIsHeld old s → StoreIsHeld new s }
     ensures goals { (old new : List Entry) (s : GoalStore) (i : InputId) → Keeps old new → StoreIsHeld old s → goal_at new s i ≡ goal_at old s i }
     ensures answers { (old new : List Entry) (s : GoalStore) (i : ResponseId) → Keeps old new → StoreIsHeld old s → answer_at new s i ≡ answer_at old s i }
 {}
 
-/// While the store grows, its numbers stand for the same goals and answers.
+/// As the store grows, its numbers represent the same goals and responses.
 pub fn growth_laws()
     ensures goals { (es : List Entry) (old new : GoalStore) (i : InputId) → StoreGrows old new → HasInput old i → goal_at es new i ≡ goal_at es old i }
     ensures answers { (es : List Entry) (old new : GoalStore) (i : ResponseId) → StoreGrows old new → HasResponse old i

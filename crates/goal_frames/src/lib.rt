@@ -1,7 +1,7 @@
-//! Frames. A frame is the evaluation of one goal by a handler: it stops at each nested goal and goes on with the goal's result.
+//! Frames. A frame is the evaluation of one goal by a handler. It stops at each nested goal and continues with the goal's result.
 //!
-//! Here are what frames mean to a search, the handlers that are lists of rules over terms, and the store of goals and responses. How
-//! a frame evaluates one candidate stands in `goal_evaluator`.
+//! The crate states what frames mean to a search, and has the handlers that are lists of rules over terms and the store of goals
+//! and responses. `goal_evaluator` evaluates the candidates of a frame.
 #![tactic(auto)]
 
 mod frame;

@@ -1,4 +1,4 @@
-//! The merge of responses, as handlers answer with it.
+//! The merge of responses, for handlers.
 
 ghost use Rattle.type_terms.specs.Growth.{GrewOrFull};
 ghost use Rattle.std.specs.Prelude.{◌≡◌, IfOk};
@@ -16,11 +16,11 @@ use std::alloc::Global;
 use type_terms::Fault;
 use type_terms::interner::Interner;
 
-/// The merge of the responses to a goal with variables of these kinds, or what stands for them where there is none; no response
-/// where there are none. (`EvalCtxt::try_merge_candidates` of the original, and `flounder` behind it.)
+/// The merge of the responses to a goal with variables of these kinds. If there is no merge, it is an ambiguous response, and if
+/// there are no responses, it is `None`. rustc: `EvalCtxt::try_merge_candidates`, then `flounder`.
 ///
-/// `Full` comes where one of the interner's tables is full, `Memory` where there are more variables than numbers for them or memory
-/// is refused.
+/// `Full` is returned if one of the interner's tables is full, and `Memory` if there are more variables than numbers for them or
+/// memory is refused.
 pub fn merged(
     alloc: Global,
     cx: &mut Interner,

@@ -1,4 +1,4 @@
-//! What a number stands for, lent or as a copy.
+//! The goals and responses that numbers represent, borrowed or copied.
 ghost use Rattle.std.specs.Prelude.{◌≡◌, List, Some, IfOk, IfErr};
 ghost use Rattle.type_terms.specs.Promised.Handles.{Entry};
 ghost use Rattle.type_terms.specs.declared.Fault.TheVariants.{Memory};
@@ -12,7 +12,7 @@ use infer_table::response::CanonicalResponse;
 use type_terms::Fault;
 
 impl GoalStore {
-    /// The canonical goal that was kept under this number. It takes no memory.
+    /// The canonical goal with this number. It allocates nothing.
     pub fn input(&self, id: InputId) -> &CanonicalInput
         requires { HasInput self.now id }
         ensures is { input_at self.now id ≡ Some result.now }
@@ -24,7 +24,7 @@ impl GoalStore {
         }
     }
 
-    /// The answer with this number.
+    /// The response with this number.
     pub fn response(&self, id: ResponseId) -> &CanonicalResponse
         requires { HasResponse self.now id }
         ensures is { response_at self.now id ≡ Some result.now }
@@ -38,7 +38,7 @@ impl GoalStore {
 
     /// A copy of the goal with this number.
     ///
-    /// Its only fault is `Memory`.
+    /// The only fault is `Memory`.
     pub fn copy_input(&self, id: InputId) -> Result<CanonicalInput, Fault>
         requires { HasInput self.now id }
         ensures is { IfOk result (StandsForInput self.now id) }
@@ -50,9 +50,9 @@ impl GoalStore {
         Ok(copy)
     }
 
-    /// A copy of the answer with this number.
+    /// A copy of the response with this number.
     ///
-    /// Its only fault is `Memory`.
+    /// The only fault is `Memory`.
     pub fn copy_response(&self, id: ResponseId) -> Result<CanonicalResponse, Fault>
         requires { HasResponse self.now id }
         ensures is { IfOk result (StandsForResponse self.now id) }

@@ -6,15 +6,15 @@ use indexmap::IndexSet;
 use infer_table::input::CanonicalInput;
 use infer_table::response::CanonicalResponse;
 
-/// A canonical goal of a store, by its number there.
+/// A canonical goal, by its number in a store.
 #[derive(Clone, Copy, PartialEq, Eq, Hash)]
 pub struct InputId(pub u32);
 
-/// An answer of a store, by its number there.
+/// A response, by its number in a store.
 #[derive(Clone, Copy, PartialEq, Eq, Hash)]
 pub struct ResponseId(pub u32);
 
-/// Canonical goals and answers, each kept once.
+/// Canonical goals and responses, without duplicates.
 pub struct GoalStore {
     pub(crate) inputs: IndexSet<CanonicalInput>,
     pub(crate) responses: IndexSet<CanonicalResponse>,
@@ -25,7 +25,7 @@ pub struct GoalStore {
     ghost responses_within: { length responses.keys ≤ limit },
 }
 
-// Written, so that what owns one drops it by one call at each way out, and not field by field.
+// Hand-written so that the prover sees one drop call: docs/PROVING.md#drop.
 impl Drop for GoalStore {
     fn drop(self) {
         let GoalStore {

@@ -1,4 +1,4 @@
--- A goal without unknowns gets an answer where its premises do.
+-- A goal without inference variables has a result if its premises have.
 use Rattle.std.proofs.Common.{◌≡◌, inl, inr, ℕ, suc, Bool, true, false, List, [], ◌∷◌, map, refl, sym, ◌∙◌, ap, subst, Option, Some, None}
 use Rattle.infer_table.specs.declared.certainty.Certainty.{Certainty}
 use Rattle.goal_evaluator.specs.Lists.{Every, Pairwise}

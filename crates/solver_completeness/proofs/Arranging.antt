@@ -1,4 +1,4 @@
--- Lists in another order: what is asked of all, of some or of one at most of the rules is asked so of their premises as ways.
+-- Lists in another order: what holds of all, some or at most one of the rules holds so of their premises as rule instances.
 use Rattle.std.proofs.Common.{◌≡◌, ◌⊎◌, inl, inr, ℕ, suc, zero, ◌+◌, ◌≤◌, arith, zero-add, Bool, true, false, if◌then◌else◌, List, [], ◌∷◌, ◌++◌, map, refl, sym, ◌∙◌, ap, subst}
 use Rattle.type_terms.specs.Promised.Worlds.{World, Reference}
 use Rattle.type_terms.specs.Promised.Rules.{Rule, by_clause, by_super, same_reference, strict_supertraits, super_rules, clause_rules}

@@ -1,4 +1,4 @@
--- Small facts that the proofs of several files cite.
+-- Small facts that several files use.
 use Rattle.std.proofs.Common.{List, ◌++◌, [], ◌∷◌, ◌≡◌, refl, ap}
 use Rattle.solver_completeness.specs.FormedFacts.{AreTypeSorts}
 use Rattle.solver_completeness.specs.SolverWays.{premises_of}

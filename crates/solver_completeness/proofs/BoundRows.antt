@@ -1,4 +1,4 @@
--- The candidates by object bounds and by a `dyn` that unsizes to another select the ways by these rules.
+-- The candidates for object bounds and for upcasts of a `dyn` are the rule instances by these rules.
 use Rattle.std.proofs.Common.{◌≡◌, ◌⊎◌, inl, inr, ℕ, ◌==◌, Bool, true, false, not, ◌&&◌, if◌then◌else◌, List, [], ◌∷◌, ◌++◌, map, refl, sym, ◌∙◌, ap, subst, Some}
 use Rattle.std.specs.List.{list_all, list_any}
 use Rattle.type_terms.specs.Promised.Label.{Label, of_type, dynamic, auto_trait, param, placeholder, infer, canonical, bound}

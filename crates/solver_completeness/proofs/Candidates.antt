@@ -1,4 +1,4 @@
--- A candidate for a goal without unknowns, where no answer holds values.
+-- A candidate for a goal without inference variables, if no response has values.
 use Rattle.std.proofs.Common.{◌≡◌, ◌⊎◌, inl, inr, ℕ, suc, Bool, true, false, List, [], ◌∷◌, map, refl, sym, ◌∙◌, subst, Option, Some, None}
 use Rattle.infer_table.specs.declared.certainty.Certainty.{Certainty}
 use Rattle.infer_table.specs.declared.certainty.Certainty.TheVariants.{Yes, Maybe}

@@ -1,4 +1,4 @@
--- The candidates by where-clauses are the ways by these.
+-- The candidates of where-clauses are the rule instances by these.
 use Rattle.std.proofs.Common.{◌≡◌, ◌==◌, Bool, true, false, not, ◌&&◌, ◌||◌, if◌then◌else◌, List, [], ◌∷◌, refl, sym, ◌∙◌, ap, subst, Some}
 use Rattle.type_terms.specs.Promised.Label.{Label, of_type, of_const, of_lifetime, dynamic, principal, auto_trait, infer, param, placeholder, canonical, bound, static, of_trait, predicate}
 use Rattle.type_terms.specs.Promised.Trees.{Trees, none, tree, sort_of}

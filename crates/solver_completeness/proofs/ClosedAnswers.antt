@@ -1,4 +1,4 @@
--- What the solver's search answers in coherence to closed references without where-clauses, in the model's words.
+-- The result of the solver's search in coherence for concrete trait references without where-clauses, in promised terms.
 use Rattle.std.proofs.Common.{◌≡◌, ◌&&◌, ℕ, zero, suc, Bool, true, false, List, [], ◌∷◌, inl, inr, map, refl, sym, ◌∙◌, ap, subst, Option, Some, None, if◌then◌else◌}
 use Rattle.std.specs.List.{flat_map}
 use Rattle.type_terms.specs.Promised.Worlds.{World, Reference}

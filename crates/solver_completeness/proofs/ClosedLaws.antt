@@ -1,4 +1,4 @@
--- The tables of frames keep the laws for goals without unknowns.
+-- The tables of frames are lawful for goals without inference variables.
 use Rattle.std.proofs.Common.{◌≡◌, ℕ, zero, suc, ◌+◌, arith, true, false, List, [], ◌∷◌, map, refl, sym, ◌∙◌, ap, Option, Some, None, if◌then◌else◌}
 use Rattle.type_terms.specs.Promised.Label.{Sort, of_type, of_const, of_lifetime, placeholder}
 use Rattle.type_terms.specs.Promised.Trees.{Trees, leaf, is_sort}

@@ -1,5 +1,5 @@
--- The questions of nested goals that a goal without unknowns determines: they have no unknowns, and their placeholders stand for
--- different places.
+-- The canonical forms of nested goals that a goal without inference variables determines: they have no inference variables, and
+-- their placeholders have different values.
 use Rattle.std.proofs.Common.{◌≡◌, ℕ, zero, suc, Bool, true, false, ◌||◌, List, [], ◌∷◌, ◌++◌, map, refl, sym, ◌∙◌, ap, subst, Some, None, if◌then◌else◌, is_some, inl, inr}
 use Rattle.type_terms.specs.Promised.Label.{Label, Sort, of_type, of_const, of_lifetime, infer, param, placeholder, static}
 use Rattle.type_terms.specs.Promised.Trees.{Trees, none, tree, leaf, ◌+++◌, is_sort}

@@ -1,4 +1,4 @@
--- The frame of a list of candidates: it considers the first ones, or all, and then an answer is made of their responses.
+-- The frame of a list of candidates: it evaluates the first ones, or all, and then its result is made of their responses.
 use Rattle.std.proofs.Common.{◌≡◌, ◌<◌, ℕ, zero, suc, arith, List, [], ◌∷◌, ◌++◌, length, refl, sym, ◌∙◌, ap, subst, Option}
 use Rattle.goal_evaluator.specs.Lists.{Every, Pairwise}
 use Rattle.goal_evaluator.specs.Frame.{Frame}

@@ -1,4 +1,4 @@
--- The candidates by calls, and by arrays, structs and other types that unsize, are the ways by these rules.
+-- The candidates for calls, and for `Unsize` of arrays, structs and other types, are the rule instances by these rules.
 use Rattle.std.proofs.Common.{◌≡◌, ℕ, ◌==◌, Bool, true, false, not, ◌&&◌, ◌||◌, if◌then◌else◌, List, [], ◌∷◌, ◌++◌, map, ◌⊎◌, inl, inr, refl, sym, ◌∙◌, ap, subst, Some}
 use Rattle.std.specs.List.{flat_map, list_all}
 use Rattle.type_terms.specs.Promised.Label.{Label, of_type, tuple, dynamic, array, slice, adt, fn_ptr, param, placeholder, infer, canonical, bound}

@@ -1,4 +1,4 @@
--- Candidates of a goal without unknowns that equate lists of terms: they apply where both lists are read as one, and else refuse.
+-- Candidates of a goal without inference variables that equate lists of terms: they apply if both lists have the same value.
 use Rattle.std.proofs.Common.{◌≡◌, ℕ, suc, ◌==◌, Bool, true, false, ◌&&◌, if◌then◌else◌, List, [], ◌∷◌, ◌++◌, map, ◌⊎◌, inl, inr, refl, sym, ◌∙◌, ap, subst, Some}
 use Rattle.type_terms.specs.Promised.Label.{Label, of_type, of_const, canonical, param, placeholder}
 use Rattle.type_terms.specs.Promised.Trees.{Trees, none, tree, ◌+++◌}

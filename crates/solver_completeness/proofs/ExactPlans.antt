@@ -1,4 +1,4 @@
--- Plans whose candidates are the ways of a goal are exact handlers.
+-- Plans whose candidates are the rule instances of a goal are exact handlers.
 use Rattle.std.proofs.Common.{◌≡◌, ◌≤◌, ℕ, List, [], ◌∷◌, ◌++◌, length, refl, ◌∙◌, ap, subst, Option}
 use Rattle.goal_evaluator.specs.Lists.{Every}
 use Rattle.goal_evaluator.specs.Table.{Tables, workings}

@@ -1,4 +1,4 @@
--- Terms that give an impl's parameters these values, whatever the placeholders of the goal stand for.
+-- Values of an impl's parameters, for all values of the goal's placeholders.
 use Rattle.std.proofs.Common.{◌≡◌, ℕ, suc, ◌+◌, true, List, [], ◌∷◌, map, length, refl, sym, ◌∙◌, ap, Some}
 use Rattle.type_terms.specs.Promised.Label.{Sort, of_type, of_const, of_lifetime, infer}
 use Rattle.type_terms.specs.Promised.Trees.{Trees, leaf, sort_of}

@@ -1,4 +1,4 @@
--- Decided goals of formed facts lead to no others: so what is shown of such sets holds of them.
+-- Decided goals with well-formed facts are closed under nested goals, so the results for such sets apply.
 use Rattle.std.proofs.Common.{Bool, Option}
 use Rattle.infer_table.specs.Canonical.{CanonicalForm}
 use Rattle.infer_table.specs.declared.certainty.TypingMode.{TypingMode}

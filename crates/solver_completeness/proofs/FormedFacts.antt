@@ -1,4 +1,4 @@
--- What a view makes of a formed reference is formed: so formed facts are kept along ways.
+-- A view makes well-formed trait references of well-formed ones, so premises of well-formed facts are well-formed.
 use Rattle.std.proofs.Common.{◌≡◌, ℕ, zero, suc, ◌==◌, Bool, true, false, not, ◌&&◌, ◌||◌, List, [], ◌∷◌, ◌++◌, map, length, ◌⊎◌, inl, inr, refl, sym, ◌∙◌, ap, subst, if◌then◌else◌}
 use Rattle.std.specs.List.{flat_map, list_all, list_any}
 use Rattle.type_terms.specs.Promised.Label.{Label, Sort, of_type, of_const, of_lifetime, never, uint, param, placeholder, infer, canonical, bound, value, static, bool, char, int, str, array, slice, tuple, dynamic, adt, fn_ptr, ref, raw_pointer, principal, auto_trait}

@@ -1,4 +1,4 @@
--- The terms of a decided goal whose fact is formed have the sorts that are declared.
+-- The terms of a decided goal with a well-formed fact have the declared kinds.
 use Rattle.std.proofs.Common.{if◌then◌else◌, ◌≡◌, Bool, true, false, not, ◌||◌, List, ◌∷◌, map, refl, sym, ◌∙◌, ap, subst}
 use Rattle.type_terms.specs.Promised.Label.{Label, Sort, of_type, of_const, of_lifetime, param, placeholder, infer, canonical, bound, static, dynamic, fn_ptr, principal, auto_trait, predicate}
 use Rattle.type_terms.specs.Promised.Trees.{Trees, none, tree, leaf, ◌+++◌, erase_label, sort_of, is_sort}

@@ -1,4 +1,4 @@
--- Instances of what is declared, by arguments of the parameters' sorts, are formed as declarations ask.
+-- Instances of declarations, by arguments of the parameters' kinds, are well-formed.
 use Rattle.std.proofs.Common.{◌≡◌, ℕ, zero, suc, ◌==◌, Bool, true, false, not, ◌&&◌, ◌||◌, List, [], ◌∷◌, ◌++◌, map, refl, sym, ◌∙◌, ap, subst}
 use Rattle.type_terms.specs.Promised.Label.{Label, Sort, of_type, of_const, of_lifetime, param, placeholder, infer, canonical, bound, inside, static, array, slice, tuple, dynamic, adt, fn_ptr, ref, raw_pointer, principal, auto_trait, of_trait, predicate}
 use Rattle.type_terms.specs.Promised.Trees.{Trees, none, tree, leaf, ◌+++◌, nth, shift, instantiate, is_sort, sort_of, some_node}

@@ -1,4 +1,4 @@
--- Views that pass the test are formed.
+-- Views that pass the test are well-formed.
 use Rattle.std.proofs.Common.{◌≡◌, ◌==◌, ℕ, zero, suc, Bool, true, false, ◌&&◌, ◌||◌, not, List, [], ◌∷◌, refl, ap, subst}
 use Rattle.std.specs.List.{list_all}
 use Rattle.type_terms.specs.Promised.Label.{Label, Sort, of_type, adt, tuple, fn_ptr, raw_pointer, ref, array, slice, dynamic, principal, auto_trait, of_trait, predicate, param}

@@ -1,4 +1,4 @@
--- Formed facts can be asked, and are kept along ways.
+-- Well-formed facts can be goals, and their premises are well-formed.
 use Rattle.std.proofs.Common.{◌≡◌, ◌==◌, Bool, true, false, not, ◌||◌, List, [], ◌∷◌, ◌++◌, map, refl, ◌∙◌, ap, if◌then◌else◌}
 use Rattle.type_terms.specs.Promised.Label.{Label, Sort, of_type, dynamic, adt, principal, auto_trait, of_trait, predicate}
 use Rattle.type_terms.specs.Promised.Trees.{Trees, none, tree, is_sort, some_node}

@@ -1,4 +1,4 @@
--- The answer of a search to a goal without unknowns, from what it promises of plain recursion.
+-- The result of a search for a goal without inference variables, from its promises about plain recursion.
 use Rattle.std.proofs.Common.{◌≤◌, ℕ, zero, suc, List, [], ◌∷◌, subst, Option, arith}
 use Rattle.search_graph.specs.declared.delegate.Request.{Request}
 use Rattle.search_graph.specs.declared.delegate.Request.TheVariants.{Evaluate, EnterCandidate, FinishCandidate, IgnoreCandidate, Done}

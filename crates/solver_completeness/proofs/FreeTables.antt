@@ -1,4 +1,4 @@
--- A table of a goal without unknowns has solutions, whatever stands for the goal's placeholders and for an unknown.
+-- A table of a goal without inference variables has solutions, for all values of the goal's placeholders and of one variable.
 use Rattle.std.proofs.Common.{◌≡◌, ℕ, Bool, true, false, ◌&&◌, List, [], ◌∷◌, map, refl, sym, ◌∙◌, ap, Some, if◌then◌else◌, inl, inr}
 use Rattle.type_terms.specs.Promised.Label.{Label, Sort, of_type, of_const, of_lifetime, infer, bool, value}
 use Rattle.type_terms.specs.Promised.Trees.{Trees, none, leaf, sort_of}

@@ -1,4 +1,4 @@
--- The questions of facts that can be asked, where ways keep to such facts, lead to no others.
+-- The canonical goals of facts that are closed under premises are closed under nested goals.
 use Rattle.std.proofs.Common.{◌≡◌, Bool, true, false, List, [], ◌∷◌, map, length, refl, sym, ◌∙◌, ap, subst, Some, if◌then◌else◌}
 use Rattle.type_terms.specs.Promised.Worlds.{World, Reference}
 use Rattle.type_terms.specs.Promised.Rules.{is_coinductive}

@@ -1,4 +1,4 @@
--- Plain recursion over goals without unknowns, by induction on the length of chains.
+-- Plain recursion over goals without inference variables, by induction on the length of chains.
 use Rattle.std.proofs.Common.{◌≡◌, ◌⊎◌, inl, inr, ℕ, ◌<◌, ◌≤◌, arith, zero, suc, ◌++◌, true, false, List, [], ◌∷◌, length, refl, sym, ◌∙◌, ap, subst, Option, Some, None}
 use Rattle.infer_table.specs.declared.certainty.Certainty.{Certainty}
 use Rattle.infer_table.specs.declared.certainty.Certainty.TheVariants.{Yes}

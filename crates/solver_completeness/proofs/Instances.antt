@@ -1,4 +1,4 @@
--- Terms for the variables of a goal without unknowns, and candidates without variables of their own at these.
+-- Values of the variables of a goal without inference variables, and candidates without variables of their own at these values.
 use Rattle.candidate_model.specs.Meaning.{ViewMeaning}
 use Rattle.std.proofs.Common.{◌≡◌, ℕ, Bool, true, ◌&&◌, List, [], ◌∷◌, map, ◌⊎◌, inl, inr, refl, sym, ◌∙◌, ap, subst, Some}
 use Rattle.type_terms.specs.Promised.Label.{of_type, of_const, of_lifetime, canonical, param, placeholder}

@@ -1,4 +1,5 @@
--- What is knowable of a goal without unknowns is knowable of its instance, and the unknowable candidate is one way more.
+-- If a goal without inference variables is knowable, so is its instance. Otherwise the candidate for that is one more rule
+-- instance.
 use Rattle.std.proofs.Common.{◌≡◌, ◌⊎◌, inl, inr, ℕ, ◌==◌, Bool, true, false, not, ◌&&◌, ◌||◌, if◌then◌else◌, List, [], ◌∷◌, ◌++◌, refl, ◌∙◌, ap, Option, Some, None}
 use Rattle.std.specs.List.{list_all, list_any}
 use Rattle.type_terms.specs.Promised.Label.{Label, of_type, of_const, of_lifetime, ref, adt, dynamic, static, value, principal, auto_trait, predicate, param, placeholder, infer, canonical, bound}

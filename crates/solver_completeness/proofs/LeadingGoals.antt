@@ -1,4 +1,4 @@
--- The questions that lead to good goals alone lead to no others.
+-- The canonical goals whose nested goals are all good are closed under nested goals.
 use Rattle.std.proofs.Common.{◌≡◌, ℕ, suc, Bool, List, [], ◌∷◌, map, sym, ◌∙◌, subst, Some}
 use Rattle.infer_table.specs.Canonical.{CanonicalForm}
 use Rattle.infer_table.specs.declared.certainty.TypingMode.{TypingMode}

@@ -1,4 +1,4 @@
--- Lists of candidates that are considered one after the other are exact handlers.
+-- Lists of candidates that are evaluated one after another are exact handlers.
 use Rattle.std.proofs.Common.{◌≡◌, Bool, false, List, [], ◌∷◌, length, refl, ◌∙◌, ap, Option}
 use Rattle.infer_table.specs.declared.certainty.Certainty.{Certainty}
 use Rattle.goal_evaluator.specs.Lists.{Every}

@@ -1,4 +1,4 @@
--- The merge of the responses of candidates for a goal without unknowns.
+-- The merge of the responses of candidates for a goal without inference variables.
 use Rattle.std.proofs.Common.{◌≡◌, Bool, true, false, List, [], ◌∷◌, ◌++◌, map, refl, Option, Some, None, find, if◌then◌else◌}
 use Rattle.infer_table.specs.declared.certainty.Certainty.{Certainty}
 use Rattle.infer_table.specs.Certainties.{all_joined, unsettled}

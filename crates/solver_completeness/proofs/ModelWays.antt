@@ -1,4 +1,4 @@
--- What is possible, decided, bounded and proved by rules is so by ways.
+-- What is possible, unambiguous, bounded or proved by rules is so by rule instances.
 use Rattle.std.proofs.Common.{◌≡◌, ℕ, zero, suc, Bool, true, false, not, ◌&&◌, ◌||◌, List, [], ◌∷◌, ◌++◌, map, refl, sym, ap, subst, ◌⊎◌, inl, inr, if◌then◌else◌, append_assoc}
 use Rattle.std.specs.List.{flat_map, list_all, list_any}
 use Rattle.type_terms.specs.Promised.Worlds.{World, Reference}

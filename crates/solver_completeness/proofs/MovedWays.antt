@@ -1,4 +1,4 @@
--- What ways of one kind that are those of another keep.
+-- What is preserved from rule instances of one kind to those of another.
 use Rattle.std.proofs.Common.{◌≡◌, ℕ, zero, suc, List, [], ◌∷◌, map, sym, subst, inl, inr}
 use Rattle.goal_evaluator.specs.Lists.{Every, SomeOf}
 use Rattle.solver_completeness.specs.Ways.{AtMostOneHolds, HasShortChains, IsPossible, HasOneWayWithin, HoldsByWays}

@@ -1,4 +1,4 @@
--- What holds of all premises of the ways that the candidates are holds of their nested goals.
+-- What holds of all premises of the rule instances that the candidates are holds of their nested goals.
 use Rattle.std.proofs.Common.{◌≡◌, List, [], ◌∷◌, sym, ◌∙◌, subst}
 use Rattle.goal_evaluator.specs.Lists.{Every}
 use Rattle.goal_evaluator.specs.Table.{Tables, workings}

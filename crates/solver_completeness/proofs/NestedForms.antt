@@ -1,4 +1,4 @@
--- The question of a nested goal is decided where what the goal is read as can be asked.
+-- The canonical form of a nested goal is decided if its instances can be goals.
 use Rattle.std.proofs.Common.{◌≡◌, ℕ, Bool, true, false, not, ◌&&◌, ◌||◌, ◌==◌, List, [], ◌∷◌, map, inl, inr, refl, sym, ◌∙◌, ap, subst, Some, if◌then◌else◌, is_some}
 use Rattle.std.specs.Prelude.{IsSome}
 use Rattle.type_terms.specs.Promised.Label.{Label, Sort, of_type, of_const, of_lifetime, infer, param, placeholder, canonical, bound, value, static, of_trait, predicate}

@@ -1,4 +1,4 @@
--- What is elaborated stands once.
+-- Elaboration has no duplicates.
 use Rattle.std.proofs.Common.{◌≡◌, ◌⊎◌, inl, inr, ℕ, zero, suc, Bool, true, false, ◌||◌, if◌then◌else◌, List, [], ◌∷◌, ◌++◌, length, refl, sym, ◌∙◌, subst}
 use Rattle.type_terms.specs.Promised.Worlds.{World, Reference}
 use Rattle.type_terms.specs.Promised.Rules.{same_reference, written_supertraits}

@@ -1,4 +1,4 @@
--- The requests of lawful programs come in order, whatever is answered.
+-- The requests of lawful programs come in order, whatever the replies.
 use Rattle.std.proofs.Common.{◌≡◌, List, [], ◌∷◌, refl, sym, ap, subst, Option}
 use Rattle.search_graph.specs.declared.delegate.Request.TheVariants.{Evaluate, EnterCandidate, FinishCandidate, IgnoreCandidate, Done}
 use Rattle.search_graph.specs.declared.delegate.Request.{Request}

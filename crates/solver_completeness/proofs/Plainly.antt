@@ -1,4 +1,4 @@
--- Plain recursion over the requests of a frame is a play of the frame.
+-- Plain recursion over the requests of a frame is a run of the frame.
 use Rattle.std.proofs.Common.{◌≡◌, ℕ, List, [], ◌∷◌, length, refl, sym, ◌∙◌, ap, subst}
 use Rattle.search_graph.specs.declared.path_kind.PathKind.{PathKind}
 use Rattle.search_graph.specs.declared.delegate.Request.{Request}

@@ -1,4 +1,4 @@
--- Scripts that end, one after the other.
+-- The ends of scripts, one after another.
 use Rattle.std.proofs.Common.{refl, subst, sym}
 use Rattle.goal_evaluator.specs.Script.{Script, done, ask, followed}
 use Rattle.solver_completeness.specs.Plays.{Ends}

@@ -1,4 +1,4 @@
--- What the solver makes of the responses outside coherence is lawful: no preference drops all of them, and the only one stays.
+-- The solver's merge of responses outside coherence is lawful: no preference drops all of them, and a single one is the result.
 use Rattle.solver_completeness.specs.Closed.{IsBare}
 use Rattle.std.proofs.Common.{◌≡◌, ◌≤◌, arith, Bool, true, false, not, ◌&&◌, ◌||◌, if◌then◌else◌, List, [], ◌∷◌, ◌++◌, length, length-append, filter, ◌⊎◌, inl, inr, refl, sym, ◌∙◌, ap, subst, Option, Some, None, is_some}
 use Rattle.infer_table.specs.Responses.{AnswerTrees}

@@ -1,4 +1,4 @@
--- Proofs as lists are by the ways of references.
+-- Proofs as lists are by the rule instances of trait references.
 use Rattle.std.proofs.Common.{◌≡◌, Bool, true, false, if◌then◌else◌, List, [], ◌∷◌, ◌++◌, refl, sym, ap, subst, inl, inr}
 use Rattle.goal_evaluator.specs.Lists.{Every, SomeOf, IsAmong}
 use Rattle.goal_evaluator.proofs.ListLaws.{SomeOf-at, Every-mono}

@@ -1,4 +1,4 @@
--- The names in terms over a table, without unknowns, are those in what is read, and to number leaves adds none.
+-- The names in a term over a table without inference variables are those in its readings. Numbering leaves adds none.
 use Rattle.std.proofs.Common.{◌≡◌, Bool, true, false, ◌||◌, ℕ, refl, sym, subst, List, is_some, if◌then◌else◌}
 use Rattle.type_terms.specs.Promised.Label.{Label, Sort, of_type, of_const, of_lifetime, infer, param, placeholder, canonical, bound, static, principal}
 use Rattle.type_terms.specs.Promised.Trees.{Trees, none, tree, ◌+++◌, erase_label, some_node}

@@ -1,4 +1,4 @@
--- Terms over a table, without unknowns, that are read as terms are made are made as terms are, without canonical variables.
+-- Terms over a table without inference variables whose readings are well-formed are well-formed, without canonical variables.
 use Rattle.std.proofs.Common.{◌≡◌, Bool, true, false, not, ◌||◌, ℕ, refl, sym, ◌∙◌, ap, subst}
 use Rattle.type_terms.specs.Promised.Label.{Label, Sort, of_type, of_const, of_lifetime, infer, param, placeholder, canonical, bound, value, static, dynamic, principal, auto_trait, predicate}
 use Rattle.type_terms.specs.Promised.Trees.{Trees, none, tree, leaf, ◌+++◌, erase_label, sort_of, is_sort, some_node}

@@ -1,4 +1,4 @@
--- The ways of facts come back as those of references.
+-- The rule instances of facts are those of their trait references.
 use Rattle.std.proofs.Common.{◌≡◌, ℕ, Bool, true, false, not, ◌&&◌, ◌||◌, if◌then◌else◌, List, [], ◌∷◌, ◌++◌, map, refl, sym, ◌∙◌, ap, None}
 use Rattle.std.specs.List.{list_any}
 use Rattle.type_terms.specs.Promised.Label.{adt, ref, dynamic, principal, param, placeholder, infer, canonical, bound}

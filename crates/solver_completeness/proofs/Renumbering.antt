@@ -1,4 +1,4 @@
--- Goals whose open leaves are numbered are made over the kinds of these leaves.
+-- Goals with numbered open leaves are well-formed over the kinds of these leaves.
 use Rattle.std.proofs.Common.{◌≡◌, ℕ, zero, suc, Bool, true, false, not, ◌||◌, List, [], ◌∷◌, map, inl, inr, refl, sym, ◌∙◌, ap, subst, Option, Some, None, if◌then◌else◌, is_some}
 use Rattle.std.specs.Prelude.{IsSome}
 use Rattle.type_terms.specs.Promised.Label.{Label, of_type, of_const, of_lifetime, infer, param, placeholder, canonical, static, dynamic, principal, auto_trait, predicate}

@@ -1,4 +1,4 @@
--- What a search is found to answer within its depth is the only answer of plain recursion in chains of one more question.
+-- The result of a search within its depth is the only result of plain recursion in chains that are one longer.
 use Rattle.std.proofs.Common.{◌+◌, Bool, List}
 use Rattle.type_terms.specs.Promised.Handles.{Entry}
 use Rattle.infer_table.specs.Canonical.{CanonicalForm}

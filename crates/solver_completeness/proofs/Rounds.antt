@@ -1,4 +1,4 @@
--- One round of nested goals without unknowns, where no answer holds values.
+-- One round of nested goals without inference variables, if no response has values.
 use Rattle.std.proofs.Common.{◌≡◌, ◌⊎◌, inl, inr, Bool, true, false, ◌||◌, List, [], ◌∷◌, refl, sym, ◌∙◌, ap, subst, Option, Some, None}
 use Rattle.goal_evaluator.specs.Lists.{Every, SomeOf, Pairwise}
 use Rattle.goal_evaluator.specs.Operations.{is_yes}

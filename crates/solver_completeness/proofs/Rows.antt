@@ -1,4 +1,4 @@
--- The candidates by built-in rules that read the outermost types alone are the ways by these rules.
+-- The candidates of built-in rules that depend only on the outermost types are the rule instances by these rules.
 use Rattle.std.proofs.Common.{◌≡◌, ℕ, Bool, true, false, ◌||◌, ◌==◌, if◌then◌else◌, List, [], ◌∷◌, map, ◌⊎◌, inl, inr, refl, sym, ◌∙◌, ap, subst, Some}
 use Rattle.type_terms.specs.Promised.Label.{Label, of_type, canonical, param, placeholder}
 use Rattle.type_terms.specs.Promised.Trees.{Trees, tree, erase_label, some_node, none}

@@ -1,4 +1,4 @@
--- Plain recursion over the frames of a list of rules is exact and right.
+-- Plain recursion over the frames of a list of rules is exact, and finds what holds.
 use Rattle.std.proofs.Common.{Option}
 use Rattle.infer_table.specs.Responses.{AnswerTrees}
 use Rattle.goal_evaluator.specs.Content.{Fact}

@@ -1,4 +1,4 @@
--- Terms that give a rule's unknowns these values, whatever stands for the placeholders of the goal.
+-- Values of a rule's variables, for all values of the goal's placeholders.
 use Rattle.std.proofs.Common.{◌≡◌, ℕ, suc, ◌+◌, true, List, [], ◌∷◌, ◌++◌, map, length, refl, sym, ◌∙◌, ap, Some, None}
 use Rattle.type_terms.specs.Promised.Label.{Label, Sort, of_type, of_const, of_lifetime, infer}
 use Rattle.type_terms.specs.Promised.Trees.{Trees, leaf, sort_of}

@@ -1,4 +1,4 @@
--- Lists of rules over trees answer exactly.
+-- Lists of rules over terms are exact.
 use Rattle.std.proofs.Common.{rules, ◌≡◌, ℕ, ◌==◌, Bool, true, false, ◌&&◌, if◌then◌else◌, List, [], ◌∷◌, map, length, refl, sym, ◌∙◌, ap, subst, Some}
 use Rattle.std.proofs.lemmas.Bool.{eqb-true, eq-eqb}
 use Rattle.type_terms.specs.Promised.Label.{Label, adt, of_trait, predicate, canonical}

@@ -1,4 +1,5 @@
--- Ways that are others but for order and repeats: lists one after the other, and one way for each of some references.
+-- Equality of rule instances up to order and duplicates: for concatenated lists, and for one rule instance for each of some trait
+-- references.
 use Rattle.std.proofs.Common.{◌≡◌, ◌⊎◌, inl, inr, ℕ, zero, suc, ◌≤◌, arith, Bool, true, false, not, ◌&&◌, ◌==◌, if◌then◌else◌, List, [], ◌∷◌, ◌++◌, map, refl, sym, ◌∙◌, ap, subst}
 use Rattle.std.specs.List.{list_any}
 use Rattle.type_terms.specs.Codes.{same}

@@ -1,4 +1,4 @@
--- What plain recursion over the solver's frames, and so a search, answers to goals without unknowns.
+-- The results of plain recursion over the solver's frames, and of a search, for goals without inference variables.
 use Rattle.std.proofs.Common.{ℕ, zero, suc, Bool, List, map, Option}
 use Rattle.type_terms.specs.Promised.Worlds.{World, Reference}
 use Rattle.type_terms.specs.Promised.Proofs.{HasProof}

@@ -1,4 +1,4 @@
--- The solver's handler is exact on sets of goals that lead to no others.
+-- The solver's handler is exact on sets of goals that are closed under nested goals.
 use Rattle.std.proofs.Common.{◌≡◌, Bool, true, List, [], map, refl, sym, subst, Some}
 use Rattle.infer_table.specs.Canonical.{CanonicalForm}
 use Rattle.infer_table.specs.Responses.{AnswerTrees}

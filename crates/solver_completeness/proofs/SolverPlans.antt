@@ -1,4 +1,4 @@
--- The solver's plans consider the candidates of a goal without unknowns as exact plans do.
+-- The solver's plans evaluate the candidates of a goal without inference variables like exact plans.
 use Rattle.infer_table.specs.declared.certainty.TypingMode.{TypingMode}
 use Rattle.std.proofs.Common.{◌≡◌, ℕ, Bool, true, false, not, ◌||◌, if◌then◌else◌, List, [], ◌∷◌, ◌++◌, map, refl, sym, ◌∙◌, ap, subst, Option, Some, None, zero, suc}
 use Rattle.type_terms.specs.Promised.Label.{of_type, canonical}

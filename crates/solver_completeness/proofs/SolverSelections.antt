@@ -1,4 +1,5 @@
--- The solver's candidates for a goal without unknowns are the ways of its instance, but for order and repeats.
+-- The solver's candidates for a goal without inference variables are the rule instances of its instance, up to order and
+-- duplicates.
 use Rattle.std.proofs.Common.{◌≡◌, arith, ◌==◌, Bool, true, false, ◌||◌, if◌then◌else◌, List, [], ◌∷◌, ◌++◌, map, refl, sym, ap, subst, Some}
 use Rattle.std.specs.List.{flat_map}
 use Rattle.type_terms.specs.Promised.Worlds.{World, Reference}

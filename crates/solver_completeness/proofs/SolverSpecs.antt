@@ -1,4 +1,4 @@
--- The solver's candidates determine their nested goals, are not too many, and are sure outside coherence.
+-- The solver's candidates determine their nested goals, are bounded in number, and are certain outside coherence.
 use Rattle.std.proofs.Common.{◌≡◌, ℕ, suc, ◌≤◌, arith, Bool, true, false, not, ◌&&◌, ◌||◌, ◌==◌, if◌then◌else◌, List, [], ◌∷◌, ◌++◌, length, refl, sym, subst, Some}
 use Rattle.std.specs.List.{flat_map}
 use Rattle.type_terms.specs.Promised.Label.{dynamic, array, slice, adt, fn_ptr}

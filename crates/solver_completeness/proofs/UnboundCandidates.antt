@@ -1,4 +1,5 @@
--- Candidates of goals in which nothing is bound ask such goals, and those by impls equate such terms.
+-- The nested goals of candidates of goals without bound variables have none either, nor have the terms that impls' candidates
+-- equate.
 use Rattle.std.proofs.Common.{◌≡◌, ℕ, zero, suc, ◌==◌, Bool, true, false, not, ◌&&◌, List, [], ◌∷◌, ◌++◌, map, length, ◌⊎◌, inl, inr, refl, subst, if◌then◌else◌}
 use Rattle.std.specs.List.{flat_map, list_all}
 use Rattle.type_terms.specs.Promised.Label.{Label, bool, char, never, int, uint, str, array, slice, tuple, dynamic, adt, fn_ptr, ref, raw_pointer, principal, auto_trait, of_trait, predicate, param, placeholder, infer, canonical, bound, Sort, of_type, of_const, of_lifetime}

@@ -1,4 +1,4 @@
--- What is asked of goals in which nothing is bound is so too, from all tables that the frame comes to.
+-- The nested goals of goals without bound variables have none either, from all tables of the frame.
 use Rattle.std.proofs.Common.{◌≡◌, ◌<◌, ℕ, Bool, true, false, not, ◌⊎◌, inl, inr, List, [], ◌∷◌, ◌++◌, map, refl, sym, ◌∙◌, ap, subst, arith, Some, if◌then◌else◌}
 use Rattle.type_terms.specs.Promised.Label.{Sort, of_type, of_const, of_lifetime, of_trait, predicate, infer}
 use Rattle.type_terms.specs.Promised.Trees.{Trees, none, some_node}

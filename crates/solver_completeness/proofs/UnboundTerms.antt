@@ -1,4 +1,4 @@
--- Terms in which no bound variable stands: what is made of them, and what stands for the unknowns of a frame's table.
+-- Terms without bound variables: operations on them, and the values of the variables of a frame's table.
 use Rattle.std.proofs.Common.{◌≡◌, ℕ, zero, suc, ◌+◌, Bool, true, false, not, ◌&&◌, List, [], ◌∷◌, ◌++◌, refl, sym, ◌∙◌, ap, subst, Option, Some, None, if◌then◌else◌, is_some}
 use Rattle.std.specs.Prelude.{option_map, option_and_then}
 use Rattle.type_terms.specs.Promised.Label.{Label, Sort, of_type, of_const, of_lifetime, infer, param, placeholder, canonical, bound, static, dynamic, principal, auto_trait, predicate, inside}

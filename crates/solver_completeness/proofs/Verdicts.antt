@@ -1,4 +1,4 @@
--- What the candidates of a goal without unknowns say together.
+-- The responses of all candidates of a goal without inference variables.
 use Rattle.std.proofs.Common.{◌≡◌, ◌⊎◌, inl, inr, ℕ, suc, Bool, true, false, ◌&&◌, not, List, [], ◌∷◌, refl, ◌∙◌, ap, Option, Some, None}
 use Rattle.infer_table.specs.declared.certainty.Certainty.{Certainty}
 use Rattle.infer_table.specs.declared.certainty.Certainty.TheVariants.{Yes}

@@ -1,4 +1,4 @@
--- Two rules, and the ways by them: `u8: Show`, and `Vec<T>: Show where T: Show`.
+-- An example of two rules and their rule instances: `u8: Show`, and `Vec<T>: Show where T: Show`.
 use Rattle.std.proofs.Common.{◌≡◌, true, List, [], ◌∷◌, refl, Some, inl, inr}
 use Rattle.type_terms.specs.Promised.Label.{of_type, adt, placeholder, canonical}
 use Rattle.type_terms.specs.Promised.Trees.{Trees, none, tree, leaf}

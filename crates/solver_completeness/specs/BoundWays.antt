@@ -1,5 +1,5 @@
--- The candidates by a `dyn` that unsizes to another, by object bounds, and by impls, as ways of goals without unknowns: each bound is a
--- candidate once, and the rules have one entry for each path of written bounds.
+-- Candidates for upcasts of a `dyn`, for object bounds and for impls, as rule instances of goals without inference variables.
+-- Each bound is one candidate, but the rules have one entry for each path of supertraits.
 use Rattle.std.specs.Prelude.{◌≡◌, ◌==◌, true, List, Some}
 use Rattle.std.specs.List.{flat_map}
 use Rattle.type_terms.specs.Promised.Worlds.{World, Reference}
@@ -18,8 +18,8 @@ use Rattle.candidate_model.specs.Cover.{goal_fact}
 use Rattle.solver_completeness.specs.SolverWays.{facts_beside, premises_of}
 use Rattle.solver_completeness.specs.RowWays.{AreWaysOf, if_of, autos_stand_once}
 
--- whatever is judged of facts by P: at these values the candidates are ways to conclude the fact that are these, in any order, but for
--- ways that stand there twice, and for the order of premises and what stands twice among them
+-- For the property P of facts, at these values, the candidates are these rule instances up to order and duplicates, of rule
+-- instances as well as of their premises.
 pub record AreSelectedFor (P : Fact → Type 0) (a : GoalOverKinds) (v : Values) (g : Fact) (cs : List Candidate) (ways : List (List Reference)) : Type 0 where
   pub found : List (List Reference)
   pub are : AreWaysOf a v g cs found
@@ -32,13 +32,13 @@ pub record BoundRowsAreWaysAt (P : Fact → Type 0) (V : World) (a : GoalOverKin
   pub upcasts : AreSelectedFor P a v g (if_so (r.trait == unsize) (upcasts_of V a (self_of a))) (premises_of (if_of (r.trait == unsize) (unsize_upcast_rules V r.args)))
   pub objects : autos_stand_once r.args ≡ true → AreSelectedFor P a v g (by_objects V a) (premises_of (object_rules V r r.args))
 
--- of an instance that is written up to lifetimes
+-- for an instance without lifetimes
 abbrev pub BoundRowsAreWays : (Fact → Type 0) → Type 0
 BoundRowsAreWays P =
     (m : ViewMeaning) → IsDeclaredWell m.view → (f : CanonicalForm) (a : GoalOverKinds) → goal_over_kinds m.view f ≡ Some a → AreClosed f.kinds
     → (v : Values) → ArePlaces f.kinds v → is_plain (goal_fact f v) ≡ true → BoundRowsAreWaysAt P m.view a v (goal_fact f v) (reference_in (goal_fact f v))
 
--- impls that conclude the instance apply with their clauses, in their order, and others refuse
+-- impls that conclude the instance apply with their where-clauses, in order, and the others have no solution
 abbrev pub ImplsAreWays : Type 0
 ImplsAreWays =
     (m : ViewMeaning) → IsDeclaredWell m.view → (f : CanonicalForm) (a : GoalOverKinds) → goal_over_kinds m.view f ≡ Some a → AreClosed f.kinds

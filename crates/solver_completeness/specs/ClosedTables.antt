@@ -1,4 +1,4 @@
--- The tables of frames of goals without unknowns.
+-- The tables of frames of goals without inference variables.
 use Rattle.std.specs.Prelude.{◌≡◌, ℕ, zero, suc, true, false, List, [], ◌∷◌, map, Option, Some, None}
 use Rattle.type_terms.specs.Promised.Label.{Sort, of_type, of_const, of_lifetime}
 use Rattle.type_terms.specs.Promised.Trees.{Trees, is_sort}
@@ -31,14 +31,14 @@ kind_in [] i = None
 kind_in (k ∷ ks) zero = k
 kind_in (k ∷ ks) (suc i) = kind_in ks i
 
--- each placeholder stands for a place
+-- the value of each placeholder is a parameter or placeholder
 abbrev pub FitPlaces : Kinds → List Trees → Type 0
 FitPlaces [] ts = Unit {0}
 FitPlaces (Some PlaceholderTy ∷ ks) ts = (is_place of_type (first_term ts) ≡ true) × FitPlaces ks (other_terms ts)
 FitPlaces (Some PlaceholderConst ∷ ks) ts = (is_place of_const (first_term ts) ≡ true) × FitPlaces ks (other_terms ts)
 FitPlaces (k ∷ ks) ts = FitPlaces ks (other_terms ts)
 
--- and different ones for different places
+-- and different ones have different values
 abbrev pub TellPlaces : Kinds → List Trees → Type 0
 TellPlaces ks ts =
     (k : Sort) (i j : ℕ) → is_placeholder_of k (kind_in ks i) ≡ true → is_placeholder_of k (kind_in ks j) ≡ true

@@ -1,5 +1,5 @@
--- Facts whose terms are formed as declarations ask: names are declared, and arguments are as many, and of the sorts, that are declared. A
--- view does not tell the sorts; they are given beside it.
+-- Facts whose terms are well-formed: all names are declared, and arguments have the declared number and kinds. A view does not
+-- contain the kinds, so they are given in addition.
 use Rattle.std.specs.Prelude.{◌≡◌, ℕ, zero, suc, true, false, List, [], ◌∷◌, Some}
 use Rattle.type_terms.specs.Promised.Label.{Label, Sort, of_type, adt, tuple, fn_ptr, raw_pointer, ref, array, slice, dynamic, principal, auto_trait, of_trait, predicate, param}
 use Rattle.type_terms.specs.Promised.Trees.{Trees, none, tree, some_node}
@@ -19,12 +19,12 @@ use Rattle.solver_completeness.specs.RowWays.{autos_stand_once}
 use Rattle.solver_completeness.specs.SolverChoices.{IsElaborated}
 use Rattle.solver_completeness.specs.GoalSets.{begins_typed, any_label, IsGoalSet}
 
--- the sorts of the parameters of structs and traits, by name; of a trait Self first
+-- The kinds of the parameters of structs and traits, by name. Those of a trait begin with Self.
 pub record Sorts : Type 0 where
   pub of_struct : ℕ → List Sort
   pub of_trait : ℕ → List Sort
 
--- of each node with its children
+-- for each node with its children
 abbrev pub EachNode : (Label → Trees → Type 0) → Trees → Type 0
 EachNode P none = Unit {0}
 EachNode P (tree l c o) = P l c × EachNode P c × EachNode P o
@@ -33,7 +33,7 @@ abbrev pub AreTypeSorts : List Sort → Type 0
 AreTypeSorts [] = Unit {0}
 AreTypeSorts (s ∷ ss) = (s ≡ of_type) × AreTypeSorts ss
 
--- the parameter is one of these, of its sort
+-- the parameter is one of these, with its kind
 abbrev pub IsParamOf : List Sort → ℕ → Sort → Type 0
 IsParamOf [] i s = ⊥
 IsParamOf (t ∷ ts) zero s = t ≡ s
@@ -47,7 +47,8 @@ module _ (V : World) (sorts : Sorts) where
   abbrev pub IsTraitOf : ℕ → List Sort → Type 0
   IsTraitOf t ss = (trait_is (λ x. true) V t ≡ true) × (ss ≡ sorts.of_trait t)
 
-  -- structs and traits are declared and have their arguments, built-in types are of types, and no auto trait of a `dyn` stands twice
+  -- structs and traits are declared and have their arguments, the arguments of built-in types are types, and no auto trait occurs
+  -- twice in a `dyn`
   abbrev pub FitsNode : Label → Trees → Type 0
   FitsNode (adt s) c = (struct_is (λ x. true) V s ≡ true) × (sorts_of c ≡ sorts.of_struct s)
   FitsNode (principal n t) c = IsTraitOf t (of_type ∷ sorts_of c)
@@ -65,25 +66,25 @@ module _ (V : World) (sorts : Sorts) where
   abbrev pub NodesFit : Trees → Type 0
   NodesFit t = EachNode FitsNode t
 
-  -- terms up to lifetimes
+  -- terms without lifetimes
   pub record AreFormed (t : Trees) : Type 0 where
     pub made : is_made any_label terms t ≡ true
     pub plain : some_node is_unerased t ≡ false
     pub nodes : NodesFit t
 
-  -- a reference of a declared trait with its arguments
+  -- a trait reference of a declared trait with its arguments
   pub record IsFormed (r : Reference) : Type 0 where
     pub args : AreFormed r.args
     pub trait : IsTraitOf r.trait (sorts_of r.args)
 
-  -- a fact of such a reference, under where-clauses that are elaborated
+  -- a fact of such a trait reference, whose where-clauses are elaborated
   pub record IsFormedFact (f : Fact) : Type 0 where
     pub plain : is_plain f ≡ true
     pub reference : IsFormed (reference_in f)
     pub elaborated : IsElaborated V (clauses_of f.goal.environment)
 
   -- ---- declarations
-  -- a field, and a supertrait, speak of the parameters of what is declared
+  -- a field or a supertrait contains only the parameters of its declaration
   pub record IsField (ss : List Sort) (t : Trees) : Type 0 where
     pub nodes : NodesFit t
     pub sort : sorts_of t ≡ of_type ∷ []
@@ -94,7 +95,7 @@ module _ (V : World) (sorts : Sorts) where
     pub trait : IsTraitOf r.trait (sorts_of r.args)
     pub params : EachNode (HasParams ss) r.args
 
-  -- all that is declared is formed, Self is a type, and the traits of core have the parameters that they have there
+  -- all declarations are well-formed, Self is a type, and the traits of core have their parameters
   pub record IsFormedView : Type 0 where
     pub fields : (x : StructDecl) (t : Trees) → In x V.structs → In t x.fields → IsField (sorts.of_struct x.name) t
     pub bounds : (x : TraitDecl) (b : Reference) → In x V.traits → In b x.bounds → IsFormedBound (sorts.of_trait x.name) b
@@ -107,16 +108,16 @@ module _ (V : World) (sorts : Sorts) where
     pub sizes : IsTraitOf sized (of_type ∷ [])
     pub unsizes : sorts.of_trait unsize ≡ of_type ∷ of_type ∷ []
 
--- the terms of a reference, which may hold variables, are of declared names, with their arguments
+-- the terms of a trait reference, which may contain variables, have declared names with their arguments
 pub record FitsSorts (V : World) (sorts : Sorts) (r : Reference) : Type 0 where
   pub nodes : NodesFit V sorts r.args
   pub trait : IsTraitOf V sorts r.trait (sorts_of r.args)
 
--- so are those of a decided goal, if its fact is formed, whatever stands for its variables
+-- so do those of a decided goal, if its fact is well-formed, for all values of its variables
 abbrev pub FormedGoalsFit : Type 0
 FormedGoalsFit =
     (V : World) (sorts : Sorts) (q : NestedQuestion) (v : Values) (a : GoalOverKinds) → goal_over_kinds V q.form ≡ Some a → IsFormedFact V sorts (fact_of q v) → FitsSorts V sorts a.reference
 
--- a view that is declared well and formed keeps such facts along ways, in both modes
+-- a well-formed view preserves such facts in both typing modes
 abbrev pub FormedAreKept : Type 0
 FormedAreKept = (m : ViewMeaning) (mode : TypingMode) (sorts : Sorts) → IsDeclaredWell m.view → IsFormedView m.view sorts → IsGoalSet m mode (IsFormedFact m.view sorts)

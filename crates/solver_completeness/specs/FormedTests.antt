@@ -1,4 +1,4 @@
--- Views whose declarations are formed: tests that tell, and `core` with its sorts.
+-- Tests whether a view's declarations are well-formed, and the kinds of `core`.
 use Rattle.std.specs.Prelude.{◌≡◌, ◌==◌, ℕ, zero, suc, Bool, true, false, ◌&&◌, ◌||◌, not, List, [], ◌∷◌, if◌then◌else◌}
 use Rattle.std.specs.List.{list_all}
 use Rattle.type_terms.specs.Promised.Label.{Label, Sort, of_type, adt, tuple, fn_ptr, raw_pointer, ref, array, slice, dynamic, principal, auto_trait, of_trait, predicate, param}
@@ -22,7 +22,7 @@ same_sorts (s ∷ ss) [] = false
 abbrev pub are_types : List Sort → Bool
 are_types ss = list_all (λ s. is_sort s of_type) ss
 
--- parameter i is one of these, of this sort
+-- parameter i is one of these, of this kind
 abbrev pub is_param_of : List Sort → ℕ → Sort → Bool
 is_param_of [] i s = false
 is_param_of (t ∷ ts) zero s = is_sort t s
@@ -72,7 +72,7 @@ module _ (V : World) (sorts : Sorts) where
   abbrev pub is_trait : TraitDecl → Bool
   is_trait x = takes_self (sorts.of_trait x.name) && (not x.is_auto || same_sorts (sorts.of_trait x.name) (of_type ∷ []))
 
-  -- what the traits of core take
+  -- the parameters of the traits of core
   abbrev pub core_is_formed : Bool
   core_is_formed =
       same_sorts (sorts.of_trait copy) (of_type ∷ [])
@@ -84,11 +84,12 @@ module _ (V : World) (sorts : Sorts) where
       && (list_all (λ (x : TraitDecl). list_all (is_bound (sorts.of_trait x.name)) x.bounds) V.traits
       && (list_all (λ (i : ImplDecl). list_all is_clause i.clauses) V.impls && (list_all is_trait V.traits && core_is_formed)))
 
--- a view that passes the test is formed
+-- a view that passes the test is well-formed
 abbrev pub FormedTestTells : Type 0
 FormedTestTells = (V : World) (sorts : Sorts) → is_formed_view V sorts ≡ true → IsFormedView V sorts
 
--- `Sized`, `Clone`, `Copy`, `Tuple` and `FnPtr` take Self alone; the traits of calls and `Unsize` take one more type. `Box` takes one
+-- `Sized`, `Clone`, `Copy`, `Tuple` and `FnPtr` have only Self. The traits of calls and `Unsize` have one more type parameter.
+-- `Box` has one type parameter.
 abbrev pub core_sorts : Sorts
 core_sorts = record {
   of_struct = λ s. of_type ∷ [];
@@ -96,6 +97,6 @@ core_sorts = record {
       if (t == sized) || ((t == clone) || ((t == copy) || ((t == tuple_trait) || (t == fn_ptr_trait)))) then of_type ∷ [] else of_type ∷ of_type ∷ [];
 }
 
--- and `core` passes it
+-- `core` passes the test
 abbrev pub CoreIsFormed : Type 0
 CoreIsFormed = is_formed_view core_world core_sorts ≡ true

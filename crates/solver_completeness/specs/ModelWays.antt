@@ -1,4 +1,4 @@
--- The ways of references by the rules of a set of crates.
+-- The rule instances of trait references by the rules of a set of crates.
 use Rattle.std.specs.Prelude.{◌≡◌, ℕ, true, List, [], ◌∷◌, ◌++◌, map, if◌then◌else◌}
 use Rattle.type_terms.specs.Promised.Worlds.{World, Reference}
 use Rattle.type_terms.specs.Promised.Rules.{rules, strict_supertraits}
@@ -7,11 +7,11 @@ use Rattle.type_terms.specs.Promised.Walks.{is_known_in}
 use Rattle.type_terms.specs.Promised.Answers.{short_chains, is_possible, SingleWay}
 use Rattle.solver_completeness.specs.Ways.{HasShortChains, IsPossible, HasOneWayWithin, HoldsByWays}
 
--- under where-clauses, one way for each rule
+-- with where-clauses, one for each rule
 abbrev pub ways_under : World → List Reference → Reference → List (List Reference)
 ways_under W E r = map (λ u. u.premises) (rules W E r)
 
--- for crate c, one more where the reference is not known to it
+-- for crate c, one more if the trait reference is not knowable for it
 abbrev pub ways_for : World → ℕ → Reference → List (List Reference)
 ways_for V c r = map (λ u. u.premises) (rules V [] r) ++ (if is_known_in V c r then [] else strict_supertraits V r ∷ [])
 

@@ -1,4 +1,4 @@
--- What `evaluate_root_goal` is told of goals of formed facts, where the handler means what the solver means.
+-- The search results of `evaluate_root_goal` for goals with well-formed facts, if the handler has the solver's meaning.
 use Rattle.std.specs.Prelude.{◌≡◌, ◌≤◌, ◌+◌, ℕ, Bool, true, List, [], Option}
 use Rattle.type_terms.specs.Promised.Handles.{Entry}
 use Rattle.type_terms.specs.Promised.Answers.{SingleWay, is_bounded}
@@ -27,7 +27,7 @@ use Rattle.solver_completeness.specs.FormedAnswers.{IsFormedGoal, AreDeclared}
 
 module _ {W : Type 0} (applicable : AnswerTrees → Bool) (same : AnswerTrees → AnswerTrees → Bool) (meaning_of : W → ViewMeaning) (fits_in : W → CanonicalForm → Bool)
     {Handler : Type 0} (is_ready : Handler → List Entry → Type 0) (declares : Handler → List Entry → W) where
-  -- the solver's goals for such a handler, and what they mean to the search of a context with it
+  -- the solver's goals for such a handler, and their meaning for the search of a context with it
   abbrev pub solver_in : HandlerMeaning Handler
   solver_in = record { goals = solver_goals applicable same meaning_of fits_in; IsReady = is_ready; world = declares }
 
@@ -37,18 +37,18 @@ module _ {W : Type 0} (applicable : AnswerTrees → Bool) (same : AnswerTrees �
   abbrev pub declared_in : SolverCx Handler → W
   declared_in c = declares c.handler (entries_of c)
 
-  -- the search within this depth gives the question this answer
+  -- the search within this depth gives the canonical goal this result
   abbrev pub SearchGives : SolverCx Handler → ℕ → TypingMode → NestedQuestion → Option AnswerTrees → Type 0
   SearchGives c depth mode q a = IsFoundBySearch root_meaning (declared_in c) depth (mode, q.form) a
 
-  -- a bounded goal is refused exactly if it is not possible
+  -- a bounded goal is refuted exactly if it is not possible
   abbrev pub RootsAreExact : Type 0
   RootsAreExact =
       (c : SolverCx Handler) (depth n : ℕ) (mode : TypingMode) (sorts : Sorts) (admits : CanonicalForm → Bool) → let m = meaning_of (declared_in c) in
       AreDeclared m mode (fits_in (declared_in c)) admits sorts → (q : NestedQuestion) (v : Values) (a : Option AnswerTrees) → IsFormedGoal m.view sorts admits q v
       → n ≤ depth + 1 → HasShortChains (ways_by m mode) n (fact_of q v) → SearchGives c depth mode q a → IsExactFor (ways_by m mode) n (fact_of q v) a
 
-  -- outside coherence a decided reference is answered a definite yes if it has a proof, and refused if not
+  -- outside coherence an unambiguous trait reference gets a definite yes if it has a proof, and is refuted otherwise
   abbrev pub RootsAreRight : Type 0
   RootsAreRight =
       (c : SolverCx Handler) (depth n : ℕ) (sorts : Sorts) (admits : CanonicalForm → Bool) → let m = meaning_of (declared_in c) in
@@ -56,7 +56,7 @@ module _ {W : Type 0} (applicable : AnswerTrees → Bool) (same : AnswerTrees �
       → n ≤ depth + 1 → SingleWay n m.view (clauses_of (fact_of q v).goal.environment) (reference_in (fact_of q v)) → SearchGives c depth PostAnalysis q a
       → IsRightFor frame_tables (FactIsProved m.view) (fact_of q v) a
 
-  -- in coherence a bounded reference without where-clauses is refused exactly if it is not possible in the crate
+  -- in coherence a bounded trait reference without where-clauses is refuted exactly if it is not possible for the crate
   abbrev pub RootsTellPossible : Type 0
   RootsTellPossible =
       (c : SolverCx Handler) (depth n : ℕ) (sorts : Sorts) (admits : CanonicalForm → Bool) → let m = meaning_of (declared_in c) in

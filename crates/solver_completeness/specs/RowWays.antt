@@ -1,4 +1,5 @@
--- The candidates by built-in rules that read the outermost types alone, and by where-clauses, as ways of goals without unknowns.
+-- The candidates of where-clauses and of built-in rules that depend only on the outermost types, as rule instances of goals
+-- without inference variables.
 use Rattle.std.specs.Prelude.{◌≡◌, ◌==◌, Bool, true, ◌||◌, List, [], ◌∷◌, map, Some, if◌then◌else◌}
 use Rattle.type_terms.specs.Promised.Worlds.{World, Reference}
 use Rattle.type_terms.specs.Promised.Rules.{Rule, same_reference, sized, copy, clone, tuple_trait, fn_ptr_trait, is_fn_trait, unsize, is_auto, sized_rules, copy_rules, auto_rules, tuple_rules, fn_ptr_rules, autos_with, call_rules, unsize_array_rules, unsize_to_dyn_rules, unsize_struct_rules}
@@ -19,30 +20,30 @@ use Rattle.candidate_model.specs.Candidates.{Candidate, by_sized, by_copy, by_au
 use Rattle.candidate_model.specs.Cover.{goal_fact}
 use Rattle.solver_completeness.specs.SolverWays.{facts_beside, premises_of}
 
--- the rules of a row, where it is one of the trait
+-- these built-in rules, if they are the trait's
 abbrev pub if_of : Bool → List Rule → List Rule
 if_of b us = if b then us else []
 
--- where-clauses that are the reference conclude it from nothing
+-- where-clauses that equal the trait reference conclude it without premises
 abbrev pub clause_ways : Reference → List Reference → List (List Reference)
 clause_ways r [] = []
 clause_ways r (s ∷ ss) = if same_reference s r then [] ∷ clause_ways r ss else clause_ways r ss
 
--- one way, by these premises, for each of the references that is r
+-- one rule instance with these premises for each trait reference in the list that equals r
 abbrev pub equal_ways : List Reference → Reference → List Reference → List (List Reference)
 equal_ways ps r [] = []
 equal_ways ps r (s ∷ ss) = if same_reference s r then ps ∷ equal_ways ps r ss else equal_ways ps r ss
 
--- no auto trait stands twice among the bounds of a `dyn`
+-- no auto trait occurs twice among the bounds of a `dyn`
 abbrev pub autos_stand_once : Trees → Bool
 autos_stand_once (tree dynamic bounds o) = are_distinct (map (λ (r : Reference). r.trait) (autos_with none bounds))
 autos_stand_once t = true
 
--- at these values the candidates are these ways to conclude the fact
+-- at these values the candidates are these rule instances that conclude the fact
 abbrev pub AreWaysOf : GoalOverKinds → Values → Fact → List Candidate → List (List Reference) → Type 0
 AreWaysOf a v g cs ways = AreWays frame_tables (begin a.kinds) v cs (facts_beside g ways)
 
--- each candidate applies with the premises of one rule of the instance, in the order of the rules, or refuses
+-- each candidate applies with the premises of one rule of the instance, in the order of the rules, or has no solution
 pub record RowsAreWaysAt (V : World) (a : GoalOverKinds) (v : Values) (g : Fact) (r : Reference) : Type 0 where
   pub sizeds : AreWaysOf a v g (by_sized V a) (premises_of (if_of (r.trait == sized) (sized_rules V r.args)))
   pub copies : AreWaysOf a v g (by_copy V a) (premises_of (if_of ((r.trait == copy) || (r.trait == clone)) (copy_rules r.trait r.args)))
@@ -50,13 +51,14 @@ pub record RowsAreWaysAt (V : World) (a : GoalOverKinds) (v : Values) (g : Fact)
   pub tuples : AreWaysOf a v g (by_tuple V a) (premises_of (if_of (r.trait == tuple_trait) (tuple_rules r.args)))
   pub fn_ptrs : AreWaysOf a v g (by_fn_ptr V a) (premises_of (if_of (r.trait == fn_ptr_trait) (fn_ptr_rules r.args)))
 
--- of an instance that is written up to lifetimes
+-- for an instance without lifetimes
 abbrev pub RowsAreWays : Type 0
 RowsAreWays =
     (m : ViewMeaning) → is_declared_view m.view ≡ true → (f : CanonicalForm) (a : GoalOverKinds) → goal_over_kinds m.view f ≡ Some a → AreClosed f.kinds
     → (v : Values) → ArePlaces f.kinds v → is_plain (goal_fact f v) ≡ true → RowsAreWaysAt m.view a v (goal_fact f v) (reference_in (goal_fact f v))
 
--- the same of rules that equate: calls of fn pointers, and arrays, types that are no `dyn`, and structs that unsize
+-- the same for rules that equate terms: calls of fn pointers, and `Unsize` for arrays, for types that are no `dyn`, and for
+-- structs
 pub record EquatedRowsAreWaysAt (V : World) (a : GoalOverKinds) (v : Values) (g : Fact) (r : Reference) : Type 0 where
   pub calls : AreWaysOf a v g (by_call V a) (premises_of (if_of (is_fn_trait r.trait) (call_rules r.args)))
   pub arrays : AreWaysOf a v g (if_so (r.trait == unsize) (unsize_array_of V a (self_of a))) (premises_of (if_of (r.trait == unsize) (unsize_array_rules r.args)))
@@ -68,7 +70,7 @@ EquatedRowsAreWays =
     (m : ViewMeaning) → is_declared_view m.view ≡ true → (f : CanonicalForm) (a : GoalOverKinds) → goal_over_kinds m.view f ≡ Some a → AreClosed f.kinds
     → (v : Values) → ArePlaces f.kinds v → is_plain (goal_fact f v) ≡ true → EquatedRowsAreWaysAt m.view a v (goal_fact f v) (reference_in (goal_fact f v))
 
--- where-clauses apply with no premises where they are the instance
+-- where-clauses that equal the instance apply without premises
 abbrev pub ClausesAreWays : Type 0
 ClausesAreWays =
     (m : ViewMeaning) (f : CanonicalForm) (a : GoalOverKinds) → goal_over_kinds m.view f ≡ Some a → AreClosed f.kinds → (v : Values) → ArePlaces f.kinds v

@@ -1,4 +1,4 @@
--- What plain recursion over the frames of a list of rules answers to goals without unknowns.
+-- The results of plain recursion over the frames of a list of rules, for goals without inference variables.
 use Rattle.std.specs.Prelude.{ℕ, Option}
 use Rattle.infer_table.specs.declared.certainty.TypingMode.{TypingMode}
 use Rattle.infer_table.specs.Responses.{AnswerTrees}
@@ -18,30 +18,31 @@ abbrev pub rule_programs : Programs frame_tables
 rule_programs = programs_of rule_goals
 
 module _ {C I R F : Type 0} (handles : Handles C I R F DeclaredRules (GoalInMode frame_tables rule_programs) (Option AnswerTrees)) where
-  -- plain recursion answers the question so, in chains of fewer than n questions
+  -- the result of plain recursion for the canonical goal, in chains of fewer than n goals
   abbrev pub IsPlainFor : DeclaredRules → TypingMode → ℕ → NestedQuestion → Option AnswerTrees → Type 0
   IsPlainFor w mode n q a = IsPlain (meaning frame_tables rule_programs handles) w n (mode, q.form) a
 
-  -- a canonical goal without where-clauses and unknowns, and places for its placeholders
+  -- a canonical goal without where-clauses and inference variables, and values of its placeholders
   pub record IsClosedGoal (q : NestedQuestion) (v : Values) : Type 0 where
     pub asked : IsAskedForm q
     pub closed : AreClosed q.form.kinds
     pub places : ArePlaces q.form.kinds v
 
-  -- it is refused exactly if no way by the rules is possible
+  -- it is refuted exactly if it is not possible by the rules
   abbrev pub RulesAreExact : Type 0
   RulesAreExact =
       (w : DeclaredRules) (mode : TypingMode) (n : ℕ) (q : NestedQuestion) (v : Values) (a : Option AnswerTrees) → IsClosedGoal q v
       → IsPlainFor w mode n q a → IsExactFor (rule_ways w.rules) n (fact_of q v) a
 
-  -- and where each reference has one rule at most whose premises hold, it is answered a definite yes if it holds, and refused if not
+  -- if at most one rule of each trait reference has premises that hold, it gets a definite yes if it holds, and is refuted
+  -- otherwise
   abbrev pub RulesAreRight : (Fact → Type 0) → Type 0
   RulesAreRight Holds =
       (w : DeclaredRules) → HoldsByWays (rule_ways w.rules) Holds
       → (mode : TypingMode) (n : ℕ) (q : NestedQuestion) (v : Values) (a : Option AnswerTrees) → IsClosedGoal q v
       → HasOneWayWithin (rule_ways w.rules) Holds n (fact_of q v) → IsPlainFor w mode n q a → IsRightFor frame_tables Holds (fact_of q v) a
 
-  -- and there is such an answer where chains of premises are short
+  -- there is a result if the chains of premises are short
   abbrev pub RulesAnswer : Type 0
   RulesAnswer =
       (w : DeclaredRules) (mode : TypingMode) (n : ℕ) (q : NestedQuestion) (v : Values) → IsClosedGoal q v

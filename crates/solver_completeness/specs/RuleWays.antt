@@ -1,4 +1,4 @@
--- The ways of references by a list of rules over trees: the rules whose head matches, each with its premises.
+-- The rule instances of trait references by a list of rules over terms: the rules whose head matches, with their premises.
 use Rattle.std.specs.Prelude.{◌≡◌, ℕ, suc, ◌==◌, Bool, ◌&&◌, if◌then◌else◌, List, [], ◌∷◌, map, Option, Some, None}
 use Rattle.type_terms.specs.Promised.Label.{Sort, canonical}
 use Rattle.type_terms.specs.Promised.Trees.{Trees, none, tree, is_sort}
@@ -11,7 +11,7 @@ use Rattle.goal_evaluator.specs.Content.{given, Fact, NestedQuestion}
 use Rattle.goal_frames.specs.Rules.{goal_of, FrameRule, instance_of}
 use Rattle.goal_frames.specs.Handlers.{BareGoal, bare_goal}
 
--- what stands in the second trees where the variable stands first in the first
+-- the part of the second terms at the position where the variable occurs first in the first terms
 abbrev pub value_at : Sort → ℕ → Trees → Trees → Option Trees
 value_at k i none x = None
 value_at k i (tree l c o) none = None
@@ -22,7 +22,7 @@ abbrev pub or_none : Option Trees → Trees
 or_none (Some x) = x
 or_none None = none
 
--- for each variable, the first of which has this number
+-- for each variable, starting with this number
 abbrev pub matched : ℕ → List CanonicalVarKind → Trees → Trees → List Trees
 matched i [] pattern x = []
 matched i (k ∷ ks) pattern x = or_none (value_at (sort_of_kind k) i pattern x) ∷ matched (suc i) ks pattern x

@@ -1,4 +1,4 @@
--- The solver's candidates for a goal without unknowns, all together, as ways of its instance.
+-- All of the solver's candidates for a goal without inference variables, as rule instances of its instance.
 use Rattle.std.specs.Prelude.{◌≡◌, true, List, [], ◌∷◌, ◌++◌, Some, if◌then◌else◌}
 use Rattle.type_terms.specs.Promised.Worlds.{World, Reference}
 use Rattle.type_terms.specs.Promised.Rules.{strict_supertraits}
@@ -21,8 +21,8 @@ use Rattle.solver_completeness.specs.BoundWays.{AreSelectedFor}
 abbrev pub IsElaborated : World → List Reference → Type 0
 IsElaborated V E = (s t : Reference) → In s E → In t (strict_supertraits V s) → In t E
 
--- outside coherence, of an instance that is written up to lifetimes, with where-clauses that are elaborated, and where no auto trait of a
--- `dyn` stands twice
+-- outside coherence, for an instance without lifetimes, whose where-clauses are elaborated, and without duplicate auto traits in
+-- a `dyn`
 abbrev pub SpecsAreWays : (Fact → Type 0) → Type 0
 SpecsAreWays P =
     (m : ViewMeaning) → IsDeclaredWell m.view → (f : CanonicalForm) (a : GoalOverKinds) → goal_over_kinds m.view f ≡ Some a → AreClosed f.kinds
@@ -30,7 +30,7 @@ SpecsAreWays P =
     → autos_stand_once (reference_in (goal_fact f v)).args ≡ true → IsElaborated m.view (clauses_of (goal_fact f v).goal.environment)
     → AreSelectedFor P a v (goal_fact f v) (specs_outside m a) (ways_under m.view (clauses_of (goal_fact f v).goal.environment) (reference_in (goal_fact f v)))
 
--- and in coherence, where what is not knowable has one way more, by its supertraits
+-- in coherence, where a trait reference that is not knowable has one more rule instance, by its supertraits
 abbrev pub CoherenceSpecsAreWays : (Fact → Type 0) → Type 0
 CoherenceSpecsAreWays P =
     (m : ViewMeaning) → IsDeclaredWell m.view → (f : CanonicalForm) (a : GoalOverKinds) → goal_over_kinds m.view f ≡ Some a → AreClosed f.kinds

@@ -1,4 +1,5 @@
--- The goals without unknowns that the solver answers exactly: what is asked of them, and sets of goals that lead to no others.
+-- The goals without inference variables for which the solver is complete: their nested goals, and sets that are closed under
+-- nested goals.
 use Rattle.std.specs.Prelude.{◌≡◌, ℕ, zero, suc, Bool, true, List, Some}
 use Rattle.type_terms.specs.Promised.Worlds.{World}
 use Rattle.type_terms.specs.Promised.Proofs.{HasProof}
@@ -21,7 +22,7 @@ use Rattle.solver_completeness.specs.SolverPlans.{specs_in_coherence, specs_outs
 use Rattle.solver_completeness.specs.RowWays.{autos_stand_once}
 use Rattle.solver_completeness.specs.SolverChoices.{IsElaborated}
 
--- what is considered in each mode, and what facts follow from
+-- the candidates and the rule instances in each typing mode
 abbrev pub specs_by : ViewMeaning → TypingMode → GoalOverKinds → List Candidate
 specs_by m Coherence a = specs_in_coherence m a
 specs_by m PostAnalysis a = specs_outside m a
@@ -30,18 +31,18 @@ abbrev pub ways_by : ViewMeaning → TypingMode → Fact → List (List Fact)
 ways_by m Coherence f = ways_in_coherence m f
 ways_by m PostAnalysis f = ways_outside m.view f
 
--- the fact's reference has a proof by the rules of the view, under the fact's where-clauses
+-- the fact's trait reference has a proof by the rules of the view, with the fact's where-clauses
 abbrev pub FactIsProved : World → Fact → Type 0
 FactIsProved V f = HasProof V (clauses_of f.goal.environment) (reference_in f)
 
--- a fact that is written up to lifetimes, in which no auto trait of a `dyn` stands twice, under where-clauses that are elaborated
+-- a fact without lifetimes, in which no auto trait occurs twice in a `dyn`, and whose where-clauses are elaborated
 pub record IsGoal (V : World) (f : Fact) : Type 0 where
   pub plain : is_plain f ≡ true
   pub once : autos_stand_once (reference_in f).args ≡ true
   pub elaborated : IsElaborated V (clauses_of f.goal.environment)
 
--- A set of questions, with values for their placeholders, that leads to no others. Each is decided and fits the declarations, and its
--- instance is such a fact; and what its candidates ask, where their equations hold, is in the set again.
+-- A set of canonical goals, with values of their placeholders, that is closed under nested goals. Each is decided and fits the
+-- declarations, and its instance is such a fact. If the equations of its candidates hold, their nested goals are in the set.
 pub record AreGoals (m : ViewMeaning) (mode : TypingMode) (fits : CanonicalForm → Bool) (IsAsked : NestedQuestion → Values → Type 0) : Type 0 where
   pub decided : (q : NestedQuestion) (v : Values) → IsAsked q v → (a : GoalOverKinds) × (goal_over_kinds m.view q.form ≡ Some a)
   pub fitting : (q : NestedQuestion) (v : Values) → IsAsked q v → fits q.form ≡ true
@@ -49,8 +50,8 @@ pub record AreGoals (m : ViewMeaning) (mode : TypingMode) (fits : CanonicalForm 
   pub onward : (q : NestedQuestion) (v : Values) → IsAsked q v → AreClosed q.form.kinds → ArePlaces q.form.kinds v
       → (a : GoalOverKinds) → goal_over_kinds m.view q.form ≡ Some a → Every (AsksSuch frame_tables closed_tables IsAsked (begin (kinds_known q.form.kinds)) v) (specs_by m mode a)
 
--- The question fits and is decided, its instance is such a fact, and so it is of all that its candidates ask where their equations hold,
--- and of what these ask, in n steps.
+-- The canonical goal fits and is decided, and its instance is such a fact. The same holds, for n steps, of the nested goals of
+-- candidates whose equations hold.
 abbrev pub IsGoodFor : ViewMeaning → TypingMode → (CanonicalForm → Bool) → ℕ → NestedQuestion → Values → Type 0
 IsGoodFor m mode fits zero q v = Unit {0}
 IsGoodFor m mode fits (suc n) q v =
@@ -58,10 +59,10 @@ IsGoodFor m mode fits (suc n) q v =
     × IsGoal m.view (fact_of q v)
     × ((a : GoalOverKinds) × (goal_over_kinds m.view q.form ≡ Some a) × Every (AsksSuch frame_tables closed_tables (IsGoodFor m mode fits n) (begin (kinds_known q.form.kinds)) v) (specs_by m mode a))
 
--- so it is of all that it leads to
+-- for any number of steps
 abbrev pub LeadsToGoals : ViewMeaning → TypingMode → (CanonicalForm → Bool) → NestedQuestion → Values → Type 0
 LeadsToGoals m mode fits q v = (n : ℕ) → IsGoodFor m mode fits n q v
 
--- the questions that lead to such goals alone are a set that leads to no others
+-- the canonical goals that lead only to such goals are a set that is closed under nested goals
 abbrev pub LeadingAreGoals : Type 0
 LeadingAreGoals = (m : ViewMeaning) (mode : TypingMode) (fits : CanonicalForm → Bool) → AreGoals m mode fits (LeadsToGoals m mode fits)

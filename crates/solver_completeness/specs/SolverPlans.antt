@@ -1,4 +1,4 @@
--- In what order the solver considers the candidates of a goal without unknowns, and what it makes of their responses.
+-- The order in which the solver evaluates the candidates of a goal without inference variables, and its merge of their responses.
 use Rattle.std.specs.Prelude.{◌≡◌, ℕ, Bool, true, List, [], ◌∷◌, ◌++◌, Option, Some, if◌then◌else◌}
 use Rattle.infer_table.specs.Canonical.{CanonicalForm}
 use Rattle.infer_table.specs.Responses.{AnswerTrees}
@@ -15,23 +15,23 @@ use Rattle.candidate_model.specs.Candidates.{Candidate, unknowable, by_clauses, 
 use Rattle.candidate_model.specs.Cover.{all_candidates}
 use Rattle.candidate_model.specs.Solver.{SolverPast, solver_handled}
 
--- the candidates of a goal in coherence: the unknowable one comes first, where it is one
+-- the candidates of a goal in coherence: the first is that for trait references that are not knowable, if this one is not
 abbrev pub specs_in_coherence : ViewMeaning → GoalOverKinds → List Candidate
 specs_in_coherence m a = if is_knowable m.view m.crate a.reference then all_candidates m.view a else unknowable m.view a ∷ all_candidates m.view a
 
--- and outside it: where-clauses and built-in rules, and then impls and object bounds
+-- outside coherence: where-clauses and built-in rules, then impls and object bounds
 abbrev pub specs_outside : ViewMeaning → GoalOverKinds → List Candidate
 specs_outside m a = (by_clauses m.view a (clauses a) ++ built_in m.view a) ++ (by_impls m.view a m.view.impls ++ by_objects m.view a)
 
--- the handler considers these in order, and answers with what is made of the responses; what it leaves out, it does where some
--- candidate was not refused
+-- The handler evaluates these in order, and its result is made of the responses. It leaves candidates out only if some candidate
+-- has a response.
 pub record GoesThrough (h : Handled frame_tables) (specs : List Candidate) : Type 0 where
   pub left : SolverPast → List Candidate
   pub all : left [] ≡ specs
   pub considers : (seen : SolverPast) (c : Candidate) → WereConsidered frame_tables h.next seen → h.next seen ≡ consider c → GoesTo frame_tables left seen c
   pub makes : (seen : SolverPast) (a : Option AnswerTrees) (ignored : List ℕ) → WereConsidered frame_tables h.next seen → h.next seen ≡ answer a ignored → IsMadeOfResponses frame_tables (left seen) seen a
 
--- each goal without unknowns that is decided is handled so, in both modes
+-- each decided goal without inference variables is handled in this way, in both typing modes
 pub record SolverGoesThrough (applicable : AnswerTrees → Bool) (same : AnswerTrees → AnswerTrees → Bool) (m : ViewMeaning) (f : CanonicalForm) (a : GoalOverKinds) : Type 0 where
   pub in_coherence : GoesThrough (solver_handled applicable same m Coherence f) (specs_in_coherence m a)
   pub outside : GoesThrough (solver_handled applicable same m PostAnalysis f) (specs_outside m a)

@@ -1,4 +1,4 @@
--- Goals in which no binder binds what stands there: what is asked of them is so too.
+-- Goals without bound variables. Their nested goals have none either.
 use Rattle.std.specs.Prelude.{◌≡◌, Bool, true, not, Some}
 use Rattle.type_terms.specs.Promised.Trees.{some_node}
 use Rattle.type_terms.specs.Promised.Worlds.{World}
@@ -19,22 +19,22 @@ use Rattle.solver_completeness.specs.SolverGoals.{specs_by}
 use Rattle.solver_completeness.specs.GoalSets.{FitsAreKept}
 use Rattle.solver_completeness.specs.FormedFacts.{Sorts, IsFormedFact, FitsSorts}
 
--- no bound variable stands in the goal's reference
+-- no bound variable occurs in the goal's trait reference
 abbrev pub is_unbound : CanonicalForm → Bool
 is_unbound f = not (some_node is_bound f.goal.predicate)
 
--- where the view is declared well, all that is asked of such a goal without unknowns is so, in both modes
+-- in a well-formed view, all nested goals of such a goal without inference variables are such goals, in both typing modes
 abbrev pub UnboundAreKept : Type 0
 UnboundAreKept =
     (m : ViewMeaning) (mode : TypingMode) → IsDeclaredWell m.view → (q : NestedQuestion) (v : Values) → AreClosed q.form.kinds → (a : GoalOverKinds) → goal_over_kinds m.view q.form ≡ Some a → is_unbound q.form ≡ true
     → Every (AsksSuch frame_tables closed_tables (λ (p : NestedQuestion) (u : Values). is_unbound p.form ≡ true) (begin (kinds_known q.form.kinds)) v) (specs_by m mode a)
 
--- ---- tests of forms that read names and sorts alone
--- decided goals fit if nothing is bound in them and their terms have the sorts that are declared
+-- ---- tests of forms that depend only on names and kinds
+-- decided goals fit if they have no bound variables and their terms have the declared kinds
 abbrev pub FitsBySorts : World → Sorts → (CanonicalForm → Bool) → Type 0
 FitsBySorts V sorts fits = (f : CanonicalForm) (a : GoalOverKinds) → goal_over_kinds V f ≡ Some a → is_unbound f ≡ true → FitsSorts V sorts a.reference → fits f ≡ true
 
--- so goals of formed facts in which nothing is bound fit, and what is asked of them does
+-- goals with well-formed facts and without bound variables fit, and so do their nested goals
 abbrev pub UnboundAreAdmitted : Type 0
 UnboundAreAdmitted =
     (m : ViewMeaning) (mode : TypingMode) (fits : CanonicalForm → Bool) (sorts : Sorts) → IsDeclaredWell m.view → FitsBySorts m.view sorts fits

@@ -1,6 +1,7 @@
-//! What plain recursion over frames answers to goals without unknowns: a goal whose chains of premises are short is refused exactly
-//! if no way to it is possible, and where each reference has one way at most that holds, it is answered by a definite yes or
-//! refused. So it is for every handler whose candidates are the ways of its goal.
+//! The results of plain recursion over frames for goals without inference variables. If the chains of premises are short, a goal
+//! is refuted exactly if none of its rule instances is possible. If at most one rule instance of each trait reference holds, the
+//! result is a definite yes or a refutation. This is proved for every handler whose candidates are the rule instances of its
+//! goal.
 
 ghost use Rattle.std.specs.Prelude.{Option};
 ghost use Rattle.infer_table.specs.Responses.{AnswerTrees};
@@ -19,34 +20,36 @@ ghost use Rattle.solver_completeness.specs.RuleAnswers.{rule_programs, RulesAreE
 ghost use Rattle.solver_completeness.specs.Ways.{HoldsByWays};
 ghost use Rattle.solver_completeness.specs.NestedFacts.{PremisesAreAsked};
 
-/// By the rules of a set of crates and of where-clauses a reference has a proof exactly if the premises of one of its rules have
-/// proofs.
+/// By the rules of a set of crates and of where-clauses, a trait reference has a proof exactly if the premises of one of its rule
+/// instances have proofs.
 pub fn proofs_are_by_ways()
     ensures { ProofsAreByWays }
 {}
 
-/// Decided references are so by the ways of their rules.
+/// A trait reference that is unambiguous by its rules is unambiguous by its rule instances.
 pub fn decided_by_ways()
     ensures { SingleWayIsDecided }
 {}
 
-/// Possible references are so by the ways of their rules, and by their supertraits where they are not known.
+/// A trait reference is possible exactly if it is by the rule instances of its rules or, if it is not knowable, by its supertraits.
 pub fn possible_by_ways()
     ensures { PossibleIsByWays }
 {}
 
-/// Bounded references have short chains of such ways.
+/// Bounded trait references have short chains of such rule instances.
 pub fn bounded_by_ways()
     ensures { ShortIsByWays }
 {}
 
-/// The tables of frames keep the laws for goals without unknowns: one that was not refused has solutions, whatever the goal's
-/// placeholders stand for; it answers nothing but how sure it is; and a nested goal that the goal determines has no unknowns.
+/// The tables of frames are lawful for goals without inference variables. A table that did not fail has solutions, for all values
+/// of the goal's placeholders. Its response has only a certainty. A nested goal that the goal determines has no inference
+/// variables.
 pub fn closed_tables_are_lawful()
     ensures { IsClosing frame_tables closed_tables }
 {}
 
-/// Programs over some tables, what their goals without unknowns are, and the handles by which a search knows goals and answers.
+/// Programs over some tables, their goals without inference variables, and the handles by which a search refers to goals and
+/// responses.
 pub trait ExactPrograms {
     ghost Question: { Type 0 };
 
@@ -64,7 +67,7 @@ pub trait ExactPrograms {
 
     ghost exact: { AnswersExactly tables closing programs world mode };
 
-    /// What is read as the truth of a reference, as that it has a proof.
+    /// What it means that a trait reference holds, for example that it has a proof.
     ghost Holds: { tables.Fact → Type 0 };
 
     ghost Context: { Type 0 };
@@ -78,21 +81,21 @@ pub trait ExactPrograms {
     ghost handles: { Handles Context Input Result Frame programs.World (GoalInMode tables programs) (Option Response) };
 }
 
-/// What holds of all premises of the ways that candidates are holds of all nested goals that these ask where their equations hold,
-/// with whatever terms.
+/// If a property holds of all premises of the rule instances that the candidates are, it holds of all their nested goals if their
+/// equations hold, for all values.
 pub fn premises_are_asked<E: ExactPrograms>()
     ensures { PremisesAreAsked E.tables E.Holds }
 {}
 
-/// What plain recursion refuses is not possible, and what it does not refuse is.
+/// Plain recursion refutes exactly what is not possible.
 pub fn plain_recursion_is_exact<E: ExactPrograms>()
     requires tables { IsTable E.tables }
     requires closing { IsClosing E.tables E.closing }
     ensures { PlainIsExact E.tables E.closing E.programs E.world E.mode E.exact E.handles }
 {}
 
-/// Where no candidate is unsure by itself, and each reference has one way at most that holds, plain recursion answers a definite yes
-/// to what holds, and refuses what does not.
+/// If no candidate is `Maybe` by itself, and at most one rule instance of each trait reference holds, plain recursion returns a
+/// definite yes for what holds, and refutes what does not.
 pub fn plain_recursion_is_right<E: ExactPrograms>()
     requires tables { IsTable E.tables }
     requires closing { IsClosing E.tables E.closing }
@@ -101,7 +104,7 @@ pub fn plain_recursion_is_right<E: ExactPrograms>()
     ensures { PlainIsRight E.tables E.closing E.programs E.world E.mode E.exact E.handles E.Holds }
 {}
 
-/// A goal whose chains of premises are short has an answer by plain recursion.
+/// Plain recursion has a result for each goal with short chains of premises.
 pub fn plain_recursion_answers<E: ExactPrograms>()
     requires tables { IsTable E.tables }
     requires closing { IsClosing E.tables E.closing }
@@ -109,8 +112,7 @@ pub fn plain_recursion_answers<E: ExactPrograms>()
     ensures { PlainAnswers E.tables E.closing E.programs E.world E.mode E.exact E.handles }
 {}
 
-/// So a search that comes to no other answer than plain recursion within its depth refuses a bounded goal exactly if it is not
-/// possible.
+/// A search that agrees with plain recursion within its depth refutes a bounded goal exactly if it is not possible.
 pub fn searches_are_exact<E: ExactPrograms>()
     requires tables { IsTable E.tables }
     requires closing { IsClosing E.tables E.closing }
@@ -118,7 +120,7 @@ pub fn searches_are_exact<E: ExactPrograms>()
     ensures { FoundIsExact E.tables E.closing E.programs E.world E.mode E.exact E.handles }
 {}
 
-/// And it answers a definite yes to a decided goal that holds, and refuses one that does not.
+/// It returns a definite yes for an unambiguous goal that holds, and refutes one that does not.
 pub fn searches_are_right<E: ExactPrograms>()
     requires tables { IsTable E.tables }
     requires closing { IsClosing E.tables E.closing }
@@ -128,7 +130,7 @@ pub fn searches_are_right<E: ExactPrograms>()
     ensures { FoundIsRight E.tables E.closing E.programs E.world E.mode E.exact E.handles E.Holds }
 {}
 
-/// The handles by which a search knows goals and answers of lists of rules.
+/// The handles by which a search refers to the goals and responses of lists of rules.
 pub trait RuleSearching {
     ghost Context: { Type 0 };
 
@@ -140,23 +142,23 @@ pub trait RuleSearching {
 
     ghost handles: { Handles Context Input Result Frame DeclaredRules (GoalInMode frame_tables rule_programs) (Option AnswerTrees) };
 
-    /// What is read as the truth of a reference.
+    /// What it means that a trait reference holds.
     ghost Holds: { Fact → Type 0 };
 }
 
-/// Plain recursion over the frames of a list of rules refuses a canonical goal without where-clauses and unknowns exactly if no way by
-/// the rules is possible.
+/// Plain recursion over the frames of a list of rules refutes a canonical goal without where-clauses and inference variables
+/// exactly if it is not possible by the rules.
 pub fn rules_are_exact<S: RuleSearching>()
     ensures { RulesAreExact S.handles }
 {}
 
-/// And where each reference has one rule at most whose premises hold, it answers a definite yes to what holds, and refuses what does
-/// not.
+/// If at most one rule of each trait reference has premises that hold, it returns a definite yes for what holds, and refutes what
+/// does not.
 pub fn rules_are_right<S: RuleSearching>()
     ensures { RulesAreRight S.handles S.Holds }
 {}
 
-/// And it has an answer for each goal whose chains of premises are short.
+/// It has a result for each goal with short chains of premises.
 pub fn rules_answer<S: RuleSearching>()
     ensures { RulesAnswer S.handles }
 {}

@@ -1,4 +1,4 @@
-//! The solver on goals without unknowns of formed facts: these lead to no other goals.
+//! Completeness for goals without inference variables whose facts are well-formed. Their nested goals are such goals again.
 ghost use Rattle.std.specs.Prelude.{Bool, List};
 ghost use Rattle.type_terms.specs.Promised.Handles.{Entry};
 ghost use Rattle.infer_table.specs.Canonical.{CanonicalForm};
@@ -16,47 +16,49 @@ ghost use Rattle.solver_completeness.specs.FormedAnswers.{FormedIsExact, FormedS
 
 use crate::{Judging, SolverSearching};
 
-/// Where facts that are judged so can be asked, and follow from such facts alone, the decided goals without unknowns of such facts lead
-/// to no others, in both modes and from whatever tables they are asked: a nested goal is decided again. Which goals fit declarations has
-/// to be kept from goal to goal.
+/// Let a property of facts be preserved by premises, and let such facts be goals. Then the nested goals of decided goals without
+/// inference variables with such facts are such goals again, in both typing modes and from all tables: each nested goal is
+/// decided. Whether goals fit the declarations has to be preserved from goal to nested goal.
 pub fn goals_lead_to_goals<J: Judging>()
     ensures { GoalsLeadToGoals J.Judged }
 {}
 
-/// Where declarations are formed, each with arguments as many, and of the sorts, that are declared, formed facts are kept along ways:
-/// premises of rules, and supertraits of what is not knowable, are formed again, and can be asked.
+/// If declarations are well-formed, with the declared numbers and kinds of arguments, well-formed facts are preserved: premises
+/// of rules, and supertraits of trait references that are not knowable, are well-formed and can be goals.
 pub fn formed_facts_are_kept()
     ensures { FormedAreKept }
 {}
 
-/// The terms of a decided goal whose fact is formed have the sorts that are declared, whatever stands for the goal's variables: so goals
-/// of formed facts fit declarations, as far as names and sorts go.
+/// The terms of a decided goal with a well-formed fact have the declared kinds, for all values of the goal's variables. So goals
+/// with well-formed facts fit the declarations, as far as names and kinds are concerned.
 pub fn formed_goals_fit()
     ensures { FormedGoalsFit }
 {}
 
-/// In a view that is declared well goals in which no binder binds what stands there lead to such goals, from all tables that the frame
-/// comes to. So a test of forms that reads names and sorts alone is kept by goals of formed facts in which nothing is bound.
+/// In a well-formed view, the nested goals of goals without bound variables have none either, from all tables of the frame. So a
+/// test of forms that depends only on names and kinds is preserved for goals with well-formed facts and without bound variables.
 pub fn unbound_goals_are_kept()
     ensures kept { UnboundAreKept }
     ensures admitted { UnboundAreAdmitted }
 {}
 
-/// A view that passes the test is formed, and `core` passes it, with the sorts that its structs and traits take.
+/// A view that passes the test is well-formed, and `core` passes it, with the kinds of its structs' and traits' parameters.
 pub fn formed_views_are_tested()
     ensures tell { FormedTestTells }
     ensures core { CoreIsFormed }
 {}
 
-/// So plain recursion over the solver's frames refuses, of decided goals of formed facts, only what is not possible by the rules of the
-/// view, and does not refuse what is not possible.
+/// Among decided goals with well-formed facts, plain recursion over the solver's frames refutes exactly what is not possible by
+/// the rules of the view.
 pub fn formed_goals_are_exact<S: SolverSearching>()
     ensures { FormedIsExact S.applicable S.same S.meaning_of S.fits_in S.handles }
 {}
 
-/// And a search that comes to no other answer within its limit refuses such a goal whose chains of premises are short exactly if it is
-/// not possible; outside coherence it answers a definite yes to a decided one that has a proof and refuses one that has none; and in
-/// coherence it refuses a bounded one without where-clauses exactly if it is not possible in the crate.
+/// The same for searches that agree with plain recursion within their limit.
+///
+/// * A goal with short chains of premises is refuted exactly if it is not possible.
+/// * Outside coherence, an unambiguous goal gets a definite yes if it has a proof, and is refuted otherwise.
+/// * In coherence, a bounded goal without where-clauses is refuted exactly if it is not possible for the crate.
 pub fn formed_goals_are_searched_right<S: SolverSearching>()
     requires programs { ArePrograms frame_tables (solver_programs S.applicable S.same S.meaning_of S.fits_in) }
     ensures exact { FormedSearchesAreExact S.applicable S.same S.meaning_of S.fits_in S.handles }
@@ -64,9 +66,10 @@ pub fn formed_goals_are_searched_right<S: SolverSearching>()
     ensures possible { FormedTellsPossible S.applicable S.same S.meaning_of S.fits_in S.handles }
 {}
 
-/// A handler in a context of `solver_graph` that means what the solver means, for the declarations that it holds over an interner.
+/// A handler in a context of `solver_graph` with the solver's meaning, for the declarations that its handles represent in an
+/// interner.
 pub trait RootSearching {
-    /// What a handler declares.
+    /// The declarations of a handler.
     ghost World: { Type 0 };
 
     ghost meaning_of: { World → ViewMeaning };
@@ -74,7 +77,7 @@ pub trait RootSearching {
     /// Which goals fit the declarations.
     ghost fits_in: { World → CanonicalForm → Bool };
 
-    /// Which where-clauses may be taken alone, and which answers are one.
+    /// Which where-clauses are always applicable, and which responses are equal.
     ghost applicable: { AnswerTrees → Bool };
 
     ghost same: { AnswerTrees → AnswerTrees → Bool };
@@ -86,9 +89,9 @@ pub trait RootSearching {
     ghost declares: { Handler → List Entry → World };
 }
 
-/// So it is of what `evaluate_root_goal` is told by its search, as its clauses `says` and `refusal` say (`found` of `IsResult`), for
-/// chains of premises of one question more than the graph is deep: of a goal of a formed fact a refusal says that it is not possible,
-/// and any other answer that it is; outside coherence a definite yes says that it has a proof, and a refusal that it has none.
+/// The same for the search results of `evaluate_root_goal` in its clauses `says` and `refusal` (`found` of `IsResult`), for
+/// chains of premises that are at most one longer than the graph's depth. A refuted goal with a well-formed fact is not possible,
+/// and any other is. Outside coherence a goal with a definite yes has a proof, and a refuted one has none.
 pub fn root_answers_are_right<S: RootSearching>()
     requires programs { ArePrograms frame_tables (solver_programs S.applicable S.same S.meaning_of S.fits_in) }
     ensures exact { RootsAreExact S.applicable S.same S.meaning_of S.fits_in S.is_ready S.declares }

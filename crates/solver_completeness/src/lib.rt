@@ -1,7 +1,8 @@
-//! Mathematics without running code: on goals without unknowns the solver answers exactly what has a proof, and within plain recursion.
+//! Completeness, as theorems without running code: for goals without inference variables the solver finds exactly what has a
+//! proof, within plain recursion.
 //!
-//! First for every handler that keeps its laws (`any_handler`), then for the solver's: its candidates are the ways of a goal, considered
-//! in order, and its answers those of the root call.
+//! `any_handler` proves this for every lawful handler. The rest applies it to the solver: its candidates are the rule instances
+//! of a goal, in order, and its results are those of the root call.
 #![tactic(auto)]
 
 ghost use Rattle.solver_completeness.specs.ReadBack.{OutsideComesBack, CoherenceComesBack};
@@ -31,84 +32,89 @@ pub use any_handler::{
     searches_are_exact, searches_are_right,
 };
 
-/// The ways of facts are those of the references that they speak of, by the rules of the view and the fact's where-clauses; in
-/// coherence of closed references without where-clauses, those by which a crate tells what is possible.
+/// The rule instances of facts are those of their trait references, by the rules of the view and the fact's where-clauses. In
+/// coherence, for concrete trait references without where-clauses, they are those that decide what is possible for a crate.
 pub fn ways_come_back()
     ensures outside { OutsideComesBack }
     ensures coherence { CoherenceComesBack }
 {}
 
-/// Of a goal without unknowns the solver considers its candidates in order, in both modes. In coherence the unknowable candidate is the
-/// first, where there is one, and if it is not refused, its response is the answer; outside, impls and object bounds may be left out
-/// where a where-clause was not refused. Where all are refused, none was left out, and the goal is refused; else it is answered. The
-/// answer holds no values where the responses hold none, and the only response is the answer if it is a definite yes.
+/// The order in which the solver evaluates the candidates of a goal without inference variables, in both typing modes.
+///
+/// * In coherence, if the trait reference is not knowable, the candidate for that is the first. If it has a response, this is the
+///   result.
+/// * Outside coherence, impls and object bounds may be left out if some where-clause has a response.
+/// * If no candidate has a response, none was left out, and the goal has no solution. Otherwise it has a response.
+/// * The result has no values if the responses have none. A single response is the result if it is a definite yes.
 pub fn plans_are_exact()
     ensures { PlansAreExact }
 {}
 
-/// On a goal without unknowns the candidates of `Sized`, `Copy` and `Clone`, auto traits, `Tuple` and `FnPtr` apply with the premises of
-/// the rules of the goal's instance, one for each rule and in their order, whatever places the goal's placeholders stand for.
+/// For a goal without inference variables, the candidates of `Sized`, `Copy` and `Clone`, auto traits, `Tuple` and `FnPtr` are
+/// the built-in rules of the goal's instance with their premises, in the same order, for all values of the goal's placeholders.
 pub fn rows_are_ways()
     ensures { RowsAreWays }
 {}
 
-/// So it is of the candidates by calls of fn pointers, and by arrays, types that are no `dyn`, and structs that unsize: where the terms
-/// that they equate are read as one they apply, and else they refuse.
+/// The same for candidates that equate terms: calls of fn pointers, and `Unsize` for arrays, for types that are no `dyn`, and for
+/// structs. If the terms have the same value the candidate applies, and otherwise it has no solution.
 pub fn equated_rows_are_ways()
     ensures { EquatedRowsAreWays }
 {}
 
-/// The candidates by impls apply with the clauses of those impls that conclude the goal's instance, in their order, and else refuse,
-/// whatever places the goal's placeholders stand for.
+/// For all values of the goal's placeholders, the candidate of an impl that concludes the goal's instance applies with the impl's
+/// where-clauses, in order. Other impls' candidates have no solution.
 pub fn impls_are_ways()
     ensures { ImplsAreWays }
 {}
 
-/// What is judged of facts, as that they have proofs.
+/// A property of facts, for example that they have proofs.
 pub trait Judging {
     ghost Judged: { Fact → Type 0 };
 }
 
-/// The candidates by a `dyn` that unsizes to another, and by object bounds where no auto trait stands twice, are ways of the goal's
-/// instance too. Each supertrait is a candidate once, and asks each of the goal's supertraits once; so they are the ways by the rules
-/// but for order and repeats, whatever is judged of facts.
+/// The candidates for upcasts of a `dyn`, and for object bounds without duplicate auto traits, are rule instances of the goal's
+/// instance too. Each supertrait is one candidate, which has each of the goal's supertraits as a nested goal once. So they are
+/// the rule instances up to order and duplicates, for every property of facts.
 pub fn bounds_are_ways<J: Judging>()
     ensures { BoundRowsAreWays J.Judged }
 {}
 
-/// On a goal without unknowns the candidate of a where-clause applies, and asks nothing, if the clause is the goal's instance, and else
-/// refuses.
+/// For a goal without inference variables, the candidate of a where-clause that is the goal's instance applies without nested
+/// goals. Other where-clauses' candidates have no solution.
 pub fn clauses_are_ways()
     ensures { ClausesAreWays }
 {}
 
-/// Where the view is declared well, a goal determines the nested goals of each of its candidates, also of the unknowable one, and there
-/// are not too many candidates; and outside coherence no candidate of a goal without unknowns is unsure by itself.
+/// If the view is well-formed, a goal determines the nested goals of each of its candidates, even of the one for trait references
+/// that are not knowable, and the number of candidates is bounded. Outside coherence no candidate of a goal without inference
+/// variables is `Maybe` by itself.
 pub fn specs_are_lawful()
     ensures determined { SpecsAreDetermined }
     ensures few { SpecsAreFew }
     ensures sure { SpecsAreSure }
 {}
 
-/// So all candidates together are the ways of the goal's instance but for order and repeats, whatever is judged of facts: outside
-/// coherence by the rules of the view and the goal's where-clauses, and in coherence by the supertraits too of what is not knowable.
-/// The where-clauses have to be elaborated, and no auto trait of a `dyn` may stand twice.
+/// All candidates together are the rule instances of the goal's instance up to order and duplicates, for every property of facts.
+/// Outside coherence these are by the rules of the view and the goal's where-clauses. In coherence they are also by the
+/// supertraits of trait references that are not knowable. The where-clauses must be elaborated, and no auto trait may occur twice
+/// in a `dyn`.
 pub fn specs_are_ways<J: Judging>()
     ensures outside { SpecsAreWays J.Judged }
     ensures coherence { CoherenceSpecsAreWays J.Judged }
 {}
 
-/// The solver as a search runs it, and a set of questions with values for their placeholders.
+/// The solver in a search, and a set of canonical goals with values of their placeholders.
 pub trait SolverSearching {
-    /// What a context declares.
+    /// The declarations of a context.
     ghost World: { Type 0 };
 
     ghost meaning_of: { World → ViewMeaning };
 
-    /// Which goals fit the declarations: of others nothing is decided.
+    /// Which goals fit the declarations. Other goals are not decided.
     ghost fits_in: { World → CanonicalForm → Bool };
 
-    /// Which where-clauses may be taken alone, and which answers are one, as the solver merges them.
+    /// Which where-clauses are always applicable, and which responses are equal, for the solver's merge.
     ghost applicable: { AnswerTrees → Bool };
 
     ghost same: { AnswerTrees → AnswerTrees → Bool };
@@ -126,33 +132,34 @@ pub trait SolverSearching {
     ghost IsAsked: { NestedQuestion → Values → Type 0 };
 }
 
-/// On a set of goals without unknowns that leads to no others, plain recursion over the solver's frames refuses, in both modes, only
-/// what is not possible by the rules of the view, and does not refuse what is not possible.
+/// For a set of goals without inference variables that is closed under nested goals, plain recursion over the solver's frames
+/// refutes exactly what is not possible by the rules of the view, in both typing modes.
 pub fn solver_is_exact<S: SolverSearching>()
     ensures { SolverIsExact S.applicable S.same S.meaning_of S.fits_in S.handles S.IsAsked }
 {}
 
-/// So a search that comes to no other answer than plain recursion within its limit, as `evaluate_root_goal` promises of one more than
-/// its depth, refuses a goal of the set whose chains of premises are short exactly if it is not possible.
+/// A search that agrees with plain recursion within its limit, which for `evaluate_root_goal` is its depth plus one, refutes a
+/// goal of the set with short chains of premises exactly if it is not possible.
 pub fn solver_searches_are_exact<S: SolverSearching>()
     requires programs { ArePrograms frame_tables (solver_programs S.applicable S.same S.meaning_of S.fits_in) }
     ensures { SolverSearchesAreExact S.applicable S.same S.meaning_of S.fits_in S.handles S.IsAsked }
 {}
 
-/// And outside coherence it answers a definite yes to one that has a proof by the rules of the view and its where-clauses, and refuses
-/// one that has none, where by short chains each reference has one rule at most whose premises have proofs.
+/// Outside coherence, for goals with short chains along which at most one rule instance of each trait reference has premises with
+/// proofs: a search returns a definite yes if the goal has a proof by the rules of the view and its where-clauses, and refutes it
+/// otherwise.
 pub fn solver_searches_are_right<S: SolverSearching>()
     requires programs { ArePrograms frame_tables (solver_programs S.applicable S.same S.meaning_of S.fits_in) }
     ensures { SolverSearchesAreRight S.applicable S.same S.meaning_of S.fits_in S.handles S.IsAsked }
 {}
 
-/// In coherence a search refuses a bounded reference without where-clauses exactly if it is not possible in the crate.
+/// In coherence a search refutes a bounded trait reference without where-clauses exactly if it is not possible for the crate.
 pub fn solver_tells_possible<S: SolverSearching>()
     requires programs { ArePrograms frame_tables (solver_programs S.applicable S.same S.meaning_of S.fits_in) }
     ensures { SolverTellsPossible S.applicable S.same S.meaning_of S.fits_in S.handles S.IsAsked }
 {}
 
-/// The questions that lead to good goals alone, in any number of steps, are a set that leads to no others.
+/// The canonical goals whose nested goals, in any number of steps, are all good are a set that is closed under nested goals.
 pub fn leading_are_goals()
     ensures { LeadingAreGoals }
 {}

@@ -1,4 +1,4 @@
--- Answers to a goal over an interner: what they agree with, and what they speak of.
+-- Responses to a goal over an interner: what agrees with them, and their variables.
 use Rattle.std.proofs.Common.{◌≡◌, ℕ, zero, suc, true, false, ◌&&◌, List, [], ◌∷◌, map, refl, sym, ◌∙◌, ap, subst, Option, Some, None, inl, inr}
 use Rattle.std.specs.Prelude.{option_map}
 use Rattle.std.specs.List.{slice_get}

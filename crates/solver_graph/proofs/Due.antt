@@ -1,4 +1,4 @@
--- Which reply is due does not depend on the handles by which a search knows goals and answers.
+-- Which reply is due does not depend on the handles by which a search refers to goals and responses.
 use Rattle.std.proofs.Common.{◌≡◌, Bool, false, List, [], ◌∷◌, ◌++◌, length, refl, sym, ◌∙◌, ap, Option, slice_get}
 use Rattle.search_graph.specs.declared.delegate.Request.{Request}
 use Rattle.search_graph.specs.declared.delegate.Request.TheVariants.{Evaluate, EnterCandidate, FinishCandidate, IgnoreCandidate, Done}

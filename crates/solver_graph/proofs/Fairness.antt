@@ -1,4 +1,4 @@
--- An answer that says nothing of a goal's variables is fair.
+-- A response without values is fair.
 use Rattle.search_graph.specs.Meaning.{IsFair}
 use Rattle.infer_table.specs.declared.certainty.Certainty.{Certainty}
 use Rattle.goal_evaluator.specs.Tables.{frame_tables}

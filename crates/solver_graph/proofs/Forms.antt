@@ -1,4 +1,4 @@
--- An instance of a goal's canonical form, by what is assigned to the goal's leaves, is an instance of the goal.
+-- An instance of a goal's canonical form, by the values of the goal's leaves, is an instance of the goal.
 use Rattle.std.proofs.Common.{◌≡◌, ℕ, Bool, true, ◌&&◌, List, [], ◌∷◌, ◌++◌, map, refl, sym, ◌∙◌, ap, Option, Some, None, if◌then◌else◌, is_some, inl, inr}
 use Rattle.std.specs.Prelude.{IsSome}
 use Rattle.type_terms.specs.Promised.Label.{Label, Sort, of_type, of_const, of_lifetime, infer, param, placeholder, canonical, bound, static}

@@ -1,4 +1,4 @@
--- A frame stands where it stood, whatever else its interner holds.
+-- A frame's state does not depend on later terms of its interner.
 use Rattle.std.proofs.Common.{List, map, subst, sym, Option}
 use Rattle.type_terms.specs.Promised.Handles.{Entry, Keeps}
 use Rattle.infer_table.specs.declared.input.CanonicalInput.{CanonicalInput}

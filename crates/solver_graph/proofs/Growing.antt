@@ -1,4 +1,4 @@
--- A context that has grown keeps all that a search knows.
+-- A context that has grown preserves all that a search has.
 use Rattle.std.proofs.Common.{◌≡◌, ◌∙◌, List, [], refl, sym, ap, subst, Option, Some, None, option_map}
 use Rattle.std.proofs.lemmas.Option.{same_Some}
 use Rattle.type_terms.specs.Promised.Handles.{Entry, Keeps}

@@ -1,4 +1,4 @@
--- Nothing stands below the variables, lifetimes and numbers of a goal that a table resolves.
+-- The variables, lifetimes and numbers of a goal that a table resolves have no children.
 use Rattle.std.proofs.Common.{arith, ◌≡◌, ℕ, Bool, true, false, List, [], ◌∷◌, refl, sym, ◌∙◌, ap, if◌then◌else◌}
 use Rattle.type_terms.specs.Promised.Label.{Sort, infer}
 use Rattle.type_terms.specs.Promised.Trees.{Trees, none, tree, ◌+++◌}

@@ -1,4 +1,4 @@
--- Answers put into a table.
+-- Responses applied to a table.
 use Rattle.std.proofs.Common.{◌≡◌, true, ◌&&◌, List, [], ◌∷◌, Result, Ok, Err, refl, ◌∙◌, ap, Some, if◌then◌else◌}
 use Rattle.std.specs.Prelude.{OnOk}
 use Rattle.infer_table.specs.Unification.{TableTrees}

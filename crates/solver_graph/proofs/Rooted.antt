@@ -1,4 +1,4 @@
--- From the context in which a goal is asked to the one that a search leaves.
+-- From the context before a search to the one after it.
 use Rattle.std.proofs.Common.{◌≡◌, Bool, true, false, ◌&&◌, not, List, ◌∙◌, ap, subst, Option, refl}
 use Rattle.type_terms.specs.Promised.Handles.{Entry, Keeps}
 use Rattle.search_graph.specs.Meaning as Search

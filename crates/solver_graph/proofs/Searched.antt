@@ -1,4 +1,4 @@
--- What an answer of a search to a goal's canonical form says of the goal, over a table.
+-- What a search's response to a goal's canonical form states about the goal, over a table.
 use Rattle.std.proofs.Common.{◌≡◌, List, refl, sym, ◌∙◌, ap, subst, Option}
 use Rattle.type_terms.specs.Promised.Label.{of_trait, predicate}
 use Rattle.type_terms.specs.Promised.Trees.{none}

@@ -1,4 +1,4 @@
--- Where a context of the solver is at a limit.
+-- When a context of the solver is at a limit.
 use Rattle.std.proofs.Common.{◌≡◌, sym, subst, Result, Ok, Err, OnErr, IfErr}
 use Rattle.std.specs.Prelude.{IsErrAnd}
 use Rattle.type_terms.specs.declared.Fault.{Fault}

@@ -1,4 +1,4 @@
--- The silent answer to a goal that is kept: each variable stands for itself.
+-- The response without values to a stored goal: each variable is its own value.
 use Rattle.std.proofs.Common.{◌≡◌, List, ◌∙◌, ap, Some, Result, Ok, Err, IfOk, subst}
 use Rattle.search_graph.specs.declared.path_kind.PathKind.{PathKind}
 use Rattle.infer_table.specs.Canonical.{CanonicalForm}

@@ -1,4 +1,4 @@
--- Answers that say nothing, and the requests of frames in code.
+-- Responses without values, and the requests of frames in code.
 use Rattle.std.specs.Prelude.{Bool, not, ◌&&◌, List, Option, Some, None}
 use Rattle.type_terms.specs.Promised.Handles.{Entry}
 use Rattle.search_graph.specs.declared.delegate.Request.{Request}
@@ -14,16 +14,16 @@ use Rattle.goal_evaluator.specs.TableAnswers.{has_values}
 use Rattle.goal_evaluator.specs.StepReadings.{result_read}
 use Rattle.solver_graph.specs.Contexts.{Asked, asked_of}
 
--- no type or const has a value, and no lifetime is constrained
+-- no type or constant has a value, and there are no region constraints
 abbrev pub holds_nothing : AnswerTrees → Bool
 holds_nothing a = not (has_values a) && is_no_tree a.constraints
 
--- the certainty of an answer
+-- the certainty of a response
 abbrev pub certainty_of : Option AnswerTrees → Option Certainty
 certainty_of None = None
 certainty_of (Some a) = Some a.certainty
 
--- ---- what frames in code are told and ask
+-- ---- the replies and requests of frames in code
 abbrev pub reply_read : List Entry → Reply (Option CanonicalResponse) → Reply (Option AnswerTrees)
 reply_read es Begin = Begin
 reply_read es (Result r) = Result (result_read es r)

@@ -1,4 +1,4 @@
--- Whether something has changed.
+-- Whether a response changed something.
 use Rattle.std.specs.Prelude.{Bool, true, false}
 use Rattle.goal_evaluator.specs.declared.goal.HasChanged.{HasChanged}
 use Rattle.goal_evaluator.specs.declared.goal.HasChanged.TheVariants.{Yes, No}

@@ -1,4 +1,4 @@
--- What a refused equation means for a goal.
+-- Errors of equations as errors of root goals.
 use Rattle.infer_table.specs.declared.certainty.EqError.{EqError}
 use Rattle.infer_table.specs.declared.certainty.EqError.TheVariants as Eq
 use Rattle.solver_graph.specs.declared.outcome.RootError.{RootError}

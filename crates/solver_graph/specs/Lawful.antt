@@ -1,4 +1,4 @@
--- The laws of the solver's contexts and frames: what a search rests on.
+-- The laws of the solver's contexts and frames, on which a search rests.
 use Rattle.std.proofs.Common.{◌≡◌, ◌≤◌, ◌∙◌, true, List, refl, sym, ap, subst, Option, Some, None, option_map}
 use Rattle.std.proofs.Math.Nat.{le_refl}
 use Rattle.std.specs.Option.{option_eq}
@@ -28,7 +28,7 @@ same-number : (a b : ResponseId) → a ≡ b → response.eq a b ≡ true
 same-number a b e = (response-id-eq a b).1 e
 
 module _ {Handler : Type 0} (ready : Handler → List Entry → Type 0) where
-  -- results that stand for one answer are equal
+  -- results that represent one response are equal
   pub same-answer : (c : SolverCx Handler) (r s : Option ResponseId) → ResponseIsMade ready c r → ResponseIsMade ready c s → answer_of c r ≡ answer_of c s → option_eq response.eq r s ≡ true
   same-answer c None None x y e = refl
   same-answer c None (Some j) x y e = let there = ap (option_map (answer_trees (entries_of c))) y.1.1 in cc

@@ -1,4 +1,4 @@
--- Numbers that are equal are the same number, and so are results.
+-- Equal numbers are the same number, and equal results are the same result.
 use Rattle.std.proofs.Common.{◌≡◌, true, refl, ap, Option, Some, None}
 use Rattle.std.specs.Option.{option_eq}
 use Rattle.goal_frames.specs.declared.store.ResponseId.{ResponseId}

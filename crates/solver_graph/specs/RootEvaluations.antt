@@ -1,4 +1,4 @@
--- What `evaluate_root_goal` promises: how it leaves what it is lent, what it costs, what it says, and when it refuses or ends with a fault.
+-- What `evaluate_root_goal` promises: the state afterwards, its costs, its result, and its errors.
 use Rattle.std.specs.Prelude.{◌≡◌, List, Option, Some, None, IfErr, OnErr, Result, Err}
 use Rattle.type_terms.specs.Promised.Handles.{Keeps}
 use Rattle.infer_table.specs.Content.{Table, Ready, Grows, content}
@@ -28,16 +28,16 @@ use Rattle.solver_graph.specs.declared.outcome.GoalEvaluation.{GoalEvaluation}
 use Rattle.solver_graph.specs.declared.outcome.RootError.{RootError}
 use Rattle.solver_graph.specs.declared.outcome.RootError.TheVariants.{NoSolution, Conflict}
 
--- A cache as what it knows.
+-- A cache as its known results.
 abbrev pub KnownResults : Type 0
 KnownResults = List (KnownResult InputId (Option ResponseId))
 
--- What is asked of a goal of the table.
+-- The canonical form of a goal of the table.
 abbrev pub goal_asked : {Handler : Type 0} → SolverCx Handler → Table → TypingMode → Goal → Asked
 goal_asked c t mode g = asked_in mode (entries_of c) t g
 
 module _ {Handler : Type 0} (m : HandlerMeaning Handler) (c : SolverCx Handler) (t : Table) where
-  -- This is so at each solution of the table at which the goal has a proof.
+  -- The property holds at each solution of the table at which the goal has a proof.
   abbrev pub AtProved : TypingMode → Goal → (Assignment → Type 0) → Type 0
   AtProved mode g P = AtProvedSolutions (m.goals.handled (world_of m c)) mode (entries_of c) t g P
 
@@ -46,11 +46,10 @@ module _ {Handler : Type 0} (m : HandlerMeaning Handler) (c : SolverCx Handler) 
   YesIsProved g e =
       e.certainty ≡ Yes → e.has_changed ≡ No → SolutionsAreProved (m.goals.Rule (world_of m c)) (m.goals.coinductive (world_of m c)) (entries_of c) t g
 
--- A context, a graph, a cache and a table that are lent, and what is left of them.
+-- A context, a graph, a cache and a table, before and after the call.
 module _ {Handler : Type 0} (m : HandlerMeaning Handler) (c : SolverCx Handler) (graph : SearchState) (ks : KnownResults) (t : Table)
     (d : SolverCx Handler) (graph_left : SearchState) (ls : KnownResults) (u : Table) where
-  -- All is at rest, and can be lent again: no search runs, the cache is justified, handles are the context's, and nothing that was
-  -- there is lost.
+  -- All can be used again: no search runs, the cache is justified, handles are of the context's interner, and nothing is lost.
   pub record LeavesAtRest : Type 0 where
     pub empty : graph_left.current_depth ≡ 0
     pub depth : graph_left.root_depth ≡ graph.root_depth
@@ -64,19 +63,19 @@ module _ {Handler : Type 0} (m : HandlerMeaning Handler) (c : SolverCx Handler) 
     pub table : Ready (entries_of d) u
     pub grows : Grows t u
 
-  -- What the search costs: a bounded number of frames, and none for a goal whose answer the cache holds. A limit is met only for a goal
-  -- that plain recursion does not answer within the depth, and is noted.
+  -- The costs of the search: a bounded number of frames, and none for a goal whose response is cached. A limit is exceeded only
+  -- for a goal that plain recursion does not answer within the depth, and is noted.
   pub record Costs (mode : TypingMode) (g : Goal) : Type 0 where
     pub frames : FramesAreBounded (solver_meaning m) c (goal_asked c t mode g) graph graph_left
     pub cached : KnownIsFree (solver_meaning m) c ks (goal_asked c t mode g) graph graph_left ls
     pub limits : LimitsAreNoted (solver_meaning m) c (goal_asked c t mode g) graph graph_left
 
-  -- The search gives the goal this answer: one that the cache held if it held any, and that it holds afterwards.
+  -- The search gives the goal this response. If the cache had a response, it is this one, and afterwards the cache has it.
   abbrev pub IsGivenBySearch : TypingMode → Goal → Option AnswerTrees → Type 0
   IsGivenBySearch mode g a = IsResult (solver_meaning m) c ks graph d ls graph_left (goal_asked c t mode g) a
 
-  -- The evaluation is that of the goal as the table resolves it, and says what the answer says that the search gives. The answer is put
-  -- into the table: no solution is lost at which the goal has a proof, and none is gained.
+  -- The result contains the goal as the table resolves it, and has the certainty and changes of the search's response. The
+  -- response is applied to the table: no solution is lost at which the goal has a proof, and none is gained.
   pub record SaysAnswer (mode : TypingMode) (g : Goal) (e : GoalEvaluation) : Type 0 where
     pub held : GoalHeld (entries_of d) e.goal
     pub resolved : goal_trees (entries_of d) e.goal ≡ goal_in (entries_of c) t g
@@ -84,14 +83,14 @@ module _ {Handler : Type 0} (m : HandlerMeaning Handler) (c : SolverCx Handler) 
     pub covers : AtProved m c t mode g (λ s. SolutionGoesOn s t (entries_of d) u)
     pub narrows : (s : Assignment) → Solves s (content (entries_of d) u.values) → Solves s (content (entries_of c) t.values)
 
-  -- After any error the table is as before. There is no solution where the answer that the search gives refuses the goal, or is refused
-  -- by the table; then the goal has a proof at no solution.
+  -- After any error the table is unchanged. `NoSolution` is returned if the search has no response to the goal, or the response
+  -- cannot be applied. Then the goal has a proof at no solution.
   pub record Refuses (mode : TypingMode) (g : Goal) (result : Result GoalEvaluation RootError) : Type 0 where
     pub unchanged : OnErr result (u ≡ t)
     pub answer : result ≡ Err NoSolution → (a : Option AnswerTrees) × IsGivenBySearch mode g a × (left_by (table_trees (entries_of c) t) (goal_in (entries_of c) t g) a ≡ None)
     pub no_proof : result ≡ Err NoSolution → AtProved m c t mode g (λ s. ⊥)
 
-  -- A goal that plain recursion answers within the depth meets no conflict. `Full` comes only where the context is at a limit.
+  -- A goal that plain recursion answers within the depth has no conflict. `Full` is returned only if the context is at a limit.
   pub record EndsByFault (mode : TypingMode) (g : Goal) (result : Result GoalEvaluation RootError) : Type 0 where
     pub not_plain : result ≡ Err Conflict → IsNotPlainWithin (solver_meaning m) c graph (goal_asked c t mode g)
     pub conflict : result ≡ Err Conflict → HasConflict (solver_meaning m) d ls

@@ -1,4 +1,4 @@
--- What the contexts, numbers and frames of the solver mean to a search.
+-- The meaning of the solver's contexts, numbers and frames for a search.
 use Rattle.std.specs.Prelude.{◌≡◌, ℕ, List, Option, Some, slice_get}
 use Rattle.type_terms.specs.Promised.Handles.{Entry}
 use Rattle.search_graph.specs.declared.delegate.Reply.{Reply}
@@ -22,11 +22,11 @@ use Rattle.solver_graph.specs.declared.context.SolverCx.{SolverCx}
 use Rattle.solver_graph.specs.Contexts.{Asked, entries_of, goal_of, answer_of, IsReady, IsInput, ResponseIsMade, IsKeptAnswer}
 use Rattle.solver_graph.specs.Shortages.{ContextIsFull}
 
--- whatever is answered
+-- without any requirement on the results
 abbrev pub AnyAnswer : Asked → Option AnswerTrees → Type 0
 AnyAnswer g a = Unit {0}
 
--- a result that is replied is as P says
+-- a result among the replies satisfies P
 abbrev pub RepliedResultIs : (Option AnswerTrees → Type 0) → Reply (Option AnswerTrees) → Type 0
 RepliedResultIs P (Replied.Result a) = P a
 RepliedResultIs P reply = Unit {0}
@@ -35,7 +35,7 @@ module _ (goals : Goals) where
   abbrev pub programs : Programs frame_tables
   programs = programs_of goals
 
-  -- a search that is lent what its handlers declare, and knows goals and answers by themselves
+  -- A search whose context is the handler's declarations. Its goals and responses represent themselves.
   abbrev pub bare_handles : Handles goals.World Asked (Option AnswerTrees) (Unit {0}) goals.World Asked (Option AnswerTrees)
   bare_handles = record {
     world = λ w. w;
@@ -52,7 +52,7 @@ module _ (goals : Goals) where
   abbrev pub bare : Meaning goals.World Asked (Option AnswerTrees) (Unit {0})
   bare = meaning frame_tables programs bare_handles
 
--- what a context has for good: a term of the interner under its number, and the limits of the interner and of the store
+-- What does not change in a context: the interner's terms with their numbers, and the limits of the interner and of the store.
 pub data Lasting : Type 0 where
   of_term : ℕ → Entry → Lasting
   of_limits : ℕ → ℕ → Lasting
@@ -62,16 +62,16 @@ HasLasting c (of_term i e) = slice_get (entries_of c) i ≡ Some e
 HasLasting c (of_limits terms kept) = (c.interner.limit ≡ terms) × (limit_of c.store ≡ kept)
 
 module _ {Handler : Type 0} (m : HandlerMeaning Handler) where
-  -- what the context's handler declares
+  -- the declarations of the context's handler
   abbrev pub world_of : SolverCx Handler → m.goals.World
   world_of c = m.world c.handler (entries_of c)
 
-  -- the frame is the goal's, in its mode, and has had these replies, each of which was due, the newest first
+  -- the frame is the goal's, in its typing mode, and has had these replies, each of which was due, the newest first
   pub record FrameHasHeard (c : SolverCx Handler) (g : Asked) (heard : List (Reply (Option AnswerTrees))) (f : GoalFrame) : Type 0 where
     pub ready : IsReady m.IsReady c
     pub mode : f.goal.mode ≡ g.0
     pub form : form_of (entries_of c) f.goal ≡ g.1
-    -- the goal is kept, and so is each result that was replied
+    -- the goal is stored, and so is each result among the replies
     pub kept : (i : InputId) × IsInput m.IsReady c i × (goal_of c i ≡ g)
     pub replies : Every (RepliedResultIs (IsKeptAnswer m.IsReady c)) heard
     pub due : AreReplies (bare m.goals) AnyAnswer (world_of c) g heard
@@ -93,6 +93,6 @@ module _ {Handler : Type 0} (m : HandlerMeaning Handler) where
   abbrev pub solver_meaning : Meaning (SolverCx Handler) InputId (Option ResponseId) GoalFrame
   solver_meaning = meaning frame_tables (programs m.goals) handles
 
-  -- a frame takes no more steps
+  -- the greatest number of steps of a frame
   abbrev pub steps_left : SolverCx Handler → GoalFrame → ℕ
   steps_left c f = Steps.steps_left (m.goals.handled (world_of c) f.goal.mode (form_of (entries_of c) f.goal)) f

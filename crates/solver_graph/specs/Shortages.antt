@@ -10,7 +10,7 @@ use Rattle.solver_graph.specs.declared.outcome.RootError.{RootError}
 use Rattle.solver_graph.specs.declared.outcome.RootError.TheVariants as Root
 use Rattle.solver_graph.specs.Contexts.{entries_of}
 
--- as many goals, or as many answers, are kept as the limit allows
+-- as many goals, or as many responses, are stored as the limit allows
 abbrev pub StoreIsFull : GoalStore → Type 0
 StoreIsFull s = (length (kept_inputs s) ≡ limit_of s) ⊎ (length (kept_responses s) ≡ limit_of s)
 
@@ -19,10 +19,10 @@ pub data ContextIsFull {Handler : Type 0} (c : SolverCx Handler) : Type 0 where
   interner : SomeKindIsFull (entries_of c) c.interner.limit → ContextIsFull c
   store : StoreIsFull c.store → ContextIsFull c
 
--- the fault is `Full` only where the context is
+-- the fault is `Full` only if the context is at a limit
 abbrev pub ContextFullAtLimit : {Handler : Type 0} → SolverCx Handler → Fault → Type 0
 ContextFullAtLimit c fault = fault ≡ Full → ContextIsFull c
 
--- so is the fault of a root goal
+-- the same for the fault of a root goal
 abbrev pub RootFullAtLimit : {Handler : Type 0} → SolverCx Handler → RootError → Type 0
 RootFullAtLimit c error = error ≡ Root.Fault Full → ContextIsFull c

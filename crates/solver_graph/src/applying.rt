@@ -1,4 +1,4 @@
-//! An answer put into the table of the goal that was asked.
+//! Applies a response to the table of its goal.
 
 ghost use Rattle.std.specs.Prelude.{◌≡◌, Some, None, OnOk, OnErr, Err};
 ghost use Rattle.type_terms.specs.Promised.Handles.{Entry};
@@ -22,12 +22,12 @@ use std::alloc::Global;
 use type_terms::interner::Interner;
 use type_terms::kinds::GenericArgKind;
 
-/// Puts an answer to a goal, whose values these are, into the table.
+/// Applies a response to the table of a goal with these values.
 ///
-/// An answer to another goal says nothing of this one, and leaves the table as it is. A search of a lawful handler's goals may
-/// come to one: of its answers no more is known than that they are well-formed and that solutions agree with them.
+/// A response that does not fit the goal leaves the table unchanged. It is not excluded here: of the responses of a search only
+/// two facts are known, that they are well-formed and that solutions agree with them.
 ///
-/// After a refusal the table is as before.
+/// After an error the table is unchanged.
 pub(crate) fn apply_answer(
     alloc: Global,
     cx: &mut Interner,
@@ -45,17 +45,17 @@ pub(crate) fn apply_answer(
     ensures terms { EqGrewOrFull cx.old cx.new result }
     ensures refused { OnErr result (table.new ≡ table.old) }
 
-    // What is left, and whether it is refused, is a function of trees.
+    // The resulting table, and whether there is one, depends only on the terms.
     ensures exact { OnOk result (left_by_answer cx.old.entries table.old values.now answer.now ≡ Some (table_trees cx.new.entries table.new)) }
     ensures refusal { result ≡ Err EqError.NoSolution → left_by_answer cx.old.entries table.old values.now answer.now ≡ None }
 
-    // Solutions of the table that is left are solutions of the table before. A solution of that one which agrees with the
-    // answer goes on to the one that is left, and is never refused.
+    // Solutions of the resulting table are solutions of the earlier one. An earlier solution that agrees with the response
+    // extends to one of the resulting table, so the call does not return `NoSolution`.
     ensures narrows { OnOk result ((s : Assignment) → Solves s (content cx.new.entries table.new.values) → Solves s (content cx.old.entries table.old.values)) }
     ensures kept { OnOk result (AtAgreeingSolutions cx.old.entries table.old values.now answer.now (λ s. SolutionGoesOn s table.old cx.new.entries table.new)) }
     ensures accepted { result ≡ Err EqError.NoSolution → AtAgreeingSolutions cx.old.entries table.old values.now answer.now (λ s. ⊥) }
 
-// `Full` comes only where some kind of term has reached the interner's limit.
+// `Full` is returned only if some kind of term has reached the interner's limit.
 {
     cx.lawful();
     if !have_same_sorts(values, &answer.var_values) {
@@ -64,7 +64,7 @@ pub(crate) fn apply_answer(
     instantiate_and_apply_query_response(alloc, cx, table, values, answer)
 }
 
-/// Whether the answer gives values to types or constants.
+/// Whether the response has values of types or constants.
 pub(crate) fn has_changed(cx: &Interner, answer: &CanonicalResponse) -> HasChanged
     requires held { ResponseHeld cx.now.entries answer.now }
     requires well_formed { IsWellFormed (answer_trees cx.now.entries answer.now) }

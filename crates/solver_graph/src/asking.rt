@@ -1,4 +1,4 @@
-//! A goal of a table as a search is asked for it.
+//! A goal of a table as the input of a search.
 
 ghost use Rattle.std.specs.Prelude.{◌≡◌, IfErr, IfOk};
 ghost use Rattle.type_terms.specs.Promised.Handles.{Keeps};
@@ -22,17 +22,17 @@ use infer_table::resolving::resolve_goal;
 use type_terms::Fault;
 use type_terms::kinds::GenericArgKind;
 
-/// A goal of a table, resolved, with its canonical form and what the form's variables stand for.
+/// A goal of a table, resolved, with its canonical form and the values of the form's variables.
 pub struct Asked {
-    /// The goal, resolved.
+    /// The resolved goal.
     pub goal: Goal,
     /// The number of its canonical form.
     pub input: InputId,
-    /// What stands for the variables of the form.
+    /// The values of the form's variables.
     pub values: Vec<GenericArgKind>,
 }
 
-/// The goal as the table resolves it, and its canonical form.
+/// The goal as the table resolves it, with its canonical form.
 pub fn ask<H: GoalHandler>(
     cx: &mut SolverCx<H>,
     table: &InferCtxt,

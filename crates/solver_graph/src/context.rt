@@ -1,4 +1,4 @@
-//! What a search of goals is lent.
+//! The context of a search.
 
 ghost use Rattle.std.specs.Prelude.{◌≡◌, [], Err, IfOk, IfErr};
 ghost use Rattle.type_terms.specs.declared.Fault.TheVariants.{Memory};
@@ -20,27 +20,26 @@ use std::alloc::Global;
 use type_terms::Fault;
 use type_terms::interner::Interner;
 
-/// What a search of goals is lent: the interner, the handler that says what the rules of goals are, and the goals and answers
-/// that the search has met, each under a number.
+/// The context of a search: the interner, the handler with the rules of goals, and the store of all goals and responses so far.
 ///
-/// A goal is named by an `InputId`. A result is the number of an answer, or `None` where the goal is refused. Numbers mean
-/// something only in the context that gave them, and stand for the same as long as it lives. The context is ready
-/// (`IsReady`) while the handles that the handler holds, and those of all that is kept, are the interner's: so it is when it
-/// is made over the handler's interner, and each call keeps it so.
+/// An `InputId` represents a goal. A result is the number of a response, or `None` if the goal has no solution. Numbers are valid
+/// only in the context that gave them, and represent the same as long as it exists. The context is ready (`IsReady`) if the
+/// handles of the handler and of the store are of the context's interner. A new context is ready if it gets the handler's
+/// interner, and each call preserves this.
 ///
-/// `SolverDelegate` of `rustc_next_trait_solver`, whose interner keeps goals and answers too.
+/// rustc: `SolverDelegate` of `rustc_next_trait_solver`, whose interner also stores goals and responses.
 pub struct SolverCx<H> {
-    /// Where memory comes from.
+    /// The allocator.
     pub alloc: Global,
-    /// The terms of all goals and answers.
+    /// The terms of all goals and responses.
     pub interner: Interner,
-    /// What the rules are.
+    /// The rules.
     pub handler: H,
-    /// The goals and answers that were met.
+    /// The goals and responses so far.
     pub store: GoalStore,
 }
 
-// Written, so that what owns one drops it by one call at each way out, and not field by field.
+// Hand-written so that the prover sees one drop call: docs/PROVING.md#drop.
 impl<H: Drop> Drop for SolverCx<H> {
     fn drop(self) {
         let SolverCx {
@@ -53,9 +52,9 @@ impl<H: Drop> Drop for SolverCx<H> {
 }
 
 impl<H: GoalHandler> SolverCx<H> {
-    /// A context that has met no goal yet, with room for `limit` goals and as many answers.
+    /// A context without goals, with room for `limit` goals and as many responses.
     ///
-    /// It is ready if the handler's handles are the interner's.
+    /// It is ready if the handler's handles are of this interner.
     pub fn new(alloc: Global, interner: Interner, handler: H, limit: u32) -> SolverCx<H>
         ensures interner { result.interner ≡ interner }
         ensures handler { result.handler ≡ handler }
@@ -73,10 +72,10 @@ impl<H: GoalHandler> SolverCx<H> {
         }
     }
 
-    /// The number of a goal, to ask a search for it: the one that it has already, or else a new one.
+    /// The number of a goal, as an input of a search: its existing number, or a new one.
     ///
-    /// `Full` comes where as many goals are kept as the limit allows and this one is new, `Memory` where a new one needs
-    /// memory that is refused.
+    /// `Full` is returned if the goal is new and as many goals are stored as the limit allows, and `Memory` if memory for a new
+    /// one is refused.
     pub fn keep_goal(&mut self, goal: CanonicalInput) -> Result<InputId, Fault>
         requires ready { IsReady H.meaning.IsReady self.old }
         requires held { GoalHeld self.old.interner.entries goal.goal }
@@ -88,10 +87,10 @@ impl<H: GoalHandler> SolverCx<H> {
         self.store.keep_input(goal)
     }
 
-    /// The result that a goal has with this answer, or with a refusal.
+    /// The result that represents this response, or `None`.
     ///
-    /// `Full` comes where as many answers are kept as the limit allows and this one is new, `Memory` where a new one needs
-    /// memory that is refused.
+    /// `Full` is returned if the response is new and as many are stored as the limit allows, and `Memory` if memory for a new one
+    /// is refused.
     pub fn keep_answer(
         &mut self,
         answer: Option<CanonicalResponse>,
@@ -113,9 +112,9 @@ impl<H: GoalHandler> SolverCx<H> {
         }
     }
 
-    /// The answer that a result of a search is, as a copy; `None` where the goal is refused.
+    /// A copy of the response that a search's result represents, or `None` if the goal has no solution.
     ///
-    /// Its only fault is `Memory`.
+    /// The only fault is `Memory`.
     pub fn answer(&self, of: &Option<ResponseId>) -> Result<Option<CanonicalResponse>, Fault>
         requires { ResponseIsMade H.meaning.IsReady self.now of.now }
         ensures is { IfOk result (λ r. result_read self.now.interner.entries r ≡ answer_of self.now of.now) }

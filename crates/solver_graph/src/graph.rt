@@ -21,17 +21,17 @@ use search_graph::{Delegate, PathKind, Reply, Request};
 use std::marker::PhantomData;
 use type_terms::Fault;
 
-/// A question of a goal whose types have fewer levels counts once. It counts once more for each so many levels.
+/// A request for a goal costs 1 plus the number of levels of its types divided by this.
 const LEVELS_OF_A_SMALL_GOAL: usize = 32;
 
 /// Evaluates goals by the rules of a handler.
 ///
-/// What it means to a search is what the handler means for goals: the questions of a frame are those of the goal's frame over
-/// trees, a definite yes follows by the handler's rules, and an answer covers its goal. So all that is proved of searches
-/// holds of the answers to a handler's goals. A call answers `Full` only where the context is at a limit (`ContextIsFull`): that of
-/// the interner, or of the store of goals and answers.
+/// Its meaning for a search is that of the handler. The nested goals of a frame are those of the goal's frame over terms. A
+/// definite yes follows by the handler's rules, and a response covers its goal. So all that is proved of searches holds of a
+/// handler's goals. A call returns `Full` only if the context is at a limit (`ContextIsFull`): the interner's, or that of the
+/// store of goals and responses.
 ///
-/// `SearchGraphDelegate` of `rustc_next_trait_solver`.
+/// rustc: `SearchGraphDelegate` of `rustc_next_trait_solver`.
 pub struct SolverGraph<H> {
     of: PhantomData<H>,
 }
@@ -53,8 +53,8 @@ impl<H: GoalHandler> Delegate for SolverGraph<H> {
 
     ghost steps_left = { steps_left H.meaning };
 
-    /// A coinductive cycle holds, and one whose steps are not decided is an overflow. An inductive cycle is refused, but in
-    /// coherence it is an overflow too. The answer says nothing of the goal's variables.
+    /// A coinductive cycle holds. A cycle with undecided steps is an overflow. An inductive cycle has no solution, but in
+    /// coherence it is an overflow. The response has no values and no constraints.
     fn initial_provisional_result(
         cx: &mut SolverCx<H>,
         kind: PathKind,
@@ -66,7 +66,7 @@ impl<H: GoalHandler> Delegate for SolverGraph<H> {
         }
     }
 
-    /// Whether the result is the goal's initial one: neither more nor less.
+    /// Whether the result is exactly the goal's initial one.
     fn is_initial_provisional_result(
         cx: &SolverCx<H>,
         kind: PathKind,
@@ -88,7 +88,7 @@ impl<H: GoalHandler> Delegate for SolverGraph<H> {
         }
     }
 
-    /// An overflow that says nothing of the goal's variables.
+    /// An overflow without values and constraints.
     fn stack_overflow_result(
         cx: &mut SolverCx<H>,
         input: &InputId,
@@ -97,7 +97,7 @@ impl<H: GoalHandler> Delegate for SolverGraph<H> {
         silent_answer(cx, *input, too_deep)
     }
 
-    /// An overflow that says nothing of the goal's variables.
+    /// An overflow without values and constraints.
     fn fixpoint_overflow_result(
         cx: &mut SolverCx<H>,
         input: &InputId,
@@ -106,12 +106,12 @@ impl<H: GoalHandler> Delegate for SolverGraph<H> {
         silent_answer(cx, *input, too_often)
     }
 
-    /// The cause of an answer that is not sure and says nothing: it gives no type or const a value, and constrains no lifetime.
+    /// The cause of a `Maybe` response that has no values of types or constants and no region constraints.
     fn is_ambiguous_result(cx: &SolverCx<H>, of: &Option<ResponseId>) -> Option<MaybeCause>
         requires { ResponseIsMade H.meaning.IsReady cx.now of.now }
         ensures is { IsSome result ↔ (is_ambiguous_answer frame_tables (answer_of cx.now of.now) ≡ true) }
 
-        // It is the answer's own.
+        // It is the response's own.
         ensures cause { IfSome result (λ cause. certainty_of (answer_of cx.now of.now) ≡ Some (Maybe cause)) }
     {
         let Some(id) = of else {
@@ -130,7 +130,7 @@ impl<H: GoalHandler> Delegate for SolverGraph<H> {
         }
     }
 
-    /// The answer to the goal that is unsure for this cause, and says nothing of the goal's variables.
+    /// The `Maybe` response to the goal with this cause, without values and constraints.
     fn propagate_ambiguity(
         cx: &mut SolverCx<H>,
         for_input: &InputId,
@@ -148,23 +148,23 @@ impl<H: GoalHandler> Delegate for SolverGraph<H> {
         silent_answer(cx, *for_input, Certainty::Maybe(ambiguity_info))
     }
 
-    /// A goal's terms are walked several times as it is evaluated: so it costs one more for each 16 levels of its predicate's types.
+    /// The evaluation visits a goal's terms several times. So the cost grows with the levels of its predicate's types.
     fn cost_of(cx: &SolverCx<H>, input: &InputId) -> usize {
         let goal = cx.store.input(*input);
         let levels = cx.interner.depth(goal.goal.predicate.trait_ref.args);
         levels as usize / LEVELS_OF_A_SMALL_GOAL
     }
 
-    /// The frame of the goal that is kept under this number, in its mode.
+    /// The frame of the goal with this number, in its typing mode.
     fn start(cx: &mut SolverCx<H>, input: &InputId) -> Result<GoalFrame, Fault> {
         let goal = cx.store.copy_input(*input)?;
         Ok(GoalFrame::new::<H>(cx.alloc, goal))
     }
 
-    /// Gives the frame the reply, and keeps the goal that it asks or the answer that it gives.
+    /// Passes the reply to the frame, and stores the nested goal or the response of its request.
     ///
-    /// `Full` comes where a table of the interner is full, or as many goals or answers are kept as the limit allows; `Memory`
-    /// where memory is refused, or the frame needs more variables than there are numbers.
+    /// `Full` is returned if a table of the interner is full, or as many goals or responses are stored as the limit allows.
+    /// `Memory` is returned if memory is refused, or the frame needs more variables than there are numbers.
     fn step(
         frame: &mut GoalFrame,
         cx: &mut SolverCx<H>,

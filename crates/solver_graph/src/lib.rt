@@ -1,13 +1,13 @@
-//! The goals of a handler in a search graph, and the way into the solver: goals of a table of inference, asked of a search.
+//! The goals of a handler in a search graph, and the root of the solver: goals of an inference table, evaluated by a search.
 //!
-//! A search names goals and answers by values that it can copy and compare, so a [`SolverCx`] keeps each canonical goal and
-//! each answer once, under a number, beside the interner whose handles they hold and the handler that says what the rules are.
-//! [`SolverGraph`] is the search's delegate for every lawful handler: its frames are `GoalFrame`s, and what it means to the
-//! search is what the handler means for goals, over trees. In the original the two are `SolverDelegate` and
-//! `SearchGraphDelegate`.
+//! A search needs goals and responses that it can copy and compare. So a [`SolverCx`] stores each canonical goal and each
+//! response once, under a number, together with their interner and the handler with the rules. [`SolverGraph`] is the search's
+//! delegate for every lawful handler. Its frames are `GoalFrame`s, and its meaning for the search is the handler's meaning for
+//! goals, over terms. rustc has `SolverDelegate` and `SearchGraphDelegate` here.
 //!
-//! `?3: Show` is asked as `^0: Show`, and the answer `^0 = V<^0>` makes `?3` equal to `V<?9>` with `?9` a new unknown. What a
-//! search promises of canonical goals is promised here of goals, of their instances and of the table's solutions.
+//! For example, `?3: Show` has the canonical form `^0: Show`, and the response `^0 = V<^0>` equates `?3` with `V<?9>`, where `?9`
+//! is a new inference variable. What a search promises of canonical goals is promised here of goals, of their instances and of
+//! the table's solutions.
 #![tactic(auto)]
 
 mod applying;

@@ -1,4 +1,4 @@
-//! What the evaluation of a goal says, and why there may be none.
+//! The result of evaluating a goal, and its errors.
 
 ghost use Rattle.std.specs.Prelude.{◌≡◌};
 ghost use Rattle.solver_graph.specs.declared.outcome.RootError.TheVariants as error;
@@ -11,24 +11,24 @@ use infer_table::goal::Goal;
 use std::alloc::AllocError;
 use type_terms::Fault;
 
-/// How a goal was answered (`rustc_next_trait_solver::solve::GoalEvaluation`).
+/// The result of evaluating a goal (`rustc_next_trait_solver::solve::GoalEvaluation`).
 #[derive(Drop)]
 pub struct GoalEvaluation {
-    /// The goal that was asked, its variables resolved as they were when the call began.
+    /// The goal, with its variables resolved as they were at the start of the call.
     pub goal: Goal,
-    /// How sure it is that the goal holds.
+    /// How certain it is that the goal holds.
     pub certainty: Certainty,
-    /// Whether the answer gave values to types or constants of the goal.
+    /// Whether the response gave values to types or constants of the goal.
     pub has_changed: HasChanged,
 }
 
-/// Why a goal has no evaluation.
+/// Why evaluating a goal failed.
 #[derive(Clone, Copy, PartialEq, Eq, Debug, thiserror::Error)]
 pub enum RootError {
     /// The goal has no solution.
     #[error("there is no solution")]
     NoSolution,
-    /// A new answer to some goal differs from the one that the cache holds.
+    /// A new response to some goal differs from the cached one.
     #[error("a cached result differs from a new one")]
     Conflict,
     /// Memory was refused, or a table is full.

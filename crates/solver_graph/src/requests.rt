@@ -1,4 +1,4 @@
-//! Replies to frames and requests of frames, in a search's numbers and as frames have them.
+//! Converts replies and requests between numbers, which a search uses, and goals and responses, which frames use.
 
 ghost use Rattle.std.specs.Prelude.{◌≡◌, Err, IfOk, IfErr};
 ghost use Rattle.type_terms.specs.declared.Fault.TheVariants.{Memory};
@@ -18,9 +18,9 @@ use infer_table::response::CanonicalResponse;
 use search_graph::{Reply, Request};
 use type_terms::Fault;
 
-/// A reply as the frame of a goal has it: with the answer in the place of its number.
+/// A reply for the frame of a goal, with the response instead of its number.
 ///
-/// Its only fault is `Memory`.
+/// The only fault is `Memory`.
 pub(crate) fn read_reply<H: GoalHandler>(
     cx: &SolverCx<H>,
     reply: Reply<Option<ResponseId>>,
@@ -42,9 +42,9 @@ pub(crate) fn read_reply<H: GoalHandler>(
     }
 }
 
-/// A request as a search has it: with numbers in the place of the goal and of the answer.
+/// A request for a search, with numbers instead of the nested goal and the response.
 ///
-/// `Full` comes where as many goals or answers are kept as the limit allows, `Memory` where memory is refused.
+/// `Full` is returned if as many goals or responses are stored as the limit allows, and `Memory` if memory is refused.
 pub(crate) fn keep_request<H: GoalHandler>(
     cx: &mut SolverCx<H>,
     request: Request<CanonicalInput, Option<CanonicalResponse>>,

@@ -1,4 +1,4 @@
-//! Goals of a table, evaluated.
+//! Evaluates goals of a table.
 
 ghost use Rattle.std.specs.Prelude.{◌≡◌, IfOk};
 ghost use Rattle.infer_table.specs.Content.{Ready};
@@ -21,17 +21,20 @@ use infer_table::infer_ctxt::InferCtxt;
 use search_graph::{GlobalCache, SearchGraph};
 use type_terms::Fault;
 
-/// Evaluates a goal of a table: asks a search for its canonical form, and puts the answer into the table.
+/// Evaluates a goal of a table: searches for its canonical form, and applies the response to the table.
 ///
-/// The goal is resolved first, and the evaluation holds it as it was then. Afterwards the answer's values stand in the table, and
-/// its constraints on lifetimes are recorded. A definite yes, that is a `Yes` that changes nothing, has a proof by the handler's
-/// rules at each solution of the table. In coherence each solution of the table at which the goal has a proof stays one.
+/// First the goal is resolved. The result contains the goal in this form. Afterwards the table has the response's values and
+/// region constraints. If the result is `Yes` without changes, each instance of the goal by a solution of the table has a proof
+/// by the handler's rules. In coherence, each solution of the table at which the goal has a proof is preserved.
 ///
-/// `NoSolution` comes where the goal has none, `Conflict` where a new answer to a goal differs from the cached one, which never
-/// comes for a goal that plain recursion answers within the depth, and `Fault` where memory is refused or a table is full. After
-/// any of them the table's content is as before; the interner, the context's goals and answers and the cache may hold more.
+/// * `NoSolution`: the goal has no solution.
+/// * `Conflict`: a new response to some goal differs from the cached one. It is never returned for a goal that plain recursion
+///   answers within the depth.
+/// * `Fault`: memory was refused, or a table is full.
 ///
-/// `SolverDelegateEvalExt::evaluate_root_goal` of `rustc_next_trait_solver`.
+/// After any error the table's content is unchanged. The interner, the store and the cache may have new entries.
+///
+/// rustc: `SolverDelegateEvalExt::evaluate_root_goal` of `rustc_next_trait_solver`.
 pub fn evaluate_root_goal<H: GoalHandler>(
     graph: &mut SearchGraph<SolverGraph<H>>,
     cache: &mut GlobalCache<SolverGraph<H>>,
@@ -46,7 +49,7 @@ pub fn evaluate_root_goal<H: GoalHandler>(
     requires table { Ready cx.old.interner.entries table.old }
     requires goal { GoalHeld cx.old.interner.entries goal.now }
 
-    // After an error too.
+    // This holds after an error too.
     ensures rests { LeavesAtRest H.meaning cx.old graph.old cache.old table.old cx.new graph.new cache.new table.new }
     ensures costs { Costs H.meaning cx.old graph.old cache.old table.old cx.new graph.new cache.new table.new mode goal.now }
 

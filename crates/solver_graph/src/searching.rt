@@ -1,4 +1,4 @@
-//! The answer of a search to a goal.
+//! The response of a search to a goal.
 
 ghost use Rattle.std.specs.Prelude.{◌≡◌, IfOk, IfErr, Err};
 ghost use Rattle.goal_evaluator.specs.Readings.{ResultHeld};
@@ -22,7 +22,7 @@ use infer_table::response::CanonicalResponse;
 use search_graph::{GlobalCache, GraphFault, PathKind, SearchGraph};
 use type_terms::Fault;
 
-/// The answer of a search to a goal; none where the goal is refused.
+/// The response of a search to a goal, or `None` if the goal has no solution.
 pub(crate) fn search<H: GoalHandler>(
     graph: &mut SearchGraph<SolverGraph<H>>,
     cache: &mut GlobalCache<SolverGraph<H>>,

@@ -1,4 +1,4 @@
-//! Answers that say nothing of their goals' variables.
+//! Responses without values and constraints.
 
 ghost use Rattle.std.specs.Prelude.{◌≡◌, ◌↔◌, Err, IfOk, IsTrue};
 ghost use Rattle.infer_table.specs.Responses.{ResponseHeld, answer_trees};
@@ -22,10 +22,10 @@ use search_graph::PathKind;
 use type_terms::Fault;
 use type_terms::interner::Interner;
 
-/// How sure a goal is taken to be that is asked under itself by a path of this kind; none where it is refused.
+/// The certainty of a goal that recurs by a path of this kind, or `None` if it has no solution.
 ///
-/// A coinductive cycle holds, an inductive one has no proof, and of any other it is not decided: it counts as an overflow. In
-/// coherence an inductive one does too, since an error in this answer would be unsound there.
+/// A coinductive cycle holds. An inductive cycle has no proof. Any other cycle is not decided, and counts as an overflow. In
+/// coherence an inductive cycle counts as an overflow too, since a wrong `None` would be unsound there.
 pub(crate) fn cycle_certainty(mode: TypingMode, kind: PathKind) -> Option<Certainty>
     ensures { result ≡ cycle_certainty mode kind }
 {
@@ -41,7 +41,7 @@ pub(crate) fn cycle_certainty(mode: TypingMode, kind: PathKind) -> Option<Certai
     }
 }
 
-/// The answer to this goal that is so sure, and says nothing of the goal's variables (`response_no_constraints`).
+/// The response to this goal with this certainty, without values and constraints (`response_no_constraints`).
 pub(crate) fn silent_answer<H: GoalHandler>(
     cx: &mut SolverCx<H>,
     input: InputId,
@@ -59,7 +59,7 @@ pub(crate) fn silent_answer<H: GoalHandler>(
     cx.keep_answer(Some(response))
 }
 
-/// Whether the answer is the one to a goal with variables of these kinds that is so sure and says nothing of them.
+/// Whether the response is the one with this certainty, without values and constraints, to a goal with variables of these kinds.
 pub(crate) fn is_silent(
     cx: &Interner,
     response: &CanonicalResponse,
@@ -82,7 +82,7 @@ pub(crate) fn is_silent(
     has_no_inference_or_external_constraints(cx, response)
 }
 
-/// Whether the answer gives no type or const a value, and constrains no lifetime.
+/// Whether the response has no values of types or constants and no region constraints.
 pub(crate) fn holds_nothing(cx: &Interner, response: &CanonicalResponse) -> bool
     requires held { ResponseHeld cx.now.entries response.now }
     requires fits { IsWellFormed (answer_trees cx.now.entries response.now) }
