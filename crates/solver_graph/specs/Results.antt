@@ -32,7 +32,7 @@ module _ {C I R F : Type 0} (m : Meaning C I R F) where
   abbrev pub IsNotPlainWithin : C → SearchState → m.Goal → Type 0
   IsNotPlainWithin c s g = IsNotPlain m (m.world c) (s.root_depth + 1) g
 
-  -- A limit that was exceeded stays noted. None is exceeded for a goal that plain recursion answers within the depth.
+  -- A limit that was reached stays noted. None is reached for a goal that plain recursion answers within the depth.
   pub record LimitsAreNoted (c : C) (g : m.Goal) (old new : SearchState) : Type 0 where
     pub noted : old.limits_met ≡ true → new.limits_met ≡ true
     pub not_plain : old.limits_met ≡ false → new.limits_met ≡ true → IsNotPlainWithin c old g
@@ -44,5 +44,5 @@ module _ {C I R F : Type 0} (m : Meaning C I R F) where
     pub known : (b : m.Answer) → IsCachedAnswer c ks old.root_depth g b → IsCachedAnswer c ks old.root_depth g a
     -- the second cache has it
     pub kept : IsCachedAnswer d ls old.root_depth g a
-    -- if no limit was exceeded, the response depends on none, except through responses of the first cache
+    -- if no limit was reached, the response depends on none, except through responses of the first cache
     pub limits : new.limits_met ≡ false → IsComputed m (m.world c) (IsGivenWithin m (m.world c) (answers_in m c ks)) g a

@@ -63,7 +63,7 @@ module _ {Handler : Type 0} (m : HandlerMeaning Handler) (c : SolverCx Handler) 
     pub table : Ready (entries_of d) u
     pub grows : Grows t u
 
-  -- The costs of the search: a bounded number of frames, and none for a goal whose response is cached. A limit is exceeded only
+  -- The costs of the search: a bounded number of frames, and none for a goal whose response is cached. A limit is reached only
   -- for a goal that plain recursion does not answer within the depth, and is noted.
   pub record Costs (mode : TypingMode) (g : Goal) : Type 0 where
     pub frames : FramesAreBounded (solver_meaning m) c (goal_asked c t mode g) graph graph_left

@@ -1,8 +1,7 @@
 //! A goal of a table as the input of a search.
 
 ghost use Rattle.std.specs.Prelude.{◌≡◌, IfErr, IfOk};
-ghost use Rattle.type_terms.specs.Promised.Handles.{Keeps};
-ghost use Rattle.type_terms.specs.Promised.Handles.{ArgsHeld};
+ghost use Rattle.type_terms.specs.Promised.Handles.{Keeps, ArgsHeld};
 ghost use Rattle.infer_table.specs.Canonical.{canonical_form, goal_leaves};
 ghost use Rattle.infer_table.specs.Content.{Ready};
 ghost use Rattle.infer_table.specs.Goals.{GoalHeld, goal_trees};

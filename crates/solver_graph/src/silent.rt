@@ -2,10 +2,8 @@
 
 ghost use Rattle.std.specs.Prelude.{◌≡◌, ◌↔◌, Err, IfOk, IsTrue};
 ghost use Rattle.infer_table.specs.Responses.{ResponseHeld, answer_trees};
-ghost use Rattle.goal_evaluator.specs.TableAnswers.{IsWellFormed};
-ghost use Rattle.goal_frames.specs.HandlerPrograms.{silent};
-ghost use Rattle.goal_evaluator.specs.TableAnswers.{without_values};
-ghost use Rattle.goal_frames.specs.HandlerPrograms.{cycle_certainty};
+ghost use Rattle.goal_evaluator.specs.TableAnswers.{IsWellFormed, without_values};
+ghost use Rattle.goal_frames.specs.HandlerPrograms.{silent, cycle_certainty};
 ghost use Rattle.solver_graph.specs.Answers.{holds_nothing};
 ghost use Rattle.solver_graph.specs.Contexts.{goal_of, answer_of, IsInput, ResponseIsMade, Advances};
 ghost use Rattle.solver_graph.specs.Shortages.{ContextIsFull};
