@@ -1,4 +1,4 @@
--- Answers put into the tables of frames: nothing is gained, and nothing is lost that agrees with the answer.
+-- Responses applied to the tables of frames allow nothing new, and lose nothing that agrees with the response.
 use Rattle.std.proofs.Common.{◌≡◌, ℕ, zero, suc, ◌+◌, ◌<◌, ◌≤◌, arith, Bool, true, false, ◌&&◌, List, [], ◌∷◌, map, refl, sym, ◌∙◌, ap, subst, Option, Some, None, if◌then◌else◌, ◌⊎◌, inl, inr}
 use Rattle.std.specs.Prelude.{IsSome, unwrap_or, option_map, option_and_then}
 use Rattle.std.specs.List.{slice_get}

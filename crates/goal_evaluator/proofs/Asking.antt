@@ -1,4 +1,4 @@
--- A goal's question, and the values of its variables, are those of its canonical form.
+-- The canonical form of a nested goal, and the values of its variables.
 use Rattle.std.specs.Prelude.{◌≡◌, List, [], ◌∷◌, map, refl}
 use Rattle.std.proofs.Common.{ap, ◌∙◌, sym}
 use Rattle.type_terms.specs.Promised.Label.{Sort}

@@ -1,5 +1,5 @@
--- A reading is an assignment and a renaming of placeholders: so what equations leave of a table is what the laws of unification say,
--- which speak of assignments.
+-- A reading is an assignment with a renaming of placeholders. So the laws of unification, which are about assignments, apply to
+-- the tables that equations leave.
 use Rattle.std.proofs.Common.{◌≡◌, ℕ, zero, suc, ◌+◌, ◌<◌, ◌≤◌, arith, Bool, true, false, ◌&&◌, List, [], ◌∷◌, refl, sym, ◌∙◌, ap, subst, Option, Some, None, if◌then◌else◌, ◌⊎◌, inl, inr}
 use Rattle.std.specs.Prelude.{ltb, max}
 use Rattle.std.proofs.lemmas.Bool.Decides.{nat_tests}

@@ -1,4 +1,4 @@
--- Small facts that the proofs of several files cite.
+-- Small facts that several files use.
 use Rattle.std.proofs.Common.{[], ◌≡◌, refl, List, ◌++◌, ◌∷◌, ℕ, zero, suc, ◌⊎◌, inl, inr, map}
 use Rattle.goal_evaluator.specs.Instances.{term_at}
 use Rattle.goal_evaluator.specs.Lists.{Every, SomeOf}

@@ -1,4 +1,4 @@
--- What a candidate begins with, and its own unknowns.
+-- The table with which a candidate begins, and its own inference variables.
 use Rattle.std.proofs.Common.{◌≡◌, ℕ, ◌+◌, ◌<◌, List, [], ◌∷◌, ◌++◌, map, length, get_or, drop, refl, ap, sym, ◌∙◌, append_assoc}
 use Rattle.std.proofs.lemmas.List.{append-nil}
 use Rattle.type_terms.specs.Promised.Trees.{Trees}

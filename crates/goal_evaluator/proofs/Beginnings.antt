@@ -1,4 +1,4 @@
--- The first table of a frame, its new unknowns and its answers, in code and over trees.
+-- The first table of a frame, its new inference variables and its responses, in code and over terms.
 use Rattle.std.proofs.Common.{◌≡◌, ℕ, suc, ◌+◌, arith, List, [], ◌∷◌, ◌++◌, map, refl, ◌∙◌, ap, Option, Some, None}
 use Rattle.std.specs.Prelude.{option_and_then}
 use Rattle.type_terms.specs.Promised.Label.{Label, of_type, of_const, of_lifetime, infer, placeholder}

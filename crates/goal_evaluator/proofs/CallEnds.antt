@@ -1,4 +1,4 @@
--- How the calls of a context that evaluate end, once the rounds did.
+-- How the evaluating calls of a context end, after the rounds.
 use Rattle.std.proofs.Common.{◌≡◌, List, [], refl, sym, ◌∙◌, ap, subst, Option, Some, None}
 use Rattle.type_terms.specs.Promised.Handles.{Entry, Keeps}
 use Rattle.infer_table.specs.Certainties.{joined}

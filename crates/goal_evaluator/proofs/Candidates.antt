@@ -1,4 +1,4 @@
--- A candidate that is evaluated in code does what it does over the tables of frames.
+-- A candidate that is evaluated in code corresponds to the candidate over the tables of frames.
 use Rattle.std.proofs.Common.{◌≡◌, Bool, List, [], ◌∷◌, ◌++◌, map, refl, sym, ◌∙◌, ap, subst, Option, Some, None}
 use Rattle.std.specs.Prelude.{option_map}
 use Rattle.type_terms.specs.Promised.Label.{Label}

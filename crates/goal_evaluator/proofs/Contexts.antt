@@ -1,4 +1,4 @@
--- Contexts stay ready while the interner grows.
+-- Contexts stay ready as the interner grows.
 use Rattle.std.specs.Prelude.{◌≡◌, List, [], ◌∷◌, ◌++◌, Option, Some, None}
 use Rattle.std.proofs.Common.{subst, sym}
 use Rattle.type_terms.specs.Promised.Handles.{Entry, Keeps}

@@ -1,4 +1,4 @@
--- Over corresponding workings, rounds, candidates and frames do the same.
+-- Corresponding workings have corresponding rounds, candidates and frames.
 use Rattle.std.proofs.Common.{◌≡◌, ℕ, zero, suc, Bool, true, false, ◌||◌, List, [], ◌∷◌, refl, ◌∙◌, ap, subst, Option, Some, None}
 use Rattle.infer_table.specs.declared.certainty.Certainty.{Certainty}
 use Rattle.infer_table.specs.declared.certainty.Certainty.TheVariants.{Maybe}

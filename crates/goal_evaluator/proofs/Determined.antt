@@ -1,4 +1,4 @@
--- Of a goal that its own variables determine, a table whose own variables are free knows nothing but their values.
+-- If a table's own variables are free and determine a nested goal, the goal's variables have only values made of theirs.
 use Rattle.std.proofs.Common.{◌≡◌, ℕ, zero, suc, Bool, true, false, ◌&&◌, ◌||◌, List, [], ◌∷◌, ◌++◌, map, refl, sym, ◌∙◌, ap, subst, Some, if◌then◌else◌, ◌⊎◌, inl, inr}
 use Rattle.type_terms.specs.Promised.Label.{Label, Sort, of_type, of_const, of_lifetime, bool, char, value, infer, param, placeholder, canonical, bound, static}
 use Rattle.type_terms.specs.Promised.Trees.{Trees, none, tree, leaf, sort_of}

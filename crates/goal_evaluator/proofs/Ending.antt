@@ -1,4 +1,4 @@
--- How a candidate ends.
+-- How a candidate's evaluation ends.
 use Rattle.std.proofs.Common.{◌≡◌, List, map, refl, ap, sym, ◌∙◌, subst, Option, Some, None, Result, Ok, Err}
 use Rattle.type_terms.specs.Promised.Handles.{Entry}
 use Rattle.infer_table.specs.Unification.{TableTrees, table_trees}

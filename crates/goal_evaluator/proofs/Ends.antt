@@ -1,4 +1,4 @@
--- What a lawful frame keeps, in its histories.
+-- What holds of a lawful frame in all its histories.
 use Rattle.std.proofs.Common.{◌≡◌, ℕ, suc, ◌*◌, ◌≤◌, List, [], ◌∷◌, inl, inr, refl, Option}
 use Rattle.goal_evaluator.specs.declared.TheConstants.{FIXPOINT_STEP_LIMIT}
 use Rattle.goal_evaluator.specs.Lists.{IsAmong, IsNoneOf}

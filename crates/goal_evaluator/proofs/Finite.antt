@@ -1,4 +1,4 @@
--- Values that are made of given terms: each of their terms is one of these.
+-- Values made of given terms: each of their terms is one of these.
 use Rattle.std.proofs.Common.{◌≡◌, ℕ, zero, suc, Bool, true, false, List, [], ◌∷◌, ◌++◌, map, refl, sym, ◌∙◌, ap, subst, Option, if◌then◌else◌, ◌⊎◌, inl, inr}
 use Rattle.type_terms.specs.Promised.Label.{Sort, of_type, of_const, of_lifetime, placeholder}
 use Rattle.type_terms.specs.Promised.Trees.{Trees, none, leaf}

@@ -1,4 +1,4 @@
--- The table with which a frame begins answers nothing but its own variables.
+-- The response of the table with which a frame begins: each variable is its own value.
 use Rattle.std.proofs.Common.{◌≡◌, ℕ, zero, suc, ◌<◌, ◌==◌, arith, Bool, true, false, not, ◌&&◌, ◌||◌, List, [], ◌∷◌, ◌++◌, map, length, refl, sym, ◌∙◌, ap, subst, if◌then◌else◌, is_some}
 use Rattle.type_terms.specs.Promised.Label.{Label, Sort, of_type, of_const, of_lifetime, infer, placeholder, canonical}
 use Rattle.type_terms.specs.Promised.Trees.{leaf, sort_of, is_sort}

@@ -1,4 +1,4 @@
--- What holds at the first of a list and of the rest, and of a result that is handed on.
+-- Properties of the first element and the rest of a list, and of results that are returned unchanged.
 use Rattle.std.proofs.Common.{◌≡◌, ◌-◌, ◌<◌, ◌≤◌, Bool, true, false, not, ◌&&◌, ◌⊎◌, ◌||◌, inl, inr, arith, List, [], ◌∷◌, length, get_or, take, drop, refl, sym, ◌∙◌, ap, subst, Result, Ok, Err}
 use Rattle.std.specs.Prelude.{IsErrAnd}
 use Rattle.std.proofs.lemmas.Grind.{common_steps}

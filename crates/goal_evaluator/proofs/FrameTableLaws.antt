@@ -1,4 +1,4 @@
--- The tables of frames keep the laws of tables.
+-- The tables of frames are lawful.
 use Rattle.goal_evaluator.specs.Table.{IsTable}
 use Rattle.goal_evaluator.specs.Tables.{frame_tables}
 use Rattle.goal_evaluator.proofs.Questions.{instance_of_question}

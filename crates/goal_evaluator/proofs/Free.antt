@@ -1,4 +1,4 @@
--- A table whose answer holds no values leaves the variables with which it began free.
+-- If the response of a table has no values, the table's own variables are free.
 use Rattle.std.proofs.Common.{◌≡◌, ℕ, Bool, true, false, ◌&&◌, List, [], ◌∷◌, refl, sym, ◌∙◌, ap, subst, Some, None, if◌then◌else◌, ◌⊎◌, inl, inr}
 use Rattle.type_terms.specs.Promised.Label.{Label, Sort, of_type, of_const, of_lifetime, infer}
 use Rattle.type_terms.specs.Promised.Trees.{Trees, none, tree, leaf, ◌+++◌, sort_of, is_sort, erase_label}

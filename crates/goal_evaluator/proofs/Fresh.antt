@@ -1,4 +1,4 @@
--- New unknowns and recorded constraints in the tables of frames.
+-- New inference variables and recorded constraints in the tables of frames.
 use Rattle.std.proofs.Common.{◌≡◌, ℕ, zero, suc, ◌+◌, ◌<◌, ◌≤◌, arith, Bool, true, List, [], ◌∷◌, ◌++◌, sym, subst, None}
 use Rattle.type_terms.specs.Promised.Label.{Label, Sort, of_type, of_const, infer}
 use Rattle.type_terms.specs.Promised.Trees.{Trees, leaf}

@@ -1,4 +1,4 @@
--- Results that are handed on, and contexts with more in them.
+-- Results that are returned unchanged, and contexts with additions.
 use Rattle.std.proofs.Common.{◌≡◌, List, refl, ap, sym, ◌∙◌, Option, Result, Ok, Err}
 use Rattle.std.specs.Prelude.{IsErrAnd, OnOk}
 use Rattle.type_terms.specs.declared.Fault.{Fault}

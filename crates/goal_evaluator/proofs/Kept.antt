@@ -1,4 +1,4 @@
--- What rounds, candidates and frames ask and answer, while their tables and nested goals stay as they are to be.
+-- The nested goals and responses of rounds, candidates and frames, as long as their tables and nested goals are well-formed.
 use Rattle.std.proofs.Common.{◌≡◌, ℕ, zero, suc, Bool, true, false, List, [], ◌∷◌, refl, Option, Some, None}
 use Rattle.infer_table.specs.declared.certainty.Certainty.{Certainty}
 use Rattle.infer_table.specs.declared.certainty.Certainty.TheVariants.{Maybe}

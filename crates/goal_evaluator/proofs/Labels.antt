@@ -1,4 +1,4 @@
--- Which labels stand in made terms, and what putting leaves in makes of these.
+-- The labels of well-formed terms, and of terms with values in place of leaves.
 use Rattle.std.proofs.Common.{◌≡◌, ℕ, Bool, true, false, not, ◌||◌, List, [], ◌∷◌, ◌++◌, refl, sym, ◌∙◌, ap, subst, Option, Some, None, if◌then◌else◌, is_some, ◌⊎◌, inl, inr}
 use Rattle.std.specs.Prelude.{IsSome}
 use Rattle.type_terms.specs.Promised.Label.{Label, Sort, of_lifetime, infer, static, dynamic, principal, auto_trait, predicate}

@@ -1,4 +1,4 @@
--- What stays of a candidate while the interner grows.
+-- A candidate's terms do not change as the interner grows.
 use Rattle.std.proofs.Common.{◌≡◌, List, [], ◌∷◌, map, refl}
 use Rattle.type_terms.specs.Promised.Trees.{Trees}
 use Rattle.type_terms.specs.Promised.Handles.{Entry, Keeps}

@@ -1,4 +1,4 @@
--- Goals and replies as trees stay the same while the interner grows.
+-- Goals and replies represent the same terms as the interner grows.
 use Rattle.std.specs.Prelude.{◌≡◌, List, [], ◌∷◌, Option, Some, None, option_map, refl}
 use Rattle.std.proofs.Common.{ap}
 use Rattle.type_terms.specs.Promised.Label.{Label, of_trait, predicate}

@@ -1,4 +1,4 @@
--- How a merge is found.
+-- How the merge is found.
 use Rattle.std.proofs.Common.{◌≡◌, ℕ, ◌<◌, ◌≤◌, Bool, true, false, nat_lt, cond, ◌-◌, take, drop, List, [], ◌∷◌, length, get_or, slice_get, Some, None, position, find, option_map, inl, inr, refl, sym, ◌∙◌, ap, arith}
 use Rattle.std.specs.List.{position_or_len, list_all}
 use Rattle.std.proofs.lemmas.Grind.{common_steps}

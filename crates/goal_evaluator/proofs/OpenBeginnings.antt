@@ -1,4 +1,4 @@
--- How candidates begin, and that what waits is what replaying gives.
+-- How candidates begin, and that a waiting candidate is where its evaluation anew would be.
 use Rattle.std.proofs.Common.{◌≡◌, false, List, [], ◌∷◌, ◌++◌, map, Option, Some, None, Result, Ok, Err, refl, sym, ◌∙◌, ap, subst}
 use Rattle.type_terms.specs.Promised.Handles.{Entry, Keeps}
 use Rattle.infer_table.specs.Unification.{table_trees}

@@ -1,5 +1,4 @@
--- Candidates whose evaluation goes on where it stopped: what is left of them stays the same while the interner grows, and each step is
--- one of the script.
+-- Resumed candidates: the rest of their evaluation does not change as the interner grows, and each step is one of the script.
 use Rattle.std.proofs.Common.{◌≡◌, ℕ, suc, not, ◌&&◌, ◌||◌, Bool, true, false, List, [], ◌∷◌, ◌++◌, map, Option, Some, sym, ◌∙◌, ap, subst}
 use Rattle.goal_evaluator.proofs.Contexts.{every-more, nested-later}
 use Rattle.infer_table.specs.Kept.{ready-later}

@@ -1,4 +1,4 @@
--- How many questions a candidate that waits asks still.
+-- The number of responses that a waiting candidate can still request.
 use Rattle.std.proofs.Common.{◌≡◌, ℕ, zero, suc, ◌+◌, ◌*◌, ◌≤◌, ◌<◌, arith, Bool, true, false, List, [], ◌∷◌, ◌++◌, length, length-append, Result, Ok, Err, IfOk, refl, ◌∙◌, ap}
 use Rattle.type_terms.specs.Promised.Handles.{Entry}
 use Rattle.infer_table.specs.declared.goal.Goal.{Goal}

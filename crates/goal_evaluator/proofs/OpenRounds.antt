@@ -1,4 +1,4 @@
--- Rounds that are under way go on as the rounds do.
+-- Rounds in progress continue like the rounds.
 use Rattle.std.proofs.Common.{◌≡◌, ℕ, suc, Bool, true, false, List, [], ◌∷◌, refl, sym, ◌∙◌, ap, append_assoc, Option, Some, None}
 use Rattle.std.proofs.lemmas.List.{append-nil}
 use Rattle.infer_table.specs.declared.certainty.Certainty.{Certainty}

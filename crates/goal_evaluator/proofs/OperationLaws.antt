@@ -1,4 +1,4 @@
--- The laws of what can be done with the table of a frame: nothing is gained, and nothing is lost that meets what is put in.
+-- The laws of the operations of a frame's table: they allow nothing new, and lose nothing that satisfies what is added.
 use Rattle.std.proofs.Common.{◌≡◌, ℕ, Bool, true, false, List, [], ◌∷◌, map, refl, sym, ◌∙◌, ap, subst, Option, Some, if◌then◌else◌, ◌⊎◌, inl, inr}
 use Rattle.std.specs.Prelude.{option_map}
 use Rattle.type_terms.specs.Promised.Trees.{Trees}

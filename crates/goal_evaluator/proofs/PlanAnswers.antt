@@ -1,4 +1,4 @@
--- Answers that are merges keep the laws of answers.
+-- Results that are merges are lawful.
 use Rattle.std.proofs.Common.{◌≡◌, ℕ, ◌≤◌, ◌==◌, Bool, true, false, if◌then◌else◌, List, [], ◌∷◌, filter, inl, inr, refl, sym, ◌∙◌, subst, Option, Some, None, ◌+◌, arith, length}
 use Rattle.infer_table.specs.declared.certainty.Certainty.{Certainty}
 use Rattle.std.proofs.lemmas.Bool.{eq-eqb}

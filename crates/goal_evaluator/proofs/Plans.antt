@@ -1,4 +1,4 @@
--- A lawful plan is a lawful handler; plans that are made of others keep what these keep.
+-- A lawful plan is a lawful handler, and plans composed of lawful plans are lawful.
 use Rattle.std.proofs.Common.{◌≡◌, ℕ, zero, suc, ◌+◌, ◌≤◌, List, [], ◌∷◌, length, inl, inr, refl, sym, ◌∙◌, ap, subst, Option, Some, None, arith}
 use Rattle.goal_evaluator.specs.Lists.{Every, SomeOf, IsNoneOf, IsDistinct}
 use Rattle.goal_evaluator.specs.Table.{Tables, workings}

@@ -1,4 +1,4 @@
--- Answers that are put into a table, and answers to other goals, which say nothing.
+-- Responses applied to a table. Those that do not fit the goal change nothing.
 use Rattle.std.proofs.Common.{◌≡◌, true, false, List, ap, Some, if◌then◌else◌}
 use Rattle.infer_table.specs.Unification.{TableTrees}
 use Rattle.infer_table.specs.Values.{Value}

@@ -1,4 +1,4 @@
--- Terms read with values for their variables: which variables count, and that a reading determines the values.
+-- Terms with values for their variables: which variables matter, and how a reading determines the values.
 use Rattle.std.proofs.Common.{◌≡◌, ℕ, Bool, true, false, ◌||◌, not, List, ◌⊎◌, inl, inr, refl, sym, ◌∙◌, ap, subst, Option, Some, None, if◌then◌else◌}
 use Rattle.type_terms.specs.Promised.Label.{Label, Sort, of_type, of_const, of_lifetime, infer, param, placeholder, canonical, bound, static, principal, dynamic, auto_trait, predicate}
 use Rattle.type_terms.specs.Promised.Trees.{Trees, none, tree, leaf, ◌+++◌, erase_label}

@@ -1,4 +1,4 @@
--- Results of equations that end with a fault: they give nothing, and refuse nothing.
+-- Equations that end with a fault.
 use Rattle.std.specs.Prelude.{◌≡◌, Result, Ok, Err, IsErrAnd, OnOk}
 use Rattle.type_terms.specs.declared.Fault.{Fault}
 use Rattle.infer_table.specs.declared.certainty.EqError.{EqError}

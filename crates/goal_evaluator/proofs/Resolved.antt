@@ -1,4 +1,4 @@
--- What resolves a term is a term.
+-- A resolved term is a term.
 use Rattle.std.proofs.Common.{◌≡◌, ℕ, Bool, true, false, ◌||◌, List, [], ◌∷◌, refl, sym, ◌∙◌, ap, if◌then◌else◌}
 use Rattle.std.specs.Prelude.{not}
 use Rattle.type_terms.specs.Promised.Label.{Label, Sort, of_type, of_const, of_lifetime, infer, dynamic, principal, auto_trait, predicate}

@@ -1,4 +1,4 @@
--- What a frame's table answers is what a context over its content answers.
+-- The response of a frame's table is that of a context with the same content.
 use Rattle.std.proofs.Common.{◌≡◌, Bool, true, false, List, [], ◌∷◌, map, refl, sym, ◌∙◌, ap, Option, Some, None, if◌then◌else◌, is_some}
 use Rattle.type_terms.specs.Promised.Label.{Label, Sort}
 use Rattle.type_terms.specs.Promised.Trees.{Trees, none, tree, leaf, ◌+++◌, sort_of}

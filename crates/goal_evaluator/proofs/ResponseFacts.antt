@@ -1,4 +1,4 @@
--- When the values of a response are the canonical variables of their places.
+-- When each value of a response is the canonical variable with its index.
 use Rattle.std.proofs.Common.{◌≡◌, ℕ, zero, suc, Bool, true, false, ◌&&◌, ◌+◌, ◌<◌, ◌≤◌, List, [], ◌∷◌, length, get_or, refl, subst, sym, arith}
 use Rattle.type_terms.specs.Promised.Handles.{Entry}
 use Rattle.type_terms.specs.Promised.Handles.{ArgHeld, ArgsHeld}

@@ -1,4 +1,4 @@
--- What rounds do with a table of a frame is what an evaluation does with its content.
+-- Rounds over the table of a frame do what an evaluation does with its content.
 use Rattle.std.proofs.Common.{◌≡◌, Bool, not, List, refl, ◌∙◌, ap, Option, Some, None}
 use Rattle.std.specs.Prelude.{option_map}
 use Rattle.type_terms.specs.Promised.Label.{Label}

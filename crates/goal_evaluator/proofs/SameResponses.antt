@@ -1,4 +1,4 @@
--- Responses are equal exactly if they say the same.
+-- Responses are equal exactly if they state the same.
 use Rattle.std.proofs.Common.{rules, ◌≡◌, List, refl, ap}
 use Rattle.std.specs.Bool.{Decides}
 use Rattle.std.proofs.lemmas.Slice.Eq.{slice_eq-Decides}

@@ -1,4 +1,4 @@
--- Where an evaluation ends for want of room.
+-- Evaluations that end because the interner is full.
 use Rattle.std.proofs.Common.{◌≡◌, ℕ, arith, List, ap, sym, ◌∙◌, inl, inr, Result, Ok, Err}
 use Rattle.std.specs.Prelude.{IsErrAnd, IfErr}
 use Rattle.type_terms.specs.Promised.Handles.{Entry, types, consts}

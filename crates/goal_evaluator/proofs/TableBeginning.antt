@@ -1,4 +1,4 @@
--- The table with which a frame begins: an unknown for each unknown of the goal, and all of them are free.
+-- The table with which a frame begins: an inference variable for each one of the goal, all of them free.
 use Rattle.std.proofs.Common.{◌≡◌, ℕ, zero, suc, ◌+◌, ◌<◌, ◌≤◌, arith, Bool, true, false, ◌&&◌, List, [], ◌∷◌, map, refl, sym, ◌∙◌, ap, Some, if◌then◌else◌}
 use Rattle.std.proofs.lemmas.Bool.Decides.{nat_tests}
 use Rattle.std.specs.Prelude.{ltb}

@@ -1,4 +1,4 @@
--- The question of a nested goal is of the goal's trait: no value of an unknown is a reference.
+-- The canonical form of a nested goal is of the goal's trait, since no inference variable has a trait reference as its value.
 use Rattle.std.proofs.Common.{◌≡◌, ℕ, zero, suc, Bool, true, false, List, [], ◌∷◌, refl, ◌∙◌, None, if◌then◌else◌, is_some}
 use Rattle.type_terms.specs.Promised.Label.{Label, Sort, of_type, of_const, of_lifetime, infer, param, placeholder, canonical, bound, static, predicate}
 use Rattle.type_terms.specs.Promised.Trees.{Trees, none, tree, leaf, ◌+++◌, sort_of, is_sort}

@@ -1,4 +1,4 @@
--- Small facts on the types of the code.
+-- Small facts about the types of the code.
 use Rattle.std.proofs.Common.{Option, option_map, ◌≡◌, None, refl, Some, ℕ, Bool}
 use Rattle.goal_evaluator.specs.Content.{Fact}
 use Rattle.goal_evaluator.specs.Merge.{or_else}

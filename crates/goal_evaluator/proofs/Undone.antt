@@ -1,4 +1,4 @@
--- What a probe puts back is what was there.
+-- A probe restores the state before it.
 use Rattle.std.proofs.Common.{◌≡◌, List, [], ◌∷◌, map, refl, Option}
 use Rattle.std.specs.List.{AllZip}
 use Rattle.type_terms.specs.declared.kinds.GenericArgKind.{GenericArgKind}

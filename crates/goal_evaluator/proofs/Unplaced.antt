@@ -1,4 +1,4 @@
--- Terms for the variables of a goal and of a candidate: the table of the candidate allows those that are given.
+-- Values of the variables of a goal and of a candidate: the candidate's table allows the given ones.
 use Rattle.std.proofs.Common.{◌≡◌, ℕ, zero, suc, ◌+◌, arith, true, false, ◌&&◌, List, [], ◌∷◌, ◌++◌, map, length, refl, sym, ◌∙◌, ap, subst, Some, None}
 use Rattle.type_terms.specs.Promised.Label.{Sort, of_type, of_const, of_lifetime, infer}
 use Rattle.type_terms.specs.Promised.Trees.{Trees, none, tree, is_sort}

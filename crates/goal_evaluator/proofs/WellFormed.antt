@@ -1,4 +1,4 @@
--- The answers that the tables of frames give are made as answers are, and answer the goal of their table.
+-- The responses of the tables of frames are well-formed, and fit the goal of their table.
 use Rattle.std.proofs.Common.{◌≡◌, ℕ, zero, suc, ◌+◌, arith, Bool, true, false, not, ◌||◌, List, [], ◌∷◌, map, refl, sym, ◌∙◌, ap, subst, Option, Some, None, if◌then◌else◌, is_some, inl, inr}
 use Rattle.std.specs.Prelude.{IsSome}
 use Rattle.type_terms.specs.Promised.Label.{Label, Sort, of_type, of_const, of_lifetime, infer, param, placeholder, canonical, static, bound, dynamic, principal, auto_trait, predicate}

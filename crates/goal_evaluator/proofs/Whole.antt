@@ -1,4 +1,4 @@
--- Each term is read as one tree of its sort.
+-- The reading of a single term is a single term of its kind.
 use Rattle.std.proofs.Common.{◌≡◌, ℕ, true, refl, ap}
 use Rattle.type_terms.specs.Promised.Label.{Label, Sort, of_type, of_const, of_lifetime, param, placeholder, infer, canonical, bound, static}
 use Rattle.type_terms.specs.Promised.Trees.{Trees, none, tree, leaf, ◌+++◌, erase_label, sort_of}

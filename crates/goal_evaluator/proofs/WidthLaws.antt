@@ -1,4 +1,5 @@
--- The questions and the answers of a frame's table are no wider than what was put in, nor is what equations and answers leave.
+-- The canonical goals and responses of a frame's table are no wider than its inputs, and nor are tables after equations and
+-- responses.
 use Rattle.std.proofs.Common.{◌≡◌, ℕ, ◌+◌, ◌≤◌, arith, Bool, true, false, ◌&&◌, if◌then◌else◌, List, [], ◌∷◌, map, Some, sym, subst, ◌⊎◌, inl, inr}
 use Rattle.type_terms.specs.Promised.Label.{Label, of_type, of_const, of_lifetime, infer, param, placeholder, canonical, bound, static}
 use Rattle.type_terms.specs.Promised.Trees.{Trees, leaf, sort_of}

@@ -1,4 +1,4 @@
--- Nothing makes wider terms than were put in: replacing, unification, and answers that are applied.
+-- No operation makes wider terms than its inputs: replacing, unification, and applying responses.
 use Rattle.std.proofs.Common.{◌≡◌, ℕ, zero, suc, ◌+◌, ◌≤◌, arith, Bool, true, false, if◌then◌else◌, List, [], ◌∷◌, map, Option, Some, None, refl, sym, ◌∙◌, ap, subst}
 use Rattle.std.specs.Prelude.{is_some, option_map, unwrap_or}
 use Rattle.std.specs.List.{slice_get}

@@ -1,4 +1,4 @@
--- A candidate that is evaluated in code asks and answers what it does over the tables of frames.
+-- A candidate that is evaluated in code has the same nested goals and result as over the tables of frames.
 use Rattle.std.specs.Prelude.{◌≡◌, Bool, List, Option}
 use Rattle.type_terms.specs.Promised.Label.{Label}
 use Rattle.type_terms.specs.Promised.Trees.{Trees}
@@ -22,24 +22,24 @@ use Rattle.goal_evaluator.specs.Trial.{SpecTrees, candidate}
 use Rattle.goal_evaluator.specs.Fitting.{AreOver, IsGoalOver, IsValueOver}
 use Rattle.goal_evaluator.specs.RoundLaws.{in_rounds}
 
--- what the canonical variables of a candidate's terms stand for: those of the goal, and behind them the candidate's own
+-- the values of the canonical variables in a candidate's terms: those of the goal, then the candidate's own
 abbrev pub labels_of : List CanonicalVarKind → List CanonicalVarKind → List Label
 labels_of kinds own = (fresh (begin kinds) own).labels
 
--- an equation of terms over these variables
+-- the same equation, of terms over these variables
 pub record AreOneEquation (labels : List Label) (e : Equation) (f : Trees × Trees) : Type 0 where
   pub left_over : IsValueOver labels e.left
   pub right_over : IsValueOver labels e.right
   pub left_is : e.left.trees ≡ f.0
   pub right_is : e.right.trees ≡ f.1
 
--- a nested goal over these variables, and its step
+-- the same nested goal, over these variables, with the same kind of step
 pub record AreOnePremise (coinductive : Bool) (labels : List Label) (n : Nested) (m : NestedTrees) : Type 0 where
   pub over : IsGoalOver labels m.goal
   pub goal_is : n.goal ≡ m.goal
   pub step_is : n.coinductive ≡ is_coinductive_step coinductive m.source
 
--- one candidate of a goal whose variables are of these kinds
+-- the same candidate, of a goal whose variables are of these kinds
 pub record AreOneCandidate (coinductive : Bool) (kinds : List CanonicalVarKind) (x : Spec (workings frame_tables)) (y : SpecTrees) : Type 0 where
   pub kinds_are : x.kinds ≡ y.kinds
   pub equations : Pairwise (AreOneEquation (labels_of kinds y.kinds)) x.equations y.equations
@@ -48,7 +48,7 @@ pub record AreOneCandidate (coinductive : Bool) (kinds : List CanonicalVarKind) 
   pub nested : Pairwise (AreOnePremise coinductive (labels_of kinds y.kinds)) x.nested y.nested
   pub certainty_is : x.certainty ≡ y.certainty
 
--- over answers that fit their questions both wait at one question, or both end with one answer, or both are refused
+-- if the responses fit their goals, both wait for the same nested goal, or both end with the same response, or both fail
 abbrev pub CandidatesAreOne : Type 0
 CandidatesAreOne =
     (mode : TypingMode) (coinductive : Bool) (kinds : List CanonicalVarKind) (x : Spec (workings frame_tables)) (y : SpecTrees) (answers others : List (Option AnswerTrees))

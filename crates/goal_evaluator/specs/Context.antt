@@ -1,4 +1,4 @@
--- What an evaluation has so far.
+-- The state of an evaluation.
 use Rattle.std.specs.Prelude.{List, Option}
 use Rattle.type_terms.specs.Promised.Handles.{Entry}
 use Rattle.type_terms.specs.Promised.Handles.{ArgsHeld}
@@ -15,7 +15,7 @@ use Rattle.goal_evaluator.specs.declared.goal.GoalSource.{GoalSource}
 use Rattle.goal_evaluator.specs.Lists.{Every}
 use Rattle.goal_evaluator.specs.Readings.{ResultHeld}
 
--- a goal that is still to be asked
+-- a nested goal that is not yet proved
 pub record NestedGoal : Type 0 where
   pub source : GoalSource
   pub clauses : List Clause
@@ -24,8 +24,8 @@ pub record NestedGoal : Type 0 where
 abbrev pub nested_goal : GoalSource × Goal → NestedGoal
 nested_goal n = record { source = n.0; clauses = n.1.param_env.items; predicate = n.1.predicate }
 
--- how goals are read, the table, the kinds and the values of the input's variables, the nested goals with their sources, the
--- oldest first, and the replies so far, the oldest first
+-- The state: the typing mode, the table, the kinds and values of the input's variables, the nested goals, and the replies so far.
+-- Both lists begin with the oldest.
 pub record Context : Type 0 where
   pub mode : TypingMode
   pub table : Table
@@ -41,7 +41,7 @@ pub record GoalIsHeld (es : List Entry) (n : NestedGoal) : Type 0 where
 abbrev pub NestedHeld : List Entry → List NestedGoal → Type 0
 NestedHeld es ns = Every (GoalIsHeld es) ns
 
--- the handles are an interner's, and the table is one that was made from an empty one
+-- the handles are of this interner, and the table was made from a new one
 pub record IsReadyContext (es : List Entry) (c : Context) : Type 0 where
   pub table : Ready es c.table
   pub values : ArgsHeld es c.values

@@ -1,4 +1,4 @@
--- What the fields of a context say.
+-- The state that the fields of a context represent.
 use Rattle.std.specs.Prelude.{map}
 use Rattle.goal_evaluator.specs.Context.{Context, nested_goal}
 use Rattle.goal_evaluator.specs.declared.context.EvalCtxt.TheInside.{Inside}

@@ -1,5 +1,5 @@
--- Operations, and workings, of two kinds that do the same: where their tables, goals and answers correspond, so does all that rounds,
--- candidates and frames over them ask and answer.
+-- Corresponding operations and workings. If their tables, goals and responses correspond, so do the nested goals and results of
+-- all rounds, candidates and frames over them.
 use Rattle.std.specs.Prelude.{◌≡◌, ℕ, List, [], ◌∷◌, Option}
 use Rattle.infer_table.specs.declared.certainty.Certainty.{Certainty}
 use Rattle.goal_evaluator.specs.Lists.{Pairwise, OnBoth}
@@ -13,20 +13,21 @@ use Rattle.goal_evaluator.specs.History.{Request, evaluate, enter_candidate, fin
 
 -- ---- rounds
 module _ {Question Response OtherQuestion OtherResponse : Type 0} (one : Operations Question Response) (other : Operations OtherQuestion OtherResponse) where
-  -- what of the one corresponds to what of the other
+  -- a correspondence between two kinds of operations
   pub record Correspondence : Type 1 where
     pub Tables : one.Table → other.Table → Type 0
     pub Goals : one.Nested → other.Nested → Type 0
     pub Questions : Question → OtherQuestion → Type 0
-    -- as responses to this question
+    -- correspondence of responses to this nested goal
     pub Responses : Question → Response → OtherResponse → Type 0
 
   module _ (c : Correspondence) where
-    -- both refuse the question, or the responses of both correspond
+    -- both have no solution, or the responses correspond
     abbrev pub AnswersCorrespond : Question → Option Response → Option OtherResponse → Type 0
     AnswersCorrespond q a b = OnBoth (c.Responses q) a b
 
-    -- goals ask corresponding questions, corresponding responses do the same to tables, are equally sure, and both hold values or none
+    -- Corresponding goals have corresponding canonical forms. Corresponding responses change tables alike, are equally certain,
+    -- and both have values or none.
     pub record IsCorrespondence : Type 0 where
       pub question : (T : one.Table) (U : other.Table) (n : one.Nested) (m : other.Nested) → c.Tables T U → c.Goals n m → c.Questions (one.question T n) (other.question U m)
       pub apply : (T : one.Table) (U : other.Table) (n : one.Nested) (m : other.Nested) (r : Response) (s : OtherResponse)
@@ -34,7 +35,7 @@ module _ {Question Response OtherQuestion OtherResponse : Type 0} (one : Operati
       pub certainty : (q : Question) (r : Response) (s : OtherResponse) → c.Responses q r s → one.certainty r ≡ other.certainty s
       pub has_values : (q : Question) (r : Response) (s : OtherResponse) → c.Responses q r s → one.has_values r ≡ other.has_values s
 
-    -- these answers, the oldest first, correspond as answers to what the script asks, while there are some
+    -- these responses, the oldest first, correspond as responses to the script's nested goals, as long as both lists last
     abbrev pub AreAnswers : {X : Type 0} → Script Question (Option Response) X → List (Option Response) → List (Option OtherResponse) → Type 0
     AreAnswers (done x) answers others = Unit {0}
     AreAnswers (ask q k) [] [] = Unit {0}
@@ -42,7 +43,7 @@ module _ {Question Response OtherQuestion OtherResponse : Type 0} (one : Operati
     AreAnswers (ask q k) [] (b ∷ others) = ⊥
     AreAnswers (ask q k) (a ∷ answers) [] = ⊥
 
-    -- both wait at corresponding questions, or both end with corresponding results
+    -- both wait for corresponding nested goals, or both end with corresponding results
     abbrev pub Runs : {X Y : Type 0} → (X → Y → Type 0) → Run Question (Option Response) X → Run OtherQuestion (Option OtherResponse) Y → Type 0
     Runs R (ready x left) (ready y rest) = R x y
     Runs R (waits p) (waits q) = c.Questions p q
@@ -60,7 +61,7 @@ module _ {Question Response OtherQuestion OtherResponse : Type 0} (one : Operati
       pub left : Pairwise c.Goals x.left y.left
       pub certainty : x.certainty ≡ y.certainty
 
-    -- from corresponding tables, corresponding goals and answers lead to corresponding ends of a round and of the rounds
+    -- if tables, goals and responses correspond, so do the ends of a round and of all rounds
     pub record RoundsCorrespond : Type 0 where
       pub of_round : (ns : List one.Nested) (ms : List other.Nested) (T : one.Table) (U : other.Table) (answers : List (Option Response)) (others : List (Option OtherResponse))
           → Pairwise c.Goals ns ms → c.Tables T U → AreAnswers (round one ns T) answers others → Runs (OnBoth RoundEndsTogether) (run (round one ns T) answers) (run (round other ms U) others)
@@ -71,14 +72,14 @@ module _ {Question Response OtherQuestion OtherResponse : Type 0} (one : Operati
 module _ {Question Response OtherQuestion OtherResponse : Type 0} (one : Workings Question Response) (other : Workings OtherQuestion OtherResponse) where
   pub record CandidateCorrespondence : Type 1 where
     pub rounds : Correspondence one.operations other.operations
-    -- as responses of the candidate itself
+    -- correspondence of responses of the candidate itself
     pub Responses : Response → OtherResponse → Type 0
     pub Equations : one.Equation → other.Equation → Type 0
     pub Kinds : one.Kinds → other.Kinds → Type 0
     pub Regions : one.Regions → other.Regions → Type 0
 
   module _ (c : CandidateCorrespondence) where
-    -- what is done to corresponding tables makes corresponding ones, and these respond alike
+    -- operations make corresponding tables from corresponding ones, and these have corresponding responses
     pub record IsCandidateCorrespondence : Type 0 where
       pub rounds : IsCorrespondence one.operations other.operations c.rounds
       pub fresh : (T : one.operations.Table) (U : other.operations.Table) (j : one.Kinds) (k : other.Kinds) → c.rounds.Tables T U → c.Kinds j k → c.rounds.Tables (one.fresh T j) (other.fresh U k)
@@ -99,32 +100,32 @@ module _ {Question Response OtherQuestion OtherResponse : Type 0} (one : Working
       pub nested : Pairwise c.rounds.Goals x.nested y.nested
       pub certainty : x.certainty ≡ y.certainty
 
-    -- in corresponding tables, corresponding candidates and answers lead to corresponding results
+    -- if tables, candidates and responses correspond, so do the results
     abbrev pub CandidatesCorrespond : Type 0
     CandidatesCorrespond =
         (limit : ℕ) (T : one.operations.Table) (U : other.operations.Table) (x : Spec one) (y : Spec other) (answers : List (Option Response)) (others : List (Option OtherResponse))
         → c.rounds.Tables T U → Specs x y → AreAnswers one.operations other.operations c.rounds (candidate one limit T x) answers others
         → Runs one.operations other.operations c.rounds Results (run (candidate one limit T x) answers) (run (candidate other limit U y) others)
 
-    -- the candidates that were considered correspond, with their responses, and have the same number
+    -- evaluated candidates that correspond, with corresponding responses and the same number
     pub record BothConsidered (x : Considered one) (y : Considered other) : Type 0 where
       pub spec : Specs x.spec y.spec
       pub response : Results x.response y.response
       pub number : x.number ≡ y.number
 
-    -- corresponding candidates come next, or corresponding answers, with the same numbers to ignore
+    -- corresponding candidates come next, or corresponding results with the same numbers to ignore
     abbrev pub BothNext : Next one → Next other → Type 0
     BothNext (consider x) (consider y) = Specs x y
     BothNext (answer a ns) (answer b ms) = Results a b × (ns ≡ ms)
     BothNext (consider x) (answer b ms) = ⊥
     BothNext (answer a ns) (consider y) = ⊥
 
-    -- after corresponding histories corresponding things come next
+    -- after corresponding histories the requests correspond
     abbrev pub Handlers : (List (Considered one) → Next one) → (List (Considered other) → Next other) → Type 0
     Handlers next then =
         (seen : List (Considered one)) (known : List (Considered other)) → Pairwise BothConsidered seen known → IsHistory one next seen → IsHistory other then known → BothNext (next seen) (then known)
 
-    -- a result answers the question that is asked here
+    -- the results correspond as responses to the nested goal for which the frame waits
     abbrev pub AnswersAt : Position Question (Option Response) → Option Response → Option OtherResponse → Type 0
     AnswersAt (inside heard replies (ask q k) go) a b = AnswersCorrespond one.operations other.operations c.rounds q a b
     AnswersAt position a b = ⊥
@@ -137,7 +138,7 @@ module _ {Question Response OtherQuestion OtherResponse : Type 0} (one : Working
     Replies place (finished n) (finished m) = n ≡ m
     Replies place _ _ = ⊥
 
-    -- the replies to the frame, the newest first, correspond each to the other's in its place
+    -- the replies to the frame, the newest first, correspond one by one
     abbrev pub RepliesCorrespond : Frame Question (Option Response) → List (Reply (Option Response)) → List (Reply (Option OtherResponse)) → Type 0
     RepliesCorrespond f [] [] = Unit {0}
     RepliesCorrespond f (x ∷ heard) (y ∷ replies) = Replies (position f heard) x y × RepliesCorrespond f heard replies
@@ -152,7 +153,7 @@ module _ {Question Response OtherQuestion OtherResponse : Type 0} (one : Working
     Requests (returns a) (returns b) = Results a b
     Requests _ _ = ⊥
 
-    -- after corresponding replies that came in order, the newest first, frames of corresponding handlers make corresponding requests
+    -- after corresponding replies in order, the newest first, frames of corresponding handlers make corresponding requests
     abbrev pub FramesCorrespond : Type 0
     FramesCorrespond =
         (limit fuel : ℕ) (T : one.operations.Table) (U : other.operations.Table) (next : List (Considered one) → Next one) (then : List (Considered other) → Next other)

@@ -1,4 +1,4 @@
--- How the calls of a context that evaluate end.
+-- How the evaluating calls of a context end.
 use Rattle.std.specs.Prelude.{◌≡◌, List, [], Option, Some, None, Result, Ok, Err}
 use Rattle.type_terms.specs.Promised.Handles.{Entry, Keeps}
 use Rattle.infer_table.specs.declared.certainty.Certainty.{Certainty}
@@ -19,45 +19,45 @@ use Rattle.goal_evaluator.specs.Context.{Context}
 use Rattle.goal_evaluator.specs.Evaluating.{AskedQuestion, question_of, goals_trees, evaluation}
 use Rattle.goal_evaluator.specs.OwnAnswers.{OwnAnswerSays, answer_of}
 
--- the handles of a question, or of an answer, are an interner's
+-- the handles of a nested goal or of a response are of this interner
 abbrev pub AnswerHeld : List Entry → EvalStep CanonicalResponse → Type 0
 AnswerHeld es (Step.Ask input source) = GoalHeld es input.goal
 AnswerHeld es (Step.Ready answer) = ResponseHeld es answer
 
 module _ {X : Type 0} where
-  -- a goal was refused
+  -- a nested goal has no solution
   abbrev pub RunIsRefused : Run AskedQuestion (Option AnswerTrees) (Option X) → Type 0
   RunIsRefused (ready None more) = Unit {0}
   RunIsRefused (ready (Some o) more) = ⊥
   RunIsRefused (waits q) = ⊥
 
-  -- no reply to this question is there
+  -- there is no reply to this nested goal
   abbrev pub Awaits : Run AskedQuestion (Option AnswerTrees) (Option X) → AskedQuestion → Type 0
   Awaits (ready o more) q = ⊥
   Awaits (waits p) q = p ≡ q
 
-  -- it ended so, with these replies left
+  -- it ended with these replies unused
   abbrev pub EndsIn : (X → List (Option AnswerTrees) → Type 0) → Run AskedQuestion (Option AnswerTrees) (Option X) → Type 0
   EndsIn P (ready None more) = ⊥
   EndsIn P (ready (Some o) more) = P o more
   EndsIn P (waits q) = ⊥
 
 module _ (mode : TypingMode) (es : List Entry) (old new : Context) where
-  -- ready, the context holds what the rounds left, and no replies
+  -- after the end of the rounds the context has their table and remaining goals, and no replies
   pub record ContextIsSettled (o : Rounds (evaluation mode)) : Type 0 where
     pub table : o.table ≡ table_trees es new.table
     pub left : o.left ≡ goals_trees es new.nested
     pub rest : new ≡ record old { table = new.table; nested = new.nested; replies = [] }
 
-  -- how a call that evaluates ends; where it is not ready, the context is as before
+  -- How an evaluating call ends. Unless the result is `Ready`, the context is unchanged.
   abbrev pub CallEnds : Run AskedQuestion (Option AnswerTrees) (Option (Rounds (evaluation mode))) → Result (EvalStep Certainty) EvalError → Type 0
   CallEnds r (Err (Fault fault)) = new ≡ old
   CallEnds r (Err NoSolution) = RunIsRefused r × (new ≡ old)
   CallEnds r (Ok (Step.Ask input source)) = Awaits r (question_of es input source) × (new ≡ old)
   CallEnds r (Ok (Step.Ready certainty)) = EndsIn (λ o more. ContextIsSettled o × (o.certainty ≡ certainty)) r
 
-  -- the same, with the context's own answer, as sure as this certainty and the goals together: a function of the trees that the
-  -- rounds left; `terms` are those of the interner before the answer was made
+  -- The same with the context's response, whose certainty joins this certainty with that of the goals. It is a function of the
+  -- terms that the rounds left. `terms` is the interner's content before the response was made.
   pub record ContextIsAnswered (certainty : Certainty) (r : CanonicalResponse) (o : Rounds (evaluation mode)) : Type 0 where
     pub settled : ContextIsSettled o
     pub certainty_is : r.certainty ≡ joined certainty o.certainty

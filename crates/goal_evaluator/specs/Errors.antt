@@ -1,4 +1,4 @@
--- What a refused equation means for an evaluation.
+-- Errors of equations as errors of evaluations.
 use Rattle.infer_table.specs.declared.certainty.EqError.{EqError}
 use Rattle.infer_table.specs.declared.certainty.EqError.TheVariants as Eq
 use Rattle.goal_evaluator.specs.declared.error.EvalError.{EvalError}

@@ -1,4 +1,4 @@
--- What the calls of a context that evaluate do, over trees.
+-- What the evaluating calls of a context do, over terms.
 use Rattle.std.specs.Prelude.{◌≡◌, not, List, [], ◌∷◌, map, Option, Some, option_map, if◌then◌else◌}
 use Rattle.type_terms.specs.Promised.Label.{Label}
 use Rattle.type_terms.specs.Promised.Trees.{leaf, sort_of}
@@ -23,7 +23,7 @@ use Rattle.infer_table.specs.Answers.{is_answer_to}
 use Rattle.infer_table.specs.Applied.{applied}
 use Rattle.goal_evaluator.specs.Context.{NestedGoal}
 
--- a question: a canonical goal, how it is read, and where it comes from
+-- a canonical goal with its typing mode and its source
 pub record AskedQuestion : Type 0 where
   pub mode : TypingMode
   pub form : CanonicalForm
@@ -32,7 +32,7 @@ pub record AskedQuestion : Type 0 where
 abbrev pub question_of : List Entry → CanonicalInput → GoalSource → AskedQuestion
 question_of es input source = record { mode = input.mode; form = form_of es input; source = source }
 
--- a goal that is still to be asked, as trees
+-- a nested goal as terms
 pub record NestedTrees : Type 0 where
   pub source : GoalSource
   pub goal : GoalTrees
@@ -54,11 +54,11 @@ leaf_value l = record { sort = sort_of l; trees = leaf l }
 abbrev pub goal_values : GoalTrees → List Value
 goal_values g = map leaf_value (goal_leaves g)
 
--- an answer to a goal with these values, put into a table; none: refused. An answer to another goal says nothing
+-- A response applied to a table. `None` if that fails. A response that does not fit the goal changes nothing.
 unfoldable pub put_into : TableTrees → List Value → AnswerTrees → Option TableTrees
 put_into t originals a = if is_answer_to originals a then applied t originals a else Some t
 
--- what the rounds of an evaluation that reads goals in this mode do with its table
+-- the operations of rounds in this typing mode
 abbrev pub evaluation : TypingMode → Operations AskedQuestion AnswerTrees
 evaluation mode =
     record {
@@ -70,16 +70,16 @@ evaluation mode =
       has_values = λ r. not (is_identity_modulo_regions 0 r.values);
     }
 
--- with the terms `new`, the input asks this goal over this table, whose terms are `old`
+-- the input, over the interner `new`, is the canonical form of this goal in this table, over the interner `old`
 abbrev pub IsAskedBy : TypingMode → List Entry → Table → NestedGoal → List Entry → CanonicalInput → Type 0
 IsAskedBy mode old t n new input =
     ◌≡◌ {A = AskedQuestion} (record { mode = mode; form = canonical_form (goal_resolved (content old t.values) (nested_trees old n).goal); source = n.source }) (question_of new input n.source)
 
--- the values of the variables of that question
+-- the values of the variables of that canonical form
 abbrev pub values_asked : List Entry → Table → NestedGoal → List Value
 values_asked es t n = goal_values (goal_resolved (content es t.values) (nested_trees es n).goal)
 
--- how sure it is that all goals hold where these are left, and the answers to them are so sure together
+-- how certain it is that all goals hold, if these remain and the responses to them have this joined certainty
 abbrev pub certainty_with : List NestedGoal → Certainty → Certainty
 certainty_with [] c = Yes
 certainty_with (n ∷ ns) c = unsettled c

@@ -1,4 +1,4 @@
--- What may be put into a table of a frame, as the candidates of a lawful handler are.
+-- The equations and nested goals that a lawful handler may give for a table of a frame.
 use Rattle.std.specs.Prelude.{◌≡◌, Bool, true, false, List, Option, Some, None}
 use Rattle.std.specs.List.{slice_get}
 use Rattle.type_terms.specs.Promised.Label.{Label, Sort, infer, param, placeholder, canonical}
@@ -9,12 +9,12 @@ use Rattle.infer_table.specs.Canonical.{GoalTrees}
 use Rattle.infer_table.specs.Values.{Value}
 use Rattle.goal_evaluator.specs.FrameTables.{is_open_label}
 
--- ---- terms over the canonical variables that stand for these labels
+-- ---- terms over canonical variables with these labels as values
 abbrev pub is_of_sort : Sort → Option Label → Bool
 is_of_sort s None = false
 is_of_sort s (Some l) = is_sort (sort_of l) s
 
--- a variable that stands for a label of its sort, or what is not open
+-- a canonical variable whose value is a label of its kind, or a label that is not open
 abbrev pub is_slot : List Label → Label → Bool
 is_slot ls (canonical s i) = is_of_sort s (slice_get ls i)
 is_slot ls (infer k v) = false
@@ -22,7 +22,7 @@ is_slot ls (param k v) = false
 is_slot ls (placeholder k v) = false
 is_slot ls l = true
 
--- no other variable stands in the trees, and nothing stands below a leaf
+-- no other variable occurs, and leaves have no children
 abbrev pub AreOver : List Label → Trees → Type 0
 AreOver ls none = Unit {0}
 AreOver ls (tree l c o) = (is_slot ls l ≡ true) × (is_leaf_label l ≡ true → c ≡ none) × AreOver ls c × AreOver ls o
@@ -31,7 +31,7 @@ pub record IsGoalOver (ls : List Label) (g : GoalTrees) : Type 0 where
   pub environment : AreOver ls g.environment
   pub predicate : AreOver ls g.predicate
 
--- a term of its sort over these variables
+-- a term of its kind over these variables
 pub record IsValueOver (ls : List Label) (v : Value) : Type 0 where
   pub sort : is_a v.sort v.trees ≡ true
   pub made : is_made is_open_label terms v.trees ≡ true

@@ -1,4 +1,4 @@
--- The tables of frames: what they hold, as trees, which terms they allow, and what can be done with them.
+-- The tables of frames: their content as terms, the values that they allow, and their operations.
 use Rattle.std.specs.Prelude.{◌≡◌, ℕ, zero, suc, ltb, Bool, true, false, ◌&&◌, List, [], ◌∷◌, map, Option, Some, None, if◌then◌else◌}
 use Rattle.type_terms.specs.Promised.Label.{Label, Sort, of_type, of_const, of_lifetime, param, placeholder, infer, canonical, bound, static}
 use Rattle.type_terms.specs.Promised.Trees.{Trees, leaf, sort_of, is_sort, none}
@@ -37,7 +37,7 @@ is_placeholder_of of_const (Some PlaceholderConst) = true
 is_placeholder_of of_lifetime k = true
 is_placeholder_of s k = false
 
--- what may stand in the terms of a table: its own unknowns, and the placeholders of its goal
+-- the open leaves of a table's terms: its own inference variables, and the placeholders of its goal
 abbrev pub is_good : List CanonicalVarKind → ℕ → ℕ → Label → Bool
 is_good kinds types consts (infer of_type v) = ltb v types
 is_good kinds types consts (infer of_const v) = ltb v consts
@@ -52,7 +52,7 @@ label_at [] i = static
 label_at (l ∷ ls) zero = l
 label_at (l ∷ ls) (suc i) = label_at ls i
 
--- what stands for a variable of the goal: an unknown, or the placeholder of its place
+-- the value of a variable of the goal: an inference variable, or the placeholder with the variable's index
 abbrev pub IsOwn : ℕ → CanonicalVarKind → Label → Type 0
 IsOwn place Ty l = (v : ℕ) × (l ≡ infer of_type v)
 IsOwn place Const l = (v : ℕ) × (l ≡ infer of_const v)
@@ -66,7 +66,7 @@ AreOwn place (k ∷ ks) [] = ⊥
 AreOwn place (k ∷ ks) (l ∷ ls) = IsOwn place k l × AreOwn (suc place) ks ls
 
 -- ---- tables
--- the kinds of the goal's variables, what stands for the canonical variables of goal and candidate, and the unknowns
+-- the kinds of the goal's variables, the values of the canonical variables of goal and candidate, and the inference variables
 pub record FrameTable : Type 0 where
   pub kinds : List CanonicalVarKind
   pub labels : List Label
@@ -75,13 +75,13 @@ pub record FrameTable : Type 0 where
 abbrev pub good_in : FrameTable → Label → Bool
 good_in t l = is_good t.kinds t.content.ty_vars t.content.const_vars l
 
--- its terms are made as they are to be
+-- its terms are well-formed
 pub record IsMadeFrame (t : FrameTable) : Type 0 where
   pub table : IsMadeTable (good_in t) t.content
   pub leaves : Every (λ l. is_made (good_in t) terms (leaf l) ≡ true) t.labels
   pub own : AreOwn zero t.kinds t.labels
 
--- the unknowns of the goal have the values that are given
+-- the inference variables of the goal have these values
 abbrev pub HaveValues : List CanonicalVarKind → List Trees → List Trees → Type 0
 HaveValues [] ts slots = Unit {0}
 HaveValues (Ty ∷ ks) ts slots = (of_sort of_type (first_term ts) ≡ first_term slots) × HaveValues ks (other_terms ts) (other_terms slots)
@@ -96,13 +96,13 @@ pub record Allows (t : FrameTable) (s : ChosenTerms) : Type 0 where
   pub own : HaveValues t.kinds s.own.terms s.slots
   pub proper : s.proper ≡ (s.own.proper && fits (map Some t.kinds) s.own.terms)
 
--- different placeholders of the goal stand for different terms
+-- different placeholders of the goal have different values
 abbrev pub TellsApart : FrameTable → ChosenTerms → Type 0
 TellsApart t s =
     (k : Sort) (i j : ℕ) → is_placeholder_of k (kind_at t.kinds i) ≡ true → is_placeholder_of k (kind_at t.kinds j) ≡ true
     → as_place k (term_at s.own.terms i) ≡ as_place k (term_at s.own.terms j) → (is_sort k of_lifetime ≡ false) → i ≡ j
 
--- each placeholder of the goal has a term that stands for itself
+-- the value of each placeholder of the goal is a parameter or placeholder
 abbrev pub FitPlaceholders : List CanonicalVarKind → List Trees → Type 0
 FitPlaceholders [] ts = Unit {0}
 FitPlaceholders (PlaceholderTy ∷ ks) ts = (is_place of_type (first_term ts) ≡ true) × FitPlaceholders ks (other_terms ts)
@@ -119,7 +119,7 @@ pub record Nested : Type 0 where
   pub goal : GoalTrees
   pub coinductive : Bool
 
--- the label, if it is of this sort
+-- the label, if it is of this kind
 abbrev pub label_of_sort : Sort → Label → Label
 label_of_sort s l = if is_sort (sort_of l) s then l else default_label s
 
@@ -132,7 +132,7 @@ slot_at ls static = Some (leaf static)
 slot_at ls (bound of_lifetime k i) = Some (leaf (bound of_lifetime k i))
 slot_at ls l = None
 
--- the nested goal over the table's unknowns, with the values that they have
+-- the nested goal with the values of its variables in this table
 abbrev pub goal_in : FrameTable → Nested → GoalTrees
 goal_in t n = goal_resolved t.content.bindings (goal_put_in (slot_at t.labels) n.goal)
 
@@ -142,21 +142,21 @@ question t n = record { form = canonical_form (goal_in t n); coinductive = n.coi
 abbrev pub fact : Nested → ChosenTerms → Fact
 fact n s = record { trait = trait_of n.goal.predicate; goal = goal_read (given s.slots) n.goal; proper = s.proper }
 
--- what the terms give to the variables of the question
+-- the values of the variables of the canonical goal
 abbrev pub values_at : FrameTable → Nested → ChosenTerms → Values
 values_at t n s = record { proper = s.proper; terms = map (reading_of s) (goal_leaves (goal_in t n)) }
 
--- an instance of the question is an instance of the nested goal
+-- an instance of the canonical goal is an instance of the nested goal
 abbrev pub InstanceOfQuestion : Type 0
 InstanceOfQuestion = (t : FrameTable) (n : Nested) (s : ChosenTerms) → Allows t s → fact_of (question t n) (values_at t n s) ≡ fact n s
 
 -- ---- equations
--- two values over the canonical variables that are to be equal
+-- two values over the canonical variables that must be equal
 pub record Equation : Type 0 where
   pub left : Value
   pub right : Value
 
--- what may stand in terms that are written over canonical variables
+-- the labels of terms over canonical variables
 abbrev pub is_open_label : Label → Bool
 is_open_label (infer k v) = false
 is_open_label (param of_type i) = false
@@ -165,7 +165,7 @@ is_open_label (placeholder of_type i) = false
 is_open_label (placeholder of_const i) = false
 is_open_label l = true
 
--- the value's term; what is no term of the value's sort means nothing
+-- the value's term, or a default if the value is not of its kind
 abbrev pub term_of : Value → Trees
 term_of v = if is_a v.sort v.trees && is_made is_open_label terms v.trees then v.trees else leaf (default_label v.sort)
 
@@ -179,13 +179,13 @@ abbrev pub and_then : {A B : Type 0} → (A → Option B) → Option A → Optio
 and_then f None = None
 and_then f (Some x) = f x
 
--- one equation after the other
+-- one equation after another
 abbrev pub in_turn : Worklist → TableTrees → Option TableTrees
 in_turn [] t = Some t
 in_turn (e ∷ todo) t = and_then (in_turn todo) (unified t (e ∷ []))
 
--- ---- labels and content after what is done with a table
--- how many variables of a kind there are
+-- ---- labels and content after operations
+-- the number of variables of a kind
 abbrev pub types_in : List CanonicalVarKind → ℕ
 types_in [] = 0
 types_in (Ty ∷ ks) = suc (types_in ks)
@@ -201,7 +201,7 @@ regions_in [] = 0
 regions_in (Region ∷ ks) = suc (regions_in ks)
 regions_in (k ∷ ks) = regions_in ks
 
--- the next unknown for each variable, and for one that stands for any the placeholder of its place
+-- for each variable the next inference variable, or the placeholder with the variable's index
 abbrev pub labels_from : ℕ → ℕ → ℕ → ℕ → List CanonicalVarKind → List Label
 labels_from a b c i [] = []
 labels_from a b c i (Ty ∷ ks) = infer of_type a ∷ labels_from (suc a) b c (suc i) ks
@@ -210,21 +210,21 @@ labels_from a b c i (Region ∷ ks) = infer of_lifetime c ∷ labels_from a b (s
 labels_from a b c i (PlaceholderTy ∷ ks) = placeholder of_type i ∷ labels_from a b c (suc i) ks
 labels_from a b c i (PlaceholderConst ∷ ks) = placeholder of_const i ∷ labels_from a b c (suc i) ks
 
--- the content with which a table begins: its unknowns, none of which has a value
+-- the content of a new table: its inference variables, without values
 abbrev pub first_content : List CanonicalVarKind → TableTrees
 first_content kinds = record { ty_vars = types_in kinds; const_vars = consts_in kinds; region_vars = regions_in kinds; bindings = []; constraints = none }
 
 abbrev pub unknown : ℕ → Option Value
 unknown i = None
 
--- the labels of the new unknowns of these kinds, in order
+-- the labels of new inference variables of these kinds, in order
 abbrev pub labels_for : TableTrees → ℕ → List CanonicalVarKind → List Label
 labels_for t i ks = map (λ (v : Value). root_label v.trees) (values_for unknown t i ks)
 
--- the constraints over the table's unknowns, behind those that are recorded
+-- the constraints over the table's inference variables, after those that are recorded
 abbrev pub recorded_content : FrameTable → Trees → TableTrees
 recorded_content t c = with_constraints (put_in (slot_at t.labels) c) t.content
 
--- the pairs of terms that equations make equal
+-- the pairs of terms that the equations make equal
 abbrev pub pairs_in : FrameTable → List Equation → Worklist
 pairs_in t es = map (pair_in t) es

@@ -1,4 +1,4 @@
--- The answer that a context gives of itself.
+-- The response that a context gives.
 use Rattle.std.specs.Prelude.{◌≡◌, List, [], ◌∷◌, Option, Some, None}
 use Rattle.type_terms.specs.Promised.Trees.{Trees, none, tree, ◌+++◌, sort_of}
 use Rattle.type_terms.specs.Promised.Handles.{Entry}
@@ -21,7 +21,7 @@ use Rattle.infer_table.specs.Covers.{Agrees, AreNumbered}
 use Rattle.infer_table.specs.Raw.{variables_from}
 use Rattle.goal_evaluator.specs.Context.{Context}
 
--- what a context knows, with the terms `old`, of the input's variables, and of lifetimes
+-- what a context over the interner `old` knows of the input's variables and of lifetimes
 module _ (old : List Entry) (c : Context) where
   abbrev pub known_values : Trees
   known_values = resolved (content old c.table.values) (args_trees old c.values)
@@ -32,8 +32,8 @@ module _ (old : List Entry) (c : Context) where
   abbrev pub known : Trees
   known = resolved (content old c.table.values) (args_trees old c.values +++ constraints_trees old c.table.constraints)
 
--- with the terms `new`, the answer says in canonical form what the context knows of the input's variables and of lifetimes. It
--- agrees with each solution of the table
+-- The response, over the interner `new`, is the canonical form of what the context knows of the input's variables and of
+-- lifetimes. It agrees with each solution of the table.
 pub record SaysWhatIsKnown (old new : List Entry) (c : Context) (r : CanonicalResponse) : Type 0 where
   pub held : ResponseHeld new r
   pub form : response_form new r ≡ canonical_form (as_goal (known old c))
@@ -42,32 +42,32 @@ pub record SaysWhatIsKnown (old new : List Entry) (c : Context) (r : CanonicalRe
   pub agrees : HasNoCanonical (known_values old c) → (s : Assignment) → Solves s (content old c.table.values) → Agrees (args_trees new r.var_values.items) (instance s (args_trees old c.values))
   pub numbered : HasNoCanonical (known_values old c) → AreNumbered r.variables.items (args_trees new r.var_values.items)
 
--- the answer says nothing: each of the input's variables stands for itself
+-- the response has no values: each of the input's variables is its own value
 pub record OwnAnswerSaysNothing (new : List Entry) (c : Context) (r : CanonicalResponse) : Type 0 where
   pub held : ArgsHeld new r.var_values.items
   pub variables : r.variables.items ≡ c.variables
   pub values : values_of new r.var_values.items ≡ variables_from 0 c.variables
   pub constraints : r.region_constraints.items ≡ []
 
--- what an answer of this certainty says: an overflow says nothing
+-- what a response with this certainty states: nothing after an overflow
 abbrev pub OwnAnswerSays : List Entry → List Entry → Context → CanonicalResponse → Certainty → Type 0
 OwnAnswerSays old new c r Yes = SaysWhatIsKnown old new c r
 OwnAnswerSays old new c r (Maybe Ambiguity) = SaysWhatIsKnown old new c r
 OwnAnswerSays old new c r (Maybe Overflow) = OwnAnswerSaysNothing new c r
 
--- ---- over trees
+-- ---- over terms
 -- the kinds that are there
 abbrev pub kinds_in : List (Option CanonicalVarKind) → List CanonicalVarKind
 kinds_in [] = []
 kinds_in (None ∷ ks) = kinds_in ks
 kinds_in (Some k ∷ ks) = k ∷ kinds_in ks
 
--- the terms of a row, each with its sort
+-- the terms of a list, each with its kind
 abbrev pub values_in : Trees → List Value
 values_in none = []
 values_in (tree l c o) = record { sort = sort_of l; trees = tree l c none } ∷ values_in o
 
--- the answer that says in canonical form what a table knows of these values, and of lifetimes
+-- the response that is the canonical form of what a table knows of these values and of lifetimes
 abbrev pub known_answer : List Value → TableTrees → Certainty → AnswerTrees
 known_answer own t c =
     let ls = answer_leaves (resolved t.bindings (trees_of own +++ t.constraints)) in
@@ -78,7 +78,7 @@ known_answer own t c =
       constraints = numbered_by ls (resolved t.bindings t.constraints);
     }
 
--- the answer that a table gives to a goal whose variables are of these kinds and have these values
+-- the response of a table, for a goal whose variables are of these kinds and have these values
 abbrev pub answer_of : List CanonicalVarKind → List Value → TableTrees → Certainty → AnswerTrees
 answer_of kinds own t Yes = known_answer own t Yes
 answer_of kinds own t (Maybe Ambiguity) = known_answer own t (Maybe Ambiguity)

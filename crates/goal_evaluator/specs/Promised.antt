@@ -1,2 +1,2 @@
--- What the promises of the calls rest on.
+-- Definitions on which the promises of the calls rest.
 pub mod Widths

@@ -1,5 +1,5 @@
--- What frames are proved to keep, for every lawful handler over every lawful table. A history is the list of the replies to a
--- frame's requests, the newest first.
+-- What is proved of frames, for every lawful handler over every lawful table. A history is the list of replies to a frame's
+-- requests, the newest first.
 use Rattle.std.specs.Prelude.{◌≡◌, ℕ, suc, ◌*◌, ◌≤◌, ◌<◌, Bool, List, [], Option}
 use Rattle.goal_evaluator.specs.declared.TheConstants.{FIXPOINT_STEP_LIMIT}
 use Rattle.goal_evaluator.specs.Lists.{IsAmong, IsNoneOf}
@@ -21,30 +21,31 @@ module _ {Question Response : Type 0} (t : Tables Question Response) (h : Handle
   abbrev pub asked : History → Request Question (Option Response)
   asked heard = asks frame_of_goal heard
 
-  -- whatever is answered
+  -- without any requirement on the results
   abbrev pub Anything : Question → Option Response → Type 0
   Anything q a = Unit {0}
 
-  -- where the frame's answer is a definite yes, the goal follows, for all values of its variables, by a rule from instances, by
-  -- terms of these values, of questions that were answered by a definite yes in candidates that are not ignored; the steps to them
-  -- are coinductive exactly if the goal's trait is
+  -- If the frame returns a definite yes, each instance of the goal follows by a rule. The premises are instances of nested goals
+  -- with a definite yes in candidates that are not ignored, and their values are terms among those of the goal's variables. The
+  -- steps to them are coinductive exactly if the goal's trait is.
   abbrev pub DefiniteYesFollows : Type 0
   DefiniteYesFollows =
       (heard : History) (a : Option Response) → CameInOrder Anything frame_of_goal heard → asked heard ≡ returns a → IsYes t a
       → (v : t.Values) → FollowsFrom t h (IsInstance t (λ q. Counts t (finished_in frame_of_goal heard) (ignored_in frame_of_goal heard) q × (t.is_coinductive q ≡ h.coinductive)) v) v
 
-  -- where each answer covers its question, the frame's answer covers the goal: each solution agrees with it
+  -- if each result covers its nested goal, the frame's result covers the goal: each solution agrees with it
   abbrev pub AnswerCoversGoal : Type 0
   AnswerCoversGoal =
       (w : h.World) (heard : History) (a : Option Response) → CameInOrder (AnswerCovers t (h.Proves w)) frame_of_goal heard → asked heard ≡ returns a
       → (v : t.Values) → h.Proves w (h.goal v) → AgreesTo t a v
 
-  -- a frame asks at most 8 times the handler's number of questions, and makes at most three other requests for each candidate
+  -- a frame has at most 8 times as many nested goals as the handler states, and makes at most three other requests for each
+  -- candidate
   pub record IsBounded : Type 0 where
     pub questions : (heard : History) (q : Question) → CameInOrder Anything frame_of_goal heard → asked heard ≡ evaluate q → results heard < FIXPOINT_STEP_LIMIT * h.number
     pub replies : (heard : History) → CameInOrder Anything frame_of_goal heard → (results heard ≤ FIXPOINT_STEP_LIMIT * h.number) × (others heard ≤ 3 * h.candidates)
 
-  -- where no answer to a question that is no wider than the handler allows is wider, no question and no answer of the frame is wider
+  -- the result is at most as wide as the handler states, if the nested goal is
   abbrev pub Fair : Question → Option Response → Type 0
   Fair q a = t.number_of q ≤ h.widest → AnswerWithin t h.widest a
 
@@ -52,13 +53,13 @@ module _ {Question Response : Type 0} (t : Tables Question Response) (h : Handle
     pub questions : (heard : History) (q : Question) → CameInOrder Fair frame_of_goal heard → asked heard ≡ evaluate q → t.number_of q ≤ h.widest
     pub answer : (heard : History) (a : Option Response) → CameInOrder Fair frame_of_goal heard → asked heard ≡ returns a → AnswerWithin t h.widest a
 
-  -- a number that is to be ignored is that of a candidate that was finished, and was not ignored before
+  -- a number that is to be ignored is that of a finished candidate, and was not ignored before
   abbrev pub IgnoresFinishedOnce : Type 0
   IgnoresFinishedOnce =
       (heard : History) (n : ℕ) → CameInOrder Anything frame_of_goal heard → asked heard ≡ ignore_candidate n
       → IsAmong n (numbers (finished_in frame_of_goal heard)) × IsNoneOf n (ignored_in frame_of_goal heard)
 
-  -- for each test that only definite yeses pass, and each test of equality, what is made of responses is a merge of them
+  -- for each test that only definite yeses pass, and each sound test of equality, the merge of responses is one
   abbrev pub MergesResponses : Type 0
   MergesResponses =
       (applicable : Response → Bool) → IsTest t applicable → (same : Response → Response → Bool) → TellsResponsesApart same

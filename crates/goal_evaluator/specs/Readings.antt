@@ -1,4 +1,4 @@
--- The handles of candidates and of what handlers say, and the kinds of steps.
+-- The handles of candidates and of handlers' requests, and the kinds of steps.
 use Rattle.std.specs.Prelude.{◌≡◌, ℕ, Bool, false, List, Option, Some, None}
 use Rattle.type_terms.specs.Promised.Label.{of_trait, predicate}
 use Rattle.type_terms.specs.Promised.Trees.{Trees, none, tree}
@@ -19,16 +19,16 @@ use Rattle.goal_evaluator.specs.declared.goal.GoalSource.{GoalSource}
 use Rattle.goal_evaluator.specs.declared.goal.GoalSource.TheVariants.{Misc, ImplWhereBound}
 use Rattle.goal_evaluator.specs.Lists.{Every}
 
--- the goal is one of this trait
+-- the goal is of this trait
 abbrev pub IsOfTrait : ℕ → CanonicalForm → Type 0
 IsOfTrait n f = (args : Trees) × (f.goal.predicate ≡ tree (predicate (of_trait n)) args none)
 
--- a step is coinductive if it leads to a premise, and the asking goal's trait is coinductive
+-- a step is coinductive if it leads to a premise and the trait of the goal is coinductive
 abbrev pub is_coinductive_step : Bool → GoalSource → Bool
 is_coinductive_step coinductive Misc = false
 is_coinductive_step coinductive ImplWhereBound = coinductive
 
--- ---- the handles are an interner's
+-- ---- the handles are of this interner
 abbrev pub ResultHeld : List Entry → Option CanonicalResponse → Type 0
 ResultHeld es None = Unit {0}
 ResultHeld es (Some r) = ResponseHeld es r

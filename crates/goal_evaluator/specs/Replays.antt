@@ -1,8 +1,8 @@
--- A script over answers that are there, the oldest first: how a computation that keeps its replies runs anew.
+-- A script run with given results, the oldest first.
 use Rattle.std.specs.Prelude.{List, [], ◌∷◌}
 use Rattle.goal_evaluator.specs.Script.{Script, done, ask}
 
--- it ends, with the answers that are left, or waits at a question without an answer
+-- it ends, with the unused results, or waits for a nested goal without a result
 pub data Run (Q A X : Type 0) : Type 0 where
   ready : X → List A → Run Q A X
   waits : Q → Run Q A X
@@ -12,7 +12,7 @@ run (done x) answers = ready x answers
 run (ask q k) [] = waits q
 run (ask q k) (a ∷ answers) = run (k a) answers
 
--- goes on with what a run ended with
+-- continues with the result of a run
 abbrev pub onward : {Q A X Y : Type 0} → (X → Script Q A Y) → Run Q A X → Run Q A Y
 onward f (ready x answers) = run (f x) answers
 onward f (waits q) = waits q

@@ -1,4 +1,4 @@
--- The rounds of an evaluation do what rounds over the tables of frames do.
+-- Rounds of an evaluation correspond to rounds over the tables of frames.
 use Rattle.std.specs.Prelude.{◌≡◌, Bool, List}
 use Rattle.type_terms.specs.Promised.Label.{Label}
 use Rattle.infer_table.specs.Unification.{TableTrees}
@@ -15,27 +15,27 @@ use Rattle.goal_evaluator.specs.TableAnswers.{IsWellFormed}
 use Rattle.goal_evaluator.specs.Tables.{frame_tables}
 use Rattle.goal_evaluator.specs.Evaluating.{AskedQuestion, NestedTrees, evaluation}
 
--- in this mode, for a goal whose trait is coinductive or not, in tables of these kinds and labels
+-- in this typing mode, for a goal whose trait is coinductive or not, in tables of these kinds and labels
 module _ (mode : TypingMode) (coinductive : Bool) (kinds : List CanonicalVarKind) (labels : List Label) where
-  -- the table of a frame, which is made as such tables are, has this content
+  -- the well-formed table of a frame has this content
   pub record AreOneTable (t : FrameTable) (u : TableTrees) : Type 0 where
     pub made : IsMadeFrame t
     pub kinds_are : t.kinds ≡ kinds
     pub labels_are : t.labels ≡ labels
     pub content_is : t.content ≡ u
 
-  -- the nested goal, with the labels put in for its variables, is the goal that is asked
+  -- the nested goal, with the labels in place of its variables, is this goal
   pub record AreOneGoal (n : Nested) (m : NestedTrees) : Type 0 where
     pub goal_is : goal_put_in (slot_at labels) n.goal ≡ m.goal
     pub step_is : n.coinductive ≡ is_coinductive_step coinductive m.source
 
-  -- one canonical goal, by a step of one kind
+  -- the same canonical goal, with the same kind of step
   pub record AreOneQuestion (p : Frames.NestedQuestion) (q : AskedQuestion) : Type 0 where
     pub mode_is : q.mode ≡ mode
     pub form_is : p.form ≡ q.form
     pub step_is : p.coinductive ≡ is_coinductive_step coinductive q.source
 
-  -- one answer, which is well-formed in itself: whether it is one to the question is for both to see
+  -- the same well-formed response, which need not fit its goal
   pub record AreOneAnswer (p : Frames.NestedQuestion) (a b : AnswerTrees) : Type 0 where
     pub is : a ≡ b
     pub fits : IsWellFormed a
@@ -43,7 +43,7 @@ module _ (mode : TypingMode) (coinductive : Bool) (kinds : List CanonicalVarKind
   abbrev pub in_rounds : Correspondence (operations frame_tables) (evaluation mode)
   in_rounds = record { Tables = AreOneTable; Goals = AreOneGoal; Questions = AreOneQuestion; Responses = AreOneAnswer }
 
--- so, over well-formed answers, rounds over both ask the same questions and end alike
+-- with well-formed responses, rounds over both have the same nested goals and ends
 abbrev pub RoundsAreOne : Type 0
 RoundsAreOne = (mode : TypingMode) (coinductive : Bool) (kinds : List CanonicalVarKind) (labels : List Label) → IsCorrespondence (operations frame_tables) (evaluation mode) (in_rounds mode coinductive kinds labels)
 

@@ -1,4 +1,4 @@
--- What an evaluation runs and puts into a table, in terms of an interner's handles.
+-- Runs of an evaluation, in terms of an interner's handles.
 use Rattle.std.specs.Prelude.{◌≡◌, ℕ, List, [], ◌∷◌, map, Option, option_map}
 use Rattle.type_terms.specs.Promised.Trees.{Trees}
 use Rattle.type_terms.specs.Promised.Handles.{Entry}
@@ -31,46 +31,46 @@ use Rattle.goal_evaluator.specs.Rounds.{Round, Rounds, round, rounds}
 use Rattle.goal_evaluator.specs.Trial.{equations_trees, premises_trees, spec_trees, asked, candidate}
 use Rattle.goal_evaluator.specs.TrialEnds.{trial_trees}
 
--- a run over replies, each an answer or a refusal, to an end that may be a refusal too
+-- a run with replies, to an end that may be `None`
 abbrev pub RunTo : Type 0 → Type 0
 RunTo X = Run AskedQuestion (Option AnswerTrees) (Option X)
 
 -- ---- rounds
--- a round of these goals in a table, over these replies
+-- a round of these goals in a table, with these replies
 abbrev pub round_of : (mode : TypingMode) → List Entry → List (GoalSource × Goal) → Table → List (Option CanonicalResponse) → RunTo (Round (evaluation mode))
 round_of mode es goals t replies = run (round (evaluation mode) (premises_trees es goals) (table_trees es t)) (replies_trees es replies)
 
--- at most so many rounds
+-- at most `limit` rounds
 abbrev pub rounds_of : (mode : TypingMode) → ℕ → List Entry → List (GoalSource × Goal) → Table → List (Option CanonicalResponse) → RunTo (Rounds (evaluation mode))
 rounds_of mode limit es goals t replies = run (rounds (evaluation mode) limit (premises_trees es goals) (table_trees es t)) (replies_trees es replies)
 
--- those of a context's own goals
+-- the rounds of a context's own goals
 abbrev pub own_rounds : List Entry → (c : Context) → RunTo (Rounds (evaluation c.mode))
 own_rounds es c = run (rounds (evaluation c.mode) FIXPOINT_STEP_LIMIT (goals_trees es c.nested) (table_trees es c.table)) (replies_trees es c.replies)
 
--- ---- answers
--- what is left of a table once a response to a goal with these values is put in; none where that is refused
+-- ---- responses
+-- the table with a response to a goal with these values applied, or `None` if that fails
 abbrev pub with_response : List Entry → Table → List GenericArgKind → CanonicalResponse → Option TableTrees
 with_response es t values r = put_into (table_trees es t) (values_of es values) (answer_trees es r)
 
--- the answer of this certainty that a context gives of itself
+-- the context's own response with this certainty
 abbrev pub own_answer : List Entry → Context → Certainty → AnswerTrees
 own_answer es c certainty = answer_of c.variables (values_of es c.values) (table_trees es c.table) certainty
 
--- what is merged says all that this response says, and nothing is merged where there is none
+-- the merge equals this response, and there is none if there is no response
 abbrev pub SaysAllOf : Option CanonicalResponse → Option (CanonicalResponse × MergeCandidateInfo) → Type 0
 SaysAllOf r merged = option_map (λ x. content x.0) merged ≡ option_map content r
 
 -- ---- candidates
--- a candidate of a goal, over these replies
+-- a candidate of a goal, with these replies
 abbrev pub candidate_of : List Entry → CanonicalInput → CandidateSpec → List (Option CanonicalResponse) → RunTo AnswerTrees
 candidate_of es input s replies = run (candidate input.mode (begun input.variables.items) (spec_trees es s)) (replies_trees es replies)
 
--- its nested goals, where it is tried so
+-- its nested goals, after its equations and constraints
 abbrev pub nested_of : List Entry → CanonicalInput → CandidateSpec → Trial → List (Option CanonicalResponse) → RunTo AnswerTrees
 nested_of es input s t replies = run (asked input.mode (premises_trees es s.nested_goals.items) s.certainty (trial_trees es input.variables.items t)) (replies_trees es replies)
 
--- its terms, with the values in the place of variables
+-- its terms, with the values in place of canonical variables
 abbrev pub equations_filled : List Entry → List GenericArgKind → List Equation → List (Trees × Trees)
 equations_filled es values equations = map (pair_filled (values_of es values)) (equations_trees es equations)
 

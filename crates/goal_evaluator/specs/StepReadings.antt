@@ -1,4 +1,4 @@
--- How what handlers and frames hold in code is read over the tables of frames: as the trees that it stands for.
+-- The terms that the candidates and requests of handlers in code represent, over the tables of frames.
 use Rattle.std.specs.Prelude.{◌≡◌, ℕ, Bool, List, [], map, reverse, Option, Some, None, option_map}
 use Rattle.type_terms.specs.Promised.Handles.{Entry}
 use Rattle.infer_table.specs.declared.terms.Equation as Code
@@ -50,7 +50,7 @@ next_read es coinductive (Consider s) = consider (spec_read es coinductive s)
 next_read es coinductive (Answer r ignored) = answer (Some (answer_trees es r)) ignored.items
 next_read es coinductive NoSolution = answer None []
 
--- what a handler is shown of a candidate that was considered: all but the rest of its spec
+-- what a handler sees of an evaluated candidate: all but its equations, constraints and nested goals
 pub record ShownCandidate : Type 0 where
   pub source : CandidateSource
   pub result : Option AnswerTrees
@@ -66,8 +66,8 @@ shown_by es d = record { source = d.source; result = result_read es d.result; nu
 abbrev pub Shows : List ShownCandidate → List (Considered (workings frame_tables)) → Type 0
 Shows xs seen = xs ≡ reverse (map shown seen)
 
--- ---- what a handler says of a goal, and what it answers
--- what it means for the goal, in the goal's mode
+-- ---- the meaning of a handler for a goal, and its requests
+-- its meaning for the goal, in the goal's typing mode
 abbrev pub handled_for : {Handler Meaning : Type 0} → (Meaning → TypingMode → CanonicalForm → Handled frame_tables) → (Handler → List Entry → Meaning) → Handler → List Entry → CanonicalInput → Handled frame_tables
 handled_for handled meaning handler es goal = handled (meaning handler es) goal.mode (form_of es goal)
 
@@ -75,7 +75,7 @@ handled_for handled meaning handler es goal = handled (meaning handler es) goal.
 abbrev pub HasHistory : List Entry → Handled frame_tables → List InCode.Considered → Type 0
 HasHistory es h done = (seen : List (Considered (workings frame_tables))) × Shows (map (shown_by es) done) seen × IsHistory (workings frame_tables) h.next seen
 
--- the step is what comes next in each history that shows these candidates
+-- the step is the next request after each history that shows these candidates
 abbrev pub IsNextAfter : List Entry → Handled frame_tables → List InCode.Considered → List Entry → HandlerStep → Type 0
 IsNextAfter old h done new s =
     (seen : List (Considered (workings frame_tables))) → Shows (map (shown_by old) done) seen → IsHistory (workings frame_tables) h.next seen → next_read new h.coinductive s ≡ h.next seen

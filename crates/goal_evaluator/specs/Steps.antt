@@ -1,4 +1,4 @@
--- How the code's rounds end: as the run of the rounds does.
+-- How the rounds in code end: like the run of the rounds.
 use Rattle.std.specs.Prelude.{◌≡◌, Bool, List, ◌++◌, map, Option, Result, Ok, Err}
 use Rattle.type_terms.specs.Promised.Handles.{Entry}
 use Rattle.infer_table.specs.declared.certainty.Certainty.{Certainty}
@@ -22,14 +22,14 @@ use Rattle.goal_evaluator.specs.Ends.{RunIsRefused, Awaits, EndsIn}
 use Rattle.goal_evaluator.specs.Evaluating.{AskedQuestion, question_of, goals_trees, replies_trees, evaluation}
 
 module _ (mode : TypingMode) (es : List Entry) (T : Table) where
-  -- this table, and these goals behind those of before
+  -- with this table, and these goals after the earlier ones
   pub record SameRound (before after : List NestedGoal) (o : Round (evaluation mode)) (changed : Bool) (certainty : Certainty) : Type 0 where
     pub table : o.table ≡ table_trees es T
     pub left : goals_trees es after ≡ goals_trees es before ++ o.left
     pub changed_is : o.changed ≡ changed
     pub certainty_is : o.certainty ≡ certainty
 
-  -- a fault is no end
+  -- after a fault nothing is stated
   abbrev pub RoundEnds : List NestedGoal → List NestedGoal → Run AskedQuestion (Option AnswerTrees) (Option (Round (evaluation mode))) → Result RoundStep EvalError → Type 0
   RoundEnds before after r (Err (Fault fault)) = Unit {0}
   RoundEnds before after r (Err NoSolution) = RunIsRefused r
@@ -47,7 +47,7 @@ module _ (mode : TypingMode) (es : List Entry) (T : Table) where
   RoundsEnd r (Ok (OfRounds.Waits input source)) = Awaits r (question_of es input source)
   RoundsEnd r (Ok (OfRounds.Ended left certainty)) = EndsIn (λ o more. SameRounds (map nested_goal left.items) certainty o) r
 
--- the handles of what is left, or of a question, are an interner's
+-- the handles of remaining goals, or of the goal for which it waits, are of this interner
 abbrev pub RoundHeld : List Entry → RoundStep → Type 0
 RoundHeld es (Of.Waits input source) = GoalHeld es input.goal
 RoundHeld es (Of.Ended changed certainty replies) = Every (ResultHeld es) replies.now
@@ -56,7 +56,7 @@ abbrev pub RoundsHeld : List Entry → RoundsStep → Type 0
 RoundsHeld es (OfRounds.Waits input source) = GoalHeld es input.goal
 RoundsHeld es (OfRounds.Ended left certainty) = NestedHeld es (map nested_goal left.items)
 
--- where the rounds do not end, the context is as before
+-- unless the rounds end, the context is unchanged
 abbrev pub IsUndone : Context → Context → Result RoundsStep EvalError → Type 0
 IsUndone old new (Err error) = new ≡ old
 IsUndone old new (Ok (OfRounds.Waits input source)) = new ≡ old

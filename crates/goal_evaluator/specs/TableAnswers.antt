@@ -1,4 +1,4 @@
--- Answers over the tables of frames.
+-- Responses over the tables of frames.
 use Rattle.std.specs.Prelude.{◌≡◌, ℕ, suc, ◌==◌, Bool, true, false, ◌&&◌, not, if◌then◌else◌, List, [], ◌∷◌, map, Option, Some, None}
 use Rattle.type_terms.specs.Promised.Label.{Label, Sort, of_type, of_const, of_lifetime, infer, param, placeholder, canonical, bound, static}
 use Rattle.type_terms.specs.Promised.Trees.{Trees, none, tree, leaf, ◌+++◌, sort_of, is_sort}
@@ -21,13 +21,13 @@ use Rattle.goal_evaluator.specs.Content.{Values}
 use Rattle.type_terms.specs.Made.{terms, is_made}
 use Rattle.goal_evaluator.specs.FrameTables.{kind_at, FrameTable, Nested, goal_in, is_open_label}
 
--- ---- whether an answer holds values
--- the value is this variable itself
+-- ---- whether a response has values
+-- the value is this canonical variable
 abbrev pub is_variable_itself : ℕ → Sort → Trees → Bool
 is_variable_itself i k (tree (canonical s j) none none) = is_sort k s && (i == j)
 is_variable_itself i k t = false
 
--- each type and const value is the canonical variable that comes next, the first of which is this one; a lifetime may be any
+-- Each value of a type or constant is the next canonical variable, starting with this number. A lifetime may have any value.
 abbrev pub are_variables : ℕ → List Value → Bool
 are_variables i [] = true
 are_variables i (v ∷ vs) = if is_variable_itself i v.sort v.trees then are_variables (suc i) vs else (is_sort v.sort of_lifetime && are_variables i vs)
@@ -35,8 +35,8 @@ are_variables i (v ∷ vs) = if is_variable_itself i v.sort v.trees then are_var
 abbrev pub has_values : AnswerTrees → Bool
 has_values a = not (are_variables 0 a.values)
 
--- ---- instances of an answer
--- terms chosen for the variables of an answer
+-- ---- instances of a response
+-- terms for the variables of a response
 abbrev pub picked : Assignment → Label → Option Trees
 picked q (canonical of_type i) = Some (tree_of (q of_type i))
 picked q (canonical of_const i) = Some (tree_of (q of_const i))
@@ -48,7 +48,7 @@ picked q (bound of_lifetime i j) = Some (leaf static)
 picked q static = Some (leaf static)
 picked q l = None
 
--- a type or const is read as the given one
+-- the type or constant has this value
 abbrev pub IsPicked : Assignment → Sort → Trees → Trees → Type 0
 IsPicked q of_lifetime t x = Unit {0}
 IsPicked q k t x = read_with (picked q) t ≡ of_sort k x
@@ -57,18 +57,18 @@ abbrev pub ArePicked : Assignment → List Value → List Trees → Type 0
 ArePicked q [] ts = Unit {0}
 ArePicked q (v ∷ vs) ts = IsPicked q v.sort v.trees (first_term ts) × ArePicked q vs (other_terms ts)
 
--- the values are an instance of the answer's
+-- the values are an instance of the response's
 abbrev pub IsInstanceOfAnswer : AnswerTrees → Values → Type 0
 IsInstanceOfAnswer a v = (q : Assignment) × IsSorted q × ArePicked q a.values v.terms
 
--- ---- the answer that a table gives
+-- ---- the response of a table
 -- the labels of the goal's variables
 abbrev pub own_labels : List CanonicalVarKind → List Label → List Label
 own_labels [] ls = []
 own_labels (k ∷ ks) [] = []
 own_labels (k ∷ ks) (l ∷ ls) = l ∷ own_labels ks ls
 
--- what the goal's variables resolve to
+-- the values of the goal's variables
 abbrev pub own_values : FrameTable → List Trees
 own_values t = map (λ l. resolved t.content.bindings (leaf l)) (own_labels t.kinds t.labels)
 
@@ -76,7 +76,7 @@ abbrev pub joined : List Trees → Trees
 joined [] = none
 joined (t ∷ ts) = t +++ joined ts
 
--- the open leaves of what is answered, each once, by first occurrence
+-- the open leaves of the response, without duplicates, by first occurrence
 abbrev pub answer_leaves : FrameTable → List Label
 answer_leaves t = leaves kind_of_leaf [] (joined (own_values t) +++ resolved t.content.bindings t.content.constraints)
 
@@ -86,7 +86,7 @@ numbered t x = relabeled kind_of_leaf (canonical_label (answer_leaves t)) x
 abbrev pub value_numbered : FrameTable → Label → Value
 value_numbered t l = record { sort = sort_of l; trees = numbered t (resolved t.content.bindings (leaf l)) }
 
--- what the leaves stand for
+-- the kinds of these leaves
 abbrev pub with_kind : Option CanonicalVarKind → List CanonicalVarKind → List CanonicalVarKind
 with_kind None ks = ks
 with_kind (Some k) ks = k ∷ ks
@@ -95,11 +95,11 @@ abbrev pub kinds_of_labels : List Label → List CanonicalVarKind
 kinds_of_labels [] = []
 kinds_of_labels (l ∷ ls) = with_kind (kind_of_leaf l) (kinds_of_labels ls)
 
--- each variable stands for itself, and no lifetime is constrained
+-- each variable is its own value, and there are no region constraints
 abbrev pub without_values : List CanonicalVarKind → Certainty → AnswerTrees
 without_values kinds c = record { kinds = kinds; certainty = c; values = variables_from 0 kinds; constraints = none }
 
--- an overflow carries no values
+-- an overflow has no values
 abbrev pub respond : FrameTable → Certainty → AnswerTrees
 respond t (Maybe Overflow) = without_values t.kinds (Maybe Overflow)
 respond t c = record {
@@ -109,34 +109,35 @@ respond t c = record {
   constraints = numbered t (resolved t.content.bindings t.content.constraints);
 }
 
--- ---- an answer that is put into a table
+-- ---- a response applied to a table
 abbrev pub is_kind_of : Sort → Option CanonicalVarKind → Bool
 is_kind_of s None = false
 is_kind_of s (Some k) = is_sort (sort_of_kind k) s
 
--- what may stand in the values of an answer: its own variables, and nothing else that is open
+-- the open leaves in the values of a response: only its own variables
 abbrev pub is_variable_of : List CanonicalVarKind → Label → Bool
 is_variable_of ks (canonical s i) = is_kind_of s (kind_at ks i)
 is_variable_of ks l = is_open_label l
 
--- the value is a term of its sort
+-- the value is a term of its kind
 abbrev pub is_fitting : List CanonicalVarKind → Value → Bool
 is_fitting ks v = is_a v.sort v.trees && is_made (is_variable_of ks) terms v.trees
 
--- each value is such a term
+-- each value is a term of its kind
 abbrev pub are_fitting : List CanonicalVarKind → List Value → Bool
 are_fitting ks [] = true
 are_fitting ks (v ∷ vs) = is_fitting ks v && are_fitting ks vs
 
--- each value of the answer is a term of its sort over the answer's own variables, whatever it answers
+-- each value of the response is a term of its kind over the response's own variables, whatever its goal
 abbrev pub IsWellFormed : AnswerTrees → Type 0
 IsWellFormed a = Every (λ v. is_fitting a.kinds v ≡ true) a.values
 
--- it is an answer to a goal whose variables have these values, made as answers are
+-- the response fits a goal whose variables have these values, and is well-formed
 abbrev pub is_fitting_answer : List Value → AnswerTrees → Bool
 is_fitting_answer originals a = is_answer_to originals a && are_fitting a.kinds a.values
 
--- an answer to a goal whose variables have these values, put into the table; none: refused. Any other says nothing
+-- A response to a goal with these values applied to the table, or `None` if that fails. A response that does not fit changes
+-- nothing.
 abbrev pub put_into : TableTrees → List Value → AnswerTrees → Option TableTrees
 put_into t originals a = if is_fitting_answer originals a then applied t originals a else Some t
 
@@ -144,6 +145,6 @@ put_into t originals a = if is_fitting_answer originals a then applied t origina
 abbrev pub leaf_value : Label → Value
 leaf_value l = record { sort = sort_of l; trees = leaf l }
 
--- the values of the variables of the nested goal's question
+-- the values of the variables of the nested goal's canonical form
 abbrev pub originals_of : FrameTable → Nested → List Value
 originals_of t n = map leaf_value (goal_leaves (goal_in t n))

@@ -1,4 +1,4 @@
--- The tables of frames, with all that can be done with them.
+-- The tables of frames, with all their operations.
 use Rattle.std.specs.Prelude.{List, not}
 use Rattle.type_terms.specs.Promised.Trees.{Trees}
 use Rattle.type_terms.specs.Trees.{is_no_tree}
@@ -12,8 +12,7 @@ use Rattle.goal_evaluator.specs.Finite.{made_of}
 use Rattle.goal_evaluator.specs.Widths.{number_of, number_of_values, TableWithin, NestedWithin, EquationWithin}
 use Rattle.goal_evaluator.specs.TableOperations.{equate, fresh, recorded, apply}
 
--- assignments are terms for all unknowns, references are asked with their clauses, and a number is the greatest count of
--- children that a node has
+-- Assignments are terms for all inference variables. Trait references have their where-clauses. Numbers are widths.
 abbrev pub frame_tables : Tables NestedQuestion AnswerTrees
 frame_tables = record {
   Assignment = ChosenTerms;

@@ -1,4 +1,4 @@
--- How a candidate is evaluated, over trees.
+-- The evaluation of a candidate, over terms.
 use Rattle.std.specs.Prelude.{List, map, Option, Some, None}
 use Rattle.type_terms.specs.Promised.Trees.{Trees}
 use Rattle.type_terms.specs.Promised.Handles.{Entry}
@@ -20,7 +20,7 @@ use Rattle.goal_evaluator.specs.Context.{nested_goal}
 use Rattle.goal_evaluator.specs.Evaluating.{AskedQuestion, NestedTrees, goals_trees, evaluation}
 use Rattle.goal_evaluator.specs.Frames.{FrameTrees, fresh, equate, recorded, nested_filled, respond}
 
--- a candidate as data, over trees
+-- a candidate as data, over terms
 pub record SpecTrees : Type 0 where
   pub kinds : List CanonicalVarKind
   pub equations : List (Trees × Trees)
@@ -48,12 +48,12 @@ module _ (mode : TypingMode) where
   abbrev pub Asking : Type 0
   Asking = Script AskedQuestion (Option AnswerTrees) (Option AnswerTrees)
 
-  -- an answer no surer than the candidate can be; none: refused
+  -- a response at most as certain as the candidate, or `None` without a solution
   abbrev pub answered : FrameTrees → Certainty → Option (Rounds (evaluation mode)) → Asking
   answered t c None = done None
   answered t c (Some o) = done (Some (respond (record t { table = o.table }) (joined c o.certainty)))
 
-  -- the nested goals are asked in rounds
+  -- evaluates the nested goals in rounds
   abbrev pub asked : List NestedTrees → Certainty → FrameTrees → Asking
   asked ns c t = followed (answered t c) (rounds (evaluation mode) FIXPOINT_STEP_LIMIT (map (nested_filled t.values) ns) t.table)
 
@@ -61,6 +61,6 @@ module _ (mode : TypingMode) where
   equated s None = done None
   equated s (Some t) = asked s.nested s.certainty (recorded t s.constraints)
 
-  -- in the table of a goal: new unknowns, then the equations, then the constraints, and then the nested goals
+  -- makes new inference variables, then handles the equations, the constraints and the nested goals in this order
   abbrev pub candidate : FrameTrees → SpecTrees → Asking
   candidate t s = equated s (equate (fresh t s.kinds) s.equations)

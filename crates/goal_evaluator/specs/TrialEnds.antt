@@ -17,17 +17,17 @@ use Rattle.goal_evaluator.specs.declared.trial.Trial.{Trial}
 use Rattle.goal_evaluator.specs.Frames.{FrameTrees, begun, fresh, equate, recorded}
 use Rattle.goal_evaluator.specs.Trial.{SpecTrees}
 
--- a candidate that is tried, over trees
+-- a candidate's state after its equations, over terms
 abbrev pub trial_trees : List Entry → List CanonicalVarKind → Trial → FrameTrees
 trial_trees es kinds t = record { kinds = kinds; own = values_of es t.own.items; values = values_of es t.values.items; table = table_trees es t.table }
 
--- the trial of a candidate, of a goal with variables of these kinds: its equations hold, and its constraints are recorded
+-- the state of a candidate whose equations hold and whose constraints are recorded, for a goal with variables of these kinds
 pub record IsTried (kinds : List CanonicalVarKind) (s : SpecTrees) (t : FrameTrees) : Type 0 where
   pub solved : FrameTrees
   pub holds : equate (fresh (begun kinds) s.kinds) s.equations ≡ Some solved
   pub is : t ≡ recorded solved s.constraints
 
--- a fault is no end
+-- after a fault nothing is stated
 abbrev pub CandidateEnds : List Entry → Run AskedQuestion (Option AnswerTrees) (Option AnswerTrees) → Result (EvalStep CanonicalResponse) EvalError → Type 0
 CandidateEnds es r (Err (Fault fault)) = Unit {0}
 CandidateEnds es r (Err NoSolution) = RunIsRefused r

@@ -1,4 +1,4 @@
--- How wide terms are: a number that nothing in a frame makes greater.
+-- The widths of goals, responses and tables.
 use Rattle.std.specs.Prelude.{ℕ, zero, max, ◌≤◌, List, [], ◌∷◌}
 use Rattle.type_terms.specs.Promised.Trees.{Trees, none, tree}
 use Rattle.infer_table.specs.Solutions.{Binding}
@@ -8,12 +8,12 @@ use Rattle.goal_evaluator.specs.Content.{NestedQuestion}
 use Rattle.goal_evaluator.specs.FrameTables.{FrameTable, IsMadeFrame, Nested, Equation}
 use Rattle.goal_evaluator.specs.Promised.Widths.{count, width}
 
--- of predicates and where-clauses in a row: their self types stand among their arguments
+-- The width of a list of predicates or where-clauses. Their arguments include the self types.
 abbrev pub width_of_predicates : Trees → ℕ
 width_of_predicates none = zero
 width_of_predicates (tree l c o) = max (count c) (max (width c) (width_of_predicates o))
 
--- the number of a question is its width, and that of values the greatest width of one of them
+-- the width of a canonical goal, and the greatest width of a value
 abbrev pub number_of : NestedQuestion → ℕ
 number_of q = max (width_of_predicates q.form.goal.environment) (width_of_predicates q.form.goal.predicate)
 

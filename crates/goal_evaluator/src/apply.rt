@@ -1,4 +1,4 @@
-//! Answers applied to the goal that was asked.
+//! Applies a response to the goal that it answers.
 ghost use Rattle.type_terms.specs.Growth.{GrewOrFull};
 ghost use Rattle.std.specs.Prelude.{◌≡◌, ℕ, ◌<◌, ◌≤◌, List, ◌++◌, length, get_or, IfOk, IfErr, IfSome, OnOk, OnErr, Err, Some, None, unwrap_or, ◌==◌, if◌then◌else◌};
 ghost use Rattle.std.specs.Option.{option_or};
@@ -36,7 +36,7 @@ use type_terms::kinds::{ConstKind, GenericArgKind, TyKind};
 use type_terms::number::{BoundVar, BoundVarIndexKind};
 use type_terms::region::RegionKind;
 
-/// The number of the variable, if it is a canonical one.
+/// The variable's number, if it is a canonical variable.
 fn number_of(index: BoundVarIndexKind, variable: BoundVar) -> Option<usize>
     ensures { (s : Sort) → result ≡ canonical_number (bound_label s index variable) }
 {
@@ -46,7 +46,7 @@ fn number_of(index: BoundVarIndexKind, variable: BoundVar) -> Option<usize>
     }
 }
 
-/// The number of the canonical variable that the value is.
+/// The number of the canonical variable that this value is, if it is one.
 fn variable_number(cx: &Interner, value: GenericArgKind) -> Option<usize>
     requires { ArgHeld cx.now.entries value }
     ensures { result ≡ canonical_number (leaf_label cx.now.entries value) }
@@ -67,7 +67,7 @@ fn variable_number(cx: &Interner, value: GenericArgKind) -> Option<usize>
     }
 }
 
-/// Puts the value at this place, unless one stands there or there is no such place.
+/// Stores the value at this index, unless the index is out of range or has a value already.
 fn put_first(known: &mut [Option<GenericArgKind>], place: usize, value: GenericArgKind)
     ensures { (i : ℕ) → i < length known.old → get_or known.new i None ≡ option_or (get_or known.old i None) (if place == i then Some value else None) }
 {
@@ -76,7 +76,8 @@ fn put_first(known: &mut [Option<GenericArgKind>], place: usize, value: GenericA
     }
 }
 
-/// For each of so many variables the goal's own value at the first place where the answer's value is the variable.
+/// For each canonical variable of the response, the goal's own value at the first position where the response's value is that
+/// variable.
 fn known_values(
     alloc: Global,
     cx: &Interner,
@@ -130,7 +131,7 @@ fn new_unknown(
     }
 }
 
-/// The value, or where there is none a new unknown of this kind.
+/// The value. If there is none, a new inference variable of this kind.
 fn value_or_unknown(
     table: &mut InferCtxt,
     cx: &mut Interner,
@@ -156,8 +157,8 @@ fn value_or_unknown(
     }
 }
 
-/// What is put in for the answer's variables: the goal's own value where the answer's is the variable itself, and else
-/// a new unknown.
+/// The values that replace the response's canonical variables. If the response's value at some position is the variable itself,
+/// this is the goal's own value at the first such position. Otherwise it is a new inference variable.
 fn values_to_apply(
     alloc: Global,
     cx: &mut Interner,
@@ -187,7 +188,7 @@ fn values_to_apply(
     Ok(values)
 }
 
-/// The terms, with the values in the place of variables.
+/// Replaces the canonical variables of these terms by the values.
 fn fill_values(
     alloc: Global,
     cx: &mut Interner,
@@ -205,14 +206,14 @@ fn fill_values(
     Ok(Vec::from_slice(alloc, cx.args(filled))?)
 }
 
-/// An answer's values and constraints, with other values in the place of its variables.
+/// The values and constraints of a response, with its canonical variables replaced.
 #[derive(Drop)]
 struct FilledResponse {
     var_values: Vec<GenericArgKind>,
     region_constraints: Vec<RegionConstraint>,
 }
 
-/// The answer, with the values in the place of its variables.
+/// Replaces the canonical variables of the response by the values.
 fn fill_response(
     alloc: Global,
     cx: &mut Interner,
@@ -238,7 +239,7 @@ fn fill_response(
     })
 }
 
-/// Makes each value equal to the one in its place; lists of two lengths have no solution.
+/// Equates each value with the one at the same index. Lists of different lengths have no solution.
 fn equate_values(
     cx: &mut Interner,
     table: &mut InferCtxt,
@@ -268,7 +269,7 @@ fn equate_values(
     Ok(())
 }
 
-/// Records the constraints, in order, each once.
+/// Records the constraints in order, without duplicates.
 fn record_constraints(table: &mut InferCtxt, constraints: &[RegionConstraint]) -> Result<(), Fault>
     ensures ready { (es : List Entry) → Ready es table.old → AllConstraintsHeld es constraints.now → Ready es table.new }
     ensures grows { Grows table.old table.new }
@@ -317,21 +318,22 @@ fn apply(
     }
 }
 
-/// Applies an answer to the goal that was asked, whose values these are.
+/// Applies a response to the goal that it answers. `original_values` are the values of the goal's variables.
 ///
-/// For each of the answer's variables stands the goal's own value where the answer's value is the variable itself, the
-/// first such; for any other a new unknown of its kind. Then each of the goal's values is made equal to the answer's,
-/// and the answer's constraints on lifetimes are recorded after those that this records, each once. Two lifetimes that differ
-/// are recorded as equal and refuse nothing.
+/// First each canonical variable of the response is replaced. If the response's value at some position is the variable itself, it
+/// is replaced by the goal's own value at the first such position. Otherwise it is replaced by a new inference variable of its
+/// kind. Then each of the goal's values is equated with the response's value, and the response's region constraints are recorded
+/// after those of the equations, without duplicates. Two different lifetimes are recorded as equal. They never make the call
+/// fail.
 ///
-/// Afterwards the solutions of the table are those from before that make the values equal; `NoSolution` comes exactly
-/// where there is none. After a refusal the table is as it was; the interner may hold more terms. `Fault(Full)` comes
-/// only where some kind of term has reached its limit, `Fault(Memory)` also where a new unknown or a lifetime variable has no number.
+/// On success the table's solutions are its earlier solutions that make the values equal. The call returns `NoSolution` exactly
+/// if there is none. After an error the table is unchanged, but the interner may have new terms. `Fault(Full)` is returned only
+/// if some kind of term has reached its limit. `Fault(Memory)` is also returned if there is no number for a new inference
+/// variable or lifetime variable.
 ///
-/// What is left, lifetimes and recorded constraints included, is a function of the trees of the goal's values, of the
-/// answer and of what the table held (`applied`), and so is a refusal: no handle decides anything. The values are made
-/// equal from the first on, each pair in the table that those before it left.
-/// `instantiate_and_apply_query_response` of the original.
+/// The resulting table, including lifetimes and recorded constraints, is a function (`applied`) of the goal's values, the
+/// response and the earlier table as terms, and so is `NoSolution`: handles do not matter. The values are equated from the first
+/// on, each pair in the table that the preceding pairs left. rustc: `instantiate_and_apply_query_response`.
 pub fn instantiate_and_apply_query_response(
     alloc: Global,
     cx: &mut Interner,
@@ -346,31 +348,31 @@ pub fn instantiate_and_apply_query_response(
     ensures grows { Grows table.old table.new }
     ensures terms { EqGrewOrFull cx.old cx.new result }
 
-    // The new unknowns are variables of the table.
+    // The new inference variables are variables of the table.
     ensures unknowns { OnOk result ((k : Sort)
         → unknowns_of (with_unknowns_put_in cx.old.entries table.old original_values.now response.now) k ≤ variables_of table.new k) }
 
-    // The solutions are those from before that make the values equal, and there is none where it says so.
+    // The solutions are the earlier ones that make the values equal. If the result is `NoSolution`, there is none.
     ensures equates { OnOk result (EquatesAnswer cx.old.entries table.old original_values.now response.now (content cx.new.entries table.new.values)) }
     ensures never { result ≡ Err EqError.NoSolution → RulesOutAnswer cx.old.entries table.old original_values.now response.now }
 
-    // A solution with which the answer agrees goes on to the table that is left, and an answer that agrees with one is
-    // not refused for want of a solution. The table speaks of its own unknowns alone, as it did before.
+    // A solution with which the response agrees extends to a solution of the new table. So a response that agrees with a solution
+    // never gives `NoSolution`. The table contains only its own inference variables, as before.
     ensures kept { OnOk result (AgreedGoOn cx.old.entries table.old original_values.now response.now (content cx.new.entries table.new.values)) }
     ensures accepted { result ≡ Err EqError.NoSolution → AgreesWithNone cx.old.entries table.old original_values.now response.now }
     ensures known { OnOk result (IsWellPosed cx.old.entries table.old original_values.now response.now
         → IsOfKnown (variables_of table.new) (content cx.new.entries table.new.values)) }
 
-    // What is left, and whether it is refused, is a function of trees.
+    // The new table and whether the call fails depend only on the terms.
     ensures exact { OnOk result (left_by_answer cx.old.entries table.old original_values.now response.now ≡ Some (table_trees cx.new.entries table.new)) }
     ensures refusal { result ≡ Err EqError.NoSolution → left_by_answer cx.old.entries table.old original_values.now response.now ≡ None }
 
-    // The answer's constraints come last, and none is recorded that is there.
+    // The response's constraints come last, without duplicates.
     ensures constraints { OnOk result (Records cx.new.entries table.old.constraints table.new.constraints
         (answered_constraints cx.old.entries table.old original_values.now response.now)) }
     ensures refused { OnErr result (table.new ≡ table.old) }
 
-// A full table names the error only where some kind of term has reached its limit.
+// `Full` is returned only if some kind of term has reached its limit.
 {
     cx.lawful();
     let place = table.snapshot();

@@ -1,4 +1,4 @@
-//! Candidates: where they come from, and what has to hold for them.
+//! Candidates: their sources, and their requirements.
 
 use crate::goal::GoalSource;
 use infer_table::canonical::CanonicalVarKind;
@@ -11,21 +11,20 @@ use type_terms::ImplId;
 /// The kind of a built-in rule (`rustc_type_ir::solve::BuiltinImplSource`).
 #[derive(Clone, Copy, PartialEq, Eq)]
 pub enum BuiltinImplSource {
-    /// A rule that wins over every other candidate, as that `u8` is `Sized`.
+    /// A rule that wins over every other candidate, such as `u8: Sized`.
     Trivial,
-    /// Any other rule that is no bound of a `dyn`.
+    /// Any other rule, except a bound of a `dyn` type.
     Misc,
-    /// A bound of the `dyn` that is the self type, by its place among these.
+    /// A bound of the `dyn` type that is the self type, by its index among the bounds.
     Object(usize),
-    /// An upcast to a supertrait of the `dyn`, by its place among these.
+    /// An upcast to a supertrait of the `dyn` type, by its index among the supertraits.
     TraitUpcasting(usize),
 }
 
-/// Whether a where-clause speaks of the whole program or of what the goal's item is used with
-/// (`rustc_type_ir::solve::ParamEnvSource`).
+/// Whether a where-clause is independent of the item that it is written at (`rustc_type_ir::solve::ParamEnvSource`).
 #[derive(Clone, Copy, PartialEq, Eq)]
 pub enum ParamEnvSource {
-    /// It holds no parameter, unknown, bound variable, or lifetime but `'static`.
+    /// It contains no parameter, inference variable, bound variable, or lifetime except `'static`.
     Global,
     NonGlobal,
 }
@@ -36,26 +35,27 @@ pub enum CandidateSource {
     Impl(ImplId),
     BuiltinImpl(BuiltinImplSource),
     ParamEnv(ParamEnvSource),
-    /// In coherence: another crate may have an impl that is not seen here.
+    /// In coherence: the trait reference is not knowable. Another crate may have an impl for it.
     CoherenceUnknowable,
 }
 
-/// A candidate as data: a way to prove a goal, and how the evaluator is to try it. The original has closures in its place.
+/// A candidate as data: one way to prove a goal, and what the evaluator does for it. rustc has closures here.
 ///
-/// Its terms speak of the variables of its canonical goal and of unknowns of its own, numbered in one row: of a goal with n
-/// variables `^0` to `^(n-1)` are the goal's, and `^(n+i)` is the unknown of the kind `variables[i]`, which is made before all else.
-/// Then its equations are to hold, its constraints are recorded, and its nested goals are asked in order.
+/// Its terms contain the variables of the canonical goal and inference variables of its own, numbered together. If the goal has n
+/// variables, `^0` to `^(n-1)` are the goal's, and `^(n+i)` is the new inference variable of the kind `variables[i]`. The
+/// evaluator makes these variables first. Then it makes the equations hold, records the constraints and evaluates the nested
+/// goals in order.
 pub struct CandidateSpec {
     pub source: CandidateSource,
     pub variables: Vec<CanonicalVarKind>,
     pub equations: Vec<Equation>,
     pub region_constraints: Vec<RegionConstraint>,
     pub nested_goals: Vec<(GoalSource, Goal)>,
-    /// Its response is no surer than this.
+    /// The candidate's response is at most this certain.
     pub certainty: Certainty,
 }
 
-// Written, so that what owns one drops it by one call at each way out, and not field by field.
+// Hand-written so that the prover sees one drop call: docs/PROVING.md#drop.
 impl Drop for CandidateSpec {
     fn drop(self) {
         let CandidateSpec {
@@ -72,13 +72,13 @@ impl Drop for CandidateSpec {
 /// A candidate that was considered (`rustc_next_trait_solver::solve::assembly::Candidate`).
 pub struct Considered {
     pub source: CandidateSource,
-    /// None if it was refused.
+    /// `None` if the candidate has no solution.
     pub result: Option<CanonicalResponse>,
-    /// The number under which the search graph keeps how often its questions read the results of goals on the stack.
+    /// The number by which the search graph finds how often the candidate's nested goals used results of goals on the stack.
     pub head_usages: usize,
 }
 
-// Written, so that what owns one drops it by one call at each way out, and not field by field.
+// Hand-written so that the prover sees one drop call: docs/PROVING.md#drop.
 impl Drop for Considered {
     fn drop(self) {
         let Considered {
@@ -89,13 +89,13 @@ impl Drop for Considered {
     }
 }
 
-/// What a handler wants next.
+/// What a handler requests next.
 #[derive(Drop)]
 pub enum HandlerStep {
-    /// To evaluate this candidate next; the handler is asked again with what came of it.
+    /// Evaluate this candidate. Then the handler is called again with its result.
     Consider(CandidateSpec),
-    /// To answer so, and that the candidates with these numbers are ignored.
+    /// Return this response, and ignore the candidates with these numbers.
     Answer(CanonicalResponse, Vec<usize>),
-    /// To refuse the goal.
+    /// Return that the goal has no solution.
     NoSolution,
 }

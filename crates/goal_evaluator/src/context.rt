@@ -1,4 +1,4 @@
-//! The context of an evaluation: the table, and the goals that are still to be asked.
+//! The context of an evaluation: its table and its nested goals.
 ghost use Rattle.type_terms.specs.Growth.{Grew, GrewOrFull};
 ghost use Rattle.std.specs.Prelude.{◌≡◌, List, [], ◌∷◌, ◌++◌, map, take, length, OnOk, OnErr, IfOk, IfErr, Err};
 ghost use Rattle.type_terms.specs.Promised.Handles.{Entry};
@@ -40,19 +40,19 @@ use type_terms::interner::Interner;
 use type_terms::kinds::GenericArgKind;
 use type_terms::variance::Variance;
 
-/// What a call that evaluates answers.
+/// The result of a call that evaluates goals.
 #[derive(Drop)]
 pub enum EvalStep<T> {
-    /// It is done.
+    /// The evaluation is finished.
     Ready(T),
-    /// It needs the answer to this question. After `reply` with it the same call goes on.
+    /// The evaluation needs the response to this goal. Pass it to `reply`, then make the same call again.
     Ask(CanonicalInput, GoalSource),
 }
 
-/// An evaluation that has begun: what is known of unknowns so far, and which goals are still to be asked.
+/// An evaluation in progress: the values of inference variables so far, and the nested goals that are not yet proved.
 ///
-/// `EvalCtxt` of `rustc_next_trait_solver`. It owns its table, and asks by answering with a question: whoever drives it brings
-/// the reply and calls again.
+/// rustc: `EvalCtxt` of `rustc_next_trait_solver`. Here it owns its table. Where rustc calls the solver recursively, this one
+/// returns the nested goal, and its caller brings the response and calls again.
 pub struct EvalCtxt {
     mode: TypingMode,
     table: InferCtxt,
@@ -62,7 +62,7 @@ pub struct EvalCtxt {
     replies: Vec<Option<CanonicalResponse>>,
 }
 
-// Written, so that what owns one drops it by one call at each way out, and not field by field.
+// Hand-written so that the prover sees one drop call: docs/PROVING.md#drop.
 impl Drop for EvalCtxt {
     fn drop(self) {
         let EvalCtxt {
@@ -87,8 +87,8 @@ impl Model for EvalCtxt {
 }
 
 impl EvalCtxt {
-    /// An evaluation in a table, of an input whose variables are of these kinds and have these values. It has no nested goals
-    /// and no replies yet.
+    /// An evaluation in this table. The input's variables are of these kinds and have these values. There are no nested goals and
+    /// no replies yet.
     pub fn new(
         table: InferCtxt,
         mode: TypingMode,
@@ -108,14 +108,14 @@ impl EvalCtxt {
         }
     }
 
-    /// How goals are read.
+    /// The typing mode: analysis or coherence.
     pub fn typing_mode(&self) -> TypingMode
         ensures { result ≡ self.now.mode }
     {
         self.mode
     }
 
-    /// The table of unknowns.
+    /// The inference table.
     pub fn table(&self) -> &InferCtxt
         ensures { result.now ≡ self.now.table }
     {
@@ -136,14 +136,14 @@ impl EvalCtxt {
         &self.values
     }
 
-    /// The goals that are still to be asked, with their sources, the oldest first.
+    /// The nested goals that are not yet proved, with their sources, in the order in which they were added.
     pub fn nested_goals(&self) -> &[(GoalSource, Goal)]
         ensures { map nested_goal result.now ≡ self.now.nested }
     {
         &self.nested_goals
     }
 
-    /// Puts a goal behind those that are still to be asked. `Memory` is the only fault; then the goals are as before.
+    /// Adds a nested goal at the end. The only fault is `Memory`. Then the goals are unchanged.
     pub fn add_goal(&mut self, source: GoalSource, goal: Goal) -> Result<(), Fault>
         ensures added { OnOk result (self.new ≡ record self.old { nested = self.old.nested ++ nested_goal (source, goal) ∷ [] }) }
         ensures refused { OnErr result (self.new ≡ self.old) }
@@ -153,8 +153,7 @@ impl EvalCtxt {
         Ok(())
     }
 
-    /// Puts goals of one source behind those that are still to be asked, in order. `Memory` is the only fault; then the goals
-    /// are as before.
+    /// Adds nested goals of one source at the end, in order. The only fault is `Memory`. Then the goals are unchanged.
     pub fn add_goals(&mut self, source: GoalSource, goals: Vec<Goal>) -> Result<(), Fault>
         ensures added { OnOk result (self.new ≡ record self.old { nested = self.old.nested ++ map (λ g. nested_goal (source, g)) goals.items }) }
         ensures refused { OnErr result (self.new ≡ self.old) }
@@ -170,11 +169,11 @@ impl EvalCtxt {
         }
     }
 
-    /// Makes the two equal in the context's table. Two lifetimes that differ are recorded as equal and refuse nothing.
+    /// Equates the two in the context's table. Two different lifetimes are recorded as equal and never make the call fail.
     ///
-    /// Afterwards the solutions of the table are those from before that make the two equal; `NoSolution` comes exactly where
-    /// there is none. `Full` comes only where some kind of term has reached the interner's limit, `Memory` also where lifetimes get
-    /// no numbers. After a refusal the context is as before; the interner may hold more terms.
+    /// On success the table's solutions are its earlier solutions that make the two equal. The call returns `NoSolution` exactly
+    /// if there is none. `Full` is returned only if some kind of term has reached the interner's limit, and `Memory` also if
+    /// there is no number for a lifetime variable. After an error the context is unchanged, but the interner may have new terms.
     pub fn eq(
         &mut self,
         cx: &mut Interner,
@@ -188,7 +187,7 @@ impl EvalCtxt {
         ensures grows { Grows self.old.table self.new.table }
         ensures terms { EvalGrewOrFull cx.old cx.new result }
 
-        // Nothing but the table changes.
+        // Only the table changes.
         ensures rest { self.new ≡ record self.old { table = self.new.table } }
         ensures equates { OnOk result
             (MakesEqual cx.old.entries self.old.table cx.new.entries self.new.table (arg_trees cx.old.entries left) (arg_trees cx.old.entries right)) }
@@ -204,8 +203,8 @@ impl EvalCtxt {
         }
     }
 
-    /// Relates the two in the context's table. Up to lifetimes every variance asks that the two are equal, and lifetimes
-    /// refuse nothing: so this is `eq`, whatever the variance.
+    /// Relates the two in the context's table. Variance matters only for lifetimes, which never make a relation fail here. So
+    /// this is `eq` for every variance.
     pub fn relate(
         &mut self,
         cx: &mut Interner,
@@ -231,8 +230,8 @@ impl EvalCtxt {
         self.eq(cx, left, right)
     }
 
-    /// Takes the answer to the last question, where none says that the goal has no solution: puts it behind the replies so far.
-    /// `Memory` is the only fault; then the context is as before.
+    /// Stores the response to the last nested goal after the earlier replies. `None` means that the goal has no solution. The
+    /// only fault is `Memory`. Then the context is unchanged.
     pub fn reply(&mut self, answer: Option<CanonicalResponse>) -> Result<(), Fault>
         ensures heard { OnOk result (self.new ≡ record self.old { replies = self.old.replies ++ answer ∷ [] }) }
         ensures refused { OnErr result (self.new ≡ self.old) }
@@ -242,11 +241,11 @@ impl EvalCtxt {
         Ok(())
     }
 
-    /// The context's own answer where the evaluation is given up for this cause: it is not sure, and says what is known so far
-    /// of the input's variables and of lifetimes; an overflow says nothing of them.
+    /// The context's response if the evaluation is given up for this cause: `Maybe`, with what is known so far of the input's
+    /// variables and of lifetimes. After an overflow the response has no values and no constraints.
     ///
-    /// `Full` comes only where some kind of term has reached the interner's limit, `Memory` where memory is refused, or where there
-    /// are no numbers for the answer's variables. The original's `forced_ambiguity`.
+    /// `Full` is returned only if some kind of term has reached the interner's limit, and `Memory` if memory is refused or there
+    /// is no number for a variable of the response. rustc: `forced_ambiguity`.
     pub fn forced_ambiguity(
         &self,
         cx: &mut Interner,
@@ -263,7 +262,7 @@ impl EvalCtxt {
         self.answer(cx, Certainty::Maybe(cause))
     }
 
-    /// The context's own answer of this certainty.
+    /// The context's response with this certainty.
     pub(crate) fn answer(
         &self,
         cx: &mut Interner,
@@ -284,7 +283,7 @@ impl EvalCtxt {
         }
     }
 
-    /// The answer of this certainty that says what is known.
+    /// The response with this certainty that has the values that are known.
     fn known_answer(
         &self,
         cx: &mut Interner,
@@ -304,7 +303,7 @@ impl EvalCtxt {
         Ok(answer)
     }
 
-    /// The answer of this certainty that says nothing.
+    /// The response with this certainty that has no values.
     fn empty_answer(
         &self,
         cx: &mut Interner,
@@ -323,14 +322,16 @@ impl EvalCtxt {
         response_no_constraints_raw(alloc, cx, variables, certainty)
     }
 
-    /// Asks the nested goals in rounds, over the replies so far, and answers how sure it is that all of them hold.
+    /// Evaluates the nested goals in rounds, with the replies so far, and returns how certain it is that all of them hold.
     ///
-    /// In a round each goal is asked in order, and its answer is put into the table. A definite yes drops its goal. The last
-    /// round is one in which no answer gave values to types or constants; after `FIXPOINT_STEP_LIMIT` rounds the certainty is
-    /// an overflow. Once it is `Ready`, the table holds what was put into it, the nested goals are those that are left, and
-    /// the replies are used up. `NoSolution` comes where a goal was refused, and `Full` only where some kind of term has reached the
-    /// interner's limit; where variables get no numbers, `Memory` comes. `Ask` asks for a reply; then, and after any refusal, the
-    /// context is as before.
+    /// A round evaluates each goal in order and puts its response into the table. A goal is dropped if its response is `Yes`
+    /// without values of types or constants. The last round is one in which no response has such values. After
+    /// `FIXPOINT_STEP_LIMIT` rounds the certainty is an overflow. If the result is `Ready`, the table holds what the rounds put
+    /// into it, the nested goals are those that were not dropped, and the replies are used up. If the result is `Ask`, the caller
+    /// has to bring a reply, and the context is unchanged.
+    ///
+    /// `NoSolution` is returned if a goal has no solution, `Full` only if some kind of term has reached the interner's limit, and
+    /// `Memory` also if there is no number for a variable. After an error the context is unchanged.
     pub fn try_evaluate_added_goals(
         &mut self,
         cx: &mut Interner,
@@ -351,8 +352,8 @@ impl EvalCtxt {
         }
     }
 
-    /// Asks the nested goals as `try_evaluate_added_goals` does, and answers the context's own answer: as sure as this certainty
-    /// and the goals together. An overflow says nothing.
+    /// Evaluates the nested goals like `try_evaluate_added_goals`, and returns the context's response. Its certainty joins this
+    /// certainty with that of the goals. After an overflow it has no values.
     pub fn evaluate_added_goals_and_make_canonical_response(
         &mut self,
         cx: &mut Interner,
@@ -384,7 +385,8 @@ impl EvalCtxt {
         }
     }
 
-    /// The rounds over the replies so far. Once they end, the table holds what they put into it; else the context is as before.
+    /// Runs the rounds with the replies so far. If they end, the table holds what they put into it. Otherwise the context is
+    /// unchanged.
     fn evaluate_nested_goals(&mut self, cx: &mut Interner) -> Result<RoundsStep, EvalError>
         requires ready { IsReadyContext cx.old.entries self.old }
         ensures ready { IsReadyContext cx.new.entries self.new }
@@ -409,7 +411,7 @@ impl EvalCtxt {
         }
     }
 
-    /// The rounds over the replies so far. The table holds what they put into it, also where they do not end.
+    /// Runs the rounds with the replies so far. The table holds what they put into it, even if they do not end.
     fn run_rounds(&mut self, cx: &mut Interner) -> Result<RoundsStep, EvalError>
         requires ready { IsReadyContext cx.old.entries self.old }
         ensures ready { IsReadyContext cx.new.entries self.new }
@@ -434,7 +436,7 @@ impl EvalCtxt {
         )
     }
 
-    /// These goals are left, and the replies are used up.
+    /// Stores the remaining goals and uses up the replies.
     fn settle(&mut self, left: Vec<(GoalSource, Goal)>)
         ensures { self.new ≡ record self.old { nested = map nested_goal left.items; replies = [] } }
     {
@@ -442,11 +444,11 @@ impl EvalCtxt {
         self.replies.clear();
     }
 
-    /// What the closure answers, with all that it does to the context undone: the table and the goals that are still to be asked
-    /// are as before. The interner keeps the terms that were made.
+    /// Calls the closure and undoes its changes of the context: the table and the nested goals are as before. Terms that it
+    /// interned remain.
     ///
-    /// The closure only adds to the table, and puts it back to no place from before. `AllocError` comes before the closure is
-    /// called. `EvalCtxt::probe` of the original, whose `enter` is part of it.
+    /// The closure may only add to the table. It must not roll it back to an earlier snapshot. `AllocError` is returned before
+    /// the closure is called. rustc: `EvalCtxt::probe` with its `enter`.
     pub fn probe<T, F: FnOnce(&mut EvalCtxt, &mut Interner) -> T + Drop>(
         &mut self,
         cx: &mut Interner,
@@ -467,7 +469,7 @@ impl EvalCtxt {
     }
 }
 
-/// Puts goals of one source behind these, in order; after a refusal some of them may stand there.
+/// Adds goals of one source at the end, in order. After an error some of them may have been added.
 fn push_goals(
     nested_goals: &mut Vec<(GoalSource, Goal)>,
     source: GoalSource,

@@ -1,4 +1,4 @@
-//! Why an evaluation ended without an answer.
+//! Why an evaluation failed.
 ghost use Rattle.std.specs.Prelude.{◌≡◌};
 ghost use Rattle.goal_evaluator.specs.declared.error.EvalError.TheVariants as error;
 ghost use Rattle.goal_evaluator.specs.Errors.{eval_error};
@@ -8,13 +8,13 @@ use infer_table::certainty::EqError;
 use std::alloc::{AllocError, AllocFailed};
 use type_terms::Fault;
 
-/// Why an evaluation was refused.
+/// Why an evaluation failed.
 #[derive(Clone, Copy, Debug, PartialEq, Eq, thiserror::Error)]
 pub enum EvalError {
-    /// What is evaluated does not hold.
+    /// The goal or candidate does not hold.
     #[error("there is no solution")]
     NoSolution,
-    /// There is no answer.
+    /// A shortage: there is no result.
     #[error("{0}")]
     Fault(Fault),
 }

@@ -1,15 +1,15 @@
-//! The small parts of goals and of their evaluation.
+//! The source of a nested goal, and whether a response changed anything.
 
-/// Where a nested goal comes from (`rustc_type_ir::solve::GoalSource`). It decides whether the step to it can be coinductive.
+/// The source of a nested goal (`rustc_type_ir::solve::GoalSource`). It decides whether the step to the goal can be coinductive.
 #[derive(Clone, Copy, PartialEq, Eq)]
 pub enum GoalSource {
-    /// A condition of the evaluation itself, as that a supertrait holds.
+    /// A condition of the evaluation itself, for example that a supertrait holds.
     Misc,
-    /// A where-clause of the impl, or a premise of the built-in rule, that the goal is proved by.
+    /// A where-clause of the impl, or a premise of the built-in rule.
     ImplWhereBound,
 }
 
-/// Whether an answer gave values to unknowns of the goal (`rustc_next_trait_solver::solve::HasChanged`).
+/// Whether a response gave values to inference variables of the goal (`rustc_next_trait_solver::solve::HasChanged`).
 #[derive(Clone, Copy, PartialEq, Eq)]
 pub enum HasChanged {
     Yes,

@@ -1,8 +1,7 @@
-//! Goals, the frames in which they are evaluated, and their evaluation step by step: what holds so far, which goals are still
-//! to be asked, and one candidate with its equations, its constraints on lifetimes and its nested goals.
+//! Goals, frames, and the evaluation of candidates step by step: a candidate's equations, region constraints and nested goals,
+//! and what is known so far.
 //!
-//! Beside the code stand the tables in which frames are evaluated, as trees, and what evaluations in code do over them,
-//! both with their laws (`laws`).
+//! The crate also defines the tables of frames over terms, and states how the evaluation in code corresponds to them (`laws`).
 #![tactic(auto)]
 
 pub mod apply;
@@ -43,5 +42,5 @@ pub use resuming::{CandidateStep, OpenCandidate, resuming_replays};
 pub use rounds::have_same_sorts;
 pub use trial::{begin_candidate, evaluate_candidate};
 
-/// How many rounds a candidate's nested goals are asked in at most.
+/// The greatest number of rounds in which a candidate's nested goals are evaluated (rustc has the same constant).
 pub const FIXPOINT_STEP_LIMIT: usize = 8;

@@ -1,4 +1,4 @@
-//! The merge of the responses of candidates.
+//! Merges the responses of candidates.
 
 ghost use Rattle.type_terms.specs.Growth.{Grew};
 ghost use Rattle.std.specs.Prelude.{◌≡◌, Bool, List, [], None, Err, map, position, IfOk, IfErr, IfSome, option_map, ◌↔◌};
@@ -24,13 +24,13 @@ use type_terms::interner::Interner;
 /// How responses were merged (`rustc_next_trait_solver::solve::MergeCandidateInfo`).
 #[derive(Clone, Copy, PartialEq, Eq)]
 pub enum MergeCandidateInfo {
-    /// The response at this place was taken: the first yes without values and constraints.
+    /// The first response that is `Yes` without values and constraints, by its index.
     AlwaysApplicable(usize),
-    /// None is always applicable, and all say the same: the first was taken.
+    /// No response is always applicable, and all are equal. The result is the first.
     EqualResponse,
 }
 
-/// Whether the response is a yes without values and constraints.
+/// Whether the response is `Yes` without values and constraints.
 fn is_always_applicable(cx: &Interner, response: &CanonicalResponse) -> bool
     requires { ValuesHeld cx.now.entries response.now }
     ensures { result ≡ is_always_applicable cx.now.entries response.now }
@@ -38,7 +38,7 @@ fn is_always_applicable(cx: &Interner, response: &CanonicalResponse) -> bool
     response.certainty == Certainty::Yes && has_no_inference_or_external_constraints(cx, response)
 }
 
-/// The place of the first response that is a yes without values and constraints.
+/// The index of the first response that is `Yes` without values and constraints.
 fn first_always_applicable(cx: &Interner, responses: &[CanonicalResponse]) -> Option<usize>
     requires { All (ValuesHeld cx.now.entries) responses.now }
     ensures { result ≡ position (is_always_applicable cx.now.entries) responses.now }
@@ -55,8 +55,9 @@ fn are_equal_to(first: &CanonicalResponse, rest: &[CanonicalResponse]) -> bool
         .all(|response| is_same_response(first, response))
 }
 
-/// Merges responses: the first yes without values and constraints is taken; without one, all have to be equal, and that one is
-/// taken; else there is no merge. `Memory` is the only fault. (`EvalCtxt::try_merge_candidates` of the original.)
+/// Merges responses. The result is the first response that is `Yes` without values and constraints. If there is none and all
+/// responses are equal, it is the first response. Otherwise there is no merge. The only fault is `Memory`. rustc:
+/// `EvalCtxt::try_merge_candidates`.
 pub fn try_merge_candidates(
     alloc: Global,
     cx: &Interner,
@@ -86,7 +87,7 @@ pub fn try_merge_candidates(
     }
 }
 
-/// How sure all of these responses are together.
+/// The certainties of all these responses, joined.
 fn joined_certainty(responses: &[CanonicalResponse]) -> Certainty
     ensures { result ≡ all_joined (map (λ r. r.certainty) responses.now) }
 {
@@ -96,18 +97,18 @@ fn joined_certainty(responses: &[CanonicalResponse]) -> Certainty
         .fold(Certainty::Yes, |all, certainty| all.and(certainty))
 }
 
-/// How sure an answer is that stands for all of these responses where there is no merge: not yes, and an overflow if one of them is.
+/// The certainty of the response to a goal whose responses have no merge: `Maybe`, and an overflow if one of them is an overflow.
 pub fn ambiguous_certainty(responses: &[CanonicalResponse]) -> Certainty
     ensures { result ≡ unsettled (all_joined (map (λ r. r.certainty) responses.now)) }
 {
     Certainty::Maybe(MaybeCause::Ambiguity).and(joined_certainty(responses))
 }
 
-/// The response that stands for all of these where there is no merge, to a goal with variables of these kinds: it is not sure,
-/// gives no values and constrains no lifetime. (`EvalCtxt::bail_with_ambiguity` of the original.)
+/// The response to a goal, with variables of these kinds, whose responses have no merge. It is `Maybe` and has no values and no
+/// constraints. rustc: `EvalCtxt::bail_with_ambiguity`.
 ///
-/// `Full` comes where one of the interner's tables is full, `Memory` where there are more variables than numbers for them or memory
-/// is refused.
+/// `Full` is returned if one of the interner's tables is full, and `Memory` if there are more variables than numbers for them or
+/// memory is refused.
 pub fn bail_with_ambiguity(
     alloc: Global,
     cx: &mut Interner,
@@ -127,8 +128,8 @@ pub fn bail_with_ambiguity(
     response_no_constraints_raw(alloc, cx, variables, certainty)
 }
 
-/// The answer to a goal whose responses have no merge: none if there are no responses, as the goal has no solution then, and
-/// else that of `bail_with_ambiguity`. (`EvalCtxt::flounder` of the original.)
+/// The result of a goal whose responses have no merge. Without responses the goal has no solution. Otherwise it is the response
+/// of `bail_with_ambiguity`. rustc: `EvalCtxt::flounder`.
 pub fn flounder(
     alloc: Global,
     cx: &mut Interner,

@@ -1,5 +1,5 @@
-//! What frames are proved to keep, for every lawful handler over every lawful table. Each function here only states a fact: its
-//! contract is the statement, and it does nothing.
+//! What is proved of frames, for every lawful handler over every lawful table. Each function here only states a fact in its
+//! contract.
 
 ghost use Rattle.goal_evaluator.specs.Table.{Tables, IsTable};
 ghost use Rattle.goal_evaluator.specs.Handler.{Handled, IsHandler};
@@ -10,7 +10,7 @@ ghost use Rattle.goal_evaluator.specs.Operations.{Operations, Workings};
 ghost use Rattle.goal_evaluator.specs.Correspondences.{Correspondence, IsCorrespondence, RoundsCorrespond, CandidateCorrespondence, IsCandidateCorrespondence, CandidatesCorrespond, FramesCorrespond};
 ghost use Rattle.goal_evaluator.specs.ByRules.{ProofsAreProofs};
 
-/// What a handler of goals means, and the tables that its candidates are evaluated in.
+/// The goals of a handler, what they mean, and the tables in which their candidates are evaluated.
 pub trait Evaluation {
     ghost Question: { Type 0 };
 
@@ -23,41 +23,45 @@ pub trait Evaluation {
     ghost handled: { Goal → Handled tables };
 }
 
-/// A definite yes of a frame follows by a rule, for all values of the goal's variables, from instances, by terms of these values,
-/// of questions that were answered by a definite yes in candidates that are not ignored.
+/// If a frame returns a definite yes, each instance of its goal follows by a rule. The premises are instances of nested goals
+/// that were answered with a definite yes in candidates that are not ignored. Their values are terms among those of the goal's
+/// variables.
 pub fn definite_yes_follows<E: Evaluation>()
     requires tables { IsTable E.tables }
     requires handler { (goal : E.Goal) → IsHandler E.tables (E.handled goal) }
     ensures { (goal : E.Goal) → DefiniteYesFollows E.tables (E.handled goal) }
 {}
 
-/// Where each answer covers its question, the frame's answer covers the goal: each solution agrees with it.
+/// If each response covers its nested goal, the frame's response covers the goal: each solution agrees with it.
 pub fn answer_covers_goal<E: Evaluation>()
     requires tables { IsTable E.tables }
     requires handler { (goal : E.Goal) → IsHandler E.tables (E.handled goal) }
     ensures { (goal : E.Goal) → AnswerCoversGoal E.tables (E.handled goal) }
 {}
 
-/// A frame asks at most 8 times the handler's number of questions, and makes at most three other requests for each candidate.
+/// A frame has at most 8 times as many nested goals as the handler states, and makes at most three other requests for each
+/// candidate.
 pub fn frame_is_bounded<E: Evaluation>()
     requires handler { (goal : E.Goal) → IsHandler E.tables (E.handled goal) }
     ensures { (goal : E.Goal) → IsBounded E.tables (E.handled goal) }
 {}
 
-/// No question and no answer of a frame has wider terms than the handler allows, where no answer has to a question that has none.
+/// No nested goal and no response of a frame has wider terms than the handler states, if the responses to such nested goals have
+/// none.
 pub fn frame_keeps_number<E: Evaluation>()
     requires tables { IsTable E.tables }
     requires handler { (goal : E.Goal) → IsHandler E.tables (E.handled goal) }
     ensures { (goal : E.Goal) → KeepsNumber E.tables (E.handled goal) }
 {}
 
-/// Each number that a frame ignores is that of a candidate that was finished, and is ignored once.
+/// A frame ignores only numbers of finished candidates, each at most once.
 pub fn ignores_finished_once<E: Evaluation>()
     requires handler { (goal : E.Goal) → IsHandler E.tables (E.handled goal) }
     ensures { (goal : E.Goal) → IgnoresFinishedOnce E.tables (E.handled goal) }
 {}
 
-/// A plan for a goal, over some tables: a finite tree of candidates that goes on by their responses, with what is answered at its ends.
+/// A plan for a goal: a finite decision tree. Each node evaluates a candidate, whose response selects the next node. Each leaf is
+/// the goal's result.
 pub trait HasPlan {
     ghost Question: { Type 0 };
 
@@ -74,15 +78,15 @@ pub fn plans_are_lawful<P: HasPlan>()
     ensures { IsHandler P.tables (planned P.tables P.plan) }
 {}
 
-/// What is made of the responses of candidates is a merge of them, by each test that only definite yeses pass: a definite yes is one of
-/// them, values that agree with one of them agree with it, and it holds no wider terms.
+/// The merge of the candidates' responses, for each test that only definite yeses pass. A definite yes is one of the responses.
+/// Values that agree with a response agree with the merge. The merge has no wider terms.
 pub fn merges_responses<E: Evaluation>()
     requires tables { IsTable E.tables }
     requires handler { (goal : E.Goal) → IsHandler E.tables (E.handled goal) }
     ensures { (goal : E.Goal) → MergesResponses E.tables (E.handled goal) }
 {}
 
-/// The goals of a handler together.
+/// All goals of a handler.
 pub trait GoalSystem {
     ghost Question: { Type 0 };
 
@@ -93,21 +97,21 @@ pub trait GoalSystem {
     ghost system: { System tables };
 }
 
-/// Where a frame's answer is a definite yes, each instance of its goal follows by a rule from instances, by terms of its own values,
-/// of the questions that count.
+/// If a frame returns a definite yes, each instance of its goal follows by a rule from instances of the nested goals that count,
+/// by terms of its own values.
 pub fn yes_follows_from_questions<S: GoalSystem>()
     requires tables { IsTable S.tables }
     requires handlers { (goal : S.system.Goal) → IsHandler S.tables (S.system.handled goal) }
     ensures { YesFollowsFromQuestions S.tables S.system }
 {}
 
-/// Where a goal has a proof graph of goals with definite yeses, each of its instances has a proof list.
+/// If a goal has a proof graph of goals with definite yeses, each of its instances has a proof.
 pub fn graph_has_proof<S: GoalSystem>()
     requires { IsSystem S.tables S.system }
     ensures { GraphsProve S.tables S.system }
 {}
 
-/// Operations of two kinds, and what of the one corresponds to what of the other.
+/// Two kinds of operations, and a correspondence between them.
 pub trait CorrespondingOperations {
     ghost Question: { Type 0 };
 
@@ -124,14 +128,14 @@ pub trait CorrespondingOperations {
     ghost correspondence: { Correspondence one other };
 }
 
-/// From corresponding tables, corresponding goals and answers lead to corresponding ends of a round and of the rounds: both wait at
-/// corresponding questions, or both end with corresponding results, and the answers that are left correspond.
+/// If tables, goals and responses correspond, a round and all rounds have corresponding ends. Both wait for corresponding nested
+/// goals, or both end with corresponding results and remaining responses.
 pub fn rounds_correspond<C: CorrespondingOperations>()
     requires { IsCorrespondence C.one C.other C.correspondence }
     ensures { RoundsCorrespond C.one C.other C.correspondence }
 {}
 
-/// Workings of two kinds, and what of the one corresponds to what of the other.
+/// Two kinds of workings, and a correspondence between them.
 pub trait CorrespondingWorkings {
     ghost Question: { Type 0 };
 
@@ -148,19 +152,19 @@ pub trait CorrespondingWorkings {
     ghost correspondence: { CandidateCorrespondence one other };
 }
 
-/// In corresponding tables, corresponding candidates and answers lead to corresponding questions and results.
+/// If tables, candidates and responses correspond, the nested goals and results correspond.
 pub fn candidates_correspond<C: CorrespondingWorkings>()
     requires { IsCandidateCorrespondence C.one C.other C.correspondence }
     ensures { CandidatesCorrespond C.one C.other C.correspondence }
 {}
 
-/// After corresponding replies, frames of corresponding handlers make corresponding requests.
+/// After corresponding replies, the frames of corresponding handlers make corresponding requests.
 pub fn frames_correspond<C: CorrespondingWorkings>()
     requires { IsCandidateCorrespondence C.one C.other C.correspondence }
     ensures { FramesCorrespond C.one C.other C.correspondence }
 {}
 
-/// A proof list by the rules of a set of crates and of where-clauses is a proof as the definitions have it.
+/// A proof by the rules of a set of crates and of where-clauses is a proof as the promised definitions state it.
 pub fn proofs_by_rules_are_proofs()
     ensures { ProofsAreProofs }
 {}

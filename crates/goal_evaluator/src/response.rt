@@ -1,4 +1,4 @@
-//! What responses say.
+//! What a response states.
 
 ghost use Rattle.std.specs.Prelude.{◌≡◌, ◌↔◌, ◌+◌, ◌<◌, ◌^◌, length, IsTrue, IfOk};
 ghost use Rattle.type_terms.specs.Promised.Label.{Sort};
@@ -43,7 +43,7 @@ fn is_canonical_variable(cx: &Interner, value: GenericArgKind, number: usize) ->
     }
 }
 
-/// Whether value i is the canonical variable i itself, for each i.
+/// Whether each value i is the canonical variable i.
 fn is_identity(cx: &Interner, var_values: &[GenericArgKind]) -> bool
     requires { ArgsHeld cx.now.entries var_values.now }
     ensures { result ≡ are_variables cx.now.entries 0 var_values.now }
@@ -56,7 +56,7 @@ fn is_identity(cx: &Interner, var_values: &[GenericArgKind]) -> bool
     true
 }
 
-/// Whether each type or constant of the values is the canonical variable that comes next, the first of which has this number.
+/// Whether each type or constant among the values is the next canonical variable, starting with this number.
 fn is_identity_from(cx: &Interner, var_values: &[GenericArgKind], next: usize) -> bool
     requires held { ArgsHeld cx.now.entries var_values.now }
     requires room { next + length var_values.now < 2 ^ 64 }
@@ -74,8 +74,8 @@ fn is_identity_from(cx: &Interner, var_values: &[GenericArgKind], next: usize) -
     }
 }
 
-/// Whether the values say nothing of types and constants: each type or constant is the canonical variable that comes next in
-/// the order of first occurrence. A lifetime may be any. (`CanonicalVarValues::is_identity_modulo_regions` of the original.)
+/// Whether the values state nothing about types and constants: each type or constant is the next canonical variable in the order
+/// of first occurrence. A lifetime may have any value. rustc: `CanonicalVarValues::is_identity_modulo_regions`.
 pub fn is_identity_modulo_regions(cx: &Interner, var_values: &[GenericArgKind]) -> bool
     requires { ArgsHeld cx.now.entries var_values.now }
     ensures { result ≡ is_identity_modulo_regions 0 (values_of cx.now.entries var_values.now) }
@@ -84,8 +84,8 @@ pub fn is_identity_modulo_regions(cx: &Interner, var_values: &[GenericArgKind]) 
     is_identity_from(cx, var_values, 0)
 }
 
-/// Whether the response says nothing of its goal's variables: value i is the canonical variable i itself, and there is no
-/// constraint on lifetimes (`rustc_next_trait_solver::solve::has_no_inference_or_external_constraints`).
+/// Whether the response states nothing about its goal's variables: each value i is the canonical variable i, and there are no
+/// region constraints (`rustc_next_trait_solver::solve::has_no_inference_or_external_constraints`).
 pub fn has_no_inference_or_external_constraints(cx: &Interner, response: &CanonicalResponse) -> bool
     requires { ValuesHeld cx.now.entries response.now }
     ensures { result ≡ says_nothing cx.now.entries response.now }
@@ -93,7 +93,7 @@ pub fn has_no_inference_or_external_constraints(cx: &Interner, response: &Canoni
     is_identity(cx, &response.var_values) && response.region_constraints.is_empty()
 }
 
-/// Whether two responses are equal: whether they say the same.
+/// Whether two responses are equal.
 pub fn is_same_response(left: &CanonicalResponse, right: &CanonicalResponse) -> bool
     ensures equal { result ≡ ⟦<CanonicalResponse as PartialEq>⟧.eq left.now right.now }
     ensures same { IsTrue result ↔ (content left.now ≡ content right.now) }
@@ -101,7 +101,7 @@ pub fn is_same_response(left: &CanonicalResponse, right: &CanonicalResponse) -> 
     left == right
 }
 
-/// The same response once more, or out of memory.
+/// A copy of the response. The only error is `AllocError`.
 pub fn copy_response(
     alloc: Global,
     response: &CanonicalResponse,

@@ -1,4 +1,4 @@
-//! Candidates whose evaluation goes on where it stopped.
+//! Candidates that can be resumed where they stopped.
 ghost use Rattle.std.specs.Prelude.{◌≡◌, ℕ, ◌+◌, ◌*◌, length, ◌∷◌, ◌++◌, [], ◌||◌, true, false, map, option_map, IfOk, IfErr, Some, Err};
 ghost use Rattle.type_terms.specs.Promised.Handles.{ArgsHeld};
 ghost use Rattle.infer_table.specs.Certainties.{joined};
@@ -29,8 +29,8 @@ use type_terms::Fault;
 use type_terms::interner::Interner;
 use type_terms::kinds::GenericArgKind;
 
-/// What a candidate is evaluated in: its table, the kinds of the goal's variables with what stands for these, and how sure the
-/// candidate can be.
+/// The state in which a candidate is evaluated: its table, the kinds and values of the goal's variables, and the candidate's
+/// greatest certainty.
 pub(crate) struct Evaluation {
     pub(crate) mode: TypingMode,
     pub(crate) table: InferCtxt,
@@ -39,7 +39,7 @@ pub(crate) struct Evaluation {
     pub(crate) certainty: Certainty,
 }
 
-// Written, so that what owns one drops it by one call at each way out, and not field by field.
+// Hand-written so that the prover sees one drop call: docs/PROVING.md#drop.
 impl Drop for Evaluation {
     fn drop(self) {
         let Evaluation {
@@ -52,7 +52,8 @@ impl Drop for Evaluation {
     }
 }
 
-/// A round so far: the goals that stay, the oldest first, whether values came, and how sure the answers of those that stay are.
+/// A round in progress: the goals that stay, in order, whether a response had values, and the joined certainty of the responses
+/// to the goals that stay.
 #[derive(Drop)]
 pub(crate) struct OpenRound {
     left: VecDeque<(GoalSource, Goal)>,
@@ -60,20 +61,20 @@ pub(crate) struct OpenRound {
     certainty: Certainty,
 }
 
-/// A candidate that waits for the answer to a question: its table, its round, and the goals that are still to be asked.
+/// A candidate that waits for the response to a nested goal.
 pub struct OpenCandidate {
     evaluation: Evaluation,
-    /// How many rounds there may be after this one.
+    /// The greatest number of rounds after this one.
     rounds_left: usize,
     round: OpenRound,
-    /// The goal that is asked, and the values of its question's variables.
+    /// The nested goal for which it waits, and the values of its canonical variables.
     goal: (GoalSource, Goal),
     values: Vec<GenericArgKind>,
-    /// The goals that are to be asked after it in this round.
+    /// The goals that follow in this round.
     goals: VecDeque<(GoalSource, Goal)>,
 }
 
-// Written, so that what owns one drops it by one call at each way out, and not field by field.
+// Hand-written so that the prover sees one drop call: docs/PROVING.md#drop.
 impl Drop for OpenCandidate {
     fn drop(self) {
         let OpenCandidate {
@@ -87,17 +88,17 @@ impl Drop for OpenCandidate {
     }
 }
 
-/// What a call that evaluates a candidate comes to.
+/// The result of a call that evaluates a candidate.
 #[derive(Drop)]
 pub enum CandidateStep {
     /// The candidate's answer.
     Ready(CanonicalResponse),
-    /// The candidate waits for the answer to this question: `OpenCandidate::resume` goes on with it.
+    /// The candidate waits for the response to this nested goal. `OpenCandidate::resume` continues with it.
     Ask(OpenCandidate, CanonicalInput, GoalSource),
 }
 
 impl OpenRound {
-    /// A round in which nothing was asked yet.
+    /// A new round.
     fn new(alloc: Global) -> OpenRound
         ensures left { result.left.items ≡ [] }
         ensures changed { result.changed ≡ false }
@@ -110,7 +111,7 @@ impl OpenRound {
         }
     }
 
-    /// How sure it is that all goals hold, where the round is the last.
+    /// How certain it is that all goals hold, if this round is the last.
     fn certainty_of_goals(&self) -> Certainty
         ensures { result ≡ certainty_with (map nested_goal self.now.left.items) self.now.certainty }
     {
@@ -121,7 +122,7 @@ impl OpenRound {
         }
     }
 
-    /// The round after this answer to the goal: a definite yes drops the goal, and any other answer keeps it.
+    /// The round after this response to the goal. A definite yes drops the goal. Any other response preserves it.
     fn judge(
         self,
         cx: &Interner,
@@ -155,7 +156,7 @@ impl OpenRound {
 }
 
 impl Evaluation {
-    /// Asks the goal, in this round; then these goals are to be asked.
+    /// Waits for the response to this goal. The other goals follow in the same round.
     fn ask(
         self,
         alloc: Global,
@@ -188,7 +189,7 @@ impl Evaluation {
         Ok(CandidateStep::Ask(waiting, input, source))
     }
 
-    /// The answer, as sure as the candidate and its goals together.
+    /// The candidate's response. Its certainty joins that of the candidate with that of its goals.
     fn answer(self, cx: &mut Interner, of_goals: Certainty) -> Result<CandidateStep, EvalError>
         requires evaluation { EvaluationHeld cx.old.entries self }
         ensures terms { EvalGrewOrFull cx.old cx.new result }
@@ -208,7 +209,7 @@ impl Evaluation {
         Ok(CandidateStep::Ready(answer))
     }
 
-    /// Asks the goal that is next, or ends the round: then the next one begins, or the candidate answers.
+    /// Continues with the next goal. If there is none, starts the next round or returns the candidate's response.
     fn go_on(
         self,
         alloc: Global,
@@ -239,7 +240,7 @@ impl Evaluation {
         self.go_on(alloc, cx, rounds_left - 1, next, round.left)
     }
 
-    /// Begins the rounds in which these goals are asked.
+    /// Starts the rounds for these goals.
     pub(crate) fn begin_rounds(
         self,
         alloc: Global,
@@ -259,11 +260,11 @@ impl Evaluation {
 }
 
 impl OpenCandidate {
-    /// Goes on with the answer to the question that the candidate waits for; none says that the goal has no solution.
+    /// Continues with the response to the nested goal for which the candidate waits. `None` means that the goal has no solution.
     ///
-    /// The candidate goes on in its table, as evaluating it anew over all replies so far would (`resuming_replays`), and no reply is
-    /// put in twice. `NoSolution` says that the goal was refused, or that the answer cannot be put into the table. `Full` comes only
-    /// where some kind of term has reached the interner's limit, `Memory` also where variables get no numbers.
+    /// The result is the same as evaluating the candidate anew with all replies so far (`resuming_replays`), but no reply is
+    /// applied twice. `NoSolution` is returned if the goal has no solution or its response cannot be applied. `Full` is returned
+    /// only if some kind of term has reached the interner's limit, and `Memory` also if there is no number for a variable.
     pub fn resume(
         self,
         alloc: Global,
@@ -276,7 +277,7 @@ impl OpenCandidate {
         ensures held { IfOk result (λ s. CandidateHeld cx.new.entries s) }
         ensures stands { StandsAt cx.new.entries (after_reply cx.old.entries self (option_map (answer_trees cx.old.entries) reply)) result }
 
-        // It asks fewer questions than it could before.
+        // The number of nested goals that may follow decreases.
         ensures fewer { IfOk result (λ s. (n : ℕ) → n + 1 ≡ questions_left self → AsksAtMost n s) }
     {
         let OpenCandidate {
@@ -296,7 +297,7 @@ impl OpenCandidate {
     }
 }
 
-/// A candidate that goes on ends, or waits, as evaluating it anew over all its replies does.
+/// A resumed candidate has the same result, or waits for the same nested goal, as evaluating it anew with all its replies.
 pub fn resuming_replays()
     ensures begins { BeginningReplays }
     ensures goes_on { ResumingReplays }

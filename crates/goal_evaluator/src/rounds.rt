@@ -1,4 +1,4 @@
-//! The rounds in which the nested goals of a context are asked, over the replies that are there.
+//! The rounds that evaluate the nested goals of a context, with the replies so far.
 ghost use Rattle.type_terms.specs.Growth.{GrewOrFull};
 ghost use Rattle.std.specs.Prelude.{◌≡◌, not, List, map, OnOk, IfOk, Ok, Err, Some, None};
 ghost use Rattle.type_terms.specs.Promised.Trees.{is_sort};
@@ -37,23 +37,23 @@ use type_terms::kinds::GenericArgKind;
 /// How a round ends.
 #[derive(Drop)]
 pub(crate) enum RoundStep<'a> {
-    /// Each goal was asked: whether type or const values came, how sure the answers of the goals that stay are, and the replies
-    /// that are left.
+    /// All goals were evaluated: whether a response had values of types or constants, the joined certainty of the responses to
+    /// the goals that stay, and the unused replies.
     Ended(bool, Certainty, &'a [Option<CanonicalResponse>]),
-    /// No reply to this question is there.
+    /// There is no reply to this nested goal yet.
     Waits(CanonicalInput, GoalSource),
 }
 
-/// How the rounds end.
+/// How all rounds end.
 #[derive(Drop)]
 pub(crate) enum RoundsStep {
-    /// The goals that are left, and how sure it is that all goals hold.
+    /// The remaining goals, and how certain it is that all goals hold.
     Ended(Vec<(GoalSource, Goal)>, Certainty),
-    /// No reply to this question is there.
+    /// There is no reply to this nested goal yet.
     Waits(CanonicalInput, GoalSource),
 }
 
-/// The question that asks a goal, and the values of its variables.
+/// The canonical form of a nested goal, and the values of its variables.
 pub(crate) fn question_for(
     alloc: Global,
     cx: &mut Interner,
@@ -75,7 +75,7 @@ pub(crate) fn question_for(
     Ok(asked)
 }
 
-/// Whether both are types, or both constants, or both lifetimes.
+/// Whether both are types, both constants, or both lifetimes.
 fn is_same_sort(left: GenericArgKind, right: GenericArgKind) -> bool
     ensures { result ≡ is_sort (sort_of_arg left) (sort_of_arg right) }
 {
@@ -86,7 +86,7 @@ fn is_same_sort(left: GenericArgKind, right: GenericArgKind) -> bool
     }
 }
 
-/// Whether there are as many values, each of the sort of the one in its place.
+/// Whether the lists are equally long, and the values at each index are of the same kind.
 pub fn have_same_sorts(values: &[GenericArgKind], others: &[GenericArgKind]) -> bool
     ensures { (es : List Entry) → result ≡ have_same_sorts (values_of es values.now) (values_of es others.now) }
 {
@@ -99,17 +99,17 @@ pub fn have_same_sorts(values: &[GenericArgKind], others: &[GenericArgKind]) -> 
     is_same_sort(*value, *other) && have_same_sorts(values, others)
 }
 
-/// Whether a response is one to a goal whose values these are: it has a value for each of them, of its sort.
+/// Whether the response fits a goal with these values: it has a value for each of them, of the same kind.
 fn is_answer_to(values: &[GenericArgKind], response: &CanonicalResponse) -> bool
     ensures { (es : List Entry) → result ≡ is_answer_to (values_of es values.now) (answer_trees es response.now) }
 {
     have_same_sorts(values, &response.var_values)
 }
 
-/// Puts a response to a goal, whose values these are, into the table.
+/// Applies the response to a goal with these values.
 ///
-/// A response to another goal says nothing of this one, and leaves the table as it is. A search brings none; but it hands on
-/// responses of which nothing is known but that they are well-formed in themselves, and so nothing more is asked of them.
+/// A response that does not fit the goal leaves the table unchanged. The search never gives such a response, but this is not
+/// proved at this level: of the search's responses only that they are well-formed is known here.
 pub(crate) fn apply_response(
     alloc: Global,
     cx: &mut Interner,
@@ -135,7 +135,7 @@ pub(crate) fn apply_response(
     }
 }
 
-/// Whether the response holds type or const values.
+/// Whether the response has values of types or constants.
 pub(crate) fn has_values(cx: &Interner, response: &CanonicalResponse) -> bool
     requires { ArgsHeld cx.now.entries response.now.var_values.items }
     ensures { result ≡ not (is_identity_modulo_regions 0 (values_of cx.now.entries response.now.var_values.items)) }
@@ -143,7 +143,7 @@ pub(crate) fn has_values(cx: &Interner, response: &CanonicalResponse) -> bool
     !is_identity_modulo_regions(cx, &response.var_values)
 }
 
-/// Whether it is a yes.
+/// Whether it is `Yes`.
 pub(crate) fn is_certain(certainty: Certainty) -> bool
     ensures { result ≡ is_certain certainty }
 {
@@ -153,8 +153,8 @@ pub(crate) fn is_certain(certainty: Certainty) -> bool
     }
 }
 
-/// One round: asks each goal in order, over the replies that are there. A definite yes drops its goal; the goals that stay are put
-/// behind those that are left already.
+/// One round: evaluates each goal in order, with the replies so far. A definite yes drops its goal. The goals that stay are added
+/// to `left`.
 pub(crate) fn round<'a>(
     alloc: Global,
     cx: &mut Interner,
@@ -204,8 +204,8 @@ pub(crate) fn round<'a>(
     }
 }
 
-/// At most so many rounds, over the replies that are there: the last is one without type or const values, and after the
-/// greatest number of rounds the certainty is an overflow.
+/// At most `limit` rounds, with the replies so far. The last round is one without values of types or constants. After `limit`
+/// rounds the certainty is an overflow.
 pub(crate) fn rounds(
     alloc: Global,
     cx: &mut Interner,
@@ -240,7 +240,7 @@ pub(crate) fn rounds(
     }
 }
 
-/// How sure it is that all goals hold where these are left, and the answers to them are so sure together.
+/// How certain it is that all goals hold, if these goals remain and the responses to them have this joined certainty.
 fn certainty_with(left: &[(GoalSource, Goal)], certainty: Certainty) -> Certainty
     ensures { result ≡ certainty_with (map nested_goal left.now) certainty }
 {

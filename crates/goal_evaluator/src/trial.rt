@@ -1,4 +1,4 @@
-//! Candidates: how their evaluation begins, and evaluated anew over the replies that are there.
+//! The start of a candidate's evaluation, and its evaluation anew with all replies so far.
 ghost use Rattle.type_terms.specs.Growth.{GrewOrFull};
 ghost use Rattle.std.specs.Prelude.{◌≡◌, ◌*◌, length, map, List, [], ◌∷◌, ◌++◌, OnOk, IfOk, IfErr, Option, Some, None, option_map, Err};
 ghost use Rattle.type_terms.specs.Promised.Handles.{Entry};
@@ -44,26 +44,28 @@ use type_terms::Fault;
 use type_terms::interner::Interner;
 use type_terms::kinds::GenericArgKind;
 
-/// A candidate that is being tried.
+/// A candidate whose equations hold.
 #[derive(Drop)]
 struct Trial {
     table: InferCtxt,
-    /// What stands for the goal's variables.
+    /// The values of the goal's variables.
     own: Vec<GenericArgKind>,
-    /// What stands for the variables of the candidate's terms: for the goal's, and then for the candidate's own.
+    /// The values of the variables in the candidate's terms: those of the goal, then the candidate's own.
     values: Vec<GenericArgKind>,
 }
 
-/// Evaluates a candidate of a goal, over the replies to its questions so far: it begins anew, and where no reply is left it
-/// answers with the question that is next.
+/// Evaluates a candidate of a goal anew, with the replies to its nested goals so far. If there is no reply left, it returns the
+/// next nested goal.
 ///
-/// In an empty table the goal's variables become new unknowns, and those that stand for any term become placeholders; then the
-/// candidate's own variables become new unknowns. Its equations are to hold, one after the other, its constraints on lifetimes
-/// are recorded, and its nested goals are asked in rounds. `NoSolution` says that an equation or a goal was refused: want of
-/// room or memory is a fault, and refuses no candidate. `Full` comes only where some kind of term has reached the interner's
-/// limit, `Memory` also where variables get no numbers. The answer is no surer than the candidate can be.
+/// The table is new. The goal's variables become inference variables, or placeholders if their kind is one of placeholders. Then
+/// the candidate's own variables become inference variables. Its equations are made to hold in order, its region constraints are
+/// recorded, and its nested goals are evaluated in rounds. The response is at most as certain as the candidate states.
 ///
-/// What comes of it is a function of trees: no handle decides anything. `EvalCtxt::probe_trait_candidate` of the original.
+/// `NoSolution` is returned if an equation or a nested goal has no solution. A shortage is a fault and never means `NoSolution`.
+/// `Full` is returned only if some kind of term has reached the interner's limit, and `Memory` also if there is no number for a
+/// variable.
+///
+/// The result depends only on the terms, not on their handles. rustc: `EvalCtxt::probe_trait_candidate`.
 pub fn evaluate_candidate(
     alloc: Global,
     cx: &mut Interner,
@@ -81,7 +83,7 @@ pub fn evaluate_candidate(
     evaluate_nested(alloc, cx, trial, input, spec, replies)
 }
 
-/// A trial of the candidate, in which its equations hold and its constraints are recorded.
+/// The state after the candidate's equations and region constraints.
 fn try_candidate(
     alloc: Global,
     cx: &mut Interner,
@@ -110,7 +112,7 @@ fn try_candidate(
     Ok(trial)
 }
 
-/// An empty table, with what stands in it for the variables of the goal and for these of the candidate.
+/// A new table, with values for the variables of the goal and of the candidate.
 fn begin(
     alloc: Global,
     cx: &mut Interner,
@@ -131,7 +133,7 @@ fn begin(
     Ok(Trial { table, own, values })
 }
 
-/// Puts a new unknown of each kind behind these values.
+/// Adds a new inference variable of each kind to these values.
 fn add_unknowns(
     cx: &mut Interner,
     table: &mut InferCtxt,
@@ -154,7 +156,7 @@ fn add_unknowns(
     Ok(())
 }
 
-/// A new unknown of this kind; for a kind of placeholders, one of their sort.
+/// A new inference variable of this kind. For a kind of placeholders it is a variable for a type or a constant.
 fn new_unknown(
     cx: &mut Interner,
     table: &mut InferCtxt,
@@ -183,7 +185,7 @@ fn new_unknown(
     }
 }
 
-/// Makes the sides of each equation equal, in order, with the values in the place of variables.
+/// Makes each equation hold, in order, with the values in place of canonical variables.
 fn equate_all(
     alloc: Global,
     cx: &mut Interner,
@@ -207,7 +209,7 @@ fn equate_all(
     Ok(())
 }
 
-/// Makes the sides of an equation equal, with the values in the place of variables.
+/// Makes an equation hold, with the values in place of canonical variables.
 fn equate(
     alloc: Global,
     cx: &mut Interner,
@@ -233,7 +235,7 @@ fn equate(
     }
 }
 
-/// The term with the values in the place of variables.
+/// Replaces the canonical variables of the term by the values.
 fn fill(
     alloc: Global,
     cx: &mut Interner,
@@ -249,7 +251,7 @@ fn fill(
     term.fold_with(alloc, cx, &CanonicalInstantiator { values })
 }
 
-/// Records each constraint, in order and once, with the values in the place of variables.
+/// Records each constraint, in order and without duplicates, with the values in place of canonical variables.
 fn record_constraints(
     alloc: Global,
     cx: &mut Interner,
@@ -271,7 +273,7 @@ fn record_constraints(
     Ok(())
 }
 
-/// Records a constraint, with the values in the place of variables.
+/// Records a constraint, with the values in place of canonical variables.
 fn record_constraint(
     alloc: Global,
     cx: &mut Interner,
@@ -292,7 +294,7 @@ fn record_constraint(
     table.register_region_constraint(constraint)
 }
 
-/// Evaluates the nested goals in the trial's table.
+/// Evaluates the nested goals in the candidate's table.
 fn evaluate_nested(
     alloc: Global,
     cx: &mut Interner,
@@ -318,7 +320,7 @@ fn evaluate_nested(
     context.evaluate_added_goals_and_make_canonical_response(cx, spec.certainty)
 }
 
-/// Puts each goal behind those that are still to be asked, with the values in the place of variables.
+/// Adds each goal to the context, with the values in place of canonical variables.
 fn add_goals(
     alloc: Global,
     cx: &mut Interner,
@@ -342,7 +344,7 @@ fn add_goals(
     Ok(())
 }
 
-/// Puts copies of the replies behind those that the context has.
+/// Adds copies of the replies to the context.
 fn add_replies(
     alloc: Global,
     context: &mut EvalCtxt,
@@ -386,11 +388,11 @@ fn copy_of(
     }
 }
 
-/// Begins to evaluate a candidate of a goal: up to its first question, or to its end. Then `OpenCandidate::resume` goes on with each
-/// answer.
+/// Starts to evaluate a candidate of a goal, up to its first nested goal or its end. `OpenCandidate::resume` continues with each
+/// response.
 ///
-/// What is done, and what `NoSolution` and `Full` say, is as with `evaluate_candidate` over no replies. It asks at most
-/// `FIXPOINT_STEP_LIMIT` questions for each of its nested goals.
+/// The steps and errors are those of `evaluate_candidate` without replies. At most `FIXPOINT_STEP_LIMIT` responses are requested
+/// for each of the candidate's nested goals.
 pub fn begin_candidate(
     alloc: Global,
     cx: &mut Interner,
@@ -407,7 +409,7 @@ pub fn begin_candidate(
     open_nested(alloc, cx, trial, input, spec)
 }
 
-/// Begins to ask the nested goals in the trial's table.
+/// Starts to evaluate the nested goals in the candidate's table.
 fn open_nested(
     alloc: Global,
     cx: &mut Interner,
@@ -438,7 +440,7 @@ fn open_nested(
     evaluation.begin_rounds(alloc, cx, goals)
 }
 
-/// The goals, with the values in the place of variables.
+/// Replaces the canonical variables of the goals by the values.
 fn fill_goals(
     alloc: Global,
     cx: &mut Interner,

@@ -1,22 +1,22 @@
--- How wide terms are: a number that nothing in a frame makes greater.
+-- The width of terms. No frame makes terms wider than those that it gets.
 use Rattle.std.specs.Prelude.{ℕ, zero, suc, max}
 use Rattle.type_terms.specs.Promised.Label.{Label, principal}
 use Rattle.type_terms.specs.Promised.Trees.{Trees, none, tree}
 
--- how many trees stand in a row
+-- the number of terms in this list
 abbrev pub count : Trees → ℕ
 count none = zero
 count (tree l c o) = suc (count o)
 
--- how many terms a node with this label and so many children has: a bound of a `dyn` has its arguments, and before them the self
--- type that it is a bound of. Without arguments none is counted: no reference has fewer terms than its self type
+-- The number of terms at a node with this label and `n` children. A bound of a `dyn` type counts its arguments and the self type,
+-- which is not stored. Without arguments it counts none, since every trait reference has at least a self type.
 abbrev pub with_self : Label → ℕ → ℕ
 with_self (principal m i) zero = zero
 with_self (principal m i) (suc n) = suc (suc n)
 with_self l n = n
 
--- the greatest count of terms that a node has; the trees of the row itself are not counted. `V<(u8, char, bool), str>` has 3, and so has
--- `dyn Convert<u8, char>`, for which a type `T` is to be such that `T: Convert<u8, char>`
+-- The greatest number of terms at a node of these terms. The list itself is not counted. Both `V<(u8, char, bool), str>` and `dyn
+-- Convert<u8, char>` have width 3. The second is a bound `T: Convert<u8, char>` without its self type.
 abbrev pub width : Trees → ℕ
 width none = zero
 width (tree l c o) = max (with_self l (count c)) (max (width c) (width o))
