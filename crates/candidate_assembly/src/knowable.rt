@@ -12,6 +12,7 @@ ghost use Rattle.candidate_model.specs.Knowing.{is_knowable};
 use crate::visitors::has_open_places;
 use declarations::declarations::Declarations;
 use infer_table::infer_ctxt::InferCtxt;
+use orphan_check::context::OrphanCtxt;
 use orphan_check::errors::{Conflict, WalkError};
 use orphan_check::knowable::trait_ref_is_knowable;
 use orphan_check::normalize::AlreadyNormal;
@@ -60,15 +61,12 @@ pub fn is_knowable(
     // No canonical variable has a value, nothing has to be normalized, and no walk goes deeper than the arguments are.
     let infcx = InferCtxt::new(alloc);
     let limit = cx.depth(trait_ref.args);
-    match trait_ref_is_knowable(
-        alloc,
+    let context = OrphanCtxt {
         cx,
-        &infcx,
-        declarations,
-        trait_ref,
-        limit,
-        &AlreadyNormal,
-    ) {
+        infcx: &infcx,
+        decls: declarations,
+    };
+    match trait_ref_is_knowable(alloc, &context, trait_ref, limit, &AlreadyNormal) {
         Ok(answer) => Ok(is_known(answer)),
         Err(error) => match error {
             WalkError::Memory => Err(Fault::Memory),

@@ -14,6 +14,7 @@ ghost use Rattle.explain_sessions.specs.Unseen.{IsUnseen};
 use sessions::Session;
 use sessions::declarations::declarations::Declarations;
 use sessions::infer_table::infer_ctxt::InferCtxt;
+use sessions::orphan_check::context::OrphanCtxt;
 use sessions::orphan_check::errors::{Conflict, WalkError};
 use sessions::orphan_check::knowable::trait_ref_is_knowable;
 use sessions::orphan_check::normalize::AlreadyNormal;
@@ -36,15 +37,12 @@ fn conflict_of(
     // No variable has a value, nothing has to be normalized, and no walk goes deeper than the arguments are.
     let table = InferCtxt::new(alloc);
     let limit = cx.depth(reference.args);
-    match trait_ref_is_knowable(
-        alloc,
+    let context = OrphanCtxt {
         cx,
-        &table,
-        declarations,
-        reference,
-        limit,
-        &AlreadyNormal,
-    ) {
+        infcx: &table,
+        decls: declarations,
+    };
+    match trait_ref_is_knowable(alloc, &context, reference, limit, &AlreadyNormal) {
         Ok(Ok(())) => Ok(None),
         Ok(Err(conflict)) => Ok(Some(conflict)),
         Err(WalkError::Memory) => Err(Fault::Memory),

@@ -12,20 +12,17 @@ use Rattle.type_terms.specs.declared.kinds.Ty.{Ty}
 use Rattle.infer_table.specs.Solutions.{resolved}
 use Rattle.infer_table.specs.Content.{Table, content, Ready}
 use Rattle.declarations.specs.Promised.Elaboration.{Each}
-use Rattle.orphan_check.specs.declared.errors.Conflict.{Conflict}
 use Rattle.orphan_check.specs.declared.errors.Conflict.TheVariants.{Upstream, Downstream}
 use Rattle.orphan_check.specs.declared.errors.OrphanCheckMode.{OrphanCheckMode}
 use Rattle.orphan_check.specs.declared.errors.InCrate.TheVariants.{Local, Remote}
 use Rattle.orphan_check.specs.declared.errors.IsFirstInputType.{IsFirstInputType}
-use Rattle.orphan_check.specs.declared.errors.OrphanCheckErr.{OrphanCheckErr}
 use Rattle.orphan_check.specs.declared.errors.OrphanCheckErr.TheVariants.{NonLocalInputType, UncoveredTyParams}
-use Rattle.orphan_check.specs.declared.errors.WalkError.{WalkError}
 use Rattle.orphan_check.specs.declared.errors.WalkError.TheVariants.{Normalize, Deep, Memory}
 use Rattle.orphan_check.specs.Promised.Errors.{is_first}
 use Rattle.orphan_check.specs.Flags.{leaves_in}
 use Rattle.type_terms.specs.Promised.OrphanErrors.{WalkItem, local_item, open_item, items, decisive, first_local, foreign_leaves, OrphanError, nonlocal, uncovered, error_at, orphan_error}
 use Rattle.orphan_check.specs.Steps.{Reading, Step, refused, too_deep, entered, met_local, met_open, met_foreign, first_end, second_end, leaves, reading, steps}
-use Rattle.orphan_check.specs.Answers.{Passes, IsLocalType, IsDeep, IsTooDeep, IsOrphanAnswer, IsBarred, IsKnowableAnswer}
+use Rattle.orphan_check.specs.Answers.{Passes, IsLocalType, IsDeep, IsTooDeep, IsOrphanAnswer, IsBarred, IsKnowableAnswer, OrphanAnswer, KnowableAnswer}
 use Rattle.orphan_check.specs.Knowing.{meets_open, IsKnowableBy}
 use Rattle.type_terms.specs.Made.{is_in_range, terms}
 use Rattle.type_terms.proofs.Made.{made-weaker}
@@ -134,7 +131,7 @@ module _ {E : Type 0} (es : List Entry) (t : Table) (r : Reading E) (v : r.value
     barred-local (Some (met_open u)) e h = walk-by (Some (uncovered (resolved r.values u) (first_local (shown r ss)))) (error-by (Some (open_item (resolved r.values u))) (decisive-open r ss u e))
     barred-local (Some s) e h = absurd h
 
-    pub local-exact : (mode : OrphanCheckMode) (a : Result (Result (Unit {0}) (OrphanCheckErr Ty)) (WalkError E)) → IsOrphanAnswer es (Local mode) ss a → IsOrphanCheck es t V c (Local mode) limit ref a
+    pub local-exact : (mode : OrphanCheckMode) (a : OrphanAnswer E) → IsOrphanAnswer es (Local mode) ss a → IsOrphanCheck es t V c (Local mode) limit ref a
     local-exact mode (Ok (Ok u)) h = passes-local mode (first_end ss) refl h
     local-exact mode (Ok (Err (NonLocalInputType x))) h =
         let n = decisive-none r ss h.0 in
@@ -165,7 +162,7 @@ module _ {E : Type 0} (es : List Entry) (t : Table) (r : Reading E) (v : r.value
     pub runs-out : first_end ss ≡ None → meets_open V ref ≡ false
     runs-out e = meets-by None (decisive-none r ss e).0
 
-    pub remote-exact : (a : Result (Result (Unit {0}) (OrphanCheckErr Ty)) (WalkError E)) → IsOrphanAnswer es Remote ss a → IsOrphanCheck es t V c Remote limit ref a
+    pub remote-exact : (a : OrphanAnswer E) → IsOrphanAnswer es Remote ss a → IsOrphanCheck es t V c Remote limit ref a
     remote-exact (Ok (Ok u)) h = passes-remote (first_end ss) refl h
     remote-exact (Ok (Err (NonLocalInputType x))) h =
         let n = decisive-none r ss h.0 in (
@@ -200,7 +197,7 @@ or-right false b h = h
 module _ {E : Type 0} (es : List Entry) (t : Table) (q r : Reading E) (u : q.values ≡ content es t.values) (v : r.values ≡ content es t.values) (limit : ℕ) (ref : Reference) (rs ls : List (Step E))
     (rcalm : Each (IsCalm (limit < depth ref.args)) rs) (lcalm : Each (IsCalm (limit < depth ref.args)) ls) (V : World) (c : ℕ)
     (ris : shown q rs ≡ items V None true ref.args) (lis : shown r ls ≡ items V (Some c) true ref.args) (mode : OrphanCheckMode) where
-  pub known-exact : (a : Result (Result (Unit {0}) Conflict) (WalkError E)) → IsKnowableAnswer (trait_is (λ x. (x.home == c) || x.is_fundamental) V ref.trait) rs ls (Local mode) a → WalkTellsKnown V c limit ref a
+  pub known-exact : (a : KnowableAnswer E) → IsKnowableAnswer (trait_is (λ x. (x.home == c) || x.is_fundamental) V ref.trait) rs ls (Local mode) a → WalkTellsKnown V c limit ref a
   known-exact (Ok (Ok x)) h = λ w. known-is (trait_is (λ _. true) V ref.trait) (list_all (item_in V) (open_walk V ref)) (trait_is (λ x. (x.home == c) || x.is_fundamental) V ref.trait) (ends_local (walk V c ref)) (meets_open V ref) w
       (by h.1) (runs-out es t q u limit ref rs rcalm V c ris h.0)
     where
@@ -237,10 +234,10 @@ module _ {E : Type 0} (es : List Entry) (law : Lawful es) (d : Items) (t : Table
   shows : (k : InCrate) → shown (reading es d t f k) (steps (reading es d t f k) limit (trees_at es x.args.0)) ≡ items (reading es d t f k).view (reading es d t f k).home true (reference_read es t x).args
   shows k = steps-shown (reading es d t f k) same table.valued table.acyclic table.sorted table.terms limit (trees_at es x.args.0) made
 
-  pub orphan-exact : (k : InCrate) (a : Result (Result (Unit {0}) (OrphanCheckErr Ty)) (WalkError E)) → IsOrphanAnswer es k (steps (reading es d t f k) limit (trees_at es x.args.0)) a → IsOrphanCheckOf es d t k limit x a
+  pub orphan-exact : (k : InCrate) (a : OrphanAnswer E) → IsOrphanAnswer es k (steps (reading es d t f k) limit (trees_at es x.args.0)) a → IsOrphanCheckOf es d t k limit x a
   orphan-exact (Local mode) a h = local-exact es t (reading es d t f (Local mode)) refl limit (reference_read es t x) _ (calm (Local mode)) (declared es d) d.local (shows (Local mode)) mode a h
   orphan-exact Remote a h = remote-exact es t (reading es d t f Remote) refl limit (reference_read es t x) _ (calm Remote) (declared es d) d.local (shows Remote) a h
 
-  pub knowable-exact : (a : Result (Result (Unit {0}) Conflict) (WalkError E)) → IsKnowableBy es d t f limit x a → IsKnownOf es d t limit x a
+  pub knowable-exact : (a : KnowableAnswer E) → IsKnowableBy es d t f limit x a → IsKnownOf es d t limit x a
   knowable-exact a h =
       known-exact es t (reading es d t f Remote) (reading es d t f (Local Proper)) refl refl limit (reference_read es t x) _ _ (calm Remote) (calm (Local Proper)) (declared es d) d.local (shows Remote) (shows (Local Proper)) Proper a h

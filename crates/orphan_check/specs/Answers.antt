@@ -17,7 +17,15 @@ use Rattle.declarations.specs.Items.{Items}
 use Rattle.infer_table.specs.Content.{Table}
 use Rattle.orphan_check.specs.Steps.{Step, reading, steps, refused, too_deep, met_local, met_open, first_end, second_end, leaves}
 
--- A local type ends the walk with success, and so does an open place in the walk of another crate.
+-- What `orphan_check_trait_ref` returns.
+abbrev pub OrphanAnswer : Type 0 → Type 0
+OrphanAnswer E = Result (Result (Unit {0}) (OrphanCheckErr Ty)) (WalkError E)
+
+-- What `trait_ref_is_knowable` returns.
+abbrev pub KnowableAnswer : Type 0 → Type 0
+KnowableAnswer E = Result (Result (Unit {0}) Conflict) (WalkError E)
+
+-- The check passes: the walk ends at a local type, or in `Remote` at an uncovered type.
 abbrev pub Passes : {E : Type 0} → InCrate → Option (Step E) → Type 0
 Passes k (Some (met_local t)) = Unit {0}
 Passes Remote (Some (met_open t)) = Unit {0}
@@ -44,8 +52,8 @@ IsUncovered Remote s t = ⊥
 abbrev pub IsTooDeep : {E : Type 0} → InCrate → List (Step E) → Type 0
 IsTooDeep k ss = IsDeep (first_end ss) ⊎ ((t : Trees) × IsUncovered k (first_end ss) t × IsDeep (second_end ss))
 
--- The answer of an orphan check whose walk has these steps.
-abbrev pub IsOrphanAnswer : {E : Type 0} → List Entry → InCrate → List (Step E) → Result (Result (Unit {0}) (OrphanCheckErr Ty)) (WalkError E) → Type 0
+-- The result of an orphan check whose walk has these steps.
+abbrev pub IsOrphanAnswer : {E : Type 0} → List Entry → InCrate → List (Step E) → OrphanAnswer E → Type 0
 IsOrphanAnswer es k ss (Ok (Ok u)) = Passes k (first_end ss)
 IsOrphanAnswer es k ss (Ok (Err (NonLocalInputType v))) = (first_end ss ≡ None) × (leaves_in es v.items ≡ leaves ss)
 IsOrphanAnswer es k ss (Ok (Err (UncoveredTyParams u))) = IsUncovered k (first_end ss) (trees_at es u.uncovered.0) × IsLocalType es u.local_ty (second_end ss)
@@ -53,8 +61,8 @@ IsOrphanAnswer es k ss (Err (Normalize e)) = first_end ss ≡ Some (refused e)
 IsOrphanAnswer es k ss (Err Deep) = IsTooDeep k ss
 IsOrphanAnswer es k ss (Err Memory) = Unit {0}
 
--- The answer of an orphan check whose normalizer answers so.
-abbrev pub IsOrphanBy : {E : Type 0} → List Entry → Items → Table → (Trees → Result Trees E) → InCrate → ℕ → TraitRef → Result (Result (Unit {0}) (OrphanCheckErr Ty)) (WalkError E) → Type 0
+-- The result of `orphan_check_trait_ref` with this normalizer.
+abbrev pub IsOrphanBy : {E : Type 0} → List Entry → Items → Table → (Trees → Result Trees E) → InCrate → ℕ → TraitRef → OrphanAnswer E → Type 0
 IsOrphanBy es d t f k limit r a = IsOrphanAnswer es k (steps (reading es d t f k) limit (trees_at es r.args.0)) a
 
 -- The first walk visits all types. None is local or uncovered, and the normalizer fails for none.
@@ -67,9 +75,8 @@ IsBarred None = Unit {0}
 IsBarred (Some (met_open t)) = Unit {0}
 IsBarred s = ⊥
 
--- Whether a reference is known whose trait is the crate's own or fundamental, or is not; its walk for other crates has the
--- steps rs, and for the crate that asks the steps ls.
-abbrev pub IsKnowableAnswer : {E : Type 0} → Bool → List (Step E) → List (Step E) → InCrate → Result (Result (Unit {0}) Conflict) (WalkError E) → Type 0
+-- The result of knowability. `own`: the trait is local or fundamental. The walk in `Remote` has the steps rs, and in `Local` the steps ls.
+abbrev pub IsKnowableAnswer : {E : Type 0} → Bool → List (Step E) → List (Step E) → InCrate → KnowableAnswer E → Type 0
 IsKnowableAnswer own rs ls k (Ok (Ok u)) = RanOut rs × ((own ≡ true) ⊎ Passes k (first_end ls))
 IsKnowableAnswer own rs ls k (Ok (Err Downstream)) = Passes Remote (first_end rs)
 IsKnowableAnswer own rs ls k (Ok (Err Upstream)) = RanOut rs × (own ≡ false) × IsBarred (first_end ls)

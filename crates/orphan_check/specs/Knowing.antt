@@ -9,12 +9,10 @@ use Rattle.type_terms.specs.Promised.Handles.{Entry, trees_at}
 use Rattle.term_folds.specs.declared.predicate.TraitRef.{TraitRef}
 use Rattle.declarations.specs.Items.{Items, declared}
 use Rattle.infer_table.specs.Content.{Table}
-use Rattle.orphan_check.specs.declared.errors.Conflict.{Conflict}
-use Rattle.orphan_check.specs.declared.errors.WalkError.{WalkError}
 use Rattle.orphan_check.specs.declared.errors.OrphanCheckMode.TheVariants.{Proper}
 use Rattle.orphan_check.specs.declared.errors.InCrate.TheVariants.{Local, Remote}
 use Rattle.orphan_check.specs.Steps.{reading, steps}
-use Rattle.orphan_check.specs.Answers.{IsKnowableAnswer}
+use Rattle.orphan_check.specs.Answers.{IsKnowableAnswer, KnowableAnswer}
 
 -- The open walk visits an uncovered type: a parameter, an inference variable, a placeholder or a bound type.
 abbrev pub meets_open : World → Reference → Bool
@@ -29,8 +27,8 @@ is_knowable V c r = is_known_in V c r && not (meets_open V r)
 abbrev pub is_written_in : World → Reference → Bool
 is_written_in V r = trait_is (λ _. true) V r.trait && list_all (item_in V) (open_walk V r)
 
--- The answer of a call, by the walks for other crates and for the crate that asks.
-abbrev pub IsKnowableBy : {E : Type 0} → List Entry → Items → Table → (Trees → Result Trees E) → ℕ → TraitRef → Result (Result (Unit {0}) Conflict) (WalkError E) → Type 0
+-- The result of `trait_ref_is_knowable`, from the walks in `Remote` and in `Local`.
+abbrev pub IsKnowableBy : {E : Type 0} → List Entry → Items → Table → (Trees → Result Trees E) → ℕ → TraitRef → KnowableAnswer E → Type 0
 IsKnowableBy es d t f limit r a =
     let args = trees_at es r.args.0 in
     let own = trait_is (λ x. (x.home == d.local) || x.is_fundamental) (declared es d) r.def_id.index in

@@ -1,5 +1,4 @@
 pub mod Promised
-pub mod Normal
 pub mod Steps
 pub mod Flags
 pub mod Walks

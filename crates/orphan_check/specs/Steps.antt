@@ -3,7 +3,8 @@ use Rattle.std.specs.Prelude.{ℕ, zero, suc, Bool, true, false, if◌then◌els
 use Rattle.type_terms.specs.Promised.Label.{of_type}
 use Rattle.type_terms.specs.Promised.Trees.{Trees, none, tree, is_sort, sort_of}
 use Rattle.type_terms.specs.Promised.Worlds.{World}
-use Rattle.type_terms.specs.Promised.Handles.{Entry}
+use Rattle.type_terms.specs.Promised.Handles.{Entry, trees_at}
+use Rattle.type_terms.specs.declared.kinds.Ty.{Ty}
 use Rattle.declarations.specs.Items.{Items, declared}
 use Rattle.infer_table.specs.Solutions.{Binding}
 use Rattle.infer_table.specs.Content.{Table, content}
@@ -12,8 +13,12 @@ use Rattle.orphan_check.specs.declared.errors.InCrate.{InCrate}
 use Rattle.orphan_check.specs.declared.errors.InCrate.TheVariants.{Local, Remote}
 use Rattle.type_terms.specs.Promised.OrphanErrors.{Look, local_type, open_type, leaf_type, passage, look}
 
--- Where a walk reads: the declarations, the crate whose items are local, the values of variables, and what the normalizer
--- answers at a type.
+-- The result of a normalizer: the type as a term, or the error.
+abbrev pub answered : {E : Type 0} → List Entry → Result Ty E → Result Trees E
+answered es (Ok t) = Ok (trees_at es t.0)
+answered es (Err e) = Err e
+
+-- What a walk reads: the declarations, the crate whose items are local, the values of variables, and the results of the normalizer.
 pub record Reading (E : Type 0) : Type 0 where
   pub view : World
   pub home : Option ℕ
@@ -25,6 +30,7 @@ abbrev pub home_in : ℕ → InCrate → Option ℕ
 home_in c (Local mode) = Some c
 home_in c Remote = None
 
+-- What a walk reads, from the data of its context.
 abbrev pub reading : {E : Type 0} → List Entry → Items → Table → (Trees → Result Trees E) → InCrate → Reading E
 reading es d t f k = record { view = declared es d; home = home_in d.local k; values = content es t.values; answers = f }
 
@@ -33,7 +39,6 @@ reading es d t f k = record { view = declared es d; home = home_in d.local k; va
 -- - `too_deep`: a type is nested deeper than the limit,
 -- - `entered`: a type is entered,
 -- - `met_local`, `met_open`, `met_foreign`: a type is local, uncovered or non-local.
--- What a walk reads, from the data of its context.
 pub data Step (E : Type 0) : Type 0 where
   refused : E → Step E
   too_deep met_foreign : Trees → Bool → Step E
@@ -54,19 +59,19 @@ abbrev pub steps_in : {E : Type 0} → (Bool → Trees → List (Step E)) → Bo
 steps_in go first none = []
 steps_in go first (tree l c o) = if is_sort (sort_of l) of_type then go first (tree l c none) ++ steps_in go false o else steps_in go first o
 
+-- The steps of a type of this look. `inner` are the steps of the types in it.
 abbrev pub step_of : {E : Type 0} → Look → Trees → Bool → List (Step E) → List (Step E)
 step_of local_type t first inner = met_local t ∷ []
 step_of open_type t first inner = met_open t ∷ []
 step_of leaf_type t first inner = met_foreign t first ∷ []
 step_of passage t first inner = entered ∷ inner
--- The steps of a type of this look. `inner` are the steps of the types in it.
 
+-- The steps of a type that was read so.
 abbrev pub steps_at : {E : Type 0} → (Bool → Trees → List (Step E)) → Reading E → Bool → Result Trees E → List (Step E)
 steps_at go r first (Ok none) = []
 steps_at go r first (Ok (tree l c o)) = step_of (look r.view r.home l c) (tree l c o) first (steps_in go first c)
 steps_at go r first (Err e) = refused e ∷ []
 
--- The steps of a type that was read so.
 -- The steps of a type, down to a number of levels that includes its own.
 abbrev pub steps_to : {E : Type 0} → Reading E → ℕ → Bool → Trees → List (Step E)
 steps_to r zero first t = too_deep t first ∷ []

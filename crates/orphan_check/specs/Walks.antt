@@ -7,6 +7,7 @@ use Rattle.type_terms.specs.Terms.{args_lists}
 use Rattle.type_terms.specs.Promised.Handles.{region_trees}
 use Rattle.type_terms.specs.declared.region.Region.{Region}
 use Rattle.type_terms.specs.declared.kinds.Ty.{Ty}
+use Rattle.type_terms.specs.declared.kinds.GenericArgs.{GenericArgs}
 use Rattle.declarations.specs.Promised.Elaboration.{Each}
 use Rattle.declarations.specs.Items.{Items, declared}
 use Rattle.orphan_check.specs.declared.errors.InCrate.{InCrate}
@@ -25,7 +26,7 @@ use Rattle.orphan_check.specs.declared.errors.WalkError.TheVariants.{Normalize, 
 use Rattle.type_terms.specs.Promised.OrphanErrors.{local_type, open_type, leaf_type, passage, look}
 use Rattle.orphan_check.specs.Promised.Errors.{is_first}
 use Rattle.orphan_check.specs.Flags.{leaves_in}
-use Rattle.orphan_check.specs.Steps.{Reading, Step, refused, too_deep, entered, met_local, met_open, met_foreign, home_in, reading, steps_in, steps_to, first_end, second_end, leaves}
+use Rattle.orphan_check.specs.Steps.{Reading, Step, refused, too_deep, entered, met_local, met_open, met_foreign, home_in, reading, steps, steps_in, steps_to, first_end, second_end, leaves}
 
 -- The case of a type is that of its look. The type or the arguments to visit next are those in it.
 abbrev pub IsTaken : List Entry → World → Option ℕ → Trees → Taken → Type 0
@@ -36,8 +37,8 @@ IsTaken es V d (tree l c o) Uncovered = look V d l c ≡ open_type
 IsTaken es V d (tree l c o) (Reference to) = (look V d l c ≡ passage) × Has es types to.0 × ((r : Region) × (c ≡ region_trees r +++ trees_at es to.0))
 IsTaken es V d (tree l c o) (Fundamental args) = (look V d l c ≡ passage) × Has es args_lists args.0 × (c ≡ trees_at es args.0)
 
-abbrev pub IsTakenIn : List Entry → Items → InCrate → Trees → Taken → Type 0
 -- The same by these declarations.
+abbrev pub IsTakenIn : List Entry → Items → InCrate → Trees → Taken → Type 0
 IsTakenIn es d k t x = IsTaken es (declared es d) (home_in d.local k) t x
 
 -- The type that a walk reads, or the error of the normalizer.
@@ -48,9 +49,13 @@ TypeIsRead es u (Err x) = ⊥
 
 -- What a walk reads.
 abbrev pub reads : {N E : Type 0} → (N → Trees → Result Trees E) → Walk N → Reading E
-reads answers w = reading w.cx.now.entries w.decls.now w.infcx.now (answers w.normalize.now) w.in_crate
+reads answers w = reading w.context.cx.now.entries w.context.decls.now w.context.infcx.now (answers w.normalize.now) w.in_crate
 
--- The types that wait are the interner's.
+-- The steps of a walk of these arguments.
+abbrev pub steps_of_walk : {N E : Type 0} → (N → Trees → Result Trees E) → Walk N → ℕ → GenericArgs → List (Step E)
+steps_of_walk answers w limit args = steps (reads answers w) limit (trees_at w.context.cx.now.entries args.0)
+
+-- The pending types are of this interner.
 abbrev pub ArePending : List Entry → List Pending → Type 0
 ArePending es ps = Each (λ p. Has es types p.ty.0) ps
 
@@ -59,24 +64,24 @@ abbrev pub steps_before : {E : Type 0} → List Entry → Reading E → List Pen
 steps_before es r [] ss = ss
 steps_before es r (p ∷ ps) ss = steps_before es r ps (steps_to r p.limit (is_first p.first) (trees_at es p.ty.0) ++ ss)
 
+-- The steps of the pending types.
 abbrev pub pending_steps : {E : Type 0} → List Entry → Reading E → List Pending → List (Step E)
 pending_steps es r ps = steps_before es r ps []
 
 -- The steps of the types of `args`, which were pushed, come before those of the types that were pending.
 abbrev pub ArePushed : {E : Type 0} → List Entry → Reading E → ℕ → Bool → Trees → List Pending → List Pending → Type 0
--- The steps of the pending types.
 ArePushed es r limit first args old new = pending_steps es r new ≡ steps_in (λ f u. steps_to r limit f u) first args ++ pending_steps es r old
 
 -- Pending types were only added, and all of these have this limit.
 abbrev pub AreOnTop : ℕ → List Pending → List Pending → Type 0
 AreOnTop limit old new = (above : List Pending) × (new ≡ old ++ above) × Each (λ p. p.limit ≡ limit) above
 
+-- The result of one visit as a step.
 abbrev pub step_met : {E : Type 0} → List Entry → Met → Step E
 step_met es Entered = entered
 step_met es (MetLocal t) = met_local (trees_at es t.0)
 step_met es (MetUncovered t) = met_open (trees_at es t.0)
 step_met es (MetNonLocal t first) = met_foreign (trees_at es t.0) (is_first first)
--- The result of one visit as a step.
 
 -- `before` begins with this step, and the other steps are `after`.
 abbrev pub IsFirstStep : {E : Type 0} → List Entry → List (Step E) → Result Met (WalkError E) → List (Step E) → Type 0

@@ -1,8 +1,7 @@
-//! What decides a walk, which visits a type once at each depth.
-ghost use Rattle.type_terms.specs.Promised.Handles.{Has, trees_at};
+//! The type that ends an orphan walk, found without listing the non-local types. Knowability needs no more.
+ghost use Rattle.type_terms.specs.Promised.Handles.{Has};
 ghost use Rattle.type_terms.specs.Terms.{args_lists};
 ghost use Rattle.infer_table.specs.Content.{Ready};
-ghost use Rattle.orphan_check.specs.Steps.{steps};
 
 use crate::errors::{IsFirstInputType, WalkError};
 use crate::normalize::Normalize;
@@ -19,7 +18,7 @@ pub(crate) enum Decisive {
 }
 
 impl<N: Normalize> Walk<'_, N> {
-    ghost use Rattle.orphan_check.specs.Walks.{IsDecisive, reads};
+    ghost use Rattle.orphan_check.specs.Walks.{IsDecisive, steps_of_walk};
 
     /// Returns whether the first local or uncovered type is local or uncovered. `None` if there is neither.
     ///
@@ -31,9 +30,9 @@ impl<N: Normalize> Walk<'_, N> {
         args: GenericArgs,
         limit: u32,
     ) -> Result<Option<Decisive>, WalkError<N::Error>>
-        requires held { Has self.now.cx.now.entries args_lists args.0 }
-        requires ready { Ready self.now.cx.now.entries self.now.infcx.now }
-        ensures { IsDecisive (steps (reads N.answers self.now) limit (trees_at self.now.cx.now.entries args.0)) result }
+        requires held { Has self.now.context.cx.now.entries args_lists args.0 }
+        requires ready { Ready self.now.context.cx.now.entries self.now.context.infcx.now }
+        ensures { IsDecisive (steps_of_walk N.answers self.now limit args) result }
     {
         let mut pending = Vec::new(alloc);
         self.push_types(args, limit, IsFirstInputType::Yes, &mut pending)?;

@@ -1,23 +1,19 @@
 //! Which trait references are knowable: no crate outside the view can have an impl for them.
 ghost use Rattle.std.specs.Prelude.{◌≡◌};
-ghost use Rattle.type_terms.specs.Promised.Handles.{Has, trees_at};
+ghost use Rattle.type_terms.specs.Promised.Handles.{Has};
 ghost use Rattle.type_terms.specs.Terms.{args_lists};
 ghost use Rattle.infer_table.specs.Content.{Ready};
 ghost use Rattle.orphan_check.specs.Knowing.{IsKnowableBy};
 ghost use Rattle.orphan_check.specs.Exact.{AnswersItsInput, IsKnownOf};
-ghost use Rattle.orphan_check.specs.Steps.{reading, steps};
-ghost use Rattle.orphan_check.specs.Walks.{IsDecisive, is_local};
+ghost use Rattle.orphan_check.specs.Walks.{is_local};
 
+use crate::context::OrphanCtxt;
 use crate::decisive::Decisive;
 use crate::errors::{Conflict, InCrate, OrphanCheckMode, WalkError};
 use crate::normalize::Normalize;
 use crate::walk::Walk;
-use declarations::declarations::Declarations;
-use infer_table::infer_ctxt::InferCtxt;
 use std::alloc::Global;
 use term_folds::predicate::TraitRef;
-use type_terms::interner::Interner;
-use type_terms::kinds::GenericArgs;
 
 /// Returns whether all impls that could apply to the trait reference are in this crate's view, today and in later versions of the crates
 /// that it uses.
@@ -35,46 +31,19 @@ use type_terms::kinds::GenericArgs;
 /// The errors are those of `orphan_check_trait_ref`.
 pub fn trait_ref_is_knowable<N: Normalize>(
     alloc: Global,
-    cx: &Interner,
-    infcx: &InferCtxt,
-    decls: &Declarations,
+    context: &OrphanCtxt<'_>,
     trait_ref: TraitRef,
     limit: u32,
     normalize: &N,
 ) -> Result<Result<(), Conflict>, WalkError<N::Error>>
-    requires held { Has cx.now.entries args_lists trait_ref.args.0 }
-    requires ready { Ready cx.now.entries infcx.now }
-    ensures walked { IsKnowableBy cx.now.entries decls.now infcx.now (N.answers normalize.now) limit trait_ref result }
-    ensures exact { AnswersItsInput (N.answers normalize.now) → IsKnownOf cx.now.entries decls.now infcx.now limit trait_ref result }
+    requires held { Has context.now.cx.now.entries args_lists trait_ref.args.0 }
+    requires ready { Ready context.now.cx.now.entries context.now.infcx.now }
+    ensures walked { IsKnowableBy context.now.cx.now.entries context.now.decls.now context.now.infcx.now (N.answers normalize.now) limit trait_ref result }
+    ensures exact { AnswersItsInput (N.answers normalize.now)
+        → IsKnownOf context.now.cx.now.entries context.now.decls.now context.now.infcx.now limit trait_ref result }
 {
-    cx.lawful();
-    knowable_by_walks(alloc, cx, infcx, decls, trait_ref, limit, normalize)
-}
-
-/// What decides the walk of these arguments in a crate.
-fn decisive<N: Normalize>(
-    alloc: Global,
-    cx: &Interner,
-    infcx: &InferCtxt,
-    decls: &Declarations,
-    args: GenericArgs,
-    in_crate: InCrate,
-    limit: u32,
-    normalize: &N,
-) -> Result<Option<Decisive>, WalkError<N::Error>>
-    requires held { Has cx.now.entries args_lists args.0 }
-    requires ready { Ready cx.now.entries infcx.now }
-    ensures { let es = cx.now.entries in
-        IsDecisive (steps (reading es decls.now infcx.now (N.answers normalize.now) in_crate) limit (trees_at es args.0)) result }
-{
-    let walk = Walk {
-        cx,
-        infcx,
-        decls,
-        normalize,
-        in_crate,
-    };
-    walk.decisive(alloc, args, limit)
+    context.cx.lawful();
+    knowable_by_walks(alloc, context, trait_ref, limit, normalize)
 }
 
 /// Returns whether the orphan walk ends at a local type.
@@ -91,30 +60,34 @@ pub(crate) fn is_local(decisive: Option<Decisive>) -> bool
 /// `InCrate::Local` if it ends at a local type.
 fn knowable_by_walks<N: Normalize>(
     alloc: Global,
-    cx: &Interner,
-    infcx: &InferCtxt,
-    decls: &Declarations,
+    context: &OrphanCtxt<'_>,
     trait_ref: TraitRef,
     limit: u32,
     normalize: &N,
 ) -> Result<Result<(), Conflict>, WalkError<N::Error>>
-    requires held { Has cx.now.entries args_lists trait_ref.args.0 }
-    requires ready { Ready cx.now.entries infcx.now }
-    ensures { IsKnowableBy cx.now.entries decls.now infcx.now (N.answers normalize.now) limit trait_ref result }
+    requires held { Has context.now.cx.now.entries args_lists trait_ref.args.0 }
+    requires ready { Ready context.now.cx.now.entries context.now.infcx.now }
+    ensures { IsKnowableBy context.now.cx.now.entries context.now.decls.now context.now.infcx.now (N.answers normalize.now) limit trait_ref result }
 {
-    let args = trait_ref.args;
-    let remote = InCrate::Remote;
-    let open = decisive(alloc, cx, infcx, decls, args, remote, limit, normalize)?;
+    let remote = Walk {
+        context: *context,
+        normalize,
+        in_crate: InCrate::Remote,
+    };
+    let open = remote.decisive(alloc, trait_ref.args, limit)?;
     if open.is_some() {
         return Ok(Err(Conflict::Downstream));
     }
-    if decls.trait_ref_is_local_or_fundamental(trait_ref) {
+    if context.decls.trait_ref_is_local_or_fundamental(trait_ref) {
         return Ok(Ok(()));
     }
-    let local = InCrate::Local {
-        mode: OrphanCheckMode::Proper,
+    let mode = OrphanCheckMode::Proper;
+    let local = Walk {
+        context: *context,
+        normalize,
+        in_crate: InCrate::Local { mode },
     };
-    let own = decisive(alloc, cx, infcx, decls, args, local, limit, normalize)?;
+    let own = local.decisive(alloc, trait_ref.args, limit)?;
     if is_local(own) {
         Ok(Ok(()))
     } else {

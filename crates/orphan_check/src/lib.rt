@@ -1,6 +1,7 @@
 //! The orphan check (RFC 2451), and which trait references are knowable. rustc: `coherence`.
 #![tactic(auto)]
 
+pub mod context;
 mod decisive;
 pub mod errors;
 mod first_input_type;

@@ -1,7 +1,7 @@
 //! The normalizer that an orphan walk applies to each visited type.
 ghost use Rattle.std.specs.Prelude.{◌≡◌, IfOk};
 ghost use Rattle.type_terms.specs.Promised.Handles.{Has, types, trees_at};
-ghost use Rattle.orphan_check.specs.Normal.{answered};
+ghost use Rattle.orphan_check.specs.Steps.{answered};
 
 use std::convert::Infallible;
 use type_terms::interner::Interner;

@@ -10,13 +10,13 @@ ghost use Rattle.orphan_check.specs.Answers.{IsOrphanBy};
 ghost use Rattle.orphan_check.specs.Exact.{AnswersItsInput, IsOrphanCheckOf};
 ghost use Rattle.orphan_check.specs.Promised.Errors.{ErrorHeld};
 
+use crate::context::OrphanCtxt;
 use crate::errors::{InCrate, OrphanCheckErr, OrphanCheckMode, WalkError};
 use crate::knowable::is_local;
 use crate::normalize::Normalize;
 use crate::open_walk::decisive_in_args;
 use crate::walk::Walk;
 use declarations::declarations::Declarations;
-use infer_table::infer_ctxt::InferCtxt;
 use std::alloc::Global;
 use term_folds::predicate::TraitRef;
 use type_terms::TraitId;
@@ -62,25 +62,23 @@ use type_terms::kinds::Ty;
 /// the search for a local type. Unlike in rustc, the trait reference may have parameters.
 pub fn orphan_check_trait_ref<N: Normalize>(
     alloc: Global,
-    cx: &Interner,
-    infcx: &InferCtxt,
-    decls: &Declarations,
+    context: &OrphanCtxt<'_>,
     trait_ref: TraitRef,
     in_crate: InCrate,
     limit: u32,
     normalize: &N,
 ) -> Result<Result<(), OrphanCheckErr<Ty>>, WalkError<N::Error>>
-    requires held { Has cx.now.entries args_lists trait_ref.args.0 }
-    requires ready { Ready cx.now.entries infcx.now }
-    ensures held { IfOk result (λ answer. IfErr answer (ErrorHeld cx.now.entries)) }
-    ensures walked { IsOrphanBy cx.now.entries decls.now infcx.now (N.answers normalize.now) in_crate limit trait_ref result }
-    ensures exact { AnswersItsInput (N.answers normalize.now) → IsOrphanCheckOf cx.now.entries decls.now infcx.now in_crate limit trait_ref result }
+    requires held { Has context.now.cx.now.entries args_lists trait_ref.args.0 }
+    requires ready { Ready context.now.cx.now.entries context.now.infcx.now }
+    ensures held { IfOk result (λ answer. IfErr answer (ErrorHeld context.now.cx.now.entries)) }
+    ensures walked { let es = context.now.cx.now.entries in
+        IsOrphanBy es context.now.decls.now context.now.infcx.now (N.answers normalize.now) in_crate limit trait_ref result }
+    ensures exact { AnswersItsInput (N.answers normalize.now)
+        → IsOrphanCheckOf context.now.cx.now.entries context.now.decls.now context.now.infcx.now in_crate limit trait_ref result }
 {
-    cx.lawful();
+    context.cx.lawful();
     let walk = Walk {
-        cx,
-        infcx,
-        decls,
+        context: *context,
         normalize,
         in_crate,
     };

@@ -8,15 +8,13 @@ ghost use Rattle.infer_table.specs.Content.{Ready};
 ghost use Rattle.orphan_check.specs.Promised.Errors.{is_first};
 ghost use Rattle.orphan_check.specs.Held.{EndHeld, MetHeld};
 ghost use Rattle.orphan_check.specs.Promised.Errors.{ErrorHeld, TypeHeld};
-ghost use Rattle.orphan_check.specs.Steps.{read, steps};
+ghost use Rattle.orphan_check.specs.Steps.{read};
 
+use crate::context::OrphanCtxt;
 use crate::errors::{InCrate, IsFirstInputType, OrphanCheckErr, UncoveredTyParams, WalkError};
 use crate::look::{Taken, take};
 use crate::normalize::Normalize;
-use declarations::declarations::Declarations;
-use infer_table::infer_ctxt::InferCtxt;
 use std::alloc::{AllocFailed, Global};
-use type_terms::interner::Interner;
 use type_terms::kinds::{GenericArgKind, GenericArgs, Ty, TyKind};
 
 /// A type that is still to be visited.
@@ -39,11 +37,11 @@ pub(crate) enum Met {
     NonLocal(Ty, IsFirstInputType),
 }
 
-    /// At a local type.
 /// How an orphan walk ended.
-    /// At an uncovered type.
 pub(crate) enum End {
+    /// At a local type.
     Local,
+    /// At an uncovered type.
     Uncovered(Ty),
     /// At neither. These are the non-local types, in order.
     NonLocal(Vec<(Ty, IsFirstInputType)>),
@@ -52,27 +50,26 @@ pub(crate) enum End {
 /// One orphan walk. rustc: `OrphanChecker`.
 #[derive_where(Clone, Copy)]
 pub(crate) struct Walk<'a, N> {
-    pub cx: &'a Interner,
-    pub infcx: &'a InferCtxt,
-    pub decls: &'a Declarations,
+    pub context: OrphanCtxt<'a>,
     pub normalize: &'a N,
     pub in_crate: InCrate,
 }
 
 impl<N: Normalize> Walk<'_, N> {
     ghost use Rattle.orphan_check.specs.Answers.{IsOrphanAnswer};
-    ghost use Rattle.orphan_check.specs.Walks.{TypeIsRead, IsVisit, IsStep, IsFirstEnd, IsSecondEnd, ArePending, ArePushed, AreOnTop, pending_steps, reads};
+    ghost use Rattle.orphan_check.specs.Walks.{TypeIsRead, IsVisit, IsStep, IsFirstEnd, IsSecondEnd, ArePending, ArePushed, AreOnTop};
+    ghost use Rattle.orphan_check.specs.Walks.{pending_steps, reads, steps_of_walk};
 
     /// Returns the type as the normalizer returns it, or as it was if the normalizer returns a variable. A variable with a value is
     /// replaced first.
     fn read(&self, ty: Ty) -> Result<Ty, WalkError<N::Error>>
-        requires held { Has self.now.cx.now.entries types ty.0 }
-        requires ready { Ready self.now.cx.now.entries self.now.infcx.now }
-        ensures { TypeIsRead self.now.cx.now.entries (read (reads N.answers self.now) (trees_at self.now.cx.now.entries ty.0)) result }
+        requires held { Has self.now.context.cx.now.entries types ty.0 }
+        requires ready { Ready self.now.context.cx.now.entries self.now.context.infcx.now }
+        ensures { let es = self.now.context.cx.now.entries in TypeIsRead es (read (reads N.answers self.now) (trees_at es ty.0)) result }
     {
-        let ty = self.infcx.shallow_resolve(self.cx, ty);
-        match self.normalize.normalize(self.cx, ty) {
-            Ok(normal) => match self.cx.kind(normal) {
+        let ty = self.context.infcx.shallow_resolve(self.context.cx, ty);
+        match self.normalize.normalize(self.context.cx, ty) {
+            Ok(normal) => match self.context.cx.kind(normal) {
                 TyKind::Infer(_) => Ok(ty),
                 _ => Ok(normal),
             },
@@ -87,14 +84,14 @@ impl<N: Normalize> Walk<'_, N> {
         limit: u32,
         pending: &mut Vec<Pending>,
     ) -> Result<(), AllocFailed<Pending>>
-        requires held { ArgsHeld self.now.cx.now.entries args.now }
-        requires pending_held { ArePending self.now.cx.now.entries pending.old.items }
-        ensures held { OnOk result (ArePending self.now.cx.now.entries pending.new.items) }
-        ensures pushed { OnOk result (ArePushed self.now.cx.now.entries (reads N.answers self.now) limit false
-            (args_trees self.now.cx.now.entries args.now) pending.old.items pending.new.items) }
+        requires held { ArgsHeld self.now.context.cx.now.entries args.now }
+        requires pending_held { ArePending self.now.context.cx.now.entries pending.old.items }
+        ensures held { OnOk result (ArePending self.now.context.cx.now.entries pending.new.items) }
+        ensures pushed { OnOk result (ArePushed self.now.context.cx.now.entries (reads N.answers self.now) limit false
+            (args_trees self.now.context.cx.now.entries args.now) pending.old.items pending.new.items) }
         ensures on_top { OnOk result (AreOnTop limit pending.old.items pending.new.items) }
     {
-        self.cx.lawful();
+        self.context.cx.lawful();
         let mut left = args;
         'others: while let Some((last, others)) = left.split_last() {
             if let GenericArgKind::Ty(ty) = last {
@@ -117,15 +114,15 @@ impl<N: Normalize> Walk<'_, N> {
         first: IsFirstInputType,
         pending: &mut Vec<Pending>,
     ) -> Result<(), AllocFailed<Pending>>
-        requires held { Has self.now.cx.now.entries args_lists args.0 }
-        requires pending_held { ArePending self.now.cx.now.entries pending.old.items }
-        ensures held { OnOk result (ArePending self.now.cx.now.entries pending.new.items) }
-        ensures pushed { let es = self.now.cx.now.entries in
+        requires held { Has self.now.context.cx.now.entries args_lists args.0 }
+        requires pending_held { ArePending self.now.context.cx.now.entries pending.old.items }
+        ensures held { OnOk result (ArePending self.now.context.cx.now.entries pending.new.items) }
+        ensures pushed { let es = self.now.context.cx.now.entries in
             OnOk result (ArePushed es (reads N.answers self.now) limit (is_first first) (trees_at es args.0) pending.old.items pending.new.items) }
         ensures on_top { OnOk result (AreOnTop limit pending.old.items pending.new.items) }
     {
-        self.cx.lawful();
-        let mut left = self.cx.args(args);
+        self.context.cx.lawful();
+        let mut left = self.context.cx.args(args);
         'types: while let Some((arg, others)) = left.split_first() {
             if let GenericArgKind::Ty(ty) = arg {
                 self.push_others(others, limit, pending)?;
@@ -147,21 +144,21 @@ impl<N: Normalize> Walk<'_, N> {
         next: Pending,
         pending: &mut Vec<Pending>,
     ) -> Result<Met, WalkError<N::Error>>
-        requires held { Has self.now.cx.now.entries types next.ty.0 }
-        requires ready { Ready self.now.cx.now.entries self.now.infcx.now }
-        requires pending_held { ArePending self.now.cx.now.entries pending.old.items }
-        ensures held { OnOk result (ArePending self.now.cx.now.entries pending.new.items) }
-        ensures met { IfOk result (MetHeld self.now.cx.now.entries) }
-        ensures visited { IsVisit self.now.cx.now.entries (reads N.answers self.now) next pending.old.items result pending.new.items }
+        requires held { Has self.now.context.cx.now.entries types next.ty.0 }
+        requires ready { Ready self.now.context.cx.now.entries self.now.context.infcx.now }
+        requires pending_held { ArePending self.now.context.cx.now.entries pending.old.items }
+        ensures held { OnOk result (ArePending self.now.context.cx.now.entries pending.new.items) }
+        ensures met { IfOk result (MetHeld self.now.context.cx.now.entries) }
+        ensures visited { IsVisit self.now.context.cx.now.entries (reads N.answers self.now) next pending.old.items result pending.new.items }
         ensures on_top { OnOk result (AreOnTop (next.limit - 1) pending.old.items pending.new.items) }
     {
-        self.cx.lawful();
+        self.context.cx.lawful();
         if next.limit == 0 {
             return Err(WalkError::Deep);
         }
         let inside = next.limit - 1;
         let ty = self.read(next.ty)?;
-        match take(self.cx, self.decls, self.in_crate, ty) {
+        match take(self.context.cx, self.context.decls, self.in_crate, ty) {
             Taken::Local => Ok(Met::Local(ty)),
             Taken::Uncovered => Ok(Met::Uncovered(ty)),
             Taken::NonLocal => Ok(Met::NonLocal(ty, next.first)),
@@ -182,11 +179,11 @@ impl<N: Normalize> Walk<'_, N> {
 
     /// Visits the next pending type. `None` if there is none.
     fn step(&self, pending: &mut Vec<Pending>) -> Result<Option<Met>, WalkError<N::Error>>
-        requires ready { Ready self.now.cx.now.entries self.now.infcx.now }
-        requires pending_held { ArePending self.now.cx.now.entries pending.old.items }
-        ensures held { OnOk result (ArePending self.now.cx.now.entries pending.new.items) }
-        ensures met { IfOk result (λ met. IfSome met (MetHeld self.now.cx.now.entries)) }
-        ensures stepped { let es = self.now.cx.now.entries in let r = reads N.answers self.now in
+        requires ready { Ready self.now.context.cx.now.entries self.now.context.infcx.now }
+        requires pending_held { ArePending self.now.context.cx.now.entries pending.old.items }
+        ensures held { OnOk result (ArePending self.now.context.cx.now.entries pending.new.items) }
+        ensures met { IfOk result (λ met. IfSome met (MetHeld self.now.context.cx.now.entries)) }
+        ensures stepped { let es = self.now.context.cx.now.entries in let r = reads N.answers self.now in
             IsStep es (pending_steps es r pending.old.items) result (pending_steps es r pending.new.items) }
     {
         match pending.pop() {
@@ -202,10 +199,10 @@ impl<N: Normalize> Walk<'_, N> {
         args: GenericArgs,
         limit: u32,
     ) -> Result<End, WalkError<N::Error>>
-        requires held { Has self.now.cx.now.entries args_lists args.0 }
-        requires ready { Ready self.now.cx.now.entries self.now.infcx.now }
-        ensures held { IfOk result (EndHeld self.now.cx.now.entries) }
-        ensures ends { IsFirstEnd self.now.cx.now.entries (steps (reads N.answers self.now) limit (trees_at self.now.cx.now.entries args.0)) result }
+        requires held { Has self.now.context.cx.now.entries args_lists args.0 }
+        requires ready { Ready self.now.context.cx.now.entries self.now.context.infcx.now }
+        ensures held { IfOk result (EndHeld self.now.context.cx.now.entries) }
+        ensures ends { IsFirstEnd self.now.context.cx.now.entries (steps_of_walk N.answers self.now limit args) result }
     {
         let mut pending = Vec::new(alloc);
         self.push_types(args, limit, IsFirstInputType::Yes, &mut pending)?;
@@ -228,10 +225,10 @@ impl<N: Normalize> Walk<'_, N> {
         args: GenericArgs,
         limit: u32,
     ) -> Result<Option<Ty>, WalkError<N::Error>>
-        requires held { Has self.now.cx.now.entries args_lists args.0 }
-        requires ready { Ready self.now.cx.now.entries self.now.infcx.now }
-        ensures held { IfOk result (λ found. IfSome found (TypeHeld self.now.cx.now.entries)) }
-        ensures ends { IsSecondEnd self.now.cx.now.entries (steps (reads N.answers self.now) limit (trees_at self.now.cx.now.entries args.0)) result }
+        requires held { Has self.now.context.cx.now.entries args_lists args.0 }
+        requires ready { Ready self.now.context.cx.now.entries self.now.context.infcx.now }
+        ensures held { IfOk result (λ found. IfSome found (TypeHeld self.now.context.cx.now.entries)) }
+        ensures ends { IsSecondEnd self.now.context.cx.now.entries (steps_of_walk N.answers self.now limit args) result }
     {
         let mut pending = Vec::new(alloc);
         self.push_types(args, limit, IsFirstInputType::Yes, &mut pending)?;
@@ -252,11 +249,10 @@ impl<N: Normalize> Walk<'_, N> {
         args: GenericArgs,
         limit: u32,
     ) -> Result<Result<(), OrphanCheckErr<Ty>>, WalkError<N::Error>>
-        requires held { Has self.now.cx.now.entries args_lists args.0 }
-        requires ready { Ready self.now.cx.now.entries self.now.infcx.now }
-        ensures held { IfOk result (λ answer. IfErr answer (ErrorHeld self.now.cx.now.entries)) }
-        ensures answers { IsOrphanAnswer self.now.cx.now.entries self.now.in_crate
-            (steps (reads N.answers self.now) limit (trees_at self.now.cx.now.entries args.0)) result }
+        requires held { Has self.now.context.cx.now.entries args_lists args.0 }
+        requires ready { Ready self.now.context.cx.now.entries self.now.context.infcx.now }
+        ensures held { IfOk result (λ answer. IfErr answer (ErrorHeld self.now.context.cx.now.entries)) }
+        ensures answers { IsOrphanAnswer self.now.context.cx.now.entries self.now.in_crate (steps_of_walk N.answers self.now limit args) result }
     {
         match self.first_end(alloc, args, limit)? {
             End::Local => Ok(Ok(())),

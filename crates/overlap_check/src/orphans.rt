@@ -18,6 +18,7 @@ use crate::header::fresh_impl_header;
 use declarations::declarations::Declarations;
 use declarations::items::ImplDef;
 use infer_table::infer_ctxt::InferCtxt;
+use orphan_check::context::OrphanCtxt;
 use orphan_check::errors::{InCrate, OrphanCheckErr, OrphanCheckMode, WalkError};
 use orphan_check::normalize::AlreadyNormal;
 use orphan_check::orphan::orphan_check_trait_ref;
@@ -59,16 +60,12 @@ fn walk_error(
     let in_crate = InCrate::Local {
         mode: OrphanCheckMode::Proper,
     };
-    match orphan_check_trait_ref(
-        alloc,
+    let context = OrphanCtxt {
         cx,
-        table,
-        declarations,
-        trait_ref,
-        in_crate,
-        limit,
-        &AlreadyNormal,
-    ) {
+        infcx: table,
+        decls: declarations,
+    };
+    match orphan_check_trait_ref(alloc, &context, trait_ref, in_crate, limit, &AlreadyNormal) {
         Ok(answer) => match answer {
             Ok(()) => Ok(None),
             Err(error) => Ok(Some(error)),

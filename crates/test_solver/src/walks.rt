@@ -4,6 +4,7 @@ ghost use Rattle.text_parser.specs.TypeTerms.Terms.{args_lists};
 
 use crate::samples::{Around, Asked, Inmost, Sample, empty_table, make, make_reference, shop};
 use declarations::declarations::Declarations;
+use orphan_check::context::OrphanCtxt;
 use orphan_check::errors::{
     Conflict, InCrate, IsFirstInputType, OrphanCheckErr, OrphanCheckMode, WalkError,
 };
@@ -230,7 +231,12 @@ fn answered(
     let mode = OrphanCheckMode::Proper;
     let local = InCrate::Local { mode };
     let reader = Reader { refuses };
-    found(orphan_check_trait_ref(alloc, cx, &infcx, decls, header, local, limit, &reader))
+    let context = OrphanCtxt {
+        cx,
+        infcx: &infcx,
+        decls,
+    };
+    found(orphan_check_trait_ref(alloc, &context, header, local, limit, &reader))
 }
 
 /// The same of a header that is made first.
@@ -297,7 +303,12 @@ fn is_known(
     requires { Has cx.now.entries args_lists trait_ref.args.0 }
 {
     let infcx = empty_table(alloc, cx);
-    match trait_ref_is_knowable(alloc, cx, &infcx, decls, trait_ref, 4, &AlreadyNormal) {
+    let context = OrphanCtxt {
+        cx,
+        infcx: &infcx,
+        decls,
+    };
+    match trait_ref_is_knowable(alloc, &context, trait_ref, 4, &AlreadyNormal) {
         Ok(answer) => Ok(answer),
         Err(_) => Err(Fault::Memory),
     }

@@ -11,7 +11,7 @@ use Rattle.orphan_check.proofs.walk.Walk.decisive.Goals as goal
 
 pub walk-init : goal.walk-init
 walk-init g c =
-    let es = c.args.self.now.cx.now.entries in
+    let es = c.args.self.now.context.cx.now.entries in
     let r = reads g.N.Normalize.answers c.args.self.now in
     let all = steps r c.args.limit (trees_at es c.args.args.0) in
     let ps = c.push_types.new.pending.items in
@@ -21,26 +21,26 @@ walk-init g c =
 
 pub walk-smaller-then-enter : goal.walk-smaller-then-enter
 walk-smaller-then-enter g c =
-    let es = c.args.self.now.cx.now.entries in
+    let es = c.args.self.now.context.cx.now.entries in
     let r = reads g.N.Normalize.answers c.args.self.now in
     passed-fewer es r (steps r c.args.limit (trees_at es c.args.args.0)) (λ v. contains visit_eq c.walk.visited.visits v) (λ v. contains visit_eq c.enter.new.self.visits v) c.walk.pending.items c.pop.new.self.items c.in-Some.next
     c.walk.invariant c.in-Some.ensures.items c.enter.ensures.one (c.enter.ensures.before c.if-enter.true)
 
 pub walk-preserved-then-enter : goal.walk-preserved-then-enter
 walk-preserved-then-enter g c =
-    let es = c.args.self.now.cx.now.entries in
+    let es = c.args.self.now.context.cx.now.entries in
     let r = reads g.N.Normalize.answers c.args.self.now in
     passed es r (steps r c.args.limit (trees_at es c.args.args.0)) (λ v. contains visit_eq c.walk.visited.visits v) (λ v. contains visit_eq c.enter.new.self.visits v) c.walk.pending.items c.pop.new.self.items c.in-Some.next
     c.walk.invariant c.in-Some.ensures.items c.enter.ensures.one (c.enter.ensures.before c.if-enter.true)
 
 pub visit-requires-clause-held : goal.visit-requires-clause-held
 visit-requires-clause-held g c =
-    let es = c.args.self.now.cx.now.entries in
+    let es = c.args.self.now.context.cx.now.entries in
     (each-pop _ c.pop.new.self.items c.in-Some.next (subst (ArePending es) c.in-Some.ensures.items c.walk.invariant.held)).1
 
 pub returns-in_err-visit : goal.returns-in_err-visit
 returns-in_err-visit g c =
-    let es = c.args.self.now.cx.now.entries in
+    let es = c.args.self.now.context.cx.now.entries in
     let r = reads g.N.Normalize.answers c.args.self.now in
     let all = steps r c.args.limit (trees_at es c.args.args.0) in
     let e = err_from_is_err_and c.from_residual-in_err-visit.result c.from_residual-in_err-visit.ensures.1 in
@@ -50,7 +50,7 @@ returns-in_err-visit g c =
 
 pub returns-in-Local : goal.returns-in-Local
 returns-in-Local g c =
-    let es = c.args.self.now.cx.now.entries in
+    let es = c.args.self.now.context.cx.now.entries in
     let r = reads g.N.Normalize.answers c.args.self.now in
     let now = c.visit.new.pending.items in (
       trees_at es c.in-Local.field-0.0,
@@ -60,7 +60,7 @@ returns-in-Local g c =
 
 pub returns-in-Uncovered : goal.returns-in-Uncovered
 returns-in-Uncovered g c =
-    let es = c.args.self.now.cx.now.entries in
+    let es = c.args.self.now.context.cx.now.entries in
     let r = reads g.N.Normalize.answers c.args.self.now in
     let now = c.visit.new.pending.items in (
       trees_at es c.in-Uncovered.field-0.0,
@@ -70,14 +70,14 @@ returns-in-Uncovered g c =
 
 pub walk-smaller : goal.walk-smaller
 walk-smaller g c =
-    let es = c.args.self.now.cx.now.entries in
+    let es = c.args.self.now.context.cx.now.entries in
     let r = reads g.N.Normalize.answers c.args.self.now in
     visit-fewer es r (steps r c.args.limit (trees_at es c.args.args.0)) (λ v. contains visit_eq c.walk.visited.visits v) (λ v. contains visit_eq c.enter.new.self.visits v) c.walk.pending.items c.pop.new.self.items c.in-Some.next
     c.walk.invariant c.in-Some.ensures.items c.enter.ensures.one c.in_ok-visit.field-0 c.visit.new.pending.items c.in_ok-visit.ensures.visited
 
 pub walk-preserved : goal.walk-preserved
 walk-preserved g c =
-    let es = c.args.self.now.cx.now.entries in
+    let es = c.args.self.now.context.cx.now.entries in
     let r = reads g.N.Normalize.answers c.args.self.now in
     let m = c.in_ok-visit.field-0 in
     visited es r (steps r c.args.limit (trees_at es c.args.args.0)) (λ v. contains visit_eq c.walk.visited.visits v) (λ v. contains visit_eq c.enter.new.self.visits v) c.walk.pending.items c.pop.new.self.items c.in-Some.next

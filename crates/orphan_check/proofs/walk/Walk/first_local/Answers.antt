@@ -7,6 +7,6 @@ use Rattle.orphan_check.proofs.walk.Walk.first_local.Goals as goal
 
 pub returns-in-Err-clause-ends : goal.returns-in-Err-clause-ends
 returns-in-Err-clause-ends g c =
-    let es = c.args.self.now.cx.now.entries in
+    let es = c.args.self.now.context.cx.now.entries in
     let r = reads g.N.Normalize.answers c.args.self.now in
     second-failed es (steps r c.args.limit (trees_at es c.args.args.0)) (pending_steps es r c.walk.pending.items) (pending_steps es r c.step.new.pending.items) c.in-Err.error (λ e q. search rules) c.walk.invariant.1 c.in-Err.ensures.stepped

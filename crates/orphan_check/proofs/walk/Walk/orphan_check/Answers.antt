@@ -9,7 +9,7 @@ use Rattle.orphan_check.proofs.walk.Walk.orphan_check.Goals as goal
 
 pub returns-in_err-local_ty-in-Local-in_crate-clause-answers : goal.returns-in_err-local_ty-in-Local-in_crate-clause-answers
 returns-in_err-local_ty-in-Local-in_crate-clause-answers g c =
-    let es = c.args.self.now.cx.now.entries in
+    let es = c.args.self.now.context.cx.now.entries in
     let ss = steps (reads g.N.Normalize.answers c.args.self.now) c.args.limit (trees_at es c.args.args.0) in
     let e = err_from_is_err_and c.from_residual-in_err-local_ty-in-Local-in_crate.result c.from_residual-in_err-local_ty-in-Local-in_crate.ensures.1 in
     subst (λ z. IsOrphanAnswer es c.args.self.now.in_crate ss z) (sym (e.1 ∙ ap Err e.2))

@@ -10,7 +10,7 @@ others-init g c = (c.requires.held, c.requires.pending_held, refl, on-top-none c
 
 pub others-preserved-in_ok-push : goal.others-preserved-in_ok-push
 others-preserved-in_ok-push g c =
-    let es = c.args.self.now.cx.now.entries in
+    let es = c.args.self.now.context.cx.now.entries in
     let r = reads g.N.Normalize.answers c.args.self.now in
     let is : c.others.left.now ≡ c.in-Some.others.now ++ Ty c.in-Ty.ty ∷ [] = c.in-Some.ensures.cases.0 ∙ ap (λ z. c.in-Some.others.now ++ z ∷ []) c.in-Ty.is in
     let held = args-held-append es c.in-Some.others.now (Ty c.in-Ty.ty) (subst (ArgsHeld es) is c.others.invariant.0) in (
@@ -23,7 +23,7 @@ others-preserved-in_ok-push g c =
 
 pub others-preserved : goal.others-preserved
 others-preserved g c =
-    let es = c.args.self.now.cx.now.entries in
+    let es = c.args.self.now.context.cx.now.entries in
     let r = reads g.N.Normalize.answers c.args.self.now in
     let is = c.in-Some.ensures.cases.0 in (
       (args-held-append es c.in-Some.others.now c.in-Some.last.now (subst (ArgsHeld es) is c.others.invariant.0)).0,

@@ -7,7 +7,7 @@ use Rattle.orphan_check.proofs.walk.Walk.push_others.Given as goal
 
 abbrev pub invariant-others : goal.invariant-others
 invariant-others g l =
-    let es = l.self.cx.now.entries in
+    let es = l.self.context.cx.now.entries in
     let r = reads g.N.Normalize.answers l.self in
     ArgsHeld es l.left × ArePending es l.pending.items
     × (steps_in (λ f u. steps_to r l.fn.limit f u) false (args_trees es l.fn.args) ++ pending_steps es r l.fn.pending.items

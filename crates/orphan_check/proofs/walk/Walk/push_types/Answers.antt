@@ -10,11 +10,11 @@ use Rattle.orphan_check.proofs.Stepping.{on-top-none, on-top-push, push-steps, f
 use Rattle.orphan_check.proofs.walk.Walk.push_types.Goals as goal
 
 pub push_others-requires-clause-pending_held : goal.push_others-requires-clause-pending_held
-push_others-requires-clause-pending_held g c = subst (ArePending c.args.self.now.cx.now.entries) (sym c.types.invariant.1) c.requires.pending_held
+push_others-requires-clause-pending_held g c = subst (ArePending c.args.self.now.context.cx.now.entries) (sym c.types.invariant.1) c.requires.pending_held
 
 pub returns-in-Ty-clause-pushed : goal.returns-in-Ty-clause-pushed
 returns-in-Ty-clause-pushed g c =
-    let es = c.args.self.now.cx.now.entries in
+    let es = c.args.self.now.context.cx.now.entries in
     let r = reads g.N.Normalize.answers c.args.self.now in
     let n = c.args.limit in
     let first = is_first c.args.first in
@@ -33,7 +33,7 @@ returns-in-Ty-clause-on_top g c =
 
 pub types-preserved : goal.types-preserved
 types-preserved g c =
-    let es = c.args.self.now.cx.now.entries in
+    let es = c.args.self.now.context.cx.now.entries in
     let r = reads g.N.Normalize.answers c.args.self.now in
     let is = c.in-Some.ensures.cases.0 in (
       (subst (ArgsHeld es) is c.types.invariant.0).1,
@@ -43,11 +43,11 @@ types-preserved g c =
     )
 
 pub returns-clause-held : goal.returns-clause-held
-returns-clause-held g c = subst (ArePending c.args.self.now.cx.now.entries) (sym c.types.invariant.1) c.requires.pending_held
+returns-clause-held g c = subst (ArePending c.args.self.now.context.cx.now.entries) (sym c.types.invariant.1) c.requires.pending_held
 
 pub returns-clause-pushed : goal.returns-clause-pushed
 returns-clause-pushed g c =
-    let es = c.args.self.now.cx.now.entries in
+    let es = c.args.self.now.context.cx.now.entries in
     let r = reads g.N.Normalize.answers c.args.self.now in
     ap (pending_steps es r) c.types.invariant.1
     ∙ ap (λ z. z ++ pending_steps es r c.args.pending.now.items)

@@ -9,7 +9,7 @@ use Rattle.orphan_check.proofs.walk.Walk.push_types.Given as goal
 
 abbrev pub invariant-types : goal.invariant-types
 invariant-types g l =
-    let es = l.self.cx.now.entries in
+    let es = l.self.context.cx.now.entries in
     let r = reads g.N.Normalize.answers l.self in
     ArgsHeld es l.left × (l.pending.items ≡ l.fn.pending.items)
     × (steps_in (λ f u. steps_to r l.fn.limit f u) (is_first l.fn.first) (trees_at es l.fn.args.0)

@@ -9,7 +9,7 @@ use Rattle.orphan_check.proofs.walk.Walk.visit.Goals as goal
 
 pub returns-then-next-eq0-clause-visited : goal.returns-then-next-eq0-clause-visited
 returns-then-next-eq0-clause-visited g c =
-    let es = c.args.self.now.cx.now.entries in
+    let es = c.args.self.now.context.cx.now.entries in
     let r = reads g.N.Normalize.answers c.args.self.now in
     let p = c.args.next in (
       trees_at es p.ty.0,
@@ -20,7 +20,7 @@ returns-then-next-eq0-clause-visited g c =
 
 pub returns-in_err-ty-clause-visited : goal.returns-in_err-ty-clause-visited
 returns-in_err-ty-clause-visited g c =
-    let es = c.args.self.now.cx.now.entries in
+    let es = c.args.self.now.context.cx.now.entries in
     let r = reads g.N.Normalize.answers c.args.self.now in
     let ps = c.args.pending.now.items in
     let p = c.args.next in
@@ -29,7 +29,7 @@ returns-in_err-ty-clause-visited g c =
 
 pub returns-in-Local-clause-visited : goal.returns-in-Local-clause-visited
 returns-in-Local-clause-visited g c =
-    let es = c.args.self.now.cx.now.entries in
+    let es = c.args.self.now.context.cx.now.entries in
     let r = reads g.N.Normalize.answers c.args.self.now in
     let p = c.args.next in
     first-steps es r c.args.pending.now.items p (suc (p.limit - 1)) _ (positive p.limit c.if-next-eq0.false)
@@ -40,7 +40,7 @@ returns-in-Local-clause-on_top g c = on-top-none (c.args.next.limit - 1) c.args.
 
 pub returns-in-Uncovered-clause-visited : goal.returns-in-Uncovered-clause-visited
 returns-in-Uncovered-clause-visited g c =
-    let es = c.args.self.now.cx.now.entries in
+    let es = c.args.self.now.context.cx.now.entries in
     let r = reads g.N.Normalize.answers c.args.self.now in
     let p = c.args.next in
     first-steps es r c.args.pending.now.items p (suc (p.limit - 1)) _ (positive p.limit c.if-next-eq0.false)
@@ -51,7 +51,7 @@ returns-in-Uncovered-clause-on_top g c = on-top-none (c.args.next.limit - 1) c.a
 
 pub returns-in-NonLocal-clause-visited : goal.returns-in-NonLocal-clause-visited
 returns-in-NonLocal-clause-visited g c =
-    let es = c.args.self.now.cx.now.entries in
+    let es = c.args.self.now.context.cx.now.entries in
     let r = reads g.N.Normalize.answers c.args.self.now in
     let p = c.args.next in
     first-steps es r c.args.pending.now.items p (suc (p.limit - 1)) _ (positive p.limit c.if-next-eq0.false)
@@ -62,7 +62,7 @@ returns-in-NonLocal-clause-on_top g c = on-top-none (c.args.next.limit - 1) c.ar
 
 pub returns-in_ok-push-in-Reference-clause-visited : goal.returns-in_ok-push-in-Reference-clause-visited
 returns-in_ok-push-in-Reference-clause-visited g c =
-    let es = c.args.self.now.cx.now.entries in
+    let es = c.args.self.now.context.cx.now.entries in
     let r = reads g.N.Normalize.answers c.args.self.now in
     let ps = c.args.pending.now.items in
     let p = c.args.next in
@@ -78,7 +78,7 @@ returns-in_ok-push-in-Reference-clause-on_top g c =
 
 pub returns-in_ok-push_types-in-Fundamental-clause-visited : goal.returns-in_ok-push_types-in-Fundamental-clause-visited
 returns-in_ok-push_types-in-Fundamental-clause-visited g c =
-    let es = c.args.self.now.cx.now.entries in
+    let es = c.args.self.now.context.cx.now.entries in
     let r = reads g.N.Normalize.answers c.args.self.now in
     let p = c.args.next in
     first-steps es r c.args.pending.now.items p (suc (p.limit - 1)) _ (positive p.limit c.if-next-eq0.false)
