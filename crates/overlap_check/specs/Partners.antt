@@ -25,4 +25,6 @@ NoPairAt V c k j = (x y : ImplDecl) → IsPair V c x y → x.name ≡ k → y.na
 
 -- If the indices of all impls are below `end`, so are those of each pair.
 abbrev pub PairsAreBelow : Type 0
-PairsAreBelow = (es : List Entry) (d : Items) (end : ℕ) → IsAbove end d → (x y : ImplDecl) → IsPair (declared es d) d.local x y → (x.name < end) × (y.name < end)
+PairsAreBelow =
+    (es : List Entry) (d : Items) (end : ℕ) → IsAbove end d → (x y : ImplDecl) → IsPair (declared es d) d.local x y
+    → (x.name < end) × (y.name < end)

@@ -24,22 +24,26 @@ HeadlineOfHeldSets =
     → ((v : View) → In v accepted_views → IsVerdict limit v.world v.asker accepted × IsHeld v.world v.asker)
     → Headline W accepted_views × AnswersHold limit W asked_views
 
--- Both of texts that each list the auto traits of a `dyn` in an order of its own: what was answered is said of W in W's order.
+-- A pair of a text is cleared in W, in W's order of auto traits.
+abbrev pub IsClearedIn : World → Listed → ImplDecl → ImplDecl → Type 0
+IsClearedIn W o i j = Cleared W (placed_impl o.order o.view i) (placed_impl o.order o.view j)
+
+-- The two laws for texts that list the auto traits of a `dyn` type in different orders. The laws are about W, with W's order.
 pub record HeadlineInOrder (limit : ℕ) (W : World) (accepted_texts asked_texts : List Listed) : Type 0 where
   pub one_impl : (r : Reference) → IsTrue (is_closed r.args) → (n k : ℕ) → HasProofByImpl W [] r n → HasProofByImpl W [] r k → n ≡ k
   pub unrelated : (i j : ImplDecl) → In i W.impls → In j W.impls → sees W i.home j.home ≡ false → sees W j.home i.home ≡ false → CommonInstance i j → ⊥
-  pub cleared : (o : Listed) → In o accepted_texts → (i j : ImplDecl) → IsPair o.view.world o.view.asker i j → Cleared W (placed_impl o.order o.view i) (placed_impl o.order o.view j)
-  -- no closed values, in the text's order, with which the question has a proof here
+  pub cleared : (o : Listed) → In o accepted_texts → (i j : ImplDecl) → IsPair o.view.world o.view.asker i j → IsClearedIn W o i j
+  -- no concrete values, in the text's order, with which the query has a proof here
   pub no_holds : (o : Listed) → In o asked_texts → (ks : List Sort) (r : Reference) → IsRefuteAnswer limit o.view.world o.view.asker ks r no
       → SolutionBy (λ q. HasProof W [] (arranged_reference (turned_back o.order) q)) ks (renumbered_reference o.view.numbers r) → ⊥
   pub yes_holds : (o : Listed) → In o asked_texts → (ks : List Sort) (ts : List Trees) (r : Reference) → IsProveAnswer limit o.view.world ks [] r (yes ts)
       → HasProof W [] (placed_reference o.order o.view (filled_reference ks ts r))
 
+-- These laws hold in each linked set of such texts.
 abbrev pub HeadlineInAnyOrder : Type 0
 HeadlineInAnyOrder =
     (limit : ℕ) (W : World) (accepted_texts asked_texts : List Listed) (rank : ℕ → ℕ) → LinkedSet W [] rank
     → ((o : Listed) → In o (accepted_texts ++ asked_texts) → HoldsInOrder W o.order o.view)
--- These laws hold in each linked set of such texts.
     → ((i : ImplDecl) → In i W.impls → IsAnsweredInOrder accepted_texts i)
     → ((o : Listed) → In o accepted_texts → IsVerdict limit o.view.world o.view.asker accepted)
     → HeadlineInOrder limit W accepted_texts asked_texts
@@ -66,11 +70,11 @@ pub record CoversRight (i j : ImplDecl) (k : Reference) (ks : List Sort) (g : Re
   pub closed : (m : CommonInstance i j) → Every (λ t. IsTrue (is_closed t)) (values m)
   pub instance_of : (m : CommonInstance i j) → with_args m.right k ≡ filled_reference ks (values m) g
 
+-- The goal covers some where-clause of the pair.
 abbrev pub CoversClause : ImplDecl → ImplDecl → List Sort → Reference → Type 0
 CoversClause i j ks g = ((k : Reference) × CoversLeft i j k ks g) ⊎ ((k : Reference) × CoversRight i j k ks g)
 
 -- A pair is cleared if a goal that covers a where-clause is refuted.
--- The goal covers some where-clause of the pair.
 abbrev pub RefusedClauseClears : Type 0
 RefusedClauseClears = (V : World) (c : ℕ) (i j : ImplDecl) (ks : List Sort) (g : Reference) → CoversClause i j ks g → IsRefuted V c ks g → IsCleared V c i j
 
@@ -78,17 +82,29 @@ RefusedClauseClears = (V : World) (c : ℕ) (i j : ImplDecl) (ks : List Sort) (g
 abbrev pub IsPassed : World → ℕ → ImplDecl → ImplDecl → Type 0
 IsPassed V c i j = (CommonInstance i j → ⊥) ⊎ ((ks : List Sort) × (g : Reference) × CoversClause i j ks g × IsRefuted V c ks g)
 
+-- A crate that keeps the orphan rule, and of which each pair is accepted, is accepted.
 abbrev pub PassedIsAccepted : Type 0
 PassedIsAccepted = (V : World) (c : ℕ) → KeepsOrphanRule V c → ((i j : ImplDecl) → IsPair V c i j → IsPassed V c i j) → IsAccepted V c
 
--- What `check_crate` finds of a pair that it refuses: a common instance, and for each where-clause a goal that covers it, holds no
--- A crate that keeps the orphan rule, and of which each pair is accepted, is accepted.
--- unknown where the clause is fixed, and was left open.
+-- A goal covers the where-clause k of i, and the solver did not refute it. It has no variables if the clause is fixed.
+abbrev pub HasOpenGoalLeft : ℕ → World → ℕ → ImplDecl → ImplDecl → Reference → Type 0
+HasOpenGoalLeft limit V c i j k =
+    (ks : List Sort) × (g : Reference) × CoversLeft i j k ks g × IsRefuteAnswer limit V c ks g unrefuted
+    × ((r : Reference) → FixedLeft i j k r → some_node is_variable g.args ≡ false)
+
+-- The same for a where-clause of j.
+abbrev pub HasOpenGoalRight : ℕ → World → ℕ → ImplDecl → ImplDecl → Reference → Type 0
+HasOpenGoalRight limit V c i j k =
+    (ks : List Sort) × (g : Reference) × CoversRight i j k ks g × IsRefuteAnswer limit V c ks g unrefuted
+    × ((r : Reference) → FixedRight i j k r → some_node is_variable g.args ≡ false)
+
+-- `check_crate` refuses a pair only if it has a common instance, and each where-clause has a goal that was not refuted.
 pub record IsRefused (limit : ℕ) (V : World) (c : ℕ) (i j : ImplDecl) : Type 0 where
   pub common : CommonInstance i j
-  pub left : (k : Reference) → In k i.clauses → (ks : List Sort) × (g : Reference) × CoversLeft i j k ks g × IsRefuteAnswer limit V c ks g unrefuted × ((r : Reference) → FixedLeft i j k r → some_node is_variable g.args ≡ false)
-  pub right : (k : Reference) → In k j.clauses → (ks : List Sort) × (g : Reference) × CoversRight i j k ks g × IsRefuteAnswer limit V c ks g unrefuted × ((r : Reference) → FixedRight i j k r → some_node is_variable g.args ≡ false)
+  pub left : (k : Reference) → In k i.clauses → HasOpenGoalLeft limit V c i j k
+  pub right : (k : Reference) → In k j.clauses → HasOpenGoalRight limit V c i j k
 
+-- A refused pair really overlaps.
 abbrev pub RefusedIsReal : Type 0
 RefusedIsReal = (limit : ℕ) (V : World) (c : ℕ) (i j : ImplDecl) → IsRefused limit V c i j → IsRealOverlap limit V c i j
 
@@ -104,6 +120,5 @@ abbrev pub BoundedIsRefuted : Type 0
 BoundedIsRefuted =
     (limit : ℕ) (V : World) (c : ℕ) (ks : List Sort) (r : Reference) → is_bounded limit V c r ≡ true
     → (is_possible limit V c r ≡ false → IsRefuteAnswer limit V c ks r no)
--- A refused pair really overlaps.
     × (IsRefuteAnswer limit V c ks r no → is_possible limit V c r ≡ false)
     × (IsRefuteAnswer limit V c ks r no → HasProof V [] r → ⊥)

@@ -26,14 +26,16 @@ ForeignLeaf =
 -- variable.
 abbrev pub VariableUncoveredBeforeLocal : Type 0
 VariableUncoveredBeforeLocal =
-    let V = view_of (beside_core (struct 10 first [] ∷ []) (trait_of 20 base [] ∷ []) (impl_of 100 first 1 (to 20 (applied box T) (leaf (adt 10))) [] ∷ [])) first in
+    let show_for_box = impl_of 100 first 1 (to 20 (applied box T) (leaf (adt 10))) [] in
+    let V = view_of (beside_core (struct 10 first [] ∷ []) (trait_of 20 base [] ∷ []) (show_for_box ∷ [])) first in
     IsVerdict 8 V first (orphan 100 (uncovered (leaf (infer of_type 0)) (Some (leaf (adt 10)))))
 
 -- `crate base; fundamental struct Pair<T, U>`: in `Pair<u8, bool>, str` only u8 has the flag of the first input type.
 abbrev pub FlagsOfLeaves : Type 0
 FlagsOfLeaves =
     let V = beside_core (fundamental_struct 10 base ∷ []) [] [] in
-    foreign_leaves (items V (Some first) true (tree (adt 10) (tree (uint 0) none (leaf bool)) (leaf str))) ≡ (u8, true) ∷ (leaf bool, false) ∷ (leaf str, false) ∷ []
+    let args = tree (adt 10) (tree (uint 0) none (leaf bool)) (leaf str) in
+    foreign_leaves (items V (Some first) true args) ≡ (u8, true) ∷ (leaf bool, false) ∷ (leaf str, false) ∷ []
 
 -- ---- pairs
 -- `crate base; trait Show; trait Num; impl<T> Show for T where T: Num; crate first uses base; struct A; impl Show for A`: the headers
@@ -50,11 +52,16 @@ cleared_view = view_of (beside_core (struct 10 first [] ∷ []) (trait_of 20 bas
 abbrev pub ClearedByAClause : Type 0
 ClearedByAClause = IsPair cleared_view first show_for_a show_blanket × CommonInstance show_for_a show_blanket × IsVerdict 8 cleared_view first accepted
 
--- `crate base; trait Num; crate first uses base; trait Mine; impl<T> Mine for T where T: Num; impl Mine for u8`: base may write
--- `impl Num for u8` some day.
+-- `crate base; trait Num; crate first uses base; trait Mine; impl<T> Mine for T where T: Num; impl Mine for u8`: a later version
+-- of base may have `impl Num for u8`.
+abbrev pub day_blanket : ImplDecl
+day_blanket = impl_of 100 first 1 (asked 21 T) (asked 20 T ∷ [])
+
+abbrev pub day_for_u8 : ImplDecl
+day_for_u8 = impl_of 101 first 0 (asked 21 u8) []
+
 abbrev pub day_view : World
-day_view =
-    view_of (beside_core [] (trait_of 20 base [] ∷ trait_of 21 first [] ∷ []) (impl_of 100 first 1 (asked 21 T) (asked 20 T ∷ []) ∷ impl_of 101 first 0 (asked 21 u8) [] ∷ [])) first
+day_view = view_of (beside_core [] (trait_of 20 base [] ∷ trait_of 21 first [] ∷ []) (day_blanket ∷ day_for_u8 ∷ [])) first
 
 abbrev pub RefusedForSomeDay : Type 0
 RefusedForSomeDay = IsVerdict 8 day_view first (overlap 101 100)
@@ -80,7 +87,8 @@ mine_for_u8 = impl_of 103 first 0 (asked 22 u8) []
 abbrev pub later_view : World
 later_view =
     view_of
-    (beside_core (struct 10 first [] ∷ []) (trait_of 20 base [] ∷ trait_of 21 base [] ∷ trait_of 22 first [] ∷ []) (show_blanket ∷ show_for_a ∷ mine_blanket ∷ mine_for_u8 ∷ []))
+    (beside_core (struct 10 first [] ∷ []) (trait_of 20 base [] ∷ trait_of 21 base [] ∷ trait_of 22 first [] ∷ [])
+    (show_blanket ∷ show_for_a ∷ mine_blanket ∷ mine_for_u8 ∷ []))
     first
 
 abbrev pub ALaterPairIsRefused : Type 0
@@ -145,12 +153,23 @@ fn_of_char others = tree (fn_ptr 0) (tree char none (leaf tuple)) others
 abbrev pub fn_is_sub : Trees → Reference
 fn_is_sub a = record { trait = 20; args = fn_of_char a }
 
+-- `Self: FnOnce<(A,)>`, the supertrait of Sub
+abbrev pub sub_bound : Reference
+sub_bound = record { trait = fn_once; args = tree (param of_type 0) none (tree tuple (leaf (param of_type 1)) none) }
+
+abbrev pub sub_for_fn : ImplDecl
+sub_for_fn = impl_of 100 base 0 (fn_is_sub (leaf bool)) []
+
+abbrev pub mine_for_bool : ImplDecl
+mine_for_bool = impl_of 101 first 0 (asked 21 (leaf bool)) []
+
+abbrev pub mine_for_s : ImplDecl
+mine_for_s = impl_of 102 first 1 (asked 21 (applied 10 T)) (fn_is_sub T ∷ asked 21 T ∷ [])
+
 abbrev pub alone_view : World
 alone_view =
     view_of
-    (beside_core (struct 10 first [] ∷ [])
-    (trait_of 20 base (record { trait = fn_once; args = tree (param of_type 0) none (tree tuple (leaf (param of_type 1)) none) } ∷ []) ∷ trait_of 21 first [] ∷ [])
-    (impl_of 100 base 0 (fn_is_sub (leaf bool)) [] ∷ impl_of 101 first 0 (asked 21 (leaf bool)) [] ∷ impl_of 102 first 1 (asked 21 (applied 10 T)) (fn_is_sub T ∷ asked 21 T ∷ []) ∷ []))
+    (beside_core (struct 10 first [] ∷ []) (trait_of 20 base (sub_bound ∷ []) ∷ trait_of 21 first [] ∷ []) (sub_for_fn ∷ mine_for_bool ∷ mine_for_s ∷ []))
     first
 
 abbrev pub ProvedAloneAndRefuted : Type 0

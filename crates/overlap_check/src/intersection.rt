@@ -6,7 +6,8 @@ ghost use Rattle.type_terms.specs.Growth.{GrewOrFull};
 ghost use Rattle.infer_table.specs.Content.{Table};
 ghost use Rattle.declarations.specs.Applied.{references_in, TraitRefsHeld};
 ghost use Rattle.declarations.specs.Held.{ImplHeld};
-ghost use Rattle.overlap_check.specs.Headers.{AreDisjointImpls, AreEqualHeaders, IsIntersection, IsPosed, IsSolved, IsUnknownsFor, IsWithoutVariables, empty_table};
+ghost use Rattle.overlap_check.specs.Headers.{AreDisjointImpls, AreEqualHeaders, IsIntersection, IsPosed, IsSolved};
+ghost use Rattle.overlap_check.specs.Headers.{IsUnknownsFor, IsWithoutVariables, empty_table};
 ghost use Rattle.overlap_check.specs.Written.{IsWrittenWell};
 
 use crate::equate::equate_impl_headers;

@@ -3,11 +3,15 @@
 
 ghost use Rattle.type_terms.specs.Promised.ReadByLaws.{ImplRulesAreInstances};
 ghost use Rattle.type_terms.specs.Promised.SetLaws.{AnswersHoldEverywhere, HeadlineHolds};
-ghost use Rattle.overlap_check.specs.Laws.{ApartHaveNoInstance, OtherTraitsHaveNoInstance, EquatedHaveGoals, RefusedGoalPasses, OpenGoalsRefuse, ValuesAreOfSolutions};
+ghost use Rattle.overlap_check.specs.Laws.{ApartHaveNoInstance, OtherTraitsHaveNoInstance, EquatedHaveGoals};
+ghost use Rattle.overlap_check.specs.Laws.{RefusedGoalPasses, OpenGoalsRefuse, ValuesAreOfSolutions};
 ghost use Rattle.overlap_check.specs.Partners.{PairsAreBelow};
 ghost use Rattle.overlap_check.specs.Written.{WrittenIsInstantiable};
-ghost use Rattle.overlap_check.specs.SessionLaws.{RefusedIsReal, ApartIsCleared, BoundedIsRefuted, DecidedIsAnswered, HeadlineInAnyOrder, HeadlineOfHeldSets, PassedIsAccepted, RefusedClauseClears};
-ghost use Rattle.overlap_check.specs.Worked.{ALaterPairIsRefused, ClearedByAClause, FlagsOfLeaves, ForeignLeaf, LifetimesAlone, NotAcceptedUnlinked, ParametersStandForThemselves, ProvedAloneAndRefuted, RefusedForSomeDay, RefutedForAllValues, TwoTextsAccepted, VariableUncoveredBeforeLocal, ValuesOfBothKinds};
+ghost use Rattle.overlap_check.specs.SessionLaws.{RefusedIsReal, ApartIsCleared, BoundedIsRefuted, DecidedIsAnswered};
+ghost use Rattle.overlap_check.specs.SessionLaws.{HeadlineInAnyOrder, HeadlineOfHeldSets, PassedIsAccepted, RefusedClauseClears};
+ghost use Rattle.overlap_check.specs.Worked.{ALaterPairIsRefused, ClearedByAClause, FlagsOfLeaves, ForeignLeaf, LifetimesAlone};
+ghost use Rattle.overlap_check.specs.Worked.{NotAcceptedUnlinked, ParametersStandForThemselves, ProvedAloneAndRefuted, RefusedForSomeDay};
+ghost use Rattle.overlap_check.specs.Worked.{RefutedForAllValues, TwoTextsAccepted, VariableUncoveredBeforeLocal, ValuesOfBothKinds};
 
 // ---- pairs of impls
 
