@@ -1,4 +1,4 @@
--- The goals that are decided: references with where-clauses over canonical variables.
+-- The goals that are decided: trait references with where-clauses, over canonical variables.
 use Rattle.std.specs.Prelude.{Bool, true, false, ◌&&◌, ◌||◌, ◌==◌, not, List, [], ◌∷◌, Option, Some, None}
 use Rattle.type_terms.specs.Promised.Label.{Label, of_type, of_trait, predicate, canonical}
 use Rattle.type_terms.specs.Promised.Trees.{Trees, none, tree, erase_label, is_sort, sort_of}
@@ -14,17 +14,17 @@ use Rattle.goal_evaluator.specs.FrameTables.{kind_at}
 use Rattle.goal_evaluator.specs.Variables.{is_variable_over}
 use Rattle.candidate_model.specs.Facts.{clauses_of}
 
--- a goal over variables of these kinds
+-- A goal over variables of these kinds.
 pub record GoalOverKinds : Type 0 where
   pub kinds : List CanonicalVarKind
   pub environment : Trees
   pub reference : Reference
 
--- the where-clauses that speak of traits
+-- The where-clauses that are trait references.
 abbrev pub clauses : GoalOverKinds → List Reference
 clauses a = clauses_of a.environment
 
--- the kinds, if all are known
+-- The list of the kinds, if each of them is given.
 abbrev pub with_first : Option CanonicalVarKind → Option (List CanonicalVarKind) → Option (List CanonicalVarKind)
 with_first (Some k) (Some ks) = Some (k ∷ ks)
 with_first (Some k) None = None
@@ -34,16 +34,16 @@ abbrev pub all_known : List (Option CanonicalVarKind) → Option (List Canonical
 all_known [] = Some []
 all_known (o ∷ os) = with_first o (all_known os)
 
--- each clause has terms over these variables, and is none itself
+-- The terms of each where-clause are over these variables. No where-clause is itself a variable.
 abbrev pub are_clauses : List CanonicalVarKind → Trees → Bool
 are_clauses kinds none = true
 are_clauses kinds (tree l c o) = not (is_open l) && (is_made (is_variable_over kinds) terms c && are_clauses kinds o)
 
--- the label is that of a type which is no open place
+-- The label is of a type, and is neither a parameter nor a variable nor a placeholder.
 abbrev pub is_rigid : Label → Bool
 is_rigid l = is_sort (sort_of l) of_type && not (is_open l)
 
--- the self type is a variable, or its outermost constructor is known
+-- The first term is a type: a canonical variable, or a type with a rigid head.
 abbrev pub begins_with_type : Trees → Bool
 begins_with_type none = false
 begins_with_type (tree (canonical of_type i) c o) = true
@@ -63,12 +63,12 @@ asked_with V environment (tree (predicate (of_trait t)) args none) (Some kinds) 
     asked_if (written_in V a.reference && (is_made (is_variable_over kinds) terms args && ((begins_with_type args && (not (t == unsize) || begins_with_type (next_of args))) && are_clauses kinds environment))) a
 asked_with V environment asks kinds = None
 
--- the goal that a canonical form asks, if it is made as such forms are and names what the view declares
+-- The goal of a canonical form, if it is well-formed: the view declares all names, and its terms are over the form's variables.
 abbrev pub goal_over_kinds : World → CanonicalForm → Option GoalOverKinds
 goal_over_kinds V f = asked_with V f.goal.environment f.goal.predicate (all_known f.kinds)
 
 -- ---- the self type, and the type after it
--- the arguments, the self type first, whose head is read up to lifetimes: a fn pointer's binder does not count
+-- The arguments, with the head of the first without lifetimes: the binder of a `fn` pointer has no number of lifetimes.
 abbrev pub with_plain_head : Trees → Trees
 with_plain_head none = none
 with_plain_head (tree l c o) = tree (erase_label l) c o
@@ -76,7 +76,7 @@ with_plain_head (tree l c o) = tree (erase_label l) c o
 abbrev pub self_of : GoalOverKinds → Trees
 self_of a = with_plain_head a.reference.args
 
--- the first of the trees is an unknown type
+-- The first term is an inference variable of a type.
 abbrev pub is_unknown_kind : Option CanonicalVarKind → Bool
 is_unknown_kind (Some Ty) = true
 is_unknown_kind k = false

@@ -1,4 +1,4 @@
--- Each solution of a goal is one by a candidate.
+-- Each solution of a goal is a solution by a candidate.
 use Rattle.std.specs.Prelude.{◌≡◌, ℕ, ◌&&◌, true, false, List, [], ◌∷◌, ◌++◌, map, Some}
 use Rattle.type_terms.specs.Promised.Label.{dynamic}
 use Rattle.type_terms.specs.Promised.Trees.{Trees, none, tree}
@@ -27,65 +27,65 @@ use Rattle.candidate_model.specs.Candidates.{Candidate, unknowable, by_clauses, 
 use Rattle.candidate_model.specs.Determined.{ImplsAreDetermined}
 use Rattle.candidate_model.specs.Solver.{Searched, IsSolution, has_placeholder}
 
--- as many terms as there are kinds
+-- The terms, cut or filled up so that there is one for each kind.
 abbrev pub padded : List CanonicalVarKind → List Trees → List Trees
 padded [] ts = []
 padded (k ∷ ks) ts = first_term ts ∷ padded ks (other_terms ts)
 
--- what stands for the canonical variables of a candidate: the goal's values, and behind them terms for its own
+-- The values of a candidate's canonical variables: the goal's values, followed by terms for its own variables.
 abbrev pub slots : List CanonicalVarKind → Values → List Trees → List Trees
 slots ks v own = padded ks v.terms ++ own
 
 abbrev pub nested_at : List Trees → Nested → Fact
 nested_at ts n = record { trait = trait_of n.goal.predicate; goal = goal_read (given ts) n.goal; proper = true }
 
--- terms for the candidate's own variables, as tables have them, with which its equations hold and its premises are solutions
+-- There are terms for the candidate's own variables, in the form of tables. With them its equations hold, and its premises are solutions.
 pub record SolvesEquations (H : Reference → Type 0) (kinds : List CanonicalVarKind) (v : Values) (c : Candidate) : Type 0 where
   pub own : List Trees
   pub sorted : as_slots c.kinds own ≡ own
   pub equal : Every (λ (e : Equation). read_with (given (slots kinds v own)) e.left.trees ≡ read_with (given (slots kinds v own)) e.right.trees) c.equations
   pub solves : Every (λ n. IsSolution H (nested_at (slots kinds v own) n)) c.nested
 
--- the terms of the equations are made as terms are, each of its sort
+-- Both sides of each equation are well-formed terms of their kind.
 abbrev pub AreTermsOf : Candidate → Type 0
 AreTermsOf c = Every (λ (e : Equation). (term_of e.left ≡ e.left.trees) × (term_of e.right ≡ e.right.trees)) c.equations
 
--- the supertraits of a `dyn` type's principal trait have made terms as arguments
+-- If the self type is a `dyn`, its principal and the supertraits have well-formed arguments.
 abbrev pub BoundsAreTerms : World → GoalOverKinds → Type 0
 BoundsAreTerms V a =
     (bounds others : Trees) → self_of a ≡ tree dynamic bounds others
     → Every (λ (r : Reference). is_made is_open_label terms r.args ≡ true) (elaborate V (principal_with (tree dynamic bounds none) bounds))
 
--- the table of the candidate allows these terms, and with them it realizes the values
+-- If terms solve a candidate's equations and premises, the candidate realizes the values in its table.
 abbrev pub GivenIsRealized : Type 0
 GivenIsRealized =
     (m : ViewMeaning) (w : SolutionPlace m) (kinds : List CanonicalVarKind) (v : Values) (c : Candidate) → AreTermsOf c → has_placeholder kinds ≡ false → has_placeholder c.kinds ≡ false
     → (v.proper && fits (map Some kinds) v.terms) ≡ true → SolvesEquations (proved_at w) kinds (with_slots kinds v) c → Realizes frame_tables (IsSolution (proved_at w)) (begin kinds) v c
 
--- all candidates but the unknowable one
+-- All candidates except the unknowable one.
 abbrev pub all_candidates : World → GoalOverKinds → List Candidate
 all_candidates V a = by_clauses V a (clauses a) ++ (built_in V a ++ (by_impls V a V.impls ++ by_objects V a))
 
 abbrev pub goal_fact : CanonicalForm → Values → Fact
 goal_fact f v = fact_of (record { form = f; coinductive = false }) v
 
--- of a goal that gives its structs their lifetimes: where it is knowable each solution is one by a candidate, and in any case it is one
--- by the unknowable candidate
+-- For a goal whose structs have arguments for the lifetimes that their fields name: each solution is one by the unknowable candidate, and
+-- if the goal is knowable, also one by another candidate.
 abbrev pub SolutionsAreCandidates : ViewMeaning → Type 0
 SolutionsAreCandidates m =
     (f : CanonicalForm) (a : GoalOverKinds) → goal_over_kinds m.view f ≡ Some a → begins_unknown a.kinds (self_of a) ≡ false → goal_gives_lifetimes m.view a ≡ true
     → (w : Searched m f) (v : Values) → IsSolution (proved_at w.place) (goal_fact f v)
     → (is_knowable m.view m.crate a.reference ≡ true → SomeOf (SolvesEquations (proved_at w.place) a.kinds v) (all_candidates m.view a)) × SolvesEquations (proved_at w.place) a.kinds v (unknowable m.view a)
 
--- the reference with terms for its variables
+-- The trait reference with terms for its variables.
 abbrev pub read_reference : List Trees → Reference → Reference
 read_reference ts r = record { trait = r.trait; args = read_with (given ts) r.args }
 
--- closed, with a proof
+-- The trait reference is concrete, and has a proof.
 abbrev pub Proved : (Reference → Type 0) → Reference → Type 0
 Proved H r = (is_closed r.args ≡ true) × H r
 
--- by the crate's view alone, and in every linked set that holds it, each solution is one by the candidates that are considered
+-- Each solution is one by the candidates that are considered, both by the crate's view alone and in every linked set with it.
 abbrev pub SolutionsAreByCandidates : Type 0
 SolutionsAreByCandidates =
     (m : ViewMeaning) → is_declared_view m.view ≡ true → ImplsAreDetermined m.view → BoundsAreErased m.view → (rank : ℕ → ℕ) → LeadDown m.view rank → SolutionsAreCandidates m

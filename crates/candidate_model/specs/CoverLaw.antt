@@ -1,4 +1,5 @@
--- In coherence each solution of a goal, by the view and in every linked set with the crate, is realized by a candidate that was considered before the answer.
+-- In coherence, a candidate that was considered before the answer realizes each solution of a goal, by the view and in every linked set
+-- with the crate.
 use Rattle.std.specs.Prelude.{◌≡◌, ℕ, suc, ◌≤◌, Bool, true, List, ◌∷◌, length, Option, Some}
 use Rattle.type_terms.specs.Promised.Worlds.{World}
 use Rattle.infer_table.specs.Canonical.{CanonicalForm}
@@ -23,21 +24,21 @@ use Rattle.candidate_model.specs.Candidates.{unknowable}
 use Rattle.candidate_model.specs.Solver.{solver_handled}
 use Rattle.candidate_model.specs.Cover.{BoundsAreTerms, all_candidates}
 
--- the law `cover` of answers, for all answers of a handler
+-- The law `cover` of answers, for all answers of a handler.
 abbrev pub AnswersCover : Handled frame_tables → Type 0
 AnswersCover h =
     (seen : List (Considered (workings frame_tables))) (a : Option AnswerTrees) (ignored : List ℕ) → IsHistory (workings frame_tables) h.next seen → h.next seen ≡ answer a ignored
     → (w : h.World) (v : Values) → h.Proves w (h.goal v) → SomeOf (λ (c : Considered (workings frame_tables)). Realizes frame_tables (h.Proves w) h.begin v c.spec) seen
 
--- the bounds of `dyn` types in the goals that are decided
+-- The bounds of `dyn` types in goals that are decided are well-formed terms.
 abbrev pub BoundsAreLeft : ViewMeaning → Type 0
 BoundsAreLeft m = (f : CanonicalForm) (a : GoalOverKinds) → goal_over_kinds m.view f ≡ Some a → BoundsAreTerms m.view a
 
--- they have made terms, where the bounds of traits hold no lifetime parameters
+-- They are, if no lifetime parameter occurs in the bounds of traits.
 abbrev pub ErasedBoundsAreLeft : Type 0
 ErasedBoundsAreLeft = (m : ViewMeaning) → is_declared_view m.view ≡ true → BoundsAreErased m.view → BoundsAreLeft m
 
--- what has to hold of declarations that are found to be sound: of the view alone, but for the bounds of `dyn` types
+-- What must hold of declarations that pass the tests. All but the last clause is about the view alone.
 pub record IsAsMeant (m : ViewMeaning) : Type 0 where
   pub declared : is_declared_view m.view ≡ true
   pub determined : ImplsAreDetermined m.view
@@ -51,13 +52,13 @@ CoherenceIsCovered =
     (applicable : AnswerTrees → Bool) (same : AnswerTrees → AnswerTrees → Bool) (m : ViewMeaning) → (m.is_sound ≡ true → IsAsMeant m)
     → (f : CanonicalForm) → GivesLifetimes m f → AnswersCover (solver_handled applicable same m Coherence f)
 
--- the candidates of a goal that is decided are lawful, and there are not too many of them
+-- The candidates of a goal that is decided satisfy the laws. The numbers of candidates and of nested goals are within the handler's bounds.
 pub record DecidedCandidatesAreLawful (h : Handled frame_tables) (V : World) (a : GoalOverKinds) : Type 0 where
   pub each : Every (CandidateIsLawful frame_tables h) (unknowable V a ∷ all_candidates V a)
   pub few : suc (length (all_candidates V a)) ≤ h.candidates
   pub asks : nested_in frame_tables (unknowable V a ∷ all_candidates V a) ≤ h.number
 
--- left besides: candidates are lawful and few enough
+-- In coherence the handler satisfies the laws, if its candidates do and their numbers are within its bounds.
 abbrev pub CoherenceIsLawful : Type 0
 CoherenceIsLawful =
     (applicable : AnswerTrees → Bool) (same : AnswerTrees → AnswerTrees → Bool) → IsTest frame_tables applicable → TellsResponsesApart same

@@ -1,4 +1,4 @@
--- Views that are declared well: all that is asked of them so that goals may be decided by their rules; and tests that tell.
+-- Views that are declared well: the conditions under which their rules decide goals, and tests of these conditions.
 use Rattle.std.specs.Prelude.{◌≡◌, ◌==◌, ℕ, zero, suc, Bool, true, false, ◌&&◌, not, nat_lt, List, [], ◌∷◌, map, length}
 use Rattle.std.specs.List.{list_all, list_any}
 use Rattle.type_terms.specs.Promised.Label.{Label, param}
@@ -11,25 +11,25 @@ use Rattle.candidate_model.specs.Declared.{is_declared_view, StructsAreOne, Fiel
 use Rattle.candidate_model.specs.Determined.{ImplsAreDetermined}
 use Rattle.candidate_model.specs.Promised.Widths.{greatest}
 
--- the view is declared well
+-- The view is declared well.
 pub record IsDeclaredWell (V : World) : Type 0 where
-  -- terms are made as they are to be, of parameters and no other open places, and bind no lifetimes
+  -- Terms are well-formed and bind no lifetimes. They have parameters, but no variables and placeholders.
   pub terms : is_declared_view V ≡ true
-  -- a parameter in a clause of an impl stands in its header, with the same sort
+  -- A parameter in a where-clause of an impl occurs in the impl's header, with the same kind.
   pub determined : ImplsAreDetermined V
-  -- a parameter in a header is one of the impl's, and has one sort there
+  -- A parameter in a header is declared by the impl, and has one kind there.
   pub sorted : parameters_are_sorted V ≡ true
-  -- the bounds of traits hold no lifetime parameters
+  -- No lifetime parameter occurs in the bounds of traits.
   pub erased : BoundsAreErased V
-  -- bounds lead to traits of lower rank: no trait is among its own supertraits
+  -- Each supertrait has a lower rank than the trait, so no trait is its own supertrait.
   pub rank : ℕ → ℕ
   pub acyclic : LeadDown V rank
-  -- a name stands for one struct, and a field is one term
+  -- No two structs have one name, and a field is one term.
   pub one_struct : StructsAreOne V
   pub one_field : FieldsAreOne V
 
 -- ---- tests
--- a parameter that does not stand in the header, with its sort
+-- A parameter that does not occur in the header with its kind.
 abbrev pub is_loose : Trees → Label → Bool
 is_loose header (param s i) = not (some_node (is_this_param s i) header)
 is_loose header l = false
@@ -40,12 +40,12 @@ impls_are_determined V = list_all (λ (i : ImplDecl). list_all (λ (c : Referenc
 abbrev pub bounds_are_erased : World → Bool
 bounds_are_erased V = list_all (λ (x : TraitDecl). list_all (λ (b : Reference). not (some_node is_lifetime_parameter b.args)) x.bounds) V.traits
 
--- how many bounds lead up from a trait one after the other, n at most
+-- The length of the longest chain of supertraits from a trait, cut off at n.
 abbrev pub height_within : ℕ → World → ℕ → ℕ
 height_within zero V t = zero
 height_within (suc n) V t = greatest (λ (x : TraitDecl). greatest (λ (b : Reference). suc (height_within n V b.trait)) x.bounds) (traits_named V t)
 
--- the number of traits is enough where bounds form no cycle
+-- The same, cut off at the number of traits. No chain is longer if supertraits form no cycle.
 abbrev pub height_in : World → ℕ → ℕ
 height_in V t = height_within (length V.traits) V t
 
@@ -69,10 +69,10 @@ is_declared_well V =
     && (bounds_lead_down V
     && (are_distinct (map (λ (x : StructDecl). x.name) V.structs) && list_all (λ (x : StructDecl). list_all is_single x.fields) V.structs)))))
 
--- a view that passes the tests is declared well
+-- A view that passes the tests is declared well.
 abbrev pub TestsTell : Type 0
 TestsTell = (V : World) → is_declared_well V ≡ true → IsDeclaredWell V
 
--- and so is `core`
+-- `core` passes the tests.
 abbrev pub CoreIsDeclaredWell : Type 0
 CoreIsDeclaredWell = is_declared_well core_world ≡ true

@@ -1,4 +1,4 @@
--- Impls whose clauses hold no type or const parameter that does not stand, of the same sort, in the header.
+-- Impls whose where-clauses have no type or const parameters except those that occur in the header with the same kind.
 use Rattle.std.specs.Prelude.{◌≡◌, ℕ, true}
 use Rattle.type_terms.specs.Promised.Label.{Sort}
 use Rattle.type_terms.specs.Promised.Trees.{some_node}

@@ -1,4 +1,4 @@
--- The facts of frames as references with clauses, and what follows by the rules of a view.
+-- The facts of frames as trait references with where-clauses, and what follows from them by the rules of a view.
 use Rattle.std.specs.Prelude.{◌≡◌, ℕ, zero, suc, Bool, true, false, not, List, [], ◌∷◌, Option, Some, None}
 use Rattle.type_terms.specs.Promised.Label.{Label, of_lifetime, param, placeholder, infer, canonical, bound, fn_ptr, principal, of_trait, predicate}
 use Rattle.type_terms.specs.Promised.Trees.{Trees, none, tree, some_node}
@@ -10,7 +10,7 @@ use Rattle.goal_evaluator.specs.Lists.{Every, IsAmong}
 use Rattle.goal_evaluator.specs.Proof.{FactHasProof}
 use Rattle.goal_evaluator.specs.Content.{Fact}
 
--- ---- references and where-clauses as trees, and back
+-- ---- trait references and where-clauses as terms, and back
 abbrev pub tree_of_reference : Reference → Trees → Trees
 tree_of_reference r others = tree (predicate (of_trait r.trait)) r.args others
 
@@ -18,7 +18,7 @@ abbrev pub trees_of_clauses : List Reference → Trees
 trees_of_clauses [] = none
 trees_of_clauses (r ∷ rs) = tree_of_reference r (trees_of_clauses rs)
 
--- the clauses of a list that speak of traits; those of lifetimes say nothing here
+-- The where-clauses of a list that are trait references. Those about lifetimes are left out.
 abbrev pub clauses_of : Trees → List Reference
 clauses_of none = []
 clauses_of (tree (predicate (of_trait t)) c o) = record { trait = t; args = c } ∷ clauses_of o
@@ -32,16 +32,16 @@ abbrev pub trait_or_first : Option ℕ → ℕ
 trait_or_first None = 0
 trait_or_first (Some t) = t
 
--- the reference that a fact speaks of
+-- The trait reference of a fact.
 abbrev pub reference_in : Fact → Reference
 reference_in f = record { trait = trait_or_first f.trait; args = children_of f.goal.predicate }
 
--- the fact of another reference, with the clauses of this one
+-- The fact of another trait reference, with the where-clauses of this fact.
 abbrev pub beside : Fact → Reference → Fact
 beside f r = record { trait = Some r.trait; goal = record { environment = f.goal.environment; predicate = tree_of_reference r none }; proper = f.proper }
 
--- ---- terms up to lifetimes
--- the label is its own erasure, and no binder binds it
+-- ---- terms without lifetimes
+-- The label has lifetimes, or is a bound variable.
 abbrev pub is_unerased : Label → Bool
 is_unerased (fn_ptr zero) = false
 is_unerased (fn_ptr (suc n)) = true
@@ -58,7 +58,8 @@ abbrev pub is_plain : Fact → Bool
 is_plain f = not (some_node is_unerased f.goal.predicate)
 
 -- ---- what follows
--- the fact is one of its reference, and one of the rules of V and its clauses that conclude it has its premises among these
+-- The fact is that of its trait reference. It follows by a rule of V or by one of its where-clauses, and the rule's premises are among the
+-- given facts.
 pub record FactFollows (V : World) (f : Fact) (premises : List Fact) : Type 0 where
   pub asks : beside f (reference_in f) ≡ f
   pub way : Way
@@ -67,7 +68,7 @@ pub record FactFollows (V : World) (f : Fact) (premises : List Fact) : Type 0 wh
   pub among : Every (λ r. IsAmong (beside f r) premises) references
   pub plain : Every (λ p. is_plain p ≡ true) premises
 
--- what is improper, or not written up to lifetimes, counts for nothing
+-- Nothing is required of a fact that is improper or has lifetimes.
 abbrev pub FollowsByView : World → Fact → List Fact → Type 0
 FollowsByView V f premises = f.proper ≡ true → is_plain f ≡ true → FactFollows V f premises
 
@@ -78,12 +79,12 @@ is_coinductive_trait V (Some t) = is_coinductive V t
 abbrev pub is_coinductive_fact : World → Fact → Bool
 is_coinductive_fact V f = is_coinductive_trait V f.trait
 
--- a proof of facts is one of the model
+-- A proof of facts gives a proof of the trait reference by the rules.
 abbrev pub ProofsOfFactsAreProofs : Type 0
 ProofsOfFactsAreProofs =
     (V : World) (f : Fact) → f.proper ≡ true → is_plain f ≡ true → FactHasProof Fact (FollowsByView V) (is_coinductive_fact V) f
     → Model.HasProof V (clauses_of f.goal.environment) (reference_in f)
 
--- a reference and clauses come back from what they are as trees
+-- A trait reference and where-clauses can be read back from the terms that they are written as.
 abbrev pub ReferencesComeBack : Type 0
 ReferencesComeBack = (E : List Reference) → clauses_of (trees_of_clauses E) ≡ E

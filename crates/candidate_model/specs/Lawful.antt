@@ -1,4 +1,4 @@
--- The laws of the solver's candidates, and of the solver.
+-- The laws of the solver's candidates and of the solver.
 use Rattle.std.specs.Prelude.{◌≡◌, ℕ, ◌==◌, Bool, true, false, List, ◌∷◌, ◌++◌, map, Some}
 use Rattle.type_terms.specs.Promised.Rules.{unsize, unsize_to_dyn_rules}
 use Rattle.infer_table.specs.Canonical.{CanonicalForm}
@@ -27,67 +27,67 @@ use Rattle.candidate_model.specs.CoverLaw.{AnswersCover}
 use Rattle.candidate_model.specs.Solver.{solver_handled}
 use Rattle.candidate_model.specs.Cover.{all_candidates, goal_fact}
 
--- each candidate of a goal whose self type is known is lawful
+-- Each candidate of a goal satisfies the laws, if the self type is no inference variable.
 abbrev pub CandidatesAreLawful : ViewMeaning → Type 0
 CandidatesAreLawful m =
     (applicable : AnswerTrees → Bool) (same : AnswerTrees → AnswerTrees → Bool) (mode : TypingMode) (f : CanonicalForm) (a : GoalOverKinds) → goal_over_kinds m.view f ≡ Some a → begins_unknown a.kinds (self_of a) ≡ false
     → Every (CandidateIsLawful frame_tables (solver_handled applicable same m mode f)) (unknowable m.view a ∷ all_candidates m.view a)
 
--- where the equations of a candidate hold it is a rule of the view
+-- If the equations of a certain candidate hold, it is a rule instance of the view.
 abbrev pub IsSoundFor : ViewMeaning → CanonicalForm → GoalOverKinds → Candidate → Type 0
 IsSoundFor m f a c =
     c.certainty ≡ Yes → (s : ChosenTerms) → Allows (fresh (begin a.kinds) c.kinds) s → Every (λ e. EquationIsMet e s) c.equations → FollowsByView m.view (goal_fact f s.own) (map (λ n. fact n s) c.nested)
 
--- the candidates by built-in rules of other traits than `Unsize`: `Sized`, `Copy` and `Clone`, auto traits, `Tuple`, `FnPtr`, and calls
+-- The candidates by built-in rules of all traits except `Unsize`.
 abbrev pub row_candidates : ViewMeaning → GoalOverKinds → List Candidate
 row_candidates m a = (by_sized m.view a ++ (by_copy m.view a ++ (by_auto m.view a ++ (by_tuple m.view a ++ by_fn_ptr m.view a)))) ++ by_call m.view a
 
--- with terms that are written up to lifetimes for the goal's variables, each of these is a rule of the view
+-- Each of them is sound.
 abbrev pub RowsAreSound : Type 0
 RowsAreSound = (m : ViewMeaning) → is_declared_view m.view ≡ true → (f : CanonicalForm) (a : GoalOverKinds) → goal_over_kinds m.view f ≡ Some a → Every (IsSoundFor m f a) (row_candidates m a)
 
--- those by arrays that unsize to slices, and by structs whose last field unsizes
+-- The candidates by arrays that unsize to slices, and by structs whose last field unsizes.
 abbrev pub unsizing_candidates : ViewMeaning → GoalOverKinds → List Candidate
 unsizing_candidates m a = if_so (a.reference.trait == unsize) (unsize_array_of m.view a (self_of a) ++ unsize_struct_of m.view a (self_of a))
 
 abbrev pub UnsizingIsSound : Type 0
 UnsizingIsSound = (m : ViewMeaning) → is_declared_view m.view ≡ true → (f : CanonicalForm) (a : GoalOverKinds) → goal_over_kinds m.view f ≡ Some a → Every (IsSoundFor m f a) (unsizing_candidates m a)
 
--- those by impls, whose parameters have one sort each
+-- The candidates by impls are sound, if each parameter has one kind.
 abbrev pub ImplsAreSound : Type 0
 ImplsAreSound =
     (m : ViewMeaning) → is_declared_view m.view ≡ true → ImplsAreDetermined m.view → parameters_are_sorted m.view ≡ true
     → (f : CanonicalForm) (a : GoalOverKinds) → goal_over_kinds m.view f ≡ Some a → Every (IsSoundFor m f a) (by_impls m.view a m.view.impls)
 
--- those by object bounds, where bounds of traits lead down
+-- The candidates by object bounds are sound, if supertraits form no cycle.
 abbrev pub ObjectBoundsAreSound : Type 0
 ObjectBoundsAreSound =
     (m : ViewMeaning) → is_declared_view m.view ≡ true → BoundsAreErased m.view → (rank : ℕ → ℕ) → LeadDown m.view rank
     → (f : CanonicalForm) (a : GoalOverKinds) → goal_over_kinds m.view f ≡ Some a → Every (IsSoundFor m f a) (by_objects m.view a)
 
--- those by a `dyn` that unsizes to another
+-- The candidates by which a `dyn` unsizes to another are sound.
 abbrev pub UpcastsAreSound : Type 0
 UpcastsAreSound =
     (m : ViewMeaning) → is_declared_view m.view ≡ true → BoundsAreErased m.view → (rank : ℕ → ℕ) → LeadDown m.view rank
     → (f : CanonicalForm) (a : GoalOverKinds) → goal_over_kinds m.view f ≡ Some a → Every (IsSoundFor m f a) (if_so (a.reference.trait == unsize) (upcasts_of m.view a (self_of a)))
 
--- those by another type that unsizes to a `dyn`. The self type is known: a `dyn` may stand for an unknown, which does not unsize
--- to another as other types do
+-- The candidates by which any other type unsizes to a `dyn` are sound, if the self type is no inference variable. The value of a variable
+-- may be a `dyn`, which unsizes to a `dyn` by another rule.
 abbrev pub ToDynIsSound : Type 0
 ToDynIsSound =
     (m : ViewMeaning) → is_declared_view m.view ≡ true → (f : CanonicalForm) (a : GoalOverKinds) → goal_over_kinds m.view f ≡ Some a → begins_unknown a.kinds (self_of a) ≡ false
     → Every (IsSoundFor m f a) (if_so (a.reference.trait == unsize) (as_written m.view a misc (unsize_to_dyn_rules m.view (self_of a))))
 
--- what is found to be sound is declared well; of what is not found so, no goal is decided
+-- A view that passes the tests is declared well. If a view fails them, no goal is decided.
 abbrev pub ViewIsDeclaredWell : ViewMeaning → Type 0
 ViewIsDeclaredWell m = m.is_sound ≡ true → IsDeclaredWell m.view
 
--- where the view is declared well, each candidate of a goal whose self type is known is lawful
+-- If the view is declared well, its candidates satisfy the laws.
 abbrev pub WellDeclaredIsLawful : Type 0
 WellDeclaredIsLawful = (m : ViewMeaning) → IsDeclaredWell m.view → CandidatesAreLawful m
 
--- the solver is a lawful handler of every goal that gives its structs their lifetimes, in both modes, and in coherence the candidates that
--- were considered before an answer cover each solution of the goal in every linked set
+-- The solver satisfies the laws of handlers in both modes, for each goal whose structs have arguments for the lifetimes that their fields
+-- name. In coherence the candidates that were considered before an answer cover each solution of the goal.
 abbrev pub SolverIsLawfulAndCovers : Type 0
 SolverIsLawfulAndCovers =
     (applicable : AnswerTrees → Bool) → IsTest frame_tables applicable → (same : AnswerTrees → AnswerTrees → Bool) → TellsResponsesApart same

@@ -1,2 +1,2 @@
--- What the promises of the calls rest on.
+-- The definitions that the promises of the calls rest on.
 pub mod Widths

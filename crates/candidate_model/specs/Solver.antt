@@ -65,11 +65,11 @@ is_trivial s = false
 abbrev pub from : (CandidateSource → Bool) → Considered (workings frame_tables) → Bool
 from p c = p c.spec.source
 
--- some candidate from there was not refused
+-- A candidate with such a source was not refused.
 abbrev pub holds_from : (CandidateSource → Bool) → SolverPast → Bool
 holds_from p seen = list_any (λ (c : Considered (workings frame_tables)). from p c && is_some c.response) seen
 
--- it gives no types and consts, and says nothing of lifetimes
+-- The response has no values for type and const variables, and no constraints on lifetimes.
 abbrev pub says_nothing : Option AnswerTrees → Bool
 says_nothing None = false
 says_nothing (Some r) = not (has_values r) && is_no_tree r.constraints
@@ -78,20 +78,20 @@ abbrev pub gives_none : Option AnswerTrees → Bool → Bool → Bool
 gives_none (Some r) true otherwise = not (has_values r)
 gives_none r b otherwise = otherwise
 
--- the first from there that was not refused gives no types and consts
+-- The oldest candidate with such a source that was not refused has no values for type and const variables.
 abbrev pub oldest_gives_none : (CandidateSource → Bool) → Bool → SolverPast → Bool
 oldest_gives_none p otherwise [] = otherwise
 oldest_gives_none p otherwise (c ∷ seen) = oldest_gives_none p (gives_none c.response (from p c) otherwise) seen
 
--- which candidates are merged where no where-clause is preferred: no impl beside a bound of a `dyn` that gives no values, and no
--- global where-clause beside anything else
+-- The candidates that are merged if no where-clause is preferred. Impls are left out if a bound of a `dyn` has no values. Global
+-- where-clauses are left out if there is any other candidate.
 abbrev pub remain : SolverPast → CandidateSource → Bool
 remain seen s = not (is_impl s && oldest_gives_none is_object false seen)
 
 abbrev pub remains : SolverPast → CandidateSource → Bool
 remains seen s = remain seen s && (not (is_global s) || not (holds_from (λ r. remain seen r && not (is_global r)) seen))
 
--- a where-clause that is not global and says nothing of the goal's variables
+-- A where-clause that is not global has a response without values and constraints.
 abbrev pub is_settled : SolverPast → Bool
 is_settled seen = list_any (λ (c : Considered (workings frame_tables)). from is_non_global c && says_nothing c.response) seen
 
@@ -100,14 +100,14 @@ module _ (applicable : AnswerTrees → Bool) (same : AnswerTrees → AnswerTrees
   abbrev pub merged : (CandidateSource → Bool) → SolverPast → Plan frame_tables
   merged kept seen = kept_merged frame_tables applicable same begin_table (from kept) seen
 
-  -- outside coherence: the trivial rule wins; then where-clauses, if one is not global; then the rest
+  -- Outside coherence the trivial rule is preferred, then where-clauses if one of them is not global, then the other candidates.
   abbrev pub preferred : SolverPast → Plan frame_tables
   preferred seen =
       if holds_from is_trivial seen then merged is_trivial seen
       else if holds_from is_non_global seen then first_taken frame_tables applicable same begin_table (from is_clause) seen
       else merged (remains seen) seen
 
-  -- in coherence all are merged
+  -- In coherence all candidates are merged.
   abbrev pub everything : SolverPast → Plan frame_tables
   everything seen = all_merged frame_tables applicable same begin_table seen
 
@@ -128,7 +128,7 @@ module _ (applicable : AnswerTrees → Bool) (same : AnswerTrees → AnswerTrees
   by_mode m Coherence a = in_coherence m.view m.crate a
   by_mode m PostAnalysis a = outside_coherence m.view a
 
-  -- a goal that is not decided, or whose self type is unknown, is left open
+  -- A goal that is not decided, or whose self type is an inference variable, has only the ambiguous candidate.
   abbrev pub plan_for : ViewMeaning → TypingMode → Option GoalOverKinds → Plan frame_tables
   plan_for m mode None = each_of frame_tables (unsure ∷ []) everything []
   plan_for m mode (Some a) =
@@ -137,7 +137,8 @@ module _ (applicable : AnswerTrees → Bool) (same : AnswerTrees → AnswerTrees
 abbrev pub widest_of : World → CanonicalForm → ℕ
 widest_of V f = max (number_of (record { form = f; coinductive = false })) (declared_width V)
 
--- one for each where-clause and impl, for each row, for each supertrait of an upcast, for each bound of a `dyn`, and the unknowable one
+-- A bound of the number of candidates. It counts where-clauses, impls, built-in rules, supertraits for upcasts, bounds of a `dyn`, and the
+-- unknowable candidate.
 abbrev pub most_candidates : World → CanonicalForm → ℕ
 most_candidates V f = length V.impls + (3 * widest_of V f + 13) + count f.goal.environment
 
@@ -148,8 +149,8 @@ has_placeholder (PlaceholderTy ∷ ks) = true
 has_placeholder (PlaceholderConst ∷ ks) = true
 has_placeholder (k ∷ ks) = has_placeholder ks
 
--- in coherence by the crate's view, and in every linked set with the crate, for goals without where-clauses and placeholders; nowhere
--- outside it
+-- In coherence, solutions are looked for by the crate's view and in every linked set with the crate. The goal has no where-clauses and no
+-- placeholders. Outside coherence they are not looked for.
 pub record Searched (m : ViewMeaning) (f : CanonicalForm) : Type 0 where
   pub place : SolutionPlace m
   pub no_clauses : f.goal.environment ≡ none
@@ -159,7 +160,7 @@ abbrev pub searched_world : ViewMeaning → TypingMode → CanonicalForm → Typ
 searched_world m Coherence f = Searched m f
 searched_world m PostAnalysis f = ⊥
 
--- of what has a proof: a proper fact of a closed reference that has one
+-- A proper fact of a concrete trait reference that has a proof.
 pub record IsSolution (H : Reference → Type 0) (f : Fact) : Type 0 where
   pub asks : beside f (reference_in f) ≡ f
   pub proper : f.proper ≡ true
@@ -186,6 +187,6 @@ module _ (applicable : AnswerTrees → Bool) (same : AnswerTrees → AnswerTrees
     widest = widest_of m.view f;
   }
 
-  -- what the solver means for a goal
+  -- What the solver means for a goal.
   abbrev pub solver_handled : ViewMeaning → TypingMode → CanonicalForm → Handled frame_tables
   solver_handled m mode f = planned frame_tables (solver_planned m mode f)

@@ -1,4 +1,4 @@
--- The solutions of the goals that a goal's frame asks are looked for wherever those of the goal are.
+-- The solutions of a nested goal are looked for everywhere that those of the goal are looked for.
 use Rattle.std.specs.Prelude.{◌≡◌, Bool}
 use Rattle.infer_table.specs.Canonical.{CanonicalForm}
 use Rattle.infer_table.specs.declared.certainty.TypingMode.{TypingMode}
@@ -11,11 +11,11 @@ use Rattle.goal_evaluator.specs.Tables.{frame_tables}
 use Rattle.candidate_model.specs.Meaning.{ViewMeaning}
 use Rattle.candidate_model.specs.Solver.{solver_handled}
 
--- what has a proof in a linked set for the one goal has one in some set for the other
+-- For each place of the goal there is one of the nested goal that gives proofs to at least as much.
 abbrev pub LinkedSetsProveNoMore : Handled frame_tables → Handled frame_tables → Type 0
 LinkedSetsProveNoMore h nested = (x : h.World) → (y : nested.World) × ((f : Fact) → h.Proves x f → nested.Proves y f)
 
--- whatever was answered
+-- This holds after any responses to earlier nested goals.
 abbrev pub KeepWorlds : Type 0
 KeepWorlds =
     (applicable : AnswerTrees → Bool) (same : AnswerTrees → AnswerTrees → Bool) (m : ViewMeaning) (mode : TypingMode) (f : CanonicalForm)

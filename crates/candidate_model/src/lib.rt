@@ -1,4 +1,5 @@
-//! What the solver means for a goal, and that its candidates cover each solution by the view and in every linked set.
+//! The solver as mathematics: its candidates for a goal, and what it means for a goal. The laws say that candidates by rules are sound,
+//! and that the candidates cover each solution, by the view alone and in every linked set.
 #![tactic(auto)]
 
 ghost use Rattle.candidate_model.specs.Facts.{ProofsOfFactsAreProofs, ReferencesComeBack};
@@ -11,61 +12,65 @@ ghost use Rattle.candidate_model.specs.HeldViews.{HeldIsDeclaredWell};
 ghost use Rattle.candidate_model.specs.Worlds.{KeepWorlds};
 ghost use Rattle.candidate_model.specs.CoverLaw.{CoherenceIsCovered, CoherenceIsLawful, ErasedBoundsAreLeft};
 
-/// References with clauses come back from facts, and a proof of facts by the rules of a view is one of the model.
+/// A trait reference with clauses can be read back from its fact. A proof of facts by the rules of a view is a proof of the trait references.
 pub fn facts_are_references()
     ensures back { ReferencesComeBack }
     ensures proofs { ProofsOfFactsAreProofs }
 {}
 
-/// In a linked set what a crate knows follows by a rule of its view, and the supertraits that the view gives to what has a proof
-/// have proofs, if in the set all supertraits of what has a proof have proofs. `core` as it is written, with lifetimes, stands in a
-/// linked set.
+/// In a linked set, a trait reference that is knowable to a crate and has a proof follows by a rule of the crate's view. If the
+/// supertraits of what has a proof always have proofs in the set, so do the supertraits by the view. `core` as it is written, with
+/// lifetimes, has a linked set.
 pub fn views_tell()
     ensures known { WhatIsKnownFollowsByTheView }
     ensures supertraits { SupertraitsByTheViewStand }
     ensures core { WrittenCoreIsLinked }
 {}
 
-/// By the crate's view alone, with proofs that hold the supertraits of all that they conclude, and in every linked set that holds the
-/// view, up to lifetimes and by other numbers, a solution of a goal without where-clauses and placeholders, whose structs are given
-/// lifetimes where their fields name them, is one by the unknowable candidate; where the crate knows the goal, whatever its unknowns
-/// stand for, it is one by a where-clause, a built-in rule, an impl or an object bound.
+/// Each solution of a goal is one by the unknowable candidate. If the goal is knowable for all values of its variables, it is also one by a
+/// where-clause, a built-in rule, an impl or an object bound.
+///
+/// The goal has no where-clauses and no placeholders, and its structs have arguments for the lifetimes that their fields name. Solutions
+/// are those by the crate's view alone, with proofs that contain the supertraits of all that they conclude, and those in each linked set
+/// with the view, without lifetimes and by other numbers.
 pub fn solutions_are_by_candidates()
     ensures { SolutionsAreByCandidates }
 {}
 
-/// Terms for a candidate's own variables with which its equations hold and its premises are solutions realize the goal's values in
-/// the tables of frames.
+/// If a candidate's equations hold for some terms of its own variables, and its premises are solutions, then these terms realize the
+/// goal's values in the tables of frames.
 pub fn given_terms_realize()
     ensures { GivenIsRealized }
 {}
 
-/// The solutions of the goals that a goal's frame asks are looked for wherever those of the goal are.
+/// The solutions of a nested goal are looked for everywhere that those of the goal are looked for.
 pub fn worlds_are_kept()
     ensures { KeepWorlds }
 {}
 
-/// In coherence each solution of a goal, whose structs are given their lifetimes, is realized by a candidate that was considered before
-/// the answer; and where the candidates are lawful, so is the handler. Bounds of `dyn` types are terms where the bounds of traits are up
-/// to lifetimes.
+/// In coherence, a candidate that was considered before the answer realizes each solution of a goal, if the goal's structs have arguments
+/// for the lifetimes that their fields name. If the candidates satisfy the laws, so does the handler. If the bounds of traits are without
+/// lifetime parameters, the bounds of `dyn` types are well-formed terms.
 pub fn coherence_is_covered()
     ensures covered { CoherenceIsCovered }
     ensures lawful { CoherenceIsLawful }
     ensures bounds { ErasedBoundsAreLeft }
 {}
 
-/// A view that passes the tests is declared well, and `core` passes them. Of declarations whose terms an interner holds fewer are left:
-/// that open places are parameters, that these stand in headers, each with one sort, that bounds form no cycle, and that structs have
-/// names of their own.
+/// A view that passes the tests is declared well, and `core` passes them. Declarations whose terms are of an interner need only some of
+/// them: all open places are parameters, parameters of an impl occur in its header with one kind, supertraits form no cycle, and no two
+/// structs have one name.
 pub fn views_are_tested()
     ensures tell { TestsTell }
     ensures core { CoreIsDeclaredWell }
     ensures held { HeldIsDeclaredWell }
 {}
 
-/// Every candidate by a rule is sound: those by the built-in rules of `Sized`, `Copy` and `Clone`, auto traits, `Tuple`, `FnPtr`, and
-/// calls of fn pointers; by arrays that unsize to slices, and structs whose last field unsizes; by impls, object bounds and upcasts; and
-/// by other types that unsize to a `dyn`, where the self type is known.
+/// Each candidate by a rule is sound: if its equations hold, it is a rule instance of the view.
+///
+/// - `rows`: the built-in rules of `Sized`, `Copy` and `Clone`, auto traits, `Tuple`, `FnPtr`, and calls of `fn` pointers
+/// - `unsizing`: arrays that unsize to slices, and structs whose last field unsizes
+/// - `to_dyn`: types that unsize to a `dyn` and are no `dyn`. The self type must not be an inference variable.
 pub fn rows_are_sound()
     ensures rows { RowsAreSound }
     ensures unsizing { UnsizingIsSound }
@@ -75,10 +80,10 @@ pub fn rows_are_sound()
     ensures to_dyn { ToDynIsSound }
 {}
 
-/// Where the view is declared well, the solver is a lawful handler of every goal whose structs are given their lifetimes, in both modes;
-/// and in coherence each solution of a goal, by the view and in every linked set with the crate, is realized by a candidate that was
-/// considered before the answer. If the view is not found to be declared well, no goal is decided. Each candidate of a goal whose self
-/// type is known is lawful.
+/// If the view is declared well, the solver satisfies the laws of handlers in both modes, for each goal whose structs have arguments for
+/// the lifetimes that their fields name. In coherence, a candidate that was considered before the answer realizes each solution, by the
+/// view and in every linked set with the crate. If the view fails the tests, no goal is decided. Each candidate of a goal satisfies the
+/// laws of candidates, if the self type is no inference variable.
 pub fn solver_is_lawful()
     ensures handler { SolverIsLawfulAndCovers }
     ensures candidates { WellDeclaredIsLawful }
