@@ -14,7 +14,7 @@ use Rattle.built_in_candidates.specs.FnPointers.{call_candidates}
 use Rattle.built_in_candidates.specs.Goals.{candidate_of}
 use Rattle.built_in_candidates.specs.Constituents.{candidates_of}
 
--- The rule speaks of the trait t.
+-- The rule is one of the trait t.
 abbrev pub speaks_of : World → ℕ → BuiltInRule → Bool
 speaks_of V t RSized = t == sized
 speaks_of V t CopyClone = (t == copy) || (t == clone)
@@ -23,7 +23,7 @@ speaks_of V t RTuple = t == tuple_trait
 speaks_of V t FnPtr = t == fn_ptr_trait
 speaks_of V t Calls = is_fn_trait t
 
--- The candidates by the rule, whatever trait the goal asks.
+-- The candidates by the rule. The goal's trait is not looked at here.
 abbrev pub of_rule : World → GoalOverKinds → BuiltInRule → List Candidate
 of_rule V a RSized = sized_candidates V a
 of_rule V a CopyClone = copy_candidates V a
@@ -32,17 +32,17 @@ of_rule V a RTuple = tuple_candidates V a
 of_rule V a FnPtr = fn_ptr_candidates V a
 of_rule V a Calls = call_candidates V a
 
--- Those for a goal of a trait that it speaks of.
+-- The candidates by the rule if it is one of the goal's trait, and none in any other case.
 abbrev pub by_the_rule : World → GoalOverKinds → BuiltInRule → List Candidate
 by_the_rule V a r = if_so (speaks_of V a.reference.trait r) (of_rule V a r)
 
--- Those by these rules and, behind them, by the rule of `Unsize`.
+-- The candidates by these rules, followed by those by the rule of `Unsize`.
 abbrev pub by_rules : World → GoalOverKinds → List BuiltInRule → List Candidate
 by_rules V a [] = by_unsize V a
 by_rules V a (r ∷ rs) = by_the_rule V a r ++ by_rules V a rs
 
--- The candidate at this place, among one if it is there and others behind it, is the one at that place among the others; where no place is
--- given it is the first.
+-- There may be a first candidate, and others follow it. An index among all of them is either that of the first candidate (`None`), or it
+-- gives an index among the others.
 abbrev pub IsBehind : Option CandidateSpec → ℕ → Option ℕ → Type 0
 IsBehind o n (Some m) = (V : World) (t : ℕ) (es : List Entry) (others : List Candidate) → slice_get (candidates_of V t es o ++ others) n ≡ slice_get others m
 IsBehind o n None = (V : World) (t : ℕ) (es : List Entry) (others : List Candidate) → slice_get (candidates_of V t es o ++ others) n ≡ option_map (candidate_of V t es) o

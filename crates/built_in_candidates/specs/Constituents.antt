@@ -1,4 +1,4 @@
--- The types that a rule asks for, read off the self type.
+-- The types that a rule has as premises. They depend on the self type alone.
 use Rattle.std.specs.Prelude.{◌≡◌, ℕ, List, [], ◌∷◌, map, Option, Some, None, IfSome}
 use Rattle.type_terms.specs.Promised.Label.{adt}
 use Rattle.type_terms.specs.Promised.Trees.{Trees, tree}
@@ -20,50 +20,50 @@ use Rattle.declarations.specs.Applied.{sort_of_param, sorts_of, SpeaksOf}
 use Rattle.candidate_model.specs.Candidates.{Candidate}
 use Rattle.built_in_candidates.specs.Goals.{candidate_of}
 
--- What each of the rules asks.
+-- The premises of each of the rules.
 abbrev pub premises_of : List Rule → List (List Reference)
 premises_of us = map (λ u. u.premises) us
 
--- Each of the types asked for the trait.
+-- The trait reference `type: Trait` for each of the types.
 abbrev pub types_asked : List Entry → ℕ → List Ty → List Reference
 types_asked es t tys = map (λ ty. asked t (trees_at es ty.0)) tys
 
--- The types are the interner's.
+-- The types are of this interner.
 abbrev pub TypesHeld : List Entry → List Ty → Type 0
 TypesHeld es tys = Each (λ ty. Has es types ty.0) tys
 
--- There is one rule, which asks the trait of these types; where nothing is given there is none.
+-- If types are given there is one rule, and its premises are these types with the trait. For `None` there is no rule.
 abbrev pub AreConstituents : {R : Type 0} → (R → List Ty) → List Entry → ℕ → List Rule → Option R → Type 0
 AreConstituents items es t us None = premises_of us ≡ []
 AreConstituents items es t us (Some r) = premises_of us ≡ types_asked es t (items r) ∷ []
 
--- The last type alone.
+-- The last type, as a list.
 abbrev pub last_of : List Ty → List Ty
 last_of [] = []
 last_of (t ∷ []) = t ∷ []
 last_of (t ∷ u ∷ ts) = last_of (u ∷ ts)
 
--- The arguments have the sorts of the struct's parameters, if it is declared, and no binder number leads out of them.
+-- If the struct is declared, the arguments have the kinds of its parameters. No bound variable in them refers to a binder outside.
 pub record AreArguments (d : Items) (s : ℕ) (args : Trees) : Type 0 where
   pub sorts : IfSome (struct_at s d.structs) (λ def. sorts_of args ≡ map sort_of_param def.params.items)
   pub closed : outer_binder args ≡ 0
 
--- If the first type is a struct, it has an argument for each of its parameters.
+-- If the first type is a struct, it has an argument for each parameter.
 abbrev pub StructIsApplied : Items → Trees → Type 0
 StructIsApplied d (tree (adt s) args o) = AreArguments d s args
 StructIsApplied d t = Unit {0}
 
--- The fields of each struct speak of its parameters.
+-- The parameters in the fields of a struct are parameters of that struct.
 abbrev pub HaveFields : List Entry → Items → Type 0
 HaveFields es d = Each (λ (x : AdtId × AdtDef). Each (λ (f : Ty). SpeaksOf (map sort_of_param x.1.params.items) (trees_at es f.0)) x.1.fields.items) d.structs
 
--- The candidates for a goal of the trait t: one, or none.
+-- The candidates for a goal of the trait t, as a list of at most one.
 abbrev pub candidates_of : World → ℕ → List Entry → Option CandidateSpec → List Candidate
 candidates_of V t es None = []
 candidates_of V t es (Some s) = candidate_of V t es s ∷ []
 
--- A goal whose candidates can be made: its terms and those of the declarations are the interner's, and its first argument is a type,
--- with an argument for each parameter if it is a struct.
+-- A goal whose candidates can be computed. Its terms and those of the declarations are of this interner. Its first argument is a type.
+-- If that is a struct, it has an argument for each parameter.
 pub record CanBeConsidered (es : List Entry) (d : Items) (g : CanonicalInput) : Type 0 where
   pub goal : GoalHeld es g.goal
   pub first : StartsWithType (trees_at es g.goal.predicate.trait_ref.args.0)

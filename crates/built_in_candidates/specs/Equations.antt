@@ -12,12 +12,12 @@ use Rattle.goal_evaluator.specs.FrameTables.{Equation}
 use Rattle.goal_evaluator.specs.StepReadings.{equation_read}
 use Rattle.candidate_model.specs.Candidates.{all_equal, never_met}
 
--- An equation that no terms meet, where one list is longer.
+-- An equation without solutions, if one list is longer.
 abbrev pub never_if : Bool → List Equation
 never_if true = never_met ∷ []
 never_if false = []
 
--- Each argument is the one in its place, and it is told whether one list is longer.
+-- The equations say that arguments with the same index are equal. The flag says whether one list is longer.
 abbrev pub ArePaired : List GenericArgKind → List GenericArgKind → List Code.Equation × Bool → Type 0
 ArePaired xs ys r =
     (es : List Entry) → Lawful es → ArgsHeld es xs → ArgsHeld es ys

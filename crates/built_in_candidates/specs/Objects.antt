@@ -1,4 +1,4 @@
--- `dyn` types: their bounds with a self type put in, and the bounds of one trait among them.
+-- `dyn` types: their bounds with a self type, and the bounds of one trait among them.
 use Rattle.std.specs.Prelude.{◌≡◌, ℕ, suc, ◌==◌, ◌&&◌, not, if◌then◌else◌, List, [], ◌∷◌, ◌++◌, Option, Some, None, IfSome}
 use Rattle.type_terms.specs.Promised.Label.{Label, of_lifetime, dynamic}
 use Rattle.type_terms.specs.Promised.Trees.{Trees, none, tree, leaf, ◌+++◌, sort_of}
@@ -17,39 +17,39 @@ use Rattle.declarations.specs.Promised.Elaboration.{elaborate, supertraits}
 use Rattle.candidate_model.specs.Asking.{GoalOverKinds}
 use Rattle.candidate_model.specs.Candidates.{Candidate, if_so, upcasts_to}
 
--- ---- what is read off a type
--- The bounds of a `dyn` with its lifetime, if the first type is one.
+-- ---- parts of a type
+-- The bounds of a `dyn`, followed by its lifetime, if the first type is one.
 abbrev pub bounds_of : Trees → Option Trees
 bounds_of (tree dynamic b o) = Some b
 bounds_of t = None
 
--- The type has these bounds, with a lifetime behind them. One without bounds is no `dyn`.
+-- The type is a `dyn` with these bounds, which are followed by a lifetime. `None` says that it is no `dyn`.
 abbrev pub AreBoundsOf : List Entry → Trees → Option Bounds → Type 0
 AreBoundsOf es t None = bounds_of t ≡ None
 AreBoundsOf es t (Some b) = Has es bounds_lists b.0 × (l : Label) × (sort_of l ≡ of_lifetime) × (t ≡ tree dynamic (trees_at es b.0 +++ leaf l) none)
 
--- What holds of the bounds, whatever lifetime stands behind them.
+-- P holds of the bounds followed by any lifetime.
 abbrev pub WithLifetime : List Entry → Bounds → (Trees → Type 0) → Type 0
 WithLifetime es b P = (l : Label) → sort_of l ≡ of_lifetime → P (trees_at es b.0 +++ leaf l)
 
 -- ---- principals that can be elaborated
--- The arguments have the sorts of the trait's parameters, Self first, if the trait is declared, and no binder number leads out of them.
+-- If the trait is declared, the arguments have the kinds of its parameters, Self first. No bound variable in them refers to a binder outside.
 pub record AreArgumentsOf (d : Items) (r : Reference) : Type 0 where
   pub sorts : IfSome (trait_at r.trait d.traits) (λ def. sorts_of r.args ≡ sorts_of_params def)
   pub closed : outer_binder r.args ≡ 0
 
--- If the first type is a `dyn`, its principal has an argument for each parameter of its trait, the `dyn` itself for Self.
+-- If the first type is a `dyn`, its principal has an argument for each parameter of its trait. Self is the `dyn`.
 abbrev pub ObjectIsApplied : Items → Trees → Type 0
 ObjectIsApplied d (tree dynamic b o) = Each (AreArgumentsOf d) (principal_with (tree dynamic b none) b)
 ObjectIsApplied d t = Unit {0}
 
 -- ---- the bounds of one trait
--- Those of the trait t among references that are numbered from i on, with their numbers.
+-- The trait references of the trait t in the list, each with its index. The first index is i.
 abbrev pub numbered_to : ℕ → ℕ → List TraitRef → List (ℕ × TraitRef)
 numbered_to t i [] = []
 numbered_to t i (r ∷ rs) = if r.def_id.index == t then (i, r) ∷ numbered_to t (suc i) rs else numbered_to t (suc i) rs
 
--- A bound, and the rule by which it makes a candidate.
+-- A bound, and the source of the candidate by it.
 pub record BoundRule : Type 0 where
   pub source : BuiltinImplSource
   pub reference : Reference
@@ -57,25 +57,27 @@ pub record BoundRule : Type 0 where
 abbrev pub bound_in : List Entry → BuiltinImplSource × TraitRef → BoundRule
 bound_in es x = record { source = x.0; reference = reference_in es x.1 }
 
--- Those of the trait t among references that are numbered from i on.
+-- The bounds of the trait t in the list. The first index is i, and a bound's source depends on its index.
 abbrev pub bounds_to : ℕ → (ℕ → BuiltinImplSource) → ℕ → List Reference → List BoundRule
 bounds_to t source i [] = []
 bounds_to t source i (r ∷ rs) = if r.trait == t then record { source = source i; reference = r } ∷ bounds_to t source (suc i) rs else bounds_to t source (suc i) rs
 
--- The auto traits that a `dyn` is written with, and behind them its principal and the supertraits; `Sized` is none of these.
+-- The bounds of the trait t among the auto traits of a `dyn`, followed by those among its principal and the supertraits. There are none of
+-- `Sized`.
 abbrev pub written_and_elaborated : ℕ → Trees → Trees → List Reference → List BoundRule
 written_and_elaborated t self b rs = if_so (not (t == sized)) (bounds_to t (λ i. Misc) 0 (autos_with self b) ++ bounds_to t Object 0 rs)
 
--- The bounds of the trait t of a `dyn` whose principal is dyn compatible: of `dyn Sub + Send` those of `Send`, of `Sub`, or of its supertraits.
+-- The bounds of the trait t of a `dyn`, if its principal is dyn compatible. `dyn Sub + Send` has bounds of `Send`, of `Sub`, and of the
+-- supertraits of `Sub`.
 abbrev pub object_bounds : World → ℕ → Trees → Trees → List BoundRule
 object_bounds V t self b = if_so (are_dyn_compatible V (principal_with self b)) (written_and_elaborated t self b (elaborate V (principal_with self b)))
 
--- To which bounds of the trait t a `dyn` with this principal is upcast: the principal, if it is of that trait, else its supertraits.
+-- The bounds of the trait t to which a `dyn` with this principal is upcast: the principal if it is of that trait, and else its supertraits.
 abbrev pub upcast_bounds : World → ℕ → List Reference → List BoundRule
 upcast_bounds V t [] = []
 upcast_bounds V t (p ∷ ps) = if p.trait == t then record { source = Misc; reference = p } ∷ [] else bounds_to t TraitUpcasting 1 (supertraits V p)
 
--- The candidates by which a `dyn` with the bounds b unsizes to one with the bounds d, both with the same Self.
+-- The candidates by which a `dyn` with the bounds b unsizes to one with the bounds d. Self is the same type in both.
 abbrev pub upcasts_between : World → GoalOverKinds → Trees → Trees → Trees → List Candidate
 upcasts_between V a self b d =
     let ps = principal_with self b in

@@ -1,4 +1,4 @@
-//! Candidates by the built-in rules of single traits, and of auto traits.
+//! Candidates by the built-in rules of single traits and of auto traits.
 ghost use Rattle.type_terms.specs.Growth.{GrewOrFull};
 ghost use Rattle.std.specs.Prelude.{◌≡◌, List, IfOk, IfSome};
 ghost use Rattle.type_terms.specs.Promised.Worlds.{World};
@@ -33,7 +33,7 @@ use type_terms::{Fault, TraitId};
 /// The trait `Sized` of `core`.
 pub const SIZED: u32 = 0;
 
-/// A type asked for a trait without further parameters.
+/// The trait reference `ty: Trait`, for a trait whose only parameter is Self.
 pub(crate) fn type_asked(
     alloc: Global,
     cx: &mut Interner,
@@ -50,7 +50,7 @@ pub(crate) fn type_asked(
     Ok(TraitRef { def_id, args })
 }
 
-/// Each of the types asked for a trait without further parameters.
+/// The trait reference `ty: Trait` for each of the types. The trait's only parameter is Self.
 pub(crate) fn types_asked(
     alloc: Global,
     cx: &mut Interner,
@@ -72,7 +72,8 @@ pub(crate) fn types_asked(
     Ok(found)
 }
 
-/// The candidate that asks the constituents of a type for a trait, if there are any (`probe_and_evaluate_goal_for_constituent_tys`).
+/// The candidate whose premises are the constituents of a type, each with the trait. Returns `None` if the type has no such rule.
+/// rustc: `probe_and_evaluate_goal_for_constituent_tys`.
 fn for_constituent_tys(
     alloc: Global,
     cx: &mut Interner,
@@ -98,8 +99,8 @@ fn for_constituent_tys(
     }
 }
 
-/// The candidate by the rule of `Sized`: nothing is asked of scalars, pointers and arrays, the last item of a tuple, and the last field
-/// of a struct (`consider_builtin_sized_candidate`).
+/// The candidate by the rule of `Sized`. Scalars, pointers and arrays have no premises. The premise of a tuple is its last item, and
+/// that of a struct its last field. rustc: `consider_builtin_sized_candidate`.
 pub fn consider_builtin_sized_candidate(
     alloc: Global,
     cx: &mut Interner,
@@ -120,7 +121,7 @@ pub fn consider_builtin_sized_candidate(
     for_constituent_tys(alloc, cx, goal, source, def_id, tys)
 }
 
-/// The candidate by the rule of `Copy` and `Clone`, for `fn` pointers and tuples (`consider_builtin_copy_clone_candidate`).
+/// The candidate by the rule of `Copy` and `Clone`, for `fn` pointers and tuples. rustc: `consider_builtin_copy_clone_candidate`.
 pub fn consider_builtin_copy_clone_candidate(
     alloc: Global,
     cx: &mut Interner,
@@ -146,7 +147,7 @@ pub fn consider_builtin_copy_clone_candidate(
     )
 }
 
-/// The candidate by the rule of `Tuple`, for tuples (`consider_builtin_tuple_candidate`).
+/// The candidate by the rule of `Tuple`, for tuples. rustc: `consider_builtin_tuple_candidate`.
 pub fn consider_builtin_tuple_candidate(
     alloc: Global,
     cx: &mut Interner,
@@ -172,7 +173,7 @@ pub fn consider_builtin_tuple_candidate(
     )
 }
 
-/// The candidate by the rule of `FnPtr`, for `fn` pointers (`consider_builtin_fn_ptr_trait_candidate`).
+/// The candidate by the rule of `FnPtr`, for `fn` pointers. rustc: `consider_builtin_fn_ptr_trait_candidate`.
 pub fn consider_builtin_fn_ptr_trait_candidate(
     alloc: Global,
     cx: &mut Interner,
@@ -198,8 +199,8 @@ pub fn consider_builtin_fn_ptr_trait_candidate(
     )
 }
 
-/// The candidate by an auto trait's own rule, which asks the types that the self type is made of. Where an impl of the trait is written
-/// for a type of this head there is none (`consider_auto_trait_candidate`).
+/// The candidate by an auto trait's own rule. Its premises are the types that the self type consists of. There is none if the trait
+/// has an impl for types with this head. rustc: `consider_auto_trait_candidate`.
 pub fn consider_auto_trait_candidate(
     alloc: Global,
     cx: &mut Interner,

@@ -1,4 +1,4 @@
-//! The candidates by built-in rules, one after the other.
+//! The candidates by built-in rules, rule after rule.
 ghost use Rattle.type_terms.specs.Growth.{GrewOrFull};
 ghost use Rattle.std.specs.Prelude.{◌≡◌, ◌==◌, true, List, IfOk, IfSome, option_map};
 ghost use Rattle.std.specs.List.{slice_get};
@@ -45,7 +45,7 @@ const FN_MUT: u32 = 6;
 
 const FN: u32 = 7;
 
-/// The built-in rules that make one candidate at most.
+/// The built-in rules that give at most one candidate.
 #[derive(Clone, Copy)]
 enum BuiltInRule {
     Sized,
@@ -56,7 +56,7 @@ enum BuiltInRule {
     Calls,
 }
 
-/// Whether the trait is an auto trait (`trait_is_auto`).
+/// Whether the trait is an auto trait. rustc: `trait_is_auto`.
 pub fn is_auto(declarations: &Declarations, def_id: TraitId) -> bool
     ensures { (es : List Entry) → result ≡ is_auto (written es declarations.now) def_id.index }
 {
@@ -80,7 +80,7 @@ fn speaks_of(declarations: &Declarations, rule: BuiltInRule, def_id: TraitId) ->
     }
 }
 
-/// The candidate by the rule, for a goal of a trait that it speaks of.
+/// The candidate by the rule. The goal's trait is one of the rule's.
 fn consider_rule_for(
     alloc: Global,
     cx: &mut Interner,
@@ -105,7 +105,7 @@ fn consider_rule_for(
     }
 }
 
-/// The candidate by the rule, if it makes one of the goal.
+/// The candidate by the rule, if the rule applies to the goal's trait and gives one.
 fn consider_rule(
     alloc: Global,
     cx: &mut Interner,
@@ -128,7 +128,7 @@ fn consider_rule(
     }
 }
 
-/// The place behind the candidate, if it isn't the candidate's own.
+/// The index among the candidates after this one. Returns `None` if the index is that of this candidate.
 fn place_behind(candidate: &Option<CandidateSpec>, place: usize) -> Option<usize>
     ensures { IsBehind candidate.now place result }
 {
@@ -138,9 +138,10 @@ fn place_behind(candidate: &Option<CandidateSpec>, place: usize) -> Option<usize
     }
 }
 
-/// The candidate at this place among those by built-in rules, if there is one (`assemble_builtin_impl_candidates`).
+/// The candidate with this index among those by built-in rules, if there is one. rustc: `assemble_builtin_impl_candidates`.
 ///
-/// No goal has many of them: a rule is that of a trait, beside which the trait may be an auto trait, and only upcasts make more than one.
+/// No goal has many of them. A trait has at most one rule of its own, in addition to the rule of auto traits. Only upcasts give more
+/// than one candidate.
 pub fn consider_builtin_candidate(
     alloc: Global,
     cx: &mut Interner,

@@ -1,4 +1,4 @@
-//! Candidates by the built-in rule of calls.
+//! Candidates by the built-in rule of `Fn`, `FnMut` and `FnOnce`.
 ghost use Rattle.type_terms.specs.Growth.{GrewOrFull};
 ghost use Rattle.std.specs.Prelude.{◌≡◌, List, IfOk, IfSome};
 ghost use Rattle.std.specs.Option.{option_map};
@@ -60,7 +60,7 @@ fn signature(cx: &Interner, self_ty: Ty) -> Option<Tys>
     }
 }
 
-/// The argument after the first, if there is one.
+/// The second argument, if there is one.
 pub fn second_argument(cx: &Interner, args: GenericArgs) -> Option<GenericArgKind>
     requires { Has cx.now.entries args_lists args.0 }
     ensures { IsFirst cx.now.entries (next_of (trees_at cx.now.entries args.0)) result }
@@ -69,7 +69,7 @@ pub fn second_argument(cx: &Interner, args: GenericArgs) -> Option<GenericArgKin
     cx.args(args).get(1).copied()
 }
 
-/// The types but for the last.
+/// All types except the last.
 fn inputs(inputs_and_output: &[Ty]) -> &[Ty]
     ensures is { (es : List Entry) → Lawful es → TysHeld es inputs_and_output.now → tys_trees es result.now ≡ but_last (tys_trees es inputs_and_output.now) }
     ensures held { (es : List Entry) → TysHeld es inputs_and_output.now → TysHeld es result.now }
@@ -80,7 +80,7 @@ fn inputs(inputs_and_output: &[Ty]) -> &[Ty]
     }
 }
 
-/// The tuple of a `fn` pointer's inputs.
+/// The inputs of a `fn` pointer as a tuple.
 fn tupled_inputs(alloc: Global, cx: &mut Interner, inputs_and_output: Tys) -> Result<Ty, Fault>
     requires { Has cx.old.entries type_lists inputs_and_output.0 }
     ensures terms { GrewOrFull cx.old cx.new result }
@@ -94,7 +94,7 @@ fn tupled_inputs(alloc: Global, cx: &mut Interner, inputs_and_output: Tys) -> Re
     Ok(ty)
 }
 
-/// That the output of a `fn` pointer is `Sized`.
+/// The trait reference `R: Sized` for the output `R` of a `fn` pointer.
 fn output_is_sized(
     alloc: Global,
     cx: &mut Interner,
@@ -110,7 +110,7 @@ fn output_is_sized(
     types_asked(alloc, cx, TraitId { index: SIZED }, &output)
 }
 
-/// The candidate that asks a `fn` pointer's inputs to be these arguments, and its output to be `Sized`.
+/// The candidate that equates a `fn` pointer's inputs with these arguments. Its premise is that the output is `Sized`.
 fn call_candidate(
     alloc: Global,
     cx: &mut Interner,
@@ -140,8 +140,8 @@ fn call_candidate(
     by_rule(alloc, goal, source, equations, &premises)
 }
 
-/// The candidate by the rule of `Fn`, `FnMut` and `FnOnce`, for `fn` pointers: `fn(u8, bool) -> R: FnOnce<A>` equates `A` with
-/// `(u8, bool)` and asks `R: Sized` (`consider_builtin_fn_trait_candidates`).
+/// The candidate by the rule of `Fn`, `FnMut` and `FnOnce`, for `fn` pointers. For `fn(u8, bool) -> R: FnOnce<A>` it equates `A` with
+/// `(u8, bool)`, and its premise is `R: Sized`. rustc: `consider_builtin_fn_trait_candidates`.
 pub fn consider_builtin_fn_trait_candidates(
     alloc: Global,
     cx: &mut Interner,

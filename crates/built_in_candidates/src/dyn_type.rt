@@ -1,4 +1,4 @@
-//! `dyn` types: what they are written with, their principal with a self type put in, and its supertraits.
+//! `dyn` types: their bounds, the principal with a self type, and its supertraits.
 ghost use Rattle.type_terms.specs.Growth.{GrewOrFull};
 ghost use Rattle.std.specs.Prelude.{◌≡◌, ◌==◌, List, length, filter, count_by, IfOk};
 ghost use Rattle.std.specs.List.{list_any, slice_get};
@@ -49,7 +49,7 @@ pub fn dyn_bounds(cx: &Interner, ty: Ty) -> Option<Bounds>
     }
 }
 
-/// The arguments behind a self type.
+/// The self type followed by the arguments.
 fn args_with_self(
     alloc: Global,
     cx: &mut Interner,
@@ -68,8 +68,8 @@ fn args_with_self(
     Ok(args)
 }
 
-/// The principal of a `dyn` as a reference with this self type, if it has one: of `dyn Conv<u8> + Send`, with `T`, it is `T: Conv<u8>`
-/// (`with_self_ty`).
+/// The principal of a `dyn` as a trait reference with this self type, if there is one. For `dyn Conv<u8> + Send` and `T` it is
+/// `T: Conv<u8>`. rustc: `with_self_ty`.
 pub(crate) fn principal_with(
     alloc: Global,
     cx: &mut Interner,
@@ -93,7 +93,7 @@ pub(crate) fn principal_with(
     }
 }
 
-/// The principal with its supertraits through all levels, if there is one.
+/// The principal, if there is one, followed by all its direct and indirect supertraits.
 fn elaborate_principal(
     alloc: Global,
     cx: &mut Interner,
@@ -115,14 +115,14 @@ fn elaborate_principal(
     }
 }
 
-/// The principal of a `dyn` with the `dyn` as Self, if it has one, and the same with its supertraits.
+/// The principal of a `dyn`, if there is one, and the list of the principal and all its supertraits.
 #[derive(Drop)]
 pub(crate) struct Elaborated {
     pub principal: Option<TraitRef>,
     pub elaborated: Vec<TraitRef>,
 }
 
-/// The principal of a `dyn` with this self type, if it has one, and the same with its supertraits through all levels.
+/// The principal of a `dyn` with this self type, if there is one, and the list of the principal and all its supertraits.
 pub(crate) fn elaborated_principal(
     alloc: Global,
     cx: &mut Interner,
@@ -152,7 +152,7 @@ pub(crate) fn elaborated_principal(
     })
 }
 
-/// Whether a `dyn` names no principal that is not declared: of such a one no rule concludes anything. A `dyn` without a principal passes.
+/// Whether the principal is declared. No rule applies to a `dyn` whose principal is not declared. Returns `true` if there is no principal.
 pub(crate) fn is_declared(declarations: &Declarations, principal: Option<TraitRef>) -> bool
     ensures { (es now : List Entry) → result ≡ are_declared (written es declarations.now) (references_in now (if_there principal)) }
 {
@@ -165,7 +165,7 @@ pub(crate) fn is_declared(declarations: &Declarations, principal: Option<TraitRe
     }
 }
 
-/// Whether one of the references is to the trait, with whatever arguments: so auto traits are found among supertraits.
+/// Whether one of the trait references is of the trait, with any arguments. This finds auto traits among supertraits.
 pub(crate) fn has_trait(references: &[TraitRef], def_id: TraitId) -> bool
     ensures { result ≡ list_any (λ r. r.def_id.index == def_id.index) references.now }
 {
@@ -174,8 +174,8 @@ pub(crate) fn has_trait(references: &[TraitRef], def_id: TraitId) -> bool
         .any(|other| other.def_id.index == def_id.index)
 }
 
-/// Whether the principal, if there is one, is dyn compatible: it is declared, and `Sized` is neither it nor one of its supertraits
-/// (`trait_is_dyn_compatible`). `elaborated` is the principal with its supertraits.
+/// Whether the principal is dyn compatible: it is declared, and neither it nor one of its supertraits is `Sized`. `elaborated` is the
+/// principal with its supertraits. Returns `true` if there is no principal. rustc: `trait_is_dyn_compatible`.
 pub(crate) fn is_dyn_compatible(
     declarations: &Declarations,
     principal: Option<TraitRef>,
@@ -187,7 +187,7 @@ pub(crate) fn is_dyn_compatible(
     is_declared(declarations, principal) && !has_trait(elaborated, TraitId { index: SIZED })
 }
 
-/// How many of the traits are this one.
+/// How often the trait occurs in the list.
 fn count_of(autos: &[TraitId], def_id: TraitId) -> usize
     ensures { result ≡ count_by (λ x. x.index == def_id.index) autos.now }
 {
@@ -197,7 +197,7 @@ fn count_of(autos: &[TraitId], def_id: TraitId) -> usize
         .count()
 }
 
-/// How many of the auto traits that a `dyn` is written with are this one: one, or none.
+/// How often the trait occurs among the auto traits of a `dyn`: once or never.
 pub(crate) fn count_autos(cx: &Interner, bounds: Bounds, def_id: TraitId) -> usize
     requires { Has cx.now.entries bounds_lists bounds.0 }
     ensures { (self : Trees) → WithLifetime cx.now.entries bounds (λ b. result ≡ length (filter (λ r. r.trait == def_id.index) (autos_with self b))) }
@@ -205,7 +205,7 @@ pub(crate) fn count_autos(cx: &Interner, bounds: Bounds, def_id: TraitId) -> usi
     count_of(&cx.bounds(bounds).autos, def_id)
 }
 
-/// The reference at this place among those to the trait, with its number in the list.
+/// The trait reference with this index among those of the trait, with its index in the whole list.
 pub(crate) fn reference_at(
     references: &[TraitRef],
     def_id: TraitId,

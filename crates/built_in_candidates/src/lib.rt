@@ -1,5 +1,5 @@
-//! The candidates of a goal by built-in rules, in code: those that read the self type alone, calls of `fn` pointers, `Unsize`, and the
-//! bounds of a `dyn`. Each is read off the goal and the declarations that are seen, whatever else was considered.
+//! The candidates of a goal by built-in rules: those that depend on the self type alone, calls of `fn` pointers, `Unsize`, and the bounds
+//! of a `dyn`. A candidate depends on the goal and the visible declarations, and not on other candidates.
 #![tactic(auto)]
 
 pub mod built_in;

@@ -1,4 +1,4 @@
-//! Candidates by the bounds of the `dyn` that is the self type.
+//! Candidates by the bounds of a `dyn`, if the self type is one.
 ghost use Rattle.type_terms.specs.Growth.{GrewOrFull};
 ghost use Rattle.std.specs.Prelude.{◌≡◌, IfOk, IfSome, option_map};
 ghost use Rattle.std.specs.List.{slice_get};
@@ -65,7 +65,7 @@ fn bound_of_trait(
     }
 }
 
-/// The bound of a `dyn` at this place among those of the trait, if the `dyn` is dyn compatible.
+/// The bound of a `dyn` with this index among those of the trait, if the principal is dyn compatible.
 fn object_bound_at(
     alloc: Global,
     cx: &mut Interner,
@@ -94,8 +94,8 @@ fn object_bound_at(
     }
 }
 
-/// The candidate by a bound of a `dyn`: the goal's arguments are those of the bound, and the goal's supertraits are asked
-/// (`probe_and_consider_object_bound_candidate`).
+/// The candidate by a bound of a `dyn`. It equates the goal's arguments with those of the bound. Its premises are the goal's
+/// supertraits. rustc: `probe_and_consider_object_bound_candidate`.
 fn bound_candidate(
     alloc: Global,
     cx: &mut Interner,
@@ -122,9 +122,11 @@ fn bound_candidate(
     by_rule(alloc, goal, source, equations, &supertraits)
 }
 
-/// The candidate by the bound at this place among those of the goal's trait, where the self type is a `dyn`, if there is one. The
-/// auto traits that it is written with come first, and then its principal and the supertraits, each numbered
-/// (`consider_object_bound_candidate`).
+/// The candidate by the bound with this index among the bounds of the goal's trait, if the self type is a `dyn` that has so many. The
+/// auto traits that the `dyn` is written with come first, then its principal and the supertraits. The source of a candidate by one of
+/// the latter has its index in the elaborated list. rustc: `consider_object_bound_candidate`.
+///
+/// Each call elaborates the principal, since a handler keeps no state between two candidates of a goal.
 pub fn consider_object_bound_candidate(
     alloc: Global,
     cx: &mut Interner,

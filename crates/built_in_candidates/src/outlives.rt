@@ -1,4 +1,4 @@
-//! What unsizing to a `dyn` records of lifetimes. Nothing judges it: outlives premises always hold.
+//! The constraint on lifetimes that unsizing to a `dyn` records. Nothing checks it: outlives premises always hold.
 ghost use Rattle.std.specs.Prelude.{◌≡◌, ℕ, List, Some, IfOk, IfErr, IfSome, option_map};
 ghost use Rattle.type_terms.specs.Promised.Worlds.{World};
 ghost use Rattle.type_terms.specs.Promised.Handles.{Has, Entry, types, trees_at};
@@ -46,8 +46,8 @@ fn dyn_lifetime(cx: &Interner, ty: Ty) -> Option<Region>
     }
 }
 
-/// What unsizing a type to another records: `'a: 'b` of `dyn A + 'a` to `dyn B + 'b`, `T: 'b` of any other type T to `dyn B + 'b`, and
-/// nothing where the target is no `dyn`.
+/// The constraint that unsizing a type to another records. From `dyn A + 'a` to `dyn B + 'b` it is `'a: 'b`. From any other type `T` to
+/// `dyn B + 'b` it is `T: 'b`. Returns `None` if the target is no `dyn`.
 fn unsizing_outlives(cx: &Interner, self_ty: Ty, target: Ty) -> Option<RegionConstraint>
     requires self_held { Has cx.now.entries types self_ty.0 }
     requires target { Has cx.now.entries types target.0 }
@@ -63,7 +63,7 @@ fn unsizing_outlives(cx: &Interner, self_ty: Ty, target: Ty) -> Option<RegionCon
     }
 }
 
-/// The candidate, which records the constraint besides. The error is `Memory`.
+/// The candidate with this constraint in addition. Fails only with `Memory`.
 fn recording(
     mut candidate: CandidateSpec,
     constraint: RegionConstraint,
@@ -77,7 +77,7 @@ fn recording(
     Ok(candidate)
 }
 
-/// The candidate by which a type unsizes to the target, if there is one, which records what this says of lifetimes. The error is `Memory`.
+/// The candidate by which a type unsizes to the target, if there is one, with the constraint that this records. Fails only with `Memory`.
 pub fn recording_outlives(
     cx: &Interner,
     self_ty: Ty,

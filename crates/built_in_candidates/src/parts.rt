@@ -41,7 +41,7 @@ fn nested_goal(
     Ok((source, goal))
 }
 
-/// References as nested goals, under the goal's where-clauses. The error is `Memory`.
+/// Trait references as nested goals, with the goal's where-clauses. Fails only with `Memory`.
 pub fn nested_goals(
     alloc: Global,
     goal: &CanonicalInput,
@@ -63,8 +63,8 @@ pub fn nested_goals(
     Ok(nested)
 }
 
-/// The candidate by a rule without variables of its own: where the equations hold it is as sure as its premises, which are asked as
-/// the where-clauses of an impl are. The error is `Memory`.
+/// The candidate by a rule without variables of its own. If the equations hold, it is as certain as its premises. These are nested goals
+/// like the where-clauses of an impl. Fails only with `Memory`.
 pub fn by_rule(
     alloc: Global,
     goal: &CanonicalInput,
@@ -90,7 +90,7 @@ pub fn by_rule(
     })
 }
 
-/// The candidate of a goal of which nothing is known: it is ambiguous.
+/// The ambiguous candidate. A goal that cannot be decided has no other.
 pub fn unsure(alloc: Global) -> CandidateSpec
     ensures is { (es : List Entry) (kind : Bool) → spec_read es kind result ≡ unsure }
     ensures held { (es : List Entry) → SpecHeld es result }

@@ -1,4 +1,4 @@
-//! Equations between the arguments of references.
+//! Equations between the arguments of trait references.
 ghost use Rattle.type_terms.specs.Growth.{GrewOrFull};
 ghost use Rattle.std.specs.Prelude.{◌≡◌, IfOk, IfErr, map};
 ghost use Rattle.type_terms.specs.Promised.Handles.{Has, trees_at};
@@ -16,7 +16,7 @@ use type_terms::Fault;
 use type_terms::interner::Interner;
 use type_terms::kinds::{GenericArgKind, GenericArgs, TyKind};
 
-/// Equations between the arguments of two lists, place by place, and whether one list is longer. The error is `Memory`.
+/// Equations between the arguments with the same index in two lists, and whether one list is longer. Fails only with `Memory`.
 fn paired_args(
     alloc: Global,
     first: &[GenericArgKind],
@@ -45,7 +45,7 @@ fn paired_args(
     }
 }
 
-/// An equation that no terms meet: `bool` is `char`.
+/// An equation without solutions: `bool` is `char`.
 fn never_met(cx: &mut Interner) -> Result<Equation, Fault>
     ensures terms { GrewOrFull cx.old cx.new result }
     ensures held { IfOk result (EquationHeld cx.new.entries) }
@@ -59,8 +59,8 @@ fn never_met(cx: &mut Interner) -> Result<Equation, Fault>
     })
 }
 
-/// Equations that say that two lists of arguments are equal, place by place. Lists of different lengths are never equal: then there is
-/// an equation that no terms meet (`relate_args`). The errors are `Memory`, and `Full` if there is no room for the terms of that one.
+/// Equations that hold if two lists of arguments are equal. Lists of different lengths are never equal, so they get an equation without
+/// solutions. Fails with `Memory`, or with `Full` if the interner has no room for the terms of that equation. rustc: `relate_args`.
 pub fn relate_args(
     alloc: Global,
     cx: &mut Interner,

@@ -1,4 +1,4 @@
-//! The types that a type is made of, as far as built-in rules ask for them (`structural_traits`).
+//! The types that a type consists of, as premises of built-in rules. rustc: `structural_traits`.
 ghost use Rattle.type_terms.specs.Growth.{GrewOrFull};
 ghost use Rattle.std.specs.Prelude.{◌≡◌, ℕ, IfOk, IfErr, IfSome, None, map, if◌then◌else◌};
 ghost use Rattle.std.specs.List.{flat_map};
@@ -27,7 +27,7 @@ use type_terms::interner::Interner;
 use type_terms::kinds::{GenericArgs, Ty, TyKind, UintTy};
 use type_terms::{AdtId, Fault};
 
-/// The last of the types alone. The error is `Memory`.
+/// The last of the types, as a list. Fails only with `Memory`.
 pub(crate) fn last_alone(alloc: Global, tys: &[Ty]) -> Result<Vec<Ty>, Fault>
     ensures is { IfOk result (λ v. v.items ≡ last_of tys.now) }
     ensures memory { IfErr result (λ fault. fault ≡ Memory) }
@@ -38,7 +38,7 @@ pub(crate) fn last_alone(alloc: Global, tys: &[Ty]) -> Result<Vec<Ty>, Fault>
     }
 }
 
-/// A struct's field with the struct's arguments in the place of its parameters.
+/// A field of a struct, with the struct's arguments for its parameters.
 pub(crate) fn field_with(
     alloc: Global,
     cx: &mut Interner,
@@ -62,8 +62,8 @@ pub(crate) fn field_with(
     }
 }
 
-/// The types that have to be `Copy` or `Clone` for the type to be so by a built-in rule, if there is one; else an impl of `core`
-/// decides (`instantiate_constituent_tys_for_copy_clone_trait`). The error is `Memory`.
+/// The types that must be `Copy` or `Clone` for the type to be so by a built-in rule. Returns `None` if no built-in rule applies to the
+/// type. Then the impls decide. Fails only with `Memory`. rustc: `instantiate_constituent_tys_for_copy_clone_trait`.
 pub(crate) fn instantiate_constituent_tys_for_copy_clone_trait(
     alloc: Global,
     cx: &Interner,
@@ -101,7 +101,7 @@ pub(crate) fn instantiate_constituent_tys_for_copy_clone_trait(
     }
 }
 
-/// The type that has to be `Sized` for the struct with these arguments to be so: its last field, if it has any (`sized_constraint`).
+/// The type that must be `Sized` for the struct with these arguments to be so: the last field, if there is one. rustc: `sized_constraint`.
 fn sized_constraint(
     alloc: Global,
     cx: &mut Interner,
@@ -133,8 +133,8 @@ fn sized_constraint(
     }
 }
 
-/// The types that have to be `Sized` for the type to be so, if any rule makes it so
-/// (`instantiate_constituent_tys_for_sized_trait`).
+/// The types that must be `Sized` for the type to be so. Returns `None` if no rule applies to the type. rustc:
+/// `instantiate_constituent_tys_for_sized_trait`.
 pub(crate) fn instantiate_constituent_tys_for_sized_trait(
     alloc: Global,
     cx: &mut Interner,
@@ -176,7 +176,7 @@ pub(crate) fn instantiate_constituent_tys_for_sized_trait(
     }
 }
 
-/// No types, if the type is a tuple: `Tuple` asks nothing of it.
+/// The empty list if the type is a tuple, since the rule of `Tuple` has no premises. `None` for other types.
 pub(crate) fn constituents_for_tuple_trait(
     alloc: Global,
     cx: &Interner,
@@ -208,7 +208,7 @@ pub(crate) fn constituents_for_tuple_trait(
     }
 }
 
-/// No types, if the type is a `fn` pointer: `FnPtr` asks nothing of it.
+/// The empty list if the type is a `fn` pointer, since the rule of `FnPtr` has no premises. `None` for other types.
 pub(crate) fn constituents_for_fn_ptr_trait(
     alloc: Global,
     cx: &Interner,
@@ -240,7 +240,7 @@ pub(crate) fn constituents_for_fn_ptr_trait(
     }
 }
 
-/// A struct's fields with the struct's arguments in the place of its parameters.
+/// The fields of a struct, with the struct's arguments for its parameters.
 fn fields_with(
     alloc: Global,
     cx: &mut Interner,
@@ -266,7 +266,7 @@ fn fields_with(
     Ok(found)
 }
 
-/// The types that have to have an auto trait for the struct with these arguments to have it: its fields.
+/// The types that must implement an auto trait for the struct with these arguments to do so: its fields.
 fn all_fields(
     alloc: Global,
     cx: &mut Interner,
@@ -294,7 +294,7 @@ fn all_fields(
     }
 }
 
-/// The type of a string's bytes: `[u8]`.
+/// `[u8]`, the type of a string's bytes.
 fn str_bytes(cx: &mut Interner) -> Result<Ty, Fault>
     ensures terms { GrewOrFull cx.old cx.new result }
     ensures held { IfOk result (λ r. Has cx.new.entries types r.0) }
@@ -305,8 +305,8 @@ fn str_bytes(cx: &mut Interner) -> Result<Ty, Fault>
     Ok(bytes)
 }
 
-/// The types that have to have an auto trait for the type to have it by the trait's own rule, if that speaks of the type
-/// (`instantiate_constituent_tys_for_auto_trait`).
+/// The types that must implement an auto trait for the type to do so by the trait's own rule. Returns `None` if that rule does not apply
+/// to the type. rustc: `instantiate_constituent_tys_for_auto_trait`.
 pub(crate) fn instantiate_constituent_tys_for_auto_trait(
     alloc: Global,
     cx: &mut Interner,

@@ -1,4 +1,4 @@
-//! Candidates by the built-in rules of `Unsize`: that of arrays, and all of them together.
+//! Candidates by the built-in rules of `Unsize`: the rule of arrays, and the choice among all rules.
 ghost use Rattle.type_terms.specs.Growth.{GrewOrFull};
 ghost use Rattle.std.specs.Prelude.{◌≡◌, ◌==◌, ℕ, true, List, [], IfOk, IfErr, IfSome, option_map};
 ghost use Rattle.std.specs.List.{slice_get};
@@ -93,7 +93,7 @@ fn slice_element(cx: &Interner, ty: Ty) -> Option<Ty>
     }
 }
 
-/// The candidate by which an array unsizes to a slice: their elements are equal.
+/// The candidate by which an array unsizes to a slice. It equates their element types.
 fn unsize_array(
     alloc: Global,
     cx: &Interner,
@@ -120,8 +120,8 @@ fn unsize_array(
     by_rule(alloc, goal, source, equations, &[])
 }
 
-/// The candidate by which `[T; N]` unsizes to `[U]`, if the types are so: T is U, and nothing is asked
-/// (`consider_structural_builtin_unsize_candidates`). The error is `Memory`.
+/// The candidate by which `[T; N]` unsizes to `[U]`. It equates `T` with `U` and has no premises. Returns `None` for other types. Fails
+/// only with `Memory`. rustc: `consider_structural_builtin_unsize_candidates`.
 pub fn consider_array_to_slice_candidate(
     alloc: Global,
     cx: &Interner,
@@ -150,7 +150,7 @@ pub fn consider_array_to_slice_candidate(
     }
 }
 
-/// The candidate, if the place is the first.
+/// The candidate if the index is 0, and `None` for any other index.
 fn at_place(candidate: Option<CandidateSpec>, place: usize) -> Option<CandidateSpec>
     ensures is { (V : World) (t : ℕ) (es : List Entry) → option_map (candidate_of V t es) result ≡ slice_get (candidates_of V t es candidate) place }
     ensures held { (es : List Entry) → IfSome candidate (SpecHeld es) → IfSome result (SpecHeld es) }
@@ -158,7 +158,7 @@ fn at_place(candidate: Option<CandidateSpec>, place: usize) -> Option<CandidateS
     if place == 0 { candidate } else { None }
 }
 
-/// The candidate at this place by which a type unsizes to one that is no `dyn`.
+/// The candidate with this index by which a type unsizes to a type that is no `dyn`.
 fn unsize_to_no_dyn(
     alloc: Global,
     cx: &mut Interner,
@@ -200,7 +200,7 @@ fn unsize_to_no_dyn(
     }
 }
 
-/// The candidate at this place by which a type unsizes to another, where the heads of both are known.
+/// The candidate with this index by which a type unsizes to another. Neither is an inference variable.
 fn unsize_to(
     alloc: Global,
     cx: &mut Interner,
@@ -254,7 +254,7 @@ fn unsize_to(
     }
 }
 
-/// The type after the self type.
+/// The target of a goal of `Unsize`: the type after the self type.
 fn unsizing_target(cx: &Interner, goal: &CanonicalInput) -> Ty
     requires goal { GoalHeld cx.now.entries goal.now.goal }
     requires first { StartsWithType (next_of (trees_at cx.now.entries goal.now.goal.predicate.trait_ref.args.0)) }
@@ -272,9 +272,13 @@ fn unsizing_target(cx: &Interner, goal: &CanonicalInput) -> Ty
     }
 }
 
-/// The candidate by a built-in rule of `Unsize` at this place, if there is one: an array unsizes to a slice, a `dyn` to a `dyn`, any other
-/// type to a `dyn`, and a struct to itself. To a `dyn B + 'b` it records `'a: 'b` of `dyn A + 'a` and `T: 'b` of any other type T. Of a target
-/// that is unknown nothing is known (`consider_builtin_unsize_candidates`).
+/// The candidate with this index by the built-in rules of `Unsize`, if there is one. rustc: `consider_builtin_unsize_candidates`.
+///
+/// - An array unsizes to a slice.
+/// - A `dyn` unsizes to a `dyn`, and then `dyn A + 'a` to `dyn B + 'b` records `'a: 'b`.
+/// - Any other type unsizes to a `dyn`, and then `T` to `dyn B + 'b` records `T: 'b`.
+/// - A struct unsizes to itself with other arguments.
+/// - If the target is an inference variable, the only candidate is ambiguous.
 pub fn consider_builtin_unsize_candidate(
     alloc: Global,
     cx: &mut Interner,

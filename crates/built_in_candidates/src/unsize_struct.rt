@@ -40,21 +40,21 @@ use type_terms::{AdtId, Fault, TraitId};
 /// The trait `Unsize` of `core`.
 pub const UNSIZE: u32 = 8;
 
-/// Whether some parameter is unsizing.
+/// Whether at least one parameter is unsizing.
 fn has_unsizing(flags: &[bool]) -> bool
     ensures { result ≡ list_any (λ flag. flag) flags.now }
 {
     flags.iter().any(|flag| *flag)
 }
 
-/// The target's argument in the place of an unsizing parameter, and else the own one.
+/// The target's argument for an unsizing parameter, and the struct's own argument for any other.
 fn argument(is_unsizing: bool, own: GenericArgKind, other: GenericArgKind) -> GenericArgKind
     ensures { result ≡ (if is_unsizing then other else own) }
 {
     if is_unsizing { other } else { own }
 }
 
-/// The arguments with those of the target in the places of the unsizing parameters. The error is `Memory`.
+/// The struct's arguments, but those of the target for unsizing parameters. Fails only with `Memory`.
 fn with_unsizing(
     alloc: Global,
     flags: &[bool],
@@ -84,7 +84,7 @@ fn with_unsizing(
     Ok(found)
 }
 
-/// That the arguments are the target's, but for those of unsizing parameters.
+/// Equations between the arguments and those of the target, except for unsizing parameters.
 fn unsizing_equations(
     alloc: Global,
     cx: &mut Interner,
@@ -109,7 +109,7 @@ fn unsizing_equations(
     relate_args(alloc, cx, unsized_args, target)
 }
 
-/// That a type unsizes to another.
+/// The trait reference `source: Unsize<target>`.
 fn unsizes(alloc: Global, cx: &mut Interner, source: Ty, target: Ty) -> Result<TraitRef, Fault>
     requires source { Has cx.old.entries types source.0 }
     requires target { Has cx.old.entries types target.0 }
@@ -126,7 +126,7 @@ fn unsizes(alloc: Global, cx: &mut Interner, source: Ty, target: Ty) -> Result<T
     })
 }
 
-/// That a struct's last field unsizes, from the field with the struct's arguments to that with the target's.
+/// The trait reference by which a struct's last field unsizes: from the field with the struct's arguments to the field with the target's.
 fn tail_unsizes(
     alloc: Global,
     cx: &mut Interner,
@@ -183,7 +183,7 @@ fn struct_candidate(
     by_rule(alloc, goal, source, equations, &[premise])
 }
 
-/// The candidate by which this struct unsizes to itself, if it has an unsizing parameter.
+/// The candidate by which a struct unsizes to itself with other arguments, if it has a field and an unsizing parameter.
 fn unsize_struct(
     alloc: Global,
     cx: &mut Interner,
@@ -219,7 +219,7 @@ fn unsize_struct(
     }
 }
 
-/// The candidate by which the struct of this number unsizes to itself, if it is declared.
+/// The candidate by which a struct, given by its number, unsizes to itself with other arguments. Returns `None` if it is not declared.
 fn unsize_adt(
     alloc: Global,
     cx: &mut Interner,
@@ -275,9 +275,9 @@ fn struct_with(cx: &Interner, ty: Ty) -> Option<(AdtId, GenericArgs)>
     }
 }
 
-/// The candidate by which a struct unsizes to itself: the arguments are the target's, but for unsizing parameters, and the last field
-/// unsizes. With `struct S<T>(u8, V<T>)`, `S<[u8; 3]>: Unsize<S<[u8]>>` asks `V<[u8; 3]>: Unsize<V<[u8]>>`
-/// (`consider_structural_builtin_unsize_candidates`).
+/// The candidate by which a struct unsizes to itself with other arguments. It equates the arguments, except for unsizing parameters. Its
+/// premise is that the last field unsizes. With `struct S<T>(u8, V<T>)` the premise of `S<[u8; 3]>: Unsize<S<[u8]>>` is
+/// `V<[u8; 3]>: Unsize<V<[u8]>>`. rustc: `consider_structural_builtin_unsize_candidates`.
 pub fn consider_builtin_struct_unsize_candidate(
     alloc: Global,
     cx: &mut Interner,

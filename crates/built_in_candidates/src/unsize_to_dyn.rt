@@ -1,4 +1,4 @@
-//! The candidate by which a type unsizes to a `dyn`.
+//! The candidate by which a type that is no `dyn` unsizes to a `dyn`.
 ghost use Rattle.type_terms.specs.Growth.{GrewOrFull};
 ghost use Rattle.std.specs.Prelude.{◌≡◌, [], ◌∷◌, ◌++◌, IfOk, IfErr, IfSome};
 ghost use Rattle.type_terms.specs.Promised.Trees.{◌+++◌};
@@ -31,7 +31,7 @@ use type_terms::interner::Interner;
 use type_terms::kinds::{Bounds, Ty, TyKind};
 use type_terms::{Fault, TraitId};
 
-/// The type up to lifetimes at its head: of a `fn` pointer it is not told how many lifetimes it binds.
+/// The type, but a `fn` pointer without the number of lifetimes that it binds.
 fn with_plain_head(cx: &mut Interner, ty: Ty) -> Result<Ty, Fault>
     requires { Has cx.old.entries types ty.0 }
     ensures terms { GrewOrFull cx.old cx.new result }
@@ -63,7 +63,7 @@ fn with_plain_head(cx: &mut Interner, ty: Ty) -> Result<Ty, Fault>
     }
 }
 
-/// The reference alone, if it is there. The error is `Memory`.
+/// The trait reference as a list, which is empty for `None`. Fails only with `Memory`.
 fn if_there(alloc: Global, trait_ref: Option<TraitRef>) -> Result<Vec<TraitRef>, Fault>
     ensures is { IfOk result (λ v. v.items ≡ if_there trait_ref) }
     ensures memory { IfErr result (λ fault. fault ≡ Memory) }
@@ -74,7 +74,7 @@ fn if_there(alloc: Global, trait_ref: Option<TraitRef>) -> Result<Vec<TraitRef>,
     }
 }
 
-/// A reference, if it is there, and behind it the type asked for each of the traits.
+/// A trait reference, if there is one, followed by `ty: Trait` for each of the traits.
 fn with_traits_asked(
     alloc: Global,
     cx: &mut Interner,
@@ -99,8 +99,7 @@ fn with_traits_asked(
     Ok(found)
 }
 
-/// What is asked of a type so that it unsizes to a `dyn` with these bounds: each of the bounds, of which the principal is given, and
-/// `Sized`.
+/// The premises for a type to unsize to a `dyn`: it has the principal, each auto trait of the bounds, and `Sized`.
 fn unsizing_obligations(
     alloc: Global,
     cx: &mut Interner,
@@ -124,7 +123,7 @@ fn unsizing_obligations(
     Ok(premises)
 }
 
-/// The candidate by which a type unsizes to a `dyn` with these bounds, if the principal is dyn compatible.
+/// The candidate by which a type unsizes to a `dyn` with these bounds. Returns `None` if the principal is not dyn compatible.
 fn to_dyn_candidate(
     alloc: Global,
     cx: &mut Interner,
@@ -156,9 +155,9 @@ fn to_dyn_candidate(
     }
 }
 
-/// The candidate by which a type that is no `dyn` unsizes to a `dyn`: it has each of the bounds, and is `Sized`. `u8: Unsize<dyn Show + Send>`
-/// asks `u8: Show`, `u8: Send` and `u8: Sized`. To a principal that is not dyn compatible nothing unsizes
-/// (`consider_builtin_unsize_candidates`).
+/// The candidate by which a type that is no `dyn` unsizes to a `dyn`. Its premises are that the type has each of the bounds, and is
+/// `Sized`. Those of `u8: Unsize<dyn Show + Send>` are `u8: Show`, `u8: Send` and `u8: Sized`. There is none if the principal is not dyn
+/// compatible. rustc: `consider_builtin_unsize_candidates`.
 pub fn consider_builtin_unsize_to_dyn_candidate(
     alloc: Global,
     cx: &mut Interner,

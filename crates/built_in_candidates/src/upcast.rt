@@ -1,4 +1,4 @@
-//! Candidates by upcasts of a `dyn` to a `dyn`.
+//! Candidates by which a `dyn` unsizes to a `dyn`.
 ghost use Rattle.type_terms.specs.Growth.{GrewOrFull};
 ghost use Rattle.std.specs.Prelude.{◌≡◌, ◌==◌, ◌||◌, ◌&&◌, ◌∷◌, [], List, IfOk, IfSome, IfErr, option_map};
 ghost use Rattle.std.specs.List.{slice_get, list_all, list_any};
@@ -48,7 +48,7 @@ fn is_written_or_elaborated(autos: &[TraitId], elaborated: &[TraitRef], auto: Tr
     has_auto(autos, auto) || has_trait(elaborated, auto)
 }
 
-/// Whether each of the target's auto traits is written at the source, or is its principal or one of the supertraits.
+/// Whether each of the target's auto traits occurs among those of the source, or among its principal and the supertraits.
 fn has_autos(autos: &[TraitId], elaborated: &[TraitRef], targets: &[TraitId]) -> bool
     ensures { result ≡ list_all (λ b. list_any (λ q. q.index == b.index) autos.now || list_any (λ r. r.def_id.index == b.index) elaborated.now) targets.now }
 {
@@ -57,8 +57,8 @@ fn has_autos(autos: &[TraitId], elaborated: &[TraitRef], targets: &[TraitId]) ->
         .all(|auto| is_written_or_elaborated(autos, elaborated, *auto))
 }
 
-/// Whether a `dyn` has what its target asks but for the principal: its own principal is declared, and the target's auto traits come from
-/// it.
+/// Whether a `dyn` meets the conditions of an upcast that do not depend on the target's principal: its own principal is declared, and it
+/// has the target's auto traits.
 fn can_upcast(
     cx: &Interner,
     declarations: &Declarations,
@@ -81,7 +81,7 @@ fn can_upcast(
         )
 }
 
-/// The bound of the trait at this place to which a `dyn` is upcast: its principal, if it is of that trait, else a supertrait.
+/// The bound with this index to which a `dyn` is upcast: its principal if that is of the trait, and else a supertrait of the trait.
 fn upcast_bound(
     from: &Elaborated,
     def_id: TraitId,
@@ -113,7 +113,7 @@ fn upcast_bound(
     }
 }
 
-/// The candidate that equates two lists of arguments, and asks nothing.
+/// The candidate that equates two lists of arguments and has no premises.
 fn equated_candidate(
     alloc: Global,
     cx: &mut Interner,
@@ -136,7 +136,7 @@ fn equated_candidate(
     by_rule(alloc, goal, source, equations, &[])
 }
 
-/// The candidate that drops the principal, which is the only one. The error is `Memory`.
+/// The candidate that drops the principal, if the index is 0. There is no other such candidate. Fails only with `Memory`.
 fn drop_candidate(
     alloc: Global,
     goal: &CanonicalInput,
@@ -155,7 +155,7 @@ fn drop_candidate(
     Ok(None)
 }
 
-/// The candidate at this place by which a `dyn` is upcast to this principal, or to none.
+/// The candidate with this index by which a `dyn` is upcast to this principal, or to a `dyn` without one.
 fn upcast_candidate(
     alloc: Global,
     cx: &mut Interner,
@@ -186,7 +186,7 @@ fn upcast_candidate(
     }
 }
 
-/// The principals of a `dyn` and of its target, both with the `dyn` as Self.
+/// The principals of a `dyn` and of its target, both with the `dyn` as Self. The first has its supertraits.
 #[derive(Drop)]
 struct Ends {
     from: Elaborated,
@@ -225,7 +225,7 @@ fn upcast_ends(
     Ok(Ends { from, to })
 }
 
-/// The candidate at this place by which a `dyn` with these bounds is upcast to one with those.
+/// The candidate with this index by which a `dyn` is upcast to another. The bounds of both are given.
 fn consider_upcast(
     alloc: Global,
     cx: &mut Interner,
@@ -257,9 +257,11 @@ fn consider_upcast(
     }
 }
 
-/// The candidate at this place by which a `dyn` unsizes to a `dyn`: the principal is dropped, or kept where the traits are one, or it is
-/// upcast to a supertrait, one for each bound of the target's trait. The target's auto traits come from the `dyn`
-/// (`consider_builtin_dyn_upcast_candidates`).
+/// The candidate with this index by which a `dyn` unsizes to a `dyn`. The `dyn` must have the target's auto traits. rustc:
+/// `consider_builtin_dyn_upcast_candidates`.
+///
+/// If the target has no principal, the principal is dropped. If both principals are of one trait, their arguments are equated. In any
+/// other case there is a candidate for each supertrait that is of the trait of the target's principal.
 pub fn consider_builtin_dyn_upcast_candidates(
     alloc: Global,
     cx: &mut Interner,

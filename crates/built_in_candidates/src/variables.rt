@@ -9,14 +9,14 @@ use type_terms::interner::Interner;
 use type_terms::kinds::{Ty, TyKind};
 use type_terms::number::{BoundVar, BoundVarIndexKind};
 
-/// What the canonical variable of a goal stands for, by the goal's list of kinds; none for one that a candidate added behind these.
+/// The kind of a goal's canonical variable. Returns `None` for a variable that a candidate added after those of the goal.
 pub fn kind_of(kinds: &[CanonicalVarKind], variable: BoundVar) -> Option<CanonicalVarKind>
     ensures { result ≡ kind_at kinds.now variable.index }
 {
     kinds.get(variable.index as usize).copied()
 }
 
-/// Whether the type is an unknown of the goal: a canonical variable that its list of kinds has as an unknown type. A placeholder is none.
+/// Whether the type is an inference variable of the goal: a canonical variable of the kind `Ty`. A placeholder is none.
 pub fn is_unknown(cx: &Interner, kinds: &[CanonicalVarKind], ty: Ty) -> bool
     requires { Has cx.now.entries types ty.0 }
     ensures { result ≡ begins_unknown kinds.now (trees_at cx.now.entries ty.0) }
