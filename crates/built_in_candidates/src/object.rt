@@ -32,31 +32,38 @@ use type_terms::interner::Interner;
 use type_terms::kinds::{Bounds, Ty};
 use type_terms::{Fault, TraitId};
 
-/// The bound at this place among those of the trait: the auto traits that the `dyn` is written with, and then its principal with the
-/// supertraits. `Sized` is none of them.
+/// A `dyn` type with the bounds that it is written with.
+#[derive(Clone, Copy)]
+struct Object {
+    self_ty: Ty,
+    bounds: Bounds,
+}
+
+/// The bound with this index among those of the trait: the auto traits that the `dyn` is written with, then its principal with the
+/// supertraits. No bound is of `Sized`.
 fn bound_of_trait(
     alloc: Global,
     cx: &mut Interner,
     def_id: TraitId,
-    self_ty: Ty,
-    bounds: Bounds,
+    object: Object,
     elaborated: &[TraitRef],
     place: usize,
 ) -> Result<Option<(BuiltinImplSource, TraitRef)>, Fault>
-    requires self_held { Has cx.old.entries types self_ty.0 }
-    requires bounds { Has cx.old.entries bounds_lists bounds.0 }
+    requires self_held { Has cx.old.entries types object.self_ty.0 }
+    requires bounds { Has cx.old.entries bounds_lists object.bounds.0 }
     requires elaborated { TraitRefsHeld cx.old.entries elaborated.now }
     ensures terms { GrewOrFull cx.old cx.new result }
     ensures held { IfOk result (λ o. IfSome o (λ x. ReferenceHeld cx.new.entries x.1)) }
-    ensures is { IfOk result (λ o. WithLifetime cx.old.entries bounds (λ b. option_map (bound_in cx.new.entries) o
-        ≡ slice_get (written_and_elaborated def_id.index (trees_at cx.old.entries self_ty.0) b (references_in cx.old.entries elaborated.now)) place)) }
+    ensures is { let S = trees_at cx.old.entries object.self_ty.0 in
+        IfOk result (λ o. WithLifetime cx.old.entries object.bounds (λ b. option_map (bound_in cx.new.entries) o
+        ≡ slice_get (written_and_elaborated def_id.index S b (references_in cx.old.entries elaborated.now)) place)) }
 {
     if def_id.index == SIZED {
         return Ok(None);
     }
-    let autos = count_autos(cx, bounds, def_id);
+    let autos = count_autos(cx, object.bounds, def_id);
     if place < autos {
-        let bound = type_asked(alloc, cx, def_id, self_ty)?;
+        let bound = type_asked(alloc, cx, def_id, object.self_ty)?;
         return Ok(Some((BuiltinImplSource::Misc, bound)));
     }
     match reference_at(elaborated, def_id, place - autos) {
@@ -71,24 +78,24 @@ fn object_bound_at(
     cx: &mut Interner,
     declarations: &Declarations,
     def_id: TraitId,
-    self_ty: Ty,
-    bounds: Bounds,
+    object: Object,
     place: usize,
 ) -> Result<Option<(BuiltinImplSource, TraitRef)>, Fault>
     requires declared { AreHeld cx.old.entries declarations.now }
     requires traits { HaveBounds cx.old.entries declarations.now }
-    requires self_held { Has cx.old.entries types self_ty.0 }
-    requires bounds { Has cx.old.entries bounds_lists bounds.0 }
-    requires applied { WithLifetime cx.old.entries bounds (λ b. Each (AreArgumentsOf declarations.now) (principal_with (trees_at cx.old.entries self_ty.0) b)) }
+    requires self_held { Has cx.old.entries types object.self_ty.0 }
+    requires bounds { Has cx.old.entries bounds_lists object.bounds.0 }
+    requires applied { let S = trees_at cx.old.entries object.self_ty.0 in
+        WithLifetime cx.old.entries object.bounds (λ b. Each (AreArgumentsOf declarations.now) (principal_with S b)) }
     ensures terms { GrewOrFull cx.old cx.new result }
     ensures held { IfOk result (λ o. IfSome o (λ x. ReferenceHeld cx.new.entries x.1)) }
-    ensures is { let V = written cx.old.entries declarations.now in
-        IfOk result (λ o. WithLifetime cx.old.entries bounds (λ b. option_map (bound_in cx.new.entries) o
-        ≡ slice_get (object_bounds V def_id.index (trees_at cx.old.entries self_ty.0) b) place)) }
+    ensures is { let V = written cx.old.entries declarations.now in let S = trees_at cx.old.entries object.self_ty.0 in
+        IfOk result (λ o. WithLifetime cx.old.entries object.bounds (λ b. option_map (bound_in cx.new.entries) o
+        ≡ slice_get (object_bounds V def_id.index S b) place)) }
 {
-    let from = elaborated_principal(alloc, cx, declarations, self_ty, bounds)?;
+    let from = elaborated_principal(alloc, cx, declarations, object.self_ty, object.bounds)?;
     if is_dyn_compatible(declarations, from.principal, &from.elaborated) {
-        bound_of_trait(alloc, cx, def_id, self_ty, bounds, &from.elaborated, place)
+        bound_of_trait(alloc, cx, def_id, object, &from.elaborated, place)
     } else {
         Ok(None)
     }
@@ -149,15 +156,8 @@ pub fn consider_object_bound_candidate(
     let self_ty = asked.self_ty(cx);
     match dyn_bounds(cx, self_ty) {
         Some(bounds) => {
-            match object_bound_at(
-                alloc,
-                cx,
-                declarations,
-                asked.def_id,
-                self_ty,
-                bounds,
-                place,
-            )? {
+            let object = Object { self_ty, bounds };
+            match object_bound_at(alloc, cx, declarations, asked.def_id, object, place)? {
                 Some((source, bound)) => {
                     let candidate = bound_candidate(alloc, cx, declarations, goal, source, bound)?;
                     Ok(Some(candidate))

@@ -20,17 +20,17 @@ returns-then-is_dyn_compatible-clause-is c =
     let V = written old c.args.declarations.now in
     let t = c.args.def_id.index in
     let n = c.args.place in
-    let S = trees_at old c.args.self_ty.0 in
+    let S = trees_at old c.args.object.self_ty.0 in
     let found = references_in mid c.deref-then-is_dyn_compatible.result.now in
     if-ok _ _ c.bound_of_trait.result
     (λ o is. λ l h.
-    let B = trees_at old c.args.bounds.0 +++ leaf l in
+    let B = trees_at old c.args.object.bounds.0 +++ leaf l in
     let P = principal_with S B in
     let elab = ap (references_in mid) c.deref.ensures.value ∙ c.in_ok-from.ensures.elaborated l h ∙ ap (elaborate V) (sym (c.in_ok-from.ensures.principal l h)) in
     let ok = c.is_dyn_compatible.ensures old mid c.requires.traits elab ∙ ap (are_dyn_compatible V) (c.in_ok-from.ensures.principal l h) in
     is l h
-    ∙ ap (λ s. slice_get (written_and_elaborated t s (trees_at mid c.args.bounds.0 +++ leaf l) found) n) (trees-later old mid keeps types c.args.self_ty.0 c.requires.self_held)
-    ∙ ap (λ b. slice_get (written_and_elaborated t S (b +++ leaf l) found) n) (trees-later old mid keeps bounds_lists c.args.bounds.0 c.requires.bounds)
+    ∙ ap (λ s. slice_get (written_and_elaborated t s (trees_at mid c.args.object.bounds.0 +++ leaf l) found) n) (trees-later old mid keeps types c.args.object.self_ty.0 c.requires.self_held)
+    ∙ ap (λ b. slice_get (written_and_elaborated t S (b +++ leaf l) found) n) (trees-later old mid keeps bounds_lists c.args.object.bounds.0 c.requires.bounds)
     ∙ ap (λ rs. slice_get (written_and_elaborated t S B rs) n) (ap (references_in mid) c.deref-then-is_dyn_compatible.ensures.value ∙ c.in_ok-from.ensures.elaborated l h)
     ∙ sym (ap (λ b. slice_get (if_so b (written_and_elaborated t S B (elaborate V P))) n) (sym ok ∙ c.if-is_dyn_compatible.true)))
     c.bound_of_trait.ensures.is
@@ -40,8 +40,8 @@ returns-clause-is c = λ l h.
     let old = c.args.cx.now.entries in
     let mid = c.elaborated_principal.new.cx.entries in
     let V = written old c.args.declarations.now in
-    let S = trees_at old c.args.self_ty.0 in
-    let B = trees_at old c.args.bounds.0 +++ leaf l in
+    let S = trees_at old c.args.object.self_ty.0 in
+    let B = trees_at old c.args.object.bounds.0 +++ leaf l in
     let P = principal_with S B in
     let elab = ap (references_in mid) c.deref.ensures.value ∙ c.in_ok-from.ensures.elaborated l h ∙ ap (elaborate V) (sym (c.in_ok-from.ensures.principal l h)) in
     let ok = c.is_dyn_compatible.ensures old mid c.requires.traits elab ∙ ap (are_dyn_compatible V) (c.in_ok-from.ensures.principal l h) in
