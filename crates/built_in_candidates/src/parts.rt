@@ -21,8 +21,16 @@ use infer_table::terms::Equation;
 use std::alloc::Global;
 use term_folds::predicate::{TraitPredicate, TraitRef};
 use type_terms::Fault;
+use type_terms::kinds::Ty;
 
-/// A reference as a nested goal, under the goal's where-clauses. The error is `Memory`.
+/// The two types of a goal `self_ty: Unsize<target>`.
+#[derive(Clone, Copy)]
+pub struct Coercion {
+    pub self_ty: Ty,
+    pub target: Ty,
+}
+
+/// A trait reference as a nested goal, with the goal's where-clauses. Fails only with `Memory`.
 fn nested_goal(
     alloc: Global,
     goal: &CanonicalInput,

@@ -23,7 +23,7 @@ ghost use Rattle.built_in_candidates.specs.Unsizing.{array_element_of, slice_ele
 use crate::calls::second_argument;
 use crate::dyn_type::dyn_bounds;
 use crate::outlives::recording_outlives;
-use crate::parts::{by_rule, unsure};
+use crate::parts::{Coercion, by_rule, unsure};
 use crate::unsize_struct::{UNSIZE, consider_builtin_struct_unsize_candidate};
 use crate::unsize_to_dyn::consider_builtin_unsize_to_dyn_candidate;
 use crate::upcast::consider_builtin_dyn_upcast_candidates;
@@ -126,20 +126,22 @@ pub fn consider_array_to_slice_candidate(
     alloc: Global,
     cx: &Interner,
     goal: &CanonicalInput,
-    self_ty: Ty,
-    target: Ty,
+    coercion: Coercion,
 ) -> Result<Option<CandidateSpec>, Fault>
     requires goal { GoalHeld cx.now.entries goal.now.goal }
-    requires self_held { Has cx.now.entries types self_ty.0 }
-    requires target { Has cx.now.entries types target.0 }
+    requires self_held { Has cx.now.entries types coercion.self_ty.0 }
+    requires target { Has cx.now.entries types coercion.target.0 }
     ensures held { IfOk result (λ o. IfSome o (SpecHeld cx.now.entries)) }
-    ensures is { let types = trees_at cx.now.entries self_ty.0 +++ trees_at cx.now.entries target.0 in
+    ensures is { let types = trees_at cx.now.entries coercion.self_ty.0 +++ trees_at cx.now.entries coercion.target.0 in
         IfOk result (λ o. (V : World)
         → candidates_of V goal.now.goal.predicate.trait_ref.def_id.index cx.now.entries o ≡ unsize_array_of V (asked_of cx.now.entries goal.now) types) }
     ensures memory { IfErr result (λ fault. fault ≡ Memory) }
 {
     cx.lawful();
-    match (array_element(cx, self_ty), slice_element(cx, target)) {
+    match (
+        array_element(cx, coercion.self_ty),
+        slice_element(cx, coercion.target),
+    ) {
         (Some(element), Some(target_element)) => {
             let candidate = unsize_array(alloc, cx, goal, element, target_element)?;
             Ok(Some(candidate))
@@ -164,26 +166,25 @@ fn unsize_to_no_dyn(
     cx: &mut Interner,
     declarations: &Declarations,
     goal: &CanonicalInput,
-    self_ty: Ty,
-    target: Ty,
+    coercion: Coercion,
     place: usize,
 ) -> Result<Option<CandidateSpec>, Fault>
     requires goal { GoalHeld cx.old.entries goal.now.goal }
     requires declared { AreHeld cx.old.entries declarations.now }
     requires fields { HaveFields cx.old.entries declarations.now }
-    requires self_held { Has cx.old.entries types self_ty.0 }
-    requires target { Has cx.old.entries types target.0 }
-    requires applied { StructIsApplied declarations.now (trees_at cx.old.entries self_ty.0) }
-    requires target_applied { StructIsApplied declarations.now (trees_at cx.old.entries target.0) }
-    requires no_dyn { bounds_of (trees_at cx.old.entries target.0) ≡ None }
+    requires self_held { Has cx.old.entries types coercion.self_ty.0 }
+    requires target { Has cx.old.entries types coercion.target.0 }
+    requires applied { StructIsApplied declarations.now (trees_at cx.old.entries coercion.self_ty.0) }
+    requires target_applied { StructIsApplied declarations.now (trees_at cx.old.entries coercion.target.0) }
+    requires no_dyn { bounds_of (trees_at cx.old.entries coercion.target.0) ≡ None }
     ensures terms { GrewOrFull cx.old cx.new result }
     ensures held { IfOk result (λ o. IfSome o (SpecHeld cx.new.entries)) }
     ensures is { let V = written cx.old.entries declarations.now in let a = asked_of cx.old.entries goal.now in
-        let types = with_plain_head (trees_at cx.old.entries self_ty.0) +++ trees_at cx.old.entries target.0 in
+        let types = with_plain_head (trees_at cx.old.entries coercion.self_ty.0) +++ trees_at cx.old.entries coercion.target.0 in
         IfOk result (λ o. option_map (candidate_of V a.reference.trait cx.new.entries) o ≡ slice_get (unsize_known V a types) place) }
 {
     cx.lawful();
-    let array = consider_array_to_slice_candidate(alloc, cx, goal, self_ty, target)?;
+    let array = consider_array_to_slice_candidate(alloc, cx, goal, coercion)?;
     match array {
         Some(candidate) => Ok(at_place(Some(candidate), place)),
         None => {
@@ -192,8 +193,7 @@ fn unsize_to_no_dyn(
                 cx,
                 declarations,
                 goal,
-                self_ty,
-                target,
+                coercion,
             )?;
             Ok(at_place(candidate, place))
         }
@@ -206,51 +206,45 @@ fn unsize_to(
     cx: &mut Interner,
     declarations: &Declarations,
     goal: &CanonicalInput,
-    self_ty: Ty,
-    target: Ty,
+    coercion: Coercion,
     place: usize,
 ) -> Result<Option<CandidateSpec>, Fault>
     requires goal { GoalHeld cx.old.entries goal.now.goal }
     requires declared { AreHeld cx.old.entries declarations.now }
     requires fields { HaveFields cx.old.entries declarations.now }
     requires traits { HaveBounds cx.old.entries declarations.now }
-    requires self_held { Has cx.old.entries types self_ty.0 }
-    requires target { Has cx.old.entries types target.0 }
-    requires applied { StructIsApplied declarations.now (trees_at cx.old.entries self_ty.0) }
-    requires object { ObjectIsApplied declarations.now (trees_at cx.old.entries self_ty.0) }
-    requires target_applied { TargetIsApplied declarations.now (with_plain_head (trees_at cx.old.entries self_ty.0) +++ trees_at cx.old.entries target.0) }
+    requires self_held { Has cx.old.entries types coercion.self_ty.0 }
+    requires target { Has cx.old.entries types coercion.target.0 }
+    requires applied { StructIsApplied declarations.now (trees_at cx.old.entries coercion.self_ty.0) }
+    requires object { ObjectIsApplied declarations.now (trees_at cx.old.entries coercion.self_ty.0) }
+    requires target_applied { let es = cx.old.entries in
+        TargetIsApplied declarations.now (with_plain_head (trees_at es coercion.self_ty.0) +++ trees_at es coercion.target.0) }
     ensures terms { GrewOrFull cx.old cx.new result }
     ensures held { IfOk result (λ o. IfSome o (SpecHeld cx.new.entries)) }
     ensures is { let V = written cx.old.entries declarations.now in let a = asked_of cx.old.entries goal.now in
-        let types = with_plain_head (trees_at cx.old.entries self_ty.0) +++ trees_at cx.old.entries target.0 in
+        let types = with_plain_head (trees_at cx.old.entries coercion.self_ty.0) +++ trees_at cx.old.entries coercion.target.0 in
         IfOk result (λ o. option_map (candidate_of V a.reference.trait cx.new.entries) o ≡ slice_get (unsize_known V a types) place) }
 {
     cx.lawful();
-    match (dyn_bounds(cx, self_ty), dyn_bounds(cx, target)) {
-        (Some(_), Some(_)) => consider_builtin_dyn_upcast_candidates(
-            alloc,
-            cx,
-            declarations,
-            goal,
-            self_ty,
-            target,
-            place,
-        ),
+    match (
+        dyn_bounds(cx, coercion.self_ty),
+        dyn_bounds(cx, coercion.target),
+    ) {
+        (Some(_), Some(_)) => {
+            consider_builtin_dyn_upcast_candidates(alloc, cx, declarations, goal, coercion, place)
+        }
         (None, Some(_)) => {
             let candidate = consider_builtin_unsize_to_dyn_candidate(
                 alloc,
                 cx,
                 declarations,
                 goal,
-                self_ty,
-                target,
+                coercion,
             )?;
             Ok(at_place(candidate, place))
         }
-        (Some(_), None) => {
-            unsize_to_no_dyn(alloc, cx, declarations, goal, self_ty, target, place)
-        }
-        (None, None) => { unsize_to_no_dyn(alloc, cx, declarations, goal, self_ty, target, place) }
+        (Some(_), None) => { unsize_to_no_dyn(alloc, cx, declarations, goal, coercion, place) }
+        (None, None) => { unsize_to_no_dyn(alloc, cx, declarations, goal, coercion, place) }
     }
 }
 
@@ -306,6 +300,7 @@ pub fn consider_builtin_unsize_candidate(
     if is_unknown(cx, &goal.variables, target) {
         return Ok(at_place(Some(unsure(alloc)), place));
     }
-    let candidate = unsize_to(alloc, cx, declarations, goal, self_ty, target, place)?;
+    let coercion = Coercion { self_ty, target };
+    let candidate = unsize_to(alloc, cx, declarations, goal, coercion, place)?;
     recording_outlives(cx, self_ty, target, candidate)
 }

@@ -23,7 +23,7 @@ ghost use Rattle.built_in_candidates.specs.Goals.{asked_of, candidate_of};
 ghost use Rattle.built_in_candidates.specs.Constituents.{AreArguments, StructIsApplied, HaveFields, candidates_of};
 ghost use Rattle.built_in_candidates.specs.Unsizing.{replaced, FitsStruct, IsStructType, tail_asked};
 
-use crate::parts::by_rule;
+use crate::parts::{Coercion, by_rule};
 use crate::relate::relate_args;
 use crate::structural::field_with;
 use declarations::declarations::Declarations;
@@ -151,34 +151,40 @@ fn tail_unsizes(
     unsizes(alloc, cx, source, goal)
 }
 
-/// The candidate by which a struct with these arguments unsizes to itself with those of the target.
+/// The arguments of a struct, and those of the same struct as the target of `Unsize`.
+#[derive(Clone, Copy)]
+struct Arguments {
+    own: GenericArgs,
+    target: GenericArgs,
+}
+
+/// The candidate by which a struct with its own arguments unsizes to the struct with those of the target.
 fn struct_candidate(
     alloc: Global,
     cx: &mut Interner,
     goal: &CanonicalInput,
     def: &AdtDef,
     tail: Ty,
-    args: GenericArgs,
-    target: GenericArgs,
+    args: Arguments,
 ) -> Result<CandidateSpec, Fault>
     requires goal { GoalHeld cx.old.entries goal.now.goal }
     requires def { StructHeld cx.old.entries def.now }
     requires tail { Has cx.old.entries types tail.0 }
-    requires args { Has cx.old.entries args_lists args.0 }
-    requires target { Has cx.old.entries args_lists target.0 }
-    requires fit { FitsStruct def.now (trees_at cx.old.entries args.0) }
-    requires target_fit { FitsStruct def.now (trees_at cx.old.entries target.0) }
-    requires tail_fits { first_misfit (trees_at cx.old.entries args.0) (trees_at cx.old.entries tail.0) ≡ None }
-    requires target_tail_fits { first_misfit (trees_at cx.old.entries target.0) (trees_at cx.old.entries tail.0) ≡ None }
+    requires args { Has cx.old.entries args_lists args.own.0 }
+    requires target { Has cx.old.entries args_lists args.target.0 }
+    requires fit { FitsStruct def.now (trees_at cx.old.entries args.own.0) }
+    requires target_fit { FitsStruct def.now (trees_at cx.old.entries args.target.0) }
+    requires tail_fits { first_misfit (trees_at cx.old.entries args.own.0) (trees_at cx.old.entries tail.0) ≡ None }
+    requires target_tail_fits { first_misfit (trees_at cx.old.entries args.target.0) (trees_at cx.old.entries tail.0) ≡ None }
     ensures terms { GrewOrFull cx.old cx.new result }
     ensures held { IfOk result (SpecHeld cx.new.entries) }
-    ensures is { let fields = field_trees cx.old.entries def.now.fields.items in let b = trees_at cx.old.entries args.0 in
-        let d = trees_at cx.old.entries target.0 in
+    ensures is { let fields = field_trees cx.old.entries def.now.fields.items in let b = trees_at cx.old.entries args.own.0 in
+        let d = trees_at cx.old.entries args.target.0 in
         IfOk result (λ s. (V : World) → candidate_of V goal.now.goal.predicate.trait_ref.def_id.index cx.new.entries s
         ≡ by_rule V (asked_of cx.old.entries goal.now) misc (all_equal (with_unsizing fields 0 b d) d) (tail_asked b d (trees_at cx.old.entries tail.0) ∷ [])) }
 {
-    let equations = unsizing_equations(alloc, cx, def, args, target)?;
-    let premise = tail_unsizes(alloc, cx, tail, args, target)?;
+    let equations = unsizing_equations(alloc, cx, def, args.own, args.target)?;
+    let premise = tail_unsizes(alloc, cx, tail, args.own, args.target)?;
     let source = CandidateSource::BuiltinImpl(BuiltinImplSource::Misc);
     by_rule(alloc, goal, source, equations, &[premise])
 }
@@ -189,27 +195,26 @@ fn unsize_struct(
     cx: &mut Interner,
     goal: &CanonicalInput,
     def: &AdtDef,
-    args: GenericArgs,
-    target: GenericArgs,
+    args: Arguments,
 ) -> Result<Option<CandidateSpec>, Fault>
     requires goal { GoalHeld cx.old.entries goal.now.goal }
     requires def { StructHeld cx.old.entries def.now }
-    requires args { Has cx.old.entries args_lists args.0 }
-    requires target { Has cx.old.entries args_lists target.0 }
-    requires fit { FitsStruct def.now (trees_at cx.old.entries args.0) }
-    requires target_fit { FitsStruct def.now (trees_at cx.old.entries target.0) }
-    requires fields_fit { Each (λ f. first_misfit (trees_at cx.old.entries args.0) (trees_at cx.old.entries f.0) ≡ None) def.now.fields.items }
-    requires target_fields_fit { Each (λ f. first_misfit (trees_at cx.old.entries target.0) (trees_at cx.old.entries f.0) ≡ None) def.now.fields.items }
+    requires args { Has cx.old.entries args_lists args.own.0 }
+    requires target { Has cx.old.entries args_lists args.target.0 }
+    requires fit { FitsStruct def.now (trees_at cx.old.entries args.own.0) }
+    requires target_fit { FitsStruct def.now (trees_at cx.old.entries args.target.0) }
+    requires fields_fit { Each (λ f. first_misfit (trees_at cx.old.entries args.own.0) (trees_at cx.old.entries f.0) ≡ None) def.now.fields.items }
+    requires target_fields_fit { Each (λ f. first_misfit (trees_at cx.old.entries args.target.0) (trees_at cx.old.entries f.0) ≡ None) def.now.fields.items }
     ensures terms { GrewOrFull cx.old cx.new result }
     ensures held { IfOk result (λ o. IfSome o (SpecHeld cx.new.entries)) }
     ensures is { IfOk result (λ o. (V : World) (x : StructDecl) → x.fields ≡ field_trees cx.old.entries def.now.fields.items
         → candidates_of V goal.now.goal.predicate.trait_ref.def_id.index cx.new.entries o
-        ≡ unsize_by_struct V (asked_of cx.old.entries goal.now) (trees_at cx.old.entries args.0) (trees_at cx.old.entries target.0) x) }
+        ≡ unsize_by_struct V (asked_of cx.old.entries goal.now) (trees_at cx.old.entries args.own.0) (trees_at cx.old.entries args.target.0) x) }
 {
     match def.fields.split_last() {
         Some((tail, _)) => {
             if has_unsizing(&def.unsizing_params) {
-                let candidate = struct_candidate(alloc, cx, goal, def, *tail, args, target)?;
+                let candidate = struct_candidate(alloc, cx, goal, def, *tail, args)?;
                 Ok(Some(candidate))
             } else {
                 Ok(None)
@@ -226,24 +231,24 @@ fn unsize_adt(
     declarations: &Declarations,
     goal: &CanonicalInput,
     def_id: AdtId,
-    args: GenericArgs,
-    target: GenericArgs,
+    args: Arguments,
 ) -> Result<Option<CandidateSpec>, Fault>
     requires goal { GoalHeld cx.old.entries goal.now.goal }
     requires declared { AreHeld cx.old.entries declarations.now }
     requires fields { HaveFields cx.old.entries declarations.now }
-    requires args { Has cx.old.entries args_lists args.0 }
-    requires target { Has cx.old.entries args_lists target.0 }
-    requires applied { AreArguments declarations.now def_id.index (trees_at cx.old.entries args.0) }
-    requires target_applied { AreArguments declarations.now def_id.index (trees_at cx.old.entries target.0) }
+    requires args { Has cx.old.entries args_lists args.own.0 }
+    requires target { Has cx.old.entries args_lists args.target.0 }
+    requires applied { AreArguments declarations.now def_id.index (trees_at cx.old.entries args.own.0) }
+    requires target_applied { AreArguments declarations.now def_id.index (trees_at cx.old.entries args.target.0) }
     ensures terms { GrewOrFull cx.old cx.new result }
     ensures held { IfOk result (λ o. IfSome o (SpecHeld cx.new.entries)) }
-    ensures is { let V = written cx.old.entries declarations.now in let b = trees_at cx.old.entries args.0 in let d = trees_at cx.old.entries target.0 in
+    ensures is { let V = written cx.old.entries declarations.now in
+        let b = trees_at cx.old.entries args.own.0 in let d = trees_at cx.old.entries args.target.0 in
         IfOk result (λ o. candidates_of V goal.now.goal.predicate.trait_ref.def_id.index cx.new.entries o
         ≡ flat_map (unsize_by_struct V (asked_of cx.old.entries goal.now) b d) (structs_named V def_id.index)) }
 {
     match declarations.adt_def(def_id) {
-        Some(def) => unsize_struct(alloc, cx, goal, def, args, target),
+        Some(def) => unsize_struct(alloc, cx, goal, def, args),
         None => Ok(None),
     }
 }
@@ -283,28 +288,34 @@ pub fn consider_builtin_struct_unsize_candidate(
     cx: &mut Interner,
     declarations: &Declarations,
     goal: &CanonicalInput,
-    self_ty: Ty,
-    target: Ty,
+    coercion: Coercion,
 ) -> Result<Option<CandidateSpec>, Fault>
     requires goal { GoalHeld cx.old.entries goal.now.goal }
     requires declared { AreHeld cx.old.entries declarations.now }
     requires fields { HaveFields cx.old.entries declarations.now }
-    requires self_held { Has cx.old.entries types self_ty.0 }
-    requires target { Has cx.old.entries types target.0 }
-    requires applied { StructIsApplied declarations.now (trees_at cx.old.entries self_ty.0) }
-    requires target_applied { StructIsApplied declarations.now (trees_at cx.old.entries target.0) }
+    requires self_held { Has cx.old.entries types coercion.self_ty.0 }
+    requires target { Has cx.old.entries types coercion.target.0 }
+    requires applied { StructIsApplied declarations.now (trees_at cx.old.entries coercion.self_ty.0) }
+    requires target_applied { StructIsApplied declarations.now (trees_at cx.old.entries coercion.target.0) }
     ensures terms { GrewOrFull cx.old cx.new result }
     ensures held { IfOk result (λ o. IfSome o (SpecHeld cx.new.entries)) }
     ensures is { let V = written cx.old.entries declarations.now in
-        let types = trees_at cx.old.entries self_ty.0 +++ trees_at cx.old.entries target.0 in
+        let types = trees_at cx.old.entries coercion.self_ty.0 +++ trees_at cx.old.entries coercion.target.0 in
         IfOk result (λ o. candidates_of V goal.now.goal.predicate.trait_ref.def_id.index cx.new.entries o
         ≡ unsize_struct_of V (asked_of cx.old.entries goal.now) types) }
 {
     cx.lawful();
-    match (struct_with(cx, self_ty), struct_with(cx, target)) {
-        (Some((def_id, args)), Some((other, target_args))) => {
+    match (
+        struct_with(cx, coercion.self_ty),
+        struct_with(cx, coercion.target),
+    ) {
+        (Some((def_id, own)), Some((other, target_args))) => {
             if def_id.index == other.index {
-                unsize_adt(alloc, cx, declarations, goal, def_id, args, target_args)
+                let args = Arguments {
+                    own,
+                    target: target_args,
+                };
+                unsize_adt(alloc, cx, declarations, goal, def_id, args)
             } else {
                 Ok(None)
             }

@@ -21,7 +21,7 @@ ghost use Rattle.built_in_candidates.specs.Unsizing.{traits_asked, to_dyn, Targe
 
 use crate::built_in::{SIZED, type_asked};
 use crate::dyn_type::{dyn_bounds, elaborated_principal, is_dyn_compatible};
-use crate::parts::by_rule;
+use crate::parts::{Coercion, by_rule};
 use declarations::declarations::Declarations;
 use goal_evaluator::{BuiltinImplSource, CandidateSource, CandidateSpec};
 use infer_table::input::CanonicalInput;
@@ -163,26 +163,29 @@ pub fn consider_builtin_unsize_to_dyn_candidate(
     cx: &mut Interner,
     declarations: &Declarations,
     goal: &CanonicalInput,
-    self_ty: Ty,
-    target: Ty,
+    coercion: Coercion,
 ) -> Result<Option<CandidateSpec>, Fault>
     requires goal { GoalHeld cx.old.entries goal.now.goal }
     requires declared { AreHeld cx.old.entries declarations.now }
     requires traits { HaveBounds cx.old.entries declarations.now }
-    requires self_held { Has cx.old.entries types self_ty.0 }
-    requires target { Has cx.old.entries types target.0 }
-    requires applied { TargetIsApplied declarations.now (with_plain_head (trees_at cx.old.entries self_ty.0) +++ trees_at cx.old.entries target.0) }
+    requires self_held { Has cx.old.entries types coercion.self_ty.0 }
+    requires target { Has cx.old.entries types coercion.target.0 }
+    requires applied { let es = cx.old.entries in
+        TargetIsApplied declarations.now (with_plain_head (trees_at es coercion.self_ty.0) +++ trees_at es coercion.target.0) }
     ensures terms { GrewOrFull cx.old cx.new result }
     ensures held { IfOk result (λ o. IfSome o (SpecHeld cx.new.entries)) }
     ensures is { let V = written cx.old.entries declarations.now in
-        let types = with_plain_head (trees_at cx.old.entries self_ty.0) +++ trees_at cx.old.entries target.0 in
+        let types = with_plain_head (trees_at cx.old.entries coercion.self_ty.0) +++ trees_at cx.old.entries coercion.target.0 in
         IfOk result (λ o. candidates_of V goal.now.goal.predicate.trait_ref.def_id.index cx.new.entries o
         ≡ as_written V (asked_of cx.old.entries goal.now) misc (unsize_to_dyn_rules V types)) }
 {
     cx.lawful();
-    match (dyn_bounds(cx, self_ty), dyn_bounds(cx, target)) {
+    match (
+        dyn_bounds(cx, coercion.self_ty),
+        dyn_bounds(cx, coercion.target),
+    ) {
         (None, Some(bounds)) => {
-            let plain = with_plain_head(cx, self_ty)?;
+            let plain = with_plain_head(cx, coercion.self_ty)?;
             to_dyn_candidate(alloc, cx, declarations, goal, plain, bounds)
         }
         (Some(_), None) => Ok(None),

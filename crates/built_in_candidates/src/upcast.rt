@@ -25,7 +25,7 @@ use crate::dyn_type::{
     Elaborated, dyn_bounds, elaborated_principal, has_trait, is_declared, principal_with,
     reference_at,
 };
-use crate::parts::by_rule;
+use crate::parts::{Coercion, by_rule};
 use crate::relate::relate_args;
 use declarations::declarations::Declarations;
 use goal_evaluator::{BuiltinImplSource, CandidateSource, CandidateSpec};
@@ -193,35 +193,42 @@ struct Ends {
     to: Option<TraitRef>,
 }
 
-/// The principals of a `dyn` and of its target, the first with its supertraits.
+/// A `dyn`, its bounds, and the bounds of the `dyn` to which it is upcast.
+#[derive(Clone, Copy)]
+struct Upcast {
+    self_ty: Ty,
+    source: Bounds,
+    target: Bounds,
+}
+
+/// The principals of a `dyn` and of its target. The first has its supertraits.
 fn upcast_ends(
     alloc: Global,
     cx: &mut Interner,
     declarations: &Declarations,
-    self_ty: Ty,
-    source: Bounds,
-    target: Bounds,
+    upcast: Upcast,
 ) -> Result<Ends, Fault>
     requires declared { AreHeld cx.old.entries declarations.now }
     requires traits { HaveBounds cx.old.entries declarations.now }
-    requires self_held { Has cx.old.entries types self_ty.0 }
-    requires source { Has cx.old.entries bounds_lists source.0 }
-    requires target { Has cx.old.entries bounds_lists target.0 }
-    requires applied { WithLifetime cx.old.entries source (λ b. Each (AreArgumentsOf declarations.now) (principal_with (trees_at cx.old.entries self_ty.0) b)) }
+    requires self_held { Has cx.old.entries types upcast.self_ty.0 }
+    requires source { Has cx.old.entries bounds_lists upcast.source.0 }
+    requires target { Has cx.old.entries bounds_lists upcast.target.0 }
+    requires applied { let S = trees_at cx.old.entries upcast.self_ty.0 in
+        WithLifetime cx.old.entries upcast.source (λ b. Each (AreArgumentsOf declarations.now) (principal_with S b)) }
     ensures terms { GrewOrFull cx.old cx.new result }
     ensures principal_held { IfOk result (λ e. TraitRefsHeld cx.new.entries (if_there e.from.principal)) }
-    ensures principal { IfOk result (λ e. WithLifetime cx.old.entries source (λ b. references_in cx.new.entries (if_there e.from.principal)
-        ≡ principal_with (trees_at cx.old.entries self_ty.0) b)) }
+    ensures principal { IfOk result (λ e. WithLifetime cx.old.entries upcast.source (λ b. references_in cx.new.entries (if_there e.from.principal)
+        ≡ principal_with (trees_at cx.old.entries upcast.self_ty.0) b)) }
     ensures elaborated_held { IfOk result (λ e. TraitRefsHeld cx.new.entries e.from.elaborated.items) }
     ensures elaborated { let V = written cx.old.entries declarations.now in
-        IfOk result (λ e. WithLifetime cx.old.entries source (λ b. references_in cx.new.entries e.from.elaborated.items
-        ≡ elaborate V (principal_with (trees_at cx.old.entries self_ty.0) b))) }
+        IfOk result (λ e. WithLifetime cx.old.entries upcast.source (λ b. references_in cx.new.entries e.from.elaborated.items
+        ≡ elaborate V (principal_with (trees_at cx.old.entries upcast.self_ty.0) b))) }
     ensures to_held { IfOk result (λ e. TraitRefsHeld cx.new.entries (if_there e.to)) }
-    ensures to { IfOk result
-        (λ e. WithLifetime cx.old.entries target (λ b. references_in cx.new.entries (if_there e.to) ≡ principal_with (trees_at cx.old.entries self_ty.0) b)) }
+    ensures to { let S = trees_at cx.old.entries upcast.self_ty.0 in
+        IfOk result (λ e. WithLifetime cx.old.entries upcast.target (λ b. references_in cx.new.entries (if_there e.to) ≡ principal_with S b)) }
 {
-    let from = elaborated_principal(alloc, cx, declarations, self_ty, source)?;
-    let to = principal_with(alloc, cx, self_ty, target)?;
+    let from = elaborated_principal(alloc, cx, declarations, upcast.self_ty, upcast.source)?;
+    let to = principal_with(alloc, cx, upcast.self_ty, upcast.target)?;
     Ok(Ends { from, to })
 }
 
@@ -231,26 +238,26 @@ fn consider_upcast(
     cx: &mut Interner,
     declarations: &Declarations,
     goal: &CanonicalInput,
-    self_ty: Ty,
-    source: Bounds,
-    target: Bounds,
+    upcast: Upcast,
     place: usize,
 ) -> Result<Option<CandidateSpec>, Fault>
     requires goal { GoalHeld cx.old.entries goal.now.goal }
     requires declared { AreHeld cx.old.entries declarations.now }
     requires traits { HaveBounds cx.old.entries declarations.now }
-    requires self_held { Has cx.old.entries types self_ty.0 }
-    requires source { Has cx.old.entries bounds_lists source.0 }
-    requires target { Has cx.old.entries bounds_lists target.0 }
-    requires applied { WithLifetime cx.old.entries source (λ b. Each (AreArgumentsOf declarations.now) (principal_with (trees_at cx.old.entries self_ty.0) b)) }
+    requires self_held { Has cx.old.entries types upcast.self_ty.0 }
+    requires source { Has cx.old.entries bounds_lists upcast.source.0 }
+    requires target { Has cx.old.entries bounds_lists upcast.target.0 }
+    requires applied { let S = trees_at cx.old.entries upcast.self_ty.0 in
+        WithLifetime cx.old.entries upcast.source (λ b. Each (AreArgumentsOf declarations.now) (principal_with S b)) }
     ensures terms { GrewOrFull cx.old cx.new result }
     ensures held { IfOk result (λ o. IfSome o (SpecHeld cx.new.entries)) }
     ensures is { let V = written cx.old.entries declarations.now in let a = asked_of cx.old.entries goal.now in
-        IfOk result (λ o. WithLifetime cx.old.entries source (λ b. WithLifetime cx.old.entries target (λ d.
-        option_map (candidate_of V a.reference.trait cx.new.entries) o ≡ slice_get (upcasts_between V a (trees_at cx.old.entries self_ty.0) b d) place))) }
+        let S = trees_at cx.old.entries upcast.self_ty.0 in
+        IfOk result (λ o. WithLifetime cx.old.entries upcast.source (λ b. WithLifetime cx.old.entries upcast.target (λ d.
+        option_map (candidate_of V a.reference.trait cx.new.entries) o ≡ slice_get (upcasts_between V a S b d) place))) }
 {
-    let ends = upcast_ends(alloc, cx, declarations, self_ty, source, target)?;
-    if can_upcast(cx, declarations, &ends.from, source, target) {
+    let ends = upcast_ends(alloc, cx, declarations, upcast)?;
+    if can_upcast(cx, declarations, &ends.from, upcast.source, upcast.target) {
         upcast_candidate(alloc, cx, goal, &ends.from, ends.to, place)
     } else {
         Ok(None)
@@ -267,25 +274,30 @@ pub fn consider_builtin_dyn_upcast_candidates(
     cx: &mut Interner,
     declarations: &Declarations,
     goal: &CanonicalInput,
-    self_ty: Ty,
-    target: Ty,
+    coercion: Coercion,
     place: usize,
 ) -> Result<Option<CandidateSpec>, Fault>
     requires goal { GoalHeld cx.old.entries goal.now.goal }
-    requires self_held { Has cx.old.entries types self_ty.0 }
-    requires target { Has cx.old.entries types target.0 }
+    requires self_held { Has cx.old.entries types coercion.self_ty.0 }
+    requires target { Has cx.old.entries types coercion.target.0 }
     requires declared { AreHeld cx.old.entries declarations.now }
     requires bounds { HaveBounds cx.old.entries declarations.now }
-    requires object { ObjectIsApplied declarations.now (trees_at cx.old.entries self_ty.0) }
+    requires object { ObjectIsApplied declarations.now (trees_at cx.old.entries coercion.self_ty.0) }
     ensures terms { GrewOrFull cx.old cx.new result }
     ensures held { IfOk result (λ o. IfSome o (SpecHeld cx.new.entries)) }
     ensures is { let V = written cx.old.entries declarations.now in let a = asked_of cx.old.entries goal.now in
-        let args = trees_at cx.old.entries self_ty.0 +++ trees_at cx.old.entries target.0 in
+        let args = trees_at cx.old.entries coercion.self_ty.0 +++ trees_at cx.old.entries coercion.target.0 in
         IfOk result (λ o. option_map (candidate_of V a.reference.trait cx.new.entries) o ≡ slice_get (upcasts_of V a args) place) }
 {
-    match (dyn_bounds(cx, self_ty), dyn_bounds(cx, target)) {
-        (Some(from), Some(to)) => {
-            consider_upcast(alloc, cx, declarations, goal, self_ty, from, to, place)
+    let self_ty = coercion.self_ty;
+    match (dyn_bounds(cx, self_ty), dyn_bounds(cx, coercion.target)) {
+        (Some(source), Some(target)) => {
+            let upcast = Upcast {
+                self_ty,
+                source,
+                target,
+            };
+            consider_upcast(alloc, cx, declarations, goal, upcast, place)
         }
         (Some(_), None) => Ok(None),
         (None, Some(_)) => Ok(None),

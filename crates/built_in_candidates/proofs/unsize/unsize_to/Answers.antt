@@ -16,7 +16,7 @@ returns-in-Some-Some-clause-is c =
     if-ok _ _ c.consider_builtin_dyn_upcast_candidates.result
     (λ o is.
     is ∙ ap (λ l. slice_get l c.args.place)
-    (known-upcasts V a (trees_at es c.args.self_ty.0) (trees_at es c.args.target.0) _ _ c.in-Some-Some.ensures.3 c.in-Some-Some.ensures'.3))
+    (known-upcasts V a (trees_at es c.args.coercion.self_ty.0) (trees_at es c.args.coercion.target.0) _ _ c.in-Some-Some.ensures.3 c.in-Some-Some.ensures'.3))
     c.consider_builtin_dyn_upcast_candidates.ensures.is
 
 pub returns-in_ok-candidate-in-None-Some-clause-is : goal.returns-in_ok-candidate-in-None-Some-clause-is
@@ -28,16 +28,16 @@ returns-in_ok-candidate-in-None-Some-clause-is c =
     c.at_place.ensures.is V a.reference.trait new
     ∙ ap (λ l. slice_get l c.args.place)
     (c.in_ok-candidate-in-None-Some.ensures.is
-    ∙ known-to-dyn V a (trees_at es c.args.self_ty.0) (trees_at es c.args.target.0) _ (type-is es c.lawful.ensures c.args.self_ty.0 c.requires.self_held) c.in-None-Some.ensures c.in-None-Some.ensures'.3)
+    ∙ known-to-dyn V a (trees_at es c.args.coercion.self_ty.0) (trees_at es c.args.coercion.target.0) _ (type-is es c.lawful.ensures c.args.coercion.self_ty.0 c.requires.self_held) c.in-None-Some.ensures c.in-None-Some.ensures'.3)
 
 pub unsize_to_no_dyn-requires-clause-target_applied : goal.unsize_to_no_dyn-requires-clause-target_applied
 unsize_to_no_dyn-requires-clause-target_applied c =
     let es = c.args.cx.now.entries in
-    target-struct c.args.declarations.now (trees_at es c.args.self_ty.0) (trees_at es c.args.target.0) (type-is es c.lawful.ensures c.args.self_ty.0 c.requires.self_held)
-    (type-is es c.lawful.ensures c.args.target.0 c.requires.target) c.requires.target_applied
+    target-struct c.args.declarations.now (trees_at es c.args.coercion.self_ty.0) (trees_at es c.args.coercion.target.0) (type-is es c.lawful.ensures c.args.coercion.self_ty.0 c.requires.self_held)
+    (type-is es c.lawful.ensures c.args.coercion.target.0 c.requires.target) c.requires.target_applied
 
 pub unsize_to_no_dyn-requires-in-None-None-clause-target_applied : goal.unsize_to_no_dyn-requires-in-None-None-clause-target_applied
 unsize_to_no_dyn-requires-in-None-None-clause-target_applied c =
     let es = c.args.cx.now.entries in
-    target-struct c.args.declarations.now (trees_at es c.args.self_ty.0) (trees_at es c.args.target.0) (type-is es c.lawful.ensures c.args.self_ty.0 c.requires.self_held)
-    (type-is es c.lawful.ensures c.args.target.0 c.requires.target) c.requires.target_applied
+    target-struct c.args.declarations.now (trees_at es c.args.coercion.self_ty.0) (trees_at es c.args.coercion.target.0) (type-is es c.lawful.ensures c.args.coercion.self_ty.0 c.requires.self_held)
+    (type-is es c.lawful.ensures c.args.coercion.target.0 c.requires.target) c.requires.target_applied

@@ -24,30 +24,30 @@ returns-then-def_id-other-clause-is c =
     let a = asked_of es c.args.goal.now in
     if-ok _ _ c.unsize_adt.result
     (λ o is.
-    is ∙ two-structs V a c.in-Some-Some.def_id.index c.in-Some-Some.other.index _ _ (trees_at es c.args.self_ty.0) (trees_at es c.args.target.0) c.in-Some-Some.ensures.1 c.in-Some-Some.ensures'.1 c.if-def_id-other.true)
+    is ∙ two-structs V a c.in-Some-Some.def_id.index c.in-Some-Some.other.index _ _ (trees_at es c.args.coercion.self_ty.0) (trees_at es c.args.coercion.target.0) c.in-Some-Some.ensures.1 c.in-Some-Some.ensures'.1 c.if-def_id-other.true)
     c.unsize_adt.ensures.is
 
 pub returns-else-def_id-other-clause-is : goal.returns-else-def_id-other-clause-is
 returns-else-def_id-other-clause-is c =
     let es = c.args.cx.now.entries in
-    other-structs (written es c.args.declarations.now) (asked_of es c.args.goal.now) c.in-Some-Some.def_id.index c.in-Some-Some.other.index _ _ (trees_at es c.args.self_ty.0) (trees_at es c.args.target.0)
+    other-structs (written es c.args.declarations.now) (asked_of es c.args.goal.now) c.in-Some-Some.def_id.index c.in-Some-Some.other.index _ _ (trees_at es c.args.coercion.self_ty.0) (trees_at es c.args.coercion.target.0)
     c.in-Some-Some.ensures.1 c.in-Some-Some.ensures'.1 c.if-def_id-other.false
 
 pub returns-in-Some-None-clause-is : goal.returns-in-Some-None-clause-is
 returns-in-Some-None-clause-is c =
     let es = c.args.cx.now.entries in
     let law = c.lawful.ensures in
-    second-no-struct (written es c.args.declarations.now) (asked_of es c.args.goal.now) (trees_at es c.args.self_ty.0) (trees_at es c.args.target.0)
-    (type-is es law c.args.self_ty.0 c.requires.self_held) (type-is es law c.args.target.0 c.requires.target) c.in-Some-None.ensures-1
+    second-no-struct (written es c.args.declarations.now) (asked_of es c.args.goal.now) (trees_at es c.args.coercion.self_ty.0) (trees_at es c.args.coercion.target.0)
+    (type-is es law c.args.coercion.self_ty.0 c.requires.self_held) (type-is es law c.args.coercion.target.0 c.requires.target) c.in-Some-None.ensures-1
 
 pub returns-in-None-Some-clause-is : goal.returns-in-None-Some-clause-is
 returns-in-None-Some-clause-is c =
     let es = c.args.cx.now.entries in
-    first-no-struct (written es c.args.declarations.now) (asked_of es c.args.goal.now) (trees_at es c.args.self_ty.0) (trees_at es c.args.target.0)
-    (type-is es c.lawful.ensures c.args.self_ty.0 c.requires.self_held) c.in-None-Some.ensures-1
+    first-no-struct (written es c.args.declarations.now) (asked_of es c.args.goal.now) (trees_at es c.args.coercion.self_ty.0) (trees_at es c.args.coercion.target.0)
+    (type-is es c.lawful.ensures c.args.coercion.self_ty.0 c.requires.self_held) c.in-None-Some.ensures-1
 
 pub returns-in-None-None-clause-is : goal.returns-in-None-None-clause-is
 returns-in-None-None-clause-is c =
     let es = c.args.cx.now.entries in
-    first-no-struct (written es c.args.declarations.now) (asked_of es c.args.goal.now) (trees_at es c.args.self_ty.0) (trees_at es c.args.target.0)
-    (type-is es c.lawful.ensures c.args.self_ty.0 c.requires.self_held) c.in-None-None.ensures-1
+    first-no-struct (written es c.args.declarations.now) (asked_of es c.args.goal.now) (trees_at es c.args.coercion.self_ty.0) (trees_at es c.args.coercion.target.0)
+    (type-is es c.lawful.ensures c.args.coercion.self_ty.0 c.requires.self_held) c.in-None-None.ensures-1

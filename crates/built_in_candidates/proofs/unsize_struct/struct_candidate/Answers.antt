@@ -21,34 +21,34 @@ pub tail_unsizes-requires-clause-tail : goal.tail_unsizes-requires-clause-tail
 tail_unsizes-requires-clause-tail c = has-later c.args.cx.now.entries c.unsizing_equations.new.cx.entries c.unsizing_equations.ensures.terms.grew.keeps types c.args.tail.0 c.requires.tail
 
 pub tail_unsizes-requires-clause-args : goal.tail_unsizes-requires-clause-args
-tail_unsizes-requires-clause-args c = has-later c.args.cx.now.entries c.unsizing_equations.new.cx.entries c.unsizing_equations.ensures.terms.grew.keeps args_lists c.args.args.0 c.requires.args
+tail_unsizes-requires-clause-args c = has-later c.args.cx.now.entries c.unsizing_equations.new.cx.entries c.unsizing_equations.ensures.terms.grew.keeps args_lists c.args.args.own.0 c.requires.args
 
 pub tail_unsizes-requires-clause-target : goal.tail_unsizes-requires-clause-target
-tail_unsizes-requires-clause-target c = has-later c.args.cx.now.entries c.unsizing_equations.new.cx.entries c.unsizing_equations.ensures.terms.grew.keeps args_lists c.args.target.0 c.requires.target
+tail_unsizes-requires-clause-target c = has-later c.args.cx.now.entries c.unsizing_equations.new.cx.entries c.unsizing_equations.ensures.terms.grew.keeps args_lists c.args.args.target.0 c.requires.target
 
 pub tail_unsizes-requires-clause-closed : goal.tail_unsizes-requires-clause-closed
 tail_unsizes-requires-clause-closed c =
-    ap outer_binder (trees-later c.args.cx.now.entries c.unsizing_equations.new.cx.entries c.unsizing_equations.ensures.terms.grew.keeps args_lists c.args.args.0 c.requires.args) ∙ c.requires.fit.closed
+    ap outer_binder (trees-later c.args.cx.now.entries c.unsizing_equations.new.cx.entries c.unsizing_equations.ensures.terms.grew.keeps args_lists c.args.args.own.0 c.requires.args) ∙ c.requires.fit.closed
 
 pub tail_unsizes-requires-clause-target_closed : goal.tail_unsizes-requires-clause-target_closed
 tail_unsizes-requires-clause-target_closed c =
-    ap outer_binder (trees-later c.args.cx.now.entries c.unsizing_equations.new.cx.entries c.unsizing_equations.ensures.terms.grew.keeps args_lists c.args.target.0 c.requires.target) ∙ c.requires.target_fit.closed
+    ap outer_binder (trees-later c.args.cx.now.entries c.unsizing_equations.new.cx.entries c.unsizing_equations.ensures.terms.grew.keeps args_lists c.args.args.target.0 c.requires.target) ∙ c.requires.target_fit.closed
 
 pub tail_unsizes-requires-clause-fits : goal.tail_unsizes-requires-clause-fits
 tail_unsizes-requires-clause-fits c =
     let old = c.args.cx.now.entries in
     let mid = c.unsizing_equations.new.cx.entries in
     let k = c.unsizing_equations.ensures.terms.grew.keeps in
-    ap (λ t. first_misfit t (trees_at mid c.args.tail.0)) (trees-later old mid k args_lists c.args.args.0 c.requires.args)
-    ∙ ap (first_misfit (trees_at old c.args.args.0)) (trees-later old mid k types c.args.tail.0 c.requires.tail) ∙ c.requires.tail_fits
+    ap (λ t. first_misfit t (trees_at mid c.args.tail.0)) (trees-later old mid k args_lists c.args.args.own.0 c.requires.args)
+    ∙ ap (first_misfit (trees_at old c.args.args.own.0)) (trees-later old mid k types c.args.tail.0 c.requires.tail) ∙ c.requires.tail_fits
 
 pub tail_unsizes-requires-clause-target_fits : goal.tail_unsizes-requires-clause-target_fits
 tail_unsizes-requires-clause-target_fits c =
     let old = c.args.cx.now.entries in
     let mid = c.unsizing_equations.new.cx.entries in
     let k = c.unsizing_equations.ensures.terms.grew.keeps in
-    ap (λ t. first_misfit t (trees_at mid c.args.tail.0)) (trees-later old mid k args_lists c.args.target.0 c.requires.target)
-    ∙ ap (first_misfit (trees_at old c.args.target.0)) (trees-later old mid k types c.args.tail.0 c.requires.tail) ∙ c.requires.target_tail_fits
+    ap (λ t. first_misfit t (trees_at mid c.args.tail.0)) (trees-later old mid k args_lists c.args.args.target.0 c.requires.target)
+    ∙ ap (first_misfit (trees_at old c.args.args.target.0)) (trees-later old mid k types c.args.tail.0 c.requires.tail) ∙ c.requires.target_tail_fits
 
 pub returns-clause-held : goal.returns-clause-held
 returns-clause-held c =
@@ -70,15 +70,15 @@ returns-clause-is c =
     let k = c.unsizing_equations.ensures.terms.grew.keeps in
     let whole : Keeps old new = λ i e h. c.tail_unsizes.ensures.terms.grew.keeps i e (k i e h) in
     let g = c.args.goal.now in
-    let b = trees_at old c.args.args.0 in
-    let d = trees_at old c.args.target.0 in
+    let b = trees_at old c.args.args.own.0 in
+    let d = trees_at old c.args.args.target.0 in
     let f = trees_at old c.args.tail.0 in
     let eqs = c.in_ok-equations.equations.items in
     let fs = field_trees old c.args.def.now.fields.items in
     let equations = equations-later mid new c.tail_unsizes.ensures.terms.grew.keeps eqs c.in_ok-equations.ensures.held ∙ c.in_ok-equations.ensures.are in
     let premise = c.in_ok-premise.ensures.is
-    ∙ ap (λ x. tail_asked x (trees_at mid c.args.target.0) (trees_at mid c.args.tail.0)) (trees-later old mid k args_lists c.args.args.0 c.requires.args)
-    ∙ ap (λ x. tail_asked b x (trees_at mid c.args.tail.0)) (trees-later old mid k args_lists c.args.target.0 c.requires.target)
+    ∙ ap (λ x. tail_asked x (trees_at mid c.args.args.target.0) (trees_at mid c.args.tail.0)) (trees-later old mid k args_lists c.args.args.own.0 c.requires.args)
+    ∙ ap (λ x. tail_asked b x (trees_at mid c.args.tail.0)) (trees-later old mid k args_lists c.args.args.target.0 c.requires.target)
     ∙ ap (tail_asked b d) (trees-later old mid k types c.args.tail.0 c.requires.tail) in
     if-ok _ _ c.by_rule.result
     (λ s is. λ V.

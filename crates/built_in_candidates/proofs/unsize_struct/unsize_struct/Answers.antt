@@ -23,14 +23,14 @@ struct_candidate-requires-clause-tail c =
 pub struct_candidate-requires-clause-tail_fits : goal.struct_candidate-requires-clause-tail_fits
 struct_candidate-requires-clause-tail_fits c =
     let es = c.args.cx.now.entries in
-    let A = trees_at es c.args.args.0 in
+    let A = trees_at es c.args.args.own.0 in
     let back = sym c.deref.ensures.value ∙ c.in-Some.ensures.cases.0 in
     each-end (λ (f : Ty). first_misfit A (trees_at es f.0) ≡ None) c.in-Some.field-0-1.now c.in-Some.tail.now (subst (Each (λ (f : Ty). first_misfit A (trees_at es f.0) ≡ None)) back c.requires.fields_fit)
 
 pub struct_candidate-requires-clause-target_tail_fits : goal.struct_candidate-requires-clause-target_tail_fits
 struct_candidate-requires-clause-target_tail_fits c =
     let es = c.args.cx.now.entries in
-    let A = trees_at es c.args.target.0 in
+    let A = trees_at es c.args.args.target.0 in
     let back = sym c.deref.ensures.value ∙ c.in-Some.ensures.cases.0 in
     each-end (λ (f : Ty). first_misfit A (trees_at es f.0) ≡ None) c.in-Some.field-0-1.now c.in-Some.tail.now (subst (Each (λ (f : Ty). first_misfit A (trees_at es f.0) ≡ None)) back c.requires.target_fields_fit)
 
@@ -39,8 +39,8 @@ returns-in_ok-candidate-in-Some-clause-is c = λ V x e.
     let es = c.args.cx.now.entries in
     let g = c.args.goal.now in
     let fs = field_trees es c.args.def.now.fields.items in
-    let b = trees_at es c.args.args.0 in
-    let d = trees_at es c.args.target.0 in
+    let b = trees_at es c.args.args.own.0 in
+    let d = trees_at es c.args.args.target.0 in
     let f = trees_at es c.in-Some.tail.now.0 in
     let back = sym c.deref.ensures.value ∙ c.in-Some.ensures.cases.0 in
     let told = some-told fs c.deref-in-Some.result.now (length c.args.def.now.params.items) b (c.deref-in-Some.ensures.value ∙ c.requires.def.1) (ap length c.requires.fit.sorts ∙ length-map c.args.def.now.params.items sort_of_param) in
@@ -52,15 +52,15 @@ pub returns-else-has_unsizing-clause-is : goal.returns-else-has_unsizing-clause-
 returns-else-has_unsizing-clause-is c = λ V x e.
     let es = c.args.cx.now.entries in
     let fs = field_trees es c.args.def.now.fields.items in
-    let b = trees_at es c.args.args.0 in
-    let d = trees_at es c.args.target.0 in
+    let b = trees_at es c.args.args.own.0 in
+    let d = trees_at es c.args.args.target.0 in
     let told = some-told fs c.deref-in-Some.result.now (length c.args.def.now.params.items) b (c.deref-in-Some.ensures.value ∙ c.requires.def.1) (ap length c.requires.fit.sorts ∙ length-map c.args.def.now.params.items sort_of_param) in
     no-candidate V (asked_of es c.args.goal.now) b d x (ap (λ l. some_unsizing l 0 b) e ∙ sym told ∙ sym c.has_unsizing.ensures ∙ c.if-has_unsizing.false)
 
 pub returns-in-None-clause-is : goal.returns-in-None-clause-is
 returns-in-None-clause-is c = λ V x e.
     let es = c.args.cx.now.entries in
-    let b = trees_at es c.args.args.0 in
-    let d = trees_at es c.args.target.0 in
+    let b = trees_at es c.args.args.own.0 in
+    let d = trees_at es c.args.args.target.0 in
     let none_there = sym c.deref.ensures.value ∙ empty-is c.deref.result.now c.in-None.ensures.cases in
     no-candidate V (asked_of es c.args.goal.now) b d x (ap (λ l. some_unsizing l 0 b) (e ∙ ap (field_trees es) none_there) ∙ none-unsizing 0 b)

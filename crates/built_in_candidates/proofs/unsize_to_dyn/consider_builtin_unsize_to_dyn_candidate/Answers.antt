@@ -37,13 +37,13 @@ to_dyn_candidate-requires-clause-applied c = λ l lifetime.
     let mid = c.with_plain_head.new.cx.entries in
     let k = c.with_plain_head.ensures.terms.grew.keeps in
     let d = c.args.declarations.now in
-    let S = trees_at old c.args.self_ty.0 in
-    let T = trees_at old c.args.target.0 in
+    let S = trees_at old c.args.coercion.self_ty.0 in
+    let T = trees_at old c.args.coercion.target.0 in
     let found = c.in-None-Some.ensures' in
     let B = trees_at old c.in-None-Some.bounds.0 in
     subst (λ s. Each (AreArgumentsOf d) (principal_with s (trees_at mid c.in-None-Some.bounds.0 +++ leaf l))) (sym c.in_ok-plain-in-None-Some.ensures.is)
     (subst (λ t. Each (AreArgumentsOf d) (principal_with (with_plain_head S) (t +++ leaf l))) (sym (trees-later old mid k bounds_lists c.in-None-Some.bounds.0 found.0))
-    (principal-applied d S T B found.1 l (type-is old c.lawful.ensures c.args.self_ty.0 c.requires.self_held) found.2 lifetime found.3 c.requires.applied))
+    (principal-applied d S T B found.1 l (type-is old c.lawful.ensures c.args.coercion.self_ty.0 c.requires.self_held) found.2 lifetime found.3 c.requires.applied))
 
 pub returns-in_ok-plain-in-None-Some-clause-is : goal.returns-in_ok-plain-in-None-Some-clause-is
 returns-in_ok-plain-in-None-Some-clause-is c =
@@ -56,8 +56,8 @@ returns-in_ok-plain-in-None-Some-clause-is c =
     let g = c.args.goal.now in
     let a = asked_of old g in
     let t = g.goal.predicate.trait_ref.def_id.index in
-    let S = trees_at old c.args.self_ty.0 in
-    let T = trees_at old c.args.target.0 in
+    let S = trees_at old c.args.coercion.self_ty.0 in
+    let T = trees_at old c.args.coercion.target.0 in
     let found = c.in-None-Some.ensures' in
     let b = trees_at old c.in-None-Some.bounds.0 +++ leaf found.1 in
     if-ok _ _ c.to_dyn_candidate.result
@@ -68,21 +68,21 @@ returns-in_ok-plain-in-None-Some-clause-is c =
     ∙ ap (λ x. to_dyn V x (trees_at mid c.in_ok-plain-in-None-Some.plain.0) (trees_at mid c.in-None-Some.bounds.0 +++ leaf found.1)) (asked-later old mid k g c.requires.goal)
     ∙ ap (λ s. to_dyn V a s (trees_at mid c.in-None-Some.bounds.0 +++ leaf found.1)) c.in_ok-plain-in-None-Some.ensures.is
     ∙ ap (λ x. to_dyn V a (with_plain_head S) (x +++ leaf found.1)) (trees-later old mid k bounds_lists c.in-None-Some.bounds.0 found.0)
-    ∙ row-to-dyn V a S T b (type-is old c.lawful.ensures c.args.self_ty.0 c.requires.self_held) c.in-None-Some.ensures found.3)
+    ∙ row-to-dyn V a S T b (type-is old c.lawful.ensures c.args.coercion.self_ty.0 c.requires.self_held) c.in-None-Some.ensures found.3)
     c.to_dyn_candidate.ensures.is
 
 pub returns-in-Some-None-clause-is : goal.returns-in-Some-None-clause-is
 returns-in-Some-None-clause-is c =
     let old = c.args.cx.now.entries in
-    row-from-dyn (written old c.args.declarations.now) (asked_of old c.args.goal.now) (trees_at old c.args.self_ty.0) (trees_at old c.args.target.0) _ c.in-Some-None.ensures.3
+    row-from-dyn (written old c.args.declarations.now) (asked_of old c.args.goal.now) (trees_at old c.args.coercion.self_ty.0) (trees_at old c.args.coercion.target.0) _ c.in-Some-None.ensures.3
 
 pub returns-in-Some-Some-clause-is : goal.returns-in-Some-Some-clause-is
 returns-in-Some-Some-clause-is c =
     let old = c.args.cx.now.entries in
-    row-from-dyn (written old c.args.declarations.now) (asked_of old c.args.goal.now) (trees_at old c.args.self_ty.0) (trees_at old c.args.target.0) _ c.in-Some-Some.ensures.3
+    row-from-dyn (written old c.args.declarations.now) (asked_of old c.args.goal.now) (trees_at old c.args.coercion.self_ty.0) (trees_at old c.args.coercion.target.0) _ c.in-Some-Some.ensures.3
 
 pub returns-in-None-None-clause-is : goal.returns-in-None-None-clause-is
 returns-in-None-None-clause-is c =
     let old = c.args.cx.now.entries in
-    row-to-other (written old c.args.declarations.now) (asked_of old c.args.goal.now) (trees_at old c.args.self_ty.0) (trees_at old c.args.target.0)
-    (type-is old c.lawful.ensures c.args.self_ty.0 c.requires.self_held) (type-is old c.lawful.ensures c.args.target.0 c.requires.target) c.in-None-None.ensures'
+    row-to-other (written old c.args.declarations.now) (asked_of old c.args.goal.now) (trees_at old c.args.coercion.self_ty.0) (trees_at old c.args.coercion.target.0)
+    (type-is old c.lawful.ensures c.args.coercion.self_ty.0 c.requires.self_held) (type-is old c.lawful.ensures c.args.coercion.target.0 c.requires.target) c.in-None-None.ensures'
