@@ -14,4 +14,4 @@ pub mod param_env;
 pub mod solver;
 pub mod trait_goals;
 pub mod unknowable;
-mod visitors;
+pub mod visitors;

@@ -43,7 +43,8 @@ pub(crate) fn has_open_places<H: Handle>(cx: &Interner, handle: H) -> bool
     cx.flags(handle).0 & OPEN_PLACES != 0
 }
 
-fn break_if(found: bool) -> Seen<()>
+/// Stops a visitor if it has found what it looks for. If not, the visitor enters the type.
+pub fn break_if(found: bool) -> Seen<()>
     ensures { BreaksAt found result }
 {
     if found { Seen::Break(()) } else { Seen::Enter }
@@ -193,7 +194,8 @@ pub(crate) fn ty_is_over(cx: &Interner, kinds: &[CanonicalVarKind], ty: Ty) -> b
     }
 }
 
-fn struct_is_declared(declarations: &Declarations, id: AdtId) -> bool
+/// Whether the crate sees the struct with this number.
+pub fn struct_is_declared(declarations: &Declarations, id: AdtId) -> bool
     ensures { (es : List Entry) → result ≡ struct_is (λ _. true) (written es declarations.now) id.index }
 {
     match declarations.adt_def(id) {
@@ -203,7 +205,7 @@ fn struct_is_declared(declarations: &Declarations, id: AdtId) -> bool
 }
 
 /// Whether the crate sees the trait with this number. No goal of another trait is decided.
-pub(crate) fn trait_is_declared(declarations: &Declarations, id: TraitId) -> bool
+pub fn trait_is_declared(declarations: &Declarations, id: TraitId) -> bool
     ensures { (es : List Entry) → result ≡ trait_is (λ _. true) (written es declarations.now) id.index }
 {
     match declarations.trait_def(id) {
@@ -212,7 +214,8 @@ pub(crate) fn trait_is_declared(declarations: &Declarations, id: TraitId) -> boo
     }
 }
 
-fn traits_are_declared(declarations: &Declarations, ids: &[TraitId]) -> bool
+/// Whether the crate sees the traits with these numbers.
+pub fn traits_are_declared(declarations: &Declarations, ids: &[TraitId]) -> bool
     ensures { (es : List Entry) → result ≡ not (some_root (is_undeclared (written es declarations.now)) (autos_trees ids.now)) }
 {
     let mut left = ids;
@@ -226,7 +229,7 @@ fn traits_are_declared(declarations: &Declarations, ids: &[TraitId]) -> bool
 }
 
 /// Whether the principal trait of a `dyn`, if there is one, and its auto traits are declared.
-fn bounds_are_declared(cx: &Interner, declarations: &Declarations, bounds: Bounds) -> bool
+pub fn bounds_are_declared(cx: &Interner, declarations: &Declarations, bounds: Bounds) -> bool
     requires { Has cx.now.entries bounds_lists bounds.0 }
     ensures { result ≡ not (some_root (is_undeclared (written cx.now.entries declarations.now)) (trees_at cx.now.entries bounds.0)) }
 {
