@@ -1,8 +1,7 @@
 //! The context of an evaluation: its table and its nested goals.
 ghost use Rattle.type_terms.specs.Growth.{Grew, GrewOrFull};
 ghost use Rattle.std.specs.Prelude.{◌≡◌, List, [], ◌∷◌, ◌++◌, map, take, length, OnOk, OnErr, IfOk, IfErr, Err};
-ghost use Rattle.type_terms.specs.Promised.Handles.{Entry};
-ghost use Rattle.type_terms.specs.Promised.Handles.{ArgHeld, ArgsHeld, arg_trees};
+ghost use Rattle.type_terms.specs.Promised.Handles.{Entry, ArgHeld, ArgsHeld, arg_trees};
 ghost use Rattle.infer_table.specs.Solutions.{HasNoSolution};
 ghost use Rattle.infer_table.specs.Content.{content, Ready, Grows};
 ghost use Rattle.type_terms.specs.Promised.Trees.{none};
@@ -421,12 +420,10 @@ impl EvalCtxt {
         ensures rest { self.new ≡ record self.old { table = self.new.table } }
         ensures runs { RoundsEnd self.old.mode cx.new.entries self.new.table (own_rounds cx.old.entries self.old) result }
     {
-        let alloc = *self.values.allocator();
         let goals = self.nested_goals.clone()?;
         let typing_mode = self.mode;
         let limit = FIXPOINT_STEP_LIMIT;
         rounds(
-            alloc,
             cx,
             typing_mode,
             &mut self.table,

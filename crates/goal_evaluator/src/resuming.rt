@@ -159,7 +159,6 @@ impl Evaluation {
     /// Waits for the response to this goal. The other goals follow in the same round.
     fn ask(
         self,
-        alloc: Global,
         cx: &mut Interner,
         rounds_left: usize,
         round: OpenRound,
@@ -175,7 +174,7 @@ impl Evaluation {
         ensures stands { StandsAt cx.new.entries (rest_script cx.old.entries self rounds_left round (goal ∷ goals.items)) result }
         ensures most { IfOk result (AsksAtMost (most_questions rounds_left (length round.left.items) (length goals.items + 1))) }
     {
-        let asked = question_for(alloc, cx, self.mode, &self.table, &goal)?;
+        let asked = question_for(cx.allocator(), cx, self.mode, &self.table, &goal)?;
         let Canonicalized { input, values } = asked;
         let source = goal.0;
         let waiting = OpenCandidate {
@@ -212,7 +211,6 @@ impl Evaluation {
     /// Continues with the next goal. If there is none, starts the next round or returns the candidate's response.
     fn go_on(
         self,
-        alloc: Global,
         cx: &mut Interner,
         rounds_left: usize,
         round: OpenRound,
@@ -227,7 +225,7 @@ impl Evaluation {
         ensures most { IfOk result (AsksAtMost (most_questions rounds_left (length round.left.items) (length goals.items))) }
     {
         if let Some(goal) = goals.pop_front() {
-            return self.ask(alloc, cx, rounds_left, round, goal, goals);
+            return self.ask(cx, rounds_left, round, goal, goals);
         }
         if !round.changed {
             let certainty = round.certainty_of_goals();
@@ -236,8 +234,8 @@ impl Evaluation {
         if rounds_left == 0 {
             return self.answer(cx, Certainty::Maybe(MaybeCause::Overflow));
         }
-        let next = OpenRound::new(alloc);
-        self.go_on(alloc, cx, rounds_left - 1, next, round.left)
+        let next = OpenRound::new(cx.allocator());
+        self.go_on(cx, rounds_left - 1, next, round.left)
     }
 
     /// Starts the rounds for these goals.
@@ -255,7 +253,7 @@ impl Evaluation {
         ensures most { IfOk result (AsksAtMost (FIXPOINT_STEP_LIMIT * length goals.items)) }
     {
         let round = OpenRound::new(alloc);
-        self.go_on(alloc, cx, FIXPOINT_STEP_LIMIT - 1, round, goals)
+        self.go_on(cx, FIXPOINT_STEP_LIMIT - 1, round, goals)
     }
 }
 
@@ -293,7 +291,7 @@ impl OpenCandidate {
         };
         apply_response(alloc, cx, &mut evaluation.table, &values, &response)?;
         let round = round.judge(cx, goal, &response)?;
-        evaluation.go_on(alloc, cx, rounds_left, round, goals)
+        evaluation.go_on(cx, rounds_left, round, goals)
     }
 }
 

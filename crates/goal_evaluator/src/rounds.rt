@@ -2,8 +2,7 @@
 ghost use Rattle.type_terms.specs.Growth.{GrewOrFull};
 ghost use Rattle.std.specs.Prelude.{◌≡◌, not, List, map, OnOk, IfOk, Ok, Err, Some, None};
 ghost use Rattle.type_terms.specs.Promised.Trees.{is_sort};
-ghost use Rattle.type_terms.specs.Promised.Handles.{Entry};
-ghost use Rattle.type_terms.specs.Promised.Handles.{ArgsHeld};
+ghost use Rattle.type_terms.specs.Promised.Handles.{Entry, ArgsHeld};
 ghost use Rattle.infer_table.specs.Content.{Ready, Grows};
 ghost use Rattle.goal_evaluator.specs.Lists.{Every};
 ghost use Rattle.goal_evaluator.specs.Readings.{ResultHeld};
@@ -156,7 +155,6 @@ pub(crate) fn is_certain(certainty: Certainty) -> bool
 /// One round: evaluates each goal in order, with the replies so far. A definite yes drops its goal. The goals that stay are added
 /// to `left`.
 pub(crate) fn round<'a>(
-    alloc: Global,
     cx: &mut Interner,
     mode: TypingMode,
     table: &mut InferCtxt,
@@ -179,6 +177,7 @@ pub(crate) fn round<'a>(
     let [goal, goals @ ..] = goals else {
         return Ok(RoundStep::Ended(false, Certainty::Yes, replies));
     };
+    let alloc = cx.allocator();
     let asked = question_for(alloc, cx, mode, table, goal)?;
     let Canonicalized { input, values } = asked;
     let [reply, replies @ ..] = replies else {
@@ -190,11 +189,11 @@ pub(crate) fn round<'a>(
     apply_response(alloc, cx, table, &values, response)?;
     let changed = has_values(cx, response);
     if is_certain(response.certainty) && !changed {
-        return round(alloc, cx, mode, table, goals, replies, left);
+        return round(cx, mode, table, goals, replies, left);
     }
     let kept = goal.clone()?;
     left.push(kept)?;
-    let rest = round(alloc, cx, mode, table, goals, replies, left)?;
+    let rest = round(cx, mode, table, goals, replies, left)?;
     match rest {
         RoundStep::Ended(more, certainty, replies) => {
             let certainty = response.certainty.and(certainty);
@@ -207,7 +206,6 @@ pub(crate) fn round<'a>(
 /// At most `limit` rounds, with the replies so far. The last round is one without values of types or constants. After `limit`
 /// rounds the certainty is an overflow.
 pub(crate) fn rounds(
-    alloc: Global,
     cx: &mut Interner,
     mode: TypingMode,
     table: &mut InferCtxt,
@@ -227,12 +225,12 @@ pub(crate) fn rounds(
     if limit == 0 {
         return Ok(RoundsStep::Ended(goals, Certainty::Maybe(MaybeCause::Overflow)));
     }
-    let mut left = Vec::new(alloc);
-    match round(alloc, cx, mode, table, &goals, replies, &mut left)? {
+    let mut left = Vec::new(cx.allocator());
+    match round(cx, mode, table, &goals, replies, &mut left)? {
         RoundStep::Waits(input, source) => Ok(RoundsStep::Waits(input, source)),
         RoundStep::Ended(changed, certainty, replies) => {
             if changed {
-                return rounds(alloc, cx, mode, table, limit - 1, left, replies);
+                return rounds(cx, mode, table, limit - 1, left, replies);
             }
             let certainty = certainty_with(&left, certainty);
             Ok(RoundsStep::Ended(left, certainty))
