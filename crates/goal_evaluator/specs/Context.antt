@@ -1,7 +1,6 @@
 -- The state of an evaluation.
 use Rattle.std.specs.Prelude.{List, Option}
-use Rattle.type_terms.specs.Promised.Handles.{Entry}
-use Rattle.type_terms.specs.Promised.Handles.{ArgsHeld}
+use Rattle.type_terms.specs.Promised.Handles.{Entry, ArgsHeld}
 use Rattle.type_terms.specs.declared.kinds.GenericArgKind.{GenericArgKind}
 use Rattle.infer_table.specs.Content.{Table, Ready}
 use Rattle.infer_table.specs.declared.canonical.CanonicalVarKind.{CanonicalVarKind}

@@ -1,7 +1,6 @@
 -- Candidates that can be resumed where they stopped. The rest of their evaluation is a script.
 use Rattle.std.specs.Prelude.{◌≡◌, ◌≤◌, ◌+◌, ℕ, zero, suc, length, not, ◌&&◌, Bool, List, map, Option, Some, None, Result, Ok, Err}
-use Rattle.type_terms.specs.Promised.Handles.{Entry}
-use Rattle.type_terms.specs.Promised.Handles.{ArgsHeld}
+use Rattle.type_terms.specs.Promised.Handles.{Entry, ArgsHeld}
 use Rattle.infer_table.specs.Content.{Ready}
 use Rattle.goal_evaluator.specs.declared.TheConstants.{FIXPOINT_STEP_LIMIT}
 use Rattle.infer_table.specs.Certainties.{joined, is_certain}

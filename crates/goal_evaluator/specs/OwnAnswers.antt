@@ -1,8 +1,7 @@
 -- The response that a context gives.
 use Rattle.std.specs.Prelude.{◌≡◌, List, [], ◌∷◌, Option, Some, None}
 use Rattle.type_terms.specs.Promised.Trees.{Trees, none, tree, ◌+++◌, sort_of}
-use Rattle.type_terms.specs.Promised.Handles.{Entry}
-use Rattle.type_terms.specs.Promised.Handles.{ArgsHeld}
+use Rattle.type_terms.specs.Promised.Handles.{Entry, ArgsHeld}
 use Rattle.type_terms.specs.Kinds.{args_trees}
 use Rattle.infer_table.specs.declared.certainty.Certainty.{Certainty}
 use Rattle.infer_table.specs.declared.certainty.Certainty.TheVariants.{Yes, Maybe}

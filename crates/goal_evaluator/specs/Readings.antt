@@ -2,8 +2,7 @@
 use Rattle.std.specs.Prelude.{◌≡◌, ℕ, Bool, false, List, Option, Some, None}
 use Rattle.type_terms.specs.Promised.Label.{of_trait, predicate}
 use Rattle.type_terms.specs.Promised.Trees.{Trees, none, tree}
-use Rattle.type_terms.specs.Promised.Handles.{Entry}
-use Rattle.type_terms.specs.Promised.Handles.{ArgHeld}
+use Rattle.type_terms.specs.Promised.Handles.{Entry, ArgHeld}
 use Rattle.infer_table.specs.declared.terms.Equation.{Equation}
 use Rattle.infer_table.specs.Canonical.{CanonicalForm}
 use Rattle.infer_table.specs.Content.{AllConstraintsHeld}

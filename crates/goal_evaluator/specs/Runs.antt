@@ -3,6 +3,7 @@ use Rattle.std.specs.Prelude.{◌≡◌, ℕ, List, [], ◌∷◌, map, Option, 
 use Rattle.type_terms.specs.Promised.Trees.{Trees}
 use Rattle.type_terms.specs.Promised.Handles.{Entry}
 use Rattle.type_terms.specs.declared.kinds.GenericArgKind.{GenericArgKind}
+use Rattle.type_terms.specs.Kinds.{args_trees}
 use Rattle.infer_table.specs.Constraints.{constraints_trees}
 use Rattle.infer_table.specs.Content.{Table}
 use Rattle.infer_table.specs.Responses.{AnswerTrees, answer_trees}
@@ -82,3 +83,8 @@ constraints_filled es values constraints = filled_values (values_of es values) (
 
 abbrev pub premises_filled : List Entry → List GenericArgKind → List (GoalSource × Goal) → List NestedTrees
 premises_filled es values goals = map (nested_filled (values_of es values)) (premises_trees es goals)
+
+-- ---- a response
+-- its terms, with the values in place of canonical variables
+abbrev pub args_filled : List Entry → List GenericArgKind → List GenericArgKind → Trees
+args_filled es values terms = filled_values (values_of es values) (args_trees es terms)

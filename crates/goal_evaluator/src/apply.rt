@@ -4,9 +4,8 @@ ghost use Rattle.std.specs.Prelude.{◌≡◌, ℕ, ◌<◌, ◌≤◌, List, �
 ghost use Rattle.std.specs.Option.{option_or};
 ghost use Rattle.indexmap.specs.IndexSet.{insert_all};
 ghost use Rattle.type_terms.specs.Promised.Label.{Sort};
-ghost use Rattle.type_terms.specs.Promised.Handles.{Entry, Has};
+ghost use Rattle.type_terms.specs.Promised.Handles.{Entry, Has, ArgHeld, ArgsHeld, bound_label};
 ghost use Rattle.type_terms.specs.Terms.{args_lists};
-ghost use Rattle.type_terms.specs.Promised.Handles.{ArgHeld, ArgsHeld, bound_label};
 ghost use Rattle.type_terms.specs.Kinds.{args_trees};
 ghost use Rattle.infer_table.specs.Solutions.{HasNoSolution};
 ghost use Rattle.infer_table.specs.Content.{content, variables_of, Ready, Grows, AllConstraintsHeld};
@@ -19,6 +18,7 @@ ghost use Rattle.infer_table.specs.Applying.{root_labels, canonical_number, orig
 ghost use Rattle.infer_table.specs.Shortages.{EqGrewOrFull};
 ghost use Rattle.infer_table.specs.Covers.{IsOfKnown, IsWellPosed};
 ghost use Rattle.infer_table.specs.Equated.{MakesEqual};
+ghost use Rattle.goal_evaluator.specs.Runs.{args_filled};
 ghost use Rattle.infer_table.specs.AnswersApplied.{known_in, values_put_in, with_unknowns_put_in, answered_constraints, left_by_answer, equated_in_turn, EquatesAnswer, RulesOutAnswer, AgreesWithNone, AgreedGoOn};
 
 use infer_table::canonical::CanonicalVarKind;
@@ -199,7 +199,7 @@ fn fill_values(
     requires terms { ArgsHeld cx.old.entries terms.now }
     ensures terms { GrewOrFull cx.old cx.new result }
     ensures held { IfOk result (λ r. ArgsHeld cx.new.entries r.items) }
-    ensures filled { IfOk result (λ r. args_trees cx.new.entries r.items ≡ filled_values (values_of cx.old.entries values.now) (args_trees cx.old.entries terms.now)) }
+    ensures filled { IfOk result (λ r. args_trees cx.new.entries r.items ≡ args_filled cx.old.entries values.now terms.now) }
 {
     let terms = cx.mk_args(Vec::from_slice(alloc, terms)?)?;
     let filled = terms.fold_with(alloc, cx, &CanonicalInstantiator { values })?;
@@ -225,8 +225,7 @@ fn fill_response(
     ensures terms { GrewOrFull cx.old cx.new result }
     ensures values_held { IfOk result (λ r. ArgsHeld cx.new.entries r.var_values.items) }
     ensures constraints_held { IfOk result (λ r. AllConstraintsHeld cx.new.entries r.region_constraints.items) }
-    ensures values { IfOk result (λ r. args_trees cx.new.entries r.var_values.items
-        ≡ filled_values (values_of cx.old.entries values.now) (args_trees cx.old.entries response.now.var_values.items)) }
+    ensures values { IfOk result (λ r. args_trees cx.new.entries r.var_values.items ≡ args_filled cx.old.entries values.now response.now.var_values.items) }
     ensures constraints { IfOk result (λ r. constraints_trees cx.new.entries r.region_constraints.items
         ≡ filled_values (values_of cx.old.entries values.now) (constraints_trees cx.old.entries response.now.region_constraints.items)) }
 {

@@ -1,8 +1,7 @@
 //! The start of a candidate's evaluation, and its evaluation anew with all replies so far.
 ghost use Rattle.type_terms.specs.Growth.{GrewOrFull};
 ghost use Rattle.std.specs.Prelude.{◌≡◌, ◌*◌, length, map, List, [], ◌∷◌, ◌++◌, OnOk, IfOk, IfErr, Option, Some, None, option_map, Err};
-ghost use Rattle.type_terms.specs.Promised.Handles.{Entry};
-ghost use Rattle.type_terms.specs.Promised.Handles.{ArgHeld, ArgsHeld, arg_trees};
+ghost use Rattle.type_terms.specs.Promised.Handles.{Entry, ArgHeld, ArgsHeld, arg_trees};
 ghost use Rattle.infer_table.specs.Content.{Ready, IsHeldConstraint, AllConstraintsHeld};
 ghost use Rattle.infer_table.specs.Unification.{table_trees, unified};
 ghost use Rattle.infer_table.specs.Goals.{GoalHeld};
@@ -12,7 +11,7 @@ ghost use Rattle.infer_table.specs.Applying.{next_unknown, with_unknown};
 ghost use Rattle.infer_table.specs.Responses.{answer_trees};
 ghost use Rattle.goal_evaluator.specs.Lists.{Every};
 ghost use Rattle.goal_evaluator.specs.Readings.{EquationHeld, SpecHeld, ResultHeld};
-ghost use Rattle.goal_evaluator.specs.Context.{IsReadyContext};
+ghost use Rattle.goal_evaluator.specs.Context.{IsReadyContext, NestedHeld, nested_goal};
 ghost use Rattle.goal_evaluator.specs.Ends.{AnswerHeld};
 ghost use Rattle.goal_evaluator.specs.Evaluating.{goals_trees, replies_trees};
 ghost use Rattle.goal_evaluator.specs.Frames.{begun, fresh, equate, unknowns, with_unknowns, solved};
@@ -20,7 +19,6 @@ ghost use Rattle.goal_evaluator.specs.Shortages.{EvalGrewOrFull};
 ghost use Rattle.goal_evaluator.specs.Runs.{candidate_of, nested_of, equations_filled, equation_filled, constraints_filled, premises_filled};
 ghost use Rattle.goal_evaluator.specs.Trial.{asked, candidate, equations_trees, premises_trees, spec_trees};
 ghost use Rattle.goal_evaluator.specs.TrialEnds.{trial_trees, IsTried, CandidateEnds};
-ghost use Rattle.goal_evaluator.specs.Context.{NestedHeld, nested_goal};
 ghost use Rattle.goal_evaluator.specs.OpenCandidates.{StandsAt, CandidateHeld, AsksAtMost};
 ghost use Rattle.goal_evaluator.specs.declared.TheConstants.{FIXPOINT_STEP_LIMIT};
 
