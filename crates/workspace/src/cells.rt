@@ -1,4 +1,4 @@
-//! Cells are made into terms, one after the other.
+//! Cells are made into terms, one after another.
 ghost use Rattle.type_terms.specs.Growth.{GrewOrFull};
 ghost use Rattle.std.specs.Prelude.{◌≡◌, ◌+◌, ◌≤◌, length, IfOk};
 ghost use Rattle.workspace.specs.Stack.{stack_of};

@@ -28,10 +28,10 @@ use type_terms::{AdtId, CrateId, ImplId, TraitId};
 /// No list of a text's declarations is as long. A text has at most one line more than bytes, and `core` comes first.
 pub const ENTRY_LIMIT: usize = 1_048_640;
 
-/// What lines have declared and asked so far, in the order of the text, `core` first, and what makes it quick to search.
+/// The declarations and queries of the lines so far, in the order of the text, `core` first, and indices to search them quickly.
 ///
-/// An item's number is its place among all of its kind. A call that adds something can run out of memory; the tables are not used
-/// any more then, but for `add_question`, which leaves them as they were.
+/// An item's number is its index among all items of its kind. A call that adds something fails if memory is refused. The tables must not
+/// be used any more then, except after `add_question`, which leaves them unchanged.
 pub struct Tables {
     pub(crate) alloc: Global,
     pub(crate) crates: Vec<CrateEntry>,
@@ -567,7 +567,7 @@ impl Tables {
         Ok(())
     }
 
-    /// Adds a question, as the next of both kinds together. The error is a refused request for memory, after which the tables are as before.
+    /// Adds a query. `prove` and `refute` are numbered together. Fails if memory is refused, and then leaves the tables unchanged.
     pub fn add_question(&mut self, entry: QuestionEntry) -> Result<(), AllocError>
         requires consistent { IsConsistent self.old }
         requires asked { ReferenceMade entry.asked }
@@ -589,7 +589,7 @@ impl Tables {
         }
     }
 
-    /// Takes the last question out again; where there is none, nothing changes.
+    /// Removes the last query, if there is one.
     pub fn remove_question(&mut self)
         requires { IsConsistent self.old }
         ensures removed { declared self.new ≡ without_last_question (declared self.old) }

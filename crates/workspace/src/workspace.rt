@@ -72,7 +72,7 @@ impl Workspace {
         &self.tables
     }
 
-    /// Asks one more question, behind all others. The error is a refused request for memory, after which all is as before.
+    /// Adds a query after all others. Fails if memory is refused, and then changes nothing.
     pub fn add_question(&mut self, entry: QuestionEntry) -> Result<(), AllocError>
         requires asked { ReferenceMade entry.asked }
         requires clauses { ReferencesMade entry.clauses.items }
@@ -84,7 +84,7 @@ impl Workspace {
         self.tables.add_question(entry)
     }
 
-    /// Takes the last question out again; where there is none, nothing changes.
+    /// Removes the last query, if there is one.
     pub fn remove_question(&mut self)
         ensures { self.new ≡ without_last_question self.old }
     {
