@@ -1,4 +1,4 @@
--- What the program tells its caller by its exit status.
+-- The exit status of the program.
 use Rattle.std.specs.Prelude.{ℕ, Ok, Err}
 use Rattle.std.specs.declared.result.Result.{Result}
 use Rattle.coherence.specs.declared.status.Status.{Status}

@@ -1,7 +1,7 @@
-//! Judges the crates of the text on standard input and answers its questions, on standard output.
+//! Checks the crates of the text on standard input and answers its queries on standard output.
 //!
-//! Its one argument is the depth limit, from 1 to 255. Exit statuses: 0 where the answers were written, 1 where the text has a
-//! fault, 2 where there is not one good word, and 3 where reading, writing or memory failed.
+//! Its one argument is the depth limit, from 1 to 255. The exit status is 0 if the answers were written, 1 if the text has a fault, 2 if
+//! the arguments are wrong, and 3 if reading or writing failed, memory was refused or a table was full.
 #![tactic(auto)]
 
 ghost use Rattle.std.specs.Prelude.{◌≡◌};
@@ -12,19 +12,19 @@ use std::process::ExitCode;
 use std::rt::Env;
 use std::{env, io};
 
-/// How many handles of each kind a session holds at most.
+/// The maximum number of handles of each kind in a session.
 const HANDLES: u32 = 16_777_216;
 
-/// Why there is no output, or not all of it.
+/// Why output is missing or incomplete.
 #[derive(Clone, Copy)]
 enum Failure {
-    /// There is not one good word.
+    /// There is not exactly one argument, or it is no depth limit.
     Words,
-    /// The run stopped, or a request for memory was refused before it.
+    /// The run failed, or memory was refused before it.
     Run(RunFault),
 }
 
-/// The program's one word, read before any input is.
+/// The program's one argument. It is read before any input.
 fn read_depth<R: Env + Alloc>(rt: &R) -> Result<u32, Failure> {
     match env::args(rt) {
         Err(e) => {
@@ -50,7 +50,7 @@ fn read_depth<R: Env + Alloc>(rt: &R) -> Result<u32, Failure> {
     }
 }
 
-/// Runs from standard input to standard output, by the depth limit that the program is given.
+/// Runs from standard input to standard output.
 fn answer(rt: &HostRuntime) -> Result<Status, Failure> {
     let depth = read_depth(rt)?;
     let Some(limits) = Limits::new(depth, HANDLES) else {
@@ -64,7 +64,7 @@ fn answer(rt: &HostRuntime) -> Result<Status, Failure> {
     }
 }
 
-/// The exit status that tells how the program ended.
+/// The exit status of an ending of the program.
 fn exit_status(ending: Result<Status, Failure>) -> u8
     ensures { result ≡ exit_status ending }
 {
