@@ -1,4 +1,4 @@
--- What is asked behind a handle: the text that was read there, if one was.
+-- The text of a handle, if one was read, and the answers to its queries.
 use Rattle.std.specs.Prelude.{◌≡◌, ◌≤◌, ℕ, List, length, Some, Ok, slice_get}
 use Rattle.std.specs.Option.{option_map}
 use Rattle.coherence.specs.TextNames.FaultNumbers.{fault_number}
@@ -10,27 +10,27 @@ use Rattle.coherence.specs.declared.ask_fault.AskFault.{AskFault}
 use Rattle.coherence.specs.declared.ask_fault.AskFault.TheVariants as faults
 use Rattle.celtisdarts_c.specs.declared.slot.Slot.{Slot}
 
--- P holds of what is asked there
+-- a text was read, and P holds of it
 abbrev pub IfAsked : Slot → (AskedText → Type 0) → Type 0
 IfAsked slot P = (a : AskedText) × (slot.asker ≡ Some a) × P a
 
--- this text was read, to be asked at this depth
+-- this text was read, to be queried at this depth
 abbrev pub HasRead : ℕ → List ℕ → Slot → Type 0
 HasRead depth text slot = IfAsked slot (λ a. TextGives text (Ok a.declarations) × (a.text_length ≡ length text) × (a.depth ≡ depth))
 
--- the name of the crate of this number; that of `core` is 0
+-- the name of the crate of this number; `core` has number 0
 abbrev pub IsCrateName : Slot → ℕ → List ℕ → Type 0
 IsCrateName slot number name = IfAsked slot (λ a. option_map (λ c. c.text) (slice_get a.declarations.crates number) ≡ Some name)
 
--- its line
+-- the verdict of the crate of this number, as a line
 abbrev pub IsCrateLine : Slot → ℕ → List ℕ → Type 0
 IsCrateLine slot number line = IfAsked slot (λ a. IsVerdictLine a.depth a.declarations number line)
 
--- it has no crate of this number
+-- the text has no crate of this number
 abbrev pub HasNoCrate : Slot → ℕ → Type 0
 HasNoCrate slot number = IfAsked slot (λ a. length a.declarations.crates ≤ number)
 
--- The answer to a line that asks: the last line of the output for a text that gives the same declarations, with this line behind it.
+-- The answer to a query: the last line of the output for any text with the same declarations, followed by the query.
 abbrev pub IsAnswer : Slot → List ℕ → List ℕ → Type 0
 IsAnswer slot line answer =
     IfAsked slot (λ a. (text : List ℕ) → TextGives text (Ok a.declarations) → FitsBehind text line → IsLastLine a.depth (behind text line) answer)
@@ -44,11 +44,11 @@ fault_word faults.NotAQuery = 6
 fault_word faults.SeveralLines = 7
 fault_word faults.TooLong = 8
 
--- it is the line's own fault only where it has this number
+-- if the fault is one of the line, this is its number
 abbrev pub TellsNumber : ℕ → AskFault → Type 0
 TellsNumber n (faults.Line k) = n ≡ fault_number k
 TellsNumber n _ = Unit {0}
 
--- There is a reason, which the word and the number tell.
+-- There is a fault, with this status and this number.
 abbrev pub IsUnanswered : Slot → List ℕ → ℕ → ℕ → Type 0
 IsUnanswered slot line word number = IfAsked slot (λ a. (f : AskFault) × IsAskFault a.declarations a.text_length line f × (word ≡ fault_word f) × TellsNumber number f)

@@ -1,4 +1,4 @@
-//! Texts that are read once, and asked at run time.
+//! Texts that are read once and queried at run time.
 
 ghost use Rattle.std.specs.Prelude.{◌≡◌, ◌≢◌, ◌≤◌, ◌↔◌, ◌⊎◌, Err, Some, None};
 ghost use Rattle.coherence.specs.TextLanguage.Text.{TextGives};
@@ -17,9 +17,9 @@ fn empty(alloc: Global) -> Result<Box<Slot>, AllocError> {
     Ok(boxed)
 }
 
-/// Writes a handle, in which no text was read. The words are 0 and 3.
+/// Writes a new handle, without a text. Returns 0 or 3.
 ///
-/// No clause says that it is a handle: of all calls here this is the one whose promise is not proved.
+/// No clause states that `at` is a handle afterwards: of all calls here this is the one whose promise is not proved.
 #[unsafe(no_mangle)]
 pub extern "C" fn celtisdarts_new(alloc: Global, at: &mut *mut u8) -> u32
     ensures { result ≤ 3 }
@@ -33,15 +33,16 @@ pub extern "C" fn celtisdarts_new(alloc: Global, at: &mut *mut u8) -> u32
     }
 }
 
-/// Lets a handle go, with all that was read there.
+/// Frees a handle and its text.
 #[unsafe(no_mangle)]
 pub extern "C" fn celtisdarts_close(handle: Handle) {
     let _ = handle.into_box();
 }
 
-/// Reads a text, to be asked at this depth, in the place of the one that was read before.
+/// Reads a text, to be queried at this depth. It replaces the text of the handle.
 ///
-/// The words are 0 to 3. At 1 the text has a fault: `line` is its first faulty line, from 1, and `number` the smallest that applies there.
+/// Returns 0 to 3. If it returns 1, the text has a fault: `line` is the first faulty line, counted from 1, and `number` is its smallest
+/// fault.
 #[unsafe(no_mangle)]
 pub extern "C" fn celtisdarts_read(
     alloc: Global,
@@ -71,7 +72,7 @@ pub extern "C" fn celtisdarts_read(
     }
 }
 
-/// Puts a text behind a handle. The words are 0 and 3.
+/// Replaces the text of a handle. Returns 0 or 3.
 fn put_text(alloc: Global, handle: &mut Handle, asker: Asker) -> u32
     ensures word { result ≤ 3 }
     ensures no_other { (result ≡ 0) ⊎ (result ≡ 3) }
@@ -87,8 +88,8 @@ fn put_text(alloc: Global, handle: &mut Handle, asker: Asker) -> u32
     }
 }
 
-/// Writes the name of a crate of the text that was read: that of `core` is number 0, and the others count in the order of the text. The
-/// words are 0, 3, 5, 9 and 10.
+/// Writes the name of a crate of the text. `core` has number 0, and the others are numbered in the order of the text. Returns 0, 3, 5, 9
+/// or 10.
 #[unsafe(no_mangle)]
 pub extern "C" fn celtisdarts_name(
     alloc: Global,
@@ -113,7 +114,7 @@ pub extern "C" fn celtisdarts_name(
     word
 }
 
-/// Writes the line of a crate of the text that was read, with its end: accepted, or why it is not. The words are 0, 3, 4, 5, 9 and 10.
+/// Writes the verdict of a crate of the text, as a line with its end. Returns 0, 3, 4, 5, 9 or 10.
 #[unsafe(no_mangle)]
 pub extern "C" fn celtisdarts_check(
     alloc: Global,
@@ -138,9 +139,9 @@ pub extern "C" fn celtisdarts_check(
     word
 }
 
-/// Writes the answer to a line that asks, with its end: what the output for the text with this line behind it ends with.
+/// Writes the answer to a query, as a line with its end: the last line of the output for the text followed by the query.
 ///
-/// The words are 0, 1, 3 to 8, and 10. At 1 the line has a fault: `number` is the smallest that applies.
+/// Returns 0, 1, 3 to 8, or 10. If it returns 1, the line has a fault, and `number` is the smallest one.
 #[unsafe(no_mangle)]
 pub extern "C" fn celtisdarts_ask(
     alloc: Global,

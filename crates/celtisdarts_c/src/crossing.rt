@@ -1,10 +1,10 @@
-//! What may move to another thread: that is asked of what C hands from one to another.
+//! What may move to another thread. C code may pass a handle from one thread to another, so slots have to be `Send`.
 
 use crate::slot::Slot;
 
 fn moves<T: Send>() {}
 
-/// A slot may, with all that was read there.
+/// A slot is `Send`, with its text.
 pub fn slots_move() {
     moves::<Slot>();
 }

@@ -9,7 +9,7 @@ use std::alloc::Global;
 use std::marker::Model;
 use std::mem;
 
-/// A slot behind a pointer, which it owns.
+/// A pointer to a slot that it owns.
 #[repr(C)]
 pub struct Handle {
     at: *mut u8,
@@ -39,7 +39,7 @@ impl Handle {
         Handle::of_parts(Parts::of(boxed))
     }
 
-    /// Puts a box in the place of the one that it has.
+    /// Replaces the box, and returns the old one.
     pub fn replace(&mut self, boxed: Box<Slot>) -> Box<Slot>
         ensures new { self.new.value ≡ boxed.value }
         ensures old { result.value ≡ self.old.value }

@@ -1,23 +1,23 @@
-//! The library for C, and for whatever calls C: whole texts, each in one call, and texts that are read once and asked at run time.
+//! The library for C, and for languages that call C: whole texts, each in one call, and texts that are read once and queried at run time.
 //!
-//! A call ends with a word:
+//! A call returns a status:
 //!
-//! | Word | What it says |
+//! | Status | Meaning |
 //! |---|---|
-//! | 0 | it is done |
-//! | 1 | the text, or the line, has a fault |
+//! | 0 | success |
+//! | 1 | the text or the line has a fault |
 //! | 2 | the depth is not from 1 to 255 |
-//! | 3 | a request for memory was refused |
-//! | 4 | a table of terms, of goals or of answers was full |
-//! | 5 | the buffer is too short for what is to be written: `needed` says how long that is |
-//! | 6 | the line has no fault, but asks nothing |
-//! | 7 | the line holds the byte that ends lines |
-//! | 8 | the text and the line together are longer than texts may be |
-//! | 9 | the text has no crate of that number |
+//! | 3 | memory was refused |
+//! | 4 | a table of terms, goals or answers is full |
+//! | 5 | the buffer is too short: `needed` is the length of the output |
+//! | 6 | the line has no fault, but is no query |
+//! | 7 | the line contains a newline |
+//! | 8 | the text and the line together exceed the limit of texts |
+//! | 9 | the text has no crate of this number |
 //! | 10 | no text was read |
 //!
-//! What is written stands at the front of a buffer of the caller's, and `needed` is how long it is. After a call that ended with another word
-//! than 0 all is as before, and it can be made again.
+//! Output is written to the front of the caller's buffer, and `needed` is its length. A call that does not return 0 changes no handle, so
+//! it can be repeated.
 #![tactic(auto)]
 
 mod asked;

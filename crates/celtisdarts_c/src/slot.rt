@@ -1,4 +1,4 @@
-//! What stands behind a handle, and what is asked of it.
+//! The slot of a handle, and the calls on it.
 
 ghost use Rattle.std.specs.Prelude.{◌≡◌, ◌≢◌, ◌≤◌, None};
 ghost use Rattle.celtisdarts_c.specs.Asked.{fault_word, TellsNumber, HasNoCrate, IsCrateName, IsCrateLine, IsAnswer, IsUnanswered};
@@ -7,14 +7,14 @@ ghost use Rattle.celtisdarts_c.specs.Told.{Tells, TellsLength};
 use crate::told::tell;
 use coherence::{AskFault, Asker, CrateId, Fault};
 
-/// A place for a text that is asked: empty until one was read.
+/// A slot for a text that can be queried. It is empty until a text is read.
 #[derive(Drop)]
 pub struct Slot {
     pub asker: Option<Asker>,
 }
 
 impl Slot {
-    /// Writes the name of a crate. The words are 0, 5, 9 and 10.
+    /// Writes the name of a crate. Returns 0, 5, 9 or 10.
     pub fn name(&self, number: u32, buffer: &mut [u8], needed: &mut usize) -> u32
         ensures told { result ≡ 0 → Tells (IsCrateName self.now number) buffer.new needed.new }
         ensures short { result ≡ 5 → TellsLength (IsCrateName self.now number) buffer.old needed.new }
@@ -33,7 +33,7 @@ impl Slot {
         if tell(name, buffer, needed) { 0 } else { 5 }
     }
 
-    /// Writes the line of a crate. The words are 0, 3, 4, 5, 9 and 10.
+    /// Writes the verdict of a crate. Returns 0, 3, 4, 5, 9 or 10.
     pub fn check(&mut self, number: u32, buffer: &mut [u8], needed: &mut usize) -> u32
         ensures told { result ≡ 0 → Tells (IsCrateLine self.old number) buffer.new needed.new }
         ensures short { result ≡ 5 → TellsLength (IsCrateLine self.old number) buffer.old needed.new }
@@ -55,7 +55,7 @@ impl Slot {
         }
     }
 
-    /// Writes the answer to a line. The words are 0, 1, 3 to 8, and 10.
+    /// Writes the answer to a query. Returns 0, 1, 3 to 8, or 10.
     pub fn ask(
         &mut self,
         line: &[u8],
@@ -79,7 +79,7 @@ impl Slot {
     }
 }
 
-/// The word of a fault; the number of a line's own is told.
+/// The status of a fault. `number` is set if the fault is one of the line.
 fn refuse(fault: AskFault, number: &mut u32) -> u32
     ensures word { result ≡ fault_word fault }
     ensures number { TellsNumber number.new fault }

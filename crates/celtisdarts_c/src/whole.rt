@@ -8,10 +8,10 @@ use crate::told::tell;
 use coherence::{Limits, RunFault, Status, answer};
 use std::alloc::Global;
 
-/// How many handles of each kind a session holds at most.
+/// The maximum number of handles of each kind in a session.
 pub const HANDLES: u32 = 16_777_216;
 
-/// The word of an output.
+/// The status of an output.
 fn status_word(status: Status) -> u32
     ensures { result ≡ status_word status }
 {
@@ -21,9 +21,9 @@ fn status_word(status: Status) -> u32
     }
 }
 
-/// Judges the crates of a text and answers its queries: writes the output of the program `celtisdarts` for the text at this depth.
+/// Checks the crates of a text and answers its queries: writes the output of the program `celtisdarts` for the text at this depth.
 ///
-/// The words are 0 where that is answers, and 1 where it is the line of the text's first fault; and 2 to 5.
+/// Returns 0 if the output is answers, 1 if it is the line of the text's first fault, or 2 to 5.
 #[unsafe(no_mangle)]
 pub extern "C" fn celtisdarts_run(
     alloc: Global,
