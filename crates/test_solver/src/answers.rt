@@ -1,4 +1,4 @@
-//! What the solver answers to the first question of a text, asked twice, and the frames that it takes.
+//! The answers of the solver to the first query of a text, evaluated twice, and the frames that it takes.
 ghost use Rattle.std.specs.Prelude.{◌≡◌, ℕ, List, Ok, IfOk};
 ghost use Rattle.text_parser.specs.TypeTerms.Promised.Handles.{Keeps};
 ghost use Rattle.infer_table.specs.Content.{Ready};
@@ -23,11 +23,11 @@ use text_parser::type_terms::interner::Interner;
 use text_parser::type_terms::kinds::GenericArgs;
 use text_parser::workspace::Workspace;
 
-/// What is found of a goal that is asked twice: what is there after each time, and whether the goal is as it is wanted, with
-/// the values that its unknowns have got.
+/// The outcome of a goal that is evaluated twice: the state after each time, and whether the goal, with the values of its variables,
+/// is the wanted one.
 pub(crate) type Found = (Evaluated, Evaluated, bool);
 
-/// A goal of a table, and the arguments that its reference is to have once it is evaluated.
+/// A goal of a table, and the arguments of its trait reference that are wanted after the evaluation.
 #[derive(Drop)]
 struct Posed {
     table: InferCtxt,
@@ -35,7 +35,7 @@ struct Posed {
     wanted: GenericArgs,
 }
 
-/// Two unknown types and a constant. No question here has more unknowns.
+/// Two type variables and a constant. No query here has more variables.
 fn add_unknowns(cx: &mut Interner, table: &mut InferCtxt) -> Result<(), Fault>
     requires { Ready cx.old.entries table.old }
     ensures ready { IfOk result (λ _. Ready cx.new.entries table.new) }
@@ -56,7 +56,7 @@ fn table_of_unknowns(alloc: Global, cx: &mut Interner) -> Result<InferCtxt, Faul
     Ok(table)
 }
 
-/// The arguments of the question at a place.
+/// The arguments of the query with this index.
 fn arguments_at(
     alloc: Global,
     cx: &mut Interner,
@@ -69,7 +69,7 @@ fn arguments_at(
     Ok(goal.predicate.trait_ref.args)
 }
 
-/// The first question as a goal, which is to become the second one.
+/// The first query as a goal. It is wanted to become the second one.
 fn pose(alloc: Global, cx: &mut Interner, workspace: &Workspace) -> Result<Posed, Fault>
     ensures table { IfOk result (λ posed. Ready cx.new.entries posed.table) }
     ensures goal { IfOk result (λ posed. GoalHeld cx.new.entries posed.goal) }
@@ -85,14 +85,14 @@ fn pose(alloc: Global, cx: &mut Interner, workspace: &Workspace) -> Result<Posed
     })
 }
 
-/// What is asked, and by which rules.
+/// The queries, and the rules that answer them.
 #[derive(Drop)]
 struct Case {
     solver: Solver,
     posed: Posed,
 }
 
-/// What the text asks.
+/// The queries of the text.
 fn case_of(alloc: Global, cx: &mut Interner, workspace: &Workspace) -> Result<Case, Fault>
     requires { (bytes : List ℕ) × TextGives bytes (Ok workspace.now) }
     ensures ready { IfOk result (λ case. solver.AreReadyDeclarations cx.new.entries case.solver.declarations) }
@@ -107,7 +107,7 @@ fn case_of(alloc: Global, cx: &mut Interner, workspace: &Workspace) -> Result<Ca
     })
 }
 
-/// What the text asks, read.
+/// The queries of the text, read.
 fn read_case(alloc: Global, cx: &mut Interner, text: &[u8]) -> Result<Case, Fault>
     ensures ready { IfOk result (λ case. solver.AreReadyDeclarations cx.new.entries case.solver.declarations) }
     ensures table { IfOk result (λ case. Ready cx.new.entries case.posed.table) }
@@ -117,7 +117,7 @@ fn read_case(alloc: Global, cx: &mut Interner, text: &[u8]) -> Result<Case, Faul
     case_of(alloc, cx, &workspace)
 }
 
-/// Whether the goal, with the values of its table, has the arguments that are wanted.
+/// Whether the goal, with the values of its table, has the wanted arguments.
 fn is_as_wanted(cx: &mut Interner, posed: &Posed) -> Result<bool, Fault>
     requires table { Ready cx.old.entries posed.now.table }
     requires goal { GoalHeld cx.old.entries posed.now.goal }
@@ -144,7 +144,7 @@ fn evaluate_twice<H: GoalHandler>(
     Ok((first, second, is_wanted))
 }
 
-/// Evaluates the goal twice by a handler that has met none yet.
+/// Evaluates the goal twice by a new handler.
 fn evaluate_first<H: GoalHandler + Drop>(
     alloc: Global,
     interner: Interner,
@@ -161,21 +161,21 @@ fn evaluate_first<H: GoalHandler + Drop>(
     evaluate_twice(&mut solving, mode, &mut posed)
 }
 
-/// What is found of the first question of a text, which is to become the second one, in this mode.
+/// The outcome of the first query of a text in this mode. It is wanted to become the second one.
 fn found_in(alloc: Global, text: &[u8], mode: TypingMode) -> Result<Found, Fault> {
     let mut interner = Interner::new(alloc, 10000);
     let Case { solver, posed } = read_case(alloc, &mut interner, text)?;
     evaluate_first(alloc, interner, solver, posed, mode)
 }
 
-/// What another handler finds of the first question of a text.
+/// The outcome of the first query of a text by another handler.
 fn found_in_by_another(alloc: Global, text: &[u8], mode: TypingMode) -> Result<Found, Fault> {
     let mut interner = Interner::new(alloc, 10000);
     let Case { solver, posed } = read_case(alloc, &mut interner, text)?;
     evaluate_first(alloc, interner, HandsOn { solver }, posed, mode)
 }
 
-/// What is declared, and behind it the two questions.
+/// The declarations, followed by the two queries.
 fn text_of(alloc: Global, declared: &[u8], asked: &[u8], becomes: &[u8]) -> Result<Vec<u8>, Fault> {
     let mut text = Vec::from_slice(alloc, declared)?;
     add_question(&mut text, asked)?;
@@ -183,7 +183,7 @@ fn text_of(alloc: Global, declared: &[u8], asked: &[u8], becomes: &[u8]) -> Resu
     Ok(text)
 }
 
-/// What is found of a goal in this mode, over what is declared; it is to become another one.
+/// The outcome of a goal in this mode, with these declarations. It is wanted to become another one.
 pub(crate) fn found(
     alloc: Global,
     declared: &[u8],
@@ -195,7 +195,7 @@ pub(crate) fn found(
     found_in(alloc, &text, mode)
 }
 
-/// What another handler finds of a goal, which is to stay as it is.
+/// The outcome of a goal by another handler. It is wanted to stay unchanged.
 pub(crate) fn found_by_another(
     alloc: Global,
     declared: &[u8],

@@ -1,4 +1,4 @@
-//! The candidates of goals that a text asks: the one that is assembled, and the one that the call of its own rule makes.
+//! The candidates of the goals that a text queries: the one that is assembled, and the one that the call of its own rule makes.
 ghost use Rattle.std.specs.Prelude.{ℕ, List, Ok, IfOk};
 ghost use Rattle.text_parser.specs.TypeTerms.Promised.Handles.{Entry, Keeps};
 ghost use Rattle.infer_table.specs.Goals.{GoalHeld};
@@ -34,33 +34,33 @@ use text_parser::type_terms::interner::Interner;
 use text_parser::type_terms::{Fault, ImplId};
 use text_parser::workspace::Workspace;
 
-/// Where a candidate comes from: an impl, by its number, or a built-in rule.
+/// The source of a candidate: an impl, by its number, or a built-in rule.
 #[derive(Clone, Copy)]
 pub enum Source {
     Impl(u32),
     BuiltinImpl(BuiltinImplSource),
 }
 
-/// What a candidate is, but for its premises.
+/// A candidate without its premises.
 #[derive(Clone, Copy)]
 pub struct Told {
     pub source: Source,
     pub certainty: Certainty,
-    /// Whether both sides of each of its equations are one term.
+    /// Whether both sides of each equation are the same term.
     pub equal: bool,
 }
 
-/// The candidate that is wanted, if one is, and its premises.
+/// The wanted candidate, if one is wanted, and its premises.
 #[derive(Clone, Copy)]
 struct Wanted<'a> {
     premises: &'a [Clause],
     told: Option<Told>,
 }
 
-/// A goal, behind it the premises that are wanted as where-clauses, and the candidate that is wanted, if one is.
+/// A goal, followed by the wanted premises as where-clauses, and the wanted candidate, if one is wanted.
 pub type Row = (&'static [u8], Option<Told>);
 
-/// The question at a place in canonical form, without its where-clauses, and these.
+/// The query with this index in canonical form, without its where-clauses, and these clauses.
 pub(crate) fn question(
     alloc: Global,
     cx: &mut Interner,
@@ -95,7 +95,7 @@ pub(crate) fn question(
     ))
 }
 
-/// The candidate that the call of the trait's own rule makes of the goal, if there is one.
+/// The candidate that the call of the trait's own rule makes of the goal, if any.
 pub(crate) fn by_trait(
     alloc: Global,
     cx: &mut Interner,
@@ -123,7 +123,7 @@ pub(crate) fn by_trait(
     }
 }
 
-/// The candidate of a `dyn`'s first bound, if there is one, else of the first impl.
+/// The candidate of a `dyn`'s first bound, if any, otherwise of the first impl.
 fn by_bound_or_impl(
     alloc: Global,
     cx: &mut Interner,
@@ -139,8 +139,8 @@ fn by_bound_or_impl(
     }
 }
 
-/// The candidate that the calls of single rules make of the goal: that of its trait, else of a `dyn`'s first bound, else of the first
-/// impl.
+/// The candidate that the calls of single rules make of the goal: that of its trait, otherwise of a `dyn`'s first bound, otherwise of the
+/// first impl.
 fn considered(
     alloc: Global,
     cx: &mut Interner,
@@ -156,7 +156,7 @@ fn considered(
     }
 }
 
-/// The candidate as one that was considered and refused.
+/// The candidate, as one that was considered and refused.
 fn refused(alloc: Global, spec: &Option<CandidateSpec>) -> Result<Vec<Considered>, Fault>
     ensures { IfOk result (λ done. (es : List Entry) → ConsideredHeld es done.items × ConsideredFits es done.items) }
 {
@@ -171,7 +171,7 @@ fn refused(alloc: Global, spec: &Option<CandidateSpec>) -> Result<Vec<Considered
     Ok(done)
 }
 
-/// Whether the candidate asks these premises.
+/// Whether these are the premises of the candidate.
 fn asks(spec: &CandidateSpec, wanted: &[Clause]) -> bool {
     spec.nested_goals.len() == wanted.len()
         && spec.nested_goals.iter().zip(wanted).all(|((source, goal), clause)| {
@@ -179,7 +179,7 @@ fn asks(spec: &CandidateSpec, wanted: &[Clause]) -> bool {
         })
 }
 
-/// Whether the candidate comes from where it is wanted to.
+/// Whether the source of the candidate is the wanted one.
 fn is_from(found: CandidateSource, wanted: Source) -> bool {
     match (found, wanted) {
         (CandidateSource::Impl(id), Source::Impl(index)) => id.index == index,
@@ -206,7 +206,7 @@ fn is_told(spec: &Option<CandidateSpec>, wanted: Wanted) -> bool {
     }
 }
 
-/// Whether no second candidate of the goal is assembled, behind this one.
+/// Whether no second candidate of the goal is assembled after this one.
 fn is_last(
     alloc: Global,
     cx: &mut Interner,
@@ -222,7 +222,7 @@ fn is_last(
     Ok(second.is_none())
 }
 
-/// Whether the one candidate that is assembled is the one that is wanted.
+/// Whether exactly the wanted candidate is assembled.
 fn is_assembled(
     alloc: Global,
     cx: &mut Interner,
@@ -240,7 +240,7 @@ fn is_assembled(
     is_last(alloc, cx, decls, goal, &first)
 }
 
-/// Whether the rule's own call makes the candidate that is wanted.
+/// Whether the call of the rule makes the wanted candidate.
 fn is_considered(
     alloc: Global,
     cx: &mut Interner,
@@ -255,7 +255,7 @@ fn is_considered(
     Ok(is_told(&own, wanted))
 }
 
-/// Whether the goal has the candidate that is wanted, by both ways, and no second one.
+/// Whether the goal has the wanted candidate, assembled and by the rule's own call, and no second one.
 fn has_candidate(
     alloc: Global,
     cx: &mut Interner,
@@ -272,7 +272,7 @@ fn has_candidate(
     is_considered(alloc, cx, decls, goal, wanted)
 }
 
-/// Whether the question at a place has the candidate that is wanted.
+/// Whether the query with this index has the wanted candidate.
 fn is_row(
     alloc: Global,
     cx: &mut Interner,
@@ -295,7 +295,7 @@ fn is_row(
     has_candidate(alloc, cx, decls, &goal, wanted)
 }
 
-/// The place of the first of these rows of which something else is found than the text's question there wants.
+/// The index of the first of these rows whose outcome differs from the wanted one of the text's query.
 fn first_row_that_differs(
     alloc: Global,
     cx: &mut Interner,
@@ -313,7 +313,7 @@ fn first_row_that_differs(
     Ok(None)
 }
 
-/// What is declared, and the rows as questions.
+/// The declarations, and the rows as queries.
 fn text_of(alloc: Global, declared: &[u8], rows: &[Row]) -> Result<Vec<u8>, Fault> {
     let mut text = Vec::from_slice(alloc, declared)?;
     for (row, _) in rows {
@@ -322,7 +322,7 @@ fn text_of(alloc: Global, declared: &[u8], rows: &[Row]) -> Result<Vec<u8>, Faul
     Ok(text)
 }
 
-/// The first of the rows, over what the crate sees that asks them.
+/// The first of the rows, over the visible crates of the querying crate.
 fn first_in_workspace(
     alloc: Global,
     cx: &mut Interner,
@@ -335,20 +335,20 @@ fn first_in_workspace(
     first_row_that_differs(alloc, cx, &decls, workspace, rows)
 }
 
-/// The first of the rows, over a text that asks them.
+/// The first of the rows, over a text that queries them.
 fn first_in_text(alloc: Global, text: &[u8], rows: &[Row]) -> Result<Option<u32>, Fault> {
     let workspace = read(alloc, text)?;
     let mut cx = Interner::new(alloc, 10000);
     first_in_workspace(alloc, &mut cx, &workspace, rows)
 }
 
-/// The place of the first of these rows of which something else is found, over what is declared.
+/// The index of the first of these rows with a different outcome, over these declarations.
 fn first_that_differs(alloc: Global, declared: &[u8], rows: &[Row]) -> Result<Option<u32>, Fault> {
     let text = text_of(alloc, declared, rows)?;
     first_in_text(alloc, &text, rows)
 }
 
-/// The first of these tables with a row of which something else is found, and the place of that row.
+/// The first of these tables with a row that has a different outcome, and the index of that row.
 pub(crate) fn first_place_that_differs(
     alloc: Global,
     declared: &[u8],
@@ -381,7 +381,7 @@ fn by_impl(
     }
 }
 
-/// Whether the call of an impl makes the candidate that is wanted of the text's first question.
+/// Whether the call of an impl makes the wanted candidate of the text's first query.
 fn is_made_in_workspace(
     alloc: Global,
     cx: &mut Interner,
@@ -404,7 +404,7 @@ fn is_made_in_workspace(
     Ok(is_told(&own, wanted))
 }
 
-/// The same of the first question of a text.
+/// The same of the first query of a text.
 fn is_made_in_text(
     alloc: Global,
     text: &[u8],
@@ -416,7 +416,7 @@ fn is_made_in_text(
     is_made_in_workspace(alloc, &mut cx, &workspace, id, told)
 }
 
-/// Whether the call of an impl makes the candidate that the row wants, over what is declared.
+/// Whether the call of an impl makes the wanted candidate of the row, over these declarations.
 pub(crate) fn is_made_by(
     alloc: Global,
     declared: &[u8],

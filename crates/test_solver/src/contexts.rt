@@ -60,7 +60,7 @@ fn probe_equation(
     context.probe(cx, move |context, cx| equate(context, cx, left, right))?
 }
 
-/// A way to ask that two types are one.
+/// A call that equates two types.
 #[derive(Clone, Copy)]
 enum Way {
     Equated,
@@ -68,7 +68,7 @@ enum Way {
     Probed,
 }
 
-/// Whether two types are refused.
+/// Whether equating two types fails.
 fn are_refused(alloc: Global, way: Way, left: Sample, right: Sample) -> Result<bool, Fault> {
     let mut cx = Interner::new(alloc, 100);
     let mut context = begun(alloc, &mut cx)?;
@@ -84,7 +84,7 @@ fn are_refused(alloc: Global, way: Way, left: Sample, right: Sample) -> Result<b
     }
 }
 
-/// Whether `u8` and `bool` are refused, and whether an unknown type and `bool` are.
+/// Whether `u8` and `bool` fail, and whether a type variable and `bool` do.
 fn refusals(alloc: Global, way: Way) -> Result<[bool; 2], Fault> {
     Ok([
         are_refused(alloc, way, Sample::Byte, Sample::Bool)?,
@@ -108,7 +108,7 @@ fn add_two(alloc: Global, cx: &mut Interner, context: &mut EvalCtxt) -> Result<(
     context.add_goals(GoalSource::ImplWhereBound, vec![in alloc; second]?)
 }
 
-/// The sources of the two goals that stand in an evaluation to which they are added.
+/// The sources of the two goals of an evaluation to which they are added.
 fn sources(alloc: Global, cx: &mut Interner) -> Result<Option<[GoalSource; 2]>, Fault> {
     let mut context = begun(alloc, cx)?;
     add_two(alloc, cx, &mut context)?;
@@ -126,7 +126,7 @@ fn goals_stand_in_the_order_in_which_they_were_added(rt: HostRuntime) -> Result<
     Ok(())
 }
 
-/// How many variables, values of them and constraints an evaluation has that is begun.
+/// The numbers of variables, of their values and of constraints of a new evaluation.
 fn counts_of_begun(alloc: Global, cx: &mut Interner) -> Result<[usize; 3], Fault> {
     let context = begun(alloc, cx)?;
     Ok([
@@ -136,7 +136,7 @@ fn counts_of_begun(alloc: Global, cx: &mut Interner) -> Result<[usize; 3], Fault
     ])
 }
 
-/// The mode of an evaluation, and how sure its answer is where it is given up.
+/// The mode of an evaluation, and the certainty of its answer if it is given up.
 fn given_up(alloc: Global, cx: &mut Interner) -> Result<(TypingMode, Certainty), Fault> {
     let context = begun(alloc, cx)?;
     let mode = context.typing_mode();
@@ -144,7 +144,7 @@ fn given_up(alloc: Global, cx: &mut Interner) -> Result<(TypingMode, Certainty),
     Ok((mode, answer.certainty))
 }
 
-/// Both.
+/// Both modes.
 fn begun_and_given_up(
     alloc: Global,
     cx: &mut Interner,

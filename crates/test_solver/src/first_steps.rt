@@ -1,4 +1,4 @@
-//! The first step of a goal whose self type is unknown, and what is made of candidates that were considered.
+//! The first step of a goal whose self type is a variable, and merges of candidates that were considered.
 ghost use Rattle.std.specs.Prelude.{ℕ, List, Ok, Some, IfOk};
 ghost use Rattle.text_parser.specs.TypeTerms.Promised.Handles.{Entry};
 ghost use Rattle.infer_table.specs.Goals.{GoalHeld};
@@ -24,20 +24,20 @@ use text_parser::type_terms::interner::Interner;
 use text_parser::type_terms::{Fault, ImplId};
 use text_parser::workspace::Workspace;
 
-/// A goal whose self type is unknown.
+/// A goal whose self type is a variable.
 const UNKNOWN: &[u8] = b"crate here
 trait Show
 impl Show for u8
 prove in here ?x: Show";
 
-/// A call that tells the first candidate of a goal.
+/// A call that returns the first candidate of a goal.
 #[derive(Clone, Copy)]
 enum Call {
     Assemble,
     Compute,
 }
 
-/// How sure the first candidate of the goal can make it, where a first one is told.
+/// The certainty that the first candidate can give the goal, if there is one.
 fn first_certainty(
     alloc: Global,
     cx: &mut Interner,
@@ -64,7 +64,7 @@ fn first_certainty(
     }
 }
 
-/// The same of the first question of a text, by what the crate sees that asks it.
+/// The same of the first query of a text, over the visible crates of the querying crate.
 fn first_in_workspace(
     alloc: Global,
     cx: &mut Interner,
@@ -78,7 +78,7 @@ fn first_in_workspace(
     first_certainty(alloc, cx, &decls, &goal, call)
 }
 
-/// The same of the goal whose self type is unknown.
+/// The same of the goal whose self type is a variable.
 fn first_of_unknown(alloc: Global, call: Call) -> Result<Option<Certainty>, Fault> {
     let workspace = read(alloc, UNKNOWN)?;
     let mut cx = Interner::new(alloc, 10000);
@@ -94,7 +94,7 @@ fn a_goal_of_an_unknown_type_begins_with_a_forced_ambiguity(rt: HostRuntime) -> 
     Ok(())
 }
 
-/// That a goal without variables holds.
+/// A goal without variables holds.
 fn yes(alloc: Global) -> CanonicalResponse
     ensures { (es : List Entry) → ResultHeld es (Some result) × ResultFits es (Some result) }
 {
@@ -106,7 +106,7 @@ fn yes(alloc: Global) -> CanonicalResponse
     }
 }
 
-/// An impl that holds, a where-clause that holds and is not global, and one that is refused, under the numbers 0 to 2.
+/// An impl that holds, a where-clause that holds and is not global, and one that is refused. Their numbers are 0 to 2.
 fn considered(alloc: Global) -> Result<Vec<Considered>, AllocError>
     ensures { IfOk result (λ done. (es : List Entry) → ConsideredHeld es done.items × ConsideredFits es done.items) }
 {
@@ -130,7 +130,7 @@ fn considered(alloc: Global) -> Result<Vec<Considered>, AllocError>
     ]?)
 }
 
-/// How sure the merge outside coherence is, and how many candidates it ignores with the number of the first; none where it refuses.
+/// The certainty of the merge outside coherence, the number of candidates that it ignores and the first of them. `None` if it fails.
 type Merged = Option<(Certainty, usize, Option<usize>)>;
 
 /// The merge outside coherence of these candidates for a goal without variables.
@@ -155,7 +155,7 @@ fn merges(alloc: Global) -> Result<[Merged; 2], Fault> {
     Ok([none, merged(alloc, &mut cx, &done)?])
 }
 
-// The where-clause wins over the impl, and the other where-clause is ignored, though it was refused.
+// The where-clause wins over the impl. The other where-clause is ignored, although it was refused.
 #[test]
 fn a_where_clause_that_holds_is_preferred(rt: HostRuntime) -> Result<(), Fault> {
     let preferred = Some((Certainty::Yes, 1, Some(2)));

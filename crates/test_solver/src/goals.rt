@@ -37,7 +37,7 @@ pub(crate) fn make(cx: &mut Interner, sample: Sample) -> Result<Ty, Fault>
     }
 }
 
-/// That the type is `Show`.
+/// The type is `Show`.
 pub(crate) fn shown(alloc: Global, cx: &mut Interner, sample: Sample) -> Result<Goal, Fault>
     ensures held { IfOk result (λ goal. GoalHeld cx.new.entries goal) }
     ensures keeps { Keeps cx.old.entries cx.new.entries }
@@ -53,7 +53,7 @@ pub(crate) fn shown(alloc: Global, cx: &mut Interner, sample: Sample) -> Result<
     })
 }
 
-/// An evaluation in a table with one unknown type, which is the value of the input's variable.
+/// An evaluation in a table with one type variable, which is the value of the input's variable.
 pub(crate) fn begun(alloc: Global, cx: &mut Interner) -> Result<EvalCtxt, Fault>
     ensures { IfOk result (λ context. IsReadyContext cx.new.entries context) }
 {
@@ -65,7 +65,7 @@ pub(crate) fn begun(alloc: Global, cx: &mut Interner) -> Result<EvalCtxt, Fault>
     Ok(EvalCtxt::new(table, TypingMode::PostAnalysis, variables, values))
 }
 
-/// The reply that the goal holds, if its type is `u8`.
+/// The reply that the goal holds if its type is `u8`.
 pub(crate) fn if_byte(alloc: Global, cx: &mut Interner) -> Result<CanonicalResponse, Fault>
     ensures held { IfOk result (λ r. ResultHeld cx.new.entries (Some r)) }
     ensures keeps { Keeps cx.old.entries cx.new.entries }

@@ -1,4 +1,4 @@
-//! A handler beside the solver, whose goals are evaluated by the same calls.
+//! A handler other than the solver, whose goals are evaluated by the same calls.
 ghost use Rattle.std.specs.Prelude.{List};
 ghost use Rattle.text_parser.specs.TypeTerms.Promised.Handles.{Entry};
 
@@ -12,7 +12,7 @@ use std::alloc::Global;
 use text_parser::type_terms::interner::Interner;
 use text_parser::type_terms::{Fault, TraitId};
 
-/// A handler that hands on to a solver what it is asked: it means what that one means.
+/// A handler that passes each call to a solver. So it has the same meaning.
 #[derive(Drop)]
 pub(crate) struct HandsOn {
     pub(crate) solver: Solver,
@@ -54,12 +54,12 @@ impl GoalHandler for HandsOn {
     } };
 }
 
-/// The one rule is that `u8` is `Show`.
+/// The only rule: `u8` is `Show`.
 const ONE_RULE: &[u8] = b"crate here
 trait Show
 impl Show for u8";
 
-/// What is found of a goal by that rule, first and again.
+/// The outcome of a goal by that rule, the first and the second time.
 fn by_one_rule(alloc: Global, asked: &[u8]) -> Result<(Evaluated, Evaluated, bool), Fault> {
     found_by_another(alloc, ONE_RULE, TypingMode::PostAnalysis, asked)
 }

@@ -1,7 +1,7 @@
 //! Tests of searches, evaluations, the assembly of candidates and the whole solver, by public calls.
 //!
-//! They stand above the crates that they test, so that each of those is proved once and not a second time with its tests, and in
-//! one crate, since each crate of tests loads, links and compiles all that it reaches.
+//! They are in a crate above those that they test, so that each of those is proved once and not a second time with its tests. They are in
+//! one crate, since each crate of tests loads, links and compiles everything that it reaches.
 #![tactic(auto)]
 
 #[cfg(test)]

@@ -1,4 +1,4 @@
-//! What responses say, and their merges.
+//! Responses and their merges.
 ghost use Rattle.std.specs.Prelude.{IfOk};
 ghost use Rattle.std.specs.List.{All};
 ghost use Rattle.text_parser.specs.TypeTerms.Promised.Handles.{Keeps};
@@ -16,7 +16,7 @@ use text_parser::type_terms::Fault;
 use text_parser::type_terms::interner::Interner;
 use text_parser::type_terms::kinds::GenericArgKind;
 
-/// A yes by which the goal's one unknown type has this value.
+/// A yes that gives the goal's one type variable this value.
 fn response(alloc: Global, cx: &mut Interner, value: Sample) -> Result<CanonicalResponse, Fault>
     ensures keeps { Keeps cx.old.entries cx.new.entries }
     ensures held { IfOk result (λ r. ValuesHeld cx.new.entries r) }
@@ -30,7 +30,7 @@ fn response(alloc: Global, cx: &mut Interner, value: Sample) -> Result<Canonical
     })
 }
 
-/// Two with different values.
+/// Two responses with different values.
 fn responses(alloc: Global, cx: &mut Interner) -> Result<[CanonicalResponse; 2], Fault>
     ensures { IfOk result (λ rs. All (ValuesHeld cx.new.entries) rs) }
 {
@@ -39,7 +39,7 @@ fn responses(alloc: Global, cx: &mut Interner) -> Result<[CanonicalResponse; 2],
     Ok([first, second])
 }
 
-/// Whether the merge of the first alone is the first.
+/// Whether the merge of the first response alone is the first.
 fn is_merged_alone(
     alloc: Global,
     cx: &Interner,
@@ -55,7 +55,7 @@ fn is_merged_alone(
     }
 }
 
-/// Whether none of no responses, the first of the first alone, and none of both is their merge.
+/// Whether the merge of no responses is none, that of the first alone is the first, and that of both is none.
 fn merges(alloc: Global, cx: &mut Interner) -> Result<[bool; 3], Fault> {
     let both = responses(alloc, cx)?;
     Ok([
@@ -72,7 +72,7 @@ fn responses_with_different_values_have_no_merge(rt: HostRuntime) -> Result<(), 
     Ok(())
 }
 
-/// How sure the answer to a goal is whose responses have no merge, where it has one.
+/// The certainty of the answer to a goal whose responses have no merge, if it has an answer.
 fn floundered(
     alloc: Global,
     cx: &mut Interner,
@@ -84,7 +84,7 @@ fn floundered(
     }
 }
 
-/// How sure the answer is to a goal without responses and to one with two, where it has one, and where it is given up.
+/// The certainty of the answer to a goal without responses and to one with two, if it has an answer, and if it is given up.
 fn sureness(alloc: Global, cx: &mut Interner) -> Result<[Option<Certainty>; 3], Fault> {
     let both = responses(alloc, cx)?;
     let answer = bail_with_ambiguity(alloc, cx, &[CanonicalVarKind::Ty], &both)?;

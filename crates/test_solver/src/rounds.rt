@@ -1,4 +1,4 @@
-//! The rounds in which nested goals are asked, over the replies that are brought.
+//! The rounds in which nested goals are evaluated, over given replies.
 ghost use Rattle.std.specs.Prelude.{IfOk, Some};
 ghost use Rattle.goal_evaluator.specs.Readings.{ResultHeld};
 ghost use Rattle.goal_evaluator.specs.Context.{IsReadyContext};
@@ -21,7 +21,7 @@ fn begun_with(alloc: Global, cx: &mut Interner, sample: Sample) -> Result<EvalCt
     Ok(context)
 }
 
-/// Brings a reply over this interner.
+/// Gives a reply over this interner.
 fn hear(_cx: &Interner, context: &mut EvalCtxt, answer: CanonicalResponse) -> Result<(), Fault>
     requires ready { IsReadyContext _cx.now.entries context.old }
     requires held { ResultHeld _cx.now.entries (Some answer) }
@@ -31,7 +31,7 @@ fn hear(_cx: &Interner, context: &mut EvalCtxt, answer: CanonicalResponse) -> Re
     Ok(())
 }
 
-/// Brings the reply that the type is `u8`.
+/// Gives the reply that the type is `u8`.
 fn hear_byte(alloc: Global, cx: &mut Interner, context: &mut EvalCtxt) -> Result<(), Fault>
     requires { IsReadyContext cx.old.entries context.old }
     ensures { IfOk result (λ _. IsReadyContext cx.new.entries context.new) }
@@ -40,7 +40,7 @@ fn hear_byte(alloc: Global, cx: &mut Interner, context: &mut EvalCtxt) -> Result
     hear(cx, context, byte)
 }
 
-/// How sure it is that the goals hold, or none where a reply is waited for.
+/// The certainty that the goals hold. `None` if a reply is needed.
 fn evaluate(cx: &mut Interner, context: &mut EvalCtxt) -> Result<Option<Certainty>, EvalError>
     requires { IsReadyContext cx.old.entries context.old }
     ensures { IfOk result (λ _. IsReadyContext cx.new.entries context.new) }
@@ -51,7 +51,7 @@ fn evaluate(cx: &mut Interner, context: &mut EvalCtxt) -> Result<Option<Certaint
     }
 }
 
-/// How sure it is that `u8: Show`, before and after the reply that it holds, and how many goals are left then.
+/// The certainty that `u8: Show`, before and after the reply that it holds, and the number of goals that remain then.
 fn asked_and_dropped(
     alloc: Global,
     cx: &mut Interner,
@@ -71,7 +71,7 @@ fn a_goal_is_asked_and_dropped_where_it_holds(rt: HostRuntime) -> Result<(), Eva
     Ok(())
 }
 
-/// Whether the answer is a yes by which the type is `u8`.
+/// Whether the answer is a yes that gives the type the value `u8`.
 fn is_byte(cx: &mut Interner, context: &mut EvalCtxt) -> Result<bool, EvalError>
     requires { IsReadyContext cx.old.entries context.old }
 {
@@ -85,7 +85,7 @@ fn is_byte(cx: &mut Interner, context: &mut EvalCtxt) -> Result<bool, EvalError>
     }
 }
 
-/// Whether the goal of an unknown type, for which it holds if that is `u8`, is asked once more, and then is a yes with `u8`.
+/// Whether the goal of a type variable is evaluated again after the reply that it holds if the type is `u8`, and then is a yes with `u8`.
 fn asked_again(alloc: Global, cx: &mut Interner) -> Result<[bool; 2], EvalError> {
     let mut context = begun_with(alloc, cx, Sample::Unknown)?;
     hear_byte(alloc, cx, &mut context)?;
@@ -94,7 +94,7 @@ fn asked_again(alloc: Global, cx: &mut Interner) -> Result<[bool; 2], EvalError>
     Ok([is_asked, is_byte(cx, &mut context)?])
 }
 
-// A yes with values is no definite yes: its goal is asked once more, with the values put in.
+// A yes with values is not final: its goal is evaluated once more, with the values substituted.
 #[test]
 fn a_value_is_applied_and_its_goal_asked_again(rt: HostRuntime) -> Result<(), EvalError> {
     let mut cx = Interner::new(rt.alloc(), 100);
@@ -113,7 +113,7 @@ fn begun_with_both(alloc: Global, cx: &mut Interner) -> Result<EvalCtxt, Fault>
     Ok(context)
 }
 
-/// How sure the evaluation's answer is, or none where a reply is waited for.
+/// The certainty of the evaluation's answer. `None` if a reply is needed.
 fn make_response(cx: &mut Interner, context: &mut EvalCtxt) -> Result<Option<Certainty>, EvalError>
     requires { IsReadyContext cx.old.entries context.old }
     ensures { IfOk result (λ _. IsReadyContext cx.new.entries context.new) }
@@ -124,7 +124,7 @@ fn make_response(cx: &mut Interner, context: &mut EvalCtxt) -> Result<Option<Cer
     }
 }
 
-/// What the evaluation answers before any reply, after one by which a goal holds, and after two.
+/// The answer of the evaluation before any reply, after one by which a goal holds, and after two.
 fn asked_in_turn(alloc: Global, cx: &mut Interner) -> Result<[Option<Certainty>; 3], EvalError> {
     let mut context = begun_with_both(alloc, cx)?;
     let first = make_response(cx, &mut context)?;

@@ -1,12 +1,12 @@
-//! What each built-in rule makes of goals: its source and its premises, over the declarations of `core` and of a crate.
+//! The source and the premises that each built-in rule gives for goals, over the declarations of `core` and of a crate.
 //!
-//! A row is a goal, and behind it as where-clauses the premises that are wanted; the goal is asked without them.
+//! A row is a goal, followed by the wanted premises as where-clauses. The goal is queried without them.
 
 use crate::candidates::{Row, Source, Told, first_place_that_differs, is_made_by};
 use goal_evaluator::{BuiltinImplSource, Certainty, MaybeCause};
 use text_parser::type_terms::{Fault, ImplId};
 
-/// What the rows are asked over. The impls stand behind the 39 of `core`.
+/// The declarations of the rows. The impls follow the 39 of `core`.
 const DECLARED: &[u8] = b"crate here
 auto trait Safe
 auto trait Calm
@@ -40,14 +40,14 @@ const MISC: Option<Told> = Some(Told {
     equal: true,
 });
 
-/// One whose equations do not hold.
+/// A rule whose equations do not hold.
 const UNEQUAL: Option<Told> = Some(Told {
     source: Source::BuiltinImpl(BuiltinImplSource::Misc),
     certainty: Certainty::Yes,
     equal: false,
 });
 
-/// One of which nothing is known.
+/// A rule without a certain outcome.
 const AMBIGUOUS: Option<Told> = Some(Told {
     source: Source::BuiltinImpl(BuiltinImplSource::Misc),
     certainty: Certainty::Maybe(MaybeCause::Ambiguity),
@@ -61,14 +61,14 @@ const PRINCIPAL: Option<Told> = Some(Told {
     equal: true,
 });
 
-/// One with other arguments.
+/// The principal with other arguments.
 const OTHER_PRINCIPAL: Option<Told> = Some(Told {
     source: Source::BuiltinImpl(BuiltinImplSource::Object(0)),
     certainty: Certainty::Yes,
     equal: false,
 });
 
-/// The first supertrait, elaborated, of the principal.
+/// The first elaborated supertrait of the principal.
 const FIRST_SUPERTRAIT: Option<Told> = Some(Told {
     source: Source::BuiltinImpl(BuiltinImplSource::Object(1)),
     certainty: Certainty::Yes,
@@ -108,14 +108,14 @@ const IMPL_FOR_FOUL: Option<Told> = Some(Told {
     equal: true,
 });
 
-/// `impl Safe for Part<bool>`, at a parameter: at another type, as `Part<u8>`, the impl is passed over.
+/// `impl Safe for Part<bool>`, at a parameter. At another type, such as `Part<u8>`, the impl is skipped.
 const IMPL_FOR_OTHER_PART: Option<Told> = Some(Told {
     source: Source::Impl(40),
     certainty: Certainty::Yes,
     equal: false,
 });
 
-/// What reads the self type alone: `Sized`, `Copy` and `Clone`, `Tuple` and `FnPtr`.
+/// Rules that read the self type alone: `Sized`, `Copy` and `Clone`, `Tuple` and `FnPtr`.
 const SELF_TYPES: [Row; 31] = [
     (b"u8: Sized", TRIVIAL),
     (b"i128: Sized", TRIVIAL),
@@ -150,7 +150,7 @@ const SELF_TYPES: [Row; 31] = [
     (b"&u8: FnPtr", None),
 ];
 
-/// Auto traits, which ask what a type is made of.
+/// Auto traits, whose premises are the constituent types.
 const AUTO_TRAITS: [Row; 21] = [
     (b"u8: Safe", MISC),
     (b"i64: Safe", MISC),
@@ -264,7 +264,7 @@ fn rules_make_their_candidates(rt: HostRuntime) -> Result<(), Fault> {
     Ok(())
 }
 
-// The last one is made at a type that the impl is passed over at.
+// The last one is made at a type at which the impl is skipped.
 #[test]
 fn impls_make_their_candidates(rt: HostRuntime) -> Result<(), Fault> {
     let core = (&b"u8: Clone"[..], IMPL_10_OF_CORE);

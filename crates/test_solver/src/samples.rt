@@ -1,4 +1,4 @@
-//! Types and references of tests, as terms of an interner, and the declarations that they speak of.
+//! Types and trait references of tests, as terms of an interner, and their declarations.
 ghost use Rattle.std.specs.Prelude.{IfOk};
 ghost use Rattle.text_parser.specs.TypeTerms.Promised.Handles.{Has, Keeps, types};
 ghost use Rattle.text_parser.specs.TypeTerms.Terms.{args_lists};
@@ -23,7 +23,7 @@ pub fn empty_table(alloc: Global, cx: &Interner) -> InferCtxt
     InferCtxt::new(alloc)
 }
 
-/// What stands innermost in a type.
+/// The innermost part of a type.
 #[derive(Clone, Copy)]
 pub enum Inmost {
     /// `?t`
@@ -36,7 +36,7 @@ pub enum Inmost {
     ByteAndTruth,
 }
 
-/// What stands around a type T.
+/// The part around a type T.
 #[derive(Clone, Copy)]
 pub enum Around {
     /// `Vec<T>`
@@ -53,7 +53,7 @@ pub enum Around {
     Reference,
 }
 
-/// A type: what stands around the innermost one, from the outside.
+/// A type: the parts around the innermost one, from the outside.
 #[derive(Clone, Copy)]
 pub struct Sample(pub &'static [Around], pub Inmost);
 
@@ -111,7 +111,7 @@ fn applied_to_both(
     cx.mk_ty(TyKind::Adt(id, args))
 }
 
-/// The type in what stands around it.
+/// The type inside the part around it.
 fn put_in(alloc: Global, cx: &mut Interner, around: Around, ty: Ty) -> Result<Ty, Fault>
     requires { Has cx.old.entries types ty.0 }
     ensures keeps { Keeps cx.old.entries cx.new.entries }
@@ -154,7 +154,7 @@ pub enum Asked {
     Tr(Sample, Sample),
 }
 
-/// Makes the reference.
+/// Makes the trait reference.
 pub fn make_reference(alloc: Global, cx: &mut Interner, asked: Asked) -> Result<TraitRef, Fault>
     ensures { IfOk result (λ r. Has cx.new.entries args_lists r.args.0) }
 {
@@ -178,7 +178,7 @@ pub fn make_reference(alloc: Global, cx: &mut Interner, asked: Asked) -> Result<
     }
 }
 
-/// Adds a struct without parameters and fields, whose number is new.
+/// Adds a struct without parameters and fields. Its number is new.
 fn add_struct(
     alloc: Global,
     cx: &Interner,
@@ -195,7 +195,7 @@ fn add_struct(
     }
 }
 
-/// Adds a trait without supertraits, whose number is new.
+/// Adds a trait without supertraits. Its number is new.
 fn add_trait(
     alloc: Global,
     decls: &mut Declarations,
@@ -215,7 +215,7 @@ fn add_trait(
     }
 }
 
-/// What crate 2 sees: crate 1 declares `struct Vec<T>; fundamental struct Box<T>; fundamental struct Pair<T, U>; trait Num;
+/// The visible crates of crate 2. Crate 1 declares `struct Vec<T>; fundamental struct Box<T>; fundamental struct Pair<T, U>; trait Num;
 /// trait Tr<U>`, and crate 2 `struct Loc<T>; fundamental struct Own<T>`.
 pub fn shop(alloc: Global, cx: &Interner) -> Result<Declarations, Fault> {
     let mut decls = Declarations::new(alloc, CrateId { index: 2 });

@@ -1,4 +1,4 @@
-//! Small goals, with the frames that they start. What no list of rules can show is tried here too: how often a goal runs.
+//! Small goals, and the frames that they start. These tests also cover how often a goal runs, which no list of rules can state.
 
 ghost use Rattle.std.specs.Prelude.{◌≡◌, ◌≤◌};
 ghost use Rattle.search_graph.specs.Cache.{AreJustified};
@@ -8,16 +8,16 @@ use search_graph::{GlobalCache, GraphFault, PathKind, SearchGraph};
 use std::alloc::{AllocError, Global};
 use test_delegate::{AMBIGUOUS, NO, OVERFLOW, Rule, Script, Scripts, Step, Toy, YES};
 
-/// Goals 0 to 20: each asks the one before by an unknown step, and the first is a yes.
+/// Goals 0 to 20. The nested goal of each is the preceding one, by an unknown step, and the first is a yes.
 const CHAIN: usize = 21;
 
-/// The goals from 21 on: their steps, what their frames make of answers, and the result after the last step.
+/// The goals from 21 on: their steps, the rule by which their frames combine results, and the result after the last step.
 const GOALS: [(&[Step], Rule, u8); 42] = [
-    // 21 to 23 ask themselves, each by a step of another kind.
+    // 21 to 23 are their own nested goals, each by another kind of step.
     (&[Step::Ask(21, PathKind::Coinductive)], Rule::All, YES),
     (&[Step::Ask(22, PathKind::Unknown)], Rule::All, YES),
     (&[Step::Ask(23, PathKind::Inductive)], Rule::All, YES),
-    // 24 and 25 ask each other: one coinductive step makes the whole cycle coinductive.
+    // 24 and 25 are nested in each other. One coinductive step makes the whole cycle coinductive.
     (&[Step::Ask(25, PathKind::Coinductive)], Rule::All, YES),
     (&[Step::Ask(24, PathKind::Unknown)], Rule::All, YES),
     // 26: from an overflow to yes, from yes to no, and from no to no.
@@ -26,19 +26,19 @@ const GOALS: [(&[Step], Rule, u8); 42] = [
         Rule::Map(NO, YES, NO, NO),
         NO,
     ),
-    // 27: from yes to no and from no to yes, for ever.
+    // 27: from yes to no and from no to yes, without end.
     (
         &[Step::Ask(27, PathKind::Unknown)],
         Rule::Map(YES, YES, NO, NO),
         NO,
     ),
-    // 28: to an ambiguous result, from which it would go on to yes.
+    // 28: to an ambiguous result, from which it would continue to yes.
     (
         &[Step::Ask(28, PathKind::Unknown)],
         Rule::Map(NO, AMBIGUOUS, YES, YES),
         NO,
     ),
-    // 29: the initial result for one of two kinds of paths by which it was read.
+    // 29: the initial result, for one of the two kinds of paths by which it was read.
     (
         &[
             Step::Ask(29, PathKind::Unknown),
@@ -47,7 +47,7 @@ const GOALS: [(&[Step], Rule, u8); 42] = [
         Rule::Any,
         NO,
     ),
-    // 30 to 34 make a request out of order.
+    // 30 to 34 have a request out of order.
     (&[Step::Finish], Rule::All, YES),
     (&[Step::Enter, Step::Enter], Rule::All, YES),
     (&[Step::Ignore(0)], Rule::All, YES),
@@ -57,7 +57,7 @@ const GOALS: [(&[Step], Rule, u8); 42] = [
         YES,
     ),
     (&[Step::Enter], Rule::All, YES),
-    // 35 makes none.
+    // 35 has none.
     (
         &[
             Step::Enter,
@@ -70,7 +70,7 @@ const GOALS: [(&[Step], Rule, u8); 42] = [
         Rule::All,
         YES,
     ),
-    // 36 and 37: a goal that is too deep, and then one for which a quarter of the depth is not enough, or is.
+    // 36 and 37: a goal that is too deep, and then one for which a quarter of the depth is not enough (36) or is enough (37).
     (
         &[
             Step::Ask(20, PathKind::Unknown),
@@ -94,7 +94,7 @@ const GOALS: [(&[Step], Rule, u8); 42] = [
     (&[Step::Ask(40, PathKind::Unknown)], Rule::All, YES),
     (&[Step::Ask(41, PathKind::Unknown)], Rule::All, YES),
     (&[Step::Ask(42, PathKind::Unknown)], Rule::All, YES),
-    // 44 asks twice for 21, and is too deep for it where the depth is 1.
+    // 44 has the nested goal 21 twice, which is too deep if the depth is 1.
     (
         &[
             Step::Ask(21, PathKind::Coinductive),
@@ -103,7 +103,7 @@ const GOALS: [(&[Step], Rule, u8); 42] = [
         Rule::All,
         YES,
     ),
-    // 45 to 47: the result of 46 rests on 45, and is used for 47 while 45 runs.
+    // 45 to 47: the result of 46 depends on 45, and is used for 47 while 45 runs.
     (
         &[
             Step::Ask(46, PathKind::Coinductive),
@@ -114,7 +114,7 @@ const GOALS: [(&[Step], Rule, u8); 42] = [
     ),
     (&[Step::Ask(45, PathKind::Coinductive)], Rule::All, YES),
     (&[Step::Ask(46, PathKind::Coinductive)], Rule::All, YES),
-    // 48 to 51: 48 is refused, and runs again for the yes of 49 that rests on it.
+    // 48 to 51: 48 is refused, and runs again because the yes of 49 depends on it.
     (
         &[
             Step::Ask(49, PathKind::Coinductive),
@@ -126,7 +126,7 @@ const GOALS: [(&[Step], Rule, u8); 42] = [
     (&[Step::Ask(48, PathKind::Coinductive)], Rule::All, YES),
     (&[Step::Ask(51, PathKind::Unknown)], Rule::All, YES),
     (&[], Rule::All, NO),
-    // 52 and 53: the result of 53 serves no question by a path of another kind.
+    // 52 and 53: the result of 53 is not used by a path of another kind.
     (
         &[
             Step::Ask(53, PathKind::Unknown),
@@ -136,7 +136,7 @@ const GOALS: [(&[Step], Rule, u8); 42] = [
         NO,
     ),
     (&[Step::Ask(52, PathKind::Unknown)], Rule::All, YES),
-    // 54 to 58: 55 is asked again two levels lower, where there may be less depth than it needs.
+    // 54 to 58: 55 occurs again two levels lower, where less depth may remain than it needs.
     (
         &[
             Step::Ask(55, PathKind::Coinductive),
@@ -149,7 +149,7 @@ const GOALS: [(&[Step], Rule, u8); 42] = [
     (&[Step::Ask(54, PathKind::Coinductive)], Rule::All, YES),
     (&[Step::Ask(58, PathKind::Coinductive)], Rule::All, YES),
     (&[Step::Ask(55, PathKind::Coinductive)], Rule::All, YES),
-    // 59 to 62: 59 ignores the candidate under which it was read, and 61 does not.
+    // 59 to 62: 59 ignores the candidate by which it was read, and 61 does not.
     (
         &[
             Step::Enter,
@@ -183,17 +183,17 @@ const GOALS: [(&[Step], Rule, u8); 42] = [
     ),
 ];
 
-/// Goals 63 to 70: each asks all others of them by coinductive steps. Goals 103 to 110 do so by unknown steps, 111 to 118 by forced
-/// ones, which are overflows, and 119 to 126 by coinductive ones again.
+/// Goals 63 to 70: the nested goals of each are all others of them, by coinductive steps. Goals 103 to 110 are the same by unknown steps,
+/// 111 to 118 by forced ones, which are overflows, and 119 to 126 by coinductive ones again.
 const CLIQUE: usize = 8;
 
-/// Goals 71 to 102: two in each of so many levels, which ask both of the next level, and the last ones the first goal of all.
+/// Goals 71 to 102: two in each of this many levels. Their nested goals are both of the next level, and for the last level goal 71.
 const LEVELS: usize = 16;
 
-/// What a search finds: the answer, how many frames it started, and whether it met a limit.
+/// The outcome of a search: its result, the number of frames that it started, and whether it reached a limit.
 type Found = (Result<u8, GraphFault>, u64, bool);
 
-/// A depth and a goal that are asked with a new cache, and what is found.
+/// A depth, a goal that is evaluated with a new cache, and the outcome.
 const ALONE: [(usize, usize, Found); 36] = [
     (8, 7, (Ok(YES), 8, false)),
     (8, 9, (Ok(OVERFLOW), 9, true)),
@@ -213,55 +213,55 @@ const ALONE: [(usize, usize, Found); 36] = [
     (8, 35, (Ok(YES), 2, false)),
     (8, 45, (Ok(YES), 3, false)),
     (8, 47, (Ok(YES), 3, false)),
-    // What rests on a goal that runs again is found again.
+    // Results that depend on a goal that runs again are computed again.
     (8, 48, (Ok(NO), 6, false)),
     (8, 49, (Ok(NO), 6, false)),
     (8, 52, (Ok(YES), 5, false)),
     (5, 54, (Ok(YES), 5, false)),
-    // 55 and 56 are evaluated anew, with less depth than they need, and all three again after that overflow.
+    // 55 and 56 are evaluated again, with less depth than they need, and all three once more after that overflow.
     (4, 54, (Ok(OVERFLOW), 10, true)),
-    // What was read under an ignored candidate asks for no second run.
+    // A goal that is read by an ignored candidate alone needs no second run.
     (8, 59, (Ok(YES), 3, false)),
     (8, 61, (Ok(YES), 5, false)),
-    // Goals that each ask all others take one frame each, since results move to the next goal where one ends: 63 asks 64, and so on to
-    // 70, which reads all others; then 69 finds the result of 70, 68 those of 69 and 70, and so on.
+    // Each goal takes one frame, since results move to the parent goal when a goal ends. 63 starts 64, and so on to 70, which reads all
+    // others. Then 69 uses the result of 70, 68 those of 69 and 70, and so on.
     (255, 63, (Ok(YES), 8, false)),
     (16, 63, (Ok(YES), 8, false)),
     (8, 63, (Ok(YES), 8, false)),
     (255, 103, (Ok(OVERFLOW), 8, false)),
     (8, 103, (Ok(OVERFLOW), 8, false)),
-    // Over forced steps none moves: with each goal more they take twice the frames.
+    // No result moves over forced steps: each further goal doubles the frames.
     (255, 111, (Ok(OVERFLOW), 128, false)),
-    // With less depth fewer results serve again. Each goal asks seven others, so 65,536 questions are asked when the 9,363rd goal ends
-    // whose result is not kept. Six goals are evaluated then.
+    // With less depth fewer results are used again. Each goal has seven nested goals, so the count reaches 65,536 when the 9,363rd goal
+    // ends whose result is not cached. Six goals are open then.
     (8, 111, (Ok(OVERFLOW), 9369, true)),
-    // 126 asks a goal that is refused: 9 frames. Then 125 is, which runs again, and 126 with it; then 124, and 125 with it; and so on.
+    // 126 has a nested goal that is refused: 9 frames. Then 125 is refused and runs again, and 126 with it. Then 124 and 125, and so on.
     (255, 119, (Ok(NO), 23, false)),
-    // Each goal takes one frame, where it would take as many as there are ways to it.
+    // Each goal takes one frame, instead of one for each path to it.
     (16, 71, (Ok(YES), 31, false)),
     (15, 71, (Ok(OVERFLOW), 16, true)),
     (255, 71, (Ok(YES), 31, false)),
 ];
 
-/// The same with one cache, in this order.
+/// The same with a common cache, in this order.
 const TOGETHER: [(usize, usize, Found); 16] = [
     (8, 36, (Ok(NO), 12, true)),
-    // The overflow comes from the cache, and divides the depth too.
+    // The overflow comes from the cache, and also divides the depth.
     (8, 36, (Ok(NO), 0, false)),
     (8, 37, (Ok(YES), 4, false)),
-    // A success is used where its depth is there.
+    // A success is used if enough depth remains.
     (8, 43, (Ok(YES), 6, false)),
     (3, 43, (Ok(OVERFLOW), 4, true)),
     (5, 43, (Ok(YES), 0, false)),
-    // A result is not used where a goal is evaluated that it rests on.
+    // A result is not used while a goal is open on which it depends.
     (1, 44, (Ok(OVERFLOW), 2, true)),
     (1, 21, (Ok(YES), 1, false)),
-    // A goal that was given up is kept for goals of its depth, and each call counts anew.
+    // The result of a goal that was given up is cached for its depth. Each call counts from the start.
     (8, 111, (Ok(OVERFLOW), 9369, true)),
     (8, 111, (Ok(OVERFLOW), 0, false)),
-    // With one more level of depth seven goals are evaluated then.
+    // With one more level of depth, seven goals are open then.
     (9, 111, (Ok(OVERFLOW), 9370, true)),
-    // What used a result that rests on a goal is not kept either: it is found again.
+    // A result that uses one that depends on an open goal is not cached either. It is computed again.
     (8, 45, (Ok(YES), 3, false)),
     (8, 47, (Ok(YES), 3, false)),
     (8, 46, (Ok(YES), 3, false)),
@@ -286,7 +286,7 @@ fn add(
     Ok(())
 }
 
-/// Adds goals that each ask all others of them by steps of this kind, and the last one these goals after them.
+/// Adds goals whose nested goals are all others of them, by steps of this kind. The last one has these further steps.
 fn add_clique(
     alloc: Global,
     scripts: &mut Scripts,
@@ -313,7 +313,7 @@ fn add_clique(
     Ok(())
 }
 
-/// Adds three more, by unknown steps, by forced ones, and with a goal that is refused.
+/// Adds three more: by unknown steps, by forced ones, and with a nested goal that is refused.
 fn add_more_cliques(alloc: Global, scripts: &mut Scripts) -> Result<(), AllocError> {
     let unknown = CHAIN + GOALS.len() + CLIQUE + 2 * LEVELS;
     let kind = PathKind::Unknown;
@@ -327,7 +327,7 @@ fn add_more_cliques(alloc: Global, scripts: &mut Scripts) -> Result<(), AllocErr
     add_clique(alloc, scripts, refused, kind, Rule::All, YES, &last)
 }
 
-/// Adds goals of levels, each of which asks the two of the next level, and the last ones the first goal.
+/// Adds the goals of all levels. Their nested goals are the two of the next level, and for the last level the first goal.
 fn add_levels(alloc: Global, scripts: &mut Scripts) -> Result<(), AllocError> {
     let first = CHAIN + GOALS.len() + CLIQUE;
     for level in 0..LEVELS {
@@ -354,7 +354,7 @@ fn add_chain(alloc: Global, scripts: &mut Scripts) -> Result<(), AllocError> {
     Ok(())
 }
 
-/// Adds the goals that are listed.
+/// Adds the goals of the list.
 fn add_listed(alloc: Global, scripts: &mut Scripts) -> Result<(), AllocError> {
     for (steps, rule, otherwise) in GOALS {
         add(alloc, scripts, steps, rule, otherwise)?;
@@ -380,7 +380,7 @@ fn all_goals(alloc: Global) -> Result<Scripts, AllocError> {
     Ok(scripts)
 }
 
-/// What a search that has met no goal finds, and whether it is empty before the goal and after it.
+/// The outcome of a search that has no goal yet, and whether it is empty before and after the goal.
 fn evaluated(
     graph: &mut SearchGraph<Toy>,
     scripts: &mut Scripts,
@@ -402,7 +402,7 @@ fn evaluated(
     }
 }
 
-/// The same of a new search with this depth.
+/// The same for a new search with this depth.
 fn solve(
     alloc: Global,
     scripts: &mut Scripts,
@@ -438,7 +438,7 @@ fn goals_are_answered_with_a_new_cache(rt: HostRuntime) -> Result<(), GraphFault
     Ok(())
 }
 
-/// The first depth and goal, in the order of the list, of which something else is found with this cache.
+/// The first depth and goal of the list with a different outcome for this cache.
 fn first_that_differs(
     alloc: Global,
     scripts: &mut Scripts,

@@ -1,4 +1,4 @@
-//! A candidate for `^0: Show`: that `[T]` is `Show` if `T` is.
+//! A candidate for `^0: Show`: `[T]` is `Show` if `T` is.
 ghost use Rattle.std.specs.Prelude.{IfOk};
 ghost use Rattle.text_parser.specs.TypeTerms.Promised.Handles.{Has, Keeps, types};
 ghost use Rattle.infer_table.specs.Goals.{GoalHeld};
@@ -26,7 +26,7 @@ use text_parser::type_terms::{Fault, TraitId};
 /// The goal's variable `^0`.
 const OF_GOAL: BoundVar = BoundVar { index: 0 };
 
-/// The candidate's own unknown, `^1`.
+/// The candidate's own variable, `^1`.
 const OF_CANDIDATE: BoundVar = BoundVar { index: 1 };
 
 /// This canonical variable as a type.
@@ -37,7 +37,7 @@ fn variable(cx: &mut Interner, var: BoundVar) -> Result<Ty, Fault>
     cx.mk_ty(TyKind::Bound(BoundVarIndexKind::Canonical, var))
 }
 
-/// That this variable is `Show`.
+/// This variable is `Show`.
 fn shown(alloc: Global, cx: &mut Interner, var: BoundVar) -> Result<Goal, Fault>
     ensures held { IfOk result (λ goal. GoalHeld cx.new.entries goal) }
     ensures keeps { Keeps cx.old.entries cx.new.entries }
@@ -53,7 +53,7 @@ fn shown(alloc: Global, cx: &mut Interner, var: BoundVar) -> Result<Goal, Fault>
     })
 }
 
-/// The question `^0: Show`.
+/// The goal `^0: Show`.
 fn question(alloc: Global, cx: &mut Interner) -> Result<CanonicalInput, Fault>
     ensures held { IfOk result (λ input. GoalHeld cx.new.entries input.goal) }
     ensures keeps { Keeps cx.old.entries cx.new.entries }
@@ -88,7 +88,7 @@ fn equation(cx: &mut Interner) -> Result<Equation, Fault>
     })
 }
 
-/// The candidate: of the unknown `^1` of its own it asks that `^0 == [^1]` and `^1: Show`.
+/// The candidate. With its own variable `^1`, its premises are `^0 == [^1]` and `^1: Show`.
 fn candidate(alloc: Global, cx: &mut Interner) -> Result<CandidateSpec, Fault>
     ensures held { IfOk result (λ spec. SpecHeld cx.new.entries spec) }
     ensures keeps { Keeps cx.old.entries cx.new.entries }
@@ -107,7 +107,7 @@ fn candidate(alloc: Global, cx: &mut Interner) -> Result<CandidateSpec, Fault>
     })
 }
 
-/// What comes of the candidate over these replies.
+/// The outcome of the candidate over these replies.
 fn evaluate(
     alloc: Global,
     cx: &mut Interner,
@@ -120,7 +120,7 @@ fn evaluate(
     evaluate_candidate(alloc, cx, &input, &spec, replies)
 }
 
-/// Whether the answer is a yes by which the goal's variable is `[u8]`, where the candidate's unknown is `u8` by the first reply.
+/// Whether the answer is a yes that gives the goal's variable the value `[u8]`, if the first reply gives the candidate's variable `u8`.
 fn gives_slice_of_bytes(alloc: Global, cx: &mut Interner) -> Result<bool, EvalError> {
     let first = if_byte(alloc, cx)?;
     let replies = vec![in alloc; Some(first), Some(holds(alloc))]?;
@@ -134,7 +134,7 @@ fn gives_slice_of_bytes(alloc: Global, cx: &mut Interner) -> Result<bool, EvalEr
     }
 }
 
-// By the first reply the unknown of the candidate is `u8`; so the goal is asked once more.
+// The first reply gives the candidate's variable the value `u8`. So the goal is evaluated once more.
 #[test]
 fn a_candidate_gives_the_goals_variable_a_value(rt: HostRuntime) -> Result<(), EvalError> {
     let mut cx = Interner::new(rt.alloc(), 100);

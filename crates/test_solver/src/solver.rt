@@ -1,4 +1,4 @@
-//! Evaluations of goals, and what they show.
+//! Evaluations of goals, and their outcomes.
 ghost use Rattle.std.specs.Prelude.{◌≡◌, ◌≤◌, IfOk};
 ghost use Rattle.text_parser.specs.TypeTerms.Promised.Handles.{Keeps};
 ghost use Rattle.infer_table.specs.Content.{Ready};
@@ -18,25 +18,25 @@ use std::alloc::Global;
 use text_parser::type_terms::Fault;
 use text_parser::type_terms::interner::Interner;
 
-/// That a goal holds, and nothing is said of unknown types.
+/// A goal holds, without values for type variables.
 pub(crate) const YES: Said = Said::Evaluated(Certainty::Yes, HasChanged::No);
 
-/// That a goal holds where unknown types have the values that are given to them.
+/// A goal holds if type variables have the given values.
 pub(crate) const YES_WITH_VALUES: Said = Said::Evaluated(Certainty::Yes, HasChanged::Yes);
 
-/// That it is not known whether a goal holds.
+/// It is ambiguous whether a goal holds.
 pub(crate) const AMBIGUOUS: Said = Said::Evaluated(
     Certainty::Maybe(MaybeCause::Ambiguity),
     HasChanged::No,
 );
 
-/// That too much would have to be asked.
+/// Too many nested goals would be needed.
 pub(crate) const OVERFLOW: Said = Said::Evaluated(
     Certainty::Maybe(MaybeCause::Overflow),
     HasChanged::No,
 );
 
-/// What is said of a goal.
+/// The answer to a goal.
 #[derive(Clone, Copy, PartialEq, Eq)]
 pub(crate) enum Said {
     Evaluated(Certainty, HasChanged),
@@ -44,10 +44,10 @@ pub(crate) enum Said {
     Conflict,
 }
 
-/// What is there after an evaluation: what it says, how many frames were started so far, and whether a limit gave a result so far.
+/// The state after an evaluation: the answer, the number of frames so far, and whether a limit gave a result so far.
 pub(crate) type Evaluated = (Said, u64, bool);
 
-/// What the evaluation says.
+/// The answer.
 fn reading(evaluation: Result<GoalEvaluation, RootError>) -> Result<Said, Fault> {
     match evaluation {
         Ok(evaluation) => Ok(Said::Evaluated(evaluation.certainty, evaluation.has_changed)),
@@ -57,7 +57,7 @@ fn reading(evaluation: Result<GoalEvaluation, RootError>) -> Result<Said, Fault>
     }
 }
 
-/// All that evaluations need.
+/// Everything that evaluations need.
 pub(crate) struct Solving<H: GoalHandler> {
     pub(crate) cx: SolverCx<H>,
     pub(crate) graph: SearchGraph<SolverGraph<H>>,
@@ -74,7 +74,7 @@ impl<H: GoalHandler + Drop> Drop for Solving<H> {
     }
 }
 
-/// A solver that has met no goal yet, with this depth.
+/// A new solver with this depth.
 pub(crate) fn begin<H: GoalHandler + Drop>(
     alloc: Global,
     interner: Interner,

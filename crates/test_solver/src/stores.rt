@@ -11,7 +11,7 @@ use std::alloc::Global;
 use text_parser::type_terms::Fault;
 use text_parser::type_terms::interner::Interner;
 
-/// That the type, which is not unknown, is `Show`, as a question of a search.
+/// The type, which is no variable, is `Show`: a goal of a search.
 fn question(alloc: Global, cx: &mut Interner, sample: Sample) -> Result<CanonicalInput, Fault>
     ensures { IfOk result (λ input. GoalHeld cx.new.entries input.goal) }
 {
@@ -23,7 +23,7 @@ fn question(alloc: Global, cx: &mut Interner, sample: Sample) -> Result<Canonica
     })
 }
 
-/// Whether a goal that is kept is found again.
+/// Whether a stored goal is found again.
 fn goal_is_found(alloc: Global, cx: &mut Interner, store: &mut GoalStore) -> Result<bool, Fault> {
     let first = store.keep_input(question(alloc, cx, Sample::Byte)?)?;
     let copy = store.copy_input(first)?;
@@ -40,7 +40,7 @@ fn is_full_of_goals(
     Ok(matches!(store.keep_input(other), Err(Fault::Full)))
 }
 
-/// An answer without values that is so sure.
+/// An answer without values, of this certainty.
 fn answer(alloc: Global, certainty: Certainty) -> CanonicalResponse {
     CanonicalResponse {
         variables: Vec::new(alloc),
@@ -50,7 +50,7 @@ fn answer(alloc: Global, certainty: Certainty) -> CanonicalResponse {
     }
 }
 
-/// Whether an answer that is kept is found again.
+/// Whether a stored answer is found again.
 fn answer_is_found(alloc: Global, store: &mut GoalStore) -> Result<bool, Fault> {
     let first = store.keep_response(answer(alloc, Certainty::Yes))?;
     let copy = store.copy_response(first)?;

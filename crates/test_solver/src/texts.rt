@@ -1,4 +1,4 @@
-//! Texts of tests: what a crate sees of one, and the questions that it asks as goals.
+//! Texts of tests: the visible crates of a crate, and its queries as goals.
 ghost use Rattle.std.specs.Prelude.{◌≡◌, ◌<◌, ℕ, List, length, Ok, IfOk};
 ghost use Rattle.text_parser.specs.TypeTerms.Promised.Handles.{Keeps};
 ghost use Rattle.infer_table.specs.Goals.{GoalHeld};
@@ -20,13 +20,13 @@ use view_lowering::{
     lower_question, texts_are_declared_well,
 };
 
-/// Writes one more question behind a text.
+/// Appends a query to a text.
 pub(crate) fn add_question(text: &mut Vec<u8>, question: &[u8]) -> Result<(), AllocError> {
     text.extend_from_slice(b"\nprove in here ")?;
     text.extend_from_slice(question)
 }
 
-/// What the text declares and asks. A faulty text is answered by `Full`, as no other is.
+/// The declarations and queries of the text. A text with a fault gives `Full`, which no other text gives.
 pub(crate) fn read(alloc: Global, text: &[u8]) -> Result<Workspace, Fault>
     ensures { IfOk result (λ workspace. TextGives text.now (Ok workspace)) }
 {
@@ -37,7 +37,7 @@ pub(crate) fn read(alloc: Global, text: &[u8]) -> Result<Workspace, Fault>
     }
 }
 
-/// The crate that asks the first question.
+/// The crate of the first query.
 fn first_asker(workspace: &Workspace) -> Option<CrateId> {
     match workspace.questions().first().copied() {
         Some(Asked::Prove(asker)) => Some(asker),
@@ -46,7 +46,7 @@ fn first_asker(workspace: &Workspace) -> Option<CrateId> {
     }
 }
 
-/// The crate that asks, if it is one of the text's.
+/// The crate of the query, if it is one of the text's.
 pub(crate) fn asker(workspace: &Workspace) -> Result<CrateId, Fault>
     ensures { IfOk result (λ asker. asker.index < length workspace.now.crates) }
 {
@@ -62,7 +62,7 @@ pub(crate) fn asker(workspace: &Workspace) -> Result<CrateId, Fault>
     }
 }
 
-/// What a crate sees of a text.
+/// The visible crates of a crate of a text.
 fn view_of(
     alloc: Global,
     cx: &mut Interner,
@@ -82,7 +82,7 @@ fn view_of(
     Ok(decls)
 }
 
-/// What the crate sees that asks.
+/// The visible crates of the querying crate.
 pub(crate) fn view(
     alloc: Global,
     cx: &mut Interner,
@@ -108,7 +108,7 @@ fn where_clauses(alloc: Global, references: &[TraitRef]) -> Result<Vec<Clause>, 
         .collect(alloc)
 }
 
-/// The question at a place, with its where-clauses.
+/// The query with this index, with its where-clauses.
 pub(crate) fn goal_at(
     alloc: Global,
     cx: &mut Interner,

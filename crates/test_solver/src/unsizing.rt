@@ -1,4 +1,4 @@
-//! What unsizing records of lifetimes.
+//! The lifetime constraints that unsizing records.
 ghost use Rattle.std.specs.Prelude.{ℕ, List, Ok};
 ghost use Rattle.text_parser.specs.TextLanguage.Text.{TextGives};
 ghost use Rattle.candidate_assembly.specs.Ready.{IsWellPosedGoal};
@@ -24,7 +24,7 @@ prove in here <'a, 'b> dyn Show + 'a: Unsize<dyn Show + 'b>
 prove in here <'a> u8: Unsize<dyn Show + 'a>
 prove in here [u8; 3]: Unsize<[u8]>";
 
-/// What a candidate records, with lifetimes by their numbers in the goal.
+/// A constraint that a candidate records. Lifetimes are given by their numbers in the goal.
 #[derive(Clone, Copy, PartialEq, Eq)]
 enum Outliving {
     Nothing,
@@ -43,7 +43,7 @@ fn number_of(region: Region) -> Option<u32> {
     }
 }
 
-/// What a constraint says.
+/// The constraint, with numbers for lifetimes.
 fn reading(constraint: RegionConstraint) -> Outliving {
     match constraint {
         RegionConstraint::RegionOutlives(longer, shorter) => {
@@ -60,7 +60,7 @@ fn reading(constraint: RegionConstraint) -> Outliving {
     }
 }
 
-/// What the one constraint says, if there is one at most.
+/// The only constraint, if there is at most one.
 fn reading_of(constraints: &[RegionConstraint]) -> Outliving {
     match constraints {
         [] => Outliving::Nothing,
@@ -69,7 +69,7 @@ fn reading_of(constraints: &[RegionConstraint]) -> Outliving {
     }
 }
 
-/// What the first candidate of the trait's own rule records.
+/// The constraint that the first candidate of the trait's own rule records.
 fn recorded(
     alloc: Global,
     cx: &mut Interner,
@@ -84,7 +84,7 @@ fn recorded(
     }
 }
 
-/// The same of the question at a place; nothing of one that is not decided.
+/// The same of the query with this index. Nothing if the goal is not decided.
 fn recorded_at(
     alloc: Global,
     cx: &mut Interner,
@@ -101,7 +101,7 @@ fn recorded_at(
     recorded(alloc, cx, &decls, &goal)
 }
 
-/// The same of the text.
+/// The same of a text.
 fn recorded_in_text(alloc: Global, place: u32) -> Result<Option<Outliving>, Fault> {
     let workspace = read(alloc, UNSIZED)?;
     let mut cx = Interner::new(alloc, 10000);

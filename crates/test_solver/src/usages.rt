@@ -1,10 +1,10 @@
-//! Usages that are counted and merged, and paths that are extended.
+//! Counts and merges of usages, and extensions of paths.
 
 use search_graph::{CandidateHeadUsages, PathKind, PathsToNested};
 use std::alloc::Global;
 use text_parser::type_terms::Fault;
 
-/// How often a head is used on an unknown path, where one usage and two are merged.
+/// The number of usages of a head on an unknown path, for one usage and for two that are merged.
 fn merged_usages(alloc: Global) -> Result<u32, Fault> {
     let mut first = CandidateHeadUsages::new(alloc);
     first.add_usage(4, PathKind::Unknown)?;

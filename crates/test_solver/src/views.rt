@@ -1,4 +1,4 @@
-//! What a crate sees of a text: crates, the supertraits of a reference, and the impls that a type can have.
+//! The visible crates of a crate of a text, the supertraits of a trait reference, and the impls that a type can have.
 ghost use Rattle.std.specs.Prelude.{ℕ, List, Ok};
 ghost use Rattle.text_parser.specs.TextLanguage.Text.{TextGives};
 ghost use Rattle.candidate_assembly.specs.Ready.{AreReadyDeclarations, IsWellPosedGoal};
@@ -14,26 +14,26 @@ use text_parser::type_terms::interner::Interner;
 use text_parser::type_terms::{AdtId, CrateId, Fault, ImplId, TraitId};
 use text_parser::workspace::Workspace;
 
-/// The asking crate does not see the crate `apart`.
+/// The crate `apart` is not visible in the querying crate.
 const ASKED: &[u8] = b"crate base
 crate apart
 crate here uses base
 prove in here u8: Fn<()>
 prove in here u8: Clone";
 
-/// A struct with two parameters, of which the last field alone mentions the second.
+/// A struct with two parameters. Its last field alone mentions the second one.
 const SHAPES: &[u8] = b"crate here
 struct Tail<T, U>(T, U)
 prove in here u8: Clone";
 
-/// Whether the asking crate sees itself, `base` and `core` alone, in the order of the text.
+/// Whether exactly the querying crate itself, `base` and `core` are visible in it, in the order of the text.
 fn sees_what_it_uses(workspace: &Workspace) -> Result<bool, Fault> {
     let here = asker(workspace)?;
     let seen = workspace.view(here)?;
     Ok(seen[..] == [CrateId { index: 0 }, CrateId { index: 1 }, here])
 }
 
-/// What is found of a reference.
+/// The outcome of a trait reference.
 #[derive(Clone, Copy)]
 enum Call {
     Elaborate,
@@ -41,13 +41,13 @@ enum Call {
     RelevantImpls,
 }
 
-/// The trait of the reference at a place, where one stands there.
+/// The trait of the trait reference at this index, if there is one.
 fn trait_at(references: &[TraitRef], place: usize) -> Option<u32> {
     let reference = references.get(place)?;
     Some(reference.def_id.index)
 }
 
-/// The traits of the first three references.
+/// The traits of the first three trait references.
 fn traits_of(references: &[TraitRef]) -> [Option<u32>; 3] {
     [
         trait_at(references, 0),
@@ -70,7 +70,7 @@ fn last_impls(cx: &Interner, decls: &Declarations, goal: &CanonicalInput) -> [Op
     [last, before, None]
 }
 
-/// What the call finds of a goal: traits, or the last impls, by their numbers.
+/// The result of the call for a goal: traits, or the last impls, by their numbers.
 fn found_of(
     alloc: Global,
     cx: &mut Interner,
@@ -88,7 +88,7 @@ fn found_of(
     }
 }
 
-/// The same of the question at a place, by what the crate sees that asks; none of a question that is not decided.
+/// The same of the query with this index, over the visible crates of the querying crate. `None` if the goal is not decided.
 fn found_at(
     alloc: Global,
     cx: &mut Interner,
@@ -106,7 +106,7 @@ fn found_at(
     found_of(alloc, cx, &decls, &goal, call)
 }
 
-/// The same of the text.
+/// The same of a text.
 fn found(alloc: Global, place: u32, call: Call) -> Result<[Option<u32>; 3], Fault> {
     let workspace = read(alloc, ASKED)?;
     let mut cx = Interner::new(alloc, 10000);
@@ -121,7 +121,7 @@ fn unsizing_of(decls: &Declarations, id: AdtId) -> Option<[bool; 2]> {
     }
 }
 
-/// The parameters of the text's struct that are unsizing, and whether `Fn` and `Clone` of `core` are fundamental.
+/// The unsizing parameters of the text's struct, and whether `Fn` and `Clone` of `core` are fundamental.
 fn told_of_shapes(
     alloc: Global,
     cx: &mut Interner,
@@ -137,14 +137,14 @@ fn told_of_shapes(
     Ok((unsizing_of(&decls, AdtId { index: 1 }), fundamental))
 }
 
-/// The same of the text.
+/// The same of a text.
 fn told(alloc: Global) -> Result<(Option<[bool; 2]>, [bool; 2]), Fault> {
     let workspace = read(alloc, SHAPES)?;
     let mut cx = Interner::new(alloc, 10000);
     told_of_shapes(alloc, &mut cx, &workspace)
 }
 
-/// Whether the asking crate of the text sees what it uses.
+/// Whether the crates that the querying crate uses are visible in it.
 fn view_is_right(alloc: Global) -> Result<bool, Fault> {
     let workspace = read(alloc, ASKED)?;
     sees_what_it_uses(&workspace)

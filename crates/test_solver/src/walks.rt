@@ -1,4 +1,4 @@
-//! Headers and references of a crate that sees another one.
+//! Headers and trait references of a crate that uses another one.
 ghost use Rattle.text_parser.specs.TypeTerms.Promised.Handles.{Has};
 ghost use Rattle.text_parser.specs.TypeTerms.Terms.{args_lists};
 
@@ -18,7 +18,7 @@ use text_parser::type_terms::Fault;
 use text_parser::type_terms::interner::Interner;
 use text_parser::type_terms::kinds::{Ty, TyKind};
 
-/// Answers its input, or refuses unsigned integers with the error 5.
+/// Returns its input, or fails with the error 5 for unsigned integers.
 #[derive(Clone, Copy)]
 struct Reader {
     refuses: bool,
@@ -42,7 +42,7 @@ impl Normalize for Reader {
     }
 }
 
-/// What an orphan check answers, but for the types.
+/// The answer of an orphan check, without the types.
 #[derive(Clone, Copy, PartialEq, Eq)]
 enum Verdict {
     Passes,
@@ -52,10 +52,10 @@ enum Verdict {
     Deep,
 }
 
-/// The open place and the local type behind it, or the leaf that comes first and one more.
+/// The first open position and the local type after it, or the first leaf and one more.
 type Found = (Verdict, Option<Ty>, Option<Ty>);
 
-/// A header, how deep it is walked at most, whether unsigned integers are refused, and what is answered.
+/// A header, the maximum depth of its orphan walk, whether unsigned integers fail, and the answer.
 type Header = (Asked, u32, bool, (Verdict, Option<Sample>, Option<Sample>));
 
 /// `?t`
@@ -100,7 +100,7 @@ const BOXED_LOC: Sample = Sample(&[Around::Box, Around::Loc], Inmost::Byte);
 /// `Pair<Vec<Box<Loc<u8>>>, Box<Loc<u8>>>`
 const PAIR: Sample = Sample(&[Around::Pair, Around::Box, Around::Loc], Inmost::Byte);
 
-/// Headers that keep the rule, and that break it.
+/// Headers that satisfy the orphan rule, and headers that violate it.
 const HEADERS: [Header; 12] = [
     (Asked::Tr(VEC, LOC), 4, false, (Verdict::Passes, None, None)),
     (
@@ -156,7 +156,7 @@ const HEADERS: [Header; 12] = [
     ),
 ];
 
-/// The self types of references to `Num`, and whether these are known or which crates may add impls.
+/// The self types of trait references to `Num`, and whether these are knowable, or else which crates may add impls.
 const REFERENCES: [(Sample, Result<(), Conflict>); 4] = [
     (BYTE, Err(Conflict::Upstream)),
     (
@@ -170,8 +170,8 @@ const REFERENCES: [(Sample, Result<(), Conflict>); 4] = [
     (Sample(&[Around::Loc], Inmost::Byte), Ok(())),
 ];
 
-/// Headers as they are declared, whether they keep the rule of crate 2, and whether their open walk meets an open place: it goes on
-/// behind local types and into the crate's own fundamental structs.
+/// Headers as declared, whether they satisfy the orphan rule in crate 2, and whether their open walk meets an open position. The open walk
+/// continues after local types and into the crate's own fundamental structs.
 const DECLARED: [(Asked, bool, bool); 6] = [
     (Asked::Num(BYTE), false, false),
     (Asked::Num(LOC), true, false),
@@ -185,7 +185,7 @@ const DECLARED: [(Asked, bool, bool); 6] = [
     (Asked::Tr(BOXED, LOC), false, true),
 ];
 
-/// What the check answers, if it is not that memory was refused.
+/// The answer of the check, unless memory was refused.
 fn found(answer: Result<Result<(), OrphanCheckErr<Ty>>, WalkError<u32>>) -> Option<Found> {
     match answer {
         Ok(Ok(())) => Some((Verdict::Passes, None, None)),
@@ -216,7 +216,7 @@ fn make_some(
     }
 }
 
-/// What the check of crate 2 answers to the header.
+/// The answer of the check of crate 2 to the header.
 fn answered(
     alloc: Global,
     cx: &Interner,
@@ -252,7 +252,7 @@ fn judged(
     Ok(answered(alloc, cx, &decls, header, limit, refuses))
 }
 
-/// Whether the check answers so, with terms of this interner.
+/// Whether this is the answer of the check, with terms of this interner.
 fn holds_in(alloc: Global, cx: &mut Interner, header: Header) -> Result<bool, Fault> {
     let (asked, limit, refuses, (verdict, ty, other)) = header;
     let ty = make_some(alloc, cx, ty)?;
@@ -260,13 +260,13 @@ fn holds_in(alloc: Global, cx: &mut Interner, header: Header) -> Result<bool, Fa
     Ok(judged(alloc, cx, asked, limit, refuses)? == Some((verdict, ty, other)))
 }
 
-/// Whether the check answers so.
+/// Whether this is the answer of the check.
 fn holds(alloc: Global, header: Header) -> Result<bool, Fault> {
     let mut cx = Interner::new(alloc, 100);
     holds_in(alloc, &mut cx, header)
 }
 
-/// Whether a header that is made first keeps the rule of crate 2, and whether its open walk meets an open place.
+/// Whether a header that is made first satisfies the orphan rule in crate 2, and whether its open walk meets an open position.
 fn walked(alloc: Global, cx: &mut Interner, asked: Asked) -> Result<(bool, bool), Fault> {
     let header = make_reference(alloc, cx, asked)?;
     let decls = shop(alloc, cx)?;
@@ -280,7 +280,7 @@ fn walked_alone(alloc: Global, asked: Asked) -> Result<(bool, bool), Fault> {
     walked(alloc, &mut cx, asked)
 }
 
-/// The place of the first header as it is declared of which something else is answered.
+/// The index of the first declared header with a different answer.
 fn first_that_walks_otherwise(
     alloc: Global,
     headers: &[(Asked, bool, bool)],
@@ -293,7 +293,7 @@ fn first_that_walks_otherwise(
     Ok(None)
 }
 
-/// Whether a reference is known to crate 2.
+/// Whether a trait reference is knowable in crate 2.
 fn is_known(
     alloc: Global,
     cx: &Interner,
@@ -314,20 +314,20 @@ fn is_known(
     }
 }
 
-/// The same of a reference that is made first.
+/// The same of a trait reference that is made first.
 fn known_in(alloc: Global, cx: &mut Interner, asked: Asked) -> Result<Result<(), Conflict>, Fault> {
     let trait_ref = make_reference(alloc, cx, asked)?;
     let decls = shop(alloc, cx)?;
     is_known(alloc, cx, &decls, trait_ref)
 }
 
-/// Whether the reference is known.
+/// Whether the trait reference is knowable.
 fn known(alloc: Global, asked: Asked) -> Result<Result<(), Conflict>, Fault> {
     let mut cx = Interner::new(alloc, 100);
     known_in(alloc, &mut cx, asked)
 }
 
-/// Whether each of these references is as known as is said.
+/// Whether each of these trait references is knowable exactly if the row states so.
 fn are_known_so(
     alloc: Global,
     references: &[(Sample, Result<(), Conflict>)],

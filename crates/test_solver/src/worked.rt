@@ -1,7 +1,7 @@
-//! Goals that the solver answers by what a crate declares, and the frames that each takes.
+//! Goals that the solver answers by the declarations of a crate, and the frames that each takes.
 //!
-//! The depth is 8. The answers and the frames follow from the rules of candidates and of searches: a goal takes a frame each time that it is
-//! run, and none where it is answered by the cache, by a goal above it or for want of depth.
+//! The depth is 8. The answers and the frames follow from the rules of candidates and of searches. A goal takes a frame for each run. It
+//! takes none if it is answered by the cache or by a goal above it, or if no depth is left.
 
 use crate::answers::found;
 use crate::solver::{AMBIGUOUS, Evaluated, OVERFLOW, Said, YES, YES_WITH_VALUES};
@@ -9,11 +9,11 @@ use goal_evaluator::TypingMode;
 use std::alloc::Global;
 use text_parser::type_terms::Fault;
 
-/// A goal, what is said of it, and the frames that it takes. Where it gets values also what it becomes by them, and the frames that it
-/// takes until it is asked again as that, which is a yes. Another goal takes no frame where it is asked again: its answer is known.
+/// A goal, its answer, and the frames that it takes. If it gets values, also the goal with these values, and the frames until that goal is
+/// evaluated again, which is a yes. Any other goal takes no frame the second time, since its answer is cached.
 type Row = (&'static [u8], Option<(&'static [u8], u64)>, Said, u64);
 
-/// Goals of one mode, over what is declared; and whether a limit has a part in each answer.
+/// Goals of one mode over the same declarations, and whether a limit contributes to each answer.
 #[derive(Clone, Copy)]
 struct Table {
     declared: &'static [u8],
@@ -22,10 +22,10 @@ struct Table {
     rows: &'static [Row],
 }
 
-/// That it has no solution.
+/// The goal has no solution.
 const REFUSED: Said = Said::Refused;
 
-/// A trait with impls that ask for it.
+/// A trait with impls whose premises are of the same trait.
 const SHOWN: &[u8] = b"crate here
 trait Show
 struct V<T>
@@ -34,7 +34,7 @@ impl Show for u8
 struct P<A, B>
 impl<A, B> Show for P<A, B> where A: Show, B: Show";
 
-/// Impls whose premises are asked.
+/// Impls whose premises are evaluated.
 const IMPLS: Table = Table {
     declared: SHOWN,
     mode: TypingMode::PostAnalysis,
@@ -44,19 +44,19 @@ const IMPLS: Table = Table {
         (b"V<u8>: Show", None, YES, 2),
         (b"V<V<u8>>: Show", None, YES, 3),
         (b"P<V<u8>, V<V<V<V<bool>>>>>: Show", None, REFUSED, 8),
-        // As deep as the depth allows.
+        // The deepest nesting that the depth allows.
         (b"V<V<V<V<V<V<V<V<u8>>>>>>>>: Show", None, YES, 9),
     ],
 };
 
-/// Goals that ask deeper.
+/// Goals with deeper nested goals.
 const TOO_DEEP: Table = Table {
     declared: SHOWN,
     mode: TypingMode::PostAnalysis,
     meets_limit: true,
     rows: &[
         (b"V<V<V<V<V<V<V<V<V<u8>>>>>>>>>: Show", None, OVERFLOW, 9),
-        // What has met an overflow has a quarter of its depth left for what it asks then.
+        // After an overflow, a quarter of the depth remains for further nested goals.
         (
             b"P<V<V<V<V<V<V<V<V<V<u8>>>>>>>>>, bool>: Show",
             None,
@@ -72,7 +72,7 @@ const TOO_DEEP: Table = Table {
     ],
 };
 
-/// Where-clauses, alone and beside impls.
+/// Where-clauses, alone and together with impls.
 const CLAUSES: Table = Table {
     declared: b"crate here
 trait Show
@@ -86,14 +86,14 @@ impl<T> Any for T",
         (b"<T> T: Show where T: Show", None, YES, 1),
         (b"<T> V<T>: Show where T: Show", None, YES, 2),
         (b"<T> V<T>: Show", None, REFUSED, 2),
-        // The clause is taken, and no impl is considered.
+        // The clause wins, and no impl is considered.
         (b"<T> V<T>: Show where V<T>: Show, T: Show", None, YES, 1),
-        // A clause without parameters yields to an impl, which has no premise.
+        // A clause without parameters yields to an impl without premises.
         (b"u8: Any where u8: Any", None, YES, 1),
     ],
 };
 
-/// Goals that are asked under themselves by impls: the cycle is no proof.
+/// Goals that are nested in themselves by impls. The cycle is no proof.
 const INDUCTIVE_CYCLES: Table = Table {
     declared: b"crate here
 trait Loop
@@ -111,12 +111,12 @@ impl Size<u8> for u8",
     rows: &[
         (b"u8: Loop", None, OVERFLOW, 1),
         (b"u8: Ping", None, OVERFLOW, 2),
-        // `u8: Size<?y>` is asked under itself: of its two candidates one is an overflow, and so is what stands for both.
+        // `u8: Size<?y>` is nested in itself. One of its two candidates is an overflow, and so is their merge.
         (b"u8: Size<V<?x>>", None, OVERFLOW, 2),
     ],
 };
 
-/// A goal that asks for a larger one, which does so too.
+/// A goal with a larger nested goal, which has a larger one in turn.
 const GROWING: Table = Table {
     declared: b"crate here
 trait Grow
@@ -146,15 +146,15 @@ struct Twice(W<Twice>, Also<Twice>)",
         (b"Own: Safe", None, YES, 2),
         (b"W<Own>: Safe", None, YES, 2),
         (b"Holds: Safe", None, REFUSED, 3),
-        // The first run takes the cycle for true and is refused for the other field, so a second run is refused for the cycle.
+        // The first run takes the cycle for true and is refused for the other field. So a second run is refused for the cycle.
         (b"Both: Safe", None, REFUSED, 6),
         (b"W<Both>: Safe", None, REFUSED, 6),
-        // What the first field has found rests on a goal that is still asked, and serves the second field as long as that goal runs.
+        // The result of the first field rests on a goal that is still open. It serves the second field while that goal runs.
         (b"Twice: Safe", None, YES, 3),
     ],
 };
 
-/// Unknowns, which get values or do not.
+/// Variables that get values, and variables that do not.
 const UNKNOWNS: Table = Table {
     declared: b"crate here
 trait Conv<U, const N>
@@ -188,7 +188,7 @@ impl Show for V<bool>",
             YES_WITH_VALUES,
             2,
         ),
-        // The premise is asked again with the value that it gave.
+        // The premise is evaluated again with the value that it gave.
         (
             b"u8: Via<?x>",
             Some((b"u8: Via<bool>", 4)),
@@ -213,17 +213,17 @@ trait Sub: Sup",
         (b"(u8, str): Sized", None, REFUSED, 2),
         (b"Box<str>: Sized", None, YES, 2),
         (b"(u8, bool): Clone", None, YES, 3),
-        // The second item is known from the first.
+        // The second item follows from the first.
         (b"(u8, u8): Copy", None, YES, 2),
         (b"Box<u8>: Copy", None, REFUSED, 1),
         (b"dyn Sub: Sup", None, YES, 1),
-        // Of a trait that has supertraits, these are asked.
+        // For a trait with supertraits, these are evaluated.
         (b"dyn Sub: Sub", None, YES, 2),
         (b"dyn Sub: Unsize<dyn Sup>", None, YES, 1),
     ],
 };
 
-/// A crate's own trait, in coherence: crates that use it may have impls for references to types of theirs.
+/// A crate's own trait, in coherence. Crates that use it may have impls for references to their types.
 const OWN_TRAIT: Table = Table {
     declared: b"crate here
 trait Num
@@ -237,7 +237,7 @@ struct V<T>",
     ],
 };
 
-/// A trait of another crate with a fundamental supertrait, in coherence: who refuses that refuses the trait.
+/// A trait of another crate with a fundamental supertrait, in coherence. If the supertrait is refused, so is the trait.
 const FUNDAMENTAL_SUPERTRAIT: Table = Table {
     declared: b"crate far
 fundamental trait Sup
@@ -248,7 +248,7 @@ crate here uses far",
     rows: &[(b"u8: Sub", None, REFUSED, 2)],
 };
 
-/// The same with a supertrait of which a later version of the other crate may have more impls.
+/// The same with a supertrait for which a later version of the other crate may add impls.
 const SUPERTRAIT: Table = Table {
     declared: b"crate far
 trait Sup
@@ -259,7 +259,7 @@ crate here uses far",
     rows: &[(b"u8: Sub", None, AMBIGUOUS, 2)],
 };
 
-/// A trait of another crate, and one whose impls ask for it.
+/// A trait of another crate, and one whose impls have it as a premise.
 const FOREIGN: &[u8] = b"crate far
 trait Num
 crate here uses far
@@ -274,7 +274,7 @@ const FOREIGN_TRAIT_IN_COHERENCE: Table = Table {
     rows: &[
         (b"u8: Num", None, AMBIGUOUS, 1),
         (b"char: Mine", None, AMBIGUOUS, 2),
-        // Of two candidates one is sure.
+        // One of the two candidates is certain.
         (b"u8: Mine", None, YES, 2),
     ],
 };
@@ -305,7 +305,7 @@ const TABLES: [Table; 13] = [
     FOREIGN_TRAIT_OUTSIDE,
 ];
 
-/// What a goal becomes, and what is there after it is asked again.
+/// The goal afterwards, and the state after it is evaluated again.
 fn again(table: Table, row: Row) -> (&'static [u8], Evaluated) {
     match row.1 {
         Some((becomes, frames)) => (becomes, (YES, frames, table.meets_limit)),
@@ -313,14 +313,14 @@ fn again(table: Table, row: Row) -> (&'static [u8], Evaluated) {
     }
 }
 
-/// Whether of a row's goal something else is found.
+/// Whether the outcome of a row's goal differs.
 fn differs(alloc: Global, table: Table, row: Row) -> Result<bool, Fault> {
     let (becomes, second) = again(table, row);
     let found = found(alloc, table.declared, table.mode, row.0, becomes)?;
     Ok(found != ((row.2, row.3, table.meets_limit), second, true))
 }
 
-/// The place of the first row of the table of which something else is found.
+/// The index of the first row of the table with a different outcome.
 fn first_row_that_differs(alloc: Global, table: Table) -> Result<Option<usize>, Fault> {
     for (place, row) in table.rows.iter().enumerate() {
         if differs(alloc, table, *row)? {
@@ -330,7 +330,7 @@ fn first_row_that_differs(alloc: Global, table: Table) -> Result<Option<usize>, 
     Ok(None)
 }
 
-/// The first of these tables with a row of which something else is found, and the place of that row.
+/// The first of these tables with a row that has a different outcome, and the index of that row.
 fn first_place_that_differs(
     alloc: Global,
     tables: &[Table],
