@@ -5,6 +5,7 @@ ghost use Rattle.std.specs.Prelude.{◌≡◌, true, IfOk, IfSome};
 ghost use Rattle.sessions.specs.TypeTerms.Promised.Handles.{ArgsHeld};
 ghost use Rattle.sessions.specs.TextLanguage.Promised.Declarations.{Question};
 ghost use Rattle.sessions.specs.ProofChecker.Steps.{term_of};
+ghost use Rattle.sessions.specs.Checking.{HasJudged};
 ghost use Rattle.sessions.specs.Later.{section_headers};
 ghost use Rattle.sessions.specs.Promised.Promises.{view_in};
 ghost use Rattle.sessions.specs.Promised.Releases.{IsSectionOf};
@@ -24,7 +25,7 @@ use explain_traces::GoalWalk;
 use sessions::candidate_assembly::solver::Solver;
 use sessions::type_terms::kinds::GenericArgKind;
 use sessions::type_terms::{Fault, ImplId};
-use sessions::{Session, clauses_apply, impls_apply};
+use sessions::{Session, clauses_apply, impls_apply, overlap_at};
 
 /// Traces the goal of a `prove` query of the session's crate as it is evaluated first. It explains why the query was not proved, or is not
 /// known. Queries count from 1.
@@ -128,6 +129,27 @@ pub fn explain_supertrait(
         id,
         number,
         session.limits.depth,
+    )
+}
+
+/// Whether the session's crate brings the impls with these numbers together and they overlap, as `check_crate` judges a pair.
+///
+/// Fails with `Memory` if memory is refused, or with `Full` if a table of the session is full.
+pub fn impls_overlap(
+    session: &mut Session<'_>,
+    later: ImplId,
+    earlier: ImplId,
+) -> Result<bool, Fault>
+    ensures judged { IfOk result (HasJudged session.old later.index earlier.index) }
+    ensures stays { StaysOn session.old session.new }
+{
+    let _ = session.workspace.crates();
+    overlap_at(
+        &mut session.graph,
+        &mut session.cache,
+        &mut session.cx,
+        later,
+        earlier,
     )
 }
 

@@ -35,7 +35,7 @@ pub use breaking::BreakingCause;
 pub use claims::{Claims, no_claims, pair_claims, question_claims, refutation_claims};
 pub use explained::{
     explain_breaking, explain_overlap, explain_proof, explain_question, explain_refutation,
-    explain_supertrait,
+    explain_supertrait, impls_overlap,
 };
 pub use unseen::{breaks_orphan_rule, impl_header};
 pub use walks::{CheckedCandidates, PairWalk, ProofWalk, ShownStep};

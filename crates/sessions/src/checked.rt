@@ -80,7 +80,7 @@ pub fn intersection_at(
 /// their where-clauses is impossible there.
 ///
 /// Everything stays at rest, after a fault too. Fails with `Memory` if memory is refused, or with `Full` if a table is full.
-pub(crate) fn overlap_at(
+pub fn overlap_at(
     graph: &mut SearchGraph<SolverGraph<Solver>>,
     cache: &mut GlobalCache<SolverGraph<Solver>>,
     cx: &mut SolverCx<Solver>,

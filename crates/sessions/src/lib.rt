@@ -34,7 +34,7 @@ mod view;
 
 pub use answers::{LaterAnswer, ProveAnswer, RefuteAnswer, SupersAnswer, Verdict};
 pub use asked::lower_in;
-pub use checked::intersection_at;
+pub use checked::{intersection_at, overlap_at};
 pub use impossible::is_impossible;
 pub use later::{added_impls, added_impls_break_no_user, trait_is_relied_on};
 pub use laws::{
