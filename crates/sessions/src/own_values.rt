@@ -1,44 +1,34 @@
 //! Whether the values of an answer speak of what their question may speak of.
 
-ghost use Rattle.std.specs.Prelude.{◌≡◌, ◌||◌, true, not, map, List};
-ghost use Rattle.std.specs.List.{list_any};
+ghost use Rattle.std.specs.Prelude.{◌≡◌, ◌||◌, true, not, map};
 ghost use Rattle.type_terms.specs.Promised.Answers.{is_undeclared};
 ghost use Rattle.type_terms.specs.Promised.Handles.{ArgHeld, ArgsHeld, arg_trees};
-ghost use Rattle.type_terms.specs.Kinds.{autos_trees};
 ghost use Rattle.type_terms.specs.Promised.Label.{of_type, of_const, placeholder};
-ghost use Rattle.type_terms.specs.Promised.Handles.{Entry, Has, types, consts, bounds_lists, trees_at};
+ghost use Rattle.type_terms.specs.Promised.Handles.{Has, types, consts, trees_at};
 ghost use Rattle.type_terms.specs.Terms.{args_lists};
 ghost use Rattle.type_terms.specs.Promised.Trees.{some_node};
-ghost use Rattle.type_terms.specs.Promised.Walks.{struct_is, trait_is};
 ghost use Rattle.type_terms.specs.Promised.Worlds.{World};
 ghost use Rattle.declarations.specs.Applied.{TraitRefsHeld, references_in};
 ghost use Rattle.declarations.specs.Held.{ReferenceHeld};
 ghost use Rattle.declarations.specs.Items.{reference_in, written};
-ghost use Rattle.candidate_assembly.specs.Finding.{BreaksAt, some_root};
 ghost use Rattle.sessions.specs.Promised.OwnValues.{is_same_param, occurs_among};
 ghost use Rattle.sessions.specs.Foreign.{IsOwnAnswer, are_own_terms, is_foreign_term, is_unknown_term, label_of, question_in, strays};
 ghost use Rattle.sessions.specs.Promised.Given.{AnswerValuesHeld};
 
 use crate::answers::ProveAnswer;
+use candidate_assembly::visitors::{bounds_are_declared, break_if, struct_is_declared};
 use declarations::declarations::Declarations;
 use std::ops::ControlFlow;
 use term_folds::predicate::TraitRef;
 use type_terms::binders::Binders;
 use type_terms::flags::TypeFlags;
 use type_terms::interner::Interner;
-use type_terms::kinds::{Bounds, Const, ConstKind, GenericArgKind, GenericArgs, Ty, TyKind};
+use type_terms::kinds::{Const, ConstKind, GenericArgKind, GenericArgs, Ty, TyKind};
 use type_terms::once::Once;
 use type_terms::region::Region;
 use type_terms::visit::{Seen, TypeVisitor, visit_args, visit_ty};
 use type_terms::visitable_ext::TypeVisitableExt;
-use type_terms::{AdtId, TraitId};
 use view_lowering::LoweredQuestion;
-
-fn break_if(found: bool) -> Seen<()>
-    ensures { BreaksAt found result }
-{
-    if found { Seen::Break(()) } else { Seen::Enter }
-}
 
 /// The placeholder of a parameter of a question, by its number.
 #[derive(Clone, Copy)]
@@ -243,52 +233,6 @@ impl TypeVisitor for FindsStray<'_> {
 
     fn visit_region(&mut self, _cx: &Interner, _region: Region, _binders: &Binders) -> Seen<()> {
         Seen::Enter
-    }
-}
-
-fn struct_is_declared(declarations: &Declarations, id: AdtId) -> bool
-    ensures { (es : List Entry) → result ≡ struct_is (λ _. true) (written es declarations.now) id.index }
-{
-    match declarations.adt_def(id) {
-        Some(_) => true,
-        None => false,
-    }
-}
-
-fn trait_is_declared(declarations: &Declarations, id: TraitId) -> bool
-    ensures { (es : List Entry) → result ≡ trait_is (λ _. true) (written es declarations.now) id.index }
-{
-    match declarations.trait_def(id) {
-        Some(_) => true,
-        None => false,
-    }
-}
-
-fn traits_are_declared(declarations: &Declarations, ids: &[TraitId]) -> bool
-    ensures { (es : List Entry) → result ≡ not (some_root (is_undeclared (written es declarations.now)) (autos_trees ids.now)) }
-{
-    let mut left = ids;
-    'ids: while let Some((id, others)) = left.split_first() {
-        if !trait_is_declared(declarations, *id) {
-            return false;
-        }
-        left = others;
-    }
-    true
-}
-
-/// Whether the principal among the bounds of a `dyn`, if there is one, and its auto traits are declared.
-fn bounds_are_declared(cx: &Interner, declarations: &Declarations, bounds: Bounds) -> bool
-    requires { Has cx.now.entries bounds_lists bounds.0 }
-    ensures { result ≡ not (some_root (is_undeclared (written cx.now.entries declarations.now)) (trees_at cx.now.entries bounds.0)) }
-{
-    let bounds = cx.bounds(bounds);
-    match bounds.principal {
-        Some(principal) => {
-            trait_is_declared(declarations, principal.def_id)
-                && traits_are_declared(declarations, &bounds.autos)
-        }
-        None => traits_are_declared(declarations, &bounds.autos),
     }
 }
 
