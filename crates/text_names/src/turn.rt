@@ -7,7 +7,7 @@ ghost use Rattle.text_names.specs.WalkViews.{frame_of, frames_in, inside_of, pla
 
 use crate::looked_up::Names;
 use crate::resolved::NodeLabel;
-use crate::walk::{Frame, Inside, Next, Place, Walk};
+use crate::walk::{BoundHead, Frame, Inside, Next, Place, Walk};
 use std::alloc::{AllocError, Global};
 use text_lines::Cell;
 use workspace::ParamKind;
@@ -89,7 +89,7 @@ impl<'n, 'c, 'a> Walk<'n, 'c, 'a> {
         let before = self.rest.fork();
         match self.rest.next() {
             Some(Cell::Bound { name, start, inner }) => {
-                self.bound(names, alloc, frame, name, start, inner)
+                self.bound(names, alloc, frame, BoundHead { name, start, inner })
             }
             Some(Cell::Lifetime(name)) => self.bound_lifetime(names, frame, name),
             _ => {

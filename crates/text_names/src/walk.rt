@@ -56,6 +56,14 @@ pub(crate) struct Frame<'n> {
     pub is_kept: bool,
 }
 
+/// The head of a bound of a `dyn`: its trait, and the positions at which its binder and its arguments begin.
+#[derive(Clone, Copy)]
+pub(crate) struct BoundHead<'a> {
+    pub name: &'a [u8],
+    pub start: usize,
+    pub inner: usize,
+}
+
 /// What comes next: a type or an argument, what is open, or nothing.
 #[derive(Clone, Copy)]
 pub(crate) enum Next {
@@ -401,12 +409,12 @@ impl<'n, 'c, 'a> Walk<'n, 'c, 'a> {
         names: &'n N,
         alloc: Global,
         outer: Frame<'n>,
-        name: &'a [u8],
-        start: usize,
-        inner: usize,
+        head: BoundHead<'a>,
     ) -> Result<Next, AllocError>
-        ensures { WalkSteps result (λ fs s r a. bound_step (N.sight names.now) (frame_of outer.entry) fs s name.now start inner r a) self.old self.new }
+        ensures { WalkSteps result (λ fs s r a. bound_step (N.sight names.now) (frame_of outer.entry) fs s
+            head.entry.name.now head.entry.start head.entry.inner r a) self.old self.new }
     {
+        let BoundHead { name, start, inner } = head;
         let bound = self.rest.names_between(alloc, start, inner)?;
         let count = self.rest.count_above(inner);
         let meaning = names.known(name);

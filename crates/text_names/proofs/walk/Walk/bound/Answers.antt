@@ -17,14 +17,14 @@ use Rattle.text_names.proofs.walk.Walk.bound.Goals as goal
 pub returns : goal.returns
 returns g c =
     let v = g.N.Names.sight c.args.names.now in
-    let n = c.args.name.now in
+    let n = c.args.head.name.now in
     let k = c.count_above-count.result in
     let w = c.args.self.now in
     let s = w.binders in
     let names = map text_of c.in_ok-bound.bound.items in
     let l = c.len.result in
     let o = known (seen_items v) n in
-    let frame : List Sort → ℕ → Bool → WalkFrame = λ ks k b. record { start = c.args.start; inner = c.args.inner; binds = true; holds = args_inside ks k; room = c.args.outer.room; is_kept = b } in
+    let frame : List Sort → ℕ → Bool → WalkFrame = λ ks k b. record { start = c.args.head.start; inner = c.args.head.inner; binds = true; holds = args_inside ks k; room = c.args.outer.room; is_kept = b } in
     let outer = frame_of c.args.outer ∷ frames_in w.frames.items in
     let kept = c.args.outer.is_kept && not (is_auto_name (seen_items v) n) in
     let held = c.is_kept_but-is_kept.result in
@@ -41,8 +41,8 @@ returns g c =
     let f = frame (kinds_of_trait o) k held in
     let h : frames_in c.open.new.self.frames.items ≡ f ∷ outer =
     c.in_ok-open.ensures.frames ∙ ap (λ z. frame z k held ∷ frames_in c.push.new.self.frames.items) (c.trait_kinds-kinds.ensures ∙ ap kinds_of_trait c.known-meaning.ensures) ∙ ap (λ z. f ∷ z) c.in_ok-push.ensures.frames in
-    ap (λ b. at b (length b) (count_above c.args.inner w.rest) (trait_number o) kept) (sym c.in_ok-bound.ensures)
-    ∙ ap (λ j. at names j (count_above c.args.inner w.rest) (trait_number o) kept) many ∙ ap (λ j. at names l j (trait_number o) kept) (sym c.count_above-count.ensures)
+    ap (λ b. at b (length b) (count_above c.args.head.inner w.rest) (trait_number o) kept) (sym c.in_ok-bound.ensures)
+    ∙ ap (λ j. at names j (count_above c.args.head.inner w.rest) (trait_number o) kept) many ∙ ap (λ j. at names l j (trait_number o) kept) (sym c.count_above-count.ensures)
     ∙ ap (λ j. at names l k j kept) (sym number) ∙ ap (at names l k c.trait_number.result) (sym is-held)
     ∙ ap (going (f ∷ outer) (names ∷ s) w.rest) e
     ∙ going-same (f ∷ outer) (frames_in c.open.new.self.frames.items) (names ∷ s) c.open.new.self.binders w.rest c.open.new.self.rest c.note.new.self c.open.new.self.found h
