@@ -19,27 +19,42 @@ use text_lines::{LineRead, Param, Statement};
 use text_names::LineFound;
 use workspace::{Asked, ENTRY_LIMIT, Tables};
 
+/// What precedes the fields of a struct.
+#[derive(Clone, Copy)]
+struct StructHead<'s, 'a> {
+    is_fundamental: bool,
+    name: &'s [u8],
+    params: &'s [Param<'a>],
+}
+
+/// What precedes the bounds of a trait.
+#[derive(Clone, Copy)]
+struct TraitHead<'s, 'a> {
+    is_fundamental: bool,
+    is_auto: bool,
+    name: &'s [u8],
+    params: &'s [Param<'a>],
+}
+
 fn declare_struct<'a>(
     tables: &mut Tables,
     alloc: Global,
     read: &LineRead<'a>,
     found: &LineFound<'a>,
-    is_fundamental: bool,
-    name: &[u8],
-    params: &[Param<'_>],
+    head: StructHead<'_, '_>,
 ) -> Result<(), AllocError>
     requires agrees { IsConsistent tables.old }
     requires few { IsFew (declared tables.old) ENTRY_LIMIT }
     requires faultless { IsFaultless (declared tables.old) read.now }
     requires short { length read.now.cells.items ≤ TEXT_LIMIT }
     requires found { IsFoundOf (declared tables.old) read.now found.now }
-    requires line { SaysStruct (statement_of read.now.statement) is_fundamental name.now (params_in params.now) }
+    requires line { SaysStruct (statement_of read.now.statement) head.is_fundamental head.name.now (params_in head.params.now) }
     ensures added { OnOk result (AddsLine (declared tables.old) read.now (declared tables.new)) }
     ensures agrees { OnOk result (IsConsistent tables.new) }
 {
-    let kinds = kinds_of(alloc, params)?;
+    let kinds = kinds_of(alloc, head.params)?;
     let cells = struct_fields(tables, alloc, read, found)?;
-    tables.add_struct(name, is_fundamental, kinds, cells)
+    tables.add_struct(head.name, head.is_fundamental, kinds, cells)
 }
 
 fn declare_trait<'a>(
@@ -47,23 +62,27 @@ fn declare_trait<'a>(
     alloc: Global,
     read: &LineRead<'a>,
     found: &LineFound<'a>,
-    is_fundamental: bool,
-    is_auto: bool,
-    name: &[u8],
-    params: &[Param<'_>],
+    head: TraitHead<'_, '_>,
 ) -> Result<(), AllocError>
     requires agrees { IsConsistent tables.old }
     requires few { IsFew (declared tables.old) ENTRY_LIMIT }
     requires faultless { IsFaultless (declared tables.old) read.now }
     requires short { length read.now.cells.items ≤ TEXT_LIMIT }
     requires found { IsFoundOf (declared tables.old) read.now found.now }
-    requires line { SaysTrait (statement_of read.now.statement) is_fundamental is_auto name.now (params_in params.now) }
+    requires line { SaysTrait (statement_of read.now.statement) head.is_fundamental head.is_auto head.name.now
+        (params_in head.params.now) }
     ensures added { OnOk result (AddsLine (declared tables.old) read.now (declared tables.new)) }
     ensures agrees { OnOk result (IsConsistent tables.new) }
 {
-    let kinds = kinds_of(alloc, params)?;
+    let kinds = kinds_of(alloc, head.params)?;
     let references = trait_bounds(tables, alloc, read, found)?;
-    tables.add_trait(name, is_fundamental, is_auto, kinds, references)
+    tables.add_trait(
+        head.name,
+        head.is_fundamental,
+        head.is_auto,
+        kinds,
+        references,
+    )
 }
 
 fn declare_impl<'a>(
@@ -138,23 +157,29 @@ pub fn declare<'a>(
             name,
             params,
             ..
-        } => declare_struct(tables, alloc, read, found, *is_fundamental, name, params),
+        } => {
+            let head = StructHead {
+                is_fundamental: *is_fundamental,
+                name,
+                params,
+            };
+            declare_struct(tables, alloc, read, found, head)
+        }
         Statement::Trait {
             is_fundamental,
             is_auto,
             name,
             params,
             ..
-        } => declare_trait(
-            tables,
-            alloc,
-            read,
-            found,
-            *is_fundamental,
-            *is_auto,
-            name,
-            params,
-        ),
+        } => {
+            let head = TraitHead {
+                is_fundamental: *is_fundamental,
+                is_auto: *is_auto,
+                name,
+                params,
+            };
+            declare_trait(tables, alloc, read, found, head)
+        }
         Statement::Impl { params, .. } => declare_impl(tables, alloc, read, found, params),
         Statement::Prove {
             crate_name,
