@@ -118,15 +118,14 @@ fn raw_ptr_sign(mutability: Mutability) -> &'static [u8]
 fn start_ref<'i, N: PrintNames>(
     interner: &'i Interner,
     names: &N,
-    region: Region,
     ty: Ty,
     mutability: Mutability,
     stack: &mut Vec<Piece<'i>>,
     out: &mut Vec<u8>,
 ) -> Result<(), AllocError>
     requires { Has interner.now.entries types ty.0 }
-    ensures { OnOk result
-        (PrintsKind (N.names names.now) interner.now.entries (TyKind.Ref region ty mutability) stack.old.items stack.new.items out.old.items out.new.items) }
+    ensures { (r : Region) → OnOk result
+        (PrintsKind (N.names names.now) interner.now.entries (TyKind.Ref r ty mutability) stack.old.items stack.new.items out.old.items out.new.items) }
 {
     out.extend_from_slice(ref_sign(mutability))?;
     stack.push(Piece::Ty(ty))?;
@@ -293,20 +292,31 @@ fn start_fn<'i, N: PrintNames>(
     }
 }
 
+/// The bounds of a `dyn` with a principal trait.
+#[derive(Clone, Copy)]
+struct PrincipalBounds<'i> {
+    def_id: TraitId,
+    args: &'i [GenericArgKind],
+    autos: &'i [TraitId],
+}
+
 /// Begins a `dyn` with a principal trait.
 fn start_principal<'i, N: PrintNames>(
     interner: &'i Interner,
     names: &N,
-    def_id: TraitId,
-    args: &'i [GenericArgKind],
-    autos: &'i [TraitId],
+    bounds: PrincipalBounds<'i>,
     stack: &mut Vec<Piece<'i>>,
     out: &mut Vec<u8>,
 ) -> Result<(), AllocError>
-    requires { ArgsHeld interner.now.entries args.now }
+    requires { ArgsHeld interner.now.entries bounds.args.now }
     ensures { OnOk result (PrintsPrincipalOf (N.names names.now) interner.now.entries
-        def_id.index args.now autos.now stack.old.items stack.new.items out.old.items out.new.items) }
+        bounds.entry.def_id.index bounds.entry.args.now bounds.entry.autos.now stack.old.items stack.new.items out.old.items out.new.items) }
 {
+    let PrincipalBounds {
+        def_id,
+        args,
+        autos,
+    } = bounds;
     out.extend_from_slice(b"dyn ")?;
     names.push_trait(def_id, out)?;
     stack.push(Piece::Autos(autos))?;
@@ -359,15 +369,12 @@ fn start_dyn<'i, N: PrintNames>(
         }
         Some(principal) => {
             let args = interner.args(principal.args);
-            start_principal(
-                interner,
-                names,
-                principal.def_id,
+            let named = PrincipalBounds {
+                def_id: principal.def_id,
                 args,
-                &data.autos,
-                stack,
-                out,
-            )?;
+                autos: &data.autos,
+            };
+            start_principal(interner, names, named, stack, out)?;
             Ok(())
         }
     }
@@ -393,9 +400,7 @@ fn start_kind<'i, N: PrintNames>(
         TyKind::Str => out.extend_from_slice(b"str"),
         TyKind::Never => out.extend_from_slice(b"!"),
         TyKind::Adt(id, args) => { start_adt(interner, names, id, interner.args(args), stack, out) }
-        TyKind::Ref(region, ty, mutability) => {
-            start_ref(interner, names, region, ty, mutability, stack, out)
-        }
+        TyKind::Ref(_, ty, mutability) => start_ref(interner, names, ty, mutability, stack, out),
         TyKind::RawPtr(ty, mutability) => {
             start_raw_ptr(interner, names, ty, mutability, stack, out)
         }
@@ -480,21 +485,28 @@ fn arg_sign(is_open: bool) -> &'static [u8]
     if is_open { b", " } else { b"<" }
 }
 
+/// What is left of a list of arguments, and whether its `<` is printed.
+#[derive(Clone, Copy)]
+struct ArgsLeft<'i> {
+    rest: &'i [GenericArgKind],
+    is_open: bool,
+}
+
 fn next_type_arg<'i, N: PrintNames>(
     interner: &'i Interner,
     names: &N,
     ty: Ty,
-    rest: &'i [GenericArgKind],
-    is_open: bool,
+    left: ArgsLeft<'i>,
     stack: &mut Vec<Piece<'i>>,
     out: &mut Vec<u8>,
 ) -> Result<(), AllocError>
     requires lawful { Lawful interner.now.entries }
     requires held { Has interner.now.entries types ty.0 }
-    requires rest { ArgsHeld interner.now.entries rest.now }
-    ensures { OnOk result (PrintsArg (N.names names.now) interner.now.entries is_open
-        (trees_at interner.now.entries ty.0) rest.now stack.old.items stack.new.items out.old.items out.new.items) }
+    requires rest { ArgsHeld interner.now.entries left.rest.now }
+    ensures { OnOk result (PrintsArg (N.names names.now) interner.now.entries left.entry.is_open
+        (trees_at interner.now.entries ty.0) left.entry.rest.now stack.old.items stack.new.items out.old.items out.new.items) }
 {
+    let ArgsLeft { rest, is_open } = left;
     out.extend_from_slice(arg_sign(is_open))?;
     stack.push(Piece::Args {
         rest,
@@ -508,17 +520,17 @@ fn next_const_arg<'i, N: PrintNames>(
     interner: &'i Interner,
     names: &N,
     value: Const,
-    rest: &'i [GenericArgKind],
-    is_open: bool,
+    left: ArgsLeft<'i>,
     stack: &mut Vec<Piece<'i>>,
     out: &mut Vec<u8>,
 ) -> Result<(), AllocError>
     requires lawful { Lawful interner.now.entries }
     requires held { Has interner.now.entries consts value.0 }
-    requires rest { ArgsHeld interner.now.entries rest.now }
-    ensures { OnOk result (PrintsArg (N.names names.now) interner.now.entries is_open
-        (trees_at interner.now.entries value.0) rest.now stack.old.items stack.new.items out.old.items out.new.items) }
+    requires rest { ArgsHeld interner.now.entries left.rest.now }
+    ensures { OnOk result (PrintsArg (N.names names.now) interner.now.entries left.entry.is_open
+        (trees_at interner.now.entries value.0) left.entry.rest.now stack.old.items stack.new.items out.old.items out.new.items) }
 {
+    let ArgsLeft { rest, is_open } = left;
     out.extend_from_slice(arg_sign(is_open))?;
     stack.push(Piece::Args {
         rest,
@@ -561,11 +573,18 @@ fn next_arg<'i, N: PrintNames>(
                 Ok(())
             }
             GenericArgKind::Ty(ty) => {
-                next_type_arg(interner, names, ty, rest, is_open, stack, out)?;
+                next_type_arg(interner, names, ty, ArgsLeft { rest, is_open }, stack, out)?;
                 Ok(())
             }
             GenericArgKind::Const(value) => {
-                next_const_arg(interner, names, value, rest, is_open, stack, out)?;
+                next_const_arg(
+                    interner,
+                    names,
+                    value,
+                    ArgsLeft { rest, is_open },
+                    stack,
+                    out,
+                )?;
                 Ok(())
             }
         },
