@@ -92,10 +92,9 @@ class Checks:
         if ended.status != answer.status:
             raise Wrong(f"status {ended.status} as JSON, where the answer has {answer.status}")
         told = read_lines(ended.output)
-        note = told.pop().rendered if told and not told[-1].answer else ""
-        if "".join(f"{one.answer}\n" for one in told).encode("ascii") != answer.output:
+        if "".join(f"{one.answer}\n" for one in told if one.answer).encode("ascii") != answer.output:
             raise Wrong("other lines than those of the answer")
-        if (text_of(told) + note).encode("ascii") != said:
+        if text_of(told).encode("ascii") != said:
             raise Wrong("as JSON something else is said than as text")
 
 

@@ -3,8 +3,8 @@
     tools/check explained_json FILE < OUTPUT      OUTPUT is that of --json, FILE what an example has as `explained`
 
 Each line is an object: one with `$message_type` and `answer` alone, or one with the keys of `rustc --error-format=json` and `answer`,
-each of its kind, in spans and children too. The answers with what is `rendered` behind each are the file. (The checks `examples` and
-`explained` read each output so.)
+each of its kind, in spans and children too. The answers with what is `rendered` behind each are the file: an empty answer is no line, and
+what has one is a further faulty line, or says that not all is explained. (The checks `examples` and `explained` read each output so.)
 """
 from __future__ import annotations
 
@@ -83,6 +83,12 @@ def read_parts(answer: str, parts: Any) -> None:
     need(line_of(answer, parts, subject) == answer, f"parts that are not those of {answer!r}", parts)
 
 
+def further_fault(parts: Any) -> str:
+    """The line that an answer would have for a further faulty line."""
+    has_keys(parts, {"answered": str, "line": int, "kind": str, "fault": int}, "the parts of a further faulty line")
+    return f"line {parts['line']}: fault {parts['fault']}"
+
+
 def count_rows(rows: Any) -> int:
     """How many rows a proof has. Each has its keys."""
     for row in rows:
@@ -130,6 +136,8 @@ def read_line(line: str) -> Told:
     read_proof(value)
     if value["answer"]:
         read_parts(value["answer"], value["parts"])
+    elif value["parts"]:
+        read_parts(further_fault(value["parts"]), value["parts"])
     need(value["$message_type"] == "diagnostic" and value["rendered"] is not None, "another type of message", value)
     return Told(value["answer"], value["rendered"], value)
 
@@ -139,7 +147,7 @@ def read_lines(output: bytes) -> list[Told]:
 
 
 def text_of(told: Sequence[Told]) -> str:
-    return "".join(f"{it.answer}\n{it.rendered}" for it in told)
+    return "".join(f"{it.answer}\n{it.rendered}" if it.answer else it.rendered for it in told)
 
 
 def add_words(reader: argparse.ArgumentParser) -> None:

@@ -482,10 +482,12 @@ def try_with_json(tally: Tally, room: Room) -> None:
     rows = [row for row in explained.output.splitlines() if not row.startswith(("crate", "prove"))]
     tally.expect("what is rendered", rendered.splitlines() == rows, rendered)
     ended = room.run("--explain --json --with fault.txt good.txt")
-    told = json.loads(ended.output)
+    told, further = map(json.loads, ended.output.splitlines())
     tally.expect("a fault in front as JSON", told["answer"] == "fault.txt: line 3: fault 2", ended)
     parts = {"answered": "line", "line": 3, "file": "fault.txt", "kind": "fault", "fault": 2}
     tally.expect("the parts of a fault in front", told["parts"] == parts, ended)
+    parts = {"answered": "line", "line": 1, "kind": "fault", "fault": 4}
+    tally.expect("a further fault behind", further["answer"] == "" and further["parts"] == parts and further["spans"][0]["line_start"] == 1, ended)
 
 
 def try_proof(tally: Tally, room: Room) -> None:

@@ -3,6 +3,7 @@
 Each row of tools/checks/slips.txt is a text with what is to be marked and said. So is each line of the examples that the grammar has, with
 a sign behind it that no line has: this sign is marked, and nothing before it. And so is a token of such a line that was left out, doubled or
 exchanged: where that is fault 2, a token is marked, with what is expected there. The heading that a fault ends with stands in docs/FORMAT.md.
+Of the texts in SEVERAL these lines are explained, each with its fault, and no other.
 
     tools/check slips                       the rows, the lines of the examples, and 400 changed ones
     tools/check slips --changed 5000 --seed 2
@@ -20,6 +21,17 @@ from .explained_json import read_lines
 
 TOKEN = re.compile(rb"['?]?\w+|->|\S")
 BASE = b"crate base\ntrait Show\ntrait Num\nauto trait Send\nstruct V<T>(T)\nstruct A\n"
+# Texts, and each line that is explained with its fault: none that is faulty only because a faulty line above it declared nothing.
+SEVERAL: list[tuple[bytes, list[tuple[int, int]]]] = [
+    (BASE + b"pub struct W\nimpl Show for W\nimpl Show for X\nimpl Num for X;", [(7, 2), (9, 5), (10, 2)]),
+    (BASE + b"struct B(C)\nstruct D(B)\nstruct E(D)\nstruct A\nimpl<T> Num for u8", [(7, 5), (10, 4), (11, 8)]),
+    (BASE + b"struct V\nimpl Show for V\nimpl Show for Show", [(7, 4), (9, 7)]),
+    (b"crate a uses z\nstruct A\nimpl Nope for A\nimpl A\ncrate b\nimpl Nope for u8\nimpl Clone for Nay\nrefute in a u8: Clone",
+     [(1, 5), (4, 2), (7, 5)]),
+    (b"crat a\nstruct A\ncrate b\nstruct B\nimpl Clone for A\nimpl Sized for B", [(1, 2), (6, 12)]),
+    (b"trait A\ntrait B\ncrate c\nimpl A for u8\nimpl C for u8", [(1, 3), (5, 5)]),
+    (b"crate c\n" + b"struct;\n" * 200, [(number, 2) for number in range(2, 103)]),
+]
 RULE = re.compile(r"the rule: docs/FORMAT\.md, `([^`]*(?:`[^`]*`)?[^`]*)`$")
 
 
@@ -67,7 +79,7 @@ class Checks:
 
     def fault_of(self, text: bytes) -> Fault:
         """The fault of a text. Its last words are the heading that has the rule, which is there."""
-        (told,) = self.told(text)
+        told, *_ = self.told(text)
         if not told.answer.startswith("line "):
             raise Wrong(f"no fault: {told.answer}")
         _, line, _, number = re.split(r": | ", told.answer)
@@ -88,6 +100,12 @@ class Checks:
         for part in row.said:
             if not any(part in it for it in [*fault.labels, *fault.helps]):
                 raise Wrong(f"{part!r} is not said: {fault}")
+
+    def hold_several(self, text: bytes, wanted: list[tuple[int, int]]) -> None:
+        """These lines of a text are explained, and no other."""
+        found = [(it.message["parts"]["line"], it.message["parts"]["fault"]) for it in self.told(text)]
+        if found != wanted:
+            raise Wrong(f"{found} are explained, and not {wanted}")
 
     def hold_sign(self, line: bytes) -> None:
         """A line that the grammar has goes on to a sign that no line has."""
@@ -127,6 +145,8 @@ def check(tally: Tally, given: argparse.Namespace) -> None:
     checks = Checks()
     for row in rows():
         tally.hold(f"slip {row.text.splitlines()[-1]!r}", partial(checks.hold, row))
+    for text, wanted in SEVERAL:
+        tally.hold(f"faulty lines of {text[:200]!r}", partial(checks.hold_several, text, wanted))
     unwritten = [it.text for it in examples() if it.expected().endswith(b": fault 2\n")]
     good = [it for it in lines_of_examples() if not any(it in text for text in unwritten)]
     for line in good:

@@ -18,10 +18,10 @@ use crate::spending::Spending;
 use explain_texts::explain_diagnostics::{Diagnostic, SourceFile};
 use explain_texts::explain_sessions::impl_header;
 use explain_texts::sessions::{Limits, SeenView, Session, Verdict};
-use explain_texts::text_parser::{TextError, parse};
+use explain_texts::text_parser::{TextError, TextFault, parse};
 use explain_texts::type_terms::{CrateId, Fault, ImplId};
 use explain_texts::workspace::{ENTRY_LIMIT, Workspace};
-use explain_texts::{Texts, fault_diagnostic, item_lines, orphan};
+use explain_texts::{FurtherFault, Texts, fault_diagnostic, further_faults, item_lines, orphan};
 use std::alloc::{AllocError, Global};
 
 /// Room for this many diagnostics, with none in it.
@@ -249,6 +249,37 @@ fn explain_text(
     explain_crates(texts, limits, found)
 }
 
+/// What is found of a text.
+pub struct Explained {
+    /// The explanation of each line of the output, by index.
+    pub lines: Vec<Option<Diagnostic>>,
+    /// The faulty lines after the one that the output names.
+    pub further: Vec<FurtherFault>,
+}
+
+// Hand-written so that the prover sees one drop call: docs/PROVING.md#drop.
+impl Drop for Explained {
+    fn drop(self) {
+        let Explained {
+            lines: _,
+            further: _,
+        } = self;
+    }
+}
+
+/// Explains the faulty lines of a text.
+fn explain_faults(
+    alloc: Global,
+    file: &SourceFile<'_>,
+    text: &[u8],
+    first: TextFault,
+    found: &mut Explained,
+) -> Result<(), AllocError> {
+    let told = fault_diagnostic(alloc, text, file, first)?;
+    found.lines.push(Some(told))?;
+    further_faults(alloc, text, file, first, &mut found.further)
+}
+
 /// Finds the explanation of each line of a text's output: for each crate but `core`, then for each `later` and `supers` line, then for each
 /// query, in their order. A text with a fault has one line. A line without an explanation has `None`.
 ///
@@ -259,15 +290,11 @@ pub fn explain(
     file: &SourceFile<'_>,
     text: &[u8],
     limits: Limits,
-    found: &mut Vec<Option<Diagnostic>>,
+    found: &mut Explained,
 ) -> Result<(), Fault> {
     match parse(alloc, text) {
         Err(TextError::Memory) => Err(Fault::Memory),
-        Err(TextError::Text(fault)) => {
-            let told = fault_diagnostic(alloc, text, file, fault)?;
-            found.push(Some(told))?;
-            Ok(())
-        }
-        Ok(workspace) => explain_text(alloc, file, &workspace, limits, found),
+        Err(TextError::Text(fault)) => Ok(explain_faults(alloc, file, text, fault, found)?),
+        Ok(workspace) => explain_text(alloc, file, &workspace, limits, &mut found.lines),
     }
 }

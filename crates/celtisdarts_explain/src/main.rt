@@ -27,12 +27,12 @@ mod spending;
 mod supertraits;
 mod words;
 
-use crate::explaining::explain;
+use crate::explaining::{Explained, explain};
 use crate::input::read_text;
 use crate::printed::{Explanations, Lack, Shown, Told, write_told};
 use crate::words::{ColorConfig, Options, read_words};
 use coherence::{Limits, RunFault, Status, run};
-use explain_texts::explain_diagnostics::{Diagnostic, SourceFile};
+use explain_texts::explain_diagnostics::SourceFile;
 use explain_texts::type_terms::Fault;
 use std::alloc::{AllocError, Global};
 use std::fs::File;
@@ -125,14 +125,17 @@ fn lack_of(ended: Result<(), Fault>) -> Option<Lack> {
     }
 }
 
-/// The explanation of each line of the output, by index, and what was missing if they are not complete.
+/// What is found of a text, and what was missing if it is not complete.
 fn explanations_of(
     alloc: Global,
     file: Option<&SourceFile<'_>>,
     text: &[u8],
     limits: Limits,
-) -> (Vec<Option<Diagnostic>>, Option<Lack>) {
-    let mut found = Vec::new(alloc);
+) -> (Explained, Option<Lack>) {
+    let mut found = Explained {
+        lines: Vec::new(alloc),
+        further: Vec::new(alloc),
+    };
     let lack = match file {
         None => Some(Lack::Memory),
         Some(file) => lack_of(explain(alloc, file, text, limits, &mut found)),
@@ -159,7 +162,8 @@ fn tell(
     let (found, lack) = explanations_of(alloc, file.as_ref(), text, limits);
     let explanations = Explanations {
         file: file.as_ref(),
-        found: &found,
+        found: &found.lines,
+        further: &found.further,
         lack,
     };
     write_told(alloc, &mut writer, shown, lines, explanations)

@@ -3,7 +3,8 @@
 ghost use Rattle.std.specs.Prelude.{◌≤◌};
 
 use crate::lines::{is_best, split_line};
-use explain_texts::explain_diagnostics::{Diagnostic, SourceFile, json_line, render};
+use explain_texts::FurtherFault;
+use explain_texts::explain_diagnostics::{Diagnostic, SourceFile, json_fault, json_line, render};
 use std::alloc::{AllocError, Global};
 use std::io;
 use std::io::Write;
@@ -141,6 +142,38 @@ fn write_answers<W: Write>(
     Ok(told)
 }
 
+/// What is said of a faulty line that is no line of the output.
+fn further_explanation(
+    alloc: Global,
+    shown: Shown,
+    file: &SourceFile<'_>,
+    fault: &FurtherFault,
+) -> Result<String, AllocError> {
+    if shown.is_json {
+        json_fault(alloc, fault.answer.as_str(), file, &fault.told)
+    } else {
+        render(alloc, file, &fault.told, shown.has_colors)
+    }
+}
+
+/// Writes what is said of faulty lines that are no lines of the output. Returns whether memory was refused for one: then none after it is
+/// written.
+fn write_further<W: Write>(
+    alloc: Global,
+    writer: &mut W,
+    shown: Shown,
+    file: &SourceFile<'_>,
+    further: &[FurtherFault],
+) -> io::Result<bool> {
+    for fault in further {
+        match further_explanation(alloc, shown, file, fault) {
+            Err(_) => return Ok(true),
+            Ok(text) => write_parts(writer, &[text.as_bytes(), b"\n"])?,
+        }
+    }
+    Ok(false)
+}
+
 /// The explanations of a text.
 #[derive(Clone, Copy)]
 pub struct Explanations<'f> {
@@ -148,12 +181,14 @@ pub struct Explanations<'f> {
     pub file: Option<&'f SourceFile<'f>>,
     /// What was found for each line of the output.
     pub found: &'f [Option<Diagnostic>],
+    /// The faulty lines after the one that the output names.
+    pub further: &'f [FurtherFault],
     /// Why they ended before the last line, if they did.
     pub lack: Option<Lack>,
 }
 
-/// Writes the lines of the output, each with its explanation. If explanations are missing, it adds why: memory was refused for one, or the
-/// reason for which they ended.
+/// Writes the lines of the output, each with its explanation, and after the line of a fault what is said of further faulty lines. If
+/// explanations are missing, it adds why: memory was refused for one, or the reason for which they ended.
 pub fn write_told<W: Write>(
     alloc: Global,
     writer: &mut W,
@@ -161,9 +196,18 @@ pub fn write_told<W: Write>(
     lines: &[u8],
     explanations: Explanations<'_>,
 ) -> io::Result<Told> {
-    let Explanations { file, found, lack } = explanations;
+    let Explanations {
+        file,
+        found,
+        further,
+        lack,
+    } = explanations;
     let told = write_answers(alloc, writer, shown, file, lines, found)?;
-    let lack = if told.is_cut {
+    let is_cut = match file {
+        Some(file) if !lines.is_empty() => write_further(alloc, writer, shown, file, further)?,
+        _ => false,
+    };
+    let lack = if told.is_cut || is_cut {
         Some(Lack::Memory)
     } else {
         lack

@@ -388,14 +388,11 @@ fn answer_value(alloc: Global, answer: &str) -> Result<Value, AllocError> {
     Ok(Value::Object(object))
 }
 
-/// A line of the answer as a line of JSON without its end, with its diagnostic if it has one: then with the keys that rustc writes.
-///
-/// `answer` is the line, and `parts` what it says. `rendered` is the text for people, without colours, with an empty line behind it. A proof
-/// is the first child, with its rows whole, and `proof` its trees. Of a span's line at most 1,000 bytes are there, and what is marked lies in
-/// these.
-pub fn json_line(
+/// An object with this `answer`, with the parts of `line`, and with the diagnostic if there is one.
+fn object_text(
     alloc: Global,
     answer: &str,
+    line: &str,
     told: Option<(&SourceFile<'_>, &Diagnostic)>,
 ) -> Result<String, AllocError> {
     let mut object = Map::new(alloc);
@@ -406,10 +403,33 @@ pub fn json_line(
     };
     put_text(alloc, &mut object, "$message_type", kind)?;
     put_text(alloc, &mut object, "answer", answer)?;
-    let parts = answer_value(alloc, answer)?;
+    let parts = answer_value(alloc, line)?;
     put(&mut object, alloc, "parts", parts)?;
     if let Some((file, diagnostic)) = told {
-        put_diagnostic(alloc, &mut object, file, answer, diagnostic)?;
+        put_diagnostic(alloc, &mut object, file, line, diagnostic)?;
     }
     Value::Object(object).to_string(alloc)
+}
+
+/// A line of the answer as a line of JSON without its end, with its diagnostic if it has one: then with the keys that rustc writes.
+///
+/// `answer` is the line, and `parts` what it says. `rendered` is the text for people, without colours, with an empty line behind it. A proof
+/// is the first child, with its rows whole, and `proof` its trees. Of a span's line at most 1,000 bytes are there, and what is marked lies in
+/// these.
+pub fn json_line(
+    alloc: Global,
+    answer: &str,
+    told: Option<(&SourceFile<'_>, &Diagnostic)>,
+) -> Result<String, AllocError> {
+    object_text(alloc, answer, answer, told)
+}
+
+/// The same of a fault that is no line of the answer: `answer` is empty, and `parts` is what `fault` says.
+pub fn json_fault(
+    alloc: Global,
+    fault: &str,
+    file: &SourceFile<'_>,
+    diagnostic: &Diagnostic,
+) -> Result<String, AllocError> {
+    object_text(alloc, "", fault, Some((file, diagnostic)))
 }

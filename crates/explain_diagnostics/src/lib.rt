@@ -24,7 +24,7 @@ mod writer;
 
 pub use cut::{LIST_LIMIT, TYPE_LIMIT, cut_text};
 pub use diagnostic::{Diagnostic, ErrCode, Level, ProofRow, SpanLabel, Subdiagnostic};
-pub use json::json_line;
+pub use json::{json_fault, json_line};
 pub use parts::{LineParts, parts_of_impl, parts_of_question};
 pub use rendering::render;
 pub use source::SourceFile;

@@ -4,9 +4,10 @@ use crate::offending::tell_offence;
 use crate::sentences::{Piece, plain, with_one};
 use crate::telling::Telling;
 use explain_diagnostics::{Diagnostic, ErrCode, Level, SourceFile};
+use explain_sessions::workspace::Workspace;
 use std::alloc::{AllocError, Global};
-use text_parser::TextFault;
 use text_parser::text_names::FaultKind;
+use text_parser::{TEXT_LIMIT, TextError, TextFault, parse};
 
 /// The message for a fault.
 fn message(kind: FaultKind) -> &'static str {
@@ -69,6 +70,45 @@ fn heading(kind: FaultKind) -> &'static str {
     }
 }
 
+/// What the lines above a faulty line give, for the faults that are read by it. Fails only if memory is refused.
+pub(crate) fn lines_above(
+    alloc: Global,
+    text: &[u8],
+    file: &SourceFile<'_>,
+    fault: TextFault,
+) -> Result<Option<Workspace>, AllocError> {
+    match fault.kind {
+        FaultKind::OtherByte | FaultKind::Syntax | FaultKind::Misplaced => return Ok(None),
+        FaultKind::Limit if text.len() > TEXT_LIMIT => return Ok(None),
+        _ => {}
+    }
+    let end = file.line_start(fault.line).min(text.len());
+    match parse(alloc, &text[..end]) {
+        Ok(workspace) => Ok(Some(workspace)),
+        Err(TextError::Text(_)) => Ok(None),
+        Err(TextError::Memory) => Err(AllocError),
+    }
+}
+
+/// The diagnostic for a fault. `above` is what the lines above it give.
+pub(crate) fn tell_fault(
+    alloc: Global,
+    text: &[u8],
+    file: &SourceFile<'_>,
+    fault: TextFault,
+    above: Option<&Workspace>,
+) -> Result<Diagnostic, AllocError> {
+    let message = plain(message(fault.kind));
+    let mut telling = Telling::begin(alloc, Level::Error, code(fault.kind), message);
+    tell_offence(text, file, fault, above, &mut telling);
+    if let Some(advice) = advice(fault.kind) {
+        telling.help(plain(advice));
+    }
+    let heading = Piece::Text(heading(fault.kind));
+    telling.help(with_one("the rule: docs/FORMAT.md, `{}`", heading));
+    telling.finish()
+}
+
 /// The diagnostic for a text with a fault.
 pub fn fault_diagnostic(
     alloc: Global,
@@ -76,13 +116,6 @@ pub fn fault_diagnostic(
     file: &SourceFile<'_>,
     fault: TextFault,
 ) -> Result<Diagnostic, AllocError> {
-    let message = plain(message(fault.kind));
-    let mut telling = Telling::begin(alloc, Level::Error, code(fault.kind), message);
-    tell_offence(text, file, fault, &mut telling);
-    if let Some(advice) = advice(fault.kind) {
-        telling.help(plain(advice));
-    }
-    let heading = Piece::Text(heading(fault.kind));
-    telling.help(with_one("the rule: docs/FORMAT.md, `{}`", heading));
-    telling.finish()
+    let above = lines_above(alloc, text, file, fault)?;
+    tell_fault(alloc, text, file, fault, above.as_ref())
 }

@@ -9,6 +9,7 @@
 mod doubts;
 mod failures;
 mod faults;
+mod further;
 mod grammar;
 mod hints;
 mod items;
@@ -33,6 +34,7 @@ mod words;
 pub use doubts::unsettled;
 pub use failures::{Asking, unproved};
 pub use faults::fault_diagnostic;
+pub use further::{FurtherFault, further_faults};
 pub use items::{Name, Texts, crate_name, impl_line, impl_piece, is_fundamental, trait_name};
 pub use lines::{ImplLine, ItemLines, item_lines};
 pub use open_questions::left_open;

@@ -15,7 +15,7 @@ use explain_sessions::type_terms::CrateId;
 use explain_sessions::workspace::{Known, Workspace};
 use std::alloc::{AllocError, Global};
 use text_parser::text_names::FaultKind;
-use text_parser::{LineForm, TEXT_LIMIT, TextFault, line_form, parse};
+use text_parser::{LineForm, TEXT_LIMIT, TextFault, line_form};
 
 /// What a line says, if the grammar has it.
 pub(crate) fn reading(alloc: Global, line: &[u8]) -> Result<Option<LineRead<'_>>, AllocError> {
@@ -562,40 +562,39 @@ fn tell_part(
     }
 }
 
-/// Tells of the part of a line that a fault is about, by the grammar and by the lines above it, and whether it is found.
+/// Tells of the part of a line that a fault is about, by the grammar and by what the lines above it give, and whether it is found.
 fn tell_written(
-    text: &[u8],
     file: &SourceFile<'_>,
     fault: TextFault,
+    above: Option<&Workspace>,
     telling: &mut Telling,
 ) -> bool {
-    let alloc = telling.alloc();
-    let read = read_words(alloc, file.line(fault.line));
+    let read = read_words(telling.alloc(), file.line(fault.line));
     let Some(read) = telling.granted(read) else {
         return false;
     };
     if fault.kind == FaultKind::Syntax {
         return tell_unwritten(fault.line, &read, telling);
     }
-    let end = file.line_start(fault.line).min(text.len());
-    match parse(alloc, &text[..end]) {
-        Err(_) => false,
-        Ok(workspace) => tell_part(file, fault, &read.words, &workspace, telling),
+    match above {
+        None => false,
+        Some(workspace) => tell_part(file, fault, &read.words, workspace, telling),
     }
 }
 
-/// Marks what a fault is about, and tells what follows; where it is not found, marks the whole line.
+/// Marks what a fault is about, and tells what follows; where it is not found, marks the whole line. `above` is what the lines above give.
 pub(crate) fn tell_offence(
     text: &[u8],
     file: &SourceFile<'_>,
     fault: TextFault,
+    above: Option<&Workspace>,
     telling: &mut Telling,
 ) {
     let is_found = match fault.kind {
         FaultKind::OtherByte => tell_other_byte(fault.line, file.line(fault.line), telling),
         FaultKind::Misplaced => tell_misplaced(file, fault.line, telling),
         FaultKind::Limit if text.len() > TEXT_LIMIT => tell_long_text(file, fault.line, telling),
-        _ => tell_written(text, file, fault, telling),
+        _ => tell_written(file, fault, above, telling),
     };
     if !is_found {
         let whole = whole_line(file.line(fault.line));
