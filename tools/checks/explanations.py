@@ -19,9 +19,7 @@ from .common import TOP, Tally, Wrong, difference, program, run
 
 FOLDER = TOP / "texts/explained"
 DEPTH = "8"
-WAITING: dict[str, str] = {
-    "all_conflicts_of_a_crate": "the pairs behind the first are not told",
-}
+WAITING: dict[str, str] = {}
 
 
 def hold(explaining: str, name: str) -> None:

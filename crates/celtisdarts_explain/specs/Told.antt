@@ -3,6 +3,7 @@ use Rattle.std.specs.Prelude.{◌≡◌, ℕ, true}
 use Rattle.explain_texts.specs.TypeTerms.declared.ImplId.{ImplId}
 use Rattle.explain_texts.specs.TextLanguage.Promised.Declarations.{Question}
 use Rattle.explain_texts.specs.ProofChecker.Steps.{term_of}
+use Rattle.explain_texts.specs.Sessions.Checking.{HasJudged}
 use Rattle.explain_texts.specs.Sessions.Promised.Promises.{view_in}
 use Rattle.explain_texts.specs.Sessions.Shown.{AreProofOfQuestion}
 use Rattle.explain_texts.specs.Sessions.Promised.Subjects.{Subject, AsksProof}
@@ -17,3 +18,7 @@ ShowsProofOf s n p = (q : Question) × AsksProof s.declarations s.of_crate n q �
 -- If the common instance of two impls is displayed as checked, both of them conclude it.
 abbrev pub ShowsCommonOf : Subject → ImplId → ImplId → PairWalk → Type 0
 ShowsCommonOf s i j p = p.is_checked ≡ true → HasRulesByBoth (view_in s.declarations s.of_crate) (term_of s.terms p.common) i.index j.index
+
+-- Two impls overlap, as the verdict of the crate says it of a pair.
+abbrev pub ShowsOverlap : Subject → ImplId → ImplId → Type 0
+ShowsOverlap s i j = HasJudged s i.index j.index true

@@ -9,6 +9,7 @@ ghost use Rattle.explain_texts.specs.Sessions.Promised.Subjects.{IsOfText, Stays
 ghost use Rattle.explain_texts.specs.Workspace.Numbered.{IsFew};
 
 use crate::checks::explain_checked;
+use crate::conflicts::Pair;
 use crate::overlaps::overlap;
 use crate::places::{
     check_at, check_count, crate_at, crate_count, is_asked, question_at, question_count,
@@ -55,6 +56,7 @@ fn explain_verdict(
     texts: Texts<'_>,
     session: &mut Session<'_>,
     id: CrateId,
+    spending: &mut Spending,
 ) -> Result<Option<Diagnostic>, Fault>
     ensures { StaysOn session.old session.new }
 {
@@ -65,7 +67,9 @@ fn explain_verdict(
             let told = orphan(alloc, texts, session, id, number, &error)?;
             Ok(told)
         }
-        Verdict::Overlap(later, earlier) => overlap(alloc, texts, session, later, earlier),
+        Verdict::Overlap(later, earlier) => {
+            overlap(alloc, texts, session, Pair { later, earlier }, spending)
+        }
     }
 }
 
@@ -179,7 +183,7 @@ fn explain_lines(
     ensures { StaysOn session.old session.new }
 {
     if let Some(line) = (id.index as usize).checked_sub(1) {
-        let told = explain_verdict(alloc, texts, session, id)?;
+        let told = explain_verdict(alloc, texts, session, id, spending)?;
         put(found, line, told);
     }
     explain_below(alloc, texts, session, id, spending, found)

@@ -15,6 +15,7 @@ ghost use Rattle.celtisdarts_explain.specs.ExitStatus.{exit_status};
 
 mod breaking;
 mod checks;
+mod conflicts;
 mod explaining;
 mod input;
 mod lines;

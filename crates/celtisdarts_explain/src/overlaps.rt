@@ -6,7 +6,9 @@ ghost use Rattle.explain_texts.specs.Sessions.Promised.Subjects.{StaysOn};
 ghost use Rattle.explain_texts.specs.ExplainSessions.Claims.{ClaimsHold};
 ghost use Rattle.explain_texts.specs.ExplainSessions.Walked.{PairWalkHeld};
 
+use crate::conflicts::{NOT_CHECKED, Pair, pair_said, tell_later_pairs};
 use crate::explaining::seen_impls;
+use crate::spending::Spending;
 use explain_texts::explain_diagnostics::{Diagnostic, ErrCode, Level, Span};
 use explain_texts::explain_sessions::{
     Claims, PairWalk, explain_overlap, impl_header, pair_claims,
@@ -15,8 +17,8 @@ use explain_texts::sessions::Session;
 use explain_texts::text_printer::ShownNames;
 use explain_texts::type_terms::{Fault, ImplId};
 use explain_texts::{
-    Asking, Piece, Sentence, Spoken, Story, Telling, Texts, impl_line, plain, speak, tell,
-    tell_clause, with_four, with_one, with_three, with_two,
+    Asking, Sentence, Spoken, Story, Telling, Texts, impl_line, plain, speak, tell, tell_clause,
+    with_one,
 };
 use std::alloc::{AllocError, Global};
 
@@ -32,8 +34,7 @@ struct Clause {
 
 /// Two impls that overlap, rendered.
 struct Conflicting<'w> {
-    later: ImplId,
-    earlier: ImplId,
+    impls: Pair,
     common: Spoken,
     /// Whether it was checked that both impls conclude the common instance.
     is_checked: bool,
@@ -51,8 +52,7 @@ struct Conflicting<'w> {
 impl Drop for Conflicting<'_> {
     fn drop(self) {
         let Conflicting {
-            later: _,
-            earlier: _,
+            impls: _,
             common: _,
             is_checked: _,
             story: _,
@@ -77,15 +77,10 @@ fn push_clauses(id: ImplId, places: &[usize], clauses: &mut Vec<Clause>) -> Resu
 }
 
 /// The where-clauses of both impls.
-fn clauses_of(
-    alloc: Global,
-    pair: &PairWalk,
-    later: ImplId,
-    earlier: ImplId,
-) -> Result<Vec<Clause>, AllocError> {
+fn clauses_of(alloc: Global, pair: &PairWalk, impls: Pair) -> Result<Vec<Clause>, AllocError> {
     let mut clauses = Vec::new(alloc);
-    push_clauses(later, &pair.left, &mut clauses)?;
-    push_clauses(earlier, &pair.right, &mut clauses)?;
+    push_clauses(impls.later, &pair.left, &mut clauses)?;
+    push_clauses(impls.earlier, &pair.right, &mut clauses)?;
     Ok(clauses)
 }
 
@@ -115,13 +110,12 @@ fn speak_header(
 fn tell_pair<'w>(
     texts: Texts<'w>,
     session: &Session<'_>,
-    later: ImplId,
-    earlier: ImplId,
+    impls: Pair,
     pair: &'w PairWalk,
     claims: &'w Claims,
 ) -> Result<Conflicting<'w>, AllocError>
     requires walked { PairWalkHeld session.now.terms pair.now }
-    requires common { ShowsCommonOf session.now later earlier pair.now }
+    requires common { ShowsCommonOf session.now impls.later impls.earlier pair.now }
     requires claims { ClaimsHold session.now pair.now.walk claims.now }
 {
     let alloc = session.cx.alloc;
@@ -130,13 +124,12 @@ fn tell_pair<'w>(
         params: &[],
         variables: &[],
     };
-    let clauses = clauses_of(alloc, pair, later, earlier)?;
-    let header = speak_header(alloc, texts, session, earlier)?;
+    let clauses = clauses_of(alloc, pair, impls)?;
+    let header = speak_header(alloc, texts, session, impls.earlier)?;
     let common = speak(alloc, session.interner(), &names, pair.common)?;
     let story = tell(alloc, texts, session, &names, &pair.walk, claims)?;
     Ok(Conflicting {
-        later,
-        earlier,
+        impls,
         common,
         is_checked: pair.is_checked,
         story,
@@ -192,11 +185,11 @@ fn core_said<'s>(found: &'s Conflicting<'_>) -> Sentence<'s> {
 /// Marks both headers, and adds a note for the earlier one if it has no line.
 fn tell_headers(found: &Conflicting<'_>, telling: &mut Telling) {
     let texts = found.story.texts;
-    let earlier = impl_line(texts, found.earlier);
+    let earlier = impl_line(texts, found.impls.earlier);
     if let Some(line) = earlier {
         telling.mark_beside(line.header(), plain("first implementation here"));
     }
-    if let Some(line) = impl_line(texts, found.later) {
+    if let Some(line) = impl_line(texts, found.impls.later) {
         let subject = found.common.subject_piece();
         telling.mark(
             line.header(),
@@ -208,65 +201,37 @@ fn tell_headers(found: &Conflicting<'_>, telling: &mut Telling) {
     }
 }
 
-/// The message, with the lines of the impls: an impl of `core` has none.
-fn message_of<'s>(found: &'s Conflicting<'_>) -> Sentence<'s> {
-    let bound = found.common.bound_piece();
-    let subject = found.common.subject_piece();
-    let later = impl_line(found.story.texts, found.later);
-    let earlier = impl_line(found.story.texts, found.earlier);
-    match (later, earlier) {
-        (Some(later), Some(earlier)) => with_four(
-            "conflicting implementations of trait `{}` for type `{}`: lines {} and {}",
-            [
-                bound,
-                subject,
-                Piece::Number(earlier.line as usize),
-                Piece::Number(later.line as usize),
-            ],
-        ),
-        (Some(later), None) => with_three(
-            "conflicting implementations of trait `{}` for type `{}`: line {}",
-            bound,
-            subject,
-            Piece::Number(later.line as usize),
-        ),
-        _ => with_two(
-            "conflicting implementations of trait `{}` for type `{}`",
-            bound,
-            subject,
-        ),
-    }
-}
-
-/// The diagnostic for the overlap.
-fn diagnose(alloc: Global, found: &Conflicting<'_>) -> Result<Diagnostic, AllocError> {
-    let message = message_of(found);
+/// The diagnostic for the overlap, which others may follow.
+fn diagnose(alloc: Global, found: &Conflicting<'_>) -> Result<Telling, AllocError> {
+    let message = pair_said(found.story.texts, found.impls, &found.common, true);
     let mut telling = Telling::begin(alloc, Level::Error, Some(ErrCode::E0119), message);
     tell_headers(found, &mut telling);
     if !found.is_checked {
-        telling.note(plain("that both headers have this instance is not checked"));
+        telling.note(plain(NOT_CHECKED));
     }
     for clause in &found.clauses {
         tell_one(found, *clause, &mut telling)?;
     }
-    telling.finish()
+    Ok(telling)
 }
 
-/// The diagnostic for two impls that overlap. The session stays as it was, after a fault too.
+/// The diagnostic for two impls that overlap, with the later pairs of the crate. The session stays as it was, after a fault too.
 pub(crate) fn overlap(
     alloc: Global,
     texts: Texts<'_>,
     session: &mut Session<'_>,
-    later: ImplId,
-    earlier: ImplId,
+    impls: Pair,
+    spending: &mut Spending,
 ) -> Result<Option<Diagnostic>, Fault>
     ensures { StaysOn session.old session.new }
 {
-    let Some(pair) = explain_overlap(session, later, earlier)? else {
+    let Some(pair) = explain_overlap(session, impls.later, impls.earlier)? else {
         return Ok(None);
     };
     let claims = pair_claims(session, &pair)?;
-    let found = tell_pair(texts, session, later, earlier, &pair, &claims)?;
-    let told = diagnose(alloc, &found)?;
+    let found = tell_pair(texts, session, impls, &pair, &claims)?;
+    let mut telling = diagnose(alloc, &found)?;
+    tell_later_pairs(texts, session, impls, spending, &mut telling)?;
+    let told = telling.finish()?;
     Ok(Some(told))
 }

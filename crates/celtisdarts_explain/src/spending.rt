@@ -41,7 +41,7 @@ impl Spending {
     }
 
     /// Whether explanations took as much as they may: twice what the answers took, and what is free.
-    fn is_over(&self) -> bool
+    pub(crate) fn is_over(&self) -> bool
         ensures { result ≡ false → self.now.explaining ≤ self.now.answering + self.now.answering + FREE }
     {
         let twice = self.answering.saturating_add(self.answering);

@@ -15,8 +15,8 @@ tell_pair-requires-clause-common c = λ t.
     let last = c.pair_claims.new.session in
     let p = c.in-Some.pair in
     let held = subst (λ o. IfSome o (PairWalkHeld second.terms)) c.in-Some.is c.in_ok-pair.ensures.held in
-    let rules = subst (λ o. IfSome o (λ x. x.is_checked ≡ true → HasRulesByBoth (view_in first.declarations first.of_crate) (term_of second.terms x.common) c.args.later.index c.args.earlier.index)) c.in-Some.is c.in_ok-pair.ensures.rules in
-    let here = subst (λ V. HasRulesByBoth V (term_of second.terms p.common) c.args.later.index c.args.earlier.index)
+    let rules = subst (λ o. IfSome o (λ x. x.is_checked ≡ true → HasRulesByBoth (view_in first.declarations first.of_crate) (term_of second.terms x.common) c.args.impls.later.index c.args.impls.earlier.index)) c.in-Some.is c.in_ok-pair.ensures.rules in
+    let here = subst (λ V. HasRulesByBoth V (term_of second.terms p.common) c.args.impls.later.index c.args.impls.earlier.index)
     (same-view first second c.explain_overlap.ensures.stays ∙ same-view second last c.pair_claims.ensures.stays) (rules t) in
-    subst (λ r. HasRulesByBoth (view_in last.declarations last.of_crate) r c.args.later.index c.args.earlier.index)
+    subst (λ r. HasRulesByBoth (view_in last.declarations last.of_crate) r c.args.impls.later.index c.args.impls.earlier.index)
     (sym (term-same second.terms last.terms c.pair_claims.ensures.stays.terms p.common held.common)) here
