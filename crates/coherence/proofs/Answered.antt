@@ -6,7 +6,7 @@ use Rattle.std.proofs.lemmas.Option.{same_Some}
 use Rattle.sessions.specs.TypeTerms.Promised.Trees.{erase}
 use Rattle.sessions.specs.TextLanguage.Promised.Declarations.{Declarations, NamedCrate, Question}
 use Rattle.sessions.specs.TextLanguage.Names.{answer_values}
-use Rattle.sessions.specs.TextLanguage.Output.{Answer, yes, output_text}
+use Rattle.sessions.specs.TextLanguage.Output.{Answer, ValueText, output_text}
 use Rattle.sessions.specs.TypeTerms.Promised.Handles.{arg_trees}
 use Rattle.sessions.specs.TypeTerms.Promised.Handles.{Entry}
 use Rattle.sessions.specs.TypeTerms.declared.kinds.GenericArgKind.{GenericArgKind}
@@ -29,12 +29,12 @@ pub refuted-of : (s : Subject) (d : Declarations) (n : ℕ) (a : answers.RefuteA
     → (q : Question) → AsksRefutation d s.of_crate n q → IsRefutation s.depth d q a
 refuted-of s d n a e h q x = subst (λ (y : Declarations). AsksRefutation y s.of_crate n q → IsRefutation s.depth y q a) e (h q) x
 
--- the line of values, in the terms of another list and by another slice
-pub yes-line : (d : Declarations) (n : ℕ) (q : Question) (es fs : List Entry) (vs ws : List GenericArgKind) (text : List ℕ) → es ≡ fs → vs ≡ ws
-    → text ≡ output_text (yes n (answer_values d q (map (λ v. erase (arg_trees es v)) vs))) → text ≡ output_text (yes n (answer_values d q (map (λ v. erase (arg_trees fs v)) ws)))
-yes-line d n q es fs vs ws text e f h =
-    subst (λ (zs : List GenericArgKind). text ≡ output_text (yes n (answer_values d q (map (λ v. erase (arg_trees fs v)) zs)))) f
-    (subst (λ (gs : List Entry). text ≡ output_text (yes n (answer_values d q (map (λ v. erase (arg_trees gs v)) vs)))) e h)
+-- named values, in the terms of another list and by another slice
+pub named-values : (d : Declarations) (q : Question) (es fs : List Entry) (vs ws : List GenericArgKind) (values : List ValueText) → es ≡ fs → vs ≡ ws
+    → values ≡ answer_values d q (map (λ v. erase (arg_trees es v)) vs) → values ≡ answer_values d q (map (λ v. erase (arg_trees fs v)) ws)
+named-values d q es fs vs ws values e f h =
+    subst (λ (zs : List GenericArgKind). values ≡ answer_values d q (map (λ v. erase (arg_trees fs v)) zs)) f
+    (subst (λ (gs : List Entry). values ≡ answer_values d q (map (λ v. erase (arg_trees gs v)) vs)) e h)
 
 -- ---- what is checked
 pub section-of : (s : Subject) (d : Declarations) (c k : ℕ) → s.declarations ≡ d → s.of_crate ≡ c → IsSectionOf d c k → IsSectionOf s.declarations s.of_crate k

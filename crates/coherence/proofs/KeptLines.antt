@@ -1,14 +1,20 @@
 -- Lines of checks and of questions, as they are kept.
-use Rattle.std.proofs.Common.{◌≡◌, ℕ, zero, suc, ◌+◌, ◌<◌, ◌≤◌, ◌⊎◌, inl, inr, List, [], ◌∷◌, length, set, Some, refl, sym, ◌∙◌, subst, arith}
+use Rattle.std.proofs.Common.{◌≡◌, ℕ, zero, suc, ◌+◌, ◌<◌, ◌≤◌, ◌⊎◌, inl, inr, List, [], ◌∷◌, length, map, set, get_or, Option, Some, refl, sym, ap, ◌∙◌, subst, arith}
 use Rattle.std.specs.List.{slice_get}
+use Rattle.std.specs.Prelude.{IfSome}
 use Rattle.std.proofs.lemmas.Bool.{cases_eq, cases_lt}
 use Rattle.std.proofs.lemmas.Option.{same_Some, slice_get_within}
 use Rattle.sessions.specs.TextLanguage.Promised.Declarations.{Declarations, Check, of_later, of_supers}
+use Rattle.sessions.specs.TypeTerms.declared.CrateId.{CrateId}
 use Rattle.sessions.specs.Workspace.Numbered.{IsNumbered, IsCheckIn}
+use Rattle.sessions.specs.Workspace.Views.{check_of}
+use Rattle.sessions.specs.Workspace.declared.declared.Check as code
+use Rattle.sessions.specs.Workspace.declared.declared.Check.TheVariants.{Supers}
 use Rattle.sessions.specs.Promised.Subjects.{Subject, StaysOn}
 use Rattle.coherence.specs.Groups.{checked_crate, IsCheckedIn, IsAskedIn, ArePlacesWhere}
-use Rattle.coherence.specs.KeptLines.{IsCheckLineOf, IsLineOf, IsKeptLine, KeepsEach, KeepsChecks, KeepsQuestions}
+use Rattle.coherence.specs.KeptLines.{HasCheckLine, IsCheckLineOf, IsLineOf, IsKeptLine, KeepsEach, KeepsChecks, KeepsQuestions}
 use Rattle.coherence.specs.declared.kept.KeptLine.{KeptLine}
+use Rattle.coherence.proofs.Places.{check-at}
 use Rattle.coherence.proofs.Sets.{set-here, set-elsewhere}
 
 -- calls of a session, one after the other
@@ -83,3 +89,19 @@ kept-check limit d ls num kept n l e =
     let within : n < length ls = slice_get_within ls n l e in
     let q = there-is d.checks n (omega (arith, kept.for_each)) in
     kept-at (length d.checks) (length d.crates) (IsCheckedIn d) (IsCheckLineOf limit d) ls kept (checked_crate q.0) n l (checked-there d q.0 num (num.checks n q.0 q.1)) (q.0, q.1, refl) e
+
+-- ---- the line of `supers`, which all such checks of a crate share
+-- a check of crate c that is a `supers` check
+pub supers-there : (d : Declarations) (xs : List code.Check) (c p : ℕ) (f : CrateId) → IsCheckedIn d c p → map check_of xs ≡ d.checks → (o : code.Check) → get_or xs p o ≡ Supers f → slice_get d.checks p ≡ Some (of_supers c)
+supers-there d xs c p f k e o h =
+    let at = check-at d xs e p (slice_get_within d.checks p k.0 k.1) o (Supers f) h in
+    let is : f.index ≡ c = ap checked_crate (sym (same_Some k.0 (of_supers f.index) (sym k.1 ∙ at))) ∙ k.2 in
+    at ∙ ap (λ n. Some (of_supers n)) is
+
+-- its line is that of the crate
+pub supers-of-line : (limit : ℕ) (d : Declarations) (c p : ℕ) (text : List ℕ) → IsCheckLineOf limit d p text → slice_get d.checks p ≡ Some (of_supers c) → HasCheckLine limit d (of_supers c) text
+supers-of-line limit d c p text h at = subst (λ (x : Check). HasCheckLine limit d x text) (same_Some h.0 (of_supers c) (sym h.1 ∙ at)) h.2
+
+-- what was stored is taken
+pub taken-line : (P : KeptLine → Type 0) (o r : Option KeptLine) (l : KeptLine) → r ≡ o → r ≡ Some l → IfSome o P → P l
+taken-line P o r l e f h = subst (λ (x : Option KeptLine). IfSome x P) (sym e ∙ f) h

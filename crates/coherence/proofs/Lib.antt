@@ -30,3 +30,4 @@ pub mod Told
 pub mod SourceLines
 pub mod FullTables
 pub mod Asking
+pub mod QueryValues

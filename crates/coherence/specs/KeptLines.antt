@@ -1,6 +1,6 @@
 -- Lines that are stored: definitions for the crate's own functions.
-use Rattle.std.specs.Prelude.{◌≡◌, ℕ, ◌+◌, ◌<◌, List, length, Some, slice_get}
-use Rattle.sessions.specs.TextLanguage.Promised.Declarations.{Declarations, Check, Question}
+use Rattle.std.specs.Prelude.{◌≡◌, ℕ, ◌+◌, ◌<◌, List, length, Option, Some, IfSome, slice_get}
+use Rattle.sessions.specs.TextLanguage.Promised.Declarations.{Declarations, Check, of_supers, Question}
 use Rattle.sessions.specs.TextLanguage.Output.{Answer, output_text}
 use Rattle.sessions.specs.Verdicts.{Verdict, accepted, orphan, overlap}
 use Rattle.coherence.specs.Groups.{IsAskedIn, IsCheckedIn}
@@ -29,6 +29,10 @@ HasCheckLine limit d x text = (l : Answer) × IsCheckLine limit d x l × (text �
 -- The same for the check at index n, counted from 0.
 abbrev pub IsCheckLineOf : ℕ → Declarations → ℕ → List ℕ → Type 0
 IsCheckLineOf limit d n text = (x : Check) × (slice_get d.checks n ≡ Some x) × HasCheckLine limit d x text
+
+-- What is stored, if it is, is the line of each `supers` check of crate c.
+abbrev pub IsSupersLine : ℕ → Declarations → ℕ → Option KeptLine → Type 0
+IsSupersLine limit d c line = IfSome line (λ l. HasCheckLine limit d (of_supers c) l.text.items)
 
 -- ---- lines that are stored
 abbrev pub IsKeptLine : (ℕ → List ℕ → Type 0) → List KeptLine → ℕ → Type 0

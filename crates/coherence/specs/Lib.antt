@@ -7,6 +7,7 @@ pub mod KeptLines
 pub mod LineByLine
 pub mod LineSources
 pub mod Asking
+pub mod Queries
 -- The crates below whose names the crates above need too: these list this crate alone.
 pub use Rattle.sessions.specs.TextLanguage
 pub use Rattle.text_parser.specs as TextParser

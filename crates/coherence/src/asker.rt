@@ -11,17 +11,23 @@ ghost use Rattle.sessions.specs.Workspace.Numbered.{IsNumbered, IsFew};
 ghost use Rattle.sessions.specs.Workspace.Tables.{with_question, number_of_crate};
 ghost use Rattle.sessions.specs.Workspace.Views.{asker_of, question_of};
 ghost use Rattle.sessions.specs.SeenViews.{IsLeftView};
-ghost use Rattle.sessions.specs.Promised.Subjects.{IsOfText, StaysOn};
+ghost use Rattle.sessions.specs.TextLanguage.Promised.Declarations.{Question};
+ghost use Rattle.sessions.specs.Promised.Given.{refutation_of};
+ghost use Rattle.sessions.specs.Promised.Promises.{IsRefutation};
+ghost use Rattle.sessions.specs.Promised.Subjects.{IsOfText, AsksProof, AsksRefutation, StaysOn};
 ghost use Rattle.coherence.specs.Asking.{IsAnswerBehind, IsAskFault, IsLastLine, IsQueryBehind, IsShortage};
 ghost use Rattle.coherence.specs.Groups.{IsAskedIn};
 ghost use Rattle.coherence.specs.KeptLines.{IsLineOf};
 ghost use Rattle.coherence.specs.LineByLine.{IsVerdictLine};
+ghost use Rattle.coherence.specs.Queries.{IsNamedAnswer, IsProveQuery, IsQueryAt, IsRefuteQuery};
 
 use crate::ask_fault::AskFault;
 use crate::lines::{question_line, verdict_line};
+use crate::named_answer::{NamedAnswer, named_answer};
+use crate::query::{ProveQuery, Query, RefuteQuery};
 use sessions::type_terms::{CrateId, Fault};
 use sessions::workspace::{Asked, ENTRY_LIMIT, QuestionEntry, Workspace};
-use sessions::{Limits, SeenView, Session};
+use sessions::{Limits, RefuteAnswer, SeenView, Session};
 use std::alloc::Global;
 use std::marker::Model;
 use text_parser::{
@@ -88,6 +94,48 @@ fn question_answer(
 {
     let mut session = Session::on_crate(alloc, workspace, id, limits, view.take())?;
     let answer = question_line(alloc, &mut session, workspace, place);
+    *view = Some(session.into_view());
+    answer
+}
+
+/// The answer of a `prove` query, by a session after the view that is stored, which leaves its own.
+fn prove_answer(
+    alloc: Global,
+    workspace: &Workspace,
+    limits: Limits,
+    query: ProveQuery,
+    view: &mut Option<SeenView>,
+) -> Result<NamedAnswer, Fault>
+    requires parsed { IsOfText workspace.now }
+    requires query { IsProveQuery workspace.now query }
+    requires view { IfSome view.old (IsLeftView workspace.now limits.handles) }
+    ensures answer { (q : Question) → AsksProof workspace.now query.crate_id.index query.number q
+        → IfOk result (IsNamedAnswer limits.depth workspace.now query.number q) }
+    ensures view { IfSome view.new (IsLeftView workspace.now limits.handles) }
+{
+    let mut session = Session::on_crate(alloc, workspace, query.crate_id, limits, view.take())?;
+    let answer = named_answer(alloc, &mut session, workspace, query.number);
+    *view = Some(session.into_view());
+    answer
+}
+
+/// The answer of a `refute` query, by a session after the view that is stored, which leaves its own.
+fn refute_answer(
+    alloc: Global,
+    workspace: &Workspace,
+    limits: Limits,
+    query: RefuteQuery,
+    view: &mut Option<SeenView>,
+) -> Result<RefuteAnswer, Fault>
+    requires parsed { IsOfText workspace.now }
+    requires query { IsRefuteQuery workspace.now query }
+    requires view { IfSome view.old (IsLeftView workspace.now limits.handles) }
+    ensures answer { (q : Question) → AsksRefutation workspace.now query.crate_id.index query.number q
+        → IfOk result (λ a. IsRefutation limits.depth workspace.now q (refutation_of a)) }
+    ensures view { IfSome view.new (IsLeftView workspace.now limits.handles) }
+{
+    let mut session = Session::on_crate(alloc, workspace, query.crate_id, limits, view.take())?;
+    let answer = session.refute(query.number);
     *view = Some(session.into_view());
     answer
 }
@@ -222,6 +270,49 @@ impl Asker {
     {
         let _crates = self.workspace.crates();
         crate_answer(self.alloc, &self.workspace, self.limits, id, &mut self.view)
+    }
+
+    /// The query of the text with this number, from 1. `None` if the text has no such query.
+    pub fn query(&self, number: u32) -> Option<Query>
+        ensures { IfSome result (IsQueryAt self.now.declarations number) }
+    {
+        Query::of_text(&self.workspace, number)
+    }
+
+    /// The answer of a `prove` query of the text, with the values of its variables by their names.
+    ///
+    /// Fails with `Memory` if memory is refused, or with `Full` if a table is full.
+    pub fn prove(&mut self, query: ProveQuery) -> Result<NamedAnswer, Fault>
+        requires { IsProveQuery self.old.declarations query }
+        ensures answer { (q : Question) → AsksProof self.old.declarations query.crate_id.index query.number q
+            → IfOk result (IsNamedAnswer self.old.depth self.old.declarations query.number q) }
+        ensures stays { self.new ≡ self.old }
+    {
+        prove_answer(
+            self.alloc,
+            &self.workspace,
+            self.limits,
+            query,
+            &mut self.view,
+        )
+    }
+
+    /// The answer of a `refute` query of the text.
+    ///
+    /// Fails with `Memory` if memory is refused, or with `Full` if a table is full.
+    pub fn refute(&mut self, query: RefuteQuery) -> Result<RefuteAnswer, Fault>
+        requires { IsRefuteQuery self.old.declarations query }
+        ensures answer { (q : Question) → AsksRefutation self.old.declarations query.crate_id.index query.number q
+            → IfOk result (λ a. IsRefutation self.old.depth self.old.declarations q (refutation_of a)) }
+        ensures stays { self.new ≡ self.old }
+    {
+        refute_answer(
+            self.alloc,
+            &self.workspace,
+            self.limits,
+            query,
+            &mut self.view,
+        )
     }
 
     /// The line that the output for the text with this line behind it ends with: the answer to what the line asks. The text stays as it

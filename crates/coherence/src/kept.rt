@@ -7,13 +7,13 @@ ghost use Rattle.sessions.specs.Promised.Shortages.{SessionFullAtLimit};
 ghost use Rattle.sessions.specs.Promised.Subjects.{IsOfText, StaysOn};
 ghost use Rattle.coherence.specs.Groups.{IsAskedIn, IsCheckedIn, ArePlacesWhere, IsGroup};
 ghost use Rattle.coherence.specs.LineByLine.{CountsLine};
-ghost use Rattle.coherence.specs.KeptLines.{KeepsChecks, KeepsQuestions, KeepsLines, HasKeptLineAt};
+ghost use Rattle.coherence.specs.KeptLines.{KeepsChecks, KeepsQuestions, KeepsLines, HasKeptLineAt, IsCheckLineOf, IsSupersLine};
 
 use crate::groups::Group;
 use crate::lines::{check_line, question_line};
 use sessions::Session;
 use sessions::type_terms::Fault;
-use sessions::workspace::{ENTRY_LIMIT, Workspace};
+use sessions::workspace::{Check, ENTRY_LIMIT, Workspace};
 use std::alloc::{AllocError, Global};
 
 /// A line as text, with its line end. It is empty before it is known.
@@ -79,6 +79,39 @@ pub fn no_lines(alloc: Global, workspace: &Workspace) -> Result<KeptLines, Alloc
     Ok(KeptLines { checks, questions })
 }
 
+/// The line of a check of the session's crate, by its index in the text. All `supers` checks of a crate have the same line: it is made once,
+/// and copied from then on.
+fn check_line_once(
+    alloc: Global,
+    session: &mut Session<'_>,
+    workspace: &Workspace,
+    place: usize,
+    supers: &mut Option<KeptLine>,
+) -> Result<Vec<u8>, Fault>
+    requires on { session.old.declarations ≡ workspace.now }
+    requires numbered { IsNumbered workspace.now }
+    requires checked { IsCheckedIn workspace.now session.old.of_crate place }
+    requires supers { IsSupersLine session.old.depth workspace.now session.old.of_crate supers.old }
+    ensures line { IfOk result (λ text. IsCheckLineOf session.old.depth workspace.now place text.items) }
+    ensures supers { OnOk result (IsSupersLine session.old.depth workspace.now session.old.of_crate supers.new) }
+    ensures stays { StaysOn session.old session.new }
+    ensures full { IfErr result (SessionFullAtLimit session.new) }
+{
+    let Check::Supers(_) = workspace.checks()[place] else {
+        return check_line(alloc, session, workspace, place);
+    };
+    let line = match supers.take() {
+        Some(line) => line,
+        None => {
+            let text = check_line(alloc, session, workspace, place)?;
+            KeptLine { text }
+        }
+    };
+    let text = copy_line(alloc, &line)?;
+    *supers = Some(line);
+    Ok(text)
+}
+
 /// Makes the checks of the session's crate, and stores their lines.
 fn keep_checks(
     alloc: Global,
@@ -95,8 +128,9 @@ fn keep_checks(
     ensures stays { StaysOn session.old session.new }
     ensures full { IfErr result (SessionFullAtLimit session.new) }
 {
+    let mut supers = None;
     for place in places {
-        let text = check_line(alloc, session, workspace, *place)?;
+        let text = check_line_once(alloc, session, workspace, *place, &mut supers)?;
         lines[*place] = KeptLine { text };
     }
     Ok(())

@@ -10,8 +10,10 @@ mod depths;
 mod groups;
 mod kept;
 mod lines;
+mod named_answer;
 mod output_lines;
 mod outputs;
+mod query;
 mod status;
 mod streams;
 mod text_run;
@@ -20,8 +22,10 @@ pub use ask_fault::AskFault;
 pub use asker::Asker;
 pub use coherent::{accepted_lines_tell, held_lines_tell};
 pub use depths::parse_depth;
+pub use named_answer::NamedAnswer;
 pub use output_lines::OutputLines;
 pub use outputs::{Output, answer};
+pub use query::{ProveQuery, Query, RefuteQuery};
 pub use sessions::type_terms::{CrateId, Fault, ImplId};
 pub use sessions::workspace::Workspace;
 pub use sessions::{
@@ -31,5 +35,5 @@ pub use sessions::{
 pub use status::{RunFault, Status};
 pub use text_parser::text_names::FaultKind;
 pub use text_parser::{TextError, TextFault, parse};
-pub use text_printer::print_type;
+pub use text_printer::{ValueText, print_type};
 pub use text_run::run;

@@ -1,13 +1,10 @@
 //! The lines of crates, of checks and of queries.
 
-ghost use Rattle.std.specs.Prelude.{◌≡◌, ◌<◌, length, map, IfOk, IfErr, IfSome};
+ghost use Rattle.std.specs.Prelude.{◌≡◌, ◌<◌, length, IfOk, IfErr, IfSome};
 ghost use Rattle.std.specs.Option.{option_map};
 ghost use Rattle.text_printer.specs.Answers.{text_of};
-ghost use Rattle.sessions.specs.TypeTerms.Promised.Trees.{erase};
 ghost use Rattle.sessions.specs.TextLanguage.Promised.Declarations.{Question, of_later, of_supers};
-ghost use Rattle.sessions.specs.TextLanguage.Names as names;
-ghost use Rattle.sessions.specs.TextLanguage.Output.{uncovered, yes, output_text};
-ghost use Rattle.sessions.specs.TypeTerms.Promised.Handles.{arg_trees, ArgsHeld};
+ghost use Rattle.sessions.specs.TextLanguage.Output.{uncovered, output_text};
 ghost use Rattle.sessions.specs.Workspace.Numbered.{IsNumbered, IsFew};
 ghost use Rattle.sessions.specs.ErrorTerms.{error_in, type_in};
 ghost use Rattle.sessions.specs.HeldErrors.{ErrorHeld, TypeHeld};
@@ -16,22 +13,21 @@ ghost use Rattle.sessions.specs.Promised.Given.{verdict_in, VerdictHeld};
 ghost use Rattle.sessions.specs.Promised.Releases.{IsSectionOf};
 ghost use Rattle.sessions.specs.Promised.Shortages.{SessionFullAtLimit};
 ghost use Rattle.sessions.specs.Promised.Subjects.{IsOfText, AsksProof, AsksRefutation, StaysOn};
-ghost use Rattle.sessions.specs.TextQuestions.{IsQuestion};
 ghost use Rattle.coherence.specs.Groups.{IsAskedIn, IsCheckedIn};
 ghost use Rattle.coherence.specs.Promised.CrateAnswers.{crate_text, impl_home, number_in_crate};
 ghost use Rattle.coherence.specs.Lines.{header_text, orphan_line, verdict_line};
 ghost use Rattle.coherence.specs.KeptLines.{NamesImpls, HasCheckLine, IsCheckLineOf, HasLine, IsLineOf};
 
+use crate::named_answer::{named_answer, print_named};
 use sessions::type_terms::interner::Interner;
-use sessions::type_terms::kinds::{GenericArgKind, Ty};
+use sessions::type_terms::kinds::Ty;
 use sessions::type_terms::{CrateId, Fault, ImplId};
 use sessions::workspace::{Asked, Check, ENTRY_LIMIT, Workspace};
 use sessions::{
-    LaterAnswer, OrphanCheckErr, ProveAnswer, RefuteAnswer, Session, SupersAnswer,
-    UncoveredTyParams, Verdict,
+    LaterAnswer, OrphanCheckErr, RefuteAnswer, Session, SupersAnswer, UncoveredTyParams, Verdict,
 };
 use std::alloc::{AllocError, Global};
-use text_printer::{Answer, HeaderNames, answer_values, print_line, print_type};
+use text_printer::{Answer, HeaderNames, print_line, print_type};
 
 /// The number of an impl among those of its crate, from 1.
 fn number_in_crate(workspace: &Workspace, id: ImplId) -> u32
@@ -180,34 +176,6 @@ pub fn verdict_line(
     }
 }
 
-/// The line of a query that is proved, with the values of its variables. Queries count from 1.
-fn yes_line(
-    alloc: Global,
-    cx: &Interner,
-    workspace: &Workspace,
-    number: u32,
-    values: &[GenericArgKind],
-) -> Result<Vec<u8>, AllocError>
-    requires parsed { IsOfText workspace.now }
-    requires asked { (q : Question) × IsQuestion workspace.now number q }
-    requires held { ArgsHeld cx.now.entries values.now }
-    ensures { (q : Question) → IsQuestion workspace.now number q
-        → IfOk result (λ text. text.items
-        ≡ output_text (yes number (names.answer_values workspace.now q (map (λ v. erase (arg_trees cx.now.entries v)) values.now)))) }
-{
-    cx.lawful();
-    let question = &workspace.question_entries()[number as usize - 1];
-    let texts = answer_values(alloc, cx, workspace, question, values)?;
-    let line = print_line(
-        alloc,
-        &Answer::Yes {
-            question: number,
-            values: &texts,
-        },
-    )?;
-    Ok(line)
-}
-
 /// The line of a section of the session's crate.
 fn later_line(
     alloc: Global,
@@ -317,14 +285,8 @@ fn prove_line(
     ensures stays { StaysOn session.old session.new }
     ensures full { IfErr result (SessionFullAtLimit session.new) }
 {
-    let answer = session.prove(number)?;
-    let line = match answer {
-        ProveAnswer::Yes(values) => {
-            yes_line(alloc, session.interner(), workspace, number, &values)?
-        }
-        ProveAnswer::Maybe => print_line(alloc, &Answer::Maybe { question: number })?,
-        ProveAnswer::Unproved => print_line(alloc, &Answer::Unproved { question: number })?,
-    };
+    let answer = named_answer(alloc, session, workspace, number)?;
+    let line = print_named(alloc, number, &answer)?;
     Ok(line)
 }
 

@@ -1,17 +1,16 @@
-use Rattle.std.proofs.Common.{◌≡◌, List, length, map, refl, sym, ap, ◌∙◌, arith}
+use Rattle.std.proofs.Common.{◌≡◌, length, map, refl, sym, ap, ◌∙◌, arith}
 use Rattle.std.proofs.lemmas.List.{length-map}
 use Rattle.std.proofs.lemmas.Option.{same_Some, slice_get_read, slice_get_within}
 use Rattle.text_printer.specs.Answers.{value_of}
 use Rattle.sessions.specs.TextLanguage.Promised.Declarations.{Question}
 use Rattle.sessions.specs.TextLanguage.Names.{answer_values}
-use Rattle.sessions.specs.TextLanguage.Output as output
 use Rattle.sessions.specs.TypeTerms.Promised.Handles.{arg_trees}
 use Rattle.sessions.specs.Workspace.Views.{question_of}
 use Rattle.coherence.proofs.ErasedValues.{values-same}
 use Rattle.coherence.proofs.Places.{entry-of}
 use Rattle.coherence.proofs.TermVariables.{term-variables}
 use Rattle.sessions.proofs.GivenTexts.{text-given}
-use Rattle.coherence.proofs.lines.yes_line.Goals as goal
+use Rattle.coherence.proofs.named_answer.named_values.Goals as goal
 
 pub returns : goal.returns
 returns c q is =
@@ -27,5 +26,4 @@ returns c q is =
     let same : question_of entry ≡ q = same_Some _ _ (sym (entry-of question_of es d.questions c.question_entries.ensures.items _ entry at) ∙ is.there) in
     let values : map value_of c.in_ok-texts.texts.items ≡ answer_values d q (map (arg_trees terms) vs) = c.in_ok-texts.ensures ∙ ap (λ (x : Question). answer_values d x (map (arg_trees terms) vs)) same in
     let kinds = term-variables c.requires.parsed.0 d (text-given d c.requires.parsed) _ q is.there in
-    let printed = ap (map value_of) c.deref.ensures.value ∙ values ∙ sym (values-same d q terms vs c.lawful.ensures c.requires.held kinds) in
-    c.in_ok-line.ensures ∙ ap (λ (xs : List output.ValueText). output.output_text (output.yes n xs)) printed
+    values ∙ sym (values-same d q terms vs c.lawful.ensures c.requires.held kinds)

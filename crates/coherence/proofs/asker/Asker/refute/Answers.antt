@@ -1,0 +1,32 @@
+use Rattle.std.proofs.Common.{subst, sym}
+use Rattle.std.specs.Prelude.{IfOk}
+use Rattle.sessions.specs.TextLanguage.Promised.Declarations.{Question}
+use Rattle.sessions.specs.Promised.Given.{refutation_of}
+use Rattle.sessions.specs.Promised.Promises.{IsRefutation}
+use Rattle.sessions.specs.Promised.Subjects.{AsksRefutation}
+use Rattle.coherence.specs.Asking.{AskedText}
+use Rattle.coherence.specs.Queries.{IsRefuteQuery}
+use Rattle.coherence.proofs.Asking.{served}
+use Rattle.coherence.proofs.asker.Asker.refute.Goals as goal
+
+pub refute_answer-requires-clause-parsed : goal.refute_answer-requires-clause-parsed
+refute_answer-requires-clause-parsed c =
+    let i = c.self.inside in
+    served i.workspace i.text_length i.limits.handles i.view c.self.invariant
+
+pub refute_answer-requires-clause-query : goal.refute_answer-requires-clause-query
+refute_answer-requires-clause-query c = subst (λ (a : AskedText). IsRefuteQuery a.declarations c.args.query) (sym c.self.view_is) c.requires
+
+pub refute_answer-requires-clause-view : goal.refute_answer-requires-clause-view
+refute_answer-requires-clause-view c = c.self.invariant.left
+
+pub invariant_of-self : goal.invariant_of-self
+invariant_of-self c = record { text = c.self.invariant.text; left = c.refute_answer.ensures.view }
+
+pub returns-clause-answer : goal.returns-clause-answer
+returns-clause-answer c =
+    let n = c.args.query.number in
+    subst (λ (a : AskedText). (q : Question) → AsksRefutation a.declarations c.args.query.crate_id.index n q → IfOk c.refute_answer.result (λ x. IsRefutation a.depth a.declarations q (refutation_of x))) c.self.view_is c.refute_answer.ensures.answer
+
+pub returns-clause-stays : goal.returns-clause-stays
+returns-clause-stays c = c.self.view_is
