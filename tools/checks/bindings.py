@@ -2,7 +2,8 @@
 
 The tests are those of bindings/rust, by `cargo test --offline`, of bindings/python and of bindings/c. Where there is no cargo, those of Rust
 are left out. They ask the queries of examples/, and of the texts `*.txt` in the folder that CELTISDARTS_TEXTS names, if it names one. The
-programs that docs/LIBRARY.md shows are those that stand in bindings/, and print what it says.
+programs that docs/LIBRARY.md shows are those that stand in bindings/, and print what it says. The function in Rattle is that of
+example_checker, which is proved.
 """
 from __future__ import annotations
 
@@ -48,6 +49,12 @@ def try_shown(tally: Tally, kind: str, source: Path, words: Sequence[Word], env:
     tally.tell(f"{PAGE.name}: {name}, run", f"status {ended.status}: {ended.said.decode()}" if ended.status else difference(ended.output, b"".join(printed)))
 
 
+def try_rattle(tally: Tally) -> None:
+    """The page shows the function of the example in Rattle."""
+    source = (TOP / "crates/example_checker/src/lib.rt").read_bytes()
+    tally.expect(f"{PAGE.name}: example_checker", source[source.index(b"pub fn ") :] in blocks("text"), "no block shows its function as it is")
+
+
 def try_rust(tally: Tally, room: Path, env: Mapping[str, str]) -> None:
     if not shutil.which("cargo"):
         print("tools/check bindings: there is no cargo, so the tests of bindings/rust are left out", file=sys.stderr)
@@ -89,6 +96,7 @@ def try_c(tally: Tally, room: Path, env: Mapping[str, str]) -> None:
 
 
 def check(tally: Tally, _: argparse.Namespace) -> None:
+    try_rattle(tally)
     env = {**os.environ, "CELTISDARTS_LIB_DIR": str(library().parent)}
     with tempfile.TemporaryDirectory() as folder:
         for part in (try_rust, try_python, try_c):
