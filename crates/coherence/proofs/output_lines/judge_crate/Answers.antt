@@ -1,8 +1,11 @@
-use Rattle.std.proofs.Common.{◌∙◌, ◌+◌, subst}
+use Rattle.std.proofs.Common.{◌∙◌, ◌+◌, subst, sym}
 use Rattle.coherence.specs.KeptLines.{KeepsLines}
 use Rattle.coherence.specs.LineByLine.{IsVerdictLine}
 use Rattle.sessions.proofs.LeftViews.{left-view}
 use Rattle.coherence.proofs.output_lines.judge_crate.Goals as goal
+
+pub judge_by-requires-clause-kept : goal.judge_by-requires-clause-kept
+judge_by-requires-clause-kept c = subst (λ n. KeepsLines n c.args.workspace.now c.args.id.index c.args.lines.now) (sym c.in_ok-session.ensures.depth) c.requires.kept
 
 pub returns-clause-line : goal.returns-clause-line
 returns-clause-line c = subst (λ n. IsVerdictLine n c.args.workspace.now c.args.id.index c.in_ok-line.line.items) c.in_ok-session.ensures.depth c.in_ok-line.ensures.line
