@@ -1,29 +1,29 @@
-"""What the documents point at stands where they say, and each contract is told.
+"""What the documents name exists, and each contract has a comment.
 
 docs/PROMISES.md, in the sections of crates ('## `NAME`'):
 
-    At `FILE.rt`: `function` (`clause`, ..), ..    the file in crates/NAME/src; the function there, or the method as `Type::method`
+    At `FILE.rt`: `function` (`clause`, ...), ...  the file in crates/NAME/src. The function there, or the method as `Type::method`
                                                    or `Trait::method`, with these clauses of its `ensures`, or, as
-                                                   `requires NAME`, of what it asks; or the type or trait, with these
+                                                   `requires NAME`, of its `requires`. Or the type or trait, with these
                                                    ghost items. A function that is named alone has a clause without a
                                                    name, or the contract of the trait that it implements
-    Words: `FILE.antt`: `definition`, ..           the file in crates/NAME/specs, and public definitions there. The last column of
+    Words: `FILE.antt`: `definition`, ...          the file in crates/NAME/specs, and public definitions there. The last column of
                                                    a table is read in the same way
 
-A path with a slash begins with a crate's name, or with `Promised/`, the folder of `specs` with what promises rest on. Each promise has its 'At', and each row of a table a file. The items of its numbered list begin with a file, in which all that stands in backticks
-behind it is written.
+A path with a slash begins with a crate's name, or with `Promised/`, the folder of `specs` with what promises rest on. Each promise has its
+'At', and each row of a table a file. The items of its numbered list begin with a file, which contains everything in backticks after it.
 
 Each function with a contract that other crates may call, and each public type or trait with ghost items, has a comment above it, or its
 trait has one. `--write` makes a page for each crate of these comments, with the names of clauses and definitions: docs/layers/NAME.md. Since
-they are made of the sources they are not committed.
+they are generated they are not committed.
 
 README.md has at most 140 lines, and docs/PROMISES.md at most 320. A link in any document leads to a file or a folder of the
-repository, and to a heading of the document where it names one. A path in backticks that begins with `crates/` or the name of
-another folder of the repository is there, unless a part of it is in capitals, as NAME. A check that is named there, as `tools/check
-NAME`, is one.
+repository, and to a heading of the document if it names one. A path in backticks that begins with `crates/` or the name of
+another folder of the repository exists, unless a part of it is in capitals, such as NAME. So does a check that is named as `tools/check
+NAME`.
 
-It proves nothing and takes two seconds. A case is a mention, by its document and line, or a contract, by its file and line. What is named behind a file or a function that is
-not there is not looked up, and counts as nothing.
+It proves nothing and takes two seconds. A case is a mention, by its document and line, or a contract, by its file and line. Names after a
+file or a function that does not exist are not looked up, and count as nothing.
 """
 from __future__ import annotations
 

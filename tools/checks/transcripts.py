@@ -1,13 +1,13 @@
-"""What documents show as a run is what the commands print.
+"""The runs in documents are what the commands print.
 
-In README.md and the documents of docs/, a block that is marked as `console` has commands, each behind '$ ', and below each what it prints,
-standard error too. They are run at the top of the repository. Lines without anything at the end of an output do not count.
+In README.md and the documents of docs/, a block that is marked as `console` has commands, each after '$ ', and below each its output, with
+standard error. They are run at the top of the repository. Empty lines at the end of an output do not count.
 
-A command of `cargo` is run in a library that the document shows before it as a `rust` block: what stands above its line '// added since v1.0.0'
-is the version of that tag, all of it the next one, 1.1.0. What cargo itself says, on standard error, is not compared. Where cargo, rustdoc or the
-documents of the standard library are not there these are skipped. They take some 30 s.
+A command of `cargo` is run in the library of the preceding `rust` block: the lines above '// added since v1.0.0' are the version of that tag,
+the whole block is the next one, 1.1.0. Messages of cargo, on standard error, are not compared. Without cargo, rustdoc or the documents of the
+standard library these commands are skipped. They take some 30 s.
 
---write puts what is printed into the documents, --only NAME tries one document.
+--write puts the output into the documents, --only NAME tries one document.
 """
 from __future__ import annotations
 
