@@ -20,7 +20,7 @@ pub enum Finding {
 }
 
 /// What is found of the query with this number, from 1. `None` if the text has no such query.
-pub fn finding(asker: &mut Asker, number: u32) -> Result<Option<Finding>, Fault>
+pub fn check_query(asker: &mut Asker, number: u32) -> Result<Option<Finding>, Fault>
     ensures found { IfOk result (λ found. IfSome found (IsFound asker.old.depth asker.old.declarations number)) }
     ensures stays { asker.new ≡ asker.old }
 {
