@@ -1,6 +1,6 @@
 //! An example of the library: a checker that asks a text its queries one by one, and passes on what their answers promise.
 //!
-//! It names the crate `coherence` alone. docs/LIBRARY.md shows the same code.
+//! Its code names the crate `coherence` alone (its proof also `sessions`). docs/LIBRARY.md shows the same function.
 #![tactic(auto)]
 
 ghost use Rattle.std.specs.Prelude.{◌≡◌, IfOk, IfSome};
