@@ -170,8 +170,7 @@ def document(folder: str, extra: list[str], quiet: bool = False, manifest: str |
     """Documents the project and all that it uses, into `target/from-rustdoc`, and reads which crate uses which. Another project's manifest
     is documented as this folder would be, by its toolchain and its configuration, into a target below that. What an earlier run has left
     there does not count, but for documents of packages of a registry, which are shared."""
-    if not os.path.exists(manifest or os.path.join(folder, "Cargo.toml")):
-        raise BadInput(f"{manifest or folder} has no Cargo.toml" if manifest is None else f"there is no {manifest}")
+    has_manifest(folder, manifest)
     of = ["--manifest-path", os.path.abspath(manifest)] if manifest else []
     data = metadata(folder, extra, of)
     shared = shared or os.path.join(os.path.dirname(target) if target else target_of(data), SHARED, settings_sum(folder, extra))
@@ -192,6 +191,11 @@ def document(folder: str, extra: list[str], quiet: bool = False, manifest: str |
     project = read_metadata(data, units_of(json.loads(data), place, target_cfgs), artifacts_of(said))
     project.folder = target
     return project
+
+
+def has_manifest(folder: str, manifest: str | None = None) -> None:
+    if not os.path.exists(manifest or os.path.join(folder, "Cargo.toml")):
+        raise BadInput(f"{folder} has no Cargo.toml" if manifest is None else f"there is no {manifest}")
 
 
 def environment(room: str) -> dict[str, str]:

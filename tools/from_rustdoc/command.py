@@ -4,12 +4,10 @@ from __future__ import annotations
 import argparse
 import hashlib
 import json
-import multiprocessing
 import os
 import sqlite3
 import sys
-import traceback
-from concurrent.futures import ProcessPoolExecutor
+import time
 from dataclasses import replace
 from typing import Any, Callable, Iterator, Optional
 
@@ -20,7 +18,7 @@ from .build import Translation
 from .crate_check import check_crate, texts_of
 from .html_docs import Pages
 from .kept import Damaged, KeptPages, KeptStandard, remove_stores
-from .made_by import current, made_by
+from .made_by import current, made_by, own_folders, remember, state_of
 from .messages import NO_ANSWER, Message, Output, Sources, worst
 from .program import binding, run
 from .questions import QuestionReader
@@ -223,6 +221,10 @@ def ask_project(arguments: argparse.Namespace, extra: list[str]) -> int:
 def documents(folder: str, extra: list[str], arguments: argparse.Namespace) -> tuple[str, dict[str, Any], World]:
     """Documents a project, and writes the map, which is all that questions need: the base of its files, and what was read."""
     docs = cargo.docs_folder(arguments.docs, folder)
+    cargo.has_manifest(folder)
+    data = cargo.metadata(folder, extra, [])
+    own = own_folders(data)
+    state, began = state_of(folder, own), time.time()
     found = cargo.document(folder, extra, arguments.quiet)
     for name in sorted(set(found.doubled)):
         print(f"from-rustdoc: {name} is there twice with one version, and the documents of one are read", file=sys.stderr)
@@ -233,7 +235,10 @@ def documents(folder: str, extra: list[str], arguments: argparse.Namespace) -> t
     world = world_of(files, docs, found.links)
     base = os.path.join(found.folder, crates[0])
     inputs = inputs_of(world, files, found.links)
-    write_map(base, {"inputs": inputs, "made_by": made_by(folder, extra, cargo.metadata(folder, extra, []))})
+    write_map(base, {"inputs": inputs, "made_by": made_by(folder, extra, data)})
+    # (So that what is edited while cargo works is newer.)
+    os.utime(base + ".map", (began, began))
+    remember(folder, extra, own, state, base + ".map")
     warn(world)
     return base, inputs, world
 
@@ -270,6 +275,9 @@ def checked(world: World, arguments: argparse.Namespace) -> Iterator[Judged]:
     if arguments.jobs == 1 or len(world.crates) == 1:
         yield from map(check_shared, world.crates)
         return
+    # (Imported here, as further below, what one command needs: to load it takes as long as an answer.)
+    import multiprocessing
+    from concurrent.futures import ProcessPoolExecutor
     if not arguments.program:
         # (So that it is looked for once, and not by each process.)
         binding()
@@ -397,6 +405,7 @@ def guarded(name: str, run_it: Callable[[], int]) -> int:
     except Exception as error:
         if os.environ.get("FROM_RUSTDOC_TRACE"):
             raise
+        import traceback
         last = traceback.extract_tb(error.__traceback__)[-1]
         complaint = f"a mistake of the translator: {type(error).__name__}: {' '.join(str(error).split())} ({os.path.basename(last.filename)}:{last.lineno})"
     print(f"{name}: {complaint}", file=sys.stderr)

@@ -9,6 +9,7 @@ from .terms import (UNIT, Alias, Array, Bound, BoundsOf, Constant, Dyn, Function
 
 INTEGERS = "i8 i16 i32 i64 i128 isize u8 u16 u32 u64 u128 usize".split()
 FLOATS = ("f16", "f32", "f64", "f128")
+WRITTEN = ("word", "sign", "number")
 PRIMITIVES = frozenset(["bool", "char", "str"] + INTEGERS)
 
 # What a path names: its class ("struct", "enum", "union", "trait", "type", "word"), its key, and its last name.
@@ -23,7 +24,7 @@ class Reader:
     """Reads tokens. `lookup` says what a path stands for: it gets the words of the path, or the number of a marked link."""
 
     TOKEN = re.compile(r"\s+|(?P<mark>\x01\d+\x02)|(?P<lifetime>'\w+)|(?P<unknown>\?[A-Za-z_]\w*)|(?P<word>(?:r#)?[^\W\d]\w*(?:@\d[\w.+-]*)?)|(?P<number>\d\w*)"
-                       r"|(?P<sign>::|->|=>|\.\.\.|\.\.|[<>()\[\]{},:;&*+!?=~#\"\-/|.])")
+                       r"|(?P<sign>::|->|=>|\.\.\.|\.\.|[<>()\[\]{},:;&*+!?=~#\"\-/|.])|(?P<other>.)")
 
     def __init__(self, text: str, lookup: Callable[[list[str]], Named_], unknowns: bool = False, params: Optional[set[str]] = None) -> None:
         """`params` are the parameters in scope, where they are known."""
@@ -33,22 +34,14 @@ class Reader:
         self.tokens: list[tuple[str, str]] = []
         self.places: list[int] = []
         self.at = 0
-        place = 0
-        while place < len(text):
-            found = self.TOKEN.match(text, place)
-            if not found:
-                self.tokens.append(("other", text[place]))
-                self.places.append(place)
-                place += 1
-                continue
+        for found in self.TOKEN.finditer(text):
             kind = found.lastgroup
             if kind == "unknown" and not unknowns:
                 self.tokens += [("sign", "?"), ("word", found.group()[1:])]
-                self.places += [place, place + 1]
+                self.places += [found.start(), found.start() + 1]
             elif kind:
                 self.tokens.append((kind, found.group(kind)))
-                self.places.append(place)
-            place = found.end()
+                self.places.append(found.start())
 
     # ---- tokens
     def peek(self, ahead: int = 0) -> tuple[str, str]:
@@ -62,11 +55,13 @@ class Reader:
         return self.peek()[0] == "end"
 
     def eat(self, text: str) -> bool:
-        kind, value = self.peek()
-        if value == text and kind in ("word", "sign", "number"):
-            self.at += 1
-            return True
-        return False
+        if self.at >= len(self.tokens):
+            return False
+        kind, value = self.tokens[self.at]
+        if value != text or kind not in WRITTEN:
+            return False
+        self.at += 1
+        return True
 
     def need(self, text: str) -> None:
         if not self.eat(text):

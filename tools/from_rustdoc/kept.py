@@ -6,6 +6,7 @@ class is loaded from them.
 """
 from __future__ import annotations
 
+import functools
 import hashlib
 import io
 import os
@@ -58,6 +59,7 @@ def folder() -> str:
     return os.path.join(cache_folder(), "from-rustdoc")
 
 
+@functools.lru_cache(maxsize=None)
 def tool_sum() -> str:
     """The sum of this tool's own sources, and of Python's version."""
     total = hashlib.sha256(sys.version.encode())

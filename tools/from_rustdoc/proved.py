@@ -10,7 +10,7 @@ import os
 import subprocess
 import tempfile
 import time
-from typing import Optional
+from typing import Any, Optional
 
 TOP = os.path.dirname(os.path.dirname(os.path.dirname(os.path.abspath(__file__))))
 LIBRARY = "celtisdarts_c"
@@ -28,14 +28,21 @@ def cache_folder() -> str:
 
 
 def state() -> Optional[str]:
-    """A sum of the sizes, times and places of all that is looked at; None where something of it was written, or removed, just now."""
-    total = hashlib.sha256(TOP.encode())
+    """The state of all that is looked at; None where something of it was written, or removed, just now."""
+    files = sorted(f for pattern in LOOKED_AT for f in glob.glob(os.path.join(TOP, pattern), recursive=True))
+    return state_of(files) if all(map(os.path.exists, files)) else None
+
+
+def state_of(files: list[str]) -> Optional[str]:
+    """A sum of the sizes, times and places of files; None where one of them was written just now. Not all have to be there."""
+    total = hashlib.sha256()
     newest = 0.0
-    for file in sorted(f for pattern in LOOKED_AT for f in glob.glob(os.path.join(TOP, pattern), recursive=True)):
+    for file in files:
         try:
             found = os.stat(file)
         except OSError:
-            return None
+            total.update(repr(file).encode())
+            continue
         newest = max(newest, found.st_ctime)
         total.update(repr((file, found.st_size, found.st_mtime_ns, found.st_ctime_ns, found.st_ino, found.st_mode)).encode())
     return total.hexdigest() if time.time() - newest > SETTLED else None
@@ -58,7 +65,7 @@ def proved_program(name: str = "celtisdarts") -> Optional[str]:
     return path
 
 
-def keep(file: str, data: dict[str, Optional[str]]) -> None:
+def keep(file: str, data: dict[str, Any]) -> None:
     """Writes the whole file or nothing; where nothing can be kept, it is found again."""
     with contextlib.suppress(OSError):
         os.makedirs(os.path.dirname(file), exist_ok=True)

@@ -13,7 +13,7 @@ import unittest
 from typing import Any
 from unittest import mock
 
-from .. import command
+from .. import command, made_by, proved
 from ..cargo import HERE, Unit, artifacts_of, docs_folder, pinned, read_metadata, shared_flags, sharing
 from ..command import main
 from ..doc_cfg import lines
@@ -193,6 +193,69 @@ class Shared(unittest.TestCase):
 
     def test_what_failed_is_not_kept(self) -> None:
         self.assertEqual([self.called("a", FAILS="1"), self.called("b")], [("", False, 7), ("1", False, 0)])
+
+
+class Untouched(unittest.TestCase):
+    """What is found current without cargo: nothing that cargo looks at may have changed."""
+
+    def setUp(self) -> None:
+        self.room = os.path.realpath(tempfile.mkdtemp())
+        self.addCleanup(shutil.rmtree, self.room)
+        self.folder = os.path.join(self.room, "above", "project")
+        patches: list[Any] = [mock.patch.object(proved, "SETTLED", -1.0), mock.patch.object(made_by.cargo, "command", side_effect=BadInput("cargo is run")),
+                              mock.patch.dict(os.environ, {"XDG_CACHE_HOME": os.path.join(self.room, "cache")})]
+        for patch in patches:
+            patch.start()
+            self.addCleanup(patch.stop)
+        self.json, self.map = os.path.join(self.folder, "target", "a.json"), os.path.join(self.folder, "target", "a.map")
+        self.files = {os.path.join(self.folder, "Cargo.toml"): "", os.path.join(self.folder, "src", "lib.rs"): "", self.json: "{}",
+                      self.map: json.dumps({"inputs": {"json": [self.json]}})}
+        self.again()
+
+    def write(self, file: str, text: str) -> None:
+        os.makedirs(os.path.dirname(file), exist_ok=True)
+        with open(file, "w", encoding="utf-8") as handle:
+            handle.write(text)
+
+    def again(self) -> None:
+        for file, text in self.files.items():
+            self.write(file, text)
+        made_by.remember(self.folder, [], [self.folder], made_by.state_of(self.folder, [self.folder]), self.map)
+        self.assertIsNotNone(made_by.untouched(self.folder, []))
+
+    def test_it_needs_no_cargo(self) -> None:
+        found = made_by.current(self.folder, [])
+        self.assertEqual(found, {"inputs": {"json": [self.json]}})
+        # What is built, and what no source is, does not count.
+        for name in ("target/debug/build.rs", ".git/a.rs", "README.md"):
+            self.write(os.path.join(self.folder, name), "more")
+        self.assertEqual(made_by.current(self.folder, []), found)
+
+    def test_what_is_touched_is_seen(self) -> None:
+        above = os.path.dirname(self.folder)
+        for file in (os.path.join(self.folder, "src", "lib.rs"), os.path.join(self.folder, "src", "new.rs"), os.path.join(self.folder, "Cargo.lock"),
+                     os.path.join(self.folder, ".cargo", "config.toml"), os.path.join(above, "Cargo.toml"), os.path.join(above, "rust-toolchain"), self.json,
+                     self.map):
+            self.again()
+            self.write(file, "something else" if file != self.map else json.dumps({"inputs": {"json": [self.json], "more": 1}}))
+            self.assertIsNone(made_by.untouched(self.folder, []), file)
+        for file in (os.path.join(self.folder, "src", "new.rs"), self.json, self.map):
+            self.again()
+            os.remove(file)
+            self.assertIsNone(made_by.untouched(self.folder, []), file)
+            self.again()
+
+    def test_other_flags_and_another_environment_are_another_project(self) -> None:
+        self.assertIsNone(made_by.untouched(self.folder, ["--all-features"]))
+        with mock.patch.dict(os.environ, {"RUSTFLAGS": "--cfg other"}):
+            self.assertIsNone(made_by.untouched(self.folder, []))
+        with mock.patch.dict(os.environ, {"RUSTUP_TOOLCHAIN": "other"}):
+            self.assertIsNone(made_by.untouched(self.folder, []))
+
+    def test_what_was_written_just_now_is_not_kept(self) -> None:
+        with mock.patch.object(proved, "SETTLED", 60.0):
+            self.assertIsNone(made_by.state_of(self.folder, [self.folder]))
+            self.assertIsNone(made_by.untouched(self.folder, []))
 
 
 FILES = {
