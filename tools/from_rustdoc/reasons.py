@@ -20,7 +20,7 @@ from .questions import InText, Verdict
 from .reach import Reach
 from .render import FIELD, Scope
 from .show import Show
-from .terms import BadInput, Bound, Declaration, Lossy, Named, Parameter, Projection, Type, argument_values, put, rebuilt
+from .terms import BadInput, Bound, Declaration, Impl, Lossy, Named, Parameter, Projection, Type, argument_values, put, rebuilt
 from .text_form import read_text
 from .unfold import Unfolder
 from .world import CORE_NAMES
@@ -315,12 +315,17 @@ class Explainer:
         helps = [Message(f"ask it with `where {self.shown(goal)}`", kind="help")] if found else []
         key = self.world.named.get(goal.bound.key)
         if key is not None and not is_std_key(key):
-            impls = [i for i in self.world.impls_of(key, None) if not i.is_negative and i.trait is not None]
+            impls = self.nearest([i for i in self.world.impls_of(key, None) if not i.is_negative and i.trait is not None])
             names = [f"`{self.show.type(i.self_type)}`" for i in impls[:SHOWN]]
             more = f" and {len(impls) - SHOWN} more" if len(impls) > SHOWN else ""
             which = f"`{self.show.path(key)}` is implemented for {', '.join(names)}{more}" if impls else f"nothing that is seen implements `{self.show.path(key)}`"
             helps.append(Message(which, kind="help"))
         return helps
+
+    def nearest(self, impls: list[Impl]) -> list[Impl]:
+        """Those of the crates that use others first, and in each crate types with a name before arrays, tuples and references."""
+        order = {name: number for number, name in enumerate(reversed(list(self.world.crates)))}
+        return sorted(impls, key=lambda impl: (order.get(impl.crate, len(order)), not isinstance(impl.self_type, Named)))
 
 
 def why(verdict: Verdict, program: Optional[str] = None, with_proof: bool = False) -> list[Message]:

@@ -13,7 +13,7 @@ import unittest
 from typing import Any
 from unittest import mock
 
-from .. import command, made_by, proved
+from .. import cargo, command, made_by, proved
 from ..cargo import HERE, Unit, artifacts_of, docs_folder, pinned, read_metadata, shared_flags, sharing
 from ..command import main
 from ..doc_cfg import lines
@@ -202,7 +202,7 @@ class Untouched(unittest.TestCase):
         self.room = os.path.realpath(tempfile.mkdtemp())
         self.addCleanup(shutil.rmtree, self.room)
         self.folder = os.path.join(self.room, "above", "project")
-        patches: list[Any] = [mock.patch.object(proved, "SETTLED", -1.0), mock.patch.object(made_by.cargo, "command", side_effect=BadInput("cargo is run")),
+        patches: list[Any] = [mock.patch.object(proved, "SETTLED", -1.0), mock.patch.object(cargo, "command", side_effect=BadInput("cargo is run")),
                               mock.patch.dict(os.environ, {"XDG_CACHE_HOME": os.path.join(self.room, "cache")})]
         for patch in patches:
             patch.start()
