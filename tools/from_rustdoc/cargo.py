@@ -16,8 +16,9 @@ from .terms import BadInput
 FLAGS = "-Z unstable-options --output-format json --document-private-items --document-hidden-items"
 HERE = os.path.dirname(os.path.abspath(__file__))
 PINS = ("rust-toolchain.toml", "rust-toolchain")
-# What decides how cargo documents a project, besides its sources.
-SETTINGS = ("RUSTFLAGS", "RUSTDOCFLAGS", "RUSTUP_TOOLCHAIN", "RUSTC", "RUSTDOC", "CARGO_BUILD_TARGET")
+# What decides how cargo documents a project, besides its sources and what rustc says of itself. (So RUSTUP_TOOLCHAIN is none: rustup sets it for
+# `cargo celtisdarts`, and the documents are the same.)
+SETTINGS = ("RUSTFLAGS", "RUSTDOCFLAGS", "RUSTC", "RUSTDOC", "CARGO_BUILD_TARGET")
 # What is shared of documents, and what says beside one that it was taken from there.
 SHARED, TAKEN = "shared", "taken"
 

@@ -211,8 +211,9 @@ def answered(inputs: dict[str, Any], world: World, arguments: argparse.Namespace
 
 def ask_project(arguments: argparse.Namespace, extra: list[str]) -> int:
     """Questions on a project, which is documented first where its documents are of older sources."""
-    known = current(arguments.project, extra) if os.path.isfile(os.path.join(arguments.project, "Cargo.toml")) else None
-    if known is not None:
+    found = current(arguments.project, extra)
+    if found is not None:
+        known = found[1]
         return answered(known["inputs"], world_again(known, arguments), arguments)
     _, inputs, world = documents(arguments.project, extra, arguments)
     return answered(inputs, world, arguments)
@@ -244,7 +245,13 @@ def documents(folder: str, extra: list[str], arguments: argparse.Namespace) -> t
 
 
 def project(folder: str, extra: list[str], arguments: argparse.Namespace) -> int:
-    base, inputs, world = documents(folder, extra, arguments)
+    """Checks a project, which is documented first where its documents are of older sources."""
+    found = current(folder, extra)
+    if found is not None:
+        base, inputs, world = found[0], found[1]["inputs"], world_again(found[1], arguments)
+        warn(world)
+    else:
+        base, inputs, world = documents(folder, extra, arguments)
     output_of(arguments, inputs).line(f"what `from-rustdoc ask {base} ..` needs is written: {base}.map")
     return check_project(base, inputs, world, arguments)
 

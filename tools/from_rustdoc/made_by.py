@@ -41,8 +41,18 @@ def own_folders(data: str) -> list[str]:
     return list(dict.fromkeys([known["workspace_root"], *(os.path.dirname(p["manifest_path"]) for p in known["packages"] if p["source"] is None)]))
 
 
-def current(folder: str, extra: list[str]) -> Optional[dict[str, Any]]:
+# The base of a project's files, and its map.
+Based = tuple[str, dict[str, Any]]
+
+
+def based(file: str, known: dict[str, Any]) -> Based:
+    return file.removesuffix(".map"), known
+
+
+def current(folder: str, extra: list[str]) -> Optional[Based]:
     """The map of the project, if it is of what stands there: no source of it, and of no crate that lies in a folder, is newer."""
+    if not os.path.isfile(os.path.join(folder, "Cargo.toml")):
+        return None
     found = untouched(folder, extra)
     if found is not None:
         return found
@@ -54,7 +64,7 @@ def current(folder: str, extra: list[str]) -> Optional[dict[str, Any]]:
         if known is not None and known.get("made_by") == made_by(folder, extra, data) and all(is_older(place, os.path.getmtime(file)) for place in own) and \
                 all(map(os.path.isfile, known["inputs"]["json"])):
             remember(folder, extra, own, state, file)
-            return known
+            return based(file, known)
     return None
 
 
@@ -68,13 +78,13 @@ def map_of(file: str) -> Optional[dict[str, Any]]:
 
 
 # ---- without cargo
-def untouched(folder: str, extra: list[str]) -> Optional[dict[str, Any]]:
+def untouched(folder: str, extra: list[str]) -> Optional[Based]:
     """The map of the project, if all that cargo's word and the documents rest on is as it was when that map was found to be current."""
     with contextlib.suppress(OSError, ValueError, KeyError, TypeError), open(record(folder, extra), encoding="utf-8") as handle:
         known = json.load(handle)
         found = map_of(known["map"])
         if found is not None and known["state"] == state_of(folder, known["own"]) and known["documents"] == documents_of(known["map"], found):
-            return found
+            return based(known["map"], found)
     return None
 
 

@@ -130,9 +130,17 @@ class QuestionReader:
             return "word", None, words[0]
         key = self.key([self.versioned(words[0]), *words[1:]])
         if key is None:
-            raise BadInput(f"`{'::'.join(words)}` is not known: write its path, as `bytes::Bytes` or `std::vec::Vec`")
+            raise BadInput(f"`{'::'.join(words)}` is not known: {self.instead(words)}")
         declaration = self.world.get(key)
         return ("trait" if declaration.is_trait else "type" if declaration.kind == "type" else "struct"), key, declaration.name
+
+    def instead(self, words: list[str]) -> str:
+        """What to write for a path that names nothing: public items of like names."""
+        import difflib
+        crates = [c for n, c in self.world.crates.items() if len(words) == 1 or n.partition("@")[0] == words[0].partition("@")[0]]
+        paths = {item.name: "::".join(item.public_path) for crate in crates for item in crate.items if item.public_path}
+        found = [f"`{paths[name]}`" for name in difflib.get_close_matches(words[-1], paths)]
+        return f"is it {' or '.join(found)}?" if found else "write its path, as `bytes::Bytes` or `std::vec::Vec`"
 
     def versioned(self, name: str) -> str:
         """The crate of a name: of one that is there in two versions it has to have the version, or how that begins."""

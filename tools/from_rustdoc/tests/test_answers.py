@@ -97,7 +97,7 @@ class NoAnswers(unittest.TestCase):
         reader = QuestionReader(world("ab"))
         for written, why in (("ab::Sb: ?Sized", "asks nothing"), ("ab::Sb: Vec<u8>", "is no trait"), ("ab::Sb: 'static", "asks for no trait"),
                              ("<T: Send", "is not understood"), ("<T as", "is not understood"), ("ab::Sb", "is not understood"), ("", "is not understood"),
-                             ("ab::Sx: Send", "is not known"), ("Vec<u8>::Item Send", "is not understood")):
+                             ("ab::Sx: Send", "is not known: write"), ("ab::Aroud: Send", "is it `ab::Around`?"), ("Vec<u8>::Item Send", "is not understood")):
             with self.assertRaisesRegex(BadInput, why, msg=written):
                 reader.read_all(written)
 

@@ -14,7 +14,7 @@ from typing import Any
 from unittest import mock
 
 from .. import cargo, command, made_by, proved
-from ..cargo import HERE, Unit, artifacts_of, docs_folder, pinned, read_metadata, shared_flags, sharing
+from ..cargo import HERE, Unit, artifacts_of, docs_folder, pinned, read_metadata, settings_sum, shared_flags, sharing
 from ..command import main
 from ..doc_cfg import lines
 from ..proved import proved_program
@@ -77,6 +77,14 @@ class Told(unittest.TestCase):
             self.assertIn("rust-toolchain pins the toolchain", pinned(os.path.join(folder, "in")))
             with mock.patch.dict(os.environ, {"RUSTUP_TOOLCHAIN": "stable"}):
                 self.assertEqual(pinned(folder), "")
+
+    def test_a_toolchain_is_known_by_its_version(self) -> None:
+        with tempfile.TemporaryDirectory() as folder, mock.patch.object(cargo, "command", return_value="rustc 1.95.0") as said:
+            before = settings_sum(folder, [])
+            with mock.patch.dict(os.environ, {"RUSTUP_TOOLCHAIN": "stable"}):
+                self.assertEqual(settings_sum(folder, []), before)
+            said.return_value = "rustc 1.96.0"
+            self.assertNotEqual(settings_sum(folder, []), before)
 
     def test_a_folder_without_documents_is_refused_before_anything_is_made(self) -> None:
         with tempfile.TemporaryDirectory() as folder:
@@ -225,7 +233,7 @@ class Untouched(unittest.TestCase):
 
     def test_it_needs_no_cargo(self) -> None:
         found = made_by.current(self.folder, [])
-        self.assertEqual(found, {"inputs": {"json": [self.json]}})
+        self.assertEqual(found, (self.map.removesuffix(".map"), {"inputs": {"json": [self.json]}}))
         # What is built, and what no source is, does not count.
         for name in ("target/debug/build.rs", ".git/a.rs", "README.md"):
             self.write(os.path.join(self.folder, name), "more")
