@@ -3,6 +3,7 @@ each is what rustc's error names, worked out by hand."""
 from __future__ import annotations
 
 import unittest
+from typing import Optional
 
 from ..answer import Answerer
 from ..proved import proved_program
@@ -22,10 +23,10 @@ class Reasons(unittest.TestCase):
     def setUpClass(cls) -> None:
         cls.world = world("reasons")
 
-    def told(self, written: str, with_proof: bool = False) -> list[str]:
+    def told(self, written: str, with_proof: bool = False, of: Optional[World] = None) -> list[str]:
         """Each step with its line in the source."""
-        (question,) = QuestionReader(self.world).read_all(written)
-        notes = why(Answerer(self.world, PROGRAM).answer(question), None, with_proof)
+        (question,) = QuestionReader(of or self.world).read_all(written)
+        notes = why(Answerer(of or self.world, PROGRAM).answer(question), None, with_proof)
         return [note.text + "".join(f" (line {span.place.line})" for span in note.spans) for note in notes]
 
     def test_why_a_type_is_not_send(self) -> None:
@@ -66,6 +67,9 @@ class Reasons(unittest.TestCase):
 
     def test_a_trait_that_nothing_implements_is_named(self) -> None:
         self.assertIn("nothing that is seen implements `reasons::Need`", self.told("core::cell::Cell<u8>: reasons::Show"))
+
+    def test_the_types_that_have_the_trait_are_the_nearest(self) -> None:
+        self.assertIn("`ab::Ta` is implemented for `user::Mine<ab::Kept<u8>>`", self.told("user::Held<u8>: ab::Ta", of=world("ab", "user"))[-1])
 
     def test_no_name_of_the_text_is_told(self) -> None:
         for written in ("reasons::Either<u8>: Sync", "Vec<reasons::NoClone>: Clone", "reasons::All<u8>: reasons::Show", "Option<reasons::Inner>: Clone",
