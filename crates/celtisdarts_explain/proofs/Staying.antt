@@ -14,3 +14,13 @@ judged-after a b x k j r h =
     subst (λ n. IsJudgedAt n (view_in b.declarations b.of_crate) b.of_crate k j r) (sym x.depth)
     (subst (λ c. IsJudgedAt a.depth (view_in b.declarations c) c k j r) (sym x.of_crate)
     (subst (λ d. IsJudgedAt a.depth (view_in d a.of_crate) a.of_crate k j r) (sym x.declarations) h))
+
+-- three calls
+pub stays-after : (a b c d : Subject) → StaysOn a b → StaysOn b c → StaysOn c d → StaysOn a d
+stays-after a b c d x y z = record {
+  declarations = z.declarations ∙ y.declarations ∙ x.declarations;
+  of_crate = z.of_crate ∙ y.of_crate ∙ x.of_crate;
+  depth = z.depth ∙ y.depth ∙ x.depth;
+  handles = z.handles ∙ y.handles ∙ x.handles;
+  terms = λ i e h. z.terms i e (y.terms i e (x.terms i e h));
+}

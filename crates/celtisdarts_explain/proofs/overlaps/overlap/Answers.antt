@@ -5,7 +5,7 @@ use Rattle.explain_texts.proofs.ProofChecker.Later.{term-same}
 use Rattle.explain_texts.specs.Sessions.Promised.Promises.{view_in}
 use Rattle.explain_texts.specs.ExplainSessions.Rules.{HasRulesByBoth}
 use Rattle.explain_texts.specs.ExplainSessions.Walked.{PairWalkHeld}
-use Rattle.celtisdarts_explain.proofs.Staying.{same-view}
+use Rattle.celtisdarts_explain.proofs.Staying.{same-view, stays-after}
 use Rattle.celtisdarts_explain.proofs.overlaps.overlap.Goals as goal
 
 pub tell_pair-requires-clause-common : goal.tell_pair-requires-clause-common
@@ -20,3 +20,12 @@ tell_pair-requires-clause-common c = λ t.
     (same-view first second c.explain_overlap.ensures.stays ∙ same-view second last c.pair_claims.ensures.stays) (rules t) in
     subst (λ r. HasRulesByBoth (view_in last.declarations last.of_crate) r c.args.impls.later.index c.args.impls.earlier.index)
     (sym (term-same second.terms last.terms c.pair_claims.ensures.stays.terms p.common held.common)) here
+
+pub returns-in_err-tell_later_pairs : goal.returns-in_err-tell_later_pairs
+returns-in_err-tell_later_pairs c = stays-after _ _ _ _ c.explain_overlap.ensures.stays c.pair_claims.ensures.stays c.tell_later_pairs.ensures
+
+pub returns-in_err-told : goal.returns-in_err-told
+returns-in_err-told c = stays-after _ _ _ _ c.explain_overlap.ensures.stays c.pair_claims.ensures.stays c.tell_later_pairs.ensures
+
+pub returns : goal.returns
+returns c = stays-after _ _ _ _ c.explain_overlap.ensures.stays c.pair_claims.ensures.stays c.tell_later_pairs.ensures
