@@ -5,7 +5,7 @@ use Rattle.std.specs.List.{slice_get}
 use Rattle.std.proofs.lemmas.Bool.{eqb-true}
 use Rattle.type_terms.specs.Promised.Label.{Label, Sort, of_type, of_const, of_lifetime, infer, param, placeholder, canonical, bound, static, dynamic, principal, auto_trait, predicate}
 use Rattle.type_terms.specs.Promised.Trees.{Trees, none, tree, leaf, ◌+++◌, sort_of, is_sort}
-use Rattle.type_terms.specs.Trees.{is_a, is_no_tree, placed, Single}
+use Rattle.type_terms.specs.Trees.{is_a, is_no_tree, put_at_node, Single}
 use Rattle.infer_table.specs.Canonical.{kind_of_leaf, kind_in_clause, leaves, goal_leaves}
 use Rattle.infer_table.specs.Solutions.{Assignment, IsSorted, Binding, tree_of, resolved, is_same_variable, HasValues, Acyclic}
 use Rattle.infer_table.specs.Unification.{TableTrees, Worklist, unified}
@@ -50,12 +50,12 @@ slots-leaves good ls h none = tt
 slots-leaves good ls h (tree l c o) = by (slot-cases good ls h l) (slots-leaves good ls h c) (slots-leaves good ls h o)
   where
     by : ((x : Trees) × (slot_at ls l ≡ Some x) × IsLeafOf good ls h l x) ⊎ (slot_at ls l ≡ None) → EachLabel (IsLeafIn good) (put_in (slot_at ls) c) → EachLabel (IsLeafIn good) (put_in (slot_at ls) o)
-        → EachLabel (IsLeafIn good) (placed (slot_at ls l) (tree l (put_in (slot_at ls) c) none) +++ put_in (slot_at ls) o)
+        → EachLabel (IsLeafIn good) (put_at_node (slot_at ls l) (tree l (put_in (slot_at ls) c) none) +++ put_in (slot_at ls) o)
     by (inl y) p q =
-        subst (λ z. EachLabel (IsLeafIn good) (placed z (tree l (put_in (slot_at ls) c) none) +++ put_in (slot_at ls) o)) (sym y.1)
+        subst (λ z. EachLabel (IsLeafIn good) (put_at_node z (tree l (put_in (slot_at ls) c) none) +++ put_in (slot_at ls) o)) (sym y.1)
         (subst (λ z. EachLabel (IsLeafIn good) (z +++ put_in (slot_at ls) o)) (sym y.2.is) (λ i. y.2.made, tt, q))
     by (inr e) p q =
-        subst (λ z. EachLabel (IsLeafIn good) (placed z (tree l (put_in (slot_at ls) c) none) +++ put_in (slot_at ls) o)) (sym e) (static-leaf good ls h l e, p, q)
+        subst (λ z. EachLabel (IsLeafIn good) (put_at_node z (tree l (put_in (slot_at ls) c) none) +++ put_in (slot_at ls) o)) (sym e) (static-leaf good ls h l e, p, q)
 
 -- each leaf is one of the table's
 abbrev pub AreTheirs : (Label → Bool) → List Label → Type 0
@@ -186,7 +186,7 @@ pub record IsNewAt (known : ℕ → Option Value) (t : TableTrees) (from : ℕ) 
   pub counted : number < unknowns_of (table_for known t from ks) s
   pub stands : (u q : Assignment) → extended u q known t from ks s number ≡ q s i
 
-some-kind : (k d : CanonicalVarKind) → Some k ≡ Some d → k ≡ d
+pub some-kind : (k d : CanonicalVarKind) → Some k ≡ Some d → k ≡ d
 some-kind k d e = cc
 
 none-kind : (k : CanonicalVarKind) (T : Type 0) → None ≡ Some k → T
@@ -365,13 +365,13 @@ infer-leaf kinds u of_lifetime n h = refl
 
 pub filled-is : (vs : List Value) (t : Trees) → filled_values vs t ≡ put_in (value_for vs) t
 filled-is vs none = refl
-filled-is vs (tree l c o) = ap (λ z. placed (value_for vs l) (tree l z none) +++ filled_values vs o) (filled-is vs c) ∙ ap (λ z. placed (value_for vs l) (tree l (put_in (value_for vs) c) none) +++ z) (filled-is vs o)
+filled-is vs (tree l c o) = ap (λ z. put_at_node (value_for vs l) (tree l z none) +++ filled_values vs o) (filled-is vs c) ∙ ap (λ z. put_at_node (value_for vs l) (tree l (put_in (value_for vs) c) none) +++ z) (filled-is vs o)
 
 filled-append : (vs : List Value) (x y : Trees) → filled_values vs (x +++ y) ≡ filled_values vs x +++ filled_values vs y
 filled-append vs none y = refl
 filled-append vs (tree l c o) y =
-    ap (λ z. placed (value_for vs l) (tree l (filled_values vs c) none) +++ z) (filled-append vs o y)
-    ∙ sym (append-assoc (placed (value_for vs l) (tree l (filled_values vs c) none)) (filled_values vs o) (filled_values vs y))
+    ap (λ z. put_at_node (value_for vs l) (tree l (filled_values vs c) none) +++ z) (filled-append vs o y)
+    ∙ sym (append-assoc (put_at_node (value_for vs l) (tree l (filled_values vs c) none)) (filled_values vs o) (filled_values vs y))
 
 -- ---- pairs in turn
 abbrev pairs_with : List Value → List (Value × Value) → Worklist

@@ -21,7 +21,7 @@ use Rattle.goal_evaluator.specs.Ends.{RunIsRefused, Awaits, EndsIn, ContextIsAns
 use Rattle.goal_evaluator.specs.Evaluating.{AskedQuestion, NestedTrees, evaluation, question_of, goals_trees, replies_trees}
 use Rattle.goal_evaluator.proofs.OwnAnswers.{same-answer}
 use Rattle.goal_evaluator.specs.Frames.{FrameTrees, begun, fresh, equate, nested_filled}
-use Rattle.goal_evaluator.specs.Trial.{SpecTrees, answered, asked, equated, candidate}
+use Rattle.goal_evaluator.specs.Trial.{SpecTrees, answered, asked_in_rounds, equated, candidate}
 use Rattle.goal_evaluator.specs.TrialEnds.{IsTried, CandidateEnds}
 use Rattle.goal_evaluator.specs.Script.{done}
 use Rattle.infer_table.specs.declared.canonical.CanonicalVarKind.{CanonicalVarKind}
@@ -55,7 +55,7 @@ module _ (mode : TypingMode) (es : List Entry) (old new : Context) (t : FrameTre
   pub asked-ends : (ns goals : List NestedTrees) (rs replies : List (Option AnswerTrees)) (table : TableTrees) (x : Result (EvalStep CanonicalResponse) EvalError)
       → goals ≡ map (nested_filled t.values) ns → table ≡ t.table → replies ≡ rs
       → AnswerEnds mode es old new c (run (rounds (evaluation mode) FIXPOINT_STEP_LIMIT goals table) replies) x
-      → CandidateEnds es (run (asked mode ns c t) rs) x
+      → CandidateEnds es (run (asked_in_rounds mode ns c t) rs) x
   asked-ends ns goals rs replies table x e f g h =
       let there = subst (λ z. AnswerEnds mode es old new c (run (rounds (evaluation mode) FIXPOINT_STEP_LIMIT (map (nested_filled t.values) ns) t.table) z) x) g
       (subst (λ (z : TableTrees). AnswerEnds mode es old new c (run (rounds (evaluation mode) FIXPOINT_STEP_LIMIT (map (nested_filled t.values) ns) z) replies) x) f
@@ -69,9 +69,9 @@ module _ (es1 es2 : List Entry) (mid after : Context) (t : FrameTrees) (c : Cert
   pub nested-ends : (mode : TypingMode) (ns : List NestedTrees) (rs : List (Option AnswerTrees)) (x : Result (EvalStep CanonicalResponse) EvalError)
       → mid.mode ≡ mode → goals_trees es1 mid.nested ≡ map (nested_filled t.values) ns → table_trees es1 mid.table ≡ t.table → replies_trees es1 mid.replies ≡ rs
       → AnswerEnds mid.mode es2 mid after c (run (rounds (evaluation mid.mode) FIXPOINT_STEP_LIMIT (goals_trees es1 mid.nested) (table_trees es1 mid.table)) (replies_trees es1 mid.replies)) x
-      → CandidateEnds es2 (run (asked mode ns c t) rs) x
+      → CandidateEnds es2 (run (asked_in_rounds mode ns c t) rs) x
   nested-ends mode ns rs x e f g h r =
-      subst (λ (m : TypingMode). CandidateEnds es2 (run (asked m ns c t) rs) x) e
+      subst (λ (m : TypingMode). CandidateEnds es2 (run (asked_in_rounds m ns c t) rs) x) e
       (asked-ends mid.mode es2 mid after t c kinds own ns (goals_trees es1 mid.nested) rs (replies_trees es1 mid.replies) (table_trees es1 mid.table) x f g h r)
 
 -- ---- before the nested goals
@@ -81,8 +81,8 @@ module _ (mode : TypingMode) (kinds : List CanonicalVarKind) (s : SpecTrees) whe
   script-refused e = ap (equated mode s) e
 
   -- all hold
-  pub script-tried : (t : FrameTrees) → IsTried kinds s t → candidate mode (begun kinds) s ≡ asked mode s.nested s.certainty t
-  script-tried t h = ap (equated mode s) h.holds ∙ ap (λ (z : FrameTrees). asked mode s.nested s.certainty z) (sym h.is)
+  pub script-tried : (t : FrameTrees) → IsTried kinds s t → candidate mode (begun kinds) s ≡ asked_in_rounds mode s.nested s.certainty t
+  script-tried t h = ap (equated mode s) h.holds ∙ ap (λ (z : FrameTrees). asked_in_rounds mode s.nested s.certainty z) (sym h.is)
 
   pub trial-refused : (es : List Entry) (rs : List (Option AnswerTrees)) (e : EvalError) → (e ≡ NoSolution → equate (fresh (begun kinds) s.kinds) s.equations ≡ None)
       → CandidateEnds es (run (candidate mode (begun kinds) s) rs) (Err e)

@@ -2,7 +2,7 @@
 use Rattle.std.proofs.Common.{◌≡◌, ℕ, zero, suc, Bool, true, false, not, ◌&&◌, ◌||◌, List, [], ◌∷◌, refl, sym, ◌∙◌, ap, subst, Option, Some, None, if◌then◌else◌, ◌⊎◌, inl, inr}
 use Rattle.type_terms.specs.Promised.Label.{Label, Sort, of_type, of_const, of_lifetime, infer, param, placeholder, canonical, static, dynamic, principal, auto_trait, bound, predicate}
 use Rattle.type_terms.specs.Promised.Trees.{Trees, none, tree, leaf, ◌+++◌, sort_of, is_sort}
-use Rattle.type_terms.specs.Trees.{is_a, is_no_tree, placed, Single}
+use Rattle.type_terms.specs.Trees.{is_a, is_no_tree, put_at_node, Single}
 use Rattle.infer_table.specs.Unification.{TableTrees, Worklist, unified}
 use Rattle.infer_table.specs.Solutions.{IsSorted, HasValues}
 use Rattle.infer_table.specs.declared.canonical.CanonicalVarKind.{CanonicalVarKind}
@@ -86,10 +86,10 @@ module _ (good : Label → Bool) (ls : List Label) (h : AreSlots good ls) where
 
       by : ((x : Trees) × (slot_at ls l ≡ Some x) × IsLeafOf l x) ⊎ (slot_at ls l ≡ None) → is_made good terms (put_in (slot_at ls) (tree l c o)) ≡ true
       by (inl y) =
-          ap (λ z. is_made good terms (placed z (tree l (put_in (slot_at ls) c) none) +++ put_in (slot_at ls) o)) y.1
+          ap (λ z. is_made good terms (put_at_node z (tree l (put_in (slot_at ls) c) none) +++ put_in (slot_at ls) o)) y.1
           ∙ made-append good y.0 (put_in (slot_at ls) o) (ap (is_made good terms) y.2.is ∙ y.2.made) q
       by (inr e) =
-          ap (λ z. is_made good terms (placed z (tree l (put_in (slot_at ls) c) none) +++ put_in (slot_at ls) o)) e
+          ap (λ z. is_made good terms (put_at_node z (tree l (put_in (slot_at ls) c) none) +++ put_in (slot_at ls) o)) e
           ∙ makes-ordinary good l (put_in (slot_at ls) c) (put_in (slot_at ls) o) i (h.others l parts.0 e) (leaf-put l c parts.1) p q
 
   -- the lifetime at the end of the bounds of a `dyn` type
@@ -113,15 +113,15 @@ module _ (good : Label → Bool) (ls : List Label) (h : AreSlots good ls) where
       (subst (λ z. (is_made good traits (put_in (slot_at ls) (tree l none z)) ≡ true) × (is_made good bounds (put_in (slot_at ls) (tree l none z)) ≡ true)) (sym x.rest)
       (by (slot-cases l)))
     where
-      at : (y : Trees) → placed (slot_at ls l) (leaf l) +++ none ≡ y → (is_made good traits y ≡ true) × (is_made good bounds y ≡ true)
+      at : (y : Trees) → put_at_node (slot_at ls l) (leaf l) +++ none ≡ y → (is_made good traits y ≡ true) × (is_made good bounds y ≡ true)
           → (is_made good traits (put_in (slot_at ls) (leaf l)) ≡ true) × (is_made good bounds (put_in (slot_at ls) (leaf l)) ≡ true)
       at y e p = (ap (is_made good traits) e ∙ p.0, ap (is_made good bounds) e ∙ p.1)
 
       by : ((y : Trees) × (slot_at ls l ≡ Some y) × IsLeafOf l y) ⊎ (slot_at ls l ≡ None) → (is_made good traits (put_in (slot_at ls) (leaf l)) ≡ true) × (is_made good bounds (put_in (slot_at ls) (leaf l)) ≡ true)
       by (inl y) =
           let e = ap (λ z. is_sort z of_lifetime) y.2.sort ∙ x.lifetime in
-          at (leaf y.2.label) (ap (λ z. placed z (leaf l) +++ none) y.1 ∙ append-none y.0 ∙ y.2.is) (last-made terms y.2.label e (leaf-good y.2.label e y.2.made))
-      by (inr e) = at (leaf l) (ap (λ z. placed z (leaf l) +++ none) e) (last-made terms l x.lifetime (h.others l x.good_label e))
+          at (leaf y.2.label) (ap (λ z. put_at_node z (leaf l) +++ none) y.1 ∙ append-none y.0 ∙ y.2.is) (last-made terms y.2.label e (leaf-good y.2.label e y.2.made))
+      by (inr e) = at (leaf l) (ap (λ z. put_at_node z (leaf l) +++ none) e) (last-made terms l x.lifetime (h.others l x.good_label e))
 
   pub made-put : (m : Standing) (t : Trees) → is_made is_open_label m t ≡ true → is_made good m (put_in (slot_at ls) t) ≡ true
   made-put terms none e = refl
@@ -219,8 +219,8 @@ single-put good ls h none s = absurd s
 single-put good ls h (tree l c o) s = subst (λ z. Single (put_in (slot_at ls) (tree l c z))) (sym s) (by (slot-cases good ls h l))
   where
     by : ((x : Trees) × (slot_at ls l ≡ Some x) × IsLeafOf good ls h l x) ⊎ (slot_at ls l ≡ None) → Single (put_in (slot_at ls) (tree l c none))
-    by (inl y) = subst (λ z. Single (placed z (tree l (put_in (slot_at ls) c) none) +++ none)) (sym y.1) (subst (λ z. Single (z +++ none)) (sym y.2.is) refl)
-    by (inr e) = subst (λ z. Single (placed z (tree l (put_in (slot_at ls) c) none) +++ none)) (sym e) refl
+    by (inl y) = subst (λ z. Single (put_at_node z (tree l (put_in (slot_at ls) c) none) +++ none)) (sym y.1) (subst (λ z. Single (z +++ none)) (sym y.2.is) refl)
+    by (inr e) = subst (λ z. Single (put_at_node z (tree l (put_in (slot_at ls) c) none) +++ none)) (sym e) refl
 
 pub slots-of : (t : FrameTable) → IsMadeFrame t → AreSlots (good_in t) t.labels
 slots-of t made = frame-slots t.kinds t.content.ty_vars t.content.const_vars t.labels made.leaves

@@ -3,7 +3,7 @@ use Rattle.std.proofs.Common.{◌≡◌, ℕ, zero, suc, ◌+◌, ◌==◌, not,
 use Rattle.std.specs.List.{slice_get}
 use Rattle.type_terms.specs.Promised.Label.{Label, Sort, of_type, of_const, of_lifetime, infer, param, placeholder, canonical, bound, static}
 use Rattle.type_terms.specs.Promised.Trees.{Trees, none, tree, leaf, ◌+++◌, is_sort}
-use Rattle.type_terms.specs.Trees.{is_a, placed}
+use Rattle.type_terms.specs.Trees.{is_a, put_at_node}
 use Rattle.type_terms.specs.Made.{terms, is_leaf_label, is_made}
 use Rattle.infer_table.specs.Canonical.{GoalTrees}
 use Rattle.infer_table.specs.Unification.{TableTrees}
@@ -41,21 +41,21 @@ filled-over ls (tree l c o) h = node l c o h.0 h.1 (filled-over ls c h.2) (fille
     same : (l : Label) (c o : Trees) → value_for (map leaf_value ls) l ≡ None → slot_at ls l ≡ None → filled_values (map leaf_value ls) c ≡ put_in (slot_at ls) c → filled_values (map leaf_value ls) o ≡ put_in (slot_at ls) o
         → filled_values (map leaf_value ls) (tree l c o) ≡ put_in (slot_at ls) (tree l c o)
     same l c o e f p q =
-        ap (λ z. placed z (tree l (filled_values (map leaf_value ls) c) none) +++ filled_values (map leaf_value ls) o) e
+        ap (λ z. put_at_node z (tree l (filled_values (map leaf_value ls) c) none) +++ filled_values (map leaf_value ls) o) e
         ∙ ap (λ z. tree l z (filled_values (map leaf_value ls) o)) p ∙ ap (tree l (put_in (slot_at ls) c)) q
-        ∙ ap (λ z. placed z (tree l (put_in (slot_at ls) c) none) +++ put_in (slot_at ls) o) (sym f)
+        ∙ ap (λ z. put_at_node z (tree l (put_in (slot_at ls) c) none) +++ put_in (slot_at ls) o) (sym f)
 
     leaf-stays : (l : Label) (c o : Trees) → value_for (map leaf_value ls) l ≡ None → slot_at ls l ≡ Some (leaf l) → c ≡ none → filled_values (map leaf_value ls) o ≡ put_in (slot_at ls) o
         → filled_values (map leaf_value ls) (tree l c o) ≡ put_in (slot_at ls) (tree l c o)
     leaf-stays l c o e f n q =
-        ap (λ z. placed z (tree l (filled_values (map leaf_value ls) c) none) +++ filled_values (map leaf_value ls) o) e
+        ap (λ z. put_at_node z (tree l (filled_values (map leaf_value ls) c) none) +++ filled_values (map leaf_value ls) o) e
         ∙ ap (λ z. tree l (filled_values (map leaf_value ls) z) (filled_values (map leaf_value ls) o)) n ∙ ap (tree l none) q
-        ∙ ap (λ z. placed z (tree l (put_in (slot_at ls) c) none) +++ put_in (slot_at ls) o) (sym f)
+        ∙ ap (λ z. put_at_node z (tree l (put_in (slot_at ls) c) none) +++ put_in (slot_at ls) o) (sym f)
 
     node : (l : Label) (c o : Trees) → is_slot ls l ≡ true → (is_leaf_label l ≡ true → c ≡ none) → filled_values (map leaf_value ls) c ≡ put_in (slot_at ls) c → filled_values (map leaf_value ls) o ≡ put_in (slot_at ls) o
         → filled_values (map leaf_value ls) (tree l c o) ≡ put_in (slot_at ls) (tree l c o)
     node (canonical s i) c o h n p q =
-        ap (λ z. placed z (tree (canonical s i) (filled_values (map leaf_value ls) c) none) +++ filled_values (map leaf_value ls) o) (slot-label s ls i h)
+        ap (λ z. put_at_node z (tree (canonical s i) (filled_values (map leaf_value ls) c) none) +++ filled_values (map leaf_value ls) o) (slot-label s ls i h)
         ∙ ap (λ z. leaf (label_of_sort s (label_at ls i)) +++ z) q
     node (infer k v) c o h n p q = absurd (false-true h)
     node (param k v) c o h n p q = absurd (false-true h)

@@ -49,7 +49,7 @@ leaves-are seen (l ∷ ls) f =
     ∙ ap (λ b. leaves kind_of_leaf (if b then seen else seen ++ l ∷ []) (joined (map (λ l. leaf l) ls))) f.1
     ∙ leaves-are (seen ++ l ∷ []) ls f.2 ∙ append-list seen l ls
 
-or-false : (a b : Bool) → (a || b) ≡ false → (a ≡ false) × (b ≡ false)
+pub or-false : (a b : Bool) → (a || b) ≡ false → (a ≡ false) × (b ≡ false)
 or-false true b h = absurd (false-true (sym h))
 or-false false b h = (refl, h)
 

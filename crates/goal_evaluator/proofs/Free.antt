@@ -2,7 +2,7 @@
 use Rattle.std.proofs.Common.{◌≡◌, ℕ, Bool, true, false, ◌&&◌, List, [], ◌∷◌, refl, sym, ◌∙◌, ap, subst, Some, None, if◌then◌else◌, ◌⊎◌, inl, inr}
 use Rattle.type_terms.specs.Promised.Label.{Label, Sort, of_type, of_const, of_lifetime, infer}
 use Rattle.type_terms.specs.Promised.Trees.{Trees, none, tree, leaf, ◌+++◌, sort_of, is_sort, erase_label}
-use Rattle.type_terms.specs.Trees.{is_a, Single, placed}
+use Rattle.type_terms.specs.Trees.{is_a, Single, put_at_node}
 use Rattle.infer_table.specs.Content.{IsProper}
 use Rattle.infer_table.specs.Solutions.{Assignment, Binding, tree_of, is_same_variable, value_in, replace, resolved, HasValues, Acyclic, is_rigid}
 use Rattle.infer_table.specs.Unification.{TableTrees, term_sort}
@@ -109,9 +109,9 @@ module _ (good : Label → Bool) (t : TableTrees) (values : Every (IsValue good)
   rigid-reads : (l : Label) (c o : Trees) → is_rigid l ≡ true → read_with (standing completed) c ≡ read_with (standing based) (resolved t.bindings c) → read_with (standing completed) o ≡ read_with (standing based) (resolved t.bindings o)
       → read_with (standing completed) (tree l c o) ≡ read_with (standing based) (resolved t.bindings (tree l c o))
   rigid-reads l c o r p q =
-      ap (λ z. placed z (tree (erase_label l) (read_with (standing completed) c) none) +++ read_with (standing completed) o) (same-standing completed based refl l (rigid-same l r))
-      ∙ ap (λ z. placed (standing based l) (tree (erase_label l) z none) +++ read_with (standing completed) o) p
-      ∙ ap (λ z. placed (standing based l) (tree (erase_label l) (read_with (standing based) (resolved t.bindings c)) none) +++ z) q
+      ap (λ z. put_at_node z (tree (erase_label l) (read_with (standing completed) c) none) +++ read_with (standing completed) o) (same-standing completed based refl l (rigid-same l r))
+      ∙ ap (λ z. put_at_node (standing based l) (tree (erase_label l) z none) +++ read_with (standing completed) o) p
+      ∙ ap (λ z. put_at_node (standing based l) (tree (erase_label l) (read_with (standing based) (resolved t.bindings c)) none) +++ z) q
       ∙ sym (ap (read_with (standing based)) (resolved-rigid t.bindings l c o r))
 
   pub completed-reads : (x : Trees) → IsProper x → read_with (standing completed) x ≡ read_with (standing based) (resolved t.bindings x)

@@ -3,7 +3,7 @@ use Rattle.std.proofs.Common.{◌≡◌, ℕ, Bool, true, false, not, ◌||◌, 
 use Rattle.std.specs.Prelude.{IsSome}
 use Rattle.type_terms.specs.Promised.Label.{Label, Sort, of_lifetime, infer, static, dynamic, principal, auto_trait, predicate}
 use Rattle.type_terms.specs.Promised.Trees.{Trees, none, tree, leaf, ◌+++◌, sort_of, is_sort}
-use Rattle.type_terms.specs.Trees.{is_no_tree, placed, Single}
+use Rattle.type_terms.specs.Trees.{is_no_tree, put_at_node, Single}
 use Rattle.infer_table.specs.Canonical.{OpenKinds, kind_of_leaf, kind_in_clause, is_label_among, with_label, leaves}
 use Rattle.infer_table.specs.Solutions.{Binding, replace, is_same_variable, resolved}
 use Rattle.goal_evaluator.specs.Lists.{Every}
@@ -165,10 +165,10 @@ module _ (good better : Label → Bool) (put : Label → Option Trees) (h : Puts
 
       by : IsLeafFor better put l ⊎ ((put l ≡ None) × (better l ≡ true)) → is_made better terms (put_in put (tree l c o)) ≡ true
       by (inl y) =
-          ap (λ z. is_made better terms (placed z (tree l (put_in put c) none) +++ put_in put o)) y.is
+          ap (λ z. is_made better terms (put_at_node z (tree l (put_in put c) none) +++ put_in put o)) y.is
           ∙ made-append better (leaf y.label) (put_in put o) y.made q
       by (inr e) =
-          ap (λ z. is_made better terms (placed z (tree l (put_in put c) none) +++ put_in put o)) e.0
+          ap (λ z. is_made better terms (put_at_node z (tree l (put_in put c) none) +++ put_in put o)) e.0
           ∙ makes-ordinary better l (put_in put c) (put_in put o) i e.1 (leaf-put l c parts.1) p q
 
   leaf-good : (l : Label) → is_sort (sort_of l) of_lifetime ≡ true → is_made better terms (leaf l) ≡ true → better l ≡ true
@@ -191,18 +191,18 @@ module _ (good better : Label → Bool) (put : Label → Option Trees) (h : Puts
       (subst (λ z. (is_made better traits (put_in put (tree l none z)) ≡ true) × (is_made better bounds (put_in put (tree l none z)) ≡ true)) (sym x.rest)
       (by (h.leaf_or_stays l (lifetime-ordinary l x.lifetime) x.good_label)))
     where
-      at : (y : Trees) → placed (put l) (leaf l) +++ none ≡ y → (is_made better traits y ≡ true) × (is_made better bounds y ≡ true)
+      at : (y : Trees) → put_at_node (put l) (leaf l) +++ none ≡ y → (is_made better traits y ≡ true) × (is_made better bounds y ≡ true)
           → (is_made better traits (put_in put (leaf l)) ≡ true) × (is_made better bounds (put_in put (leaf l)) ≡ true)
       at y e p = (ap (is_made better traits) e ∙ p.0, ap (is_made better bounds) e ∙ p.1)
 
       by : IsLeafFor better put l ⊎ ((put l ≡ None) × (better l ≡ true)) → (is_made better traits (put_in put (leaf l)) ≡ true) × (is_made better bounds (put_in put (leaf l)) ≡ true)
       by (inl y) =
           let e = ap (λ z. is_sort z of_lifetime) y.sort ∙ x.lifetime in
-          at (leaf y.label) (ap (λ z. placed z (leaf l) +++ none) y.is) (last-made better y.label e (leaf-good y.label e y.made))
-      by (inr e) = at (leaf l) (ap (λ z. placed z (leaf l) +++ none) e.0) (last-made better l x.lifetime e.1)
+          at (leaf y.label) (ap (λ z. put_at_node z (leaf l) +++ none) y.is) (last-made better y.label e (leaf-good y.label e y.made))
+      by (inr e) = at (leaf l) (ap (λ z. put_at_node z (leaf l) +++ none) e.0) (last-made better l x.lifetime e.1)
 
   stays : (l : Label) (c o : Trees) → is_ordinary l ≡ false → put_in put (tree l c o) ≡ tree l (put_in put c) (put_in put o)
-  stays l c o e = ap (λ z. placed z (tree l (put_in put c) none) +++ put_in put o) (h.others l e)
+  stays l c o e = ap (λ z. put_at_node z (tree l (put_in put c) none) +++ put_in put o) (h.others l e)
 
   pub made-put-in : (m : Standing) (t : Trees) → is_made good m t ≡ true → is_made better m (put_in put t) ≡ true
   made-put-in terms none e = refl
@@ -243,10 +243,10 @@ module _ (good better : Label → Bool) (put : Label → Option Trees) (h : Puts
   single-put-in (tree l c o) e s = subst (λ z. Single (put_in put (tree l c z))) (sym s) (by (is_ordinary l) refl)
     where
       alone : put l ≡ None → Single (put_in put (tree l c none))
-      alone e = subst (λ z. Single (placed z (tree l (put_in put c) none) +++ none)) (sym e) refl
+      alone e = subst (λ z. Single (put_at_node z (tree l (put_in put c) none) +++ none)) (sym e) refl
 
       case : IsLeafFor better put l ⊎ ((put l ≡ None) × (better l ≡ true)) → Single (put_in put (tree l c none))
-      case (inl y) = subst (λ z. Single (placed z (tree l (put_in put c) none) +++ none)) (sym y.is) refl
+      case (inl y) = subst (λ z. Single (put_at_node z (tree l (put_in put c) none) +++ none)) (sym y.is) refl
       case (inr e) = alone e.0
 
       by : (b : Bool) → is_ordinary l ≡ b → Single (put_in put (tree l c none))

@@ -23,9 +23,7 @@ use Rattle.infer_table.proofs.PairFacts.{constraints-later}
 use Rattle.goal_evaluator.specs.Context.{NestedGoal, GoalIsHeld, NestedHeld}
 use Rattle.goal_evaluator.specs.Evaluating.{NestedTrees, nested_trees, goals_trees, replies_trees}
 use Rattle.type_terms.proofs.ListBasics.{one-more}
-
-node : (l : Label) (c d o p : Trees) → c ≡ d → o ≡ p → tree l c o ≡ tree l d p
-node l c d o p e f = cc
+use Rattle.infer_table.proofs.SolvableLaws.{tree-cong as node}
 
 one-goal : (s : GoalSource) (a b p q : Trees) → a ≡ b → p ≡ q
     → ◌≡◌ {A = NestedTrees} (record { source = s; goal = record { environment = a; predicate = p } }) (record { source = s; goal = record { environment = b; predicate = q } })

@@ -3,7 +3,7 @@ use Rattle.std.proofs.Common.{◌≡◌, ℕ, zero, suc, Bool, true, false, not,
 use Rattle.std.specs.Prelude.{IsSome}
 use Rattle.type_terms.specs.Promised.Label.{Label, Sort, of_type, of_const, of_lifetime, infer, param, placeholder, canonical, bound, static, dynamic, principal, auto_trait, predicate}
 use Rattle.type_terms.specs.Promised.Trees.{Trees, none, tree, leaf, ◌+++◌, erase_label, sort_of, is_sort}
-use Rattle.type_terms.specs.Trees.{placed, is_no_tree}
+use Rattle.type_terms.specs.Trees.{put_at_node, is_no_tree}
 use Rattle.infer_table.specs.Content.{IsProper}
 use Rattle.infer_table.specs.Canonical.{OpenKinds, StandsIn, with_label, is_label_among, leaves}
 use Rattle.infer_table.specs.Solutions.{Binding, tree_of, replace, resolved, occurs, is_same_variable}
@@ -18,6 +18,7 @@ use Rattle.type_terms.proofs.Made.{false-true, left, right, no-tree, made-ordina
 use Rattle.goal_evaluator.proofs.Reading.{read-append}
 use Rattle.goal_evaluator.proofs.Whole.{IsOne, read-one}
 use Rattle.type_terms.proofs.BooleanBasics.{or-left}
+use Rattle.infer_table.proofs.SolutionLaws.{or-right}
 
 -- ---- nodes
 -- no parameter of types or consts and no canonical variable, and nothing below what stands for a term
@@ -134,7 +135,7 @@ put-nodes : (ls : List Label) → Every (λ l. IsNode l none) ls → (t : Trees)
 put-nodes ls h none = tt
 put-nodes ls h (tree l c o) = node l (put_in (slot_at ls) c) (put_in (slot_at ls) o) (put-nodes ls h c) (put-nodes ls h o)
   where
-    node : (l : Label) (d p : Trees) → AreNodes d → AreNodes p → AreNodes (placed (slot_at ls l) (tree l d none) +++ p)
+    node : (l : Label) (d p : Trees) → AreNodes d → AreNodes p → AreNodes (put_at_node (slot_at ls l) (tree l d none) +++ p)
     node (canonical k i) d p a b = nodes-append (leaf (label_of_sort k (label_at ls i))) p (slot-nodes k (label_at ls i) (label-node ls h i)) b
     node (infer k v) d p a b = nodes-append (leaf (default_label k)) p (default-nodes k) b
     node (param k v) d p a b = nodes-append (leaf (default_label k)) p (default-nodes k) b
@@ -257,10 +258,6 @@ module _ (s r : ChosenTerms) (sorted : (k : Sort) (v : ℕ) → sort_of (s.unkno
       by (inr (inl j)) q b f g = below b f j
       by (inr (inr j)) q b f g = g j
 
-or-right : (a b : Bool) → (a || b) ≡ false → b ≡ false
-or-right true b e = absurd (false-true (sym e))
-or-right false b e = e
-
 -- two readings that differ at one unknown alone are equal where it does not stand
 module _ (s r : ChosenTerms) (own : s.own ≡ r.own) (k : Sort) (v : ℕ) (others : (j : Sort) (w : ℕ) → is_same_variable j w k v ≡ false → s.unknowns j w ≡ r.unknowns j w) where
   standing-placeholder : (j : Sort) (i : ℕ) → standing s (placeholder j i) ≡ standing r (placeholder j i)
@@ -271,9 +268,9 @@ module _ (s r : ChosenTerms) (own : s.own ≡ r.own) (k : Sort) (v : ℕ) (other
   read-node : (l : Label) (c o : Trees) → standing s l ≡ standing r l → read_with (standing s) c ≡ read_with (standing r) c → read_with (standing s) o ≡ read_with (standing r) o
       → read_with (standing s) (tree l c o) ≡ read_with (standing r) (tree l c o)
   read-node l c o e p q =
-      ap (λ z. placed z (tree (erase_label l) (read_with (standing s) c) none) +++ read_with (standing s) o) e
-      ∙ ap (λ z. placed (standing r l) (tree (erase_label l) z none) +++ read_with (standing s) o) p
-      ∙ ap (λ z. placed (standing r l) (tree (erase_label l) (read_with (standing r) c) none) +++ z) q
+      ap (λ z. put_at_node z (tree (erase_label l) (read_with (standing s) c) none) +++ read_with (standing s) o) e
+      ∙ ap (λ z. put_at_node (standing r l) (tree (erase_label l) z none) +++ read_with (standing s) o) p
+      ∙ ap (λ z. put_at_node (standing r l) (tree (erase_label l) (read_with (standing r) c) none) +++ z) q
 
   pub read-absent : (t : Trees) → occurs k v t ≡ false → read_with (standing s) t ≡ read_with (standing r) t
   read-absent none h = refl

@@ -10,7 +10,7 @@ use Rattle.goal_evaluator.specs.declared.TheConstants.{FIXPOINT_STEP_LIMIT}
 use Rattle.goal_evaluator.specs.declared.goal.GoalSource.{GoalSource}
 use Rattle.goal_evaluator.specs.declared.resuming.Evaluation.{Evaluation}
 use Rattle.goal_evaluator.specs.declared.resuming.OpenRound.{OpenRound}
-use Rattle.goal_evaluator.specs.OpenRounds.{rest_of}
+use Rattle.goal_evaluator.specs.OpenRounds.{rest_of_round}
 use Rattle.infer_table.specs.Responses.{AnswerTrees, answer_trees}
 use Rattle.goal_evaluator.specs.Ends.{RunIsRefused, Awaits, EndsIn}
 use Rattle.goal_evaluator.specs.Replays.{ready, waits, run}
@@ -25,7 +25,7 @@ use Rattle.goal_evaluator.specs.Evaluating.{NestedTrees, question_of, evaluation
 use Rattle.goal_evaluator.specs.Frames.{FrameTrees, begun, fresh, equate, nested_filled}
 use Rattle.goal_evaluator.specs.Rounds.{Rounds, rounds}
 use Rattle.goal_evaluator.specs.Script.{Script, done, ask, followed}
-use Rattle.goal_evaluator.specs.Trial.{SpecTrees, premises_trees, answered, asked, candidate}
+use Rattle.goal_evaluator.specs.Trial.{SpecTrees, premises_trees, answered, asked_in_rounds, candidate}
 use Rattle.goal_evaluator.specs.OpenCandidates.{CandidateAsking, finished, rest_script, rounds_script, after_reply, StandsAt, OpenHeld}
 use Rattle.goal_evaluator.specs.Replayed.{after, IsReplayed, EndsAsReplayed, ResumingReplays, BeginningReplays}
 use Rattle.goal_evaluator.proofs.Ending.{script-refused}
@@ -93,7 +93,7 @@ pub rounds-begin : (es : List Entry) (e : Evaluation) (r : OpenRound) → r.left
 rounds-begin es e r none-left unchanged sure goals =
     ap (followed (finished e.mode e.variables.items (values_of es e.own.items) e.certainty))
     ((rounds-go-on (evaluation e.mode)).begins 7 (premises_trees es goals) (table_trees es e.table)
-    ∙ λ i. rest_of (evaluation e.mode) (record { limit = 7; left = premises_trees es (sym none-left i); changed = sym unchanged i; certainty = sym sure i }) (premises_trees es goals) (table_trees es e.table))
+    ∙ λ i. rest_of_round (evaluation e.mode) (record { limit = 7; left = premises_trees es (sym none-left i); changed = sym unchanged i; certainty = sym sure i }) (premises_trees es goals) (table_trees es e.table))
 
 -- an equation is refused
 pub begin-refused : (mode : TypingMode) (kinds : List CanonicalVarKind) (s : SpecTrees) (es : List Entry) (e : EvalError) → (e ≡ NoSolution → equate (fresh (begun kinds) s.kinds) s.equations ≡ None)
@@ -104,7 +104,7 @@ begin-refused mode kinds s es NoSolution h = script-refused mode kinds s (h refl
 -- the nested goals, with the values put in
 pub nested-begin : (es : List Entry) (t : FrameTrees) (ns : List NestedTrees) (e : Evaluation) (goals : List (GoalSource × Goal))
     → e.variables.items ≡ t.kinds → values_of es e.own.items ≡ t.own → table_trees es e.table ≡ t.table → premises_trees es goals ≡ map (nested_filled t.values) ns
-    → rounds_script es e goals ≡ asked e.mode ns e.certainty t
+    → rounds_script es e goals ≡ asked_in_rounds e.mode ns e.certainty t
 nested-begin es t ns e goals a b d f =
     (λ i. followed (finished e.mode (a i) (b i) e.certainty) (rounds (evaluation e.mode) FIXPOINT_STEP_LIMIT (f i) (d i)))
     ∙ sym (followed-alike (answered e.mode t e.certainty) (finished e.mode t.kinds t.own e.certainty) (one-end e.mode t e.certainty) (rounds (evaluation e.mode) FIXPOINT_STEP_LIMIT (map (nested_filled t.values) ns) t.table))

@@ -22,7 +22,7 @@ use Rattle.goal_evaluator.specs.declared.resuming.OpenRound.{OpenRound}
 use Rattle.goal_evaluator.specs.declared.resuming.OpenCandidate.{OpenCandidate}
 use Rattle.goal_evaluator.specs.Context.{NestedGoal, NestedHeld, GoalIsHeld, nested_goal}
 use Rattle.goal_evaluator.specs.Evaluating.{AskedQuestion, question_of, nested_trees, put_into, evaluation, goal_values, values_asked, IsAskedBy}
-use Rattle.goal_evaluator.specs.OpenRounds.{SoFar, with_goal, rest_of, after_answer}
+use Rattle.goal_evaluator.specs.OpenRounds.{SoFar, with_goal, rest_of_round, after_answer}
 use Rattle.goal_evaluator.specs.Operations.{is_yes}
 use Rattle.goal_evaluator.specs.Responses.{is_identity_modulo_regions}
 use Rattle.goal_evaluator.specs.Rounds.{Rounds}
@@ -91,7 +91,7 @@ module _ (es : List Entry) (e : Evaluation) (limit : ℕ) (r : OpenRound) where
   next-round m next f z a b c =
       ap (followed after-rounds)
       ((rounds-go-on (evaluation e.mode)).again this-round m (table_trees es e.table) f z
-      ∙ λ i. rest_of (evaluation e.mode) (record { limit = m; left = premises_trees es (sym a i); changed = sym b i; certainty = sym c i }) (premises_trees es r.left.items) (table_trees es e.table))
+      ∙ λ i. rest_of_round (evaluation e.mode) (record { limit = m; left = premises_trees es (sym a i); changed = sym b i; certainty = sym c i }) (premises_trees es r.left.items) (table_trees es e.table))
 
 -- ---- an answer
 module _ (old new : List Entry) (k : Keeps old new) (o : OpenCandidate) (h : OpenHeld old o) (r : CanonicalResponse) (hr : ResponseHeld old r) where
@@ -111,7 +111,7 @@ module _ (old new : List Entry) (k : Keeps old new) (o : OpenCandidate) (h : Ope
   module _ (T : Table) (put : with_response old o.evaluation.table o.values.items r ≡ Some (table_trees new T)) where
     -- what is left, in the terms of before
     abbrev earlier : SoFar (evaluation o.evaluation.mode) → CandidateAsking
-    earlier s = followed at-end (rest_of (evaluation o.evaluation.mode) s (premises_trees old o.goals.items) (table_trees new T))
+    earlier s = followed at-end (rest_of_round (evaluation o.evaluation.mode) s (premises_trees old o.goals.items) (table_trees new T))
 
     definite-later : (b : Bool) → is_definite new r ≡ b → is_yes (evaluation o.evaluation.mode) the-answer ≡ b
     definite-later b e = ap (λ vs. is_certain r.certainty && not (not (is_identity_modulo_regions 0 vs))) (sym (values-later old new k r.var_values.items hr.values)) ∙ e
@@ -140,7 +140,7 @@ module _ (old new : List Entry) (k : Keeps old new) (o : OpenCandidate) (h : Ope
 
     in-new-terms : (s : OpenRound) (b : SoFar (evaluation o.evaluation.mode)) → so_far o.evaluation.mode new o.rounds_left s ≡ b → now s ≡ earlier b
     in-new-terms s b e = λ i. followed (finished o.evaluation.mode o.evaluation.variables.items (values-later old new k o.evaluation.own.items h.evaluation.own i) o.evaluation.certainty)
-        (rest_of (evaluation o.evaluation.mode) (e i) (pg i) (table_trees new T))
+        (rest_of_round (evaluation o.evaluation.mode) (e i) (pg i) (table_trees new T))
 
     same-so-far : (s : OpenRound) → s ≡ o.round → so_far o.evaluation.mode new o.rounds_left s ≡ before
     same-so-far s e = ap (so_far o.evaluation.mode new o.rounds_left) e ∙ (λ i. record { limit = o.rounds_left; left = pl i; changed = o.round.changed; certainty = o.round.certainty })

@@ -25,14 +25,14 @@ use Rattle.infer_table.specs.declared.response.CanonicalResponse.{CanonicalRespo
 use Rattle.infer_table.specs.Responses.{AnswerTrees, answer_trees, as_goal, response_form, answer_leaves, numbered_by, ResponseHeld}
 use Rattle.infer_table.specs.Covers.{Agrees, AreNumbered}
 use Rattle.goal_evaluator.specs.Context.{Context}
-use Rattle.goal_evaluator.specs.OwnAnswers.{known, known_values, known_constraints, SaysWhatIsKnown, kinds_in, values_in, known_answer, answer_of}
+use Rattle.goal_evaluator.specs.OwnAnswers.{known_trees, known_values, known_constraints, SaysWhatIsKnown, kinds_in, values_in, known_answer, answer_of}
 use Rattle.infer_table.proofs.TypeBasics.{same-parts}
 
 pub says-known : (old new : List Entry) (c : Context) (x : Result CanonicalResponse Fault)
     → IfOk x (λ r. ResponseHeld new r)
-    → IfOk x (λ r. response_form new r ≡ canonical_form (as_goal (known old c)))
-    → IfOk x (λ r. args_trees new r.var_values.items ≡ numbered_by (answer_leaves (known old c)) (known_values old c))
-    → IfOk x (λ r. constraints_trees new r.region_constraints.items ≡ numbered_by (answer_leaves (known old c)) (known_constraints old c))
+    → IfOk x (λ r. response_form new r ≡ canonical_form (as_goal (known_trees old c)))
+    → IfOk x (λ r. args_trees new r.var_values.items ≡ numbered_by (answer_leaves (known_trees old c)) (known_values old c))
+    → IfOk x (λ r. constraints_trees new r.region_constraints.items ≡ numbered_by (answer_leaves (known_trees old c)) (known_constraints old c))
     → IfOk x (λ r. HasNoCanonical (known_values old c) → (s : Assignment) → Solves s (content old c.table.values) → Agrees (args_trees new r.var_values.items) (instance s (args_trees old c.values)))
     → IfOk x (λ r. HasNoCanonical (known_values old c) → AreNumbered r.variables.items (args_trees new r.var_values.items))
     → IfOk x (λ r. SaysWhatIsKnown old new c r)
@@ -76,8 +76,8 @@ pub known-is : (old new : List Entry) → Lawful new → (c : Context) (r : Cano
     → answer_trees new r ≡ known_answer (values_of old c.values) (table_trees old c.table) k
 known-is old new law c r k e h =
     let t = table_trees old c.table in
-    let ls = answer_leaves (known old c) in
-    let kinds : r.variables.items ≡ kinds_in (canonical_form (as_goal (known old c))).kinds = sym (kinds-there r.variables.items) ∙ ap (λ (f : CanonicalForm). kinds_in f.kinds) h.form in
+    let ls = answer_leaves (known_trees old c) in
+    let kinds : r.variables.items ≡ kinds_in (canonical_form (as_goal (known_trees old c))).kinds = sym (kinds-there r.variables.items) ∙ ap (λ (f : CanonicalForm). kinds_in f.kinds) h.form in
     let values : values_of new r.var_values.items ≡ values_in (numbered_by ls (known_values old c)) = values-in-row new law r.var_values.items h.held.values ∙ ap values_in h.values in
     same-parts _ _ _ _ _ _ _ _ kinds e values h.constraints
     ∙ ap {B = AnswerTrees}

@@ -3,7 +3,7 @@ use Rattle.std.proofs.Common.{◌≡◌, ℕ, zero, suc, Bool, true, false, ◌&
 use Rattle.std.specs.Prelude.{IsSome}
 use Rattle.type_terms.specs.Promised.Label.{Label, Sort, of_type, of_const, of_lifetime, infer, param, placeholder, canonical, bound, static, dynamic, principal, auto_trait, predicate}
 use Rattle.type_terms.specs.Promised.Trees.{Trees, none, tree, leaf, ◌+++◌, erase_label, sort_of, is_sort}
-use Rattle.type_terms.specs.Trees.{is_a, placed, is_no_tree}
+use Rattle.type_terms.specs.Trees.{is_a, put_at_node, is_no_tree}
 use Rattle.type_terms.specs.Codes.{same_label}
 use Rattle.type_terms.proofs.Matching.{same-label-sound}
 use Rattle.infer_table.specs.Canonical.{OpenKinds, GoalTrees, kind_of_leaf, kind_in_clause, StandsIn, HasNoCanonical, is_label_among, place_of, canonical_label, goal_leaves, leaves, renamed}
@@ -237,7 +237,7 @@ put-clean ls h (tree l c o) = node l (put_in (slot_at ls) c) (put_in (slot_at ls
     default of_const = (tt, tt)
     default of_lifetime = (tt, tt)
 
-    node : (l : Label) (d p : Trees) → HasNoCanonical d → HasNoCanonical p → HasNoCanonical (placed (slot_at ls l) (tree l d none) +++ p)
+    node : (l : Label) (d p : Trees) → HasNoCanonical d → HasNoCanonical p → HasNoCanonical (put_at_node (slot_at ls l) (tree l d none) +++ p)
     node (canonical k i) d p a b = clean-append (leaf (label_of_sort k (label_at ls i))) p (clean-node (label_of_sort k (label_at ls i)) none none (slot-clean ls h k i) tt tt) b
     node (infer k v) d p a b = clean-append (leaf (default_label k)) p (default k) b
     node (param k v) d p a b = clean-append (leaf (default_label k)) p (default k) b

@@ -2,7 +2,7 @@
 use Rattle.std.proofs.Common.{◌≡◌, ℕ, Bool, true, false, List, [], ◌∷◌, map, refl, sym, ◌∙◌, ap, subst, Option, Some, None, if◌then◌else◌, is_some}
 use Rattle.type_terms.specs.Promised.Label.{Label, Sort, of_type, of_const, of_lifetime, infer, param, placeholder, canonical, bound, static}
 use Rattle.type_terms.specs.Promised.Trees.{Trees, none, tree, leaf, ◌+++◌, erase_label, sort_of, is_sort}
-use Rattle.type_terms.specs.Trees.{placed}
+use Rattle.type_terms.specs.Trees.{put_at_node}
 pub use Rattle.type_terms.proofs.TreeLaws.{append-none, append-assoc}
 use Rattle.infer_table.specs.Canonical.{OpenKinds, relabeled}
 use Rattle.infer_table.specs.Solutions.{Assignment, Binding, tree_of, replace, is_same_variable}
@@ -16,12 +16,12 @@ use Rattle.type_terms.proofs.ListBasics.{cons}
 pub read-append : (s : Label → Option Trees) (x y : Trees) → read_with s (x +++ y) ≡ read_with s x +++ read_with s y
 read-append s none y = refl
 read-append s (tree l c o) y =
-    ap (λ z. placed (s l) (tree (erase_label l) (read_with s c) none) +++ z) (read-append s o y)
-    ∙ sym (append-assoc (placed (s l) (tree (erase_label l) (read_with s c) none)) (read_with s o) (read_with s y))
+    ap (λ z. put_at_node (s l) (tree (erase_label l) (read_with s c) none) +++ z) (read-append s o y)
+    ∙ sym (append-assoc (put_at_node (s l) (tree (erase_label l) (read_with s c) none)) (read_with s o) (read_with s y))
 
 -- a leaf that stands for a term
 pub read-leaf : (s : Label → Option Trees) (l : Label) (x : Trees) → s l ≡ Some x → read_with s (leaf l) ≡ x
-read-leaf s l x e = ap (λ z. placed z (tree (erase_label l) none none) +++ none) e ∙ append-none x
+read-leaf s l x e = ap (λ z. put_at_node z (tree (erase_label l) none none) +++ none) e ∙ append-none x
 
 -- lifetimes are read as one
 pub lifetime-stands : (s : ChosenTerms) (l : Label) → is_sort (sort_of l) of_lifetime ≡ true → standing s l ≡ Some (leaf static)
@@ -34,7 +34,7 @@ lifetime-stands s static h = refl
 lifetime-stands s l h = absurd (false-true h)
 
 pub read-lifetime : (s : ChosenTerms) (l : Label) (c : Trees) → is_sort (sort_of l) of_lifetime ≡ true → read_with (standing s) (tree l c none) ≡ leaf static
-read-lifetime s l c h = ap (λ z. placed z (tree (erase_label l) (read_with (standing s) c) none) +++ none) (lifetime-stands s l h)
+read-lifetime s l c h = ap (λ z. put_at_node z (tree (erase_label l) (read_with (standing s) c) none) +++ none) (lifetime-stands s l h)
 
 -- ---- replacing a variable by what it stands for
 replace-at : (s : Label → Option Trees) (k : Sort) (v : ℕ) (r : Trees) (j : Sort) (w : ℕ) (c o o' : Trees) (b : Bool)
@@ -43,14 +43,14 @@ replace-at : (s : Label → Option Trees) (k : Sort) (v : ℕ) (r : Trees) (j : 
 replace-at s k v r j w c o o' true e h i =
     let same = is_variable-equal j k w v e in
     let here : s (infer j w) ≡ Some (read_with s r) = ap (λ z. s (infer z w)) same.0 ∙ ap (λ z. s (infer k z)) same.1 ∙ h in
-    read-append s r o' ∙ ap (λ z. read_with s r +++ z) i ∙ ap (λ z. placed z (tree (erase_label (infer j w)) (read_with s c) none) +++ read_with s o) (sym here)
-replace-at s k v r j w c o o' false e h i = ap (λ z. placed (s (infer j w)) (tree (erase_label (infer j w)) (read_with s c) none) +++ z) i
+    read-append s r o' ∙ ap (λ z. read_with s r +++ z) i ∙ ap (λ z. put_at_node z (tree (erase_label (infer j w)) (read_with s c) none) +++ read_with s o) (sym here)
+replace-at s k v r j w c o o' false e h i = ap (λ z. put_at_node (s (infer j w)) (tree (erase_label (infer j w)) (read_with s c) none) +++ z) i
 
 node-at : (s : Label → Option Trees) (l : Label) (c o c' o' : Trees) → read_with s c' ≡ read_with s c → read_with s o' ≡ read_with s o
     → read_with s (tree l c' o') ≡ read_with s (tree l c o)
 node-at s l c o c' o' p q =
-    ap (λ z. placed (s l) (tree (erase_label l) z none) +++ read_with s o') p
-    ∙ ap (λ z. placed (s l) (tree (erase_label l) (read_with s c) none) +++ z) q
+    ap (λ z. put_at_node (s l) (tree (erase_label l) z none) +++ read_with s o') p
+    ∙ ap (λ z. put_at_node (s l) (tree (erase_label l) (read_with s c) none) +++ z) q
 
 pub read-replace : (s : Label → Option Trees) (k : Sort) (v : ℕ) (r : Trees) → s (infer k v) ≡ Some (read_with s r)
     → (t : Trees) → read_with s (replace k v r t) ≡ read_with s t
@@ -69,15 +69,15 @@ pub record Carries (q s : Label → Option Trees) (l m : Label) : Type 0 where
   pub erased : s l ≡ None → erase_label m ≡ erase_label l
 
 pub carried-at : (q s : Label → Option Trees) (l m : Label) (c d o p : Trees) (x : Option Trees) → s l ≡ x → Carries q s l m → d ≡ c → p ≡ o
-    → placed (q m) (tree (erase_label m) d none) +++ p ≡ placed (s l) (tree (erase_label l) c none) +++ o
+    → put_at_node (q m) (tree (erase_label m) d none) +++ p ≡ put_at_node (s l) (tree (erase_label l) c none) +++ o
 carried-at q s l m c d o p None e k a b =
-    ap (λ z. placed z (tree (erase_label m) d none) +++ p) (k.stands ∙ e)
+    ap (λ z. put_at_node z (tree (erase_label m) d none) +++ p) (k.stands ∙ e)
     ∙ ap (λ z. tree z d p) (k.erased e) ∙ ap (λ z. tree (erase_label l) z p) a ∙ ap (λ z. tree (erase_label l) c z) b
-    ∙ ap (λ z. placed z (tree (erase_label l) c none) +++ o) (sym e)
+    ∙ ap (λ z. put_at_node z (tree (erase_label l) c none) +++ o) (sym e)
 carried-at q s l m c d o p (Some x) e k a b =
-    ap (λ z. placed z (tree (erase_label m) d none) +++ p) (k.stands ∙ e)
+    ap (λ z. put_at_node z (tree (erase_label m) d none) +++ p) (k.stands ∙ e)
     ∙ ap (λ z. x +++ z) b
-    ∙ ap (λ z. placed z (tree (erase_label l) c none) +++ o) (sym e)
+    ∙ ap (λ z. put_at_node z (tree (erase_label l) c none) +++ o) (sym e)
 
 pub read-relabeled : (q s : Label → Option Trees) (kind : OpenKinds) (f : Label → Label) (t : Trees)
     → EachLabel (λ l. Carries q s l (if is_some (kind l) then f l else l)) t → read_with q (relabeled kind f t) ≡ read_with s t
@@ -93,14 +93,14 @@ IsPutIn q s l None = q l ≡ s l
 IsPutIn q s l (Some r) = s l ≡ Some (read_with q r)
 
 pub put-at : (q s : Label → Option Trees) (l : Label) (c d o p : Trees) (x : Option Trees) → IsPutIn q s l x → read_with q d ≡ read_with s c → read_with q p ≡ read_with s o
-    → read_with q (placed x (tree l d none) +++ p) ≡ placed (s l) (tree (erase_label l) (read_with s c) none) +++ read_with s o
+    → read_with q (put_at_node x (tree l d none) +++ p) ≡ put_at_node (s l) (tree (erase_label l) (read_with s c) none) +++ read_with s o
 put-at q s l c d o p None h a b =
-    ap (λ z. placed (q l) (tree (erase_label l) z none) +++ read_with q p) a
-    ∙ ap (λ z. placed z (tree (erase_label l) (read_with s c) none) +++ read_with q p) h
-    ∙ ap (λ z. placed (s l) (tree (erase_label l) (read_with s c) none) +++ z) b
+    ap (λ z. put_at_node (q l) (tree (erase_label l) z none) +++ read_with q p) a
+    ∙ ap (λ z. put_at_node z (tree (erase_label l) (read_with s c) none) +++ read_with q p) h
+    ∙ ap (λ z. put_at_node (s l) (tree (erase_label l) (read_with s c) none) +++ z) b
 put-at q s l c d o p (Some r) h a b =
     read-append q r p ∙ ap (λ z. read_with q r +++ z) b
-    ∙ ap (λ z. placed z (tree (erase_label l) (read_with s c) none) +++ read_with s o) (sym h)
+    ∙ ap (λ z. put_at_node z (tree (erase_label l) (read_with s c) none) +++ read_with s o) (sym h)
 
 pub read-put : (q s : Label → Option Trees) (put : Label → Option Trees) → ((l : Label) → IsPutIn q s l (put l))
     → (t : Trees) → read_with q (put_in put t) ≡ read_with s t
@@ -135,9 +135,9 @@ same-standing a b e l f = refl
 pub same-read : (a b : ChosenTerms) → a.own ≡ b.own → (x : Trees) → EachLabel (GiveOne a.unknowns b.unknowns) x → read_with (standing a) x ≡ read_with (standing b) x
 same-read a b e none h = refl
 same-read a b e (tree l c o) h =
-    ap (λ z. placed z (tree (erase_label l) (read_with (standing a) c) none) +++ read_with (standing a) o) (same-standing a b e l h.0)
-    ∙ ap (λ z. placed (standing b l) (tree (erase_label l) z none) +++ read_with (standing a) o) (same-read a b e c h.1)
-    ∙ ap (λ z. placed (standing b l) (tree (erase_label l) (read_with (standing b) c) none) +++ z) (same-read a b e o h.2)
+    ap (λ z. put_at_node z (tree (erase_label l) (read_with (standing a) c) none) +++ read_with (standing a) o) (same-standing a b e l h.0)
+    ∙ ap (λ z. put_at_node (standing b l) (tree (erase_label l) z none) +++ read_with (standing a) o) (same-read a b e c h.1)
+    ∙ ap (λ z. put_at_node (standing b l) (tree (erase_label l) (read_with (standing b) c) none) +++ z) (same-read a b e o h.2)
 
 -- the same assignment gives each one term
 give-one : (u w : Assignment) → u ≡ w → (l : Label) → GiveOne u w l

@@ -2,7 +2,7 @@
 use Rattle.std.proofs.Common.{◌≡◌, ℕ, Bool, true, false, ◌||◌, not, List, ◌⊎◌, inl, inr, refl, sym, ◌∙◌, ap, subst, Option, Some, None, if◌then◌else◌}
 use Rattle.type_terms.specs.Promised.Label.{Label, Sort, of_type, of_const, of_lifetime, infer, param, placeholder, canonical, bound, static, principal, dynamic, auto_trait, predicate}
 use Rattle.type_terms.specs.Promised.Trees.{Trees, none, tree, leaf, ◌+++◌, erase_label}
-use Rattle.type_terms.specs.Trees.{placed, is_a, is_no_tree, Single}
+use Rattle.type_terms.specs.Trees.{put_at_node, is_a, is_no_tree, Single}
 use Rattle.type_terms.specs.Made.{Standing, terms, bounds, traits, is_leaf_label, is_made}
 use Rattle.infer_table.specs.Solutions.{HasValues}
 use Rattle.goal_evaluator.specs.Instances.{read_with, default_label, of_sort, term_at}
@@ -60,11 +60,11 @@ Agree xs ys k i = of_sort k (term_at xs i) ≡ of_sort k (term_at ys i)
 abbrev pub AgreeIn : List Trees → List Trees → Trees → Type 0
 AgreeIn xs ys t = (k : Sort) (i : ℕ) → HasValues k → LabelStandsIn (canonical k i) t → Agree xs ys k i
 
-same-parts : (x : Option Trees) (l : Label) (c d o p : Trees) → c ≡ d → o ≡ p → placed x (tree l c none) +++ o ≡ placed x (tree l d none) +++ p
-same-parts x l c d o p a b = ap (λ z. placed x (tree l z none) +++ o) a ∙ ap (λ z. placed x (tree l d none) +++ z) b
+same-parts : (x : Option Trees) (l : Label) (c d o p : Trees) → c ≡ d → o ≡ p → put_at_node x (tree l c none) +++ o ≡ put_at_node x (tree l d none) +++ p
+same-parts x l c d o p a b = ap (λ z. put_at_node x (tree l z none) +++ o) a ∙ ap (λ z. put_at_node x (tree l d none) +++ z) b
 
 read-node : (xs ys : List Trees) (l : Label) (c d o p : Trees) → ((k : Sort) (i : ℕ) → HasValues k → l ≡ canonical k i → Agree xs ys k i) → c ≡ d → o ≡ p
-    → placed (given xs l) (tree (erase_label l) c none) +++ o ≡ placed (given ys l) (tree (erase_label l) d none) +++ p
+    → put_at_node (given xs l) (tree (erase_label l) c none) +++ o ≡ put_at_node (given ys l) (tree (erase_label l) d none) +++ p
 read-node xs ys (canonical of_type i) c d o p h a b = ap (λ z. z +++ o) (h of_type i tt refl) ∙ ap (λ z. of_sort of_type (term_at ys i) +++ z) b
 read-node xs ys (canonical of_const i) c d o p h a b = ap (λ z. z +++ o) (h of_const i tt refl) ∙ ap (λ z. of_sort of_const (term_at ys i) +++ z) b
 read-node xs ys (canonical of_lifetime i) c d o p h a b = same-parts (Some (leaf static)) static c d o p a b

@@ -4,7 +4,7 @@ use Rattle.std.specs.Prelude.{is_some, option_map, unwrap_or}
 use Rattle.std.specs.List.{slice_get}
 use Rattle.type_terms.specs.Promised.Label.{Label, Sort, of_type, of_const, of_lifetime, infer, bound, canonical, fn_ptr, dynamic, principal, auto_trait, inside}
 use Rattle.type_terms.specs.Promised.Trees.{Trees, none, tree, leaf, ◌+++◌, is_sort, sort_of}
-use Rattle.type_terms.specs.Trees.{placed, Single}
+use Rattle.type_terms.specs.Trees.{put_at_node, Single}
 use Rattle.infer_table.specs.Canonical.{OpenKinds, relabeled}
 use Rattle.infer_table.specs.Solutions.{Binding, is_same_variable, replace, resolved}
 use Rattle.infer_table.specs.Resolving.{is_root, followed}
@@ -118,11 +118,11 @@ abbrev pub IsOneIf : ℕ → Option Trees → Type 0
 IsOneIf n None = Unit {0}
 IsOneIf n (Some t) = IsOne n t
 
-count-placed : (n : ℕ) (x : Option Trees) (l : Label) (c o p : Trees) → IsOneIf n x → count p ≡ count o → count (placed x (tree l c none) +++ p) ≡ suc (count o)
+count-placed : (n : ℕ) (x : Option Trees) (l : Label) (c o p : Trees) → IsOneIf n x → count p ≡ count o → count (put_at_node x (tree l c none) +++ p) ≡ suc (count o)
 count-placed n None l c o p h e = ap suc e
 count-placed n (Some r) l c o p h e = count-next n r p o h e
 
-within-placed : (n : ℕ) (x : Option Trees) (l : Label) (c d p : Trees) → IsOneIf n x → with_self l (count c) ≤ n → count d ≡ count c → IsWithin n d → IsWithin n p → IsWithin n (placed x (tree l d none) +++ p)
+within-placed : (n : ℕ) (x : Option Trees) (l : Label) (c d p : Trees) → IsOneIf n x → with_self l (count c) ≤ n → count d ≡ count c → IsWithin n d → IsWithin n p → IsWithin n (put_at_node x (tree l d none) +++ p)
 within-placed n None l c d p h a e b g = within-node n l c d p a e b g
 within-placed n (Some r) l c d p h a e b g = within-append n r p h.within g
 
@@ -226,7 +226,7 @@ predicates-resolved n (b ∷ older) t h g =
     predicates-replace n b.sort b.var (resolved older b.value) (record { one = y.0 ∙ h.0.one; within = y.1 h.0.within }) (resolved older t) (predicates-resolved n older t h.1 g)
 
 predicates-placed : (n : ℕ) (x : Option Trees) (l : Label) (c d p : Trees) → IsOneIf n x → count c ≤ n → count d ≡ count c → IsWithin n d → ArePredicatesWithin n p
-    → ArePredicatesWithin n (placed x (tree l d none) +++ p)
+    → ArePredicatesWithin n (put_at_node x (tree l d none) +++ p)
 predicates-placed n None l c d p h a e b g = predicates-node n l c d p a e b g
 predicates-placed n (Some r) l c d p h a e b g = predicates-append n r p h.within g
 

@@ -23,7 +23,7 @@ use Rattle.goal_evaluator.specs.declared.resuming.CandidateStep.{CandidateStep}
 use Rattle.goal_evaluator.specs.declared.resuming.CandidateStep.TheVariants.{Ready as IsReady, Ask}
 use Rattle.goal_evaluator.specs.Context.{NestedHeld, GoalIsHeld, nested_goal}
 use Rattle.goal_evaluator.specs.Evaluating.{AskedQuestion, question_of, nested_trees, evaluation, values_asked}
-use Rattle.goal_evaluator.specs.OpenRounds.{SoFar, rest_of, after_answer}
+use Rattle.goal_evaluator.specs.OpenRounds.{SoFar, rest_of_round, after_answer}
 use Rattle.goal_evaluator.specs.OwnAnswers.{answer_of}
 use Rattle.goal_evaluator.specs.Responses.{is_identity_modulo_regions}
 use Rattle.goal_evaluator.specs.Rounds.{Rounds, rounds}
@@ -50,7 +50,7 @@ so_far mode es limit r = record { limit = limit; left = premises_trees es r.left
 -- the rest of the evaluation, if these goals follow in the round
 abbrev pub rest_script : List Entry → Evaluation → ℕ → OpenRound → List (GoalSource × Goal) → CandidateAsking
 rest_script es e limit r goals =
-    followed (finished e.mode e.variables.items (values_of es e.own.items) e.certainty) (rest_of (evaluation e.mode) (so_far e.mode es limit r) (premises_trees es goals) (table_trees es e.table))
+    followed (finished e.mode e.variables.items (values_of es e.own.items) e.certainty) (rest_of_round (evaluation e.mode) (so_far e.mode es limit r) (premises_trees es goals) (table_trees es e.table))
 
 -- the whole evaluation, from the first round on
 abbrev pub rounds_script : List Entry → Evaluation → List (GoalSource × Goal) → CandidateAsking

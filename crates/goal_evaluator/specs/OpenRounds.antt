@@ -34,8 +34,8 @@ module _ {Question Response : Type 0} (t : Operations Question Response) where
   onward_from s rest = followed (next_round t (rounds t s.limit)) (followed (behind s) rest)
 
   -- these goals follow in the round, in this table
-  abbrev pub rest_of : SoFar → List t.Nested → t.Table → RoundAsking t (Option (Rounds t))
-  rest_of s ns T = onward_from s (round t ns T)
+  abbrev pub rest_of_round : SoFar → List t.Nested → t.Table → RoundAsking t (Option (Rounds t))
+  rest_of_round s ns T = onward_from s (round t ns T)
 
   -- the goal n waits for its response, and these goals follow
   abbrev pub after_answer : SoFar → t.Table → t.Nested → List t.Nested → Option Response → RoundAsking t (Option (Rounds t))

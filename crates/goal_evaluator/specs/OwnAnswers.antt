@@ -28,16 +28,16 @@ module _ (old : List Entry) (c : Context) where
   abbrev pub known_constraints : Trees
   known_constraints = resolved (content old c.table.values) (constraints_trees old c.table.constraints)
 
-  abbrev pub known : Trees
-  known = resolved (content old c.table.values) (args_trees old c.values +++ constraints_trees old c.table.constraints)
+  abbrev pub known_trees : Trees
+  known_trees = resolved (content old c.table.values) (args_trees old c.values +++ constraints_trees old c.table.constraints)
 
 -- The response, over the interner `new`, is the canonical form of what the context knows of the input's variables and of
 -- lifetimes. It agrees with each solution of the table.
 pub record SaysWhatIsKnown (old new : List Entry) (c : Context) (r : CanonicalResponse) : Type 0 where
   pub held : ResponseHeld new r
-  pub form : response_form new r ≡ canonical_form (as_goal (known old c))
-  pub values : args_trees new r.var_values.items ≡ numbered_by (answer_leaves (known old c)) (known_values old c)
-  pub constraints : constraints_trees new r.region_constraints.items ≡ numbered_by (answer_leaves (known old c)) (known_constraints old c)
+  pub form : response_form new r ≡ canonical_form (as_goal (known_trees old c))
+  pub values : args_trees new r.var_values.items ≡ numbered_by (answer_leaves (known_trees old c)) (known_values old c)
+  pub constraints : constraints_trees new r.region_constraints.items ≡ numbered_by (answer_leaves (known_trees old c)) (known_constraints old c)
   pub agrees : HasNoCanonical (known_values old c) → (s : Assignment) → Solves s (content old c.table.values) → Agrees (args_trees new r.var_values.items) (instance s (args_trees old c.values))
   pub numbered : HasNoCanonical (known_values old c) → AreNumbered r.variables.items (args_trees new r.var_values.items)
 

@@ -29,7 +29,7 @@ use Rattle.goal_evaluator.specs.OwnAnswers.{answer_of}
 use Rattle.goal_evaluator.specs.Replays.{Run, run}
 use Rattle.goal_evaluator.specs.Responses.{content}
 use Rattle.goal_evaluator.specs.Rounds.{Round, Rounds, round, rounds}
-use Rattle.goal_evaluator.specs.Trial.{equations_trees, premises_trees, spec_trees, asked, candidate}
+use Rattle.goal_evaluator.specs.Trial.{equations_trees, premises_trees, spec_trees, asked_in_rounds, candidate}
 use Rattle.goal_evaluator.specs.TrialEnds.{trial_trees}
 
 -- a run with replies, to an end that may be `None`
@@ -69,7 +69,7 @@ candidate_of es input s replies = run (candidate input.mode (begun input.variabl
 
 -- its nested goals, after its equations and constraints
 abbrev pub nested_of : List Entry → CanonicalInput → CandidateSpec → Trial → List (Option CanonicalResponse) → RunTo AnswerTrees
-nested_of es input s t replies = run (asked input.mode (premises_trees es s.nested_goals.items) s.certainty (trial_trees es input.variables.items t)) (replies_trees es replies)
+nested_of es input s t replies = run (asked_in_rounds input.mode (premises_trees es s.nested_goals.items) s.certainty (trial_trees es input.variables.items t)) (replies_trees es replies)
 
 -- its terms, with the values in place of canonical variables
 abbrev pub equations_filled : List Entry → List GenericArgKind → List Equation → List (Trees × Trees)

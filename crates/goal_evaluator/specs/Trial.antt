@@ -54,12 +54,12 @@ module _ (mode : TypingMode) where
   answered t c (Some o) = done (Some (respond (record t { table = o.table }) (joined c o.certainty)))
 
   -- evaluates the nested goals in rounds
-  abbrev pub asked : List NestedTrees → Certainty → FrameTrees → Asking
-  asked ns c t = followed (answered t c) (rounds (evaluation mode) FIXPOINT_STEP_LIMIT (map (nested_filled t.values) ns) t.table)
+  abbrev pub asked_in_rounds : List NestedTrees → Certainty → FrameTrees → Asking
+  asked_in_rounds ns c t = followed (answered t c) (rounds (evaluation mode) FIXPOINT_STEP_LIMIT (map (nested_filled t.values) ns) t.table)
 
   abbrev pub equated : SpecTrees → Option FrameTrees → Asking
   equated s None = done None
-  equated s (Some t) = asked s.nested s.certainty (recorded t s.constraints)
+  equated s (Some t) = asked_in_rounds s.nested s.certainty (recorded t s.constraints)
 
   -- makes new inference variables, then handles the equations, the constraints and the nested goals in this order
   abbrev pub candidate : FrameTrees → SpecTrees → Asking

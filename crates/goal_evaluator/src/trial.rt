@@ -17,7 +17,7 @@ ghost use Rattle.goal_evaluator.specs.Evaluating.{goals_trees, replies_trees};
 ghost use Rattle.goal_evaluator.specs.Frames.{begun, fresh, equate, unknowns, with_unknowns, solved};
 ghost use Rattle.goal_evaluator.specs.Shortages.{EvalGrewOrFull};
 ghost use Rattle.goal_evaluator.specs.Runs.{candidate_of, nested_of, equations_filled, equation_filled, constraints_filled, premises_filled};
-ghost use Rattle.goal_evaluator.specs.Trial.{asked, candidate, equations_trees, premises_trees, spec_trees};
+ghost use Rattle.goal_evaluator.specs.Trial.{asked_in_rounds, candidate, equations_trees, premises_trees, spec_trees};
 ghost use Rattle.goal_evaluator.specs.TrialEnds.{trial_trees, IsTried, CandidateEnds};
 ghost use Rattle.goal_evaluator.specs.OpenCandidates.{StandsAt, CandidateHeld, AsksAtMost};
 ghost use Rattle.goal_evaluator.specs.declared.TheConstants.{FIXPOINT_STEP_LIMIT};
@@ -421,7 +421,7 @@ fn open_nested(
     requires goals { Every (λ n. GoalHeld cx.old.entries n.1) spec.now.nested_goals.items }
     ensures terms { EvalGrewOrFull cx.old cx.new result }
     ensures held { IfOk result (λ s. CandidateHeld cx.new.entries s) }
-    ensures stands { StandsAt cx.new.entries (asked input.now.mode (premises_trees cx.old.entries spec.now.nested_goals.items) spec.now.certainty
+    ensures stands { StandsAt cx.new.entries (asked_in_rounds input.now.mode (premises_trees cx.old.entries spec.now.nested_goals.items) spec.now.certainty
         (trial_trees cx.old.entries input.now.variables.items trial)) result }
     ensures most { IfOk result (AsksAtMost (FIXPOINT_STEP_LIMIT * length spec.now.nested_goals.items)) }
 {

@@ -5,7 +5,7 @@ use Rattle.std.proofs.lemmas.Nat.{le_or_l, le_or_r}
 use Rattle.std.specs.Prelude.{bit_and, bit_or, Result, Ok, Err, IfOk}
 use Rattle.type_terms.specs.Promised.Label.{Label, canonical}
 use Rattle.type_terms.specs.Promised.Trees.{Trees, none, tree, ◌+++◌}
-use Rattle.type_terms.specs.Trees.{flags, label_flags, placed}
+use Rattle.type_terms.specs.Trees.{flags, label_flags, put_at_node}
 use Rattle.type_terms.specs.Promised.Handles.{Entry, trees_at}
 use Rattle.type_terms.specs.Promised.Handles.{region_trees}
 use Rattle.type_terms.proofs.InfoFacts.{info-append}
@@ -97,7 +97,7 @@ no-value l = refl
 
 pub filled-nothing : (t : Trees) → filled_values [] t ≡ t
 filled-nothing none = refl
-filled-nothing (tree l c o) = ap (λ v. placed v (tree l (filled_values [] c) none) +++ filled_values [] o) (no-value l) ∙ tree-cong l c _ o _ (filled-nothing c) (filled-nothing o)
+filled-nothing (tree l c o) = ap (λ v. put_at_node v (tree l (filled_values [] c) none) +++ filled_values [] o) (no-value l) ∙ tree-cong l c _ o _ (filled-nothing c) (filled-nothing o)
 
 -- ---- its own form
 module _ (es : List Entry) (m : TypingMode) (g : Goal) (r : Canonicalized) (own : IsItsOwnForm m g r) where

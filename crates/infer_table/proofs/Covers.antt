@@ -5,7 +5,7 @@ use Rattle.std.specs.List.{slice_get}
 use Rattle.std.proofs.lemmas.Bool.Decides.{nat_tests}
 use Rattle.type_terms.specs.Promised.Label.{Label, Sort, of_type, of_const, of_lifetime, infer, canonical}
 use Rattle.type_terms.specs.Promised.Trees.{Trees, none, tree, leaf, ◌+++◌, erase_label, sort_of, is_sort, IsA}
-use Rattle.type_terms.specs.Trees.{placed, Single}
+use Rattle.type_terms.specs.Trees.{put_at_node, Single}
 use Rattle.type_terms.specs.Promised.Handles.{Entry, types, consts, trees_at}
 use Rattle.type_terms.specs.Terms.{Lawful}
 use Rattle.type_terms.specs.Promised.Handles.{ArgHeld, ArgsHeld, arg_trees, region_label}
@@ -104,7 +104,7 @@ chosen-root q h of_type i = h of_type i
 chosen-root q h of_const i = h of_const i
 chosen-root q h of_lifetime i = refl
 
-region-root : (k : RegionKind) → sort_of (region_label k) ≡ of_lifetime
+pub region-root : (k : RegionKind) → sort_of (region_label k) ≡ of_lifetime
 region-root (ReBound j v) = bound-sort of_lifetime j v
 region-root k = refl
 
@@ -341,7 +341,7 @@ module _ (W : List Value) (ks : List CanonicalVarKind) (q S : Assignment) (put :
   filled-chosen none h = refl
   filled-chosen (tree (canonical j i) c o) h =
       let p = put i j h.0 in
-      ap (λ v. instance S (placed v (tree (canonical j i) (filled_values W c) none) +++ filled_values W o)) p.put
+      ap (λ v. instance S (put_at_node v (tree (canonical j i) (filled_values W c) none) +++ filled_values W o)) p.put
       ∙ instance-append S p.trees (filled_values W o) ∙ two _ _ _ _ p.read (filled-chosen o h.2) ∙ chosen-node q j i c o h.1
   filled-chosen (tree (infer k v) c o) h = absurd h
   filled-chosen (tree l c o) h = tree-cong _ _ _ _ _ _ refl (filled-chosen c h.0) (filled-chosen o h.1)

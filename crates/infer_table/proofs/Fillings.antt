@@ -4,7 +4,7 @@ use Rattle.std.specs.Prelude.{bit_and, bit_or}
 use Rattle.std.specs.List.{slice_get}
 use Rattle.type_terms.specs.Promised.Label.{Label, Sort, of_type, of_const, of_lifetime, canonical, of_trait, predicate}
 use Rattle.type_terms.specs.Promised.Trees.{Trees, none, tree, leaf, ◌+++◌}
-use Rattle.type_terms.specs.Trees.{placed, flags, label_flags, Single}
+use Rattle.type_terms.specs.Trees.{put_at_node, flags, label_flags, Single}
 use Rattle.type_terms.proofs.TreeLaws.{append-none, append-assoc}
 use Rattle.type_terms.specs.Promised.Handles.{Entry, trees_at}
 use Rattle.type_terms.specs.Promised.Handles.{ArgHeld, ArgsHeld, region_trees}
@@ -41,20 +41,20 @@ unbound-stays vs (tree l c o) h =
     placed-none _ _ _ _ _ _ (unbound-label vs l (or-left (label_flags l) (flags c) 2184 here)) (unbound-stays vs c (or-right (label_flags l) (flags c) 2184 here))
     (unbound-stays vs o (or-right (bit_or (label_flags l) (flags c)) (flags o) 2184 h))
   where
-    placed-none : (v : Option Trees) (l : Label) (c c' o o' : Trees) → v ≡ None → c' ≡ c → o' ≡ o → placed v (tree l c' none) +++ o' ≡ tree l c o
+    placed-none : (v : Option Trees) (l : Label) (c c' o o' : Trees) → v ≡ None → c' ≡ c → o' ≡ o → put_at_node v (tree l c' none) +++ o' ≡ tree l c o
     placed-none v l c c' o o' p q r = rw (p, q, r) refl
 
 module _ (vs : List Value) where
   pub filled-append : (x y : Trees) → filled_values vs (x +++ y) ≡ filled_values vs x +++ filled_values vs y
   filled-append none y = refl
   filled-append (tree l c o) y =
-      ap (λ z. placed (value_for vs l) (tree l (filled_values vs c) none) +++ z) (filled-append o y)
-      ∙ sym (append-assoc (placed (value_for vs l) (tree l (filled_values vs c) none)) (filled_values vs o) (filled_values vs y))
+      ap (λ z. put_at_node (value_for vs l) (tree l (filled_values vs c) none) +++ z) (filled-append o y)
+      ∙ sym (append-assoc (put_at_node (value_for vs l) (tree l (filled_values vs c) none)) (filled_values vs o) (filled_values vs y))
 
   enters-is : (bs : List ℕ) (l : Label) (c : Trees) → filling vs (tree l c none) ≡ enters → filled_values vs (tree l c none) ≡ tree l (filled_values vs c) none
   enters-is bs l c e = by (is_type_label l && is_unbound (tree l c none)) (value_for vs l) (tree l c none) e
     where
-      by : (b : Bool) (v : Option Trees) (s : Trees) → (if b then puts s else put_if_there v) ≡ enters → placed v (tree l (filled_values vs c) none) +++ none ≡ tree l (filled_values vs c) none
+      by : (b : Bool) (v : Option Trees) (s : Trees) → (if b then puts s else put_if_there v) ≡ enters → put_at_node v (tree l (filled_values vs c) none) +++ none ≡ tree l (filled_values vs c) none
       by true v s e = cc
       by false None s e = refl
       by false (Some t) s e = cc
@@ -76,7 +76,7 @@ module _ (vs : List Value) where
           → (if b then puts (tree l c none) else put_if_there v) ≡ puts r → filled_values vs (tree l c none) ≡ r
       by true p v q e = unbound-filled l c p ∙ same _ _ e
       by false p None q e = cc
-      by false p (Some t) q e = ap (λ (z : Option Trees). placed z (tree l (filled_values vs c) none) +++ none) q ∙ append-none t ∙ same _ _ e
+      by false p (Some t) q e = ap (λ (z : Option Trees). put_at_node z (tree l (filled_values vs c) none) +++ none) q ∙ append-none t ∙ same _ _ e
 
   filling-describes : Describes (λ bs t. filling vs t) (λ bs t. filled_values vs t)
   filling-describes = record {

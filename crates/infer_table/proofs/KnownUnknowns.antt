@@ -4,7 +4,7 @@ use Rattle.std.specs.Prelude.{unwrap_or}
 use Rattle.std.specs.List.{slice_get}
 use Rattle.type_terms.specs.Promised.Label.{Label, Sort, infer, canonical}
 use Rattle.type_terms.specs.Promised.Trees.{Trees, none, tree, ◌+++◌, is_sort}
-use Rattle.type_terms.specs.Trees.{placed}
+use Rattle.type_terms.specs.Trees.{put_at_node}
 use Rattle.type_terms.specs.Promised.Handles.{Entry}
 use Rattle.type_terms.specs.Promised.Handles.{arg_trees}
 use Rattle.type_terms.specs.Kinds.{args_trees}
@@ -61,11 +61,11 @@ slice-known counts (v ∷ vs) zero h = h.0
 slice-known counts (v ∷ vs) (suc i) h = slice-known counts vs i h.1
 
 module _ (counts : Sort → ℕ) (vs : List Value) (all : AllKnown counts vs) (ks : List CanonicalVarKind) where
-  placed-known : (j : Sort) (v : Option Value) (t : Trees) → IsKnown counts v → AreKnown counts t → AreKnown counts (placed (if_of_sort j v) t)
+  placed-known : (j : Sort) (v : Option Value) (t : Trees) → IsKnown counts v → AreKnown counts t → AreKnown counts (put_at_node (if_of_sort j v) t)
   placed-known j None t h g = g
   placed-known j (Some v) t h g = by (is_sort v.sort j)
     where
-      by : (b : Bool) → AreKnown counts (placed (if b then Some v.trees else None) t)
+      by : (b : Bool) → AreKnown counts (put_at_node (if b then Some v.trees else None) t)
       by true = h
       by false = g
 
@@ -73,7 +73,7 @@ module _ (counts : Sort → ℕ) (vs : List Value) (all : AllKnown counts vs) (k
   filled-known none h = tt
   filled-known (tree (canonical j i) c o) h =
       let below : AreKnown counts (filled_values vs c) = subst (λ z. AreKnown counts (filled_values vs z)) (sym h.1) tt in
-      known-joined counts (placed (if_of_sort j (slice_get vs i)) (tree (canonical j i) (filled_values vs c) none)) (filled_values vs o)
+      known-joined counts (put_at_node (if_of_sort j (slice_get vs i)) (tree (canonical j i) (filled_values vs c) none)) (filled_values vs o)
       (placed-known j (slice_get vs i) (tree (canonical j i) (filled_values vs c) none) (slice-known counts vs i all) (below, tt)) (filled-known o h.2)
   filled-known (tree (infer k v) c o) h = absurd h
   filled-known (tree l c o) h = (filled-known c h.0, filled-known o h.1)

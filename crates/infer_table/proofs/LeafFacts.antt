@@ -24,35 +24,17 @@ use Rattle.type_terms.specs.contracts.kinds.TyPartialEq.TheImpl.{ghosts as ty}
 use Rattle.type_terms.specs.contracts.kinds.ConstPartialEq.TheImpl.{ghosts as const}
 use Rattle.type_terms.specs.contracts.kinds.GenericArgKindPartialEq.TheImpl.{ghosts as arg}
 use Rattle.type_terms.proofs.Labels.{region-back}
-use Rattle.type_terms.proofs.Equal.{through, region-kind-eq}
+use Rattle.type_terms.proofs.Equal.{through, region-kind-eq, const-eq}
 use Rattle.type_terms.proofs.Sorts.{bound-sort}
 use Rattle.type_terms.specs.Kept.{is-at}
 use Rattle.infer_table.specs.declared.canonical.CanonicalVarKind.{CanonicalVarKind}
 use Rattle.infer_table.specs.Canonical.{is_label_among, with_label, place_of, kind_of_leaf}
 use Rattle.infer_table.proofs.CanonicalLaws.{same_label-self}
 use Rattle.infer_table.specs.Leaves.{leaf_label, labels, IsLeaf, AreLeaves, AreOpen}
+use Rattle.infer_table.proofs.Covers.{region-root as region-sort}
+pub use Rattle.type_terms.proofs.Equal.{region-eq, ty-eq, arg-eq}
 
 -- ---- the derived `==` of arguments
-
-pub region-eq : (a b : Region) → Decides (region.eq a b) (a ≡ b)
-region-eq a b = through _ _ _ (region-kind-eq a.kind b.kind) (λ p. ap (λ k. record { kind = k }) p) (λ e. ap (λ r. r.kind) e)
-
-pub ty-eq : (a b : ty-module.Ty) → Decides (ty.eq a b) (a ≡ b)
-ty-eq a b = search rules
-
-const-eq : (a b : const-module.Const) → Decides (const.eq a b) (a ≡ b)
-const-eq a b = search rules
-
-pub arg-eq : (a b : GenericArgKind) → Decides (arg.eq a b) (a ≡ b)
-arg-eq (Lifetime r) (Lifetime s) = through _ _ _ (region-eq r s) (λ p. ap Lifetime p) (λ e. cc)
-arg-eq (AType t) (AType u) = through _ _ _ (ty-eq t u) (λ p. ap AType p) (λ e. cc)
-arg-eq (AConst t) (AConst u) = through _ _ _ (const-eq t u) (λ p. ap AConst p) (λ e. cc)
-arg-eq _ _ = (λ e. cc, λ e. cc)
-
--- ---- arguments that are one tree are one argument
-region-sort : (k : RegionKind) → sort_of (region_label k) ≡ of_lifetime
-region-sort (ReBound j v) = bound-sort of_lifetime j v
-region-sort k = refl
 
 abbrev sort_of_arg : GenericArgKind → Sort
 sort_of_arg (Lifetime r) = of_lifetime

@@ -92,10 +92,10 @@ region-is r s e = ap (λ k. record { kind = k }) (region-back r.kind s.kind e)
 args-are : (es : List Entry) → Lawful es → (a b : TraitRef) → Has es args_lists a.args.0 → Has es args_lists b.args.0 → a.def_id.index ≡ b.def_id.index → trees_at es a.args.0 ≡ trees_at es b.args.0 → a ≡ b
 args-are es law a b h g p q = reference-cong a b (trait-back a.def_id b.def_id p) (ap (λ i. record { 0 = i }) (same-handle es law args_lists a.args.0 b.args.0 h g q))
 
-outlives : (a b x y : Region) → a ≡ x → b ≡ y → RegionOutlives a b ≡ RegionOutlives x y
+pub outlives : (a b x y : Region) → a ≡ x → b ≡ y → RegionOutlives a b ≡ RegionOutlives x y
 outlives a b x y p q = cc
 
-type-outlives : (t u : ty-module.Ty) (r s : Region) → t ≡ u → r ≡ s → TypeOutlives t r ≡ TypeOutlives u s
+pub type-outlives : (t u : ty-module.Ty) (r s : Region) → t ≡ u → r ≡ s → TypeOutlives t r ≡ TypeOutlives u s
 type-outlives t u r s p q = cc
 
 clause-is : (es : List Entry) → Lawful es → (x y : Clause) → ClauseHeld es x → ClauseHeld es y → clause_label x ≡ clause_label y → clause_terms es x ≡ clause_terms es y → x ≡ y

@@ -25,6 +25,7 @@ use Rattle.infer_table.proofs.SolutionLaws.{is_sort-equal, is_variable-self}
 use Rattle.infer_table.proofs.SolveFacts.{step-terms, bindings-with}
 use Rattle.infer_table.proofs.UnifyFacts.{step-sorted, compared-same, same-self, equal-recorded}
 use Rattle.infer_table.proofs.WellFacts.{followed-one, followed-open, followed-terms}
+use Rattle.type_terms.proofs.TermBasics.{node-same as same-node}
 
 -- ---- more values
 not-root : (b : Binding) (x : Trees) → variable_at x ≡ None → is_root b x ≡ false
@@ -212,9 +213,6 @@ module _ (t : TableTrees) (ok : IsOfTerms t) where
 -- a binder of no lifetimes opens nothing
 none-opened : (d k v : ℕ) → is_opened zero d k v ≡ false
 none-opened d k v = grind (arith, nat_tests)
-
-same-node : (l m : Label) (c d o p : Trees) → l ≡ m → c ≡ d → o ≡ p → tree l c o ≡ tree m d p
-same-node l m c d o p x y z = cc
 
 opened-none : (i d : ℕ) (t : Trees) → opened_binder i zero d t ≡ t
 opened-none i d none = refl

@@ -2,7 +2,7 @@
 use Rattle.std.proofs.Common.{◌≡◌, zero, suc, Bool, true, false, refl, ap, sym, ◌∙◌, subst, List, [], ◌∷◌, Some, None, is_some, if◌then◌else◌, inl, inr}
 use Rattle.type_terms.specs.Promised.Label.{Label, Sort, canonical}
 use Rattle.type_terms.specs.Promised.Trees.{Trees, none, tree, leaf, ◌+++◌, sort_of, is_sort}
-use Rattle.type_terms.specs.Trees.{placed}
+use Rattle.type_terms.specs.Trees.{put_at_node}
 use Rattle.type_terms.specs.Codes.{same_label}
 use Rattle.type_terms.proofs.Matching.{same-label-sound}
 use Rattle.type_terms.specs.Promised.Handles.{Entry}
@@ -16,6 +16,7 @@ use Rattle.infer_table.specs.Values.{Value, sort_of_arg, value_of, values_of, if
 use Rattle.infer_table.proofs.LeafFacts.{sort-is}
 use Rattle.type_terms.proofs.Made.{false-true}
 use Rattle.type_terms.proofs.TermBasics.{sort-self}
+use Rattle.infer_table.proofs.Numbers.{goal-same}
 
 -- the value of a leaf's canonical variable is the leaf
 pub value-of-leaf : (es : List Entry) → Lawful es → (xs : List GenericArgKind) (l : Label) → AreLeaves es xs → is_label_among l (labels es xs) ≡ true → value_for (values_of es xs) (canonical_label (labels es xs) l) ≡ Some (leaf l)
@@ -60,15 +61,12 @@ module _ (vs : List Value) (ls : List Label) (stands : (l : Label) → is_label_
           → filled_values vs (tree (if is_some (kind l) then canonical_label ls l else l) (relabeled kind (canonical_label ls) c) (relabeled kind (canonical_label ls) o)) ≡ tree l c o
       by true e p q =
           ap (λ (b : Bool). filled_values vs (tree (if b then canonical_label ls l else l) (relabeled kind (canonical_label ls) c) (relabeled kind (canonical_label ls) o))) e
-          ∙ ap (λ v. placed v (tree (canonical_label ls l) (filled_values vs (relabeled kind (canonical_label ls) c)) none) +++ filled_values vs (relabeled kind (canonical_label ls) o)) (stands l (m l (inl (refl, e))))
+          ∙ ap (λ v. put_at_node v (tree (canonical_label ls l) (filled_values vs (relabeled kind (canonical_label ls) c)) none) +++ filled_values vs (relabeled kind (canonical_label ls) o)) (stands l (m l (inl (refl, e))))
           ∙ node l o _ q ∙ ap (λ z. tree l z o) (sym (h.0 e))
       by false e p q =
           ap (λ (b : Bool). filled_values vs (tree (if b then canonical_label ls l else l) (relabeled kind (canonical_label ls) c) (relabeled kind (canonical_label ls) o))) e
-          ∙ ap (λ v. placed v (tree l (filled_values vs (relabeled kind (canonical_label ls) c)) none) +++ filled_values vs (relabeled kind (canonical_label ls) o)) (no-value l c o n)
+          ∙ ap (λ v. put_at_node v (tree l (filled_values vs (relabeled kind (canonical_label ls) c)) none) +++ filled_values vs (relabeled kind (canonical_label ls) o)) (no-value l c o n)
           ∙ tree-cong l c _ o _ p q
-
-goal-same : (e e' p p' : Trees) → e ≡ e' → p ≡ p' → ◌≡◌ {A = GoalTrees} (record { environment = e; predicate = p }) (record { environment = e'; predicate = p' })
-goal-same e e' p p' a b = cc
 
 pub goal-filled-cong : (vs ws : List Value) (g h : GoalTrees) → vs ≡ ws → g ≡ h → goal_filled vs g ≡ goal_filled ws h
 goal-filled-cong vs ws g h p q = cc

@@ -5,7 +5,7 @@ use Rattle.std.specs.List.{slice_get}
 use Rattle.std.proofs.lemmas.Bool.Decides.{nat_tests}
 use Rattle.type_terms.specs.Promised.Label.{Label, Sort, of_type, of_const, of_lifetime, infer, canonical, bound, fn_ptr, dynamic, principal, auto_trait, inside}
 use Rattle.type_terms.specs.Promised.Trees.{Trees, none, tree, ◌+++◌, is_sort}
-use Rattle.type_terms.specs.Trees.{placed}
+use Rattle.type_terms.specs.Trees.{put_at_node}
 use Rattle.infer_table.specs.declared.canonical.CanonicalVarKind.{CanonicalVarKind}
 use Rattle.infer_table.specs.declared.canonical.CanonicalVarKind.TheVariants.{Ty, PlaceholderTy, Const, PlaceholderConst, Region}
 use Rattle.infer_table.specs.Solutions.{Binding, is_same_variable, replace, resolved}
@@ -155,14 +155,14 @@ suits-at (k ∷ ks) (v ∷ vs) zero s h e =
 suits-at (k ∷ ks) (v ∷ vs) (suc i) s h e = suits-at ks vs i s h.1 e
 
 module _ (ks : List CanonicalVarKind) (vs : List Value) (all : AllSuit ks vs) where
-  clean-placed : (r : Option Trees) (t : Trees) → IsPut r → HasNoCanonical (placed r t)
+  clean-placed : (r : Option Trees) (t : Trees) → IsPut r → HasNoCanonical (put_at_node r t)
   clean-placed None t h = absurd h
   clean-placed (Some x) t h = h
 
   clean-filled : (t : Trees) → AreNumbered ks t → HasNoCanonical (filled_values vs t)
   clean-filled none h = tt
   clean-filled (tree (canonical s i) c o) h =
-      clean-append (placed (if_of_sort s (slice_get vs i)) (tree (canonical s i) (filled_values vs c) none)) (filled_values vs o)
+      clean-append (put_at_node (if_of_sort s (slice_get vs i)) (tree (canonical s i) (filled_values vs c) none)) (filled_values vs o)
       (clean-placed (if_of_sort s (slice_get vs i)) (tree (canonical s i) (filled_values vs c) none) (suits-at ks vs i s all h.0)) (clean-filled o h.2)
   clean-filled (tree (infer k v) c o) h = absurd h
   clean-filled (tree l c o) h = (clean-filled c h.0, clean-filled o h.1)

@@ -4,7 +4,7 @@ use Rattle.std.specs.List.{slice_get}
 use Rattle.std.proofs.Common.{ap}
 use Rattle.type_terms.specs.Promised.Label.{Label, Sort, of_type, of_const, of_lifetime, canonical, principal, auto_trait}
 use Rattle.type_terms.specs.Promised.Trees.{Trees, none, tree, ◌+++◌, is_sort}
-use Rattle.type_terms.specs.Trees.{placed, flags}
+use Rattle.type_terms.specs.Trees.{put_at_node, flags}
 use Rattle.type_terms.specs.Promised.Handles.{Entry, Keeps}
 use Rattle.type_terms.specs.Promised.Handles.{ArgsHeld, arg_trees}
 use Rattle.type_terms.specs.declared.kinds.GenericArgKind.{GenericArgKind}
@@ -44,7 +44,7 @@ value_for vs l = None
 -- the trees with each canonical variable replaced by its value, if it has one
 abbrev pub filled_values : List Value → Trees → Trees
 filled_values vs none = none
-filled_values vs (tree l c o) = placed (value_for vs l) (tree l (filled_values vs c) none) +++ filled_values vs o
+filled_values vs (tree l c o) = put_at_node (value_for vs l) (tree l (filled_values vs c) none) +++ filled_values vs o
 
 abbrev pub goal_filled : List Value → GoalTrees → GoalTrees
 goal_filled vs g = record { environment = filled_values vs g.environment; predicate = filled_values vs g.predicate }

@@ -24,6 +24,7 @@ use Rattle.orphan_check.specs.Visited.{visit_eq, visit_at}
 use Rattle.orphan_check.specs.Walks.{ArePending, AreOnTop, IsVisit, IsDecisive, steps_before, pending_steps, step_met}
 use Rattle.orphan_check.proofs.Stepping.{push-steps, each-pop}
 use Rattle.declarations.proofs.Growth.{each-kept}
+use Rattle.infer_table.proofs.SolutionLaws.{or-false}
 
 -- ---- a visit that is kept in a set
 pub entered-one : {S E : Type 0} (old new : HashSet Visit S) (w : Visit) (r : Result Bool E) → OnOk r (Updates visit_eq old new w true) → OnErr r (IsUnchanged old new) → (v : Visit) → contains visit_eq new v ≡ true
@@ -138,10 +139,6 @@ or-swap true true d = refl
 or-swap true false d = refl
 or-swap false true d = refl
 or-swap false false d = refl
-
-or-false : (a : Bool) → (a || false) ≡ a
-or-false true = refl
-or-false false = refl
 
 nothing : (a b : Bool) → (a || ((b && false) || false)) ≡ a
 nothing true true = refl

@@ -200,7 +200,7 @@ names-counted seen (v ∷ vs) = by (is_among v.0 seen) (names-counted seen vs) (
     by true e f = e
     by false e f = let g : suc (length seen) + length (unseen_ones (v.0 ∷ seen) vs) ≡ length seen + suc (length (unseen_ones (v.0 ∷ seen) vs)) = omega arith in f ∙ g
 
-filter-both : (p q r : Named → Bool) → ((x : Named) → r x ≡ q x && p x) → (xs : List Named) → filter p (filter q xs) ≡ filter r xs
+pub filter-both : (p q r : Named → Bool) → ((x : Named) → r x ≡ q x && p x) → (xs : List Named) → filter p (filter q xs) ≡ filter r xs
 filter-both p q r h [] = refl
 filter-both p q r h (x ∷ xs) = by (q x) (h x) (filter-both p q r h xs)
   where
@@ -208,14 +208,14 @@ filter-both p q r h (x ∷ xs) = by (q x) (h x) (filter-both p q r h xs)
     by true e f = ap (λ c. cond c (x ∷ filter p (filter q xs)) (filter p (filter q xs))) (sym e) ∙ ap (λ z. cond (r x) (x ∷ z) z) f
     by false e f = f ∙ ap (λ c. cond c (x ∷ filter r xs) (filter r xs)) (sym e)
 
-filter-all : (xs : List Named) → filter (λ w. true) xs ≡ xs
+pub filter-all : (xs : List Named) → filter (λ w. true) xs ≡ xs
 filter-all [] = refl
 filter-all (x ∷ xs) = ap (λ z. x ∷ z) (filter-all xs)
 
 among-same : (n m : List ℕ) (ns : List (List ℕ)) → bytes_eq n m ≡ true → is_among n ns ≡ is_among m ns
 among-same n m ns e = ap (λ x. is_among x ns) ((bytes_eq-Decides n m).0 e)
 
-seen-stays : (n m : List ℕ) (seen : List (List ℕ)) → is_among m seen ≡ true → not (is_among n seen) ≡ not (bytes_eq n m) && not (is_among n seen)
+pub seen-stays : (n m : List ℕ) (seen : List (List ℕ)) → is_among m seen ≡ true → not (is_among n seen) ≡ not (bytes_eq n m) && not (is_among n seen)
 seen-stays n m seen h = by (bytes_eq n m) (λ e. among-same n m seen e ∙ h)
   where
     by : (b : Bool) → (b ≡ true → is_among n seen ≡ true) → not (is_among n seen) ≡ not b && not (is_among n seen)

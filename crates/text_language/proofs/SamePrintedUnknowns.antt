@@ -21,7 +21,7 @@ use Rattle.text_language.proofs.SamePrintedNames.{stands-for}
 abbrev pub label_of : Sort × ℕ → Label
 label_of u = infer u.0 u.1
 
-and-true : (b : Bool) → b && true ≡ b
+pub and-true : (b : Bool) → b && true ≡ b
 and-true true = refl
 and-true false = refl
 

@@ -99,10 +99,10 @@ binder-eq KCanonical KCanonical = (λ e. refl, λ e. refl)
 binder-eq _ _ = (λ e. cc, λ e. cc)
 
 -- ---- handles and small kinds
-ty-eq : (a b : ty-module.Ty) → Decides (ty.eq a b) (a ≡ b)
+pub ty-eq : (a b : ty-module.Ty) → Decides (ty.eq a b) (a ≡ b)
 ty-eq a b = search rules
 
-const-eq : (a b : const-module.Const) → Decides (const.eq a b) (a ≡ b)
+pub const-eq : (a b : const-module.Const) → Decides (const.eq a b) (a ≡ b)
 const-eq a b = search rules
 
 tys-eq : (a b : tys-module.Tys) → Decides (tys.eq a b) (a ≡ b)
@@ -128,7 +128,7 @@ region-kind-eq (ReBound j v) (ReBound k w) = through _ _ _ (both _ _ _ _ (binder
 region-kind-eq (ReVar v) (ReVar w) = through _ _ _ (region-vid-eq v w) (λ p. ap ReVar p) (λ e. cc)
 region-kind-eq _ _ = (λ e. cc, λ e. cc)
 
-region-eq : (a b : Region) → Decides (region.eq a b) (a ≡ b)
+pub region-eq : (a b : Region) → Decides (region.eq a b) (a ≡ b)
 region-eq a b = through _ _ _ (region-kind-eq a.kind b.kind) (λ p. ap (λ k. record { kind = k }) p) (λ e. ap (λ r. r.kind) e)
 
 -- ---- kinds
@@ -161,7 +161,7 @@ const-kind-eq (CBound j v) (CBound k w) = through _ _ _ (both _ _ _ _ (binder-eq
 const-kind-eq (CInfer v) (CInfer w) = through _ _ _ (const-vid-eq v w) (λ p. ap CInfer p) (λ e. cc)
 const-kind-eq _ _ = (λ e. cc, λ e. cc)
 
-arg-eq : (a b : GenericArgKind) → Decides (arg.eq a b) (a ≡ b)
+pub arg-eq : (a b : GenericArgKind) → Decides (arg.eq a b) (a ≡ b)
 arg-eq (Lifetime r) (Lifetime s) = through _ _ _ (region-eq r s) (λ p. ap Lifetime p) (λ e. cc)
 arg-eq (AType t) (AType u) = through _ _ _ (ty-eq t u) (λ p. ap AType p) (λ e. cc)
 arg-eq (AConst t) (AConst u) = through _ _ _ (const-eq t u) (λ p. ap AConst p) (λ e. cc)

@@ -158,12 +158,12 @@ shift-keeps : (d a : ℕ) (t : Trees) → some_node is_open (shift d a t) ≡ so
 shift-keeps d a none = refl
 shift-keeps d a (tree l c o) = or-cong _ _ _ _ _ _ (label-kept d a l) (shift-keeps (inside l d) a c) (shift-keeps d a o)
 
-nth-shut : (A : Trees) (i : ℕ) → Shuts A → Shuts (nth A i)
+pub nth-shut : (A : Trees) (i : ℕ) → Shuts A → Shuts (nth A i)
 nth-shut none i h = refl
 nth-shut (tree l c o) zero h = head-shut is_open l c o h
 nth-shut (tree l c o) (suc i) h = nth-shut o i (next-shut is_open l c o h)
 
-closed-node : (l : Label) (c o : Trees) → is_open l ≡ false → Shuts c → Shuts o → Shuts (tree l c o)
+pub closed-node : (l : Label) (c o : Trees) → is_open l ≡ false → Shuts c → Shuts o → Shuts (tree l c o)
 closed-node l c o e f g = or-no (is_open l || some_node is_open c) (some_node is_open o) (or-no (is_open l) (some_node is_open c) e f) g
 
 pub plain-shut : (d : ℕ) (A t : Trees) → Shuts A → some_node is_stray t ≡ false → Shuts (instantiate d A t)
@@ -290,7 +290,7 @@ copy-closed t (tree tuple k o) h = a-row copy_tuple (each_asked t k) (each-close
 copy-closed t (tree l k o) h = refl
 
 -- what a list of rules asks, where the list is there only if b is true
-if-closed : (b : Bool) (us : List Rule) → premises-closed us ≡ true → premises-closed (if b then us else []) ≡ true
+pub if-closed : (b : Bool) (us : List Rule) → premises-closed us ≡ true → premises-closed (if b then us else []) ≡ true
 if-closed true us h = h
 if-closed false us h = refl
 
@@ -300,12 +300,12 @@ join-closed (u ∷ us) vs e g =
     both (list_all (λ p. is_closed p.args) u.premises) _ (left (list_all (λ p. is_closed p.args) u.premises) _ e)
     (join-closed us vs (right (list_all (λ p. is_closed p.args) u.premises) _ e) g)
 
-tuple-closed : (a : Trees) → premises-closed (tuple_rules a) ≡ true
+pub tuple-closed : (a : Trees) → premises-closed (tuple_rules a) ≡ true
 tuple-closed none = refl
 tuple-closed (tree tuple k o) = refl
 tuple-closed (tree l k o) = refl
 
-fn-ptr-closed : (a : Trees) → premises-closed (fn_ptr_rules a) ≡ true
+pub fn-ptr-closed : (a : Trees) → premises-closed (fn_ptr_rules a) ≡ true
 fn-ptr-closed none = refl
 fn-ptr-closed (tree (fn_ptr n) k o) = refl
 fn-ptr-closed (tree l k o) = refl
@@ -316,7 +316,7 @@ call-closed (tree (fn_ptr n) types (tree tuple inputs o)) h =
     (a-row fn_ptr_call (last_asked sized types) (last-closed sized types (child-shut is_open (fn_ptr n) types (tree tuple inputs o) h)))
 call-closed a h = refl
 
-plain-closed : (r : Reference) → Shuts r.args → premises-closed (plain_rules r) ≡ true
+pub plain-closed : (r : Reference) → Shuts r.args → premises-closed (plain_rules r) ≡ true
 plain-closed r h =
     join-closed (if (r.trait == copy) || (r.trait == clone) then copy_rules r.trait r.args else []) _
     (if-closed ((r.trait == copy) || (r.trait == clone)) (copy_rules r.trait r.args) (copy-closed r.trait r.args h))
@@ -324,7 +324,7 @@ plain-closed r h =
     (join-closed (if r.trait == fn_ptr_trait then fn_ptr_rules r.args else []) _ (if-closed (r.trait == fn_ptr_trait) (fn_ptr_rules r.args) (fn-ptr-closed r.args))
     (if-closed (is_fn_trait r.trait) (call_rules r.args) (call-closed r.args h))))
 
-unsize-array-closed : (a : Trees) → premises-closed (unsize_array_rules a) ≡ true
+pub unsize-array-closed : (a : Trees) → premises-closed (unsize_array_rules a) ≡ true
 unsize-array-closed (tree array (tree l c n) (tree slice (tree m d p) o)) = if-closed (same (tree l c none) (tree m d none)) (row unsize_array []) refl
 unsize-array-closed a = refl
 
@@ -333,7 +333,7 @@ equal-closed : (b : ℕ → BuiltIn) (ps : List Reference) (r : Reference) (k : 
     → list_all (λ (p : Reference). is_closed p.args) ps ≡ true → premises-closed (equal_rows b ps r k ss) ≡ true
 equal-closed b ps r k ss h = equal-all (λ (u : Rule). list_all (λ (p : Reference). is_closed p.args) u.premises) b ps r k ss (λ n. h)
 
-upcasts-closed : (V : World) (ps qs : List Reference) → premises-closed (upcasts_principal V ps qs) ≡ true
+pub upcasts-closed : (V : World) (ps qs : List Reference) → premises-closed (upcasts_principal V ps qs) ≡ true
 upcasts-closed V ps [] = refl
 upcasts-closed V [] (q ∷ qs) = refl
 upcasts-closed V (p ∷ ps) (q ∷ qs) = by (p.trait == q.trait)
@@ -342,7 +342,7 @@ upcasts-closed V (p ∷ ps) (q ∷ qs) = by (p.trait == q.trait)
     by true = if-closed (same_reference p q) (row unsize_dyn []) refl
     by false = equal-closed unsize_upcast [] q 1 (strict_supertraits V p) refl
 
-unsize-upcast-closed : (V : World) (a : Trees) → premises-closed (unsize_upcast_rules V a) ≡ true
+pub unsize-upcast-closed : (V : World) (a : Trees) → premises-closed (unsize_upcast_rules V a) ≡ true
 unsize-upcast-closed V (tree dynamic k (tree dynamic b o)) =
     let self = tree dynamic k none in
     let p = principal_with self k in
@@ -414,7 +414,7 @@ module _ (V : World) (fields : (x : StructDecl) (t : Trees) → In x V.structs �
       (join-closed (unsize_to_dyn_rules V a) _ (unsize-to-dyn-closed V a h)
       (join-closed (unsize_upcast_rules V a) _ (unsize-upcast-closed V a) (unsize-struct-closed a h)))
 
-object-closed : (V : World) (r : Reference) (a : Trees) → all-closed (strict_supertraits V r) ≡ true → premises-closed (object_rules V r a) ≡ true
+pub object-closed : (V : World) (r : Reference) (a : Trees) → all-closed (strict_supertraits V r) ≡ true → premises-closed (object_rules V r a) ≡ true
 object-closed V r none h = refl
 object-closed V r (tree dynamic k o) h =
     if-closed (is_declared V r.trait && are_dyn_compatible V p) (autos ++ principal)

@@ -8,7 +8,7 @@ use Rattle.type_terms.specs.Promised.Label.{Label, of_type, of_const, of_lifetim
 use Rattle.type_terms.specs.Promised.Trees.{Trees, none, tree, some_node}
 use Rattle.type_terms.specs.Trees.{flags, outer_binder, own_binder, outside, label_flags}
 use Rattle.type_terms.specs.Pieces.{Piece, piece_flags, piece_binder}
-use Rattle.type_terms.specs.Scans.{some_node_of, has_flag, is_param, is_infer, is_bound_from, some_bound_from, some_bound_of}
+use Rattle.type_terms.specs.Scans.{some_node_of, has_flag, is_any_param, is_infer, is_bound_from, some_bound_from, some_bound_of}
 use Rattle.type_terms.proofs.BooleanBasics.{join-tests}
 
 pub or_none : (n : ℕ) → bit_or n 0 ≡ n
@@ -66,7 +66,7 @@ module _ (p q : Label → Bool) (h : (l : Label) → p l ≡ q l) where
       both : (p q p' q' : Bool) → p ≡ p' → q ≡ q' → (p || q) ≡ (p' || q')
       both p q p' q' x y = cc
 
-pub param-flag : (l : Label) → is_param l ≡ has_flag 273 l
+pub param-flag : (l : Label) → is_any_param l ≡ has_flag 273 l
 param-flag (param of_type i) = refl
 param-flag (param of_lifetime i) = refl
 param-flag (param of_const i) = refl
@@ -110,8 +110,8 @@ infer-flag (principal zero i) = refl
 infer-flag (principal (suc n) i) = refl
 infer-flag l = refl
 
-pub scan-params : (ps : List Piece) → some_node_of (has_flag 273) ps ≡ some_node_of is_param ps
-scan-params ps = sym (same-scan is_param (has_flag 273) param-flag ps)
+pub scan-params : (ps : List Piece) → some_node_of (has_flag 273) ps ≡ some_node_of is_any_param ps
+scan-params ps = sym (same-scan is_any_param (has_flag 273) param-flag ps)
 
 pub scan-infers : (ps : List Piece) → some_node_of (has_flag 546) ps ≡ some_node_of is_infer ps
 scan-infers ps = sym (same-scan is_infer (has_flag 546) infer-flag ps)

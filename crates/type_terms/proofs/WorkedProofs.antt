@@ -113,7 +113,7 @@ with-core = (
     no r (inr f) = absurd (in-nothing f.0 f.1.0)
 
 -- Proofs
-one-way : (W : World) (E : List Reference) (u : Rule) → AtMostOne W E (u ∷ [])
+pub one-way : (W : World) (E : List Reference) (u : Rule) → AtMostOne W E (u ∷ [])
 one-way W E u zero zero v w hv hw pv pw = refl
 one-way W E u zero (suc j) v w hv hw pv pw = cc
 one-way W E u (suc i) j v w hv hw pv pw = cc

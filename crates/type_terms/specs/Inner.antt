@@ -23,8 +23,8 @@ Within c n = (c.types ≤ n) × (c.consts ≤ n) × (c.args_lists ≤ n) × (c.t
 abbrev pub entries_of : Inside → List Entry
 entries_of a = grow [] (keys a.nodes)
 
-abbrev pub view_of : Inside → Terms
-view_of a = record { entries = entries_of a; limit = a.limit; room = spare a.nodes }
+abbrev pub terms_view : Inside → Terms
+terms_view a = record { entries = entries_of a; limit = a.limit; room = spare a.nodes }
 
 pub record Sound (a : Inside) : Type 0 where
   pub older : Older [] (keys a.nodes)

@@ -37,8 +37,8 @@ AllHeld es (Visit p ∷ ps) = PartHeld es p × AllHeld es ps
 abbrev pub ahead : Path → List Pending
 ahead p = reverse p.todo.items
 
-abbrev pub inside : Path → List ℕ
-inside p = reverse p.counts.items
+abbrev pub crossed : Path → List ℕ
+crossed p = reverse p.counts.items
 
 -- The terms below these binders.
 abbrev pub piece : List ℕ → Trees → Piece
@@ -51,7 +51,7 @@ piece_below cs (tree l c o) = piece (around l cs) c
 
 -- Two parts, one after the other, below the binders around what comes next.
 abbrev pub piece_of_both : List Entry → Path → Part → Part → Piece
-piece_of_both es w p q = piece (inside w) (part_trees es p +++ part_trees es q)
+piece_of_both es w p q = piece (crossed w) (part_trees es p +++ part_trees es q)
 
 -- What is ahead, starting below these binders, each part with the binders that are around it.
 abbrev pub pieces_ahead : List Entry → List ℕ → List Pending → List Piece
@@ -60,7 +60,7 @@ pieces_ahead es cs (Leave ∷ ps) = pieces_ahead es (drop 1 cs) ps
 pieces_ahead es cs (Visit p ∷ ps) = piece cs (part_trees es p) ∷ pieces_ahead es cs ps
 
 abbrev pub path_pieces : List Entry → Path → List Piece
-path_pieces es p = pieces_ahead es (inside p) (ahead p)
+path_pieces es p = pieces_ahead es (crossed p) (ahead p)
 
 -- If the first visit ended without a break, each visit of what is after completes a visit of what was before. If it
 -- ended with a break, it is a visit of what was before.

@@ -15,9 +15,9 @@ abbrev pub has_flag : ℕ → Label → Bool
 has_flag wanted l = not (bit_and (label_flags l) wanted == 0)
 
 -- The label is that of a parameter of any kind.
-abbrev pub is_param : Label → Bool
-is_param (param s i) = true
-is_param _ = false
+abbrev pub is_any_param : Label → Bool
+is_any_param (param s i) = true
+is_any_param _ = false
 
 abbrev pub is_infer : Label → Bool
 is_infer (infer s i) = true

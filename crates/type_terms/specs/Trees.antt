@@ -99,6 +99,6 @@ Single none = ⊥
 Single (tree l c o) = o ≡ none
 
 -- What a folder puts at a node: the terms that it returns, or else the node itself with its children folded.
-abbrev pub placed : Option Trees → Trees → Trees
-placed None t = t
-placed (Some r) t = r
+abbrev pub put_at_node : Option Trees → Trees → Trees
+put_at_node None t = t
+put_at_node (Some r) t = r

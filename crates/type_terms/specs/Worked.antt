@@ -283,8 +283,8 @@ abbrev pub pointer_to_slice : Trees
 pointer_to_slice = tree (raw_pointer false) slice_of_u8 none
 
 -- The types `u8`, `i8`, `bool`, `char` and `!`.
-abbrev pub scalars : List Trees
-scalars = u8 ∷ leaf (int 0) ∷ leaf bool ∷ leaf char ∷ leaf never ∷ []
+abbrev pub scalar_types : List Trees
+scalar_types = u8 ∷ leaf (int 0) ∷ leaf bool ∷ leaf char ∷ leaf never ∷ []
 
 -- The type `dyn A` for an auto trait A, without a principal.
 abbrev pub dyn_of_auto : ℕ → Trees
@@ -300,7 +300,7 @@ dyn_with_auto p a = tree dynamic (tree (principal 0 p) none (tree (auto_trait a)
 abbrev pub SizedRows : Type 0
 SizedRows =
     let W = beside_core (struct 10 base (u8 ∷ T ∷ []) ∷ struct 11 base [] ∷ []) (trait_of 20 base [] ∷ []) [] in
-    Every (λ x. rules W [] (asked sized x) ≡ row sized_leaf []) (scalars ++ fn_of_u8 ∷ shared slice_of_u8 ∷ pointer_to_slice ∷ three_u8 ∷ [])
+    Every (λ x. rules W [] (asked sized x) ≡ row sized_leaf []) (scalar_types ++ fn_of_u8 ∷ shared slice_of_u8 ∷ pointer_to_slice ∷ three_u8 ∷ [])
     × (rules W [] (asked sized u8_and_slice) ≡ row sized_tuple (asked sized slice_of_u8 ∷ []))
     × (rules W [] (asked sized (leaf tuple)) ≡ row sized_tuple [])
     × (rules W [] (asked sized (applied 10 slice_of_u8)) ≡ row sized_struct (asked sized slice_of_u8 ∷ []))
@@ -324,7 +324,7 @@ CopyRows =
 abbrev pub AutoRows : Type 0
 AutoRows =
     let W = beside_core (struct 10 base (u8 ∷ T ∷ []) ∷ []) (auto_trait_of 20 base ∷ trait_of 21 base [] ∷ []) [] in
-    Every (λ x. rules W [] (asked 20 x) ≡ row auto_leaf []) (scalars ++ fn_of_u8 ∷ [])
+    Every (λ x. rules W [] (asked 20 x) ≡ row auto_leaf []) (scalar_types ++ fn_of_u8 ∷ [])
     × (rules W [] (asked 20 (leaf str)) ≡ row auto_str (asked 20 slice_of_u8 ∷ []))
     × (rules W [] (asked 20 slice_of_u8) ≡ row auto_element (asked 20 u8 ∷ []))
     × (rules W [] (asked 20 three_u8) ≡ row auto_element (asked 20 u8 ∷ []))

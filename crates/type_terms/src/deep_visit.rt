@@ -10,7 +10,7 @@ ghost use Rattle.type_terms.specs.Kinds.{TysHeld, tys_trees, args_trees};
 ghost use Rattle.type_terms.specs.Promised.Handles.{ArgsHeld};
 ghost use Rattle.type_terms.specs.Binders.{counts_of};
 ghost use Rattle.type_terms.specs.Visits.{Visits, VisitsBelow, VisitsEach};
-ghost use Rattle.type_terms.specs.Pending.{part_trees, PartHeld, AllHeld, ahead, inside, piece, piece_below, path_pieces, piece_of_both, GoesOn};
+ghost use Rattle.type_terms.specs.Pending.{part_trees, PartHeld, AllHeld, ahead, crossed, piece, piece_below, path_pieces, piece_of_both, GoesOn};
 
 use crate::binders::Binders;
 use crate::interner::Interner;
@@ -49,7 +49,7 @@ pub(crate) struct Path<'a> {
 impl<'a> Path<'a> {
     /// A visit with nothing to visit.
     fn new(alloc: Global) -> Path<'a>
-        ensures inside { inside result ≡ [] }
+        ensures inside { crossed result ≡ [] }
         ensures ahead { ahead result ≡ [] }
     {
         Path {
@@ -60,7 +60,7 @@ impl<'a> Path<'a> {
 
     /// Adds the part, which is visited next.
     fn push(&mut self, part: Part<'a>) -> Result<(), AllocError>
-        ensures inside { inside self.new ≡ inside self.old }
+        ensures inside { crossed self.new ≡ crossed self.old }
         ensures ahead { MatchResult result (λ _. ahead self.new ≡ Pending.Visit part.entry ∷ ahead self.old) (λ _. ahead self.new ≡ ahead self.old) }
     {
         self.todo.extend_from_slice(&[Pending::Visit(part)])
@@ -68,7 +68,7 @@ impl<'a> Path<'a> {
 
     /// Adds the two parts, which are visited next, in this order.
     fn push_both(&mut self, first: Part<'a>, second: Part<'a>) -> Result<(), AllocError>
-        ensures inside { inside self.new ≡ inside self.old }
+        ensures inside { crossed self.new ≡ crossed self.old }
         ensures ahead { MatchResult result (λ _. ahead self.new ≡ Pending.Visit first.entry ∷ Pending.Visit second.entry ∷ ahead self.old) (λ _. ahead self.new ≡ ahead self.old) }
     {
         self.todo
@@ -77,7 +77,7 @@ impl<'a> Path<'a> {
 
     /// Adds the part, which is visited next, below one more binder.
     fn push_bound(&mut self, count: u32, part: Part<'a>) -> Result<(), AllocError>
-        ensures inside { MatchResult result (λ _. inside self.new ≡ count ∷ inside self.old) (λ _. inside self.new ≡ inside self.old) }
+        ensures inside { MatchResult result (λ _. crossed self.new ≡ count ∷ crossed self.old) (λ _. crossed self.new ≡ crossed self.old) }
         ensures ahead { MatchResult result (λ _. ahead self.new ≡ Pending.Visit part.entry ∷ Pending.Leave ∷ ahead self.old) (λ _. ahead self.new ≡ ahead self.old) }
     {
         self.counts.extend_from_slice(&[count])?;
@@ -169,7 +169,7 @@ fn add<'a, V: TypeVisitor>(
     requires path { AllHeld cx.now.entries (ahead path.old) }
     ensures ready { V.ready visitor.new cx.now.entries }
     ensures path { AllHeld cx.now.entries (ahead path.new) }
-    ensures follows { GoesOn V.sees cx.now.entries (counts_of binders.now) (piece (inside path.old) (part_trees cx.now.entries part.entry)) path.old visitor.old path.new visitor.new result }
+    ensures follows { GoesOn V.sees cx.now.entries (counts_of binders.now) (piece (crossed path.old) (part_trees cx.now.entries part.entry)) path.old visitor.old path.new visitor.new result }
 {
     match path.push(part) {
         Ok(()) => ControlFlow::Continue(()),
@@ -220,7 +220,7 @@ fn add_bound<'a, V: TypeVisitor>(
     requires path { AllHeld cx.now.entries (ahead path.old) }
     ensures ready { V.ready visitor.new cx.now.entries }
     ensures path { AllHeld cx.now.entries (ahead path.new) }
-    ensures follows { GoesOn V.sees cx.now.entries (counts_of binders.now) (piece (count ∷ inside path.old) (part_trees cx.now.entries part.entry)) path.old visitor.old path.new visitor.new result }
+    ensures follows { GoesOn V.sees cx.now.entries (counts_of binders.now) (piece (count ∷ crossed path.old) (part_trees cx.now.entries part.entry)) path.old visitor.old path.new visitor.new result }
 {
     match path.push_bound(count, part) {
         Ok(()) => ControlFlow::Continue(()),
@@ -244,7 +244,7 @@ fn enter<'a, V: TypeVisitor>(
     requires path { AllHeld cx.now.entries (ahead path.old) }
     ensures ready { V.ready visitor.new cx.now.entries }
     ensures path { AllHeld cx.now.entries (ahead path.new) }
-    ensures follows { GoesOn V.sees cx.now.entries (counts_of binders.now) (piece_below (inside path.old) (trees_at cx.now.entries ty.0)) path.old visitor.old path.new visitor.new result }
+    ensures follows { GoesOn V.sees cx.now.entries (counts_of binders.now) (piece_below (crossed path.old) (trees_at cx.now.entries ty.0)) path.old visitor.old path.new visitor.new result }
 {
     match cx.kind(ty) {
         TyKind::Adt(_, args) => add(cx, visitor, Part::Args(cx.args(args)), path, binders),
@@ -301,7 +301,7 @@ fn turn_ty<'a, V: TypeVisitor>(
     requires path { AllHeld cx.now.entries (ahead path.old) }
     ensures ready { V.ready visitor.new cx.now.entries }
     ensures path { AllHeld cx.now.entries (ahead path.new) }
-    ensures follows { GoesOn V.sees cx.now.entries (counts_of binders.now) (piece (inside path.old) (trees_at cx.now.entries ty.0)) path.old visitor.old path.new visitor.new result }
+    ensures follows { GoesOn V.sees cx.now.entries (counts_of binders.now) (piece (crossed path.old) (trees_at cx.now.entries ty.0)) path.old visitor.old path.new visitor.new result }
 {
     cx.lawful();
     match visitor.visit_ty(cx, ty, &Binders::Listed(&path.counts, &*binders)) {
@@ -324,7 +324,7 @@ fn turn_bounds<'a, V: TypeVisitor>(
     requires path { AllHeld cx.now.entries (ahead path.old) }
     ensures ready { V.ready visitor.new cx.now.entries }
     ensures path { AllHeld cx.now.entries (ahead path.new) }
-    ensures follows { GoesOn V.sees cx.now.entries (counts_of binders.now) (piece (inside path.old) (trees_at cx.now.entries bounds.0)) path.old visitor.old path.new visitor.new result }
+    ensures follows { GoesOn V.sees cx.now.entries (counts_of binders.now) (piece (crossed path.old) (trees_at cx.now.entries bounds.0)) path.old visitor.old path.new visitor.new result }
 {
     match cx.bounds(bounds).principal {
         Some(principal) => {
@@ -348,7 +348,7 @@ fn turn_tys<'a, V: TypeVisitor>(
     requires path { AllHeld cx.now.entries (ahead path.old) }
     ensures ready { V.ready visitor.new cx.now.entries }
     ensures path { AllHeld cx.now.entries (ahead path.new) }
-    ensures follows { GoesOn V.sees cx.now.entries (counts_of binders.now) (piece (inside path.old) (tys_trees cx.now.entries tys.now)) path.old visitor.old path.new visitor.new result }
+    ensures follows { GoesOn V.sees cx.now.entries (counts_of binders.now) (piece (crossed path.old) (tys_trees cx.now.entries tys.now)) path.old visitor.old path.new visitor.new result }
 {
     match tys {
         [] => ControlFlow::Continue(()),
@@ -372,7 +372,7 @@ fn turn_args<'a, V: TypeVisitor>(
     requires path { AllHeld cx.now.entries (ahead path.old) }
     ensures ready { V.ready visitor.new cx.now.entries }
     ensures path { AllHeld cx.now.entries (ahead path.new) }
-    ensures follows { GoesOn V.sees cx.now.entries (counts_of binders.now) (piece (inside path.old) (args_trees cx.now.entries args.now)) path.old visitor.old path.new visitor.new result }
+    ensures follows { GoesOn V.sees cx.now.entries (counts_of binders.now) (piece (crossed path.old) (args_trees cx.now.entries args.now)) path.old visitor.old path.new visitor.new result }
 {
     match args {
         [] => ControlFlow::Continue(()),
@@ -402,7 +402,7 @@ fn turn<'a, V: TypeVisitor>(
     requires path { AllHeld cx.now.entries (ahead path.old) }
     ensures ready { V.ready visitor.new cx.now.entries }
     ensures path { AllHeld cx.now.entries (ahead path.new) }
-    ensures follows { GoesOn V.sees cx.now.entries (counts_of binders.now) (piece (inside path.old) (part_trees cx.now.entries part.entry)) path.old visitor.old path.new visitor.new result }
+    ensures follows { GoesOn V.sees cx.now.entries (counts_of binders.now) (piece (crossed path.old) (part_trees cx.now.entries part.entry)) path.old visitor.old path.new visitor.new result }
 {
     match part {
         Part::Arg(GenericArgKind::Ty(ty)) => turn_ty(cx, visitor, ty, path, binders),

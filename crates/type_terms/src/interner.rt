@@ -143,9 +143,9 @@ impl Model for Interner {
 
     ghost coded = { terms_code };
 
-    ghost use Rattle.type_terms.specs.Inner.{view_of, Sound};
+    ghost use Rattle.type_terms.specs.Inner.{terms_view, Sound};
 
-    ghost view = { view_of };
+    ghost view = { terms_view };
 
     ghost invariant = { Sound };
 }

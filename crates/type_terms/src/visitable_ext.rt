@@ -1,7 +1,7 @@
 //! What occurs in a value, by what is stored with its terms.
 ghost use Rattle.std.specs.Prelude.{◌≡◌};
 ghost use Rattle.type_terms.specs.Pieces.{piece_flags, piece_binder};
-ghost use Rattle.type_terms.specs.Scans.{some_node_of, has_flag, is_param, is_infer, some_bound_of};
+ghost use Rattle.type_terms.specs.Scans.{some_node_of, has_flag, is_any_param, is_infer, some_bound_of};
 
 use crate::flags::TypeFlags;
 use crate::interner::Interner;
@@ -35,7 +35,7 @@ pub trait TypeVisitableExt: TypeVisitable {
     /// Whether a parameter of any kind occurs in the value.
     final fn has_param(self, cx: &Interner) -> bool
         requires { Self.held self cx.now.entries }
-        ensures { result ≡ some_node_of is_param (Self.pieces self cx.now.entries) }
+        ensures { result ≡ some_node_of is_any_param (Self.pieces self cx.now.entries) }
     {
         self.has_type_flags(cx, TypeFlags::HAS_PARAM)
     }

@@ -1,4 +1,4 @@
-mod Each
+pub mod Each
 mod Crates
 mod Names
 mod Consistent

@@ -2,7 +2,7 @@ use Rattle.std.proofs.Common.{ap, sym, subst, Err}
 use Rattle.type_terms.specs.Promised.Handles.{Keeps}
 use Rattle.goal_evaluator.specs.Frames.{begun}
 use Rattle.goal_evaluator.specs.OpenCandidates.{StandsAt}
-use Rattle.goal_evaluator.specs.Trial.{spec_trees, candidate, asked}
+use Rattle.goal_evaluator.specs.Trial.{spec_trees, candidate, asked_in_rounds}
 use Rattle.goal_evaluator.specs.TrialEnds.{trial_trees}
 use Rattle.goal_evaluator.proofs.Ending.{script-tried}
 use Rattle.goal_evaluator.proofs.FirstOf.{handed}
@@ -36,7 +36,7 @@ returns-clause-stands c =
     let t = trial_trees es1 input.variables.items c.in_ok-trial.trial in
     let x = c.open_nested.result in
     subst (λ z. StandsAt es2 z x) (sym (script-tried input.mode input.variables.items s t c.in_ok-trial.ensures.tried))
-    (subst (λ z. StandsAt es2 (asked input.mode z s.certainty t) x) (premises-later es es1 k spec.nested_goals.items c.requires.spec.nested) c.open_nested.ensures.stands)
+    (subst (λ z. StandsAt es2 (asked_in_rounds input.mode z s.certainty t) x) (premises-later es es1 k spec.nested_goals.items c.requires.spec.nested) c.open_nested.ensures.stands)
 
 pub returns-clause-terms : goal.returns-clause-terms
 returns-clause-terms c = record {

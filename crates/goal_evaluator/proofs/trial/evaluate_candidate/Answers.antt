@@ -3,7 +3,7 @@ use Rattle.type_terms.specs.Promised.Handles.{Keeps}
 use Rattle.goal_evaluator.specs.Evaluating.{replies_trees}
 use Rattle.goal_evaluator.specs.Frames.{begun}
 use Rattle.goal_evaluator.specs.Replays.{run}
-use Rattle.goal_evaluator.specs.Trial.{spec_trees, premises_trees, candidate, asked}
+use Rattle.goal_evaluator.specs.Trial.{spec_trees, premises_trees, candidate, asked_in_rounds}
 use Rattle.goal_evaluator.specs.TrialEnds.{trial_trees, CandidateEnds}
 use Rattle.goal_evaluator.proofs.Contexts.{replies-later}
 use Rattle.goal_evaluator.proofs.Ending.{trial-refused, script-tried}
@@ -43,8 +43,8 @@ returns-clause-runs c =
     let rs = replies_trees es c.args.replies.now in
     let x = c.evaluate_nested.result in
     subst (λ z. CandidateEnds es2 (run z rs) x) (sym (script-tried input.mode input.variables.items s t c.in_ok-trial.ensures.tried))
-    (subst (λ z. CandidateEnds es2 (run (asked input.mode z s.certainty t) rs) x) (premises-later es es1 k spec.nested_goals.items c.requires.spec.nested)
-    (subst (λ z. CandidateEnds es2 (run (asked input.mode (premises_trees es1 spec.nested_goals.items) s.certainty t) z) x) (replies-trees-later es es1 k c.args.replies.now c.requires.replies)
+    (subst (λ z. CandidateEnds es2 (run (asked_in_rounds input.mode z s.certainty t) rs) x) (premises-later es es1 k spec.nested_goals.items c.requires.spec.nested)
+    (subst (λ z. CandidateEnds es2 (run (asked_in_rounds input.mode (premises_trees es1 spec.nested_goals.items) s.certainty t) z) x) (replies-trees-later es es1 k c.args.replies.now c.requires.replies)
     c.evaluate_nested.ensures.runs))
 
 pub returns-clause-terms : goal.returns-clause-terms

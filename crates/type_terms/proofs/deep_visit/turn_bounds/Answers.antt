@@ -7,7 +7,7 @@ use Rattle.type_terms.specs.Kinds.{principal_trees, autos_trees, args_trees}
 use Rattle.type_terms.specs.Visits.{next_each}
 use Rattle.type_terms.specs.Binders.{counts_of}
 use Rattle.type_terms.specs.Kept.{trees-is}
-use Rattle.type_terms.specs.Pending.{inside, path_pieces}
+use Rattle.type_terms.specs.Pending.{crossed, path_pieces}
 use Rattle.type_terms.proofs.VisitFacts.{autos-visited}
 use Rattle.type_terms.proofs.PendingFacts.{follows-by, visits-bounds}
 use Rattle.type_terms.proofs.deep_visit.turn_bounds.Goals as goal
@@ -16,7 +16,7 @@ pub returns-in-Some-clause-follows : goal.returns-in-Some-clause-follows
 returns-in-Some-clause-follows g c =
     let es = c.args.cx.now.entries in
     let bs = counts_of c.args.binders.now in
-    let cs = inside c.args.path.now in
+    let cs = crossed c.args.path.now in
     let sees = g.V.TypeVisitor.sees es in
     let autos = c.bounds.result.now.autos.items in
     let p = c.in-Some.principal in
@@ -30,7 +30,7 @@ pub returns-in-None-clause-follows : goal.returns-in-None-clause-follows
 returns-in-None-clause-follows g c =
     let es = c.args.cx.now.entries in
     let bs = counts_of c.args.binders.now in
-    let cs = inside c.args.path.now in
+    let cs = crossed c.args.path.now in
     let v = c.args.visitor.now in
     let autos = c.bounds.result.now.autos.items in
     let at : trees_at es c.args.bounds.0 ≡ autos_trees autos =
