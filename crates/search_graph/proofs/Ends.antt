@@ -1,14 +1,14 @@
 -- The result of a goal after its last run.
 use Rattle.std.proofs.Common.{◌≡◌, ◌∙◌, ◌≤◌, ℕ, Bool, false, List, [], length, sym, Result, Ok, Err}
 use Rattle.std.specs.Result.{IfOk, OnOk}
-use Rattle.search_graph.specs.declared.path_kind.PathKind.{PathKind}
+use Rattle.search_paths.specs.declared.path_kind.PathKind.{PathKind}
 use Rattle.search_graph.specs.declared.stack.StackEntry.{StackEntry}
 use Rattle.search_graph.specs.declared.cache.CacheEntry.{CacheEntry}
 use Rattle.search_graph.specs.declared.cache.Asked.{Asked}
-use Rattle.search_graph.specs.declared.dependencies.EvaluationResult.{EvaluationResult}
+use Rattle.search_paths.specs.declared.dependencies.EvaluationResult.{EvaluationResult}
 use Rattle.std.specs.Global.{Vec}
 use Rattle.search_graph.specs.declared.provisional.ProvisionalEntry.{ProvisionalEntry}
-use Rattle.search_graph.specs.Meaning.{Meaning, Keeps}
+use Rattle.search_graph.specs.Meaning.{Meaning, KeepsContext}
 use Rattle.search_graph.specs.Cache.{HoldsResult, AddsEvaluation, SaysSame}
 use Rattle.search_graph.specs.Stack.{IsWithin}
 use Rattle.search_graph.specs.Question.{IsReplyOver, IsFaithfulOver, AllStayWithin, KeepsWithin, EntriesStayWithin}
@@ -38,7 +38,7 @@ module _ {C I R F E : Type 0} (m : Meaning C I R F) (c d : C) (es : List (StackE
   faithful_after (Ok p) o reach faithful says = rw (says.result, says.heads, says.overflow) faithful
   faithful_after (Err e) o reach faithful says = tt
 
-  pub within_after : (r : Result (EvaluationResult R) E) (o : EvaluationResult R) (old mid new : List (CacheEntry I R)) (lists between more : List (Vec (ProvisionalEntry I R))) (into : I) (met : Bool) → Keeps m c d → into ≡ input → m.IsInput c input
+  pub within_after : (r : Result (EvaluationResult R) E) (o : EvaluationResult R) (old mid new : List (CacheEntry I R)) (lists between more : List (Vec (ProvisionalEntry I R))) (into : I) (met : Bool) → KeepsContext m c d → into ≡ input → m.IsInput c input
       → AllStayWithin m c es old lists input met d mid between o.result → OnOk r (KeepsWithin m d mid into o.result new) → OnOk r (EntriesStayWithin m d between into o.result more) → IfOk r (SaysSame o) → IfOk r (λ p. AllStayWithin m c es old lists input met d new more p.result)
   within_after (Ok p) o old mid new lists between more into met keeps same known stays keep left says = λ before no last cached.
       let told = stays before no last cached in

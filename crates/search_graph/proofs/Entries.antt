@@ -3,24 +3,25 @@ use Rattle.std.proofs.Common.{◌≡◌, ◌<◌, ◌≤◌, ◌+◌, ℕ, suc, 
 use Rattle.std.proofs.lemmas.List.{length-set, take-append-drop, take-append-le, take_all, length-append, length-take-le}
 use Rattle.std.proofs.lemmas.Option.{slice_get_within, slice_get_read, same_Some, none-some}
 use Rattle.std.specs.Global.{Vec}
-use Rattle.search_graph.specs.declared.path_kind.PathKind.{PathKind}
+use Rattle.search_paths.specs.declared.path_kind.PathKind.{PathKind}
 use Rattle.search_graph.specs.declared.cache.Asked.{Asked}
 use Rattle.search_graph.specs.declared.provisional.ProvisionalEntry.{ProvisionalEntry}
-use Rattle.search_graph.specs.KeptPaths.{kind_of, indices, AreBelow}
+use Rattle.search_paths.specs.KeptPaths.{kind_of, indices, AreBelow}
 use Rattle.search_graph.specs.Cache.{KeepsResults}
-use Rattle.search_graph.specs.Meaning.{Meaning, Keeps}
+use Rattle.search_graph.specs.Meaning.{Meaning, KeepsContext}
 use Rattle.search_graph.specs.Plain.{IsNotPlain}
-use Rattle.search_graph.specs.declared.dependencies.CycleHead.{CycleHead}
+use Rattle.search_paths.specs.declared.dependencies.CycleHead.{CycleHead}
 use Rattle.search_graph.specs.declared.stack.StackEntry.{StackEntry}
-use Rattle.search_graph.specs.Heads.{RestsOn}
-use Rattle.search_graph.specs.Path.{greater}
+use Rattle.search_paths.specs.Heads.{RestsOn}
+use Rattle.search_paths.specs.Path.{greater}
 use Rattle.search_graph.specs.Stack.{steps_of, kind_after, IsAnswer, IsProvisional, IsWithin}
 use Rattle.search_graph.specs.Question.{AllDescendTo, AreEntriesOver}
 use Rattle.search_graph.specs.Rests.{ShownFor}
-use Rattle.search_graph.specs.Faithful.{IsHead, HeadsDescend, IsFaithful}
+use Rattle.search_graph.specs.Faithful.{HeadsDescend, IsFaithful}
+use Rattle.search_paths.specs.Heads.{IsHead}
 use Rattle.search_graph.specs.Provisional.{IsEntryAt, IsServingAt, AreEntriesWithin, NoneIsLeft, AddsEntry, IsProvisionalEntry, AreProvisional, AreLeft}
 use Rattle.search_graph.proofs.Keeping.{entries_serve, entries_are_left, runs_answer}
-use Rattle.search_graph.proofs.HeadFacts.{below_head, below_more}
+use Rattle.search_paths.proofs.HeadFacts.{below_head, below_more}
 use Rattle.search_graph.proofs.Graphs.{length-steps_of}
 use Rattle.search_graph.proofs.Chains.{push_cases}
 use Rattle.search_graph.proofs.Ranges.{at_end}
@@ -164,7 +165,7 @@ module _ {C I R F : Type 0} (m : Meaning C I R F) where
 
   -- in a later context, with more listed that was asked
   pub entries_keep : (w : m.World) (met : Bool) (c d : C) (asked more : List Asked) (steps : List (m.Goal × PathKind)) (lists : List (Vec (ProvisionalEntry I R)))
-      → Keeps m c d → KeepsResults asked more → AreProvisional m w met c asked steps lists → AreProvisional m w met d more steps lists
+      → KeepsContext m c d → KeepsResults asked more → AreProvisional m w met c asked steps lists → AreProvisional m w met d more steps lists
   entries_keep w met c d asked more steps lists keeps grows all head place e at =
       let h = all head place e at in
       let input = keeps.inputs e.input h.input in
@@ -184,11 +185,11 @@ module _ {C I R F : Type 0} (m : Meaning C I R F) where
 
   -- where lists and what was asked are the same
   pub entries_same : (w : m.World) (met : Bool) (c d : C) (asked more : List Asked) (steps : List (m.Goal × PathKind)) (lists new : List (Vec (ProvisionalEntry I R)))
-      → Keeps m c d → more ≡ asked → new ≡ lists → AreProvisional m w met c asked steps lists → AreProvisional m w met d more steps new
+      → KeepsContext m c d → more ≡ asked → new ≡ lists → AreProvisional m w met c asked steps lists → AreProvisional m w met d more steps new
   entries_same w met c d asked more steps lists new keeps same is all = rw (same, is) (entries_keep w met c d asked asked steps lists keeps (λ place x at. at) all)
 
   pub entries_within_keep : (w v : m.World) (met : Bool) (before : List (m.Goal × m.Answer)) (c d : C) (asked : List Asked) (steps : List (m.Goal × PathKind)) (lists : List (Vec (ProvisionalEntry I R)))
-      → Keeps m c d → AreProvisional m v met c asked steps lists → AreEntriesWithin m w before c lists → AreEntriesWithin m w before d lists
+      → KeepsContext m c d → AreProvisional m v met c asked steps lists → AreEntriesWithin m w before c lists → AreEntriesWithin m w before d lists
   entries_within_keep w v met before c d asked steps lists keeps all stay head place e at =
       let h = all head place e at in
       rw ((keeps.inputs e.input h.input).1, (keeps.results e.result h.known).1) (stay head place e at)

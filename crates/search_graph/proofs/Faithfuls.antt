@@ -1,16 +1,17 @@
 -- Runs that follow plain recursion, over heads.
 use Rattle.std.proofs.Common.{◌≡◌, ◌≤◌, ◌+◌, ℕ, suc, zero, pred, Bool, true, false, cond, ◌||◌, List, [], ◌∷◌, ◌++◌, ◌⊎◌, inl, inr, refl, sym, ◌∙◌, subst, Some, slice_get, length, arith}
 use Rattle.std.proofs.lemmas.Option.{slice_get_within}
-use Rattle.search_graph.specs.declared.path_kind.PathKind.{PathKind}
+use Rattle.search_paths.specs.declared.path_kind.PathKind.{PathKind}
 use Rattle.search_graph.specs.declared.delegate.Request.TheVariants.{Evaluate, EnterCandidate, FinishCandidate, IgnoreCandidate, Done}
 use Rattle.search_graph.specs.declared.delegate.Reply.{Reply}
 use Rattle.search_graph.specs.declared.delegate.Reply.TheVariants.{Begin, Result, Entered, Finished, Ignored}
 use Rattle.search_graph.specs.declared.stack.StackEntry.{StackEntry}
 use Rattle.search_graph.specs.Meaning.{Meaning, finished}
 use Rattle.search_graph.specs.Stack.{steps_of, question_of}
-use Rattle.search_graph.specs.Heads.{AreHeadsBut}
+use Rattle.search_paths.specs.Heads.{AreHeadsBut}
 use Rattle.search_graph.specs.Plain.{Completes, IsPlain, IsNotPlain, Descends}
-use Rattle.search_graph.specs.Faithful.{IsHead, HeadsDescend, AllDescend, IsUntouched, IsTold, IsFaithful, IsOnPlainTrack, IsKept}
+use Rattle.search_graph.specs.Faithful.{HeadsDescend, AllDescend, IsUntouched, IsTold, IsFaithful, IsOnPlainTrack, IsKept}
+use Rattle.search_paths.specs.Heads.{IsHead}
 use Rattle.search_graph.proofs.Graphs.{step_at}
 use Rattle.search_graph.proofs.Plains.{cycle_is_not_plain, Descends-trans, question_descends, on_track_first, on_track_done, asked, entered_next, finished_next, ignored_next}
 use Rattle.type_terms.proofs.BooleanBasics.{true-false as true_not_false}

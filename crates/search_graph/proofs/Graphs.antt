@@ -5,26 +5,26 @@ use Rattle.std.proofs.lemmas.Option.{slice_get_within, get_or_from_slice_get, Ma
 use Rattle.std.proofs.lemmas.List.{append-nil, length-take-le}
 use Rattle.std.proofs.Math.Seq.{split_at}
 use Rattle.std.proofs.Math.Numerals.{add-one}
-use Rattle.search_graph.specs.declared.path_kind.PathKind.{PathKind}
-use Rattle.search_graph.specs.declared.path_kind.PathKind.TheVariants.{Inductive, Coinductive}
+use Rattle.search_paths.specs.declared.path_kind.PathKind.{PathKind}
+use Rattle.search_paths.specs.declared.path_kind.PathKind.TheVariants.{Inductive, Coinductive}
 use Rattle.search_graph.specs.declared.stack.StackEntry.{StackEntry}
 use Rattle.search_graph.specs.declared.cache.CacheEntry.{CacheEntry}
-use Rattle.search_graph.specs.Path.{greater}
+use Rattle.search_paths.specs.Path.{greater}
 use Rattle.search_graph.specs.declared.delegate.Request.{Request}
 use Rattle.search_graph.specs.declared.delegate.Request.TheVariants.{Evaluate, EnterCandidate, FinishCandidate, IgnoreCandidate, Done}
 use Rattle.search_graph.specs.declared.delegate.Reply.{Reply}
 use Rattle.search_graph.specs.declared.delegate.Reply.TheVariants.{Begin, Result, Entered, Finished, Ignored}
-use Rattle.search_graph.specs.Meaning.{Meaning, Keeps, IsLawful, IsFair, IsReplyBy, Steps, premises, premises_back, premise_of, finished, answer_count, request_of, reply_of, IsDue, IsDueAt, IsDueAfter, IsInOrder, is_open}
+use Rattle.search_graph.specs.Meaning.{Meaning, KeepsContext, IsLawful, IsFair, IsReplyBy, Steps, premises, premises_back, premise_of, finished, answer_count, request_of, reply_of, IsDue, IsDueAt, IsDueAfter, IsInOrder, has_open_candidate}
 use Rattle.search_graph.specs.Computed.{Hears, nothing, also, given, computed, IsGiven, HoldsNoResult, IsComputed, MakesMisstep, here}
 use Rattle.search_graph.specs.Shown.{Shown, none, loop, rule}
-use Rattle.search_graph.specs.KeptPaths.{indices, kind_of, kept_path, AreKept, AreBelow}
+use Rattle.search_paths.specs.KeptPaths.{indices, kind_of, kept_path, AreKept, AreBelow}
 use Rattle.search_graph.specs.Rests.{ShownFor, DerivedFor}
-use Rattle.search_graph.specs.Heads.{RestsOn, AreHeadsBut}
+use Rattle.search_paths.specs.Heads.{RestsOn, AreHeadsBut}
 use Rattle.search_graph.specs.Question.{IsRunOver}
-use Rattle.search_graph.specs.declared.dependencies.CycleHead.{CycleHead}
+use Rattle.search_paths.specs.declared.dependencies.CycleHead.{CycleHead}
 use Rattle.search_graph.specs.Faithful.{IsKept}
 use Rattle.search_graph.specs.Stack.{question_of, steps_of, IsNextRun, IsStack, IsEntry, IsProvisional, IsAnswer, IsRunning, IsCached, AreCached, HasBegun, kind_after, yes_questions}
-use Rattle.search_graph.proofs.HeadFacts.{but_kept, below_more, heads_but, below_but}
+use Rattle.search_paths.proofs.HeadFacts.{but_kept, below_more, heads_but, below_but}
 use Rattle.search_graph.proofs.Keeping.{append_one, left_last, runs_end, runs_answer, last_results_serve, initial_results_serve, headless_serve, derived_anywhere}
 
 -- one more question
@@ -111,7 +111,7 @@ module _ {C I R F : Type 0} (m : Meaning C I R F) where
 
   -- the reply to a question on a goal of the stack with a result
   pub last_answers : (w : m.World) (c d : C) (es : List (StackEntry I R)) (i : ℕ) (e : StackEntry I R) (x : I) (k : PathKind) (r : R)
-      → slice_get es i ≡ Some e → e.input ≡ x → e.provisional_result ≡ Some r → IsStack m w [] c es → Keeps m c d
+      → slice_get es i ≡ Some e → e.input ≡ x → e.provisional_result ≡ Some r → IsStack m w [] c es → KeepsContext m c d
       → IsAnswer m w (steps_of m c es) (m.goal_of c x, k) (i ∷ e.heads.items) d r
   last_answers w c d es i e x k r at same last stack keeps =
       let entry = IsEntry-at w c es i e at stack in
@@ -131,10 +131,10 @@ module _ {C I R F : Type 0} (m : Meaning C I R F) where
             subst (λ z. ShownFor m.Goal (m.Follows w) (i ∷ e.heads.items) (steps_of m c es) (m.goal_of c z) k) same over;
       }
 
-  pub Keeps-refl : (c : C) → Keeps m c c
+  pub Keeps-refl : (c : C) → KeepsContext m c c
   Keeps-refl c = record { world = refl; inputs = λ i h. (h, refl); results = λ r h. (h, refl); frames = λ g heard f h. h; held = λ x h. h }
 
-  pub Keeps-trans : (a b c : C) → Keeps m a b → Keeps m b c → Keeps m a c
+  pub Keeps-trans : (a b c : C) → KeepsContext m a b → KeepsContext m b c → KeepsContext m a c
   Keeps-trans a b c k l = record {
     world = l.world ∙ k.world;
     inputs = λ i h. ((l.inputs i (k.inputs i h).0).0, (l.inputs i (k.inputs i h).0).1 ∙ (k.inputs i h).1);
@@ -143,10 +143,10 @@ module _ {C I R F : Type 0} (m : Meaning C I R F) where
     held = λ x h. l.held x (k.held x h);
   }
 
-  pub question-keeps : (c d : C) (e : StackEntry I R) → Keeps m c d → m.IsInput c e.input → question_of m d e ≡ question_of m c e
+  pub question-keeps : (c d : C) (e : StackEntry I R) → KeepsContext m c d → m.IsInput c e.input → question_of m d e ≡ question_of m c e
   question-keeps c d e keeps known = ap (λ z. (z, e.step_kind)) (keeps.inputs e.input known).1
 
-  pub IsProvisional-keeps : (w : m.World) (steps : List (m.Goal × PathKind)) (q : m.Goal × PathKind) (heads : List ℕ) (c d : C) (r : R) → Keeps m c d → IsProvisional m w steps q heads c r → IsProvisional m w steps q heads d r
+  pub IsProvisional-keeps : (w : m.World) (steps : List (m.Goal × PathKind)) (q : m.Goal × PathKind) (heads : List ℕ) (c d : C) (r : R) → KeepsContext m c d → IsProvisional m w steps q heads c r → IsProvisional m w steps q heads d r
   IsProvisional-keeps w steps q heads c d r keeps h = record {
     known = (keeps.results r h.known).0;
     fair = rw (keeps.results r h.known).1 h.fair;
@@ -154,7 +154,7 @@ module _ {C I R F : Type 0} (m : Meaning C I R F) where
     yes = λ y. h.yes (rw (keeps.results r h.known).1 at y);
   }
 
-  pub IsEntry-keeps : (w : m.World) (steps : List (m.Goal × PathKind)) (c d : C) (e : StackEntry I R) → Keeps m c d → IsEntry m w steps c e → IsEntry m w steps d e
+  pub IsEntry-keeps : (w : m.World) (steps : List (m.Goal × PathKind)) (c d : C) (e : StackEntry I R) → KeepsContext m c d → IsEntry m w steps c e → IsEntry m w steps d e
   IsEntry-keeps w steps c d e keeps h = record {
     known = (keeps.inputs e.input h.known).0;
     below = h.below;
@@ -162,19 +162,19 @@ module _ {C I R F : Type 0} (m : Meaning C I R F) where
         (λ r p. rw (question-keeps c d e keeps h.known) (IsProvisional-keeps w steps (question_of m c e) e.heads.items c d r keeps p)) h.last;
   }
 
-  pub IsStack-keeps : (w : m.World) (steps : List (m.Goal × PathKind)) (c d : C) (es : List (StackEntry I R)) → Keeps m c d → IsStack m w steps c es → IsStack m w steps d es
+  pub IsStack-keeps : (w : m.World) (steps : List (m.Goal × PathKind)) (c d : C) (es : List (StackEntry I R)) → KeepsContext m c d → IsStack m w steps c es → IsStack m w steps d es
   IsStack-keeps w steps c d [] keeps h = h
   IsStack-keeps w steps c d (e ∷ es) keeps h = (
     IsEntry-keeps w steps c d e keeps h.0,
     subst (λ q. IsStack m w (steps ++ q ∷ []) d es) (sym (question-keeps c d e keeps h.0.known)) (IsStack-keeps w (steps ++ question_of m c e ∷ []) c d es keeps h.1),
   )
 
-  pub steps-keep : (w : m.World) (steps : List (m.Goal × PathKind)) (c d : C) (es : List (StackEntry I R)) → Keeps m c d → IsStack m w steps c es → steps_of m d es ≡ steps_of m c es
+  pub steps-keep : (w : m.World) (steps : List (m.Goal × PathKind)) (c d : C) (es : List (StackEntry I R)) → KeepsContext m c d → IsStack m w steps c es → steps_of m d es ≡ steps_of m c es
   steps-keep w steps c d [] keeps h = refl
   steps-keep w steps c d (e ∷ es) keeps h =
       ap (λ q. q ∷ steps_of m d es) (question-keeps c d e keeps h.0.known) ∙ ap (λ l. question_of m c e ∷ l) (steps-keep w (steps ++ question_of m c e ∷ []) c d es keeps h.1)
 
-  pub IsStack-later : (c d : C) (es : List (StackEntry I R)) → Keeps m c d → IsStack m (m.world c) [] c es → IsStack m (m.world d) [] d es
+  pub IsStack-later : (c d : C) (es : List (StackEntry I R)) → KeepsContext m c d → IsStack m (m.world c) [] c es → IsStack m (m.world d) [] d es
   IsStack-later c d es keeps h = rw keeps.world (IsStack-keeps (m.world c) [] c d es keeps h)
 
   IsStack-push_on : (w : m.World) (steps : List (m.Goal × PathKind)) (c : C) (es : List (StackEntry I R)) (e : StackEntry I R) → IsStack m w steps c es → IsEntry m w (steps ++ steps_of m c es) c e → IsStack m w steps c (es ++ e ∷ [])
@@ -191,7 +191,7 @@ module _ {C I R F : Type 0} (m : Meaning C I R F) where
   pub steps_pushed : (c : C) (es : List (StackEntry I R)) (e : StackEntry I R) → steps_of m c (es ++ e ∷ []) ≡ steps_of m c es ++ question_of m c e ∷ []
   steps_pushed c es e = steps_of-append c es (e ∷ [])
 
-  pub AreCached-keeps : (w : m.World) (c d : C) (es : List (CacheEntry I R)) → Keeps m c d → AreCached m w c es → AreCached m w d es
+  pub AreCached-keeps : (w : m.World) (c d : C) (es : List (CacheEntry I R)) → KeepsContext m c d → AreCached m w c es → AreCached m w d es
   AreCached-keeps w c d [] keeps h = h
   AreCached-keeps w c d (e ∷ es) keeps h = (
     record {
@@ -203,7 +203,7 @@ module _ {C I R F : Type 0} (m : Meaning C I R F) where
   )
 
   -- the cache's entries stand in a later context
-  pub AreCached-later : (c d : C) (es : List (CacheEntry I R)) → Keeps m c d → AreCached m (m.world c) c es → AreCached m (m.world d) d es
+  pub AreCached-later : (c d : C) (es : List (CacheEntry I R)) → KeepsContext m c d → AreCached m (m.world c) c es → AreCached m (m.world d) d es
   AreCached-later c d es keeps h = rw keeps.world (AreCached-keeps (m.world c) c d es keeps h)
 
   pub AreCached-push : (w : m.World) (c : C) (es : List (CacheEntry I R)) (e : CacheEntry I R) → AreCached m w c es → IsCached m w c e → AreCached m w c (es ++ e ∷ [])
@@ -230,7 +230,7 @@ module _ {C I R F : Type 0} (m : Meaning C I R F) where
   }
 
   -- what stood at the context c and the stack es stands later, at the context d and a stack that is the same
-  module _ (c d : C) (es now : List (StackEntry I R)) (keeps : Keeps m c d) (same : now ≡ es) (stack : IsStack m (m.world c) [] c es) where
+  module _ (c d : C) (es now : List (StackEntry I R)) (keeps : KeepsContext m c d) (same : now ≡ es) (stack : IsStack m (m.world c) [] c es) where
     pub IsStack-now : IsStack m (m.world d) [] d now
     IsStack-now = rw same (IsStack-later c d es keeps stack)
 
@@ -266,7 +266,7 @@ module _ {C I R F : Type 0} (m : Meaning C I R F) where
     pub below : AreBelow (length es) (indices less)
     pub within : AreBelow (length (steps_of m c es)) (indices less)
 
-  pub run_ended : (c b : C) (es now : List (StackEntry I R)) (keeps : Keeps m c b) (same : now ≡ es) (stack : IsStack m (m.world c) [] c es) (e : StackEntry I R) (x : I) (k : PathKind) (index : ℕ) (heads less : List CycleHead) (d : C) (r : R)
+  pub run_ended : (c b : C) (es now : List (StackEntry I R)) (keeps : KeepsContext m c b) (same : now ≡ es) (stack : IsStack m (m.world c) [] c es) (e : StackEntry I R) (x : I) (k : PathKind) (index : ℕ) (heads less : List CycleHead) (d : C) (r : R)
       → index ≡ length es → ((other : ℕ) → RestsOn less other ↔ (RestsOn heads other × (other ≡ index → ⊥))) → e.input ≡ x → e.step_kind ≡ k → m.IsInput c x → IsRunOver m b now e heads d r → IsEnded c es x k heads less d r
   run_ended c b es now keeps same stack e x k index heads less d r place taken input kind known ran =
       let but : AreHeadsBut (length es) (indices less) (indices heads) = subst (λ n. AreHeadsBut n (indices less) (indices heads)) place (heads_but heads less index taken) in
@@ -346,7 +346,7 @@ module _ {C I R F : Type 0} (m : Meaning C I R F) where
 
   pub running_next : IsLawful m → (w : m.World) (steps : List (m.Goal × PathKind)) (g : m.Goal) (j : PathKind) (heads nested all : List ℕ) (b c d : C) (f h : F) (asked : Request I R) (i : I) (k : PathKind) (r : R) (q : Request I R)
       → ((kept : ℕ → Bool) → AreKept kept all → AreKept kept heads × AreKept kept nested) → AreBelow (length steps + 1) all
-      → asked ≡ Evaluate i k → m.world c ≡ w → Keeps m b c → IsRunning m w steps g j heads b f asked → IsAnswer m w (steps ++ (g, j) ∷ []) (m.goal_of b i, k) nested c r
+      → asked ≡ Evaluate i k → m.world c ≡ w → KeepsContext m b c → IsRunning m w steps g j heads b f asked → IsAnswer m w (steps ++ (g, j) ∷ []) (m.goal_of b i, k) nested c r
       → Steps m c f (Result r) d h q → IsRunning m w steps g j all d h q
   running_next law w steps g j heads nested all b c d f h asked i k r q both low is world keeps running answer moves =
       let request : Evaluate (m.goal_of b i) k ≡ m.asks w g running.heard = rw is at running.request in
@@ -371,7 +371,7 @@ module _ {C I R F : Type 0} (m : Meaning C I R F) where
       }
 
   pub running_done : IsLawful m → (w : m.World) (steps : List (m.Goal × PathKind)) (g : m.Goal) (j : PathKind) (heads less : List ℕ) (c : C) (f : F) (asked : Request I R) (r : R) → asked ≡ Done r → AreHeadsBut (length steps) less heads
-      → (running : IsRunning m w steps g j heads c f asked) → is_open m running.heard ≡ false → IsProvisional m w steps (g, j) less c r
+      → (running : IsRunning m w steps g j heads c f asked) → has_open_candidate m running.heard ≡ false → IsProvisional m w steps (g, j) less c r
   running_done law w steps g j heads less c f asked r is but running closed =
       let request : Done (m.answer_of c r) ≡ m.asks w g running.heard = rw is at running.request in
       record {
@@ -434,7 +434,7 @@ module _ {C I R F : Type 0} (m : Meaning C I R F) where
     misstep_now not = here running.hears (λ h. not (rw asked_now h))
 
   pub cached_get : (c d : C) (es : List (CacheEntry I R)) (i : ℕ) (e entry : CacheEntry I R) (x : I) (r : R)
-      → slice_get es i ≡ Some e → e.input ≡ x → entry ≡ get_or es i entry → r ≡ entry.result → AreCached m (m.world c) c es → Keeps m c d
+      → slice_get es i ≡ Some e → e.input ≡ x → entry ≡ get_or es i entry → r ≡ entry.result → AreCached m (m.world c) c es → KeepsContext m c d
       → IsProvisional m (m.world c) [] (m.goal_of c x, Inductive) [] d r
   cached_get c d es i e entry x r at same is copy cached keeps =
       let cache = IsCached-at (m.world c) c es i e at cached in
@@ -444,7 +444,7 @@ module _ {C I R F : Type 0} (m : Meaning C I R F) where
       subst (λ z. IsProvisional m (m.world c) [] (m.goal_of c x, Inductive) [] d z) result (subst (λ z. IsProvisional m (m.world c) [] (m.goal_of c z, Inductive) [] d e.result) same p)
 
   pub cached_insert : (c d : C) (es : List (CacheEntry I R)) (e : CacheEntry I R) (r : R)
-      → AreCached m (m.world c) c es → Keeps m c d → m.IsInput c e.input → e.result ≡ r → IsProvisional m (m.world c) [] (m.goal_of c e.input, Inductive) [] c r
+      → AreCached m (m.world c) c es → KeepsContext m c d → m.IsInput c e.input → e.result ≡ r → IsProvisional m (m.world c) [] (m.goal_of c e.input, Inductive) [] c r
       → IsKept m (m.world c) (m.goal_of c e.input) (m.answer_of c r) e.depth e.encountered_overflow
       → AreCached m (m.world d) d (es ++ e ∷ [])
   cached_insert c d es e r cached keeps known copy p kept =
@@ -462,7 +462,7 @@ module _ {C I R F : Type 0} (m : Meaning C I R F) where
       record { known = known; fair = rw is fair; source = rw is (record { how = inl unrun }); below = below; yes = λ y. let n : true ≡ false = sym (rw is at y) ∙ never in cc }
 
   pub due_next : (w : m.World) (steps : List (m.Goal × PathKind)) (g : m.Goal) (j : PathKind) (heads : List ℕ) (b c : C) (f : F) (asked : Request I R) (i : I) (k : PathKind) (r : R)
-      → asked ≡ Evaluate i k → m.world c ≡ w → Keeps m b c → IsRunning m w steps g j heads b f asked → IsDue m c f (Result r)
+      → asked ≡ Evaluate i k → m.world c ≡ w → KeepsContext m b c → IsRunning m w steps g j heads b f asked → IsDue m c f (Result r)
   due_next w steps g j heads b c f asked i k r is world keeps running =
       let request : Evaluate (m.goal_of b i) k ≡ m.asks w g running.heard = rw is at running.request in (
         g,
@@ -491,14 +491,14 @@ module _ {C I R F : Type 0} (m : Meaning C I R F) where
 
   pub running_next_counted : IsLawful m → (w : m.World) (steps : List (m.Goal × PathKind)) (g : m.Goal) (j : PathKind) (heads nested all : List ℕ) (b c d : C) (f h : F) (asked : Request I R) (i : I) (k : PathKind) (r : R) (q : Request I R)
       → ((kept : ℕ → Bool) → AreKept kept all → AreKept kept heads × AreKept kept nested) → AreBelow (length steps + 1) all
-      → asked ≡ Evaluate i k → m.world c ≡ w → Keeps m b c → (running : IsRunning m w steps g j heads b f asked) → IsAnswer m w (steps ++ (g, j) ∷ []) (m.goal_of b i, k) nested c r
+      → asked ≡ Evaluate i k → m.world c ≡ w → KeepsContext m b c → (running : IsRunning m w steps g j heads b f asked) → IsAnswer m w (steps ++ (g, j) ∷ []) (m.goal_of b i, k) nested c r
       → Steps m c f (Result r) d h q → (n : IsRunning m w steps g j all d h q) × (n.heard ≡ Result (m.answer_of c r) ∷ running.heard)
   unfolding running_next
   running_next_counted law w steps g j heads nested all b c d f h asked i k r q both low is world keeps running answer moves =
       (running_next law w steps g j heads nested all b c d f h asked i k r q both low is world keeps running answer moves, refl)
 
   pub kept_get : (c d : C) (es : List (CacheEntry I R)) (i : ℕ) (e entry : CacheEntry I R) (x : I) (r : R)
-      → slice_get es i ≡ Some e → e.input ≡ x → entry ≡ get_or es i entry → r ≡ entry.result → AreCached m (m.world c) c es → Keeps m c d
+      → slice_get es i ≡ Some e → e.input ≡ x → entry ≡ get_or es i entry → r ≡ entry.result → AreCached m (m.world c) c es → KeepsContext m c d
       → IsKept m (m.world c) (m.goal_of c x) (m.answer_of d r) entry.depth entry.encountered_overflow
   kept_get c d es i e entry x r at same is copy cached keeps =
       let cache = IsCached-at (m.world c) c es i e at cached in

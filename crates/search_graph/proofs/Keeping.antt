@@ -1,12 +1,12 @@
 -- Paths of kept goals.
 use Rattle.std.proofs.Common.{◌≡◌, ◌<◌, ℕ, suc, zero, Bool, true, false, cond, List, [], ◌∷◌, ◌++◌, length, inl, inr, refl, sym, ◌∙◌, ap, subst, arith}
-use Rattle.search_graph.specs.declared.path_kind.PathKind.{PathKind}
-use Rattle.search_graph.specs.declared.path_kind.PathKind.TheVariants.{Inductive, Coinductive, ForcedAmbiguity}
-use Rattle.search_graph.specs.Path.{greater}
+use Rattle.search_paths.specs.declared.path_kind.PathKind.{PathKind}
+use Rattle.search_paths.specs.declared.path_kind.PathKind.TheVariants.{Inductive, Coinductive, ForcedAmbiguity}
+use Rattle.search_paths.specs.Path.{greater}
 use Rattle.search_graph.specs.Shown.{Shown, none, loop, rule, LoopsBack}
-use Rattle.search_graph.specs.KeptPaths.{kind_of, later, kept_onto, left_over, kept_path, step_after, AreKept, AreBelow}
+use Rattle.search_paths.specs.KeptPaths.{kind_of, later, kept_onto, left_over, kept_path, step_after, AreKept, AreBelow}
 use Rattle.search_graph.specs.Rests.{ShownFor, DerivedFor, EntriesServe, EntriesAreLeft, RunsEnd, RunsAnswer, LastResultsServe, InitialResultsServe, HeadlessServe, EntriesMove, EntriesMoveDown}
-use Rattle.search_graph.proofs.KindOrder.{greater-associative, greater_forced}
+use Rattle.search_paths.proofs.KindOrder.{greater-associative, greater_forced}
 use Rattle.search_graph.proofs.ProofGraphs.{Shown-weaken, Shown-between, Shown-again, Shown-moves}
 
 -- the places after these goals

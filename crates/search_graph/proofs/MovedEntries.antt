@@ -2,21 +2,21 @@
 use Rattle.std.proofs.Common.{◌≡◌, ◌<◌, ◌+◌, ◌↔◌, ℕ, suc, zero, Bool, true, false, List, [], ◌∷◌, ◌++◌, ◌⊎◌, inl, inr, Some, None, slice_get, take, drop, length, refl, sym, ◌∙◌, ap, subst, arith}
 use Rattle.std.proofs.lemmas.List.{take-append-drop, length-append, length-take-le}
 use Rattle.std.specs.Global.{Vec}
-use Rattle.search_graph.specs.declared.path_kind.PathKind.{PathKind}
+use Rattle.search_paths.specs.declared.path_kind.PathKind.{PathKind}
 use Rattle.search_graph.specs.declared.cache.Asked.{Asked}
 use Rattle.search_graph.specs.declared.provisional.ProvisionalEntry.{ProvisionalEntry}
-use Rattle.search_graph.specs.declared.dependencies.EvaluationResult.{EvaluationResult}
+use Rattle.search_paths.specs.declared.dependencies.EvaluationResult.{EvaluationResult}
 use Rattle.search_graph.specs.declared.stack.StackEntry.{StackEntry}
-use Rattle.search_graph.specs.declared.dependencies.CycleHead.{CycleHead}
-use Rattle.search_graph.specs.Path.{greater}
-use Rattle.search_graph.specs.KeptPaths.{kind_of, indices, AreKept, AreBelow}
-use Rattle.search_graph.specs.Heads.{RestsOn, AreHeadsOfBoth}
+use Rattle.search_paths.specs.declared.dependencies.CycleHead.{CycleHead}
+use Rattle.search_paths.specs.Path.{greater}
+use Rattle.search_paths.specs.KeptPaths.{kind_of, indices, AreKept, AreBelow}
+use Rattle.search_paths.specs.Heads.{RestsOn, AreHeadsOfBoth}
 use Rattle.search_graph.specs.Meaning.{Meaning}
 use Rattle.search_graph.specs.Rests.{ShownFor, DerivedFor}
 use Rattle.search_graph.specs.Stack.{steps_of}
 use Rattle.search_graph.specs.Question.{IsResultOver}
 use Rattle.search_graph.specs.Provisional.{AddsEntry, AreEntriesWithin, IsProvisionalEntry, AreProvisional, AreLeft, IsMoved, AreMoved}
-use Rattle.search_graph.proofs.HeadFacts.{below_head, kept_head, all_kept, same_or_not, less_or}
+use Rattle.search_paths.proofs.HeadFacts.{below_head, kept_head, all_kept, same_or_not, less_or}
 use Rattle.search_graph.proofs.Keeping.{entries_move_down}
 use Rattle.search_graph.proofs.Graphs.{length-steps_of}
 use Rattle.search_graph.proofs.Entries.{kind_steps, entry_added}

@@ -6,7 +6,7 @@ use Rattle.std.proofs.lemmas.List.{length-set}
 use Rattle.std.proofs.lemmas.Option.{same_Some}
 use Rattle.std.specs.Map.{lookup}
 use Rattle.search_graph.specs.declared.cache.Asked.{Asked}
-use Rattle.search_graph.specs.Nested.{IsWithin}
+use Rattle.search_paths.specs.Nested.{IsWithin}
 use Rattle.search_graph.specs.Chain.{IsAskedUnder, AreCovered, IsNotedBy, KeepsNoted, AreNoted}
 use Rattle.search_graph.proofs.Chains.{push_cases, get_or_set}
 use Rattle.search_graph.proofs.Ranges.{all_at, all_from, asked_within, used_older}

@@ -1,10 +1,10 @@
 -- Proof graphs over longer paths.
 use Rattle.std.proofs.Common.{◌≡◌, Bool, true, false, ◌||◌, List, [], ◌∷◌, ◌⊎◌, inl, inr, refl, sym, subst}
-use Rattle.search_graph.specs.declared.path_kind.PathKind.{PathKind}
-use Rattle.search_graph.specs.declared.path_kind.PathKind.TheVariants.{ForcedAmbiguity}
-use Rattle.search_graph.specs.Path.{is_coinductive_path, greater}
+use Rattle.search_paths.specs.declared.path_kind.PathKind.{PathKind}
+use Rattle.search_paths.specs.declared.path_kind.PathKind.TheVariants.{ForcedAmbiguity}
+use Rattle.search_paths.specs.Path.{is_coinductive_path, greater}
 use Rattle.search_graph.specs.Shown.{Shown, none, loop, rule, LoopsBack}
-use Rattle.search_graph.proofs.KindOrder.{greater_passes, greater_keeps}
+use Rattle.search_paths.proofs.KindOrder.{greater_passes, greater_keeps}
 
 or_mono : (a b x : Bool) → (a ≡ true → b ≡ true) → a || x ≡ true → b || x ≡ true
 or_mono true b x h e = rw (h refl) refl

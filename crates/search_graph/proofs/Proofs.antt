@@ -1,14 +1,14 @@
 -- A proof graph without open ends is a proof.
 use Rattle.std.proofs.Common.{◌≡◌, ℕ, Bool, true, false, ◌||◌, List, [], ◌∷◌, ◌++◌, ◌⊎◌, inl, inr, refl, sym, subst}
-use Rattle.search_graph.specs.declared.path_kind.PathKind.{PathKind}
-use Rattle.search_graph.specs.Path.{is_coinductive_path}
+use Rattle.search_paths.specs.declared.path_kind.PathKind.{PathKind}
+use Rattle.search_paths.specs.Path.{is_coinductive_path}
 use Rattle.search_graph.specs.Shown.{Shown, none, loop, rule, LoopsBack}
 use Rattle.search_graph.specs.Proof.{IsAmong, Derivation, end, again, by_rule, IsDerived, HasGraphProof}
 use Rattle.search_graph.specs.Meaning.{Meaning}
 use Rattle.search_graph.specs.Stack.{IsAnswer}
 use Rattle.search_graph.specs.Answer.{IsSound}
 use Rattle.search_graph.proofs.ProofGraphs.{LoopsBack-mono}
-use Rattle.search_graph.proofs.HeadFacts.{all_kept}
+use Rattle.search_paths.proofs.HeadFacts.{all_kept}
 
 among_left : {G : Type 0} (g : G) (xs ys : List G) → IsAmong g xs → IsAmong g (xs ++ ys)
 among_left g [] ys h = absurd h

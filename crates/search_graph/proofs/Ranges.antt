@@ -8,9 +8,9 @@ use Rattle.std.specs.List.Sorted.{IsPermutation}
 use Rattle.std.proofs.lemmas.Map.Steps.{length-le_from_distinct_below}
 use Rattle.std.specs.List.{list_any, IsDistinct}
 use Rattle.indexmap.specs.IndexSet.{insert_key}
-use Rattle.search_graph.specs.declared.nested_goals.Span.{Span}
-use Rattle.search_graph.specs.declared.nested_goals.NestedGoals.{NestedGoals}
-use Rattle.search_graph.specs.Nested.{IsWithin, covered, no_goal, one_goal}
+use Rattle.search_paths.specs.declared.nested_goals.Span.{Span}
+use Rattle.search_paths.specs.declared.nested_goals.NestedGoals.{NestedGoals}
+use Rattle.search_paths.specs.Nested.{IsWithin, covered, no_goal, one_goal}
 use Rattle.search_graph.specs.declared.cache.CacheEntry.{CacheEntry}
 use Rattle.search_graph.specs.declared.cache.Asked.{Asked}
 use Rattle.search_graph.specs.declared.stack.StackEntry.{StackEntry}

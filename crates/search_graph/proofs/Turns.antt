@@ -6,8 +6,8 @@ use Rattle.search_graph.specs.declared.delegate.Reply.{Reply}
 use Rattle.search_graph.specs.declared.delegate.Reply.TheVariants.{Entered, Finished, Ignored}
 use Rattle.search_graph.specs.declared.candidates.Turn.{Turn}
 use Rattle.search_graph.specs.declared.candidates.Turn.TheVariants.{Ask, Tell, End}
-use Rattle.search_graph.specs.declared.path_kind.PathKind.{PathKind}
-use Rattle.search_graph.specs.Meaning.{Meaning, IsFair, IsReply, IsReplyBy, IsDueAt, IsInOrder, is_open, finished, ignoring, answer_count, request_of, reply_of}
+use Rattle.search_paths.specs.declared.path_kind.PathKind.{PathKind}
+use Rattle.search_graph.specs.Meaning.{Meaning, IsFair, IsReply, IsReplyBy, IsDueAt, IsInOrder, has_open_candidate, finished, ignoring, answer_count, request_of, reply_of}
 use Rattle.search_graph.specs.Computed.{HoldsNoResult}
 use Rattle.search_graph.specs.Stack.{yes_questions}
 use Rattle.search_graph.specs.Faithful.{IsOnPlainTrack}
@@ -31,7 +31,7 @@ module _ {I R : Type 0} (one_open now : Bool) (done later : List Bool) where
   ended_in_turn (IgnoreCandidate n) turn r is h = absurd (let e : ◌≡◌ {A = Turn I R} (Tell Ignored) (End r) = sym h.0 ∙ is in cc)
   ended_in_turn (Done s) turn r is h = (let e : ◌≡◌ {A = Turn I R} (End s) (End r) = sym h.0 ∙ is in cc, h.1)
 
-module _ {C I R F : Type 0} (m : Meaning C I R F) (w : m.World) (g : m.Goal) (heard : List (Reply m.Answer)) (c : C) (one_open now : Bool) (done later : List Bool) (opened : one_open ≡ is_open m heard) (listed : done ≡ finished m w g heard) where
+module _ {C I R F : Type 0} (m : Meaning C I R F) (w : m.World) (g : m.Goal) (heard : List (Reply m.Answer)) (c : C) (one_open now : Bool) (done later : List Bool) (opened : one_open ≡ has_open_candidate m heard) (listed : done ≡ finished m w g heard) where
   pub in_order_in_turn : (q : Request I R) → IsInOrder m w g heard (request_of m c q) → IsInTurn one_open done q
   in_order_in_turn (Evaluate i k) h = tt
   in_order_in_turn EnterCandidate h = opened ∙ h
@@ -47,7 +47,7 @@ module _ {C I R F : Type 0} (m : Meaning C I R F) (w : m.World) (g : m.Goal) (he
     pub given : IsReply m c reply
     pub counts : answer_count m (reply_of m c reply ∷ heard) ≡ answer_count m heard
     pub shows : yes_questions m w g (reply_of m c reply ∷ heard) ≡ yes_questions m w g heard
-    pub open_after : now ≡ is_open m (reply_of m c reply ∷ heard)
+    pub open_after : now ≡ has_open_candidate m (reply_of m c reply ∷ heard)
     pub done_after : later ≡ finished m w g (reply_of m c reply ∷ heard)
 
   pub told_in_turn : (q : Request I R) (turn : Turn I R) (reply : Reply R) → turn ≡ Tell reply → IsTurn one_open done q turn now later → request_of m c q ≡ m.asks w g heard → IsToldAt q reply

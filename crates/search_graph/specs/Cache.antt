@@ -1,12 +1,12 @@
 -- What a caller sees of a cache.
 use Rattle.std.specs.Prelude.{◌≡◌, ◌⊎◌, ◌++◌, ℕ, Bool, true, false, cond, List, [], ◌∷◌, Some, length, slice_get}
 use Rattle.std.specs.List.{position}
-use Rattle.search_graph.specs.declared.path_kind.PathKind.TheVariants.{Inductive}
+use Rattle.search_paths.specs.declared.path_kind.PathKind.TheVariants.{Inductive}
 use Rattle.search_graph.specs.declared.cache.CacheEntry.{CacheEntry}
 use Rattle.search_graph.specs.declared.cache.Cached.{Cached}
 use Rattle.search_graph.specs.declared.cache.Asked.{Asked}
-use Rattle.search_graph.specs.declared.dependencies.EvaluationResult.{EvaluationResult}
-use Rattle.search_graph.specs.declared.nested_goals.NestedGoals.{NestedGoals}
+use Rattle.search_paths.specs.declared.dependencies.EvaluationResult.{EvaluationResult}
+use Rattle.search_paths.specs.declared.nested_goals.NestedGoals.{NestedGoals}
 use Rattle.search_graph.specs.Chain.{IsWithinDepth}
 use Rattle.search_graph.specs.Meaning.{Meaning}
 use Rattle.search_graph.specs.Faithful.{IsKept}

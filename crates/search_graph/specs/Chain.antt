@@ -1,9 +1,9 @@
 -- How a cache finds the results of a goal, and their nested goals.
 use Rattle.std.specs.Prelude.{◌≡◌, ◌≤◌, ◌<◌, ◌+◌, ◌&&◌, ℕ, Bool, true, false, cond, nat_eq, get_or, List, [], ◌∷◌, ◌⊎◌, Option, Some, None, All, length, slice_get, take}
 use Rattle.indexmap.specs.IndexMap.{get}
-use Rattle.search_graph.specs.declared.nested_goals.Span.{Span}
-use Rattle.search_graph.specs.declared.nested_goals.NestedGoals.{NestedGoals}
-use Rattle.search_graph.specs.Nested.{IsWithin, covered, one_goal}
+use Rattle.search_paths.specs.declared.nested_goals.Span.{Span}
+use Rattle.search_paths.specs.declared.nested_goals.NestedGoals.{NestedGoals}
+use Rattle.search_paths.specs.Nested.{IsWithin, covered, one_goal}
 use Rattle.search_graph.specs.declared.newest.Chain.{Chain}
 use Rattle.search_graph.specs.declared.newest.Chain.TheVariants.{Successes, Overflows}
 use Rattle.search_graph.specs.declared.newest.Newest.{Newest}

@@ -1,10 +1,10 @@
 -- How answers are computed: by frames that make their requests in order.
 use Rattle.std.specs.Prelude.{◌≡◌, false, List, [], ◌∷◌, ◌⊎◌}
-use Rattle.search_graph.specs.declared.path_kind.PathKind.{PathKind}
+use Rattle.search_paths.specs.declared.path_kind.PathKind.{PathKind}
 use Rattle.search_graph.specs.declared.delegate.Request.TheVariants.{Evaluate, Done}
 use Rattle.search_graph.specs.declared.delegate.Reply.{Reply}
 use Rattle.search_graph.specs.declared.delegate.Reply.TheVariants.{Begin, Result, Entered, Finished, Ignored}
-use Rattle.search_graph.specs.Meaning.{Meaning, IsDueAfter, IsInOrder, is_open}
+use Rattle.search_graph.specs.Meaning.{Meaning, IsDueAfter, IsInOrder, has_open_candidate}
 use Rattle.search_graph.specs.Proof.{IsAmong}
 
 -- an answer that no frame computed: an overflow by depth or by runs, or a goal's initial result
@@ -30,11 +30,11 @@ pub data Hears {C I R F : Type 0} (m : Meaning C I R F) (w : m.World) (Given : m
   given : {g q : m.Goal} {k : PathKind} {heard : List (Reply m.Answer)} {a : m.Answer} → Hears m w Given g heard → m.asks w g heard ≡ Evaluate q k → IsDueAfter m w g heard (Result a)
       → Given q a → Hears m w Given g (Result a ∷ heard)
   computed : {g q : m.Goal} {k : PathKind} {heard nested : List (Reply m.Answer)} {a : m.Answer} → Hears m w Given g heard → m.asks w g heard ≡ Evaluate q k → IsDueAfter m w g heard (Result a)
-      → Hears m w Given q nested → m.asks w q nested ≡ Done a → is_open m nested ≡ false → Hears m w Given g (Result a ∷ heard)
+      → Hears m w Given q nested → m.asks w q nested ≡ Done a → has_open_candidate m nested ≡ false → Hears m w Given g (Result a ∷ heard)
 
 -- the answer is given, or a frame of the goal ends with it, and all its requests are in order
 pub record IsComputed {C I R F : Type 0} (m : Meaning C I R F) (w : m.World) (Given : m.Goal → m.Answer → Type 0) (g : m.Goal) (a : m.Answer) : Type 0 where
-  pub how : Given g a ⊎ ((heard : List (Reply m.Answer)) × Hears m w Given g heard × (m.asks w g heard ≡ Done a) × (is_open m heard ≡ false))
+  pub how : Given g a ⊎ ((heard : List (Reply m.Answer)) × Hears m w Given g heard × (m.asks w g heard ≡ Done a) × (has_open_candidate m heard ≡ false))
 
 -- the answer is given, or frames computed it, and all their requests are in order
 abbrev pub IsComputedOrGiven : {C I R F : Type 0} → (m : Meaning C I R F) → m.World → m.Goal → m.Answer → Type 0

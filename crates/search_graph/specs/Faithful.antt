@@ -1,14 +1,10 @@
 -- Answers that are those of plain recursion, by the heads that they depend on.
 use Rattle.std.specs.Prelude.{◌≡◌, ◌≤◌, ◌+◌, ℕ, Bool, false, List, [], ◌∷◌, ◌⊎◌, Some, slice_get}
-use Rattle.search_graph.specs.declared.path_kind.PathKind.{PathKind}
+use Rattle.search_paths.specs.declared.path_kind.PathKind.{PathKind}
 use Rattle.search_graph.specs.declared.delegate.Reply.{Reply}
 use Rattle.search_graph.specs.Meaning.{Meaning}
+use Rattle.search_paths.specs.Heads.{IsHead}
 use Rattle.search_graph.specs.Plain.{IsPlain, Descends, IsOnTrack}
-
--- the index is that of one of the heads
-abbrev pub IsHead : ℕ → List ℕ → Type 0
-IsHead place [] = ⊥
-IsHead place (head ∷ heads) = (place ≡ head) ⊎ IsHead place heads
 
 module _ {C I R F : Type 0} (m : Meaning C I R F) where
   -- plain recursion on each head descends to g

@@ -1,13 +1,7 @@
 pub mod Promised
-pub mod Laws
-pub mod Path
-pub mod Usages
-pub mod Nested
-pub mod Heads
 pub mod Meaning
 pub mod Computed
 pub mod Shown
-pub mod KeptPaths
 pub mod Rests
 pub mod Stack
 pub mod Provisional
@@ -22,3 +16,11 @@ pub mod Chain
 pub mod Answer
 pub mod Bound
 pub mod SearchState
+-- The crate below, whose names the crates above need too: these list this crate alone.
+pub use Rattle.search_paths.specs as SearchPaths
+pub use Rattle.search_paths.specs.Laws
+pub use Rattle.search_paths.specs.Path
+pub use Rattle.search_paths.specs.Usages
+pub use Rattle.search_paths.specs.Nested
+pub use Rattle.search_paths.specs.Heads
+pub use Rattle.search_paths.specs.KeptPaths

@@ -1,7 +1,7 @@
 -- What a delegate means: its goals, their rules, and the requests of its frames.
 use Rattle.std.specs.Prelude.{◌≡◌, ◌≤◌, ◌<◌, ◌+◌, length, ℕ, Bool, true, false, cond, List, [], ◌∷◌, ◌++◌, Some, unwrap_or, slice_get, slice_set}
-use Rattle.search_graph.specs.declared.path_kind.PathKind.{PathKind}
-use Rattle.search_graph.specs.declared.path_kind.PathKind.TheVariants.{Coinductive}
+use Rattle.search_paths.specs.declared.path_kind.PathKind.{PathKind}
+use Rattle.search_paths.specs.declared.path_kind.PathKind.TheVariants.{Coinductive}
 use Rattle.search_graph.specs.declared.delegate.Request.{Request}
 use Rattle.search_graph.specs.declared.delegate.Request.TheVariants.{Evaluate, EnterCandidate, FinishCandidate, IgnoreCandidate, Done}
 use Rattle.search_graph.specs.declared.delegate.Reply.{Reply}
@@ -42,7 +42,7 @@ pub record Meaning (C I R F : Type 0) : Type 1 where
 
 module _ {C I R F : Type 0} (m : Meaning C I R F) where
   -- the second context declares the same as the first one, and the inputs, results and frames of the first one mean the same in it
-  pub record Keeps (c d : C) : Type 0 where
+  pub record KeepsContext (c d : C) : Type 0 where
     pub world : m.world d ≡ m.world c
     pub inputs : (i : I) → m.IsInput c i → m.IsInput d i × (m.goal_of d i ≡ m.goal_of c i)
     pub results : (r : R) → m.IsResult c r → m.IsResult d r × (m.answer_of d r ≡ m.answer_of c r)
@@ -78,13 +78,13 @@ module _ {C I R F : Type 0} (m : Meaning C I R F) where
   request_of c (Done r) = Done (m.answer_of c r)
 
   -- whether a candidate is open after these replies
-  abbrev pub is_open : List (Reply m.Answer) → Bool
-  is_open [] = false
-  is_open (Begin ∷ heard) = is_open heard
-  is_open (Result a ∷ heard) = is_open heard
-  is_open (Entered ∷ heard) = true
-  is_open (Finished n ∷ heard) = false
-  is_open (Ignored ∷ heard) = is_open heard
+  abbrev pub has_open_candidate : List (Reply m.Answer) → Bool
+  has_open_candidate [] = false
+  has_open_candidate (Begin ∷ heard) = has_open_candidate heard
+  has_open_candidate (Result a ∷ heard) = has_open_candidate heard
+  has_open_candidate (Entered ∷ heard) = true
+  has_open_candidate (Finished n ∷ heard) = false
+  has_open_candidate (Ignored ∷ heard) = has_open_candidate heard
 
   -- the candidates after a reply to a request to ignore one of them
   abbrev pub ignoring : Request m.Goal m.Answer → List Bool → List Bool
@@ -107,10 +107,10 @@ module _ {C I R F : Type 0} (m : Meaning C I R F) where
   -- if it was finished and not ignored since. A frame is done if no candidate is open
   abbrev pub IsInOrder : m.World → m.Goal → List (Reply m.Answer) → Request m.Goal m.Answer → Type 0
   IsInOrder w g heard (Evaluate h k) = Unit {0}
-  IsInOrder w g heard EnterCandidate = is_open heard ≡ false
-  IsInOrder w g heard FinishCandidate = is_open heard ≡ true
+  IsInOrder w g heard EnterCandidate = has_open_candidate heard ≡ false
+  IsInOrder w g heard FinishCandidate = has_open_candidate heard ≡ true
   IsInOrder w g heard (IgnoreCandidate n) = slice_get (finished w g heard) n ≡ Some false
-  IsInOrder w g heard (Done a) = is_open heard ≡ false
+  IsInOrder w g heard (Done a) = has_open_candidate heard ≡ false
 
   -- the reply fits the request: a nested goal gets a result, and a finished candidate its number
   abbrev pub IsReplyTo : m.World → m.Goal → List (Reply m.Answer) → Request m.Goal m.Answer → Reply m.Answer → Type 0

@@ -1,7 +1,7 @@
 -- Proofs: finitely many goals, each derived by rules, down to coinductive steps to goals among them.
 use Rattle.std.specs.Prelude.{◌≡◌, true, List, [], ◌∷◌, ◌⊎◌}
-use Rattle.search_graph.specs.declared.path_kind.PathKind.{PathKind}
-use Rattle.search_graph.specs.Path.{is_coinductive_path}
+use Rattle.search_paths.specs.declared.path_kind.PathKind.{PathKind}
+use Rattle.search_paths.specs.Path.{is_coinductive_path}
 
 abbrev pub IsAmong : {G : Type 0} → G → List G → Type 0
 IsAmong g [] = ⊥

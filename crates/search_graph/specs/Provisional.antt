@@ -1,16 +1,16 @@
 -- Provisional entries: results that depend on goals of the stack, stored during the runs of those goals.
 use Rattle.std.specs.Prelude.{◌≡◌, ◌≤◌, ◌+◌, ◌↔◌, ◌⊎◌, ℕ, Bool, true, false, length, take, drop, List, [], ◌∷◌, ◌++◌, Option, Some, slice_get}
 use Rattle.std.specs.Global.{Vec}
-use Rattle.search_graph.specs.declared.path_kind.PathKind.{PathKind}
-use Rattle.search_graph.specs.declared.path_kind.PathKind.TheVariants.{ForcedAmbiguity}
-use Rattle.search_graph.specs.declared.dependencies.EvaluationResult.{EvaluationResult}
-use Rattle.search_graph.specs.Path.{greater, HasPath, IsExtended}
-use Rattle.search_graph.specs.Heads.{RestsOn, paths_to, first_paths}
+use Rattle.search_paths.specs.declared.path_kind.PathKind.{PathKind}
+use Rattle.search_paths.specs.declared.path_kind.PathKind.TheVariants.{ForcedAmbiguity}
+use Rattle.search_paths.specs.declared.dependencies.EvaluationResult.{EvaluationResult}
+use Rattle.search_paths.specs.Path.{greater, HasPath, IsExtended}
+use Rattle.search_paths.specs.Heads.{RestsOn, paths_to, first_paths}
 use Rattle.search_graph.specs.declared.cache.Asked.{Asked}
 use Rattle.search_graph.specs.declared.cache.CacheEntry.{CacheEntry}
 use Rattle.search_graph.specs.declared.stack.StackEntry.{StackEntry}
 use Rattle.search_graph.specs.declared.provisional.ProvisionalEntry.{ProvisionalEntry}
-use Rattle.search_graph.specs.KeptPaths.{indices, AreBelow}
+use Rattle.search_paths.specs.KeptPaths.{indices, AreBelow}
 use Rattle.search_graph.specs.Meaning.{Meaning, IsFair}
 use Rattle.search_graph.specs.Computed.{IsComputed, IsGiven}
 use Rattle.search_graph.specs.Plain.{IsNotPlain}

@@ -1,12 +1,12 @@
 -- What is promised of a nested goal over a stack. It is evaluated in the context c, and its result is in the context d.
 use Rattle.std.specs.Prelude.{◌≡◌, ◌≤◌, ◌+◌, ◌++◌, ◌⊎◌, ℕ, Bool, false, List, [], ◌∷◌, length}
-use Rattle.search_graph.specs.declared.path_kind.PathKind.{PathKind}
+use Rattle.search_paths.specs.declared.path_kind.PathKind.{PathKind}
 use Rattle.search_graph.specs.declared.stack.StackEntry.{StackEntry}
 use Rattle.search_graph.specs.declared.stack.Cycle.{Cycle}
 use Rattle.search_graph.specs.declared.cache.CacheEntry.{CacheEntry}
-use Rattle.search_graph.specs.declared.dependencies.CycleHead.{CycleHead}
-use Rattle.search_graph.specs.declared.dependencies.Dependencies.{Dependencies}
-use Rattle.search_graph.specs.declared.dependencies.EvaluationResult.{EvaluationResult}
+use Rattle.search_paths.specs.declared.dependencies.CycleHead.{CycleHead}
+use Rattle.search_paths.specs.declared.dependencies.Dependencies.{Dependencies}
+use Rattle.search_paths.specs.declared.dependencies.EvaluationResult.{EvaluationResult}
 use Rattle.std.specs.Global.{Vec}
 use Rattle.search_graph.specs.declared.cache.Asked.{Asked}
 use Rattle.search_graph.specs.declared.provisional.ProvisionalEntry.{ProvisionalEntry}
@@ -15,8 +15,8 @@ use Rattle.search_graph.specs.Meaning.{Meaning}
 use Rattle.search_graph.specs.Cache.{KnownResult, answers_in}
 use Rattle.search_graph.specs.Plain.{IsNotPlain}
 use Rattle.search_graph.specs.Faithful.{AllDescend, HeadsDescend, IsFaithful, IsUntouched, IsKept}
-use Rattle.search_graph.specs.KeptPaths.{AreBelow, indices}
-use Rattle.search_graph.specs.Heads.{AreHeadsBut}
+use Rattle.search_paths.specs.KeptPaths.{AreBelow, indices}
+use Rattle.search_paths.specs.Heads.{AreHeadsBut}
 use Rattle.search_graph.specs.Stack.{question_of, steps_of, IsAnswer, IsProvisional, IsWithin, IsLastWithin, AreLastWithin, AreCachedWithin}
 
 module _ {C I R F : Type 0} (m : Meaning C I R F) where

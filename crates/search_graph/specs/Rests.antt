@@ -1,10 +1,10 @@
 -- What a yes over a stack depends on: its heads, by their indices, and nothing else of the stack.
 use Rattle.std.specs.Prelude.{◌≡◌, ℕ, Bool, true, length, List, [], ◌∷◌, ◌++◌}
-use Rattle.search_graph.specs.declared.path_kind.PathKind.{PathKind}
-use Rattle.search_graph.specs.declared.path_kind.PathKind.TheVariants.{Coinductive, ForcedAmbiguity}
-use Rattle.search_graph.specs.Path.{greater}
+use Rattle.search_paths.specs.declared.path_kind.PathKind.{PathKind}
+use Rattle.search_paths.specs.declared.path_kind.PathKind.TheVariants.{Coinductive, ForcedAmbiguity}
+use Rattle.search_paths.specs.Path.{greater}
 use Rattle.search_graph.specs.Shown.{Shown}
-use Rattle.search_graph.specs.KeptPaths.{kind_of, kept_path, step_after, AreKept, AreBelow}
+use Rattle.search_paths.specs.KeptPaths.{kind_of, kept_path, step_after, AreKept, AreBelow}
 
 module _ (G : Type 0) (Follows : G → List (G × PathKind) → Type 0) where
   -- the nested goal is shown, whatever goals of the stack are kept in addition to the heads

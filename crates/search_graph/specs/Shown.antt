@@ -1,7 +1,7 @@
 -- Proof graphs with open ends.
 use Rattle.std.specs.Prelude.{◌≡◌, Bool, true, ◌||◌, List, [], ◌∷◌, ◌⊎◌}
-use Rattle.search_graph.specs.declared.path_kind.PathKind.{PathKind}
-use Rattle.search_graph.specs.Path.{is_coinductive_path}
+use Rattle.search_paths.specs.declared.path_kind.PathKind.{PathKind}
+use Rattle.search_paths.specs.Path.{is_coinductive_path}
 
 -- A path is a list of goals with the steps to them, the newest first. The goal g is one of them, and a step after it is
 -- coinductive, or `passed` says that one was

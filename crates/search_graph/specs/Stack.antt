@@ -1,22 +1,22 @@
 -- The meaning of the stack of a search.
 use Rattle.std.specs.Prelude.{◌≡◌, ◌≤◌, ◌+◌, ℕ, true, cond, nat_eq, length, find, drop, slice_get, List, [], ◌∷◌, ◌++◌, ◌⊎◌, MatchOption, Option, Some, None, IsSome}
-use Rattle.search_graph.specs.declared.path_kind.PathKind.{PathKind}
-use Rattle.search_graph.specs.declared.path_kind.PathKind.TheVariants.{Inductive}
+use Rattle.search_paths.specs.declared.path_kind.PathKind.{PathKind}
+use Rattle.search_paths.specs.declared.path_kind.PathKind.TheVariants.{Inductive}
 use Rattle.search_graph.specs.declared.delegate.Request.{Request}
 use Rattle.search_graph.specs.declared.delegate.Reply.{Reply}
 use Rattle.search_graph.specs.declared.delegate.Reply.TheVariants.{Begin, Result, Entered, Finished, Ignored}
 use Rattle.search_graph.specs.declared.stack.StackEntry.{StackEntry}
 use Rattle.search_graph.specs.declared.stack.Cycle.{Cycle}
-use Rattle.search_graph.specs.declared.path_kind.PathsToNested.{PathsToNested}
+use Rattle.search_paths.specs.declared.path_kind.PathsToNested.{PathsToNested}
 use Rattle.search_graph.specs.declared.cache.CacheEntry.{CacheEntry}
 use Rattle.search_graph.specs.declared.cache.Asked.{Asked}
-use Rattle.search_graph.specs.declared.nested_goals.Span.{Span}
-use Rattle.search_graph.specs.Nested.{no_goal}
-use Rattle.search_graph.specs.Path.{greater}
+use Rattle.search_paths.specs.declared.nested_goals.Span.{Span}
+use Rattle.search_paths.specs.Nested.{no_goal}
+use Rattle.search_paths.specs.Path.{greater}
 use Rattle.search_graph.specs.Chain.{IsWithinDepth, IsAskedUnder}
 use Rattle.search_graph.specs.Meaning.{Meaning, premise_of, answer_count, request_of, IsRequest, IsFair, AreReplies}
 use Rattle.search_graph.specs.Computed.{Hears, IsComputed, IsGiven, IsGivenWithin}
-use Rattle.search_graph.specs.KeptPaths.{AreBelow}
+use Rattle.search_paths.specs.KeptPaths.{AreBelow}
 use Rattle.search_graph.specs.Rests.{ShownFor, DerivedFor, RunShownFor}
 use Rattle.search_graph.specs.Faithful.{IsKept}
 

@@ -6,9 +6,9 @@ ghost use Rattle.indexmap.specs.IndexMap.{ContainsKey};
 ghost use Rattle.search_graph.specs.declared.newest.Chain.{Chain};
 ghost use Rattle.search_graph.specs.Chain.{newest_of, newest_in, number_of_chain, IsInChainAt, AreLinked, IsAskedUnder, IsWithinDepth, AllInRange, AreCovered, AreRecorded};
 ghost use Rattle.search_graph.specs.Chain.{AreInRange, range_of, IsUsableAt, NoneIsUsable, NoneIsUsableAlong, IsReachedOrApart, IsNotedBy, KeepsNoted, AreNoted};
-ghost use Rattle.search_graph.specs.Nested.{IsWithin};
+ghost use Rattle.search_paths.specs.Nested.{IsWithin};
 ghost use Rattle.indexmap.specs.IndexSet.{insert_key};
-ghost use Rattle.search_graph.specs.Meaning.{Keeps};
+ghost use Rattle.search_graph.specs.Meaning.{KeepsContext};
 ghost use Rattle.search_graph.specs.Stack.{IsProvisional, AreCached};
 ghost use Rattle.search_graph.specs.Cache.{known_result, known_results, HasConflict, IsAlike, AreConsistent, IsNumberOf};
 ghost use Rattle.search_graph.specs.Cache.{KeepsNumbers, KeepsResults, HoldsOther, IsUseOf, AddsResult, AddsAsked};
@@ -16,10 +16,10 @@ ghost use Rattle.search_graph.specs.Question.{IsKeptResult, IsNotPlainAt, IsWith
 
 use crate::delegate::{Cx, Delegate, InputOf, ResultOf};
 use crate::fault::GraphFault;
-use crate::nested_goals::{NestedGoals, Span};
 use crate::newest::{Chain, Newest};
-use crate::path_kind::PathKind;
+use crate::stack::NestedGoal;
 use indexmap::{IndexMap, IndexSet};
+use search_paths::{NestedGoals, PathKind, Span};
 use std::alloc::{AllocError, Global};
 use type_terms::Fault;
 
@@ -389,34 +389,39 @@ impl<D: Delegate> CachedResults<D> {
     pub(crate) fn insert(
         &mut self,
         cx: &D::Cx,
-        number: usize,
-        input: InputOf<D>,
+        goal: NestedGoal<InputOf<D>>,
         found: &ResultOf<D>,
-        depth: usize,
         encountered_overflow: bool,
         nested_goals: NestedGoals,
     ) -> Result<usize, GraphFault>
         requires cache { AreCached D.meaning (D.meaning.world cx.now) cx.now self.old.entries.items }
-        requires input { D.meaning.IsInput cx.now input }
+        requires input { D.meaning.IsInput cx.now goal.input }
         requires nested { AreInRange self.old.asked.items nested_goals }
-        requires number { IsNumberOf D.Cx.Input.eq self.old.goals.keys input number }
-        requires result { IsProvisional D.meaning (D.meaning.world cx.now) [] (D.meaning.goal_of cx.now input, PathKind.Inductive) [] cx.now found.now }
-        requires kept { IsKeptResult D.meaning cx.now input found.now depth encountered_overflow }
+        requires number { IsNumberOf D.Cx.Input.eq self.old.goals.keys goal.input goal.number }
+        requires result { IsProvisional D.meaning (D.meaning.world cx.now) [] (D.meaning.goal_of cx.now goal.input, PathKind.Inductive) [] cx.now found.now }
+        requires kept { IsKeptResult D.meaning cx.now goal.input found.now goal.depth encountered_overflow }
         ensures place { IfOk result (λ place. place ≡ length self.old.asked.items) }
         ensures kept { OnOk result
-            (AddsResult self.old.entries.items self.new.entries.items input found.now depth encountered_overflow number (length self.old.asked.items)) }
-        ensures recorded { OnOk result (AddsAsked self.old.asked.items self.new.asked.items number nested_goals) }
+            (AddsResult self.old.entries.items self.new.entries.items goal.input found.now goal.depth encountered_overflow goal.number
+            (length self.old.asked.items)) }
+        ensures recorded { OnOk result (AddsAsked self.old.asked.items self.new.asked.items goal.number nested_goals) }
         ensures asked { KeepsResults self.old.asked.items self.new.asked.items }
         ensures err { OnErr result (self.new.entries.items ≡ self.old.entries.items) }
         ensures results { KeepsResults self.old.entries.items self.new.entries.items }
         ensures goals { self.new.goals ≡ self.old.goals }
         ensures cache { AreCached D.meaning (D.meaning.world cx.now) cx.now self.new.entries.items }
-        ensures within { OnOk result (KeepsWithin D.meaning cx.now self.old.entries.items input found.now self.new.entries.items) }
-        ensures no_conflict { result ≡ Err GraphFault.Conflict → IsNotPlainAt D.meaning cx.now input depth encountered_overflow }
+        ensures within { OnOk result (KeepsWithin D.meaning cx.now self.old.entries.items goal.input found.now self.new.entries.items) }
+        ensures no_conflict { result ≡ Err GraphFault.Conflict → IsNotPlainAt D.meaning cx.now goal.input goal.depth encountered_overflow }
         ensures conflict { result ≡ Err GraphFault.Conflict → HasConflict D.meaning cx.now (known_results self.new.entries.items) }
         ensures in_order { result ≡ Err GraphFault.Protocol → ⊥ }
         ensures room { result ≡ Err GraphFault.Full → ⊥ }
     {
+        let NestedGoal {
+            number,
+            input,
+            depth,
+            ..
+        } = goal;
         if self.differs(number, &input, found, depth, encountered_overflow) {
             return Err(GraphFault::Conflict);
         }

@@ -6,7 +6,7 @@ ghost use Rattle.search_graph.specs.Turn.{IsInTurn, IsTurn};
 
 use crate::delegate::{Reply, Request};
 use crate::fault::GraphFault;
-use crate::path_kind::PathKind;
+use search_paths::PathKind;
 use std::alloc::Global;
 
 /// The candidates of a frame, by the requests that it made.

@@ -1,10 +1,10 @@
 //! What a search is given: a context with goals and results, and frames that evaluate a goal step by step.
 
 ghost use Rattle.std.specs.Prelude.{◌≡◌, ◌↔◌, [], ℕ, ◌<◌, ◌≤◌, IfOk, IfErr, IsSome, true, false};
-ghost use Rattle.search_graph.specs.Meaning.{Meaning, Keeps, IsReply, IsDue, Steps, IsFair, IsLawful};
+ghost use Rattle.search_graph.specs.Meaning.{Meaning, KeepsContext, IsReply, IsDue, Steps, IsFair, IsLawful};
 ghost use Rattle.type_terms.specs.declared.Fault.TheVariants.{Memory, Full};
 
-use crate::path_kind::PathKind;
+use search_paths::PathKind;
 use std::hash::Hash;
 use type_terms::Fault;
 
@@ -106,7 +106,7 @@ pub trait Delegate {
         input: &InputOf<Self>,
     ) -> Result<ResultOf<Self>, Fault>
         requires { meaning.IsInput cx.old input.now }
-        ensures keeps { Keeps meaning cx.old cx.new }
+        ensures keeps { KeepsContext meaning cx.old cx.new }
         ensures full { result ≡ Err Full → meaning.IsFull cx.new }
         ensures is { IfOk result (λ r. meaning.IsResult cx.new r
             × (meaning.answer_of cx.new r ≡ meaning.initial (meaning.world cx.old) (meaning.goal_of cx.old input.now) kind)) };
@@ -128,7 +128,7 @@ pub trait Delegate {
         input: &InputOf<Self>,
     ) -> Result<ResultOf<Self>, Fault>
         requires { meaning.IsInput cx.old input.now }
-        ensures keeps { Keeps meaning cx.old cx.new }
+        ensures keeps { KeepsContext meaning cx.old cx.new }
         ensures full { result ≡ Err Full → meaning.IsFull cx.new }
         ensures is { IfOk result (λ r. meaning.IsResult cx.new r
             × (meaning.answer_of cx.new r ≡ meaning.stack_overflow (meaning.world cx.old) (meaning.goal_of cx.old input.now))) };
@@ -139,7 +139,7 @@ pub trait Delegate {
         input: &InputOf<Self>,
     ) -> Result<ResultOf<Self>, Fault>
         requires { meaning.IsInput cx.old input.now }
-        ensures keeps { Keeps meaning cx.old cx.new }
+        ensures keeps { KeepsContext meaning cx.old cx.new }
         ensures full { result ≡ Err Full → meaning.IsFull cx.new }
         ensures is { IfOk result (λ r. meaning.IsResult cx.new r
             × (meaning.answer_of cx.new r ≡ meaning.fixpoint_overflow (meaning.world cx.old) (meaning.goal_of cx.old input.now))) };
@@ -159,7 +159,7 @@ pub trait Delegate {
         ambiguity_info: <Self::Cx as Cx>::AmbiguityInfo,
     ) -> Result<ResultOf<Self>, Fault>
         requires { meaning.IsInput cx.old for_input.now }
-        ensures keeps { Keeps meaning cx.old cx.new }
+        ensures keeps { KeepsContext meaning cx.old cx.new }
         ensures full { result ≡ Err Full → meaning.IsFull cx.new }
         ensures known { IfOk result (meaning.IsResult cx.new) }
         ensures fair { IfOk result (λ r. IsFair meaning (meaning.world cx.old) (meaning.goal_of cx.old for_input.now) (meaning.answer_of cx.new r)) }
@@ -173,7 +173,7 @@ pub trait Delegate {
     /// Starts a frame of a goal.
     fn start(cx: &mut Self::Cx, input: &InputOf<Self>) -> Result<Self::Frame, Fault>
         requires { meaning.IsInput cx.old input.now }
-        ensures keeps { Keeps meaning cx.old cx.new }
+        ensures keeps { KeepsContext meaning cx.old cx.new }
         ensures full { result ≡ Err Full → meaning.IsFull cx.new }
         ensures started { IfOk result (λ f. meaning.HasHeard cx.new (meaning.goal_of cx.old input.now) [] f) };
 
@@ -185,7 +185,7 @@ pub trait Delegate {
     ) -> Result<Request<InputOf<Self>, ResultOf<Self>>, Fault>
         requires due { IsDue meaning cx.old frame.old reply }
         requires reply { IsReply meaning cx.old reply }
-        ensures keeps { Keeps meaning cx.old cx.new }
+        ensures keeps { KeepsContext meaning cx.old cx.new }
         ensures full { result ≡ Err Full → meaning.IsFull cx.new }
         ensures steps { IfOk result (λ q. Steps meaning cx.old frame.old reply cx.new frame.new q) }
         ensures falls { IfOk result (λ q. steps_left cx.new frame.new < steps_left cx.old frame.old) };
@@ -193,7 +193,7 @@ pub trait Delegate {
     ghost lawful: { IsLawful meaning };
 
     /// A frame has no more steps left in a context that preserves what an earlier one has.
-    ghost steps_kept: { (c d : Self.Cx) (goal : meaning.Goal) (heard : _) (f : Self.Frame) → Keeps meaning c d → meaning.HasHeard c goal heard f
+    ghost steps_kept: { (c d : Self.Cx) (goal : meaning.Goal) (heard : _) (f : Self.Frame) → KeepsContext meaning c d → meaning.HasHeard c goal heard f
         → steps_left d f ≤ steps_left c f };
 
     /// Results of equal answers are equal.

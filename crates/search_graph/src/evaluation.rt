@@ -1,14 +1,14 @@
 //! The search itself: goals that evaluate nested goals.
 
 ghost use Rattle.std.specs.Prelude.{◌≡◌, [], ◌+◌, ◌*◌, ◌<◌, ◌≤◌, ◌⊎◌, length, max, IfOk, OnOk, true, false, cond};
-ghost use Rattle.search_graph.specs.Meaning.{Keeps};
+ghost use Rattle.search_graph.specs.Meaning.{KeepsContext};
 ghost use Rattle.search_graph.specs.Chain.{AreInRange};
-ghost use Rattle.search_graph.specs.Nested.{covered, one_goal};
+ghost use Rattle.search_paths.specs.Nested.{covered, one_goal};
 ghost use Rattle.search_graph.specs.Computed.{MakesMisstep};
 ghost use Rattle.search_graph.specs.Cache.{known_results, HasConflict, IsNumberOf, KeepsNumbers, KeepsResults, HoldsResult};
 ghost use Rattle.search_graph.specs.Promised.FrameBound.{frame_bound};
 ghost use Rattle.search_graph.specs.Bound.{question_bound, IsCounted};
-ghost use Rattle.search_graph.specs.KeptPaths.{AreBelow, indices};
+ghost use Rattle.search_paths.specs.KeptPaths.{AreBelow, indices};
 ghost use Rattle.search_graph.specs.Stack.{steps_of, span_of_newest, IsStack, IsEntry, AreCached, IfUsable, IfUsableAlone};
 ghost use Rattle.search_graph.specs.Question.{AllDescendTo, AreEntriesOver, AreEntriesStill, AreLeftOver, IsReplyOver, IsRunOver, IsFaithfulOver, IsUntouchedOver, IsNotPlainOver, AreFramesWithin, StaysWithin};
 ghost use Rattle.search_graph.specs.Unlimited.{SearchStaysWithin, SearchRunsWithin};
@@ -16,17 +16,16 @@ ghost use Rattle.search_graph.specs.Unlimited.{SearchStaysWithin, SearchRunsWith
 use crate::cache::CachedResults;
 use crate::candidates::{Candidates, Turn};
 use crate::delegate::{Cx, Delegate, InputOf, ResultOf};
-use crate::dependencies::{Dependencies, EvaluationResult, take_head};
 use crate::fault::{GraphFault, Stop};
-use crate::path_kind::PathKind;
 use crate::provisional::Entries;
 use crate::reads::CandidateReads;
 use crate::search::{Evaluation, Outcome, Search, is_last_run, nested_depth, run_limit};
-use crate::stack::StackEntry;
+use crate::stack::{NestedGoal, StackEntry};
 use crate::steps::{
     conclude, give_up, hear, is_met, look_up, reply_in_cycle, reply_with_overflow, start_run,
     take_turn,
 };
+use search_paths::{Dependencies, EvaluationResult, PathKind, take_head};
 
 /// Returns the result of a root goal. If the call is given up, it is an overflow by depth, which is cached.
 pub(crate) fn evaluate_root<D: Delegate>(
@@ -41,7 +40,7 @@ pub(crate) fn evaluate_root<D: Delegate>(
     requires uncounted { search.old.uncached_questions ≡ 0 }
     requires cache { AreCached D.meaning (D.meaning.world cx.old) cx.old cache.old.entries.items }
     requires input { D.meaning.IsInput cx.old input }
-    ensures keeps { Keeps D.meaning cx.old cx.new }
+    ensures keeps { KeepsContext D.meaning cx.old cx.new }
     ensures stack { OnOk result (search.new.stack.items ≡ []) }
     ensures cache { AreCached D.meaning (D.meaning.world cx.new) cx.new cache.new.entries.items }
     ensures results { KeepsResults cache.old.entries.items cache.new.entries.items }
@@ -88,7 +87,7 @@ pub(crate) fn evaluate<D: Delegate>(
     requires entries { AreEntriesOver D.meaning cx.old search.old.stack.items cache.old.asked.items search.old.overflow_met search.old.entries.lists.items }
     requires descends { AllDescendTo D.meaning cx.old search.old.stack.items input search.old.overflow_met }
     requires input { D.meaning.IsInput cx.old input }
-    ensures keeps { Keeps D.meaning cx.old cx.new }
+    ensures keeps { KeepsContext D.meaning cx.old cx.new }
     ensures stack { OnOk result (search.new.stack.items ≡ search.old.stack.items) }
     ensures entries { OnOk result
         (AreEntriesStill D.meaning cx.old search.old.stack.items cx.new cache.new.asked.items search.new.overflow_met search.new.entries.lists.items) }
@@ -151,7 +150,7 @@ fn evaluate_new<D: Delegate>(
     requires descends { AllDescendTo D.meaning cx.old search.old.stack.items input search.old.overflow_met }
     requires input { D.meaning.IsInput cx.old input }
     requires number { IsNumberOf D.Cx.Input.eq cache.old.goals.keys input number }
-    ensures keeps { Keeps D.meaning cx.old cx.new }
+    ensures keeps { KeepsContext D.meaning cx.old cx.new }
     ensures stack { OnOk result (search.new.stack.items ≡ search.old.stack.items) }
     ensures entries { OnOk result
         (AreEntriesStill D.meaning cx.old search.old.stack.items cx.new cache.new.asked.items search.new.overflow_met search.new.entries.lists.items) }
@@ -196,17 +195,13 @@ fn evaluate_new<D: Delegate>(
                 result: answer,
                 dependencies: found,
             };
-            return conclude(
-                search,
-                cache,
-                cx,
+            let goal = NestedGoal {
                 number,
-                back.into_input(),
+                input: back.into_input(),
                 step_kind,
-                evaluation,
-                left,
                 depth,
-            );
+            };
+            return conclude(search, cache, cx, goal, evaluation, left);
         }
         entry = back.next_run(search.alloc, answer, &found)?;
         dependencies = found;
@@ -217,17 +212,13 @@ fn evaluate_new<D: Delegate>(
         result: answer,
         dependencies,
     };
-    conclude(
-        search,
-        cache,
-        cx,
+    let goal = NestedGoal {
         number,
-        entry.into_input(),
+        input: entry.into_input(),
         step_kind,
-        evaluation,
-        Vec::new(search.alloc),
         depth,
-    )
+    };
+    conclude(search, cache, cx, goal, evaluation, Vec::new(search.alloc))
 }
 
 /// Runs a goal once, and adds its dependencies to those of the earlier runs. Returns the goal's stack entry, its result, and the
@@ -261,7 +252,7 @@ fn run_once<D: Delegate>(
     requires depth { earlier.encountered_overflow ≡ false → earlier.required_depth ≤ depth }
     requires calm { search.old.overflow_met ≡ false → earlier.encountered_overflow ≡ false }
     requires earlier { IsUntouchedOver D.meaning cx.old search.old.stack.items entry.input (depth + 1) earlier }
-    ensures keeps { Keeps D.meaning cx.old cx.new }
+    ensures keeps { KeepsContext D.meaning cx.old cx.new }
     ensures stack { OnOk result (search.new.stack.items ≡ search.old.stack.items) }
     ensures entries { OnOk result
         (AreEntriesStill D.meaning cx.old search.old.stack.items cx.new cache.new.asked.items search.new.overflow_met search.new.entries.lists.items) }
@@ -349,7 +340,7 @@ fn ask<D: Delegate>(
     requires entries { AreEntriesOver D.meaning cx.old search.old.stack.items cache.old.asked.items search.old.overflow_met search.old.entries.lists.items }
     requires descends { AllDescendTo D.meaning cx.old search.old.stack.items input search.old.overflow_met }
     requires input { D.meaning.IsInput cx.old input }
-    ensures keeps { Keeps D.meaning cx.old cx.new }
+    ensures keeps { KeepsContext D.meaning cx.old cx.new }
     ensures stack { OnOk result (search.new.stack.items ≡ search.old.stack.items) }
     ensures entries { OnOk result
         (AreEntriesStill D.meaning cx.old search.old.stack.items cx.new cache.new.asked.items search.new.overflow_met search.new.entries.lists.items) }

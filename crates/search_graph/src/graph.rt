@@ -1,7 +1,7 @@
 //! The search graph: the public interface of a search.
 
 ghost use Rattle.std.specs.Prelude.{◌≡◌, ◌+◌, ◌≤◌, ◌⊎◌, ◌↔◌, max, IfOk, IsOkAnd, IsTrue, true, false};
-ghost use Rattle.search_graph.specs.Meaning.{Keeps};
+ghost use Rattle.search_graph.specs.Meaning.{KeepsContext};
 ghost use Rattle.search_graph.specs.Computed.{IsComputedOrGiven, MakesMisstep};
 ghost use Rattle.search_graph.specs.Answer.{IsSound};
 ghost use Rattle.search_graph.specs.Plain.{IsPlain, IsNotPlain};
@@ -11,12 +11,11 @@ ghost use Rattle.search_graph.specs.Cache.{AreJustified, AreConsistent, KeepsRes
 ghost use Rattle.search_graph.specs.Question.{AreFramesWithin, IsWithinKnown};
 
 use crate::delegate::{Delegate, InputOf, ResultOf};
-use crate::dependencies::EvaluationResult;
 use crate::evaluation::evaluate_root;
 use crate::fault::GraphFault;
 use crate::global_cache::GlobalCache;
-use crate::path_kind::PathKind;
 use crate::search::Search;
+use search_paths::{EvaluationResult, PathKind};
 use std::alloc::Global;
 use std::marker::Model;
 use type_terms::Fault;
@@ -120,7 +119,7 @@ impl<D: Delegate> SearchGraph<D> {
         requires empty { self.old.current_depth ≡ 0 }
         requires cache { AreJustified D.meaning cx.old cache.old }
         requires input { D.meaning.IsInput cx.old input }
-        ensures keeps { Keeps D.meaning cx.old cx.new }
+        ensures keeps { KeepsContext D.meaning cx.old cx.new }
 
         // These hold after a failure too.
         ensures empty { self.new.current_depth ≡ 0 }

@@ -1,15 +1,16 @@
 //! Moves the provisional entries of a goal that ended to goals preceding it on the stack.
 
 ghost use Rattle.std.specs.Prelude.{◌≡◌, ◌+◌, ◌∷◌, [], ℕ, OnOk, Some, false, length, slice_get};
-ghost use Rattle.search_graph.specs.KeptPaths.{indices, AreBelow};
+ghost use Rattle.search_paths.specs.KeptPaths.{indices, AreBelow};
 ghost use Rattle.search_graph.specs.Provisional.{AreMoved};
 
 use crate::delegate::{Delegate, InputOf, ResultOf};
-use crate::dependencies::{CycleHead, EvaluationResult, nearest_head, rest_through, take_head};
-use crate::path_kind::{PathKind, PathsToNested};
 use crate::provisional::{Entries, ProvisionalEntries, ProvisionalEntry, find_among};
 use crate::stack::{StackEntry, kind_of_path};
 use bitflags::Flags;
+use search_paths::{
+    CycleHead, EvaluationResult, PathKind, PathsToNested, nearest_head, rest_through, take_head,
+};
 use std::alloc::AllocError;
 
 /// Moves the entries of a goal that ended to their next heads on the stack, if they have the goal's result. Drops the others.

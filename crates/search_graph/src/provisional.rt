@@ -5,9 +5,8 @@ ghost use Rattle.std.proofs.Props.{props};
 ghost use Rattle.search_graph.specs.Provisional.{IsServing, IsServingAt, NoneServes, NoneIsLeft, AddsEntry};
 
 use crate::delegate::{Delegate, InputOf, ResultOf};
-use crate::dependencies::CycleHead;
-use crate::path_kind::PathKind;
 use crate::stack::StackEntry;
+use search_paths::{CycleHead, PathKind};
 use std::alloc::{AllocError, Global};
 
 /// A result of a goal that depends on goals of the stack. It is used for the goal during the run of its nearest head in which it was

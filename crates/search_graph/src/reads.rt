@@ -3,11 +3,11 @@
 ghost use Rattle.std.specs.Prelude.{◌≡◌, ◌++◌, ◌∷◌, [], ℕ, true, false, Some, OnOk, slice_get};
 ghost use Rattle.std.specs.Int.RustNames.{bit_or};
 ghost use Rattle.search_graph.specs.declared.delegate.Request.TheVariants.{FinishCandidate, IgnoreCandidate};
-ghost use Rattle.search_graph.specs.Heads.{paths_to, paths_in, RestsOn};
-ghost use Rattle.search_graph.specs.KeptPaths.{indices};
+ghost use Rattle.search_paths.specs.Heads.{paths_to, paths_in, RestsOn};
+ghost use Rattle.search_paths.specs.KeptPaths.{indices};
 
 use crate::delegate::Request;
-use crate::dependencies::{CycleHead, add_all_paths, forget_paths, merge_heads};
+use search_paths::{CycleHead, add_all_paths, forget_paths, merge_heads};
 use std::alloc::{AllocError, Global};
 use std::mem;
 

@@ -4,11 +4,11 @@ ghost use Rattle.std.specs.Prelude.{◌≡◌, [], ◌∷◌, ℕ, ◌+◌, ◌-
 ghost use Rattle.std.specs.Prelude.{min, IfOk, IfSome, IfNone, IsSome, OnOk, OnErr, None, nat_eq, slice_get, drop, true, false, option_to_list};
 ghost use Rattle.std.proofs.Props.{props};
 ghost use Rattle.indexmap.specs.IndexMap.{get};
-ghost use Rattle.search_graph.specs.Nested.{covered, one_goal, AsksAlone, UsesAlone, AlsoAsks};
+ghost use Rattle.search_paths.specs.Nested.{covered, one_goal, AsksAlone, UsesAlone, AlsoAsks};
 ghost use Rattle.search_graph.specs.Chain.{AreInRange, AreInRanges, IsUsableAt, NoneIsUsable};
-ghost use Rattle.search_graph.specs.Meaning.{Keeps};
-ghost use Rattle.search_graph.specs.Heads.{RestsOn};
-ghost use Rattle.search_graph.specs.KeptPaths.{indices, AreBelow};
+ghost use Rattle.search_graph.specs.Meaning.{KeepsContext};
+ghost use Rattle.search_paths.specs.Heads.{RestsOn};
+ghost use Rattle.search_paths.specs.KeptPaths.{indices, AreBelow};
 ghost use Rattle.search_graph.specs.Bound.{uncached_questions_limit};
 ghost use Rattle.search_graph.specs.Cache.{known_results, HasConflict, IsNumberOf, KeepsResults, IsReplyOf, AddsAsked, AddsEvaluation, SaysSame};
 ghost use Rattle.search_graph.specs.Plain.{IsNotPlain};
@@ -18,17 +18,15 @@ ghost use Rattle.search_graph.specs.Question.{AllDescendTo, AreEntriesOver, IsWi
 
 use crate::cache::{Cached, CachedResults};
 use crate::delegate::{Cx, Delegate, InputOf, ResultOf};
-use crate::dependencies::{Dependencies, EvaluationResult};
 use crate::fault::{GraphFault, Stop};
 use crate::moves::move_entries;
-use crate::nested_goals::{NestedGoals, Span};
-use crate::path_kind::{PathKind, PathsToNested};
 use crate::provisional::{Entries, ProvisionalEntries, ProvisionalEntry};
 use crate::stack::{
     Cycle, NestedGoal, StackEntry, add_place, find_cycle, kind_of_path, remove_place,
 };
 use bitflags::Flags;
 use indexmap::IndexMap;
+use search_paths::{Dependencies, EvaluationResult, NestedGoals, PathKind, PathsToNested, Span};
 use std::alloc::{AllocError, Global};
 use type_terms::Fault;
 
@@ -444,7 +442,7 @@ impl<D: Delegate> Search<D> {
         requires stack { IsStack D.meaning (D.meaning.world cx.old) [] cx.old self.now.stack.items }
         requires input { D.meaning.IsInput cx.old input.now }
         requires cycle { IsClosedBy self.now.stack.items input.now step_kind cycle }
-        ensures keeps { Keeps D.meaning cx.old cx.new }
+        ensures keeps { KeepsContext D.meaning cx.old cx.new }
         ensures full { result ≡ Err Fault.Full → D.meaning.IsFull cx.new }
         ensures last { IfOk result (λ r. (e : _) (last : _) → slice_get self.now.stack.items cycle.index ≡ Some e → e.provisional_result ≡ Some last
             → r ≡ last) }
@@ -523,7 +521,7 @@ impl<D: Delegate> Search<D> {
         step_kind: PathKind,
     ) -> Evaluation<D>
         requires { D.meaning.IsInput cx.old input.now }
-        ensures keeps { Keeps D.meaning cx.old cx.new }
+        ensures keeps { KeepsContext D.meaning cx.old cx.new }
         ensures stack { self.new.stack.items ≡ self.old.stack.items }
         ensures frames { self.new.frames ≡ self.old.frames }
         ensures noted { self.new.limits_met ≡ true }
@@ -673,8 +671,8 @@ pub fn finish<D: Delegate>(
     let NestedGoal {
         number,
         input,
+        step_kind,
         depth,
-        ..
     } = goal;
     if heads.is_empty() {
         let kept_depth = if encountered_overflow {
@@ -683,15 +681,13 @@ pub fn finish<D: Delegate>(
             required_depth
         };
         let span = nested_goals.span.cover(Span::of(number));
-        let asked = cache.insert(
-            cx,
+        let kept = NestedGoal {
             number,
             input,
-            &answer,
-            kept_depth,
-            encountered_overflow,
-            nested_goals,
-        )?;
+            step_kind,
+            depth: kept_depth,
+        };
+        let asked = cache.insert(cx, kept, &answer, encountered_overflow, nested_goals)?;
         let mut nested_goals = NestedGoals::new(alloc);
         nested_goals.add_cached(asked, span)?;
         let dependencies = Dependencies {

@@ -2,14 +2,12 @@
 
 ghost use Rattle.std.specs.Prelude.{◌≡◌, ◌+◌, ◌<◌, ℕ, IfOk, IfSome, IfNone, OnOk, OnErr, Some, None, cond, nat_eq, length, slice_get, drop};
 ghost use Rattle.indexmap.specs.IndexMap.{get};
-ghost use Rattle.search_graph.specs.KeptPaths.{indices};
+ghost use Rattle.search_paths.specs.KeptPaths.{indices};
 ghost use Rattle.search_graph.specs.Stack.{kind_after, IsClosedBy, IsNextRun};
 
 use crate::delegate::{Delegate, InputOf, ResultOf};
-use crate::dependencies::{Dependencies, places_of};
-use crate::nested_goals::Span;
-use crate::path_kind::PathKind;
 use indexmap::IndexMap;
+use search_paths::{Dependencies, PathKind, Span, places_of};
 use std::alloc::{AllocError, Global};
 
 /// A goal that is evaluated, with what its asker states about it.

@@ -1,12 +1,12 @@
 //! The parts of an evaluation that evaluate no nested goal. Each has the clauses that the evaluation needs of it.
 
 ghost use Rattle.std.specs.Prelude.{◌≡◌, [], ◌∷◌, ◌++◌, ◌+◌, ◌-◌, ◌^◌, ◌<◌, ◌≤◌, ◌||◌, ◌⊎◌, ℕ, min, max, IfOk, OnOk, IfSome, IsSome, IsPermutation, true, false, length};
-ghost use Rattle.search_graph.specs.Heads.{AreReadByBoth, AreHeadsOfBoth};
+ghost use Rattle.search_paths.specs.Heads.{AreReadByBoth, AreHeadsOfBoth};
 ghost use Rattle.search_graph.specs.Turn.{IsInTurn, IsTurn};
-ghost use Rattle.search_graph.specs.KeptPaths.{AreBelow, indices};
-ghost use Rattle.search_graph.specs.Meaning.{Keeps, IsDue, IsReply, Steps};
+ghost use Rattle.search_paths.specs.KeptPaths.{AreBelow, indices};
+ghost use Rattle.search_graph.specs.Meaning.{KeepsContext, IsDue, IsReply, Steps};
 ghost use Rattle.search_graph.specs.Chain.{AreInRange};
-ghost use Rattle.search_graph.specs.Nested.{covered, one_goal, AsksAlone};
+ghost use Rattle.search_paths.specs.Nested.{covered, one_goal, AsksAlone};
 ghost use Rattle.search_graph.specs.Cache.{known_results, HasConflict, HoldsResult, IsNumberOf, KeepsNumbers, KeepsResults, AddsEvaluation, SaysSame};
 ghost use Rattle.search_graph.specs.Stack.{span_of_newest, IsStack, IsProvisional, AreCached, IsClosedBy, IfUsable, HasBegun};
 ghost use Rattle.search_graph.specs.Question.{AllDescendTo, AreEntriesOver, AreLeftOver, IsResultOver, EntriesStayWithin, IsWithinAsKept, IsReplyOver, IsFaithfulOver, IsKeptResult, IsNotPlainUpTo, IsWithinAsCached, IsWithinAsStack, KeepsWithin};
@@ -14,13 +14,12 @@ ghost use Rattle.search_graph.specs.Question.{AllDescendTo, AreEntriesOver, AreL
 use crate::cache::CachedResults;
 use crate::candidates::{Candidates, Turn};
 use crate::delegate::{Delegate, InputOf, Reply, Request, ResultOf};
-use crate::dependencies::{Dependencies, EvaluationResult, nearest_head};
 use crate::fault::{GraphFault, Stop};
-use crate::path_kind::{PathKind, PathsToNested};
 use crate::provisional::Entries;
 use crate::reads::CandidateReads;
 use crate::search::{Evaluation, Outcome, Search, finish};
 use crate::stack::{Cycle, NestedGoal, StackEntry};
+use search_paths::{Dependencies, EvaluationResult, PathKind, PathsToNested, nearest_head};
 
 /// Returns the number of a goal, and a stored result of it that may be used at this depth: a provisional entry, or else a cached
 /// result.
@@ -77,7 +76,7 @@ pub(crate) fn reply_in_cycle<D: Delegate>(
     requires stack { IsStack D.meaning (D.meaning.world cx.old) [] cx.old search.now.stack.items }
     requires input { D.meaning.IsInput cx.old input.now }
     requires cycle { IsClosedBy search.now.stack.items input.now step_kind cycle }
-    ensures keeps { Keeps D.meaning cx.old cx.new }
+    ensures keeps { KeepsContext D.meaning cx.old cx.new }
     ensures asked { IfOk result (λ o. AsksAlone number o.dependencies.nested_goals) }
     ensures depth { IfOk result (λ o. o.dependencies.required_depth ≡ 0) }
     ensures answer { IfOk result (λ o. IsReplyOver D.meaning cx.old search.now.stack.items input.now step_kind o.dependencies.heads.items cx.new o.result) }
@@ -109,7 +108,7 @@ pub(crate) fn reply_with_overflow<D: Delegate>(
 ) -> Outcome<D>
     requires cache { AreCached D.meaning (D.meaning.world cx.old) cx.old cache.old.entries.items }
     requires input { D.meaning.IsInput cx.old input }
-    ensures keeps { Keeps D.meaning cx.old cx.new }
+    ensures keeps { KeepsContext D.meaning cx.old cx.new }
     ensures stack { search.new.stack.items ≡ search.old.stack.items }
     ensures provisional { search.new.entries ≡ search.old.entries }
     ensures met { search.new.overflow_met ≡ search.old.overflow_met }
@@ -140,7 +139,7 @@ pub(crate) fn start_run<D: Delegate>(
 ) -> Result<(D::Frame, Request<InputOf<D>, ResultOf<D>>), GraphFault>
     requires input { D.meaning.IsInput cx.old entry.input }
     requires span { entry.span ≡ covered (span_of_newest search.old.stack.items) (one_goal entry.number) }
-    ensures keeps { Keeps D.meaning cx.old cx.new }
+    ensures keeps { KeepsContext D.meaning cx.old cx.new }
     ensures stack { OnOk result (search.new.stack.items ≡ search.old.stack.items ++ entry ∷ []) }
     ensures none { OnOk result ((list : _) × (search.new.entries.lists.items ≡ search.old.entries.lists.items ++ list ∷ []) × (list.items ≡ [])) }
     ensures begun { IfOk result (λ r. HasBegun D.meaning cx.old entry.input cx.new r.0 r.1) }
@@ -190,7 +189,7 @@ pub(crate) fn hear<D: Delegate>(
 ) -> Result<Request<InputOf<D>, ResultOf<D>>, GraphFault>
     requires due { IsDue D.meaning cx.old frame.old (Reply.Result nested.result) }
     requires reply { IsReply D.meaning cx.old (Reply.Result nested.result) }
-    ensures keeps { Keeps D.meaning cx.old cx.new }
+    ensures keeps { KeepsContext D.meaning cx.old cx.new }
     ensures steps { IfOk result (λ q. Steps D.meaning cx.old frame.old (Reply.Result nested.result) cx.new frame.new q) }
     ensures falls { IfOk result (λ q. D.steps_left cx.new frame.new < D.steps_left cx.old frame.old) }
     ensures overflow { OnOk result (dependencies.new.encountered_overflow
@@ -236,44 +235,42 @@ pub(crate) fn conclude<D: Delegate>(
     search: &mut Search<D>,
     cache: &mut CachedResults<D>,
     cx: &D::Cx,
-    number: usize,
-    input: InputOf<D>,
-    step_kind: PathKind,
+    goal: NestedGoal<InputOf<D>>,
     evaluation: EvaluationResult<ResultOf<D>>,
     left: Entries<D>,
-    depth: usize,
 ) -> Outcome<D>
     requires cache { AreCached D.meaning (D.meaning.world cx.now) cx.now cache.old.entries.items }
-    requires input { D.meaning.IsInput cx.now input }
+    requires input { D.meaning.IsInput cx.now goal.input }
     requires nested { AreInRange cache.old.asked.items evaluation.dependencies.nested_goals }
-    requires number { IsNumberOf D.Cx.Input.eq cache.old.goals.keys input number }
+    requires number { IsNumberOf D.Cx.Input.eq cache.old.goals.keys goal.input goal.number }
     requires alone { evaluation.dependencies.heads.items ≡ []
-        → IsProvisional D.meaning (D.meaning.world cx.now) [] (D.meaning.goal_of cx.now input, PathKind.Inductive) [] cx.now evaluation.result }
+        → IsProvisional D.meaning (D.meaning.world cx.now) [] (D.meaning.goal_of cx.now goal.input, PathKind.Inductive) [] cx.now evaluation.result }
     requires kept { evaluation.dependencies.heads.items ≡ []
-        → IsKeptResult D.meaning cx.now input evaluation.result depth evaluation.dependencies.encountered_overflow }
+        → IsKeptResult D.meaning cx.now goal.input evaluation.result goal.depth evaluation.dependencies.encountered_overflow }
     requires entries { AreEntriesOver D.meaning cx.now search.old.stack.items cache.old.asked.items search.old.overflow_met search.old.entries.lists.items }
-    requires left { AreLeftOver D.meaning cx.now search.old.stack.items input step_kind cx.now cache.old.asked.items search.old.overflow_met left.items }
-    requires descends { AllDescendTo D.meaning cx.now search.old.stack.items input search.old.overflow_met }
-    requires result { IsResultOver D.meaning cx.now search.old.stack.items input step_kind evaluation }
+    requires left { AreLeftOver D.meaning cx.now search.old.stack.items goal.input goal.step_kind cx.now cache.old.asked.items
+        search.old.overflow_met left.items }
+    requires descends { AllDescendTo D.meaning cx.now search.old.stack.items goal.input search.old.overflow_met }
+    requires result { IsResultOver D.meaning cx.now search.old.stack.items goal.input goal.step_kind evaluation }
     requires below { AreBelow (length search.old.stack.items) (indices evaluation.dependencies.heads.items) }
-    requires faithful { IsFaithfulOver D.meaning cx.now search.old.stack.items input (depth + 1) cx.now evaluation }
+    requires faithful { IsFaithfulOver D.meaning cx.now search.old.stack.items goal.input (goal.depth + 1) cx.now evaluation }
     ensures entries { OnOk result
         (AreEntriesOver D.meaning cx.now search.old.stack.items cache.new.asked.items search.old.overflow_met search.new.entries.lists.items) }
     ensures entries_within { OnOk result
-        (EntriesStayWithin D.meaning cx.now (search.old.entries.lists.items ++ left ∷ []) input evaluation.result search.new.entries.lists.items) }
+        (EntriesStayWithin D.meaning cx.now (search.old.entries.lists.items ++ left ∷ []) goal.input evaluation.result search.new.entries.lists.items) }
     ensures kept { OnOk result (evaluation.dependencies.heads.items ≡ []
-        → AddsEvaluation cache.old.entries.items cache.new.entries.items cache.old.asked.items input number depth evaluation) }
+        → AddsEvaluation cache.old.entries.items cache.new.entries.items cache.old.asked.items goal.input goal.number goal.depth evaluation) }
     ensures results { KeepsResults cache.old.entries.items cache.new.entries.items }
     ensures asked_before { KeepsResults cache.old.asked.items cache.new.asked.items }
     ensures goals { cache.new.goals ≡ cache.old.goals }
     ensures cache { AreCached D.meaning (D.meaning.world cx.now) cx.now cache.new.entries.items }
     ensures reply { IfOk result (SaysSame evaluation) }
     ensures range { IfOk result (λ o. AreInRange cache.new.asked.items o.dependencies.nested_goals) }
-    ensures within { OnOk result (KeepsWithin D.meaning cx.now cache.old.entries.items input evaluation.result cache.new.entries.items) }
+    ensures within { OnOk result (KeepsWithin D.meaning cx.now cache.old.entries.items goal.input evaluation.result cache.new.entries.items) }
 
     // A goal is never counted if its result depends on no other goal and it met no overflow.
     ensures exhausted { result ≡ Err Stop.Exhausted → (evaluation.dependencies.encountered_overflow ≡ true) ⊎ (evaluation.dependencies.heads.items ≡ [] → ⊥) }
-    ensures no_conflict { result ≡ Err (Stop.Fault GraphFault.Conflict) → IsNotPlainUpTo D.meaning cx.now input (depth + 1) }
+    ensures no_conflict { result ≡ Err (Stop.Fault GraphFault.Conflict) → IsNotPlainUpTo D.meaning cx.now goal.input (goal.depth + 1) }
     ensures conflict { result ≡ Err (Stop.Fault GraphFault.Conflict) → HasConflict D.meaning cx.now (known_results cache.new.entries.items) }
     ensures in_order { result ≡ Err (Stop.Fault GraphFault.Protocol) → ⊥ }
     ensures room { result ≡ Err (Stop.Fault GraphFault.Full) → ⊥ }
@@ -284,18 +281,13 @@ pub(crate) fn conclude<D: Delegate>(
 {
     let found = &evaluation.dependencies;
     let is_open = found.encountered_overflow || !found.heads.is_empty();
-    let cost = D::cost_of(cx, &input)
+    let cost = D::cost_of(cx, &goal.input)
         .saturating_add(1)
         .saturating_mul(found.questions);
     if !search.count_end(is_open, cost) {
         return Err(Stop::Exhausted);
     }
-    let goal = NestedGoal {
-        number,
-        input,
-        step_kind,
-        depth,
-    };
+    let step_kind = goal.step_kind;
     if !found.encountered_overflow {
         if let Some(nearest) = nearest_head(&found.heads) {
             let asked = cache.asked.len();
@@ -320,7 +312,7 @@ pub(crate) fn give_up<D: Delegate>(
     requires cache { AreCached D.meaning (D.meaning.world cx.old) cx.old cache.old.entries.items }
     requires input { D.meaning.IsInput cx.old input }
     requires not_plain { IsNotPlainUpTo D.meaning cx.old input (depth + 1) }
-    ensures keeps { Keeps D.meaning cx.old cx.new }
+    ensures keeps { KeepsContext D.meaning cx.old cx.new }
     ensures stack { search.new.stack.items ≡ [] }
     ensures cache { AreCached D.meaning (D.meaning.world cx.new) cx.new cache.new.entries.items }
     ensures results { KeepsResults cache.old.entries.items cache.new.entries.items }

@@ -1,5 +1,5 @@
 use Rattle.std.proofs.Common.{◌<◌, subst, arith}
-use Rattle.search_graph.specs.Nested.{IsWithin}
+use Rattle.search_paths.specs.Nested.{IsWithin}
 use Rattle.search_graph.specs.Chain.{IsNotedBy}
 use Rattle.search_graph.proofs.Noted.{key_at}
 use Rattle.search_graph.proofs.cache.is_any_noted.Goals as goal

@@ -1,15 +1,15 @@
 use Rattle.std.proofs.Common.{◌⊎◌, inl, inr, cond, false, true, rules, ◌≡◌, ℕ, ◌+◌, ◌*◌, ◌<◌, ◌≤◌, [], ◌∷◌, ◌++◌, length, max, sym, subst, ◌∙◌, ap, refl, arith}
 use Rattle.std.proofs.lemmas.Result.{IfOk-weaker, err_from_is_err_and}
-use Rattle.search_graph.specs.declared.path_kind.PathKind.TheVariants.{Inductive}
+use Rattle.search_paths.specs.declared.path_kind.PathKind.TheVariants.{Inductive}
 use Rattle.search_graph.specs.declared.delegate.Request.TheVariants.{Evaluate, Done}
 use Rattle.search_graph.specs.Meaning.{answer_count, request_of}
-use Rattle.search_graph.specs.Nested.{covered, one_goal}
+use Rattle.search_paths.specs.Nested.{covered, one_goal}
 use Rattle.search_graph.proofs.Ranges.{in_range_none, in_range_one, in_range_gather, in_range_later}
 use Rattle.std.proofs.lemmas.Option.{none-some}
 use Rattle.std.proofs.lemmas.List.{length-append}
 use Rattle.search_graph.proofs.Depths.{depth_below, depth_gathered}
-use Rattle.search_graph.specs.KeptPaths.{AreBelow, indices}
-use Rattle.search_graph.specs.Heads.{AreHeadsBut}
+use Rattle.search_paths.specs.KeptPaths.{AreBelow, indices}
+use Rattle.search_paths.specs.Heads.{AreHeadsBut}
 use Rattle.search_graph.specs.Stack.{question_of, steps_of, span_of_newest, IsUnread}
 use Rattle.search_graph.specs.Computed.{IsGivenWithin, nothing, also, below}
 use Rattle.search_graph.specs.Bound.{question_bound}
@@ -20,7 +20,7 @@ use Rattle.search_graph.specs.Faithful.{HeadsDescend}
 use Rattle.search_graph.proofs.Errors.{err_passed, fault_passed, fault_goes_on, stop_refused, ok_not_err, OnOk-always}
 use Rattle.search_graph.proofs.Refusals.{IfOk-err, OnOk-err, IfOk-or}
 use Rattle.search_graph.proofs.Orders.{from_zero, within_more, less_within, none_started, one_started, none_counted, one_counted, counted_later, not_less}
-use Rattle.search_graph.proofs.HeadFacts.{indices-none, both_kept, both_below, below_more, below_last, root_alone}
+use Rattle.search_paths.proofs.HeadFacts.{indices-none, both_kept, both_below, below_more, below_last, root_alone}
 use Rattle.search_graph.proofs.Graphs.{IsStack-now, steps-now, IsEntry-now, run_ended, next_entry, IsAnswer-then, answer_of_run, running_next_counted, running_begun, running_other, running_done, asked_now, hears_other, hears_next, misstep_now, due_next, due_other, Keeps-refl, Keeps-trans, IsStack-push, steps_pushed, length-steps_of, AreCached-later, provisional_alone, overflow_answers, overflow_stands}
 use Rattle.search_graph.proofs.Faithfuls.{or_first, or_second, asked_descends, not_plain_at_zero, all_heads_descend, run_heads_descend, ends_not_plain, conflict_up, plain_first, plain_next_at, plain_done, untouched_first, untouched_not_plain, faithful_not_plain, faithful_taken, faithful_at_zero, kept_of_faithful, IsFaithful-less, reach_within}
 use Rattle.search_graph.proofs.Limits.{unnoted, either_noted, not_both, told_within, AreLastWithin-now, AreLastWithin-push, AreCachedWithin-keeps}

@@ -1,7 +1,7 @@
 use Rattle.std.proofs.Common.{◌<◌, ◌⊎◌, true, false, List, ◌≡◌, ◌≤◌, length, max, ℕ, ◌+◌, ◌*◌, [], ◌∷◌, ◌++◌}
-use Rattle.search_graph.specs.Meaning.{Keeps, is_open, finished, answer_count}
-use Rattle.search_graph.specs.KeptPaths.{AreBelow, indices}
-use Rattle.search_graph.specs.Nested.{covered, one_goal}
+use Rattle.search_graph.specs.Meaning.{KeepsContext, has_open_candidate, finished, answer_count}
+use Rattle.search_paths.specs.KeptPaths.{AreBelow, indices}
+use Rattle.search_paths.specs.Nested.{covered, one_goal}
 use Rattle.search_graph.specs.Chain.{AreInRange}
 use Rattle.search_graph.specs.Cache.{KeepsNumbers, KeepsResults}
 use Rattle.search_graph.specs.Computed.{Hears, IsGivenWithin}
@@ -28,7 +28,7 @@ abbrev pub invariant-evaluate_new-loop-run : goal.invariant-evaluate_new-loop-ru
 invariant-evaluate_new-loop-run g l =
     let m = g.D.Delegate.meaning in
     record {
-      keeps : Keeps m l.fn.cx l.cx;
+      keeps : KeepsContext m l.fn.cx l.cx;
       cache : AreCached m (m.world l.cx) l.cx l.cache.entries.items;
       entries : AreProvisional m (m.world l.fn.cx) l.search.overflow_met l.cx l.cache.asked.items (steps_of m l.fn.cx l.fn.search.stack.items) l.search.entries.lists.items;
       calm : l.search.overflow_met ≡ false → (l.fn.search.overflow_met ≡ false) × (l.dependencies.encountered_overflow ≡ false);
@@ -62,7 +62,7 @@ abbrev pub invariant-run_once-loop-candidates : goal.invariant-run_once-loop-can
 invariant-run_once-loop-candidates g l =
     let m = g.D.Delegate.meaning in
     record {
-      keeps : Keeps m l.fn.cx l.cx;
+      keeps : KeepsContext m l.fn.cx l.cx;
       cache : AreCached m (m.world l.cx) l.cx l.cache.entries.items;
       entries : AreProvisional m (m.world l.fn.cx) l.search.overflow_met l.cx l.cache.asked.items (steps_of m l.fn.cx l.fn.search.stack.items ++ question_of m l.fn.cx l.fn.entry ∷ []) l.search.entries.lists.items;
       calm : l.search.overflow_met ≡ false → (l.fn.search.overflow_met ≡ false) × (l.dependencies.encountered_overflow ≡ false);
@@ -73,7 +73,7 @@ invariant-run_once-loop-candidates g l =
       depth : l.dependencies.encountered_overflow ≡ false → l.dependencies.required_depth ≤ l.depth;
       stack : l.search.stack.items ≡ l.fn.search.stack.items ++ l.fn.entry ∷ [];
       running : IsRunning m (m.world l.fn.cx) (steps_of m l.fn.cx l.fn.search.stack.items) (m.goal_of l.fn.cx l.fn.entry.input) l.fn.entry.step_kind (indices l.dependencies.heads.items) l.cx l.frame l.request;
-      opened : l.candidates.open ≡ is_open m running.heard;
+      opened : l.candidates.open ≡ has_open_candidate m running.heard;
       listed : l.candidates.finished.items ≡ finished m (m.world l.fn.cx) (m.goal_of l.fn.cx l.fn.entry.input) running.heard;
       frames : (width : ℕ) → m.number_of (m.world l.fn.cx) (m.goal_of l.fn.cx l.fn.entry.input) ≤ width
           → l.search.frames ≤ l.fn.search.frames + 1 + answer_count m running.heard * question_bound (max g.D.Delegate.FIXPOINT_STEP_LIMIT 1) width l.depth;

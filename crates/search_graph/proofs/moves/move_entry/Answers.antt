@@ -1,8 +1,8 @@
 use Rattle.std.proofs.Common.{◌∙◌, ◌+◌, ◌↔◌, ◌⊎◌, ap, refl, sym, subst, arith, length, drop}
-use Rattle.search_graph.specs.Path.{HasPath, IsExtended}
-use Rattle.search_graph.specs.Heads.{paths_to, first_paths}
+use Rattle.search_paths.specs.Path.{HasPath, IsExtended}
+use Rattle.search_paths.specs.Heads.{paths_to, first_paths}
 use Rattle.search_graph.specs.Stack.{kind_after}
-use Rattle.search_graph.proofs.ReadHeads.{first_read}
+use Rattle.search_paths.proofs.ReadHeads.{first_read}
 use Rattle.search_graph.proofs.MovedEntries.{moved_rests, moved_below, moved_there}
 use Rattle.search_graph.proofs.moves.move_entry.Goals as goal
 use Rattle.type_terms.proofs.BooleanBasics.{true-false as true_not_false}

@@ -2,7 +2,7 @@ use Rattle.std.proofs.Common.{◌≡◌, ◌∙◌, ◌∷◌, ◌++◌, [], ap,
 use Rattle.std.proofs.lemmas.Result.{err_from_is_err_and}
 use Rattle.search_graph.proofs.Errors.{err_passed, list_empty, list_not_empty}
 use Rattle.search_graph.specs.declared.cache.Asked.{Asked}
-use Rattle.search_graph.specs.Nested.{covered, no_goal, one_goal}
+use Rattle.search_paths.specs.Nested.{covered, no_goal, one_goal}
 use Rattle.search_graph.proofs.Ranges.{at_end, in_range_cached, in_range_goal}
 use Rattle.search_graph.proofs.search.finish.Goals as goal
 use Rattle.search_graph.proofs.search.finish.Goals.{then-encountered_overflow, else-encountered_overflow}

@@ -1,8 +1,8 @@
 use Rattle.std.proofs.Common.{◌≡◌, ◌∙◌, ◌+◌, ◌-◌, ◌<◌, ◌≤◌, ℕ, List, length, get_or, drop, sym, ap, arith}
 use Rattle.std.proofs.lemmas.List.{at_drop_more, at_drop_all}
-use Rattle.search_graph.specs.declared.path_kind.PathKind.{PathKind}
+use Rattle.search_paths.specs.declared.path_kind.PathKind.{PathKind}
 use Rattle.search_graph.specs.declared.stack.StackEntry.{StackEntry}
-use Rattle.search_graph.specs.Path.{greater}
+use Rattle.search_paths.specs.Path.{greater}
 use Rattle.search_graph.specs.Stack.{kind_after}
 use Rattle.search_graph.proofs.stack.kind_of_path.Goals as goal
 

@@ -1,5 +1,5 @@
 use Rattle.std.proofs.Common.{◌+◌, [], sym, ◌∙◌, refl, inl, inr}
-use Rattle.search_graph.specs.KeptPaths.{indices}
+use Rattle.search_paths.specs.KeptPaths.{indices}
 use Rattle.search_graph.proofs.Ends.{held_after, faithful_after}
 use Rattle.search_graph.proofs.Faithfuls.{faithful_not_plain}
 use Rattle.search_graph.proofs.Graphs.{AreCached-later}

@@ -1,7 +1,7 @@
 use Rattle.std.proofs.Common.{◌∙◌, ap, sym, subst, inl, inr}
-use Rattle.search_graph.specs.KeptPaths.{indices}
-use Rattle.search_graph.specs.Faithful.{IsHead}
-use Rattle.search_graph.proofs.HeadFacts.{indices-none}
+use Rattle.search_paths.specs.KeptPaths.{indices}
+use Rattle.search_paths.specs.Heads.{IsHead}
+use Rattle.search_paths.proofs.HeadFacts.{indices-none}
 use Rattle.search_graph.proofs.steps.hear.Goals as goal
 
 pub step-requires-clause-due : goal.step-requires-clause-due

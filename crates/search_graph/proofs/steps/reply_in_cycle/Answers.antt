@@ -1,8 +1,8 @@
 use Rattle.std.proofs.Common.{◌≡◌, ◌∙◌, ◌++◌, ◌∷◌, ap, [], inl, inr, Some, slice_get}
 use Rattle.std.proofs.lemmas.Option.{get_or_from_slice_get}
-use Rattle.search_graph.specs.declared.nested_goals.NestedGoals.{NestedGoals}
-use Rattle.search_graph.specs.Nested.{covered, one_goal}
-use Rattle.search_graph.specs.KeptPaths.{indices}
+use Rattle.search_paths.specs.declared.nested_goals.NestedGoals.{NestedGoals}
+use Rattle.search_paths.specs.Nested.{covered, one_goal}
+use Rattle.search_paths.specs.KeptPaths.{indices}
 use Rattle.search_graph.specs.Stack.{steps_of}
 use Rattle.search_graph.proofs.Faithfuls.{faithful_not_plain}
 use Rattle.search_graph.proofs.steps.reply_in_cycle.Goals as goal

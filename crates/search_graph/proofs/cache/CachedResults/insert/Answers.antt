@@ -11,7 +11,7 @@ use Rattle.type_terms.proofs.BooleanBasics.{true-false as true_not_false}
 
 pub returns-clause-cache : goal.returns-clause-cache
 returns-clause-cache g c = rw (c.push_reserved.ensures.items, c.reserve.ensures.items)
-    (cached_insert g.D.Delegate.meaning c.args.cx.now c.args.cx.now c.args.self.now.entries.items (record { input = c.args.input; result = c.in_ok-result.result; depth = c.args.depth; encountered_overflow = c.args.encountered_overflow; number = c.args.number; previous = c.get-previous.result; asked = c.len-asked.result }) c.args.found.now
+    (cached_insert g.D.Delegate.meaning c.args.cx.now c.args.cx.now c.args.self.now.entries.items (record { input = c.args.goal.input; result = c.in_ok-result.result; depth = c.args.goal.depth; encountered_overflow = c.args.encountered_overflow; number = c.args.goal.number; previous = c.get-previous.result; asked = c.len-asked.result }) c.args.found.now
     c.requires.cache (Keeps-refl g.D.Delegate.meaning c.args.cx.now) c.requires.input c.in_ok-result.ensures.copy c.requires.result c.requires.kept)
 
 pub returns-then-differs-clause-no_conflict : goal.returns-then-differs-clause-no_conflict
@@ -35,7 +35,7 @@ returns-then-differs-clause-conflict g c = λ conflict.
     let e = other.1 in
     let cached = IsCached-at m w cx c.args.self.now.entries.items other.0 e other.2 c.requires.cache in
     HasConflict-at m cx c.args.self.now.entries.items other.0 e other.2 (record {
-      found = record { input = c.args.input; result = c.args.found.now; depth = c.args.depth; overflowed = c.args.encountered_overflow };
+      found = record { input = c.args.goal.input; result = c.args.found.now; depth = c.args.goal.depth; overflowed = c.args.encountered_overflow };
       justified = record { known = c.requires.input; result = c.requires.result; kept = c.requires.kept };
       alike = other.3;
       other = λ s. let equal = g.met.D.Delegate.same_answer cx e.result c.args.found.now cached.result.known c.requires.result.known s in true_not_false (sym equal ∙ other.4);
@@ -43,7 +43,7 @@ returns-then-differs-clause-conflict g c = λ conflict.
 
 pub returns-clause-within : goal.returns-clause-within
 returns-clause-within g c = λ before cached found. rw (c.push_reserved.ensures.items, c.reserve.ensures.items)
-    (AreCachedWithin-push g.D.Delegate.meaning (g.D.Delegate.meaning.world c.args.cx.now) before c.args.cx.now c.args.self.now.entries.items (record { input = c.args.input; result = c.in_ok-result.result; depth = c.args.depth; encountered_overflow = c.args.encountered_overflow; number = c.args.number; previous = c.get-previous.result; asked = c.len-asked.result }) cached (rw c.in_ok-result.ensures.copy found))
+    (AreCachedWithin-push g.D.Delegate.meaning (g.D.Delegate.meaning.world c.args.cx.now) before c.args.cx.now c.args.self.now.entries.items (record { input = c.args.goal.input; result = c.in_ok-result.result; depth = c.args.goal.depth; encountered_overflow = c.args.encountered_overflow; number = c.args.goal.number; previous = c.get-previous.result; asked = c.len-asked.result }) cached (rw c.in_ok-result.ensures.copy found))
 
 pub invariant_of-self-2-clause-linked : goal.invariant_of-self-2-clause-linked
 invariant_of-self-2-clause-linked g c = rw (c.push_reserved.ensures.items, c.reserve.ensures.items) (AreLinked-push _ _ c.args.self.now.linked (c.get-previous.ensures ∙ c.args.self.now.listed c.of-chain.result ∙ ap (newest_of c.args.self.now.entries.items) c.of-chain.ensures))
@@ -52,21 +52,21 @@ pub invariant_of-self-2-clause-listed : goal.invariant_of-self-2-clause-listed
 invariant_of-self-2-clause-listed g c =
     let size : c.len-place.result ≡ length c.args.self.now.entries.items = c.len-place.ensures ∙ c.args.self.now.entries.ok.0 in
     rw (c.push_reserved.ensures.items, c.reserve.ensures.items)
-    (listed_push c.args.self.now.entries.items (record { input = c.args.input; result = c.in_ok-result.result; depth = c.args.depth; encountered_overflow = c.args.encountered_overflow; number = c.args.number; previous = c.get-previous.result; asked = c.len-asked.result }) c.args.self.now.newest c.put.new.self c.args.self.now.listed
+    (listed_push c.args.self.now.entries.items (record { input = c.args.goal.input; result = c.in_ok-result.result; depth = c.args.goal.depth; encountered_overflow = c.args.encountered_overflow; number = c.args.goal.number; previous = c.get-previous.result; asked = c.len-asked.result }) c.args.self.now.newest c.put.new.self c.args.self.now.listed
     (λ other. c.in_ok-put.ensures.put other ∙ ap (λ chain. cond (is_chain chain other) (Some c.len-place.result) (newest_in c.args.self.now.newest other)) c.of-chain.ensures
-    ∙ ap (λ place. cond (is_chain (chain_of c.args.number c.args.depth c.args.encountered_overflow) other) (Some place) (newest_in c.args.self.now.newest other)) size))
+    ∙ ap (λ place. cond (is_chain (chain_of c.args.goal.number c.args.goal.depth c.args.encountered_overflow) other) (Some place) (newest_in c.args.self.now.newest other)) size))
 
 pub invariant_of-self-2-clause-numbered : goal.invariant_of-self-2-clause-numbered
 invariant_of-self-2-clause-numbered g c = rw (c.push_reserved.ensures.items, c.reserve.ensures.items)
-    (numbered_push g.D.Cx.Input.PartialEq.eq c.args.self.now.goals.keys c.args.self.now.entries.items (record { input = c.args.input; result = c.in_ok-result.result; depth = c.args.depth; encountered_overflow = c.args.encountered_overflow; number = c.args.number; previous = c.get-previous.result; asked = c.len-asked.result }) c.args.self.now.numbered c.requires.number)
+    (numbered_push g.D.Cx.Input.PartialEq.eq c.args.self.now.goals.keys c.args.self.now.entries.items (record { input = c.args.goal.input; result = c.in_ok-result.result; depth = c.args.goal.depth; encountered_overflow = c.args.encountered_overflow; number = c.args.goal.number; previous = c.get-previous.result; asked = c.len-asked.result }) c.args.self.now.numbered c.requires.number)
 
 pub invariant_of-self-2-clause-consistent : goal.invariant_of-self-2-clause-consistent
 invariant_of-self-2-clause-consistent g c = rw (c.push_reserved.ensures.items, c.reserve.ensures.items)
-    (AreConsistent-push c.args.self.now.entries.items (record { input = c.args.input; result = c.in_ok-result.result; depth = c.args.depth; encountered_overflow = c.args.encountered_overflow; number = c.args.number; previous = c.get-previous.result; asked = c.len-asked.result }) c.args.self.now.consistent
+    (AreConsistent-push c.args.self.now.entries.items (record { input = c.args.goal.input; result = c.in_ok-result.result; depth = c.args.goal.depth; encountered_overflow = c.args.encountered_overflow; number = c.args.goal.number; previous = c.get-previous.result; asked = c.len-asked.result }) c.args.self.now.consistent
     (λ place e at alike. c.differs.ensures.none c.if-differs.false place e at alike ∙ sym c.in_ok-result.ensures.copy))
 
 pub returns-clause-results : goal.returns-clause-results
-returns-clause-results g c = rw (c.push_reserved.ensures.items, c.reserve.ensures.items) (KeepsResults-push c.args.self.now.entries.items (record { input = c.args.input; result = c.in_ok-result.result; depth = c.args.depth; encountered_overflow = c.args.encountered_overflow; number = c.args.number; previous = c.get-previous.result; asked = c.len-asked.result }))
+returns-clause-results g c = rw (c.push_reserved.ensures.items, c.reserve.ensures.items) (KeepsResults-push c.args.self.now.entries.items (record { input = c.args.goal.input; result = c.in_ok-result.result; depth = c.args.goal.depth; encountered_overflow = c.args.encountered_overflow; number = c.args.goal.number; previous = c.get-previous.result; asked = c.len-asked.result }))
 
 pub invariant_of-self-in-Break-branch-3 : goal.invariant_of-self-in-Break-branch-3
 invariant_of-self-in-Break-branch-3 g c =
@@ -101,27 +101,27 @@ invariant_of-self-in-Break-branch-5 g c =
       listed = λ chain. rw c.reserve.ensures.items (c.in_err-put.ensures.err chain ∙ old.listed chain);
       linked = rw c.reserve.ensures.items old.linked;
       numbered = rw c.reserve.ensures.items old.numbered;
-      recorded = rw (c.reserve.ensures.items, c.in_ok-push.ensures.items) (recorded_later old.entries.items old.asked.items (old.asked.items ++ record { number = c.args.number; nested_goals = c.args.nested_goals } ∷ []) (KeepsResults-push old.asked.items (record { number = c.args.number; nested_goals = c.args.nested_goals })) old.recorded);
-      covered = rw c.in_ok-push.ensures.items (covered_push old.asked.items (record { number = c.args.number; nested_goals = c.args.nested_goals }) old.covered c.requires.nested);
-      noted = rw c.in_ok-push.ensures.items (let own = rw (c.len-asked.ensures ∙ c.args.self.now.asked.ok.0) at c.in_ok-note_asked.ensures.noted in noted_push c.args.self.now.first.items c.note_asked.new.first.items c.args.self.now.asked.items (record { number = c.args.number; nested_goals = c.args.nested_goals }) c.args.self.now.noted c.note_asked.ensures.others own.0 own.1);
+      recorded = rw (c.reserve.ensures.items, c.in_ok-push.ensures.items) (recorded_later old.entries.items old.asked.items (old.asked.items ++ record { number = c.args.goal.number; nested_goals = c.args.nested_goals } ∷ []) (KeepsResults-push old.asked.items (record { number = c.args.goal.number; nested_goals = c.args.nested_goals })) old.recorded);
+      covered = rw c.in_ok-push.ensures.items (covered_push old.asked.items (record { number = c.args.goal.number; nested_goals = c.args.nested_goals }) old.covered c.requires.nested);
+      noted = rw c.in_ok-push.ensures.items (let own = rw (c.len-asked.ensures ∙ c.args.self.now.asked.ok.0) at c.in_ok-note_asked.ensures.noted in noted_push c.args.self.now.first.items c.note_asked.new.first.items c.args.self.now.asked.items (record { number = c.args.goal.number; nested_goals = c.args.nested_goals }) c.args.self.now.noted c.note_asked.ensures.others own.0 own.1);
       consistent = rw c.reserve.ensures.items old.consistent;
     }
 
 pub invariant_of-self-2-clause-recorded : goal.invariant_of-self-2-clause-recorded
 invariant_of-self-2-clause-recorded g c = rw (c.push_reserved.ensures.items, c.reserve.ensures.items, c.in_ok-push.ensures.items)
-    (recorded_push c.args.self.now.entries.items (record { input = c.args.input; result = c.in_ok-result.result; depth = c.args.depth; encountered_overflow = c.args.encountered_overflow; number = c.args.number; previous = c.get-previous.result; asked = c.len-asked.result }) c.args.self.now.asked.items (record { number = c.args.number; nested_goals = c.args.nested_goals }) c.args.self.now.recorded (c.len-asked.ensures ∙ c.args.self.now.asked.ok.0) refl)
+    (recorded_push c.args.self.now.entries.items (record { input = c.args.goal.input; result = c.in_ok-result.result; depth = c.args.goal.depth; encountered_overflow = c.args.encountered_overflow; number = c.args.goal.number; previous = c.get-previous.result; asked = c.len-asked.result }) c.args.self.now.asked.items (record { number = c.args.goal.number; nested_goals = c.args.nested_goals }) c.args.self.now.recorded (c.len-asked.ensures ∙ c.args.self.now.asked.ok.0) refl)
 
 pub invariant_of-self-2-clause-covered : goal.invariant_of-self-2-clause-covered
-invariant_of-self-2-clause-covered g c = rw c.in_ok-push.ensures.items (covered_push c.args.self.now.asked.items (record { number = c.args.number; nested_goals = c.args.nested_goals }) c.args.self.now.covered c.requires.nested)
+invariant_of-self-2-clause-covered g c = rw c.in_ok-push.ensures.items (covered_push c.args.self.now.asked.items (record { number = c.args.goal.number; nested_goals = c.args.nested_goals }) c.args.self.now.covered c.requires.nested)
 
 pub returns-clause-kept : goal.returns-clause-kept
-returns-clause-kept g c = (record { input = c.args.input; result = c.in_ok-result.result; depth = c.args.depth; encountered_overflow = c.args.encountered_overflow; number = c.args.number; previous = c.get-previous.result; asked = c.len-asked.result }, (c.push_reserved.ensures.items ∙ ap (λ es. es ++ record { input = c.args.input; result = c.in_ok-result.result; depth = c.args.depth; encountered_overflow = c.args.encountered_overflow; number = c.args.number; previous = c.get-previous.result; asked = c.len-asked.result } ∷ []) c.reserve.ensures.items), refl, c.in_ok-result.ensures.copy, refl, refl, refl, c.len-asked.ensures ∙ c.args.self.now.asked.ok.0)
+returns-clause-kept g c = (record { input = c.args.goal.input; result = c.in_ok-result.result; depth = c.args.goal.depth; encountered_overflow = c.args.encountered_overflow; number = c.args.goal.number; previous = c.get-previous.result; asked = c.len-asked.result }, (c.push_reserved.ensures.items ∙ ap (λ es. es ++ record { input = c.args.goal.input; result = c.in_ok-result.result; depth = c.args.goal.depth; encountered_overflow = c.args.encountered_overflow; number = c.args.goal.number; previous = c.get-previous.result; asked = c.len-asked.result } ∷ []) c.reserve.ensures.items), refl, c.in_ok-result.ensures.copy, refl, refl, refl, c.len-asked.ensures ∙ c.args.self.now.asked.ok.0)
 
 pub returns-clause-asked : goal.returns-clause-asked
-returns-clause-asked g c = rw c.in_ok-push.ensures.items (KeepsResults-push c.args.self.now.asked.items (record { number = c.args.number; nested_goals = c.args.nested_goals }))
+returns-clause-asked g c = rw c.in_ok-push.ensures.items (KeepsResults-push c.args.self.now.asked.items (record { number = c.args.goal.number; nested_goals = c.args.nested_goals }))
 
 pub returns-in_err-put-clause-asked : goal.returns-in_err-put-clause-asked
-returns-in_err-put-clause-asked g c = rw c.in_ok-push.ensures.items (KeepsResults-push c.args.self.now.asked.items (record { number = c.args.number; nested_goals = c.args.nested_goals }))
+returns-in_err-put-clause-asked g c = rw c.in_ok-push.ensures.items (KeepsResults-push c.args.self.now.asked.items (record { number = c.args.goal.number; nested_goals = c.args.nested_goals }))
 
 pub differs-requires : goal.differs-requires
 differs-requires g c = record { number = c.requires.number }
@@ -131,4 +131,4 @@ returns-clause-place g c = c.len-asked.ensures ∙ c.args.self.now.asked.ok.0
 
 pub invariant_of-self-2-clause-noted : goal.invariant_of-self-2-clause-noted
 invariant_of-self-2-clause-noted g c = rw c.in_ok-push.ensures.items
-    (let own = rw (c.len-asked.ensures ∙ c.args.self.now.asked.ok.0) at c.in_ok-note_asked.ensures.noted in noted_push c.args.self.now.first.items c.note_asked.new.first.items c.args.self.now.asked.items (record { number = c.args.number; nested_goals = c.args.nested_goals }) c.args.self.now.noted c.note_asked.ensures.others own.0 own.1)
+    (let own = rw (c.len-asked.ensures ∙ c.args.self.now.asked.ok.0) at c.in_ok-note_asked.ensures.noted in noted_push c.args.self.now.first.items c.note_asked.new.first.items c.args.self.now.asked.items (record { number = c.args.goal.number; nested_goals = c.args.nested_goals }) c.args.self.now.noted c.note_asked.ensures.others own.0 own.1)

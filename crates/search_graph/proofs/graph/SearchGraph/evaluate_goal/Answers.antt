@@ -1,6 +1,6 @@
 use Rattle.std.proofs.Common.{Some, slice_get, ◌≡◌, ◌+◌, ◌∙◌, sym, ap, subst, refl, inl, inr, arith}
 use Rattle.std.proofs.lemmas.Option.{none-some}
-use Rattle.search_graph.specs.KeptPaths.{indices}
+use Rattle.search_paths.specs.KeptPaths.{indices}
 use Rattle.search_graph.specs.Cache.{AreJustified, answers_in, known_result, known_results}
 use Rattle.search_graph.specs.Chain.{IsWithinDepth}
 use Rattle.search_graph.specs.Proof.{IsAmong}

@@ -2,9 +2,9 @@ use Rattle.std.proofs.Common.{◌≡◌, ◌<◌, ◌≤◌, ◌+◌, ◌-◌, �
 use Rattle.std.specs.Option.{IfNone}
 use Rattle.std.proofs.lemmas.Option.{slice_get_read, same_Some}
 use Rattle.std.proofs.lemmas.List.{at_drop_more, at_drop_all}
-use Rattle.search_graph.specs.declared.path_kind.PathKind.{PathKind}
+use Rattle.search_paths.specs.declared.path_kind.PathKind.{PathKind}
 use Rattle.search_graph.specs.declared.stack.StackEntry.{StackEntry}
-use Rattle.search_graph.specs.Path.{greater}
+use Rattle.search_paths.specs.Path.{greater}
 use Rattle.search_graph.specs.Stack.{kind_after}
 use Rattle.search_graph.specs.Provisional.{IsServing}
 use Rattle.search_graph.proofs.Entries.{head_within}

@@ -5,10 +5,10 @@ use Rattle.std.specs.Global.{Vec}
 use Rattle.std.specs.Int.Bits.{or_zero_r}
 use Rattle.std.specs.Int.RustNames.{bit_or}
 use Rattle.type_terms.proofs.InfoFacts.{or-assoc}
-use Rattle.search_graph.specs.declared.dependencies.CycleHead.{CycleHead}
-use Rattle.search_graph.specs.Faithful.{IsHead}
-use Rattle.search_graph.specs.Heads.{paths_to, paths_in}
-use Rattle.search_graph.proofs.HeadFacts.{paths_in-append}
+use Rattle.search_paths.specs.declared.dependencies.CycleHead.{CycleHead}
+use Rattle.search_paths.specs.Heads.{IsHead}
+use Rattle.search_paths.specs.Heads.{paths_to, paths_in}
+use Rattle.search_paths.proofs.HeadFacts.{paths_in-append}
 use Rattle.search_graph.proofs.reads.CandidateReads.count.Goals as goal
 
 pub loop-read-init : goal.loop-read-init

@@ -1,7 +1,7 @@
 use Rattle.std.proofs.Common.{◌≡◌, ℕ, take}
 use Rattle.std.specs.Int.RustNames.{bit_or}
-use Rattle.search_graph.specs.KeptPaths.{indices}
-use Rattle.search_graph.specs.Heads.{paths_to, paths_in, RestsOn}
+use Rattle.search_paths.specs.KeptPaths.{indices}
+use Rattle.search_paths.specs.Heads.{paths_to, paths_in, RestsOn}
 use Rattle.search_graph.proofs.reads.CandidateReads.count.Given as goal
 
 abbrev pub invariant-loop-read : goal.invariant-loop-read

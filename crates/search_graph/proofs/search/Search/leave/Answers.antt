@@ -1,6 +1,6 @@
 use Rattle.std.proofs.Common.{◌≡◌, ◌<◌, ◌+◌, ◌∙◌, ◌++◌, ◌∷◌, [], Some, slice_get, drop, length, refl, sym, ap, subst}
 use Rattle.search_graph.specs.declared.cache.Asked.{Asked}
-use Rattle.search_graph.specs.Nested.{covered, no_goal}
+use Rattle.search_paths.specs.Nested.{covered, no_goal}
 use Rattle.search_graph.specs.Stack.{steps_of, kind_after}
 use Rattle.search_graph.proofs.Graphs.{Keeps-refl}
 use Rattle.search_graph.proofs.Ranges.{at_end, in_range_cached}

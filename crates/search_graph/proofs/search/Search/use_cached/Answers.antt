@@ -1,8 +1,8 @@
 use Rattle.std.proofs.Common.{◌≡◌, ◌∙◌, ◌++◌, ◌∷◌, sym, ap, [], true, slice_get, Some}
 use Rattle.std.proofs.lemmas.Option.{same_Some}
-use Rattle.search_graph.specs.Nested.{covered, no_goal}
-use Rattle.search_graph.specs.declared.path_kind.PathKind.TheVariants.{Inductive}
-use Rattle.search_graph.specs.KeptPaths.{indices}
+use Rattle.search_paths.specs.Nested.{covered, no_goal}
+use Rattle.search_paths.specs.declared.path_kind.PathKind.TheVariants.{Inductive}
+use Rattle.search_paths.specs.KeptPaths.{indices}
 use Rattle.search_graph.specs.Stack.{steps_of}
 use Rattle.search_graph.proofs.Graphs.{cached_answers}
 use Rattle.search_graph.proofs.Ranges.{in_range_cached, listed_at}

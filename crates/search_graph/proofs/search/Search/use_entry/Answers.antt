@@ -1,5 +1,5 @@
 use Rattle.std.proofs.Common.{◌≡◌, ◌∙◌, ◌++◌, ◌∷◌, [], sym, ap, subst, slice_get, Some}
-use Rattle.search_graph.specs.Nested.{covered, no_goal}
+use Rattle.search_paths.specs.Nested.{covered, no_goal}
 use Rattle.search_graph.proofs.Entries.{entry_read, entry_answers, entry_faithful, entry_within}
 use Rattle.search_graph.proofs.Ranges.{in_range_cached}
 use Rattle.search_graph.proofs.search.Search.use_entry.Goals as goal
