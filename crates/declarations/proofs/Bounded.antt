@@ -19,11 +19,11 @@ refer t a = record { trait = t; args = a }
 same-refer : (s t : ℕ) (a b : Trees) → s ≡ t → a ≡ b → refer s a ≡ refer t b
 same-refer s t a b p q = ap (λ x. refer x a) p ∙ ap (refer t) q
 
-first-trees : List Piece → Trees
+pub first-trees : List Piece → Trees
 first-trees [] = none
 first-trees (p ∷ ps) = p.trees
 
-first-number : List ℕ → ℕ
+pub first-number : List ℕ → ℕ
 first-number [] = 0
 first-number (n ∷ ns) = n
 

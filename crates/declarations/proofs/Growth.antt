@@ -38,7 +38,7 @@ same-decl i r s rs ss p q = ap (λ x. decl i x rs) p ∙ ap (decl i s) q
 abbrev world : List StructDecl → List TraitDecl → List ImplDecl → World
 world xs ts is = record { crates = []; structs = xs; traits = ts; impls = is }
 
-same-world : (a b : List StructDecl) (p q : List TraitDecl) (x y : List ImplDecl) → a ≡ b → p ≡ q → x ≡ y → world a p x ≡ world b q y
+pub same-world : (a b : List StructDecl) (p q : List TraitDecl) (x y : List ImplDecl) → a ≡ b → p ≡ q → x ≡ y → world a p x ≡ world b q y
 same-world a b p q x y e f g = ap (λ z. world z p x) e ∙ ap (λ z. world b z x) f ∙ ap (world b q) g
 
 module _ (old new : List Entry) (k : Keeps old new) where

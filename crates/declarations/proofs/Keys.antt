@@ -33,7 +33,7 @@ use Rattle.declarations.specs.Index.{ids_in, is_head, is_key, listed}
 use Rattle.declarations.proofs.Lookups.{lookup-agree, one-number}
 use Rattle.type_terms.proofs.BooleanBasics.{and-both}
 
-and-true : (b : Bool) → b ≡ (b && true)
+pub and-true : (b : Bool) → b ≡ (b && true)
 and-true true = refl
 and-true false = refl
 
@@ -283,6 +283,33 @@ module _ {S : Type 0} where
           ∙ taken (listed m h) i (added h ∙ ap (λ b. if b then listed m h ++ i ∷ [] else listed m h) (key-itself h))
           ∙ same-listed m h k e
       by false e = others k e ∙ added k ∙ ap (λ b. if b then listed m k ++ i ∷ [] else listed m k) e
+
+  -- each list without its last one, where that is under the key
+  pub taken-off : (n q : HashMap ImplKey ImplIds S) (h : ImplKey) (i : ImplId) (rest : ImplKey → List ImplId) → ((k : ImplKey) → listed n k ≡ (if is_key h k then rest k ++ i ∷ [] else rest k))
+      → ((ids : List ImplId) (j : ImplId) → listed n h ≡ ids ++ j ∷ [] → listed q h ≡ ids) → ((k : ImplKey) → is_key h k ≡ false → listed q k ≡ listed n k)
+      → (k : ImplKey) → listed q k ≡ rest k
+  taken-off n q h i rest had taken others k = by (is_key h k) refl
+    where
+      by : (b : Bool) → is_key h k ≡ b → listed q k ≡ rest k
+      by true e = sym (same-listed q h k e) ∙ taken (rest k) i (same-listed n h k e ∙ had k ∙ ap (λ b. if b then rest k ++ i ∷ [] else rest k) e)
+      by false e = others k e ∙ had k ∙ ap (λ b. if b then rest k ++ i ∷ [] else rest k) e
+
+-- ---- an impl that is taken from lists one after another
+-- no list is taken from twice
+pub first-off : (a b c : Bool) (rest : List ImplId) (i : ImplId) → (a ≡ true → b ≡ false) → ((a || b) ≡ true → c ≡ false)
+    → (if (a || b) || c then rest ++ i ∷ [] else rest) ≡ (if a then (if b || c then rest ++ i ∷ [] else rest) ++ i ∷ [] else (if b || c then rest ++ i ∷ [] else rest))
+first-off true true c rest i u v = let bad : true ≡ false = u refl in absurd cc
+first-off true false true rest i u v = let bad : true ≡ false = v refl in absurd cc
+first-off true false false rest i u v = refl
+first-off false true c rest i u v = refl
+first-off false false c rest i u v = refl
+
+pub second-off : (a b c : Bool) (rest : List ImplId) (i : ImplId) → ((a || b) ≡ true → c ≡ false)
+    → (if b || c then rest ++ i ∷ [] else rest) ≡ (if b then (if c then rest ++ i ∷ [] else rest) ++ i ∷ [] else (if c then rest ++ i ∷ [] else rest))
+second-off true true true rest i v = let bad : true ≡ false = v refl in absurd cc
+second-off false true true rest i v = let bad : true ≡ false = v refl in absurd cc
+second-off a true false rest i v = refl
+second-off a false c rest i v = refl
 
 -- ---- an impl that is added to lists one after another
 -- no list has both, so each has it once

@@ -8,13 +8,15 @@ use Rattle.type_terms.proofs.ProofEntries.{map-in}
 use Rattle.type_terms.proofs.Below.{below, below-length, below-strict}
 use Rattle.declarations.specs.Promised.Elaboration.{all_levels}
 use Rattle.type_terms.proofs.NumberBasics.{less-kept}
+use Rattle.type_terms.proofs.Supertraits.{flat-same}
+use Rattle.std.specs.List.{flat_map}
 
 -- bounds lead to traits of lower rank
 abbrev pub LeadDown : World → (ℕ → ℕ) → Type 0
 LeadDown V rank = (x : TraitDecl) (b : Reference) → In x V.traits → In b x.bounds → rank b.trait < rank x.name
 
 -- a greater rank has no fewer below it
-below-grows : {A : Type 0} (key : A → ℕ) (a b : ℕ) (xs : List A) → a ≤ b → below key a xs ≤ below key b xs
+pub below-grows : {A : Type 0} (key : A → ℕ) (a b : ℕ) (xs : List A) → a ≤ b → below key a xs ≤ below key b xs
 below-grows key a b [] h = omega arith
 below-grows key a b (x ∷ xs) h = step (ltb (key x) a) (ltb (key x) b) (less-kept (key x) a b h) (below-grows key a b xs h)
   where
@@ -26,6 +28,11 @@ below-grows key a b (x ∷ xs) h = step (ltb (key x) a) (ltb (key x) b) (less-ke
         no e = cc
     step false true f g = omega arith
     step false false f g = g
+
+-- without members a list is flattened to nothing
+none-flat : {A B : Type 0} (f : A → List B) (xs : List A) → ((x : A) → In x xs → ⊥) → flat_map f xs ≡ []
+none-flat f [] h = refl
+none-flat f (x ∷ xs) h = absurd (h x (here x xs))
 
 module _ (V : World) (rank : ℕ → ℕ) (down : LeadDown V rank) where
   place : TraitDecl → ℕ
@@ -64,6 +71,18 @@ module _ (V : World) (rank : ℕ → ℕ) (down : LeadDown V rank) where
       at : (q : Reference) → (q ≡ s) ⊎ In s (strict_supertraits_within (suc n) V q) → (In s (strict_supertraits_within (suc n) V q) → In s (strict_supertraits_within n V q)) → In s (q ∷ strict_supertraits_within n V q)
       at q (inl e) go = subst (λ z. In z (q ∷ strict_supertraits_within n V q)) e (here q (strict_supertraits_within n V q))
       at q (inr j) go = there s q (strict_supertraits_within n V q) (go j)
+
+  -- nor anything once more
+  same-deeper : (n : ℕ) (r : Reference) → up_to r.trait ≤ n → strict_supertraits_within (suc n) V r ≡ strict_supertraits_within n V r
+  same-deeper zero r h = none-flat (λ s. s ∷ strict_supertraits_within zero V s) (written_supertraits V r) (λ s i. absurd (omega (arith, h, fewer r s i)))
+  same-deeper (suc n) r h =
+      flat-same (λ s. s ∷ strict_supertraits_within (suc n) V s) (λ s. s ∷ strict_supertraits_within n V s) (written_supertraits V r)
+      (λ s i. ap (λ z. s ∷ z) (same-deeper n s (omega (arith, h, fewer r s i))))
+
+  -- so the supertraits of a reference are those that its trait lists, each with its own
+  pub supers-by-bounds : (r : Reference) → strict_supertraits V r ≡ all_levels V (written_supertraits V r)
+  unfolding place up_to
+  supers-by-bounds r = sym (same-deeper (length V.traits) r (below-length place (suc (rank r.trait)) V.traits))
 
   -- what is written above what is there is there a step deeper
   above-own : (n : ℕ) (r s t : Reference) → r ≡ s → In t (written_supertraits V s) → In t (strict_supertraits_within (suc n) V r)

@@ -119,3 +119,12 @@ each-pushed P (x ∷ xs) y h p = (h.0, each-pushed P xs y h.1 p)
 pub rises-pushed : {A : Type 0} (id : A → ImplId) (xs : List A) (y : ImplId) → Rises (map id xs) → Each (λ x. (id x).index < y.index) xs → Rises (map id xs ++ y ∷ [])
 rises-pushed id [] y h b = (tt, tt)
 rises-pushed id (x ∷ xs) y h b = (each-pushed (λ z. (id x).index < z.index) (map id xs) y h.0 b.0, rises-pushed id xs y h.1 b.1)
+
+-- ---- what is left without the last one rises
+each-fewer : (x : ImplId) (xs : List ImplId) (y : ImplId) → Each (λ z. x.index < z.index) (xs ++ y ∷ []) → Each (λ z. x.index < z.index) xs
+each-fewer x [] y h = tt
+each-fewer x (z ∷ zs) y h = (h.0, each-fewer x zs y h.1)
+
+pub rises-fewer : (xs : List ImplId) (y : ImplId) → Rises (xs ++ y ∷ []) → Rises xs
+rises-fewer [] y h = tt
+rises-fewer (x ∷ xs) y h = (each-fewer x xs y h.0, rises-fewer xs y h.1)

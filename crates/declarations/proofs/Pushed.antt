@@ -33,6 +33,7 @@ use Rattle.declarations.specs.Inside.{impl_of}
 use Rattle.declarations.proofs.Lookups.{turned, one-number}
 use Rattle.declarations.proofs.Merging.{rises-pushed}
 use Rattle.type_terms.proofs.BooleanBasics.{and-false, or-false}
+use Rattle.declarations.proofs.Keys.{and-true}
 
 numbers-turned : (x y : ℕ × (ℕ × (ℕ × ℕ))) → same_numbers x y ≡ same_numbers y x
 numbers-turned (a, (b, (c, d))) (e, (f, (g, h))) =
@@ -62,10 +63,6 @@ ids-pushed p (y ∷ ys) x = by (p y) (p x) (ids-pushed p ys x)
     by false false r = r
 
 -- ---- the keys of an impl
-
-and-true : (b : Bool) → b ≡ (b && true)
-and-true true = refl
-and-true false = refl
 
 module _ (i : ImplId) (def : ImplDef) (s n : Option SimplifiedType) where
   abbrev entry : Bool → HeldImpl
@@ -165,6 +162,14 @@ module _ (i : ImplId) (def : ImplDef) (s n : Option SimplifiedType) where
       ∙ ap (λ b. if b then ids_of (has_key k) xs ++ i ∷ [] else ids_of (has_key k) xs)
       (ap (λ x. (is_key (Headed (head_with def.header s)) k || is_key x k) || is_that_key p k) e ∙ ap (λ x. first-two f k || is_that_key x k) g ∙ has-keys f k)
       ∙ sym (ids-pushed (has_key k) xs (entry f))
+
+  -- the list under each key, which the last impl is under if it has the key
+  pub popped-under : (f : Bool) (o : ImplKey) (p : Option ImplKey) → o ≡ own f → p ≡ deep n → (xs : List HeldImpl) (k : ImplKey) (old : List ImplId) → old ≡ ids_of (has_key k) (xs ++ entry f ∷ [])
+      → old ≡ (if (is_key (Headed (head_with def.header s)) k || is_key o k) || is_that_key p k then ids_of (has_key k) xs ++ i ∷ [] else ids_of (has_key k) xs)
+  popped-under f o p e g xs k old before =
+      before ∙ ids-pushed (has_key k) xs (entry f)
+      ∙ ap (λ b. if b then ids_of (has_key k) xs ++ i ∷ [] else ids_of (has_key k) xs)
+      (sym (ap (λ x. (is_key (Headed (head_with def.header s)) k || is_key x k) || is_that_key p k) e ∙ ap (λ x. first-two f k || is_that_key x k) g ∙ has-keys f k))
 
 pub rises-more : (xs : List HeldImpl) (x : HeldImpl) → Rises (map (λ i. i.id) xs) → Each (λ i. i.id.index < x.id.index) xs → Rises (map (λ i. i.id) (xs ++ x ∷ []))
 rises-more xs x r h = subst Rises (sym (map_push (λ i. i.id) xs x)) (rises-pushed (λ (i : HeldImpl). i.id) xs x.id r h)

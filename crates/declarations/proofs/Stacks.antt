@@ -10,7 +10,7 @@ use Rattle.type_terms.specs.Codes.{same, same_label, numbers, same_numbers}
 use Rattle.declarations.proofs.Basics.{length-pushed, put-move}
 use Rattle.type_terms.proofs.BooleanBasics.{true-false}
 
-same-numbers-self : (x : ℕ × (ℕ × (ℕ × ℕ))) → same_numbers x x ≡ true
+pub same-numbers-self : (x : ℕ × (ℕ × (ℕ × ℕ))) → same_numbers x x ≡ true
 same-numbers-self (a, (b, (c, d))) = let p = self-number a in let q = self-number b in let r = self-number c in let s = self-number d in rw (p, q, r, s) refl
 
 pub same-self : (t : Trees) → same t t ≡ true
@@ -29,7 +29,7 @@ pub missing-same : (xs b c : List Reference) → ((x : Reference) → is_put x b
 missing-same [] b c h = refl
 missing-same (x ∷ xs) b c h = ap (λ (z : Bool). (if z then 0 else 1) + missing xs b) (h x) ∙ ap (λ n. (if is_put x c then 0 else 1) + n) (missing-same xs b c h)
 
-missing-fewer : (xs b : List Reference) (r : Reference) → missing xs (r ∷ b) ≤ missing xs b
+pub missing-fewer : (xs b : List Reference) (r : Reference) → missing xs (r ∷ b) ≤ missing xs b
 missing-fewer [] b r = omega arith
 missing-fewer (x ∷ xs) b r = by (same_reference x r) (is_put x b) (missing-fewer xs b r)
   where
@@ -39,7 +39,7 @@ missing-fewer (x ∷ xs) b r = by (same_reference x r) (is_put x b) (missing-few
     by false true h = omega (arith, h)
     by false false h = omega (arith, h)
 
-missing-less : (xs b : List Reference) (r : Reference) → In r xs → is_put r b ≡ false → suc (missing xs (r ∷ b)) ≤ missing xs b
+pub missing-less : (xs b : List Reference) (r : Reference) → In r xs → is_put r b ≡ false → suc (missing xs (r ∷ b)) ≤ missing xs b
 missing-less [] b r i e = absurd (in-nothing r i)
 missing-less (x ∷ xs) b r i e = by (in-cases r x xs i) (λ j. missing-less xs b r j e)
   where

@@ -1,5 +1,5 @@
 -- What contracts see of declarations, and the world that they declare.
-use Rattle.std.specs.Prelude.{◌≡◌, ℕ, Bool, ◌<◌, ◌==◌, ◌&&◌, if◌then◌else◌, List, [], ◌∷◌, ◌++◌, map, filter, length, Option, None, Some}
+use Rattle.std.specs.Prelude.{◌≡◌, ℕ, Bool, ◌<◌, ◌==◌, ◌&&◌, if◌then◌else◌, List, [], ◌∷◌, ◌++◌, map, filter, length, take, Option, None, Some}
 use Rattle.type_terms.specs.Promised.Label.{Label}
 use Rattle.type_terms.specs.Promised.Worlds.{World, Reference, StructDecl, TraitDecl, ImplDecl}
 use Rattle.type_terms.specs.Promised.Erased.{erased_world}
@@ -41,6 +41,10 @@ with_trait d x = record d { traits = d.traits ++ x ∷ [] }
 -- One more impl.
 abbrev pub with_impl : Items → HeldImpl → Items
 with_impl d x = record d { impls = d.impls ++ x ∷ [] }
+
+-- So many of the first structs, traits and impls.
+abbrev pub first_items : ℕ → ℕ → ℕ → Items → Items
+first_items s t i d = record d { structs = take s d.structs; traits = take t d.traits; impls = take i d.impls }
 
 -- An impl with the heads that its self type has among the terms of an interner.
 abbrev pub held_impl : List Entry → ImplId → ImplDef → HeldImpl

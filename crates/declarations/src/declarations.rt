@@ -1,5 +1,5 @@
 //! The table of declarations.
-ghost use Rattle.std.specs.Prelude.{◌≡◌, ◌==◌, ◌||◌, List, [], ◌∷◌, ◌++◌, map, filter, true, if◌then◌else◌, Some, IfSome, IfErr, OnOk, OnErr};
+ghost use Rattle.std.specs.Prelude.{◌≡◌, ◌==◌, ◌||◌, ◌-◌, List, [], ◌∷◌, ◌++◌, length, take, map, filter, true, if◌then◌else◌, Some, IfSome, IfErr, OnOk, OnErr};
 ghost use Rattle.std.specs.Option.{option_map};
 ghost use Rattle.type_terms.specs.Promised.Handles.{Entry, Has, types, trees_at};
 ghost use Rattle.type_terms.specs.Terms.{args_lists};
@@ -11,7 +11,7 @@ ghost use Rattle.term_folds.specs.Signatures.{StartsWithType};
 ghost use Rattle.declarations.specs.Apart.{is_fixed};
 ghost use Rattle.declarations.specs.Heads.{label_of, head_of, inner_head_of};
 ghost use Rattle.declarations.specs.Index.{has_key, has_open_head, ids_of, inner_key};
-ghost use Rattle.declarations.specs.Items.{IsOnly, ids_with, ids_headed, reference_in, with_struct, with_trait, with_impl, struct_in, trait_in, impl_in, struct_at, trait_at, impl_at, written, declared, held_impl, IsAbove};
+ghost use Rattle.declarations.specs.Items.{IsOnly, first_items, ids_with, ids_headed, reference_in, with_struct, with_trait, with_impl, struct_in, trait_in, impl_in, struct_at, trait_at, impl_at, written, declared, held_impl, IsAbove};
 ghost use Rattle.declarations.specs.Merges.{Rises, IsMerge};
 ghost use Rattle.declarations.specs.Held.{AreHeld, ReferenceHeld, StructHeld, TraitHeld, ImplHeld};
 ghost use Rattle.declarations.specs.Unsizing.{TellUnsizing};
@@ -19,7 +19,7 @@ ghost use Rattle.declarations.specs.Relevant.{impls_named, relevant_in, matches_
 ghost use Rattle.declarations.specs.Walks.{header_meets, first_that};
 
 use crate::apart::{are_apart, is_fixed};
-use crate::heads::{ImplHead, ImplIds, ImplKey, add_keys, impls_with_key};
+use crate::heads::{ImplHead, ImplIds, ImplKey, add_keys, impls_with_key, take_last_of_keys};
 use crate::items::{AdtDef, ImplDef, TraitDef};
 use crate::merge::{first_above, for_each_merged, ids_above, smaller, split_smaller};
 use crate::simplify::{SimplifiedType, matches_inner, simplify_inner, simplify_type};
@@ -215,6 +215,37 @@ impl Declarations {
         match self.impls.insert(id, entry) {
             Ok(_) => Ok(()),
             Err(_) => unreachable!(),
+        }
+    }
+
+    /// Removes the impl that was added last, if there is one.
+    fn pop_impl(&mut self)
+        ensures { self.new ≡ record self.old { impls = take (length self.old.impls - 1) self.old.impls } }
+    {
+        match self.impls.pop() {
+            Some((_, entry)) => {
+                let header = entry.def.header;
+                let head = ImplHead {
+                    trait_id: header.def_id,
+                    self_ty: entry.self_ty,
+                };
+                let own = own_key(head, header, entry.is_fixed);
+                let deep = inner_key(head, entry.inner);
+                take_last_of_keys(&mut self.keys, ImplKey::Headed(head), own, deep);
+            }
+            None => {}
+        }
+    }
+
+    /// Keeps so many of the first structs, traits and impls, and removes the others. It takes the time of what it removes.
+    pub fn truncate(&mut self, adts: usize, traits: usize, impls: usize)
+        ensures kept { self.new ≡ first_items adts traits impls self.old }
+        ensures held { (es : List Entry) → AreHeld es self.old → AreHeld es self.new }
+    {
+        self.adts.truncate(adts);
+        self.traits.truncate(traits);
+        'impls: while self.impls.len() > impls {
+            self.pop_impl();
         }
     }
 

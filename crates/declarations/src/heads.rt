@@ -178,3 +178,25 @@ pub(crate) fn add_keys(
         }
     }
 }
+
+/// Removes the last impl of those that have the first key, of those that have the second, and of those that have the third if it exists.
+/// It undoes `add_keys`.
+pub(crate) fn take_last_of_keys(
+    keys: &mut IndexMap<ImplKey, ImplIds>,
+    first: ImplKey,
+    second: ImplKey,
+    third: Option<ImplKey>,
+)
+    requires apart { (k : ImplKey) → is_key first k ≡ true → is_key second k ≡ false }
+    requires third_apart { (k : ImplKey) → (is_key first k || is_key second k) ≡ true → is_that_key third k ≡ false }
+    ensures { (id : ImplId) (rest : ImplKey → List ImplId)
+        → ((k : ImplKey) → listed keys.old k ≡ (if (is_key first k || is_key second k) || is_that_key third k then rest k ++ id ∷ [] else rest k))
+        → (k : ImplKey) → listed keys.new k ≡ rest k }
+{
+    take_last(keys, first);
+    take_last(keys, second);
+    match third {
+        Some(key) => take_last(keys, key),
+        None => {}
+    }
+}
