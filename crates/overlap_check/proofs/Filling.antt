@@ -12,7 +12,7 @@ use Rattle.type_terms.proofs.RenumberedTrees.{over-append, over-closed, label-so
 use Rattle.type_terms.specs.Promised.Questions.{FitKinds, of_kind, filled, filled_reference}
 use Rattle.type_terms.proofs.Matching.{or-false-left as no-left}
 
-node : {l m : Label} {c d o p : Trees} → l ≡ m → c ≡ d → o ≡ p → tree l c o ≡ tree m d p
+pub node : {l m : Label} {c d o p : Trees} → l ≡ m → c ≡ d → o ≡ p → tree l c o ≡ tree m d p
 node a b e = cc
 
 -- what holds no unknown is as before

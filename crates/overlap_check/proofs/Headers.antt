@@ -1,5 +1,5 @@
 -- Pairs of impls over the terms of an interner that grows.
-use Rattle.std.proofs.Common.{◌≡◌, ℕ, zero, false, List, [], ◌∷◌, length, map, refl, sym, ap, ◌∙◌, subst, None, Some, ◌⊎◌, inl, inr}
+use Rattle.std.proofs.Common.{◌≡◌, ℕ, zero, false, List, [], ◌∷◌, length, map, refl, sym, ap, ◌∙◌, subst, None, Some}
 use Rattle.std.specs.Prelude.{◌≢◌}
 use Rattle.type_terms.specs.Promised.Trees.{Trees, none, erase, instantiate, some_node}
 use Rattle.type_terms.specs.Promised.Erased.{erased_impl}
@@ -7,10 +7,13 @@ use Rattle.type_terms.specs.Erased.{IsCovered}
 use Rattle.type_terms.specs.Promised.LinkedSet.{is_stray}
 use Rattle.type_terms.specs.Promised.Worlds.{Reference, ImplDecl, all_with_args}
 use Rattle.type_terms.specs.Promised.Handles.{Entry, Keeps, trees_at}
+use Rattle.type_terms.specs.Kinds.{args_trees}
+use Rattle.type_terms.specs.declared.kinds.GenericArgs.{GenericArgs}
+use Rattle.type_terms.specs.declared.kinds.GenericArgKind.{GenericArgKind}
 use Rattle.type_terms.specs.Terms.{Lawful, args_lists}
 use Rattle.type_terms.specs.declared.ImplId.{ImplId}
 use Rattle.term_folds.specs.Arguments.{first_misfit}
-use Rattle.type_terms.specs.Kept.{has-later, trees-later}
+use Rattle.type_terms.specs.Kept.{has-later, trees-later, args-held-later, args-trees-later}
 use Rattle.term_folds.specs.declared.predicate.TraitRef.{TraitRef}
 use Rattle.infer_table.specs.Solutions.{Binding, Equates, HasNoSolution}
 use Rattle.infer_table.specs.Constraints.{constraints_trees}
@@ -28,7 +31,7 @@ use Rattle.declarations.specs.declared.items.ImplDef.{ImplDef}
 use Rattle.declarations.proofs.Growth.{args-same, reference-same, reference-kept, references-kept}
 use Rattle.declarations.proofs.Bounded.{all-same}
 use Rattle.overlap_check.specs.Goals.{unknown_kinds, HasGoals, goal_of}
-use Rattle.overlap_check.specs.Headers.{sorts_of_impl, unknowns_for, with_unknowns_for, IsHeaderOver, args_at, empty_table, pair_table, left_args, right_args, AreDisjointImpls, AreEqualHeaders, resolved_reference, goals_over}
+use Rattle.overlap_check.specs.Headers.{sorts_of_impl, unknowns_for, with_unknowns_for, AreHeaderArgs, IsHeaderOver, args_at, empty_table, pair_table, left_args, right_args, AreDisjointImpls, AreEqualHeaders, resolved_reference, goals_over}
 use Rattle.overlap_check.specs.Written.{IsWrittenWell}
 use Rattle.overlap_check.specs.declared.header.ImplHeader.{ImplHeader}
 use Rattle.overlap_check.proofs.Pairs.{apart, has-goals}
@@ -106,62 +109,57 @@ pair-trees w x old new =
     ap (λ bs. record (table_trees old t) { bindings = bs }) (none_bound old ∙ sym (none_bound new))
     ∙ ap (λ cs. record (table_trees old t) { bindings = content new t.values; constraints = cs }) (none_recorded old ∙ sym (none_recorded new))
 
-module _ (es : List Entry) (lawful : Lawful es) (w x : ImplDef) (hw : ImplHeld es w) (hx : ImplHeld es x) (ww : IsWrittenWell es w) (wx : IsWrittenWell es x)
-    (one two : List Entry) (k1 : Keeps es one) (k2 : Keeps one two) (h1 h2 : ImplHeader) (is1 : IsHeaderOver es empty_table w one h1) (is2 : IsHeaderOver one (with_unknowns_for empty_table w) x two h2) where
-  pub left-at : args_at two h1 ≡ left_args es w
-  left-at = header-later es one two k2 empty_table w h1 is1
+module _ (es : List Entry) (lawful : Lawful es) (w x : ImplDef) (hw : ImplHeld es w) (hx : ImplHeld es x) (ww : IsWrittenWell es w) (wx : IsWrittenWell es x) where
+  -- headers of two traits
+  pub traits-apart : w.header.def_id.index ≢ x.header.def_id.index → AreDisjointImpls es w x
+  traits-apart n i j m = n (ap (λ (r : Reference). r.trait) m.equal)
 
-  pub right-at : args_at two h2 ≡ right_args es w x
-  right-at =
-      ap (λ (r : Reference). r.args) is2.is ∙ ap (instantiate zero (unknowns_for (with_unknowns_for empty_table w) x)) (args-same es one k1 x.header hx.header)
+  module _ (one two : List Entry) (k1 : Keeps es one) (k2 : Keeps one two) (a1 a2 : GenericArgs) (l1 l2 : List GenericArgKind)
+      (is1 : AreHeaderArgs es empty_table w one a1 l1) (is2 : AreHeaderArgs one (with_unknowns_for empty_table w) x two a2 l2) where
+    left-at : args_trees two l1 ≡ left_args es w
+    left-at = args-trees-later one two k2 l1 is1.held ∙ is1.are
 
-  left-trait : h1.trait_ref.def_id.index ≡ w.header.def_id.index
-  left-trait = ap (λ (r : Reference). r.trait) is1.is
+    right-at : args_trees two l2 ≡ right_args es w x
+    right-at = is2.are ∙ ap (instantiate zero (unknowns_for (with_unknowns_for empty_table w) x)) (args-same es one k1 x.header hx.header)
 
-  right-trait : h2.trait_ref.def_id.index ≡ x.header.def_id.index
-  right-trait = ap (λ (r : Reference). r.trait) is2.is
+    -- headers that cannot be made equal
+    pub pair-apart : HasNoSolution (content two (pair_table w x).values) (args_trees two l1) (args_trees two l2) → AreDisjointImpls es w x
+    pair-apart n i j m =
+        apart (impl_in es i w) (impl_in es j x) empty_table (sorts_of_impl w) (sorts_of_impl x)
+        (held-instantiable es lawful i w hw ww empty_table) (held-instantiable es lawful j x hx wx (with_unknowns_for empty_table w))
+        (subst (λ b. HasNoSolution [] (left_args es w) b) right-at (subst (λ a. HasNoSolution [] a (args_trees two l2)) left-at
+        (subst (λ vs. HasNoSolution (content two vs) (args_trees two l1) (args_trees two l2)) (pair-values w x) n))) m
 
-  -- headers that cannot be made equal
-  pub pair-apart : (h1.trait_ref.def_id.index ≢ h2.trait_ref.def_id.index) ⊎ HasNoSolution (content two (pair_table w x).values) (args_at two h1) (args_at two h2) → AreDisjointImpls es w x
-  pair-apart (inl n) i j m = n (left-trait ∙ ap (λ (r : Reference). r.trait) m.equal ∙ sym right-trait)
-  pair-apart (inr n) i j m =
-      apart (impl_in es i w) (impl_in es j x) empty_table (sorts_of_impl w) (sorts_of_impl x)
-      (held-instantiable es lawful i w hw ww empty_table) (held-instantiable es lawful j x hx wx (with_unknowns_for empty_table w))
-      (subst (λ b. HasNoSolution [] (left_args es w) b) right-at (subst (λ a. HasNoSolution [] a (args_at two h2)) left-at
-      (subst (λ vs. HasNoSolution (content two vs) (args_at two h1) (args_at two h2)) (pair-values w x) n))) m
-
-  -- headers that are made equal
-  pub pair-equal : h1.trait_ref.def_id.index ≡ h2.trait_ref.def_id.index → (three : List Entry) → Keeps two three → (u : Table) → Ready three u → Grows (pair_table w x) u
-      → Equates (content two (pair_table w x).values) (content three u.values) (args_at two h1) (args_at two h2)
-      → solved_in_turn (table_trees two (pair_table w x)) (args_at two h1) (args_at two h2) ≡ Some (table_trees three u) → AreEqualHeaders es w x three u h1 h2
-  pair-equal same three k3 u ready grows equates exact =
-      let k23 : Keeps one three = λ j e h. k3 j e (k2 j e h) in
-      record {
-        ready = ready;
-        grows = grows;
-        left_unknowns = record {
-          held = has-later one three k23 args_lists h1.impl_args.0 is1.unknowns.held;
-          are = trees-later one three k23 args_lists h1.impl_args.0 is1.unknowns.held ∙ is1.unknowns.are;
-        };
-        right_unknowns = record {
-          held = has-later two three k3 args_lists h2.impl_args.0 is2.unknowns.held;
-          are = trees-later two three k3 args_lists h2.impl_args.0 is2.unknowns.held ∙ is2.unknowns.are;
-        };
-        left_held = has-later one three k23 args_lists h1.trait_ref.args.0 is1.held;
-        right_held = has-later two three k3 args_lists h2.trait_ref.args.0 is2.held;
-        left_is = header-later es one three k23 empty_table w h1 is1;
-        right_is = args-same two three k3 h2.trait_ref is2.held ∙ right-at;
-        one_trait = sym left-trait ∙ same ∙ right-trait;
-        equates = subst (λ b. Equates [] (content three u.values) (left_args es w) b) right-at (subst (λ a. Equates [] (content three u.values) a (args_at two h2)) left-at
-            (subst (λ vs. Equates (content two vs) (content three u.values) (args_at two h1) (args_at two h2)) (pair-values w x) equates));
-        exact = subst (λ t. solved_in_turn t (left_args es w) (right_args es w x) ≡ Some (table_trees three u)) (pair-trees w x two three)
-            (subst (λ b. solved_in_turn (table_trees two (pair_table w x)) (left_args es w) b ≡ Some (table_trees three u)) right-at
-            (subst (λ a. solved_in_turn (table_trees two (pair_table w x)) a (args_at two h2) ≡ Some (table_trees three u)) left-at exact));
-      }
+    -- headers that are made equal
+    pub pair-equal : w.header.def_id.index ≡ x.header.def_id.index → (three : List Entry) → Keeps two three → (u : Table) → Ready three u → Grows (pair_table w x) u
+        → Equates (content two (pair_table w x).values) (content three u.values) (args_trees two l1) (args_trees two l2)
+        → solved_in_turn (table_trees two (pair_table w x)) (args_trees two l1) (args_trees two l2) ≡ Some (table_trees three u) → AreEqualHeaders es w x three u a1 a2
+    pair-equal same three k3 u ready grows equates exact =
+        let k23 : Keeps one three = λ j e h. k3 j e (k2 j e h) in
+        record {
+          ready = ready;
+          grows = grows;
+          left_unknowns = record {
+            held = has-later one three k23 args_lists a1.0 is1.unknowns.held;
+            are = trees-later one three k23 args_lists a1.0 is1.unknowns.held ∙ is1.unknowns.are;
+          };
+          right_unknowns = record {
+            held = has-later two three k3 args_lists a2.0 is2.unknowns.held;
+            are = trees-later two three k3 args_lists a2.0 is2.unknowns.held ∙ is2.unknowns.are;
+          };
+          left_made = record { args = l1; held = args-held-later one three k23 l1 is1.held; are = args-trees-later one three k23 l1 is1.held ∙ is1.are };
+          right_made = record { args = l2; held = args-held-later two three k3 l2 is2.held; are = args-trees-later two three k3 l2 is2.held ∙ right-at };
+          one_trait = same;
+          equates = subst (λ b. Equates [] (content three u.values) (left_args es w) b) right-at (subst (λ a. Equates [] (content three u.values) a (args_trees two l2)) left-at
+              (subst (λ vs. Equates (content two vs) (content three u.values) (args_trees two l1) (args_trees two l2)) (pair-values w x) equates));
+          exact = subst (λ t. solved_in_turn t (left_args es w) (right_args es w x) ≡ Some (table_trees three u)) (pair-trees w x two three)
+              (subst (λ b. solved_in_turn (table_trees two (pair_table w x)) (left_args es w) b ≡ Some (table_trees three u)) right-at
+              (subst (λ a. solved_in_turn (table_trees two (pair_table w x)) a (args_trees two l2) ≡ Some (table_trees three u)) left-at exact));
+        }
 
 -- the goals of a pair whose headers are equal
 pub pair-goals : (es : List Entry) → Lawful es → (w x : ImplDef) → ImplHeld es w → ImplHeld es x → IsWrittenWell es w → IsWrittenWell es x
-    → (three : List Entry) (u : Table) (h1 h2 : ImplHeader) → AreEqualHeaders es w x three u h1 h2 → (new : List Entry) → Keeps three new → (i j : ImplId)
+    → (three : List Entry) (u : Table) (h1 h2 : GenericArgs) → AreEqualHeaders es w x three u h1 h2 → (new : List Entry) → Keeps three new → (i j : ImplId)
     → HasGoals (erased_impl (impl_in es i w)) (erased_impl (impl_in es j x)) (unknown_kinds u)
     (map (goal_of (content new u.values) (unknowns_for empty_table w)) (references_in es w.clauses.items))
     (map (goal_of (content new u.values) (unknowns_for (with_unknowns_for empty_table w) x)) (references_in es x.clauses.items))

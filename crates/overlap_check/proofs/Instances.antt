@@ -12,9 +12,7 @@ use Rattle.overlap_check.specs.Fresh.{with_unknown, fresh_unknowns, HasArguments
 use Rattle.overlap_check.proofs.Standing.{Gives, default_node, fresh-lifetime, default-sorted as default-sort}
 use Rattle.type_terms.proofs.TermBasics.{joined}
 use Rattle.type_terms.proofs.Matching.{or-false-left as no-left}
-
-pub node : {l m : Label} {c d o p : Trees} → l ≡ m → c ≡ d → o ≡ p → tree l c o ≡ tree m d p
-node a b e = cc
+pub use Rattle.overlap_check.proofs.Filling.{node}
 
 pub no-type : of_type ≡ of_lifetime → ⊥
 no-type e = cc

@@ -15,6 +15,7 @@ pub mod Pairs
 pub mod Verdicts
 pub mod Written
 pub mod Unknowns
+pub mod Arguments
 pub mod Headers
 pub mod Owning
 pub mod Values

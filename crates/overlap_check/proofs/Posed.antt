@@ -1,12 +1,15 @@
 -- What is asked over the table of a pair speaks of the table's own unknowns.
 use Rattle.std.proofs.Common.{◌≡◌, ℕ, zero, suc, ◌<◌, ◌≤◌, arith, Bool, true, false, List, [], ◌∷◌, refl, sym, ap, subst, ◌||◌}
-use Rattle.type_terms.specs.Promised.Label.{Label, Sort, infer, canonical, param, inside}
-use Rattle.type_terms.specs.Promised.Trees.{Trees, none, tree, nth, shift, instantiate, some_node}
+use Rattle.type_terms.specs.Promised.Label.{Label, Sort, infer, canonical, param, inside, principal, auto_trait, predicate, dynamic}
+use Rattle.type_terms.specs.Promised.Trees.{Trees, none, tree, ◌+++◌, nth, shift, instantiate, some_node}
 use Rattle.type_terms.specs.Promised.Worlds.{Reference, with_args, all_with_args}
 use Rattle.type_terms.specs.Promised.Answers.{is_variable}
 use Rattle.type_terms.proofs.Fitting.{child-shut, next-shut, or-no}
-use Rattle.type_terms.specs.Promised.Handles.{Entry, Keeps, Has, trees_at}
+use Rattle.type_terms.specs.Promised.Handles.{Entry, Keeps, Has, ArgsHeld, arg_trees, trees_at}
 use Rattle.type_terms.specs.Terms.{Lawful, args_lists}
+use Rattle.type_terms.specs.Kinds.{args_trees}
+use Rattle.type_terms.specs.declared.kinds.GenericArgs.{GenericArgs}
+use Rattle.type_terms.specs.declared.kinds.GenericArgKind.{GenericArgKind}
 use Rattle.type_terms.specs.Made.{terms, is_made, is_in_range}
 use Rattle.type_terms.proofs.Made.{made-weaker}
 use Rattle.term_folds.specs.declared.predicate.TraitRef.{TraitRef}
@@ -20,16 +23,15 @@ use Rattle.infer_table.specs.Unification.{table_trees}
 use Rattle.infer_table.specs.WellFormed.{is_numbered}
 use Rattle.infer_table.proofs.ContentFacts.{is-trees}
 use Rattle.infer_table.proofs.Covers.{same-unknowns, known-equates}
-use Rattle.infer_table.proofs.Places.{in_terms, AreTrees, AllTrees, trees-of, trees-proper, numbered}
+use Rattle.infer_table.proofs.Places.{in_terms, AreTrees, AllTrees, trees-of, trees-proper, numbered, one-tree, arg-term}
 use Rattle.infer_table.proofs.SolutionLaws.{is_variable-equal}
 use Rattle.declarations.specs.Applied.{references_in}
 use Rattle.declarations.specs.Items.{reference_in}
 use Rattle.declarations.specs.Promised.Elaboration.{Each}
 use Rattle.declarations.specs.declared.items.ImplDef.{ImplDef}
 use Rattle.overlap_check.specs.Fresh.{with_unknown, with_unknowns, fresh_unknowns}
-use Rattle.overlap_check.specs.Headers.{sorts_of_impl, unknowns_for, with_unknowns_for, empty_table, pair_table, left_args, right_args, AreEqualHeaders, IsWithoutVariables, IsOfTable}
+use Rattle.overlap_check.specs.Headers.{sorts_of_impl, unknowns_for, with_unknowns_for, empty_table, pair_table, left_args, right_args, AreArguments, AreEqualHeaders, IsWithoutVariables, IsOfTable}
 use Rattle.overlap_check.specs.Laws.{ValuesAreOfSolutions}
-use Rattle.overlap_check.specs.declared.header.ImplHeader.{ImplHeader}
 use Rattle.overlap_check.proofs.Owning.{IsOwn, AreOwn, AllOwn, NoFewer, own-known, own-clean, own-more, own-append, own-resolved, Ends, turns-own}
 use Rattle.overlap_check.proofs.Headers.{pair-values}
 use Rattle.overlap_check.proofs.Solved.{ready-facts}
@@ -78,6 +80,22 @@ made es lawful i h =
     trees-of is_numbered terms (trees_at es i)
     (made-weaker is_in_range is_numbered numbered terms (trees_at es i) (subst (λ t. is_made is_in_range terms t ≡ true) (sym (is-trees es args_lists i h.0 h.1)) ((lawful.made i _ h.1).as_terms (λ e. cc))))
 
+both-made : (x y : Trees) → AreTrees is_numbered in_terms x → AreTrees is_numbered in_terms y → AreTrees is_numbered in_terms (x +++ y)
+both-made none y h g = g
+both-made (tree (infer k v) c o) y h g = (h.0, h.1, both-made o y h.2 g)
+both-made (tree (principal n t) c o) y h g = absurd h
+both-made (tree (auto_trait i) c o) y h g = absurd h
+both-made (tree (predicate k) c o) y h g = absurd h
+both-made (tree dynamic c o) y h g = (h.0, both-made o y h.1 g)
+both-made (tree l c o) y h g = (h.0, h.1, both-made o y h.2 g, h.3)
+
+all-made : (es : List Entry) → Lawful es → (xs : List GenericArgKind) → ArgsHeld es xs → AreTrees is_numbered in_terms (args_trees es xs)
+all-made es lawful [] h = tt
+all-made es lawful (x ∷ xs) h = both-made (arg_trees es x) (args_trees es xs) (one-tree (arg_trees es x) (arg-term es lawful x h.0)).1 (all-made es lawful xs h.1)
+
+made-arguments : (es : List Entry) → Lawful es → (ts : Trees) → AreArguments es ts → AreTrees is_numbered in_terms ts
+made-arguments es lawful ts is = subst (AreTrees is_numbered in_terms) is.are (all-made es lawful is.args is.held)
+
 -- ---- the table of a pair
 module _ (w x : ImplDef) where
   abbrev pub counts : Sort → ℕ
@@ -106,7 +124,7 @@ each-of es u h (r ∷ rs) g =
     let o = own-resolved (variables_of u) (content es u.values) (trees_at es r.args.0) h g.0 in
     (record { known = own-known (variables_of u) (resolved (content es u.values) (trees_at es r.args.0)) o; clean = own-clean (variables_of u) (resolved (content es u.values) (trees_at es r.args.0)) o }, each-of es u h rs g.1)
 
-module _ (es : List Entry) (w x : ImplDef) (vw : IsWithoutVariables es w) (vx : IsWithoutVariables es x) (three new : List Entry) (lawful : Lawful three) (u : Table) (h1 h2 : ImplHeader)
+module _ (es : List Entry) (w x : ImplDef) (vw : IsWithoutVariables es w) (vx : IsWithoutVariables es x) (three new : List Entry) (lawful : Lawful three) (u : Table) (h1 h2 : GenericArgs)
     (equal : AreEqualHeaders es w x three u h1 h2) (k : Keeps three new) where
   abbrev n : Sort → ℕ
   n = variables_of (pair_table w x)
@@ -124,8 +142,8 @@ module _ (es : List Entry) (w x : ImplDef) (vw : IsWithoutVariables es w) (vx : 
   ends =
       turns-own is_numbered opens (table_trees three (pair_table w x)) (table_trees three u) (left_args es w) (right_args es w x)
       (subst (AllOwn (unknowns_of (table_trees three (pair_table w x)))) (sym no-values) tt, subst (AllTrees is_numbered) (sym no-values) tt)
-      (subst (λ (c : Sort → ℕ). AreOwn c (left_args es w)) (sym (same-unknowns three (pair_table w x))) left-terms, subst (AreTrees is_numbered in_terms) equal.left_is (made three lawful h1.trait_ref.args.0 equal.left_held))
-      (subst (λ (c : Sort → ℕ). AreOwn c (right_args es w x)) (sym (same-unknowns three (pair_table w x))) right-terms, subst (AreTrees is_numbered in_terms) equal.right_is (made three lawful h2.trait_ref.args.0 equal.right_held))
+      (subst (λ (c : Sort → ℕ). AreOwn c (left_args es w)) (sym (same-unknowns three (pair_table w x))) left-terms, made-arguments three lawful (left_args es w) equal.left_made)
+      (subst (λ (c : Sort → ℕ). AreOwn c (right_args es w x)) (sym (same-unknowns three (pair_table w x))) right-terms, made-arguments three lawful (right_args es w x) equal.right_made)
       equal.exact
 
   kept : content new u.values ≡ content three u.values

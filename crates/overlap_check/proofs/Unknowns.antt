@@ -12,7 +12,7 @@ use Rattle.type_terms.specs.Kept.{args-trees-later}
 use Rattle.infer_table.specs.Content.{Table, variables_of}
 use Rattle.overlap_check.specs.Fresh.{with_unknown, with_unknowns, fresh_unknowns}
 
-last-arg : (es : List Entry) (xs : List GenericArgKind) (a : GenericArgKind) (y : Trees) → args_trees es (xs ++ a ∷ []) +++ y ≡ args_trees es xs +++ (arg_trees es a +++ y)
+pub last-arg : (es : List Entry) (xs : List GenericArgKind) (a : GenericArgKind) (y : Trees) → args_trees es (xs ++ a ∷ []) +++ y ≡ args_trees es xs +++ (arg_trees es a +++ y)
 last-arg es [] a y = ap (λ t. t +++ y) (append-none (arg_trees es a))
 last-arg es (x ∷ xs) a y =
     append-assoc (arg_trees es x) (args_trees es (xs ++ a ∷ [])) y ∙ ap (λ t. arg_trees es x +++ t) (last-arg es xs a y)

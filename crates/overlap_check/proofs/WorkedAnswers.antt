@@ -6,7 +6,7 @@ use Rattle.type_terms.specs.Promised.Worlds.{World, ImplDecl, StructDecl, Refere
 use Rattle.type_terms.specs.Promised.Rules.{asked, by_impl, by_clause, Rule}
 use Rattle.type_terms.specs.Promised.Proofs.{In, HasProof, HasProofByImpl}
 use Rattle.type_terms.specs.Promised.Answers.{is_closed, AtMostOne, IsUnambiguous}
-use Rattle.type_terms.proofs.WorkedProofs.{no-rule, one-rule}
+use Rattle.type_terms.proofs.WorkedProofs.{no-rule, one-rule, one-way}
 use Rattle.type_terms.specs.Promised.Core.{core_world}
 use Rattle.type_terms.specs.Promised.Renumbering.{Renumbering, View, HoldsView, renumbered_struct}
 use Rattle.type_terms.specs.Promised.LinkedSet.{IsOfAnAnsweredCrate, LinkedSet}
@@ -114,11 +114,6 @@ values-of-both-kinds = (
 
 abbrev P : Trees
 P = leaf (placeholder of_type 0)
-
-one-way : (W : World) (E : List Reference) (u : Rule) → AtMostOne W E (u ∷ [])
-one-way W E u zero zero v w hv hw pv pw = refl
-one-way W E u zero (suc j) v w hv hw pv pw = cc
-one-way W E u (suc i) j v w hv hw pv pw = cc
 
 decided : IsUnambiguous 8 show_world [] (asked 20 (applied 10 u8))
 decided = (refl, (one-way show_world [] _, (((one-way show_world [] _, (tt, tt)), tt), tt)))

@@ -5,9 +5,12 @@ use Rattle.type_terms.specs.Promised.Trees.{Trees, erase, instantiate, some_node
 use Rattle.type_terms.specs.Promised.Erased.{erased_impl}
 use Rattle.type_terms.specs.Promised.Worlds.{Reference, with_args, all_with_args}
 use Rattle.type_terms.specs.Promised.Answers.{CommonInstance, is_variable}
-use Rattle.type_terms.specs.Promised.Handles.{Entry, Has, trees_at}
+use Rattle.type_terms.specs.Promised.Handles.{Entry, Has, ArgsHeld, trees_at}
+use Rattle.type_terms.specs.Kinds.{args_trees}
 use Rattle.type_terms.specs.Terms.{args_lists}
 use Rattle.type_terms.specs.declared.ImplId.{ImplId}
+use Rattle.type_terms.specs.declared.kinds.GenericArgs.{GenericArgs}
+use Rattle.type_terms.specs.declared.kinds.GenericArgKind.{GenericArgKind}
 use Rattle.term_folds.specs.declared.predicate.TraitRef.{TraitRef}
 use Rattle.infer_table.specs.Solutions.{Assignment, Binding, Equates, instance, resolved}
 use Rattle.infer_table.specs.Applied.{solved_in_turn}
@@ -37,16 +40,28 @@ unknowns_for t def = fresh_unknowns t (sorts_of_impl def)
 abbrev pub with_unknowns_for : Table → ImplDef → Table
 with_unknowns_for t def = with_unknowns t (sorts_of_impl def)
 
--- The header's list of arguments is that of the table's next variables for the impl's parameters.
-pub record IsUnknownsFor (es : List Entry) (t : Table) (def : ImplDef) (h : ImplHeader) : Type 0 where
-  pub held : Has es args_lists h.impl_args.0
-  pub are : trees_at es h.impl_args.0 ≡ unknowns_for t def
+-- The list is that of the table's next variables for the impl's parameters.
+pub record IsUnknownsFor (es : List Entry) (t : Table) (def : ImplDef) (list : GenericArgs) : Type 0 where
+  pub held : Has es args_lists list.0
+  pub are : trees_at es list.0 ≡ unknowns_for t def
 
 -- The header is that of the impl, with the table's next variables for the parameters. The interner may have grown.
 pub record IsHeaderOver (old : List Entry) (t : Table) (def : ImplDef) (new : List Entry) (h : ImplHeader) : Type 0 where
-  pub unknowns : IsUnknownsFor new t def h
+  pub unknowns : IsUnknownsFor new t def h.impl_args
   pub held : ReferenceHeld new h.trait_ref
   pub is : reference_in new h.trait_ref ≡ with_args (unknowns_for t def) (reference_in old def.header)
+
+-- The arguments are those of the impl's header, with the table's next variables for the parameters. The interner may have grown.
+pub record AreHeaderArgs (old : List Entry) (t : Table) (def : ImplDef) (new : List Entry) (list : GenericArgs) (args : List GenericArgKind) : Type 0 where
+  pub unknowns : IsUnknownsFor new t def list
+  pub held : ArgsHeld new args
+  pub are : args_trees new args ≡ instantiate zero (unknowns_for t def) (trees_at old def.header.args.0)
+
+-- The terms are arguments over an interner.
+pub record AreArguments (es : List Entry) (ts : Trees) : Type 0 where
+  pub args : List GenericArgKind
+  pub held : ArgsHeld es args
+  pub are : args_trees es args ≡ ts
 
 -- The arguments of the header's trait reference.
 abbrev pub args_at : List Entry → ImplHeader → Trees
@@ -73,17 +88,15 @@ right_args es w x = instantiate zero (unknowns_for (with_unknowns_for empty_tabl
 abbrev pub AreDisjointImpls : List Entry → ImplDef → ImplDef → Type 0
 AreDisjointImpls es w x = (i j : ImplId) → CommonInstance (erased_impl (impl_in es i w)) (erased_impl (impl_in es j x)) → ⊥
 
--- The headers are equated in this table: its solutions are the values that make them equal. The table depends only on the headers as terms.
--- The interner may have grown.
-pub record AreEqualHeaders (old : List Entry) (w x : ImplDef) (new : List Entry) (u : Table) (left right : ImplHeader) : Type 0 where
+-- The headers, with these variables for the parameters, are equated in this table: its solutions are the values that make them equal. The
+-- table depends only on the headers as terms. The interner may have grown.
+pub record AreEqualHeaders (old : List Entry) (w x : ImplDef) (new : List Entry) (u : Table) (left right : GenericArgs) : Type 0 where
   pub ready : Ready new u
   pub grows : Grows (pair_table w x) u
   pub left_unknowns : IsUnknownsFor new empty_table w left
   pub right_unknowns : IsUnknownsFor new (with_unknowns_for empty_table w) x right
-  pub left_held : ReferenceHeld new left.trait_ref
-  pub right_held : ReferenceHeld new right.trait_ref
-  pub left_is : args_at new left ≡ left_args old w
-  pub right_is : args_at new right ≡ right_args old w x
+  pub left_made : AreArguments new (left_args old w)
+  pub right_made : AreArguments new (right_args old w x)
   pub one_trait : w.header.def_id.index ≡ x.header.def_id.index
   pub equates : Equates [] (content new u.values) (left_args old w) (right_args old w x)
   pub exact : solved_in_turn (table_trees new (pair_table w x)) (left_args old w) (right_args old w x) ≡ Some (table_trees new u)

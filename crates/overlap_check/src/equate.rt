@@ -19,7 +19,7 @@ use type_terms::interner::Interner;
 use type_terms::kinds::GenericArgKind;
 
 /// Equates two lists of arguments, position by position. Lists of different lengths have no solution.
-fn equate_args(
+pub(crate) fn equate_args(
     cx: &mut Interner,
     table: &mut InferCtxt,
     left: &[GenericArgKind],

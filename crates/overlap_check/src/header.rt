@@ -1,8 +1,10 @@
 //! Headers and where-clauses of impls, with fresh inference variables for the parameters.
-ghost use Rattle.std.specs.Prelude.{◌≡◌, IfOk, OnOk, None};
+ghost use Rattle.std.specs.Prelude.{◌≡◌, zero, IfOk, IfSome, OnOk, None};
 ghost use Rattle.type_terms.specs.Trees.{outer_binder};
+ghost use Rattle.type_terms.specs.Promised.Trees.{instantiate};
 ghost use Rattle.type_terms.specs.Promised.Worlds.{with_args, all_with_args};
-ghost use Rattle.type_terms.specs.Promised.Handles.{Has, trees_at};
+ghost use Rattle.type_terms.specs.Promised.Handles.{Has, ArgHeld, ArgsHeld, arg_trees, trees_at};
+ghost use Rattle.type_terms.specs.Kinds.{args_trees};
 ghost use Rattle.type_terms.specs.Terms.{args_lists};
 ghost use Rattle.term_folds.specs.Arguments.{first_misfit};
 ghost use Rattle.type_terms.specs.Growth.{GrewOrFull};
@@ -11,7 +13,7 @@ ghost use Rattle.declarations.specs.Applied.{references_in, TraitRefsHeld};
 ghost use Rattle.declarations.specs.Held.{ReferenceHeld, ImplHeld};
 ghost use Rattle.declarations.specs.Items.{reference_in};
 ghost use Rattle.declarations.specs.Promised.Elaboration.{Each};
-ghost use Rattle.overlap_check.specs.Headers.{with_unknowns_for, IsHeaderOver};
+ghost use Rattle.overlap_check.specs.Headers.{with_unknowns_for, AreHeaderArgs, IsHeaderOver};
 ghost use Rattle.overlap_check.specs.Written.{IsWrittenWell};
 
 use crate::fresh::fresh_args_for_item;
@@ -23,8 +25,9 @@ use term_folds::instantiate::InstantiateError;
 use term_folds::laws::closed_arguments_are_in_range;
 use term_folds::predicate::TraitRef;
 use type_terms::Fault;
+use type_terms::flags::TypeFlags;
 use type_terms::interner::Interner;
-use type_terms::kinds::GenericArgs;
+use type_terms::kinds::{GenericArgKind, GenericArgs, TyKind};
 
 /// The header of an impl with inference variables for its parameters: `?0` and `V<?0>: Show` for `impl<T> Show for V<T>`. rustc:
 /// `ImplHeader`.
@@ -34,6 +37,90 @@ pub struct ImplHeader {
     pub impl_args: GenericArgs,
     /// The trait reference that the impl implements, with the variables.
     pub trait_ref: TraitRef,
+}
+
+/// Returns an argument with arguments in place of its parameters, if nothing is to be folded for that: the argument is a type parameter, or a
+/// type without parameters. `None` otherwise.
+fn plain_instance(
+    cx: &Interner,
+    written: GenericArgKind,
+    args: GenericArgs,
+) -> Option<GenericArgKind>
+    requires held { ArgHeld cx.now.entries written }
+    requires args { Has cx.now.entries args_lists args.0 }
+    ensures held { IfSome result (λ a. ArgHeld cx.now.entries a) }
+    ensures is { IfSome result (λ a. arg_trees cx.now.entries a
+        ≡ instantiate zero (trees_at cx.now.entries args.0) (arg_trees cx.now.entries written)) }
+{
+    cx.lawful();
+    let GenericArgKind::Ty(ty) = written else {
+        return None;
+    };
+    match cx.kind(ty) {
+        TyKind::Param(index) => cx.args(args).get(index as usize).copied(),
+        _ => {
+            if cx.flags(ty).0 & TypeFlags::HAS_PARAM.0 == 0 {
+                Some(written)
+            } else {
+                None
+            }
+        }
+    }
+}
+
+/// Instantiates an argument. Fails with `Memory` or `Full`.
+fn instantiate_arg(
+    alloc: Global,
+    cx: &mut Interner,
+    written: GenericArgKind,
+    args: GenericArgs,
+) -> Result<GenericArgKind, Fault>
+    requires held { ArgHeld cx.old.entries written }
+    requires args { Has cx.old.entries args_lists args.0 }
+    requires closed { outer_binder (trees_at cx.old.entries args.0) ≡ 0 }
+    requires fits { first_misfit (trees_at cx.old.entries args.0) (arg_trees cx.old.entries written) ≡ None }
+    ensures terms { GrewOrFull cx.old cx.new result }
+    ensures held { IfOk result (λ a. ArgHeld cx.new.entries a) }
+    ensures is { IfOk result (λ a. arg_trees cx.new.entries a
+        ≡ instantiate zero (trees_at cx.old.entries args.0) (arg_trees cx.old.entries written)) }
+{
+    if let Some(found) = plain_instance(cx, written, args) {
+        return Ok(found);
+    }
+    closed_arguments_are_in_range();
+    match EarlyBinder::bind(written).instantiate(alloc, cx, args) {
+        Ok(instance) => Ok(instance),
+        Err(InstantiateError::Fault(fault)) => Err(fault),
+        Err(InstantiateError::ParamOutOfRange) => unreachable!(),
+        Err(InstantiateError::ParamKind) => unreachable!(),
+    }
+}
+
+/// Instantiates each argument of a list, in order. Fails with `Memory` or `Full`.
+fn instantiate_args(
+    alloc: Global,
+    cx: &mut Interner,
+    written: GenericArgs,
+    args: GenericArgs,
+) -> Result<Vec<GenericArgKind>, Fault>
+    requires held { Has cx.old.entries args_lists written.0 }
+    requires args { Has cx.old.entries args_lists args.0 }
+    requires closed { outer_binder (trees_at cx.old.entries args.0) ≡ 0 }
+    requires fits { first_misfit (trees_at cx.old.entries args.0) (trees_at cx.old.entries written.0) ≡ None }
+    ensures terms { GrewOrFull cx.old cx.new result }
+    ensures held { IfOk result (λ v. ArgsHeld cx.new.entries v.items) }
+    ensures are { IfOk result (λ v. args_trees cx.new.entries v.items
+        ≡ instantiate zero (trees_at cx.old.entries args.0) (trees_at cx.old.entries written.0)) }
+{
+    let list = Vec::from_slice(alloc, cx.args(written))?;
+    let mut found = Vec::new(alloc);
+    let mut left = list.as_slice();
+    'each: while let Some((arg, others)) = left.split_first() {
+        let next = instantiate_arg(alloc, cx, *arg, args)?;
+        found.push(next)?;
+        left = others;
+    }
+    Ok(found)
 }
 
 /// Instantiates a trait reference: arguments replace its parameters. Fails with `Memory` or `Full`.
@@ -51,13 +138,12 @@ pub fn instantiate_trait_ref(
     ensures held { IfOk result (ReferenceHeld cx.new.entries) }
     ensures is { IfOk result (λ r. reference_in cx.new.entries r ≡ with_args (trees_at cx.old.entries args.0) (reference_in cx.old.entries trait_ref)) }
 {
-    closed_arguments_are_in_range();
-    match EarlyBinder::bind(trait_ref).instantiate(alloc, cx, args) {
-        Ok(instance) => Ok(instance),
-        Err(InstantiateError::Fault(fault)) => Err(fault),
-        Err(InstantiateError::ParamOutOfRange) => unreachable!(),
-        Err(InstantiateError::ParamKind) => unreachable!(),
-    }
+    let list = instantiate_args(alloc, cx, trait_ref.args, args)?;
+    let instance = cx.mk_args(list)?;
+    Ok(TraitRef {
+        def_id: trait_ref.def_id,
+        args: instance,
+    })
 }
 
 /// Instantiates each where-clause, in order. Fails with `Memory` or `Full`. rustc: `predicates_of(..).instantiate`.
@@ -84,6 +170,27 @@ pub fn instantiate_clauses(
         left = others;
     }
     Ok(found)
+}
+
+/// Returns new inference variables for the parameters of an impl, and the arguments of its header with them: `?0` and `V<?0>, bool` for
+/// `impl<T> Show<bool> for V<T>`. It fails like `fresh_impl_header`, and makes no trait reference.
+pub(crate) fn fresh_header_args(
+    alloc: Global,
+    cx: &mut Interner,
+    table: &mut InferCtxt,
+    def: &ImplDef,
+) -> Result<(GenericArgs, Vec<GenericArgKind>), Fault>
+    requires ready { Ready cx.old.entries table.old }
+    requires held { ImplHeld cx.old.entries def.now }
+    requires written { IsWrittenWell cx.old.entries def.now }
+    ensures ready { Ready cx.new.entries table.new }
+    ensures terms { GrewOrFull cx.old cx.new result }
+    ensures header { IfOk result (λ h. AreHeaderArgs cx.old.entries table.old def.now cx.new.entries h.0 h.1.items) }
+    ensures made { OnOk result (table.new ≡ with_unknowns_for table.old def.now) }
+{
+    let impl_args = fresh_args_for_item(alloc, cx, table, &def.params)?;
+    let list = instantiate_args(alloc, cx, def.header.args, impl_args)?;
+    Ok((impl_args, list))
 }
 
 /// Returns the header of an impl with new inference variables for its parameters. rustc: `fresh_impl_header`.

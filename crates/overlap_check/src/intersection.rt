@@ -10,8 +10,8 @@ ghost use Rattle.overlap_check.specs.Headers.{AreDisjointImpls, AreEqualHeaders,
 ghost use Rattle.overlap_check.specs.Headers.{IsUnknownsFor, IsWithoutVariables, empty_table};
 ghost use Rattle.overlap_check.specs.Written.{IsWrittenWell};
 
-use crate::equate::equate_impl_headers;
-use crate::header::{ImplHeader, fresh_impl_header, instantiate_clauses};
+use crate::equate::equate_args;
+use crate::header::{fresh_header_args, instantiate_clauses};
 use declarations::items::ImplDef;
 use infer_table::certainty::EqError;
 use infer_table::infer_ctxt::InferCtxt;
@@ -19,6 +19,7 @@ use std::alloc::Global;
 use term_folds::predicate::TraitRef;
 use type_terms::Fault;
 use type_terms::interner::Interner;
+use type_terms::kinds::GenericArgs;
 
 /// Two impls whose headers have a common instance.
 ///
@@ -79,22 +80,23 @@ pub fn impl_intersection(
 {
     cx.lawful();
     let mut table = InferCtxt::new(alloc);
-    let Some(headers) = equate_fresh_headers(alloc, cx, &mut table, left, right)? else {
+    let Some(unknowns) = equate_fresh_headers(alloc, cx, &mut table, left, right)? else {
         return Ok(None);
     };
     cx.lawful();
-    let (left, right) = instantiate_both(alloc, cx, left, right, headers.0, headers.1)?;
+    let (left, right) = instantiate_both(alloc, cx, left, right, unknowns.0, unknowns.1)?;
     Ok(Some(ImplIntersection { table, left, right }))
 }
 
-/// Equates the headers of two impls in an empty table, with new variables for the parameters of both. `None` if that is impossible.
+/// Equates the headers of two impls in an empty table, with new variables for the parameters of both, and returns these. `None` if that is
+/// impossible.
 fn equate_fresh_headers(
     alloc: Global,
     cx: &mut Interner,
     table: &mut InferCtxt,
     left: &ImplDef,
     right: &ImplDef,
-) -> Result<Option<(ImplHeader, ImplHeader)>, Fault>
+) -> Result<Option<(GenericArgs, GenericArgs)>, Fault>
     requires empty { table.old ≡ empty_table }
     requires left_held { ImplHeld cx.old.entries left.now }
     requires right_held { ImplHeld cx.old.entries right.now }
@@ -105,39 +107,42 @@ fn equate_fresh_headers(
     ensures equal { IfOk result (λ found. IfSome found (λ h. AreEqualHeaders cx.old.entries left.now right.now cx.new.entries table.new h.0 h.1)) }
 {
     cx.lawful();
-    let left_header = fresh_impl_header(alloc, cx, table, left)?;
-    let right_header = fresh_impl_header(alloc, cx, table, right)?;
-    match equate_impl_headers(alloc, cx, table, left_header, right_header) {
-        Ok(()) => Ok(Some((left_header, right_header))),
+    if left.header.def_id != right.header.def_id {
+        return Ok(None);
+    }
+    let (left_unknowns, left_args) = fresh_header_args(alloc, cx, table, left)?;
+    let (right_unknowns, right_args) = fresh_header_args(alloc, cx, table, right)?;
+    match equate_args(cx, table, &left_args, &right_args) {
+        Ok(()) => Ok(Some((left_unknowns, right_unknowns))),
         Err(EqError::NoSolution) => Ok(None),
         Err(EqError::Fault(fault)) => Err(fault),
     }
 }
 
-/// Instantiates the where-clauses of both impls with the variables of their headers.
+/// Instantiates the where-clauses of both impls with the variables for their parameters.
 fn instantiate_both(
     alloc: Global,
     cx: &mut Interner,
     left: &ImplDef,
     right: &ImplDef,
-    left_header: ImplHeader,
-    right_header: ImplHeader,
+    left_unknowns: GenericArgs,
+    right_unknowns: GenericArgs,
 ) -> Result<(Vec<TraitRef>, Vec<TraitRef>), Fault>
     requires left_held { ImplHeld cx.old.entries left.now }
     requires right_held { ImplHeld cx.old.entries right.now }
     requires left_written { IsWrittenWell cx.old.entries left.now }
     requires right_written { IsWrittenWell cx.old.entries right.now }
-    requires left_args { (t : Table) × IsUnknownsFor cx.old.entries t left.now left_header }
-    requires right_args { (t : Table) × IsUnknownsFor cx.old.entries t right.now right_header }
+    requires left_args { (t : Table) × IsUnknownsFor cx.old.entries t left.now left_unknowns }
+    requires right_args { (t : Table) × IsUnknownsFor cx.old.entries t right.now right_unknowns }
     ensures terms { GrewOrFull cx.old cx.new result }
     ensures left_held { IfOk result (λ v. TraitRefsHeld cx.new.entries v.0.items) }
     ensures right_held { IfOk result (λ v. TraitRefsHeld cx.new.entries v.1.items) }
     ensures left { IfOk result (λ v. references_in cx.new.entries v.0.items
-        ≡ all_with_args (trees_at cx.old.entries left_header.impl_args.0) (references_in cx.old.entries left.now.clauses.items)) }
+        ≡ all_with_args (trees_at cx.old.entries left_unknowns.0) (references_in cx.old.entries left.now.clauses.items)) }
     ensures right { IfOk result (λ v. references_in cx.new.entries v.1.items
-        ≡ all_with_args (trees_at cx.old.entries right_header.impl_args.0) (references_in cx.old.entries right.now.clauses.items)) }
+        ≡ all_with_args (trees_at cx.old.entries right_unknowns.0) (references_in cx.old.entries right.now.clauses.items)) }
 {
-    let left_clauses = instantiate_clauses(alloc, cx, &left.clauses, left_header.impl_args)?;
-    let right_clauses = instantiate_clauses(alloc, cx, &right.clauses, right_header.impl_args)?;
+    let left_clauses = instantiate_clauses(alloc, cx, &left.clauses, left_unknowns)?;
+    let right_clauses = instantiate_clauses(alloc, cx, &right.clauses, right_unknowns)?;
     Ok((left_clauses, right_clauses))
 }

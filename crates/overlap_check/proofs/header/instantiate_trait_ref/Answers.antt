@@ -1,22 +1,21 @@
-use Rattle.std.proofs.Common.{ap, ◌∙◌, [], ◌∷◌, Err}
-use Rattle.term_folds.specs.declared.instantiate.InstantiateError.TheVariants as error
-use Rattle.type_terms.specs.Promised.Handles.{trees_at}
-use Rattle.term_folds.specs.declared.predicate.TraitRef.{TraitRef}
-use Rattle.type_terms.specs.Pieces.{each_piece, one_piece}
-use Rattle.type_terms.specs.Promised.Trees.{instantiate}
-use Rattle.declarations.proofs.Bounded.{one-instantiated}
+use Rattle.std.proofs.Common.{ap, ◌∙◌, Err, arith}
+use Rattle.type_terms.specs.Promised.Trees.{Trees}
+use Rattle.type_terms.specs.Promised.Worlds.{Reference}
+use Rattle.type_terms.specs.Terms.{args_lists}
+use Rattle.type_terms.specs.Kept.{trees-is}
+use Rattle.type_terms.proofs.FailFacts.{refused-term, at-limit}
+use Rattle.type_terms.proofs.Grown.{grew-on}
 use Rattle.overlap_check.proofs.header.instantiate_trait_ref.Goals as goal
 
-pub returns-in-Ok-clause-is : goal.returns-in-Ok-clause-is
-returns-in-Ok-clause-is c =
-    let old = c.args.cx.now.entries in
-    let new = c.instantiate.new.cx.entries in
-    let value = c.bind.ensures in
-    one-instantiated old new (trees_at old c.args.args.0) c.args.trait_ref c.in-Ok.instance (c.in-Ok.ensures.outline ∙ ap (λ (b : TraitRef). b.def_id.index ∷ []) value)
-    (c.in-Ok.ensures.instantiated ∙ ap (λ (b : TraitRef). each_piece (λ d t. instantiate d (trees_at old c.args.args.0) t) (one_piece (trees_at old b.args.0))) value)
+pub returns-clause-is : goal.returns-clause-is
+returns-clause-is c =
+    ap (λ (t : Trees). let s : Reference = record { trait = c.args.trait_ref.def_id.index; args = t } in s)
+    (trees-is c.mk_args.new.self.entries args_lists c.in_ok-instance.instance.0 _ c.in_ok-instance.ensures.is ∙ c.in_ok-list.ensures.are)
 
-pub returns-in-Err-Fault-clause-terms : goal.returns-in-Err-Fault-clause-terms
-returns-in-Err-Fault-clause-terms c = record {
-  grew = c.instantiate.ensures.grew;
-  full = λ q. c.in-Err-Fault.ensures.full (ap Err (c.in-Err-Fault.field-0-is ∙ ap error.Fault q));
+pub returns-in_err-instance-clause-terms : goal.returns-in_err-instance-clause-terms
+returns-in_err-instance-clause-terms c = record {
+  grew = grew-on c.instantiate_args.ensures.terms.grew c.mk_args.ensures.grew;
+  full =
+      let refused = c.in_err-instance.ensures in
+      at-limit c.from_residual-in_err-instance.result c.from_residual-in_err-instance.ensures.1 (λ p. refused-term args_lists (omega arith) (refused.full (ap Err p)) refused.grew.limit refused.refused);
 }

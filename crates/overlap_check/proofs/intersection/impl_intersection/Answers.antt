@@ -11,13 +11,13 @@ use Rattle.declarations.specs.Items.{impl_in}
 use Rattle.declarations.proofs.Bounded.{all-same}
 use Rattle.overlap_check.specs.Goals.{HasGoals, unknown_kinds, goal_of}
 use Rattle.overlap_check.specs.Headers.{AreEqualHeaders, unknowns_for, empty_table, with_unknowns_for, left_args, right_args, goals_over}
-use Rattle.overlap_check.specs.declared.header.ImplHeader.{ImplHeader}
+use Rattle.type_terms.specs.declared.kinds.GenericArgs.{GenericArgs}
 use Rattle.overlap_check.proofs.Headers.{impl-later, well-later, pair-goals, pair-trees, asked-are, same-entries}
 use Rattle.overlap_check.proofs.Posed.{table-known, left-of-table, right-of-table}
 use Rattle.overlap_check.proofs.intersection.impl_intersection.Goals as goal
 
 pub returns-in_default-clause-apart : goal.returns-in_default-clause-apart
-returns-in_default-clause-apart c = λ _. c.in_ok-headers.ensures.apart (ap Ok c.in_default.is)
+returns-in_default-clause-apart c = λ _. c.in_ok-unknowns.ensures.apart (ap Ok c.in_default.is)
 
 pub instantiate_both-requires-clause-left_held : goal.instantiate_both-requires-clause-left_held
 instantiate_both-requires-clause-left_held c = impl-later c.args.cx.now.entries c.equate_fresh_headers.new.cx.entries c.equate_fresh_headers.ensures.terms.grew.keeps c.args.left.now c.requires.left_held
@@ -41,16 +41,16 @@ returns-clause-found c =
     let w = c.args.left.now in
     let x = c.args.right.now in
     let u = c.equate_fresh_headers.new.table in
-    let h = c.in-Some.headers in
+    let h = c.in-Some.unknowns in
     let k1 = c.equate_fresh_headers.ensures.terms.grew.keeps in
     let k2 = c.instantiate_both.ensures.terms.grew.keeps in
-    let equal : AreEqualHeaders es w x three u h.0 h.1 = subst (λ o. IfSome o (λ (p : ImplHeader × ImplHeader). AreEqualHeaders es w x three u p.0 p.1)) c.in-Some.is c.in_ok-headers.ensures.equal in
+    let equal : AreEqualHeaders es w x three u h.0 h.1 = subst (λ o. IfSome o (λ (p : GenericArgs × GenericArgs). AreEqualHeaders es w x three u p.0 p.1)) c.in-Some.is c.in_ok-unknowns.ensures.equal in
     let ls = c.in_ok-left.left.items in
     let rs = c.in_ok-left.right.items in
     let I = unknowns_for empty_table w in
     let J = unknowns_for (with_unknowns_for empty_table w) x in
-    let left = asked-are es three new new k1 (same-entries new) empty_table u w c.requires.left_held h.0.impl_args.0 equal.left_unknowns.are ls c.in_ok-left.ensures.left_held c.in_ok-left.ensures.left in
-    let right = asked-are es three new new k1 (same-entries new) (with_unknowns_for empty_table w) u x c.requires.right_held h.1.impl_args.0 equal.right_unknowns.are rs c.in_ok-left.ensures.right_held c.in_ok-left.ensures.right in
+    let left = asked-are es three new new k1 (same-entries new) empty_table u w c.requires.left_held h.0.0 equal.left_unknowns.are ls c.in_ok-left.ensures.left_held c.in_ok-left.ensures.left in
+    let right = asked-are es three new new k1 (same-entries new) (with_unknowns_for empty_table w) u x c.requires.right_held h.1.0 equal.right_unknowns.are rs c.in_ok-left.ensures.right_held c.in_ok-left.ensures.right in
     record {
       ready = ready-later three new u k2 equal.ready;
       left_held = c.in_ok-left.ensures.left_held;
@@ -69,10 +69,10 @@ returns-clause-posed c = λ vw vx.
     let w = c.args.left.now in
     let x = c.args.right.now in
     let u = c.equate_fresh_headers.new.table in
-    let h = c.in-Some.headers in
+    let h = c.in-Some.unknowns in
     let k1 = c.equate_fresh_headers.ensures.terms.grew.keeps in
     let k2 = c.instantiate_both.ensures.terms.grew.keeps in
-    let equal : AreEqualHeaders es w x three u h.0 h.1 = subst (λ o. IfSome o (λ (p : ImplHeader × ImplHeader). AreEqualHeaders es w x three u p.0 p.1)) c.in-Some.is c.in_ok-headers.ensures.equal in
+    let equal : AreEqualHeaders es w x three u h.0 h.1 = subst (λ o. IfSome o (λ (p : GenericArgs × GenericArgs). AreEqualHeaders es w x three u p.0 p.1)) c.in-Some.is c.in_ok-unknowns.ensures.equal in
     let I = unknowns_for empty_table w in
     let J = unknowns_for (with_unknowns_for empty_table w) x in
     let left = c.in_ok-left.ensures.left ∙ ap (λ A. all_with_args A (references_in three w.clauses.items)) equal.left_unknowns.are ∙ ap (all_with_args I) (all-same es three k1 w.clauses.items c.requires.left_held.clauses) in
@@ -91,10 +91,10 @@ returns-clause-solved c =
     let w = c.args.left.now in
     let x = c.args.right.now in
     let u = c.equate_fresh_headers.new.table in
-    let h = c.in-Some.headers in
+    let h = c.in-Some.unknowns in
     let k1 = c.equate_fresh_headers.ensures.terms.grew.keeps in
     let k2 = c.instantiate_both.ensures.terms.grew.keeps in
-    let equal : AreEqualHeaders es w x three u h.0 h.1 = subst (λ o. IfSome o (λ (p : ImplHeader × ImplHeader). AreEqualHeaders es w x three u p.0 p.1)) c.in-Some.is c.in_ok-headers.ensures.equal in
+    let equal : AreEqualHeaders es w x three u h.0 h.1 = subst (λ o. IfSome o (λ (p : GenericArgs × GenericArgs). AreEqualHeaders es w x three u p.0 p.1)) c.in-Some.is c.in_ok-unknowns.ensures.equal in
     let I = unknowns_for empty_table w in
     let J = unknowns_for (with_unknowns_for empty_table w) x in
     record {
