@@ -2,7 +2,7 @@
 use Rattle.std.proofs.Common.{◌≡◌, ℕ, zero, suc, Bool, true, false, not, ◌&&◌, ◌||◌, List, [], ◌∷◌, ◌++◌, refl, sym, ◌∙◌, ap, Some}
 use Rattle.type_terms.specs.Promised.Label.{Label, Sort, of_type, of_const, of_lifetime, dynamic, principal, auto_trait, param, placeholder, infer, canonical, bound, static, predicate}
 use Rattle.type_terms.specs.Promised.Trees.{Trees, none, tree, ◌+++◌, erase_label, is_sort, sort_of}
-use Rattle.type_terms.specs.Trees.{placed, is_no_tree}
+use Rattle.type_terms.specs.Trees.{put_at_node, is_no_tree}
 use Rattle.type_terms.proofs.Walking.{left, right}
 use Rattle.type_terms.specs.Made.{terms}
 use Rattle.type_terms.specs.Made.{bounds}
@@ -23,9 +23,9 @@ module _ (good : Label → Bool) (xs ys : List Trees) (same : (l : Label) → go
 
   node : (l : Label) (c o : Trees) → given xs l ≡ given ys l → Same c → Same o → Same (tree l c o)
   node l c o g p q =
-      ap (λ z. placed z (tree (erase_label l) (read_with (given xs) c) none) +++ read_with (given xs) o) g
-      ∙ ap (λ z. placed (given ys l) (tree (erase_label l) z none) +++ read_with (given xs) o) p
-      ∙ ap (λ z. placed (given ys l) (tree (erase_label l) (read_with (given ys) c) none) +++ z) q
+      ap (λ z. put_at_node z (tree (erase_label l) (read_with (given xs) c) none) +++ read_with (given xs) o) g
+      ∙ ap (λ z. put_at_node (given ys l) (tree (erase_label l) z none) +++ read_with (given xs) o) p
+      ∙ ap (λ z. put_at_node (given ys l) (tree (erase_label l) (read_with (given ys) c) none) +++ z) q
 
   mutual
     pub agree-terms : (t : Trees) → is_made good terms t ≡ true → Same t

@@ -29,7 +29,7 @@ use Rattle.candidate_model.proofs.LawfulCandidates.{asked-clauses}
 use Rattle.type_terms.proofs.TermBasics.{gone}
 
 -- ---- no children
-no-children : (b : Bool) (f : Trees → Trees) → f none ≡ none → (c : Trees) → (not b || is_no_tree c) ≡ true → (not b || is_no_tree (f c)) ≡ true
+pub no-children : (b : Bool) (f : Trees → Trees) → f none ≡ none → (c : Trees) → (not b || is_no_tree c) ≡ true → (not b || is_no_tree (f c)) ≡ true
 no-children false f e c h = refl
 no-children true f e none h = ap is_no_tree e
 no-children true f e (tree l c o) h = absurd (false-true h)

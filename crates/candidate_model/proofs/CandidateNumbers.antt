@@ -1,5 +1,5 @@
 -- There are not too many candidates, and they have not too many nested goals together.
-use Rattle.std.proofs.Common.{◌≡◌, ℕ, zero, suc, ◌+◌, ◌*◌, ◌≤◌, Bool, true, false, not, ◌&&◌, List, [], ◌∷◌, ◌++◌, map, length, if◌then◌else◌, ◌==◌, refl, sym, ◌∙◌, ap, subst, arith}
+use Rattle.std.proofs.Common.{◌≡◌, ℕ, zero, suc, ◌+◌, ◌≤◌, Bool, true, false, not, ◌&&◌, List, [], ◌∷◌, ◌++◌, map, length, if◌then◌else◌, ◌==◌, refl, sym, ◌∙◌, ap, subst, arith}
 use Rattle.std.specs.List.{flat_map}
 use Rattle.type_terms.specs.Promised.Label.{Label, str, array, slice, tuple, dynamic, adt, fn_ptr, auto_trait, ref, raw_pointer, principal}
 use Rattle.type_terms.specs.Promised.Trees.{Trees, none, tree, instantiate}
@@ -177,11 +177,8 @@ written-nested V a source (u ∷ us) =
     let m = map-length (premise a (is_coinductive V a.reference.trait)) u.premises in
     omega (arith, e, m)
 
-suc-mul : (k w : ℕ) → suc k * w ≡ w + k * w
-suc-mul k w = grind arith
-
 -- ---- supertraits
-same-lengths : (rs ss : List Reference) → traits_of rs ≡ traits_of ss → length rs ≡ length ss
+pub same-lengths : (rs ss : List Reference) → traits_of rs ≡ traits_of ss → length rs ≡ length ss
 same-lengths rs ss e = sym (map-length (λ (r : Reference). r.trait) rs) ∙ ap length e ∙ map-length (λ (r : Reference). r.trait) ss
 
 module _ (V : World) (w : ℕ) (each : (x : TraitDecl) → In x V.traits → supers_of V x ≤ w) where
@@ -190,7 +187,7 @@ module _ (V : World) (w : ℕ) (each : (x : TraitDecl) → In x V.traits → sup
   none-within zero r e = refl
   none-within (suc n) r e = ap (λ ts. length (flat_map (λ s. s ∷ strict_supertraits_within n V s) (flat_map (λ (t : TraitDecl). all_with_args r.args t.bounds) ts))) e
 
-  supers-few : (r : Reference) → length (strict_supertraits V r) ≤ w
+  pub supers-few : (r : Reference) → length (strict_supertraits V r) ≤ w
   supers-few r = by (traits_named V r.trait) refl
     where
       by : (ts : List TraitDecl) → traits_named V r.trait ≡ ts → length (strict_supertraits V r) ≤ w
@@ -239,6 +236,11 @@ module _ (V : World) (w : ℕ) (each : (x : TraitDecl) → In x V.traits → sup
 
   pub none-few : (n m : ℕ) → FewCandidates [] n m
   none-few n m = record { few = omega arith; asks = omega arith }
+
+  -- none where the test fails
+  pub tested-few : (b : Bool) (cs : List Candidate) (n m : ℕ) → FewCandidates cs n m → FewCandidates (if_so b cs) n (if b then m else zero)
+  tested-few true cs n m h = h
+  tested-few false cs n m h = none-few n zero
 
   pub if-few : (b : Bool) (cs : List Candidate) (n m : ℕ) → FewCandidates cs n m → FewCandidates (if_so b cs) n m
   if-few true cs n m h = h
@@ -306,22 +308,11 @@ module _ (V : World) (w : ℕ) (each : (x : TraitDecl) → In x V.traits → sup
   structs-few a b d (x ∷ y ∷ xs) h = absurd (omega (arith, h))
 
   -- ---- object bounds
-  pub from-bounds-few : (a : GoalOverKinds) (source : ℕ → CandidateSource) (i : ℕ) (rs : List Reference) → FewCandidates (bounds_from V a source i rs) (length rs) (length rs * w)
-  from-bounds-few a source i [] = record { few = omega arith; asks = omega arith }
+  pub from-bounds-few : (a : GoalOverKinds) (source : ℕ → CandidateSource) (i : ℕ) (rs : List Reference) → length (bounds_from V a source i rs) ≤ length rs
+  from-bounds-few a source i [] = omega arith
   from-bounds-few a source i (r ∷ rs) = by (r.trait == a.reference.trait) (from-bounds-few a source (suc i) rs)
     where
-      by : (b : Bool) → FewCandidates (bounds_from V a source (suc i) rs) (length rs) (length rs * w)
-          → FewCandidates (if b then by_rule V a (source i) (all_equal a.reference.args r.args) (supertraits V a.reference) ∷ bounds_from V a source (suc i) rs else bounds_from V a source (suc i) rs) (suc (length rs)) (suc (length rs) * w)
-      by true h =
-          let f = h.few in
-          let n = h.asks in
-          let m = map-length (premise a (is_coinductive V a.reference.trait)) (supertraits V a.reference) in
-          let s = asked-supers-few a.reference in
-          record { few = omega (arith, f); asks = next (length rs) (length (supertraits V a.reference)) _ _ m s n }
-        where
-          next : (k s l n : ℕ) → l ≡ s → s ≤ w → n ≤ k * w → l + n ≤ suc k * w
-          next k s l n e g h = omega (arith, suc-mul k w, e, g, h)
-      by false h =
-          let f = h.few in
-          let n = h.asks in
-          record { few = omega (arith, f); asks = omega (arith, suc-mul (length rs) w, n) }
+      by : (b : Bool) → length (bounds_from V a source (suc i) rs) ≤ length rs
+          → length (if b then by_rule V a (source i) (all_equal a.reference.args r.args) (supertraits V a.reference) ∷ bounds_from V a source (suc i) rs else bounds_from V a source (suc i) rs) ≤ suc (length rs)
+      by true h = omega (arith, h)
+      by false h = omega (arith, h)

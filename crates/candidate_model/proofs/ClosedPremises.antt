@@ -33,7 +33,7 @@ abbrev pub LeadsToClosed : World → ℕ → Type 0
 LeadsToClosed V crate = (r s : Reference) → is_closed r.args ≡ true → In s (children V crate r) → is_closed s.args ≡ true
 
 -- ---- what is declared holds no open place but parameters
-node-none : (p : Label → Bool) (l : Label) (c o : Trees) → p l ≡ false → some_node p c ≡ false → some_node p o ≡ false → some_node p (tree l c o) ≡ false
+pub node-none : (p : Label → Bool) (l : Label) (c o : Trees) → p l ≡ false → some_node p c ≡ false → some_node p o ≡ false → some_node p (tree l c o) ≡ false
 node-none p l c o e f g = or-no (p l || some_node p c) (some_node p o) (or-no (p l) (some_node p c) e f) g
 
 no-tree : (t : Trees) → is_no_tree t ≡ true → some_node is_stray t ≡ false

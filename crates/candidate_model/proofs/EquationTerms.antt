@@ -44,7 +44,7 @@ and-true : (x y : Bool) → x && y ≡ true → x && true ≡ true
 and-true true y h = refl
 and-true false y h = absurd (false-true h)
 
-rests : (x y z w : Bool) → x && (y && (z && w)) ≡ true → (z ≡ true) × (w ≡ true)
+pub rests : (x y z w : Bool) → x && (y && (z && w)) ≡ true → (z ≡ true) × (w ≡ true)
 rests x y z w h = let q = right y (z && w) (right x (y && (z && w)) h) in (left z w q, right z w q)
 
 pub first-made : (l : Label) (c o : Trees) → IsOpenTerms (tree l c o) → IsOpenTerms (tree l c none)
@@ -54,7 +54,7 @@ first-made (auto_trait t) c o h = absurd (false-true h)
 first-made (predicate t) c o h = absurd (false-true h)
 first-made l c o h = one-of (is_open_label l) (not (is_leaf_label l) || is_no_tree c) (is_made is_open_label terms c) (is_made is_open_label terms o) h
 
-rest-made : (l : Label) (c o : Trees) → IsOpenTerms (tree l c o) → IsOpenTerms o
+pub rest-made : (l : Label) (c o : Trees) → IsOpenTerms (tree l c o) → IsOpenTerms o
 rest-made dynamic c o h = right (is_made is_open_label bounds c) (is_made is_open_label terms o) h
 rest-made (principal n t) c o h = absurd (false-true h)
 rest-made (auto_trait t) c o h = absurd (false-true h)
@@ -62,10 +62,10 @@ rest-made (predicate t) c o h = absurd (false-true h)
 rest-made l c o h = (rests (is_open_label l) (not (is_leaf_label l) || is_no_tree c) (is_made is_open_label terms c) (is_made is_open_label terms o) h).1
 
 -- ---- equations of lists
-leaf-is : (c : Trees) → is_no_tree c && (is_made is_open_label terms c && true) ≡ true → is_no_tree c && true ≡ true
+pub leaf-is : (c : Trees) → is_no_tree c && (is_made is_open_label terms c && true) ≡ true → is_no_tree c && true ≡ true
 leaf-is c h = both (is_no_tree c) true (left (is_no_tree c) (is_made is_open_label terms c && true) h) refl
 
-one-is : (l : Label) (c : Trees) → IsOpenTerms (tree l c none) → is_a (sort_of l) (tree l c none) ≡ true
+pub one-is : (l : Label) (c : Trees) → IsOpenTerms (tree l c none) → is_a (sort_of l) (tree l c none) ≡ true
 one-is static c h = leaf-is c h
 one-is (param of_lifetime i) c h = leaf-is c h
 one-is (placeholder of_lifetime i) c h = leaf-is c h
@@ -82,7 +82,7 @@ one-is (bound of_type i j) c h = refl
 one-is (bound of_const i j) c h = refl
 one-is l c h = refl
 
-term-is : (l : Label) (c o : Trees) → IsOpenTerms (tree l c o) → term_of (first_value l c) ≡ (first_value l c).trees
+pub term-is : (l : Label) (c o : Trees) → IsOpenTerms (tree l c o) → term_of (first_value l c) ≡ (first_value l c).trees
 term-is l c o h =
     ap (λ b. if b then tree l c none else leaf_of) (both (is_a (sort_of l) (tree l c none)) (is_made is_open_label terms (tree l c none)) (one-is l c (first-made l c o h)) (first-made l c o h))
   where
@@ -92,7 +92,7 @@ term-is l c o h =
 abbrev AreTerms : List Equation → Type 0
 AreTerms es = Every (λ (e : Equation). (term_of e.left ≡ e.left.trees) × (term_of e.right ≡ e.right.trees)) es
 
-all-terms : (x y : Trees) → IsOpenTerms x → IsOpenTerms y → AreTerms (all_equal x y)
+pub all-terms : (x y : Trees) → IsOpenTerms x → IsOpenTerms y → AreTerms (all_equal x y)
 all-terms none none h g = tt
 all-terms none (tree m d p) h g = ((refl, refl), tt)
 all-terms (tree l c o) none h g = ((refl, refl), tt)
@@ -166,7 +166,7 @@ every-rest Q [] h = tt
 every-rest Q (x ∷ xs) h = h.1
 
 -- ---- headers behind the goal's variables
-open-behind : (n : ℕ) → PutsLeaves is_declared_leaf is_open_label (moved n)
+pub open-behind : (n : ℕ) → PutsLeaves is_declared_leaf is_open_label (moved n)
 open-behind n = record { leaf_or_stays = λ l i g. by l g; others = λ l i. stays l i }
   where
     by : (l : Label) → is_declared_leaf l ≡ true → IsLeafFor is_open_label (moved n) l ⊎ ((moved n l ≡ None) × (is_open_label l ≡ true))

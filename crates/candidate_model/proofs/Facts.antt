@@ -15,6 +15,7 @@ use Rattle.goal_evaluator.proofs.ByRules.{proofs_are_proofs}
 use Rattle.goal_evaluator.specs.Content.{Fact}
 use Rattle.candidate_model.specs.Facts.{clauses_of, reference_in, beside, is_plain, FollowsByView, is_coinductive_trait, is_coinductive_fact, ProofsOfFactsAreProofs, ReferencesComeBack}
 use Rattle.type_terms.proofs.BooleanBasics.{true-false, both-left}
+pub use Rattle.declarations.proofs.Stacks.{same-numbers-self, same-self}
 
 pub references-come-back : ReferencesComeBack
 references-come-back [] = refl
@@ -113,13 +114,6 @@ module _ (V : World) (E : Trees) where
         subst (λ z. Goes z [] (entries all [] p.0 p.1)) (sym (concluded all [] p.0 p.1)) (continues all [] p.0 p.1),
         subst (IsAmong (reference_in f)) (sym (concluded all [] p.0 p.1)) (kept f all p.2 c),
       )
-
-pub same-numbers-self : (x : ℕ × (ℕ × (ℕ × ℕ))) → same_numbers x x ≡ true
-same-numbers-self (a, (b, (c, d))) = let p = self-number a in let q = self-number b in let r = self-number c in let s = self-number d in rw (p, q, r, s) refl
-
-pub same-self : (t : Trees) → same t t ≡ true
-same-self none = refl
-same-self (tree l c o) = let p : same_label l l ≡ true = same-numbers-self (numbers l) in let q = same-self c in let r = same-self o in rw (p, q, r) refl
 
 pub proofs-of-facts : ProofsOfFactsAreProofs
 proofs-of-facts V f proper plain p =

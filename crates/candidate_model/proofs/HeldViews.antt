@@ -28,7 +28,7 @@ use Rattle.candidate_model.proofs.ErasedTerms.{erased-terms, erased-lifetimes, e
 use Rattle.candidate_model.proofs.DeclaredWell.{determined-told, down-told, one-told}
 
 -- ---- lists
-each-of : {A : Type 0} (P : A → Type 0) (xs : List A) (x : A) → Each P xs → In x xs → P x
+pub each-of : {A : Type 0} (P : A → Type 0) (xs : List A) (x : A) → Each P xs → In x xs → P x
 each-of P [] x e i = absurd (in-nothing x i)
 each-of P (y ∷ xs) x e i = by (in-cases x y xs i) (λ j. each-of P xs x e.1 j)
   where

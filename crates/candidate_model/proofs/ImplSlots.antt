@@ -4,7 +4,7 @@ use Rattle.type_terms.specs.Promised.Label.{Label, Sort, of_type, of_const, of_l
 use Rattle.type_terms.specs.Promised.Label.{never}
 use Rattle.type_terms.specs.Promised.Label.{value}
 use Rattle.type_terms.specs.Promised.Trees.{Trees, none, tree, leaf, ◌+++◌, some_node, erase_label}
-use Rattle.type_terms.specs.Trees.{is_a, placed}
+use Rattle.type_terms.specs.Trees.{is_a, put_at_node}
 use Rattle.type_terms.specs.Made.{terms}
 use Rattle.type_terms.specs.Made.{is_made}
 use Rattle.infer_table.specs.Solutions.{HasValues}
@@ -122,10 +122,10 @@ module _ (ks : List CanonicalVarKind) (ts own : List Trees) (h : Trees) (n : ℕ
   Same t = read_with (given here) (put_in (moved (length ks)) t) ≡ read_with (given there) (put_in (moved (length ks)) t)
 
   node : (l : Label) (c d o p : Trees) → given here l ≡ given there l → c ≡ d → o ≡ p
-      → placed (given here l) (tree (erase_label l) c none) +++ o ≡ placed (given there l) (tree (erase_label l) d none) +++ p
+      → put_at_node (given here l) (tree (erase_label l) c none) +++ o ≡ put_at_node (given there l) (tree (erase_label l) d none) +++ p
   node l c d o p e f g =
-      ap (λ z. placed z (tree (erase_label l) c none) +++ o) e ∙ ap (λ z. placed (given there l) (tree (erase_label l) z none) +++ o) f
-      ∙ ap (λ z. placed (given there l) (tree (erase_label l) d none) +++ z) g
+      ap (λ z. put_at_node z (tree (erase_label l) c none) +++ o) e ∙ ap (λ z. put_at_node (given there l) (tree (erase_label l) z none) +++ o) f
+      ∙ ap (λ z. put_at_node (given there l) (tree (erase_label l) d none) +++ z) g
 
   same-read : (t : Trees) → EachLabel (IsGoodLabel is_declared_leaf) t → Stand t → Same t
   same-read none g st = refl

@@ -19,6 +19,7 @@ use Rattle.goal_evaluator.specs.Content.{given}
 use Rattle.candidate_model.specs.Knowing.{is_knowable}
 pub use Rattle.candidate_model.specs.Cover.{read_reference}
 use Rattle.type_terms.proofs.BooleanBasics.{true-false}
+use Rattle.candidate_model.proofs.ErasedCandidates.{not-true as not-false}
 
 any-left : {A : Type 0} (p : A → Bool) (xs ys : List A) → list_any p (xs ++ ys) ≡ false → list_any p xs ≡ false
 any-left p [] ys e = refl
@@ -137,10 +138,6 @@ known-as V c r s t e =
     ap (λ i. trait_is (λ _. true) V i && (list_all (item_in V) (until_decisive (visited V None r.args)) && (trait_is (λ x. (x.home == c) || x.is_fundamental) V i || ends_local (until_decisive (visited V (Some c) r.args))))) t
     ∙ ap (λ ms. trait_is (λ _. true) V s.trait && (list_all (item_in V) (until_decisive ms) && (trait_is (λ x. (x.home == c) || x.is_fundamental) V s.trait || ends_local (until_decisive (visited V (Some c) r.args))))) (e None)
     ∙ ap (λ ms. trait_is (λ _. true) V s.trait && (list_all (item_in V) (until_decisive (visited V None s.args)) && (trait_is (λ x. (x.home == c) || x.is_fundamental) V s.trait || ends_local (until_decisive ms)))) (e (Some c))
-
-not-false : (b : Bool) → not b ≡ true → b ≡ false
-not-false true e = absurd (true-false (sym e))
-not-false false e = refl
 
 -- all instances of a knowable reference are known
 pub instances-are-known : (good : Label → Bool) (V : World) (c : ℕ) (r : Reference) → is_made good terms r.args ≡ true → is_knowable V c r ≡ true

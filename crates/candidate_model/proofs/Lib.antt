@@ -30,7 +30,6 @@ pub mod EquationTerms
 pub mod Covering
 pub mod Realizing
 pub mod Covered
-pub mod Levels
 pub mod Stack
 pub mod Objects
 pub mod Upcasts
@@ -50,7 +49,10 @@ pub mod LawfulCandidates
 pub mod CandidateCounts
 pub mod DeclaredWidths
 pub mod CandidateNumbers
+pub mod ObjectCounts
+pub mod RowCounts
 pub mod CandidateBounds
+pub mod NestedGoals
 pub mod Elaborating
 pub mod NarrowRows
 pub mod NarrowCandidates

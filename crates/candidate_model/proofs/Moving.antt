@@ -24,22 +24,7 @@ use Rattle.goal_evaluator.proofs.Readings.{HasLeaves}
 use Rattle.goal_evaluator.specs.Variables.{LabelStandsIn}
 use Rattle.type_terms.proofs.TermBasics.{is_sort-self as sort-self}
 use Rattle.type_terms.proofs.NumberBasics.{number-self}
-
--- ---- how they are made
-open-behind : (n : ℕ) → PutsLeaves is_declared_leaf is_open_label (moved n)
-open-behind n = record { leaf_or_stays = λ l i g. by l g; others = λ l i. stays l i }
-  where
-    by : (l : Label) → is_declared_leaf l ≡ true → IsLeafFor is_open_label (moved n) l ⊎ ((moved n l ≡ None) × (is_open_label l ≡ true))
-    by (param k i) g = inl (record { label = canonical k (n + i); is = refl; sort = refl; made = refl })
-    by (infer k v) g = absurd (false-true g)
-    by (canonical k v) g = absurd (false-true g)
-    by (placeholder k v) g = absurd (false-true g)
-    by (bound k i v) g = absurd (false-true g)
-    by l g = inr (refl, refl)
-
-    stays : (l : Label) → is_ordinary l ≡ false → moved n l ≡ None
-    stays (param k i) e = absurd (false-true (sym e))
-    stays l e = refl
+use Rattle.candidate_model.proofs.EquationTerms.{open-behind}
 
 pub made-moved : (n : ℕ) (t : Trees) → is_made is_declared_leaf terms t ≡ true → is_made is_open_label terms (put_in (moved n) t) ≡ true
 made-moved n t h = made-put-in is_declared_leaf is_open_label (moved n) (open-behind n) terms t h
@@ -51,7 +36,7 @@ same-sort s k x i e = (cc, cc)
 number-is : (i j : ℕ) → (i == j) ≡ true → i ≡ j
 number-is i j h = grind (arith, nat_tests, h)
 
-and-true : (x y : Bool) → x ≡ true → y ≡ true → x && y ≡ true
+pub and-true : (x y : Bool) → x ≡ true → y ≡ true → x && y ≡ true
 and-true x y e f = rw (e, f) refl
 
 or-first : (x y z : Bool) → x ≡ true → x || y || z ≡ true

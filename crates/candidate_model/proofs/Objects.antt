@@ -33,7 +33,7 @@ use Rattle.candidate_model.proofs.Impls.{pairwise}
 use Rattle.candidate_model.proofs.Calls.{gives-equal}
 use Rattle.candidate_model.proofs.EqualRows.{one-row, each-row}
 use Rattle.candidate_model.proofs.ByView.{some-left, some-right}
-use Rattle.candidate_model.proofs.Levels.{LeadDown}
+use Rattle.candidate_model.specs.Declared.{LeadDown}
 use Rattle.candidate_model.proofs.Stack.{elaborated-all}
 use Rattle.type_terms.proofs.BooleanBasics.{true-false}
 

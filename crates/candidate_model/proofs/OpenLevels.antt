@@ -22,7 +22,7 @@ use Rattle.candidate_model.proofs.Supers.{every-supertrait}
 use Rattle.candidate_model.proofs.PlainRules.{Plain, IsPlainReference, plain-unbound, plain-instance}
 use Rattle.candidate_model.proofs.Objects.{map-flat, flat-map}
 use Rattle.candidate_model.proofs.DeclaredParts.{bound-declared}
-use Rattle.candidate_model.proofs.Levels.{LeadDown}
+use Rattle.candidate_model.specs.Declared.{LeadDown}
 use Rattle.candidate_model.proofs.Stack.{elaborated-all}
 
 -- ---- all levels of an instance
@@ -83,14 +83,14 @@ module _ (V : World) (declared : is_declared_view V ≡ true) (xs : List Trees) 
 
 -- ---- supertraits by paths are among those without repeats
 module _ (V : World) (rank : ℕ → ℕ) (down : LeadDown V rank) where
-  written-lower : (r s : Reference) → In s (written_supertraits V r) → rank s.trait < rank r.trait
+  pub written-lower : (r s : Reference) → In s (written_supertraits V r) → rank s.trait < rank r.trait
   written-lower r s i =
       let m = in-flat (λ (t : TraitDecl). all_with_args r.args t.bounds) (traits_named V r.trait) s i in
       let n = in-filter (λ (y : TraitDecl). y.name == r.trait) V.traits m.0 m.1 in
       let b = map-in (with_args r.args) m.0.bounds s m.2 in
       subst (λ t. rank s.trait < rank t) (same-number m.0.name r.trait n.1) (subst (λ t. rank t < rank m.0.name) (ap (λ (q : Reference). q.trait) b.2) (down m.0 b.0 n.0 b.1))
 
-  within-lower : (n : ℕ) (r s : Reference) → In s (strict_supertraits_within n V r) → rank s.trait < rank r.trait
+  pub within-lower : (n : ℕ) (r s : Reference) → In s (strict_supertraits_within n V r) → rank s.trait < rank r.trait
   within-lower zero r s i = absurd (in-nothing s i)
   within-lower (suc n) r s i =
       let m = in-flat (λ x. x ∷ strict_supertraits_within n V x) (written_supertraits V r) s i in

@@ -24,6 +24,7 @@ use Rattle.type_terms.proofs.Matching.{or-false-left as no-left}
 use Rattle.type_terms.proofs.BooleanBasics.{true-false}
 use Rattle.goal_evaluator.proofs.Basics.{every-append}
 use Rattle.candidate_model.proofs.ErasedCandidates.{not-true as not-false}
+use Rattle.candidate_model.proofs.ClosedPremises.{node-none}
 
 abbrev pub Plain : Trees → Type 0
 Plain t = some_node is_unerased t ≡ false
@@ -34,9 +35,6 @@ plain-unbound t h = none-either is_unerased is_bound by t h
     by : (l : Label) → is_unerased l ≡ false → is_bound l ≡ false
     by (bound s k i) e = absurd (true-false e)
     by l e = refl
-
-node-none : (p : Label → Bool) (l : Label) (c o : Trees) → p l ≡ false → some_node p c ≡ false → some_node p o ≡ false → some_node p (tree l c o) ≡ false
-node-none p l c o e f g = or-no (p l || some_node p c) (some_node p o) (or-no (p l) (some_node p c) e f) g
 
 -- ---- what is declared
 -- unerased, but for parameters, in whose place arguments are put

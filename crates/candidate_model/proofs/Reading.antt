@@ -4,7 +4,7 @@ use Rattle.type_terms.specs.Promised.Label.{Label, of_type, of_const, of_lifetim
 use Rattle.type_terms.specs.Promised.Label.{never}
 use Rattle.type_terms.specs.Promised.Label.{value}
 use Rattle.type_terms.specs.Promised.Trees.{Trees, none, tree, leaf, ◌+++◌, is_sort, sort_of, erase_label, nth}
-use Rattle.type_terms.specs.Trees.{is_a, placed}
+use Rattle.type_terms.specs.Trees.{is_a, put_at_node}
 use Rattle.type_terms.specs.Promised.Rules.{asked, each_asked, last_asked}
 use Rattle.goal_evaluator.specs.Instances.{read_with, default_label, of_sort, term_at}
 use Rattle.goal_evaluator.specs.Content.{given}
@@ -69,7 +69,7 @@ by-one ts l c o t e one = record {
 }
   where
     at : Option Trees → Trees → Trees
-    at g rest = placed g (tree (erase_label l) (read_with (given ts) c) none) +++ rest
+    at g rest = put_at_node g (tree (erase_label l) (read_with (given ts) c) none) +++ rest
 
 by-itself : (ts : List Trees) (l : Label) (c o : Trees) → given ts l ≡ None → Begins ts l c o
 by-itself ts l c o e = record {
@@ -80,7 +80,7 @@ by-itself ts l c o e = record {
 }
   where
     at : Option Trees → Trees → Trees
-    at g rest = placed g (tree (erase_label l) (read_with (given ts) c) none) +++ rest
+    at g rest = put_at_node g (tree (erase_label l) (read_with (given ts) c) none) +++ rest
 
 one-leaf : (l : Label) → IsOne (leaf l)
 one-leaf l = record { label = l; children = none; is = refl }

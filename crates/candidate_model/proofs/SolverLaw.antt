@@ -21,8 +21,8 @@ solver-is-lawful-and-covers applicable is_test same is_same m well f fits = (
         covers = λ e. solutions-by m (well e).terms (well e).determined (well e).erased (well e).rank (well e).acyclic;
         terms = λ e. equations-are-terms m (well e).terms (well e).erased;
         lawful = λ e. well-declared-is-lawful m (well e);
-        few = λ e. (candidates-are-few m (well e).one_struct).0;
-        asks = λ e. (candidates-are-few m (well e).one_struct).1;
+        few = λ e. (candidates-are-few m (well e).one_struct (well e).rank (well e).acyclic).0;
+        asks = λ e. (candidates-are-few m (well e).one_struct (well e).rank (well e).acyclic).1;
       })
       mode f fits,
   coherence-is-covered applicable same m (λ e. record { declared = (well e).terms; determined = (well e).determined; erased = (well e).erased; rank = (well e).rank; acyclic = (well e).acyclic; bounds = bounds-are-left m (well e).terms (well e).erased }) f fits,

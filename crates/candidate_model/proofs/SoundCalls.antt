@@ -30,7 +30,7 @@ use Rattle.candidate_model.proofs.Facts.{same-self}
 use Rattle.candidate_model.proofs.Reading.{Begins, begins, read-last-asked}
 use Rattle.candidate_model.proofs.ByView.{rigid-read}
 use Rattle.candidate_model.proofs.Calls.{but-last-read}
-use Rattle.candidate_model.proofs.Moving.{met-reads}
+use Rattle.candidate_model.proofs.Moving.{met-reads, and-true as both}
 use Rattle.candidate_model.proofs.PlainRules.{Plain, IsPlainReference, plain-last}
 use Rattle.candidate_model.proofs.SoundRows.{Unknown, Rigid, unknown-or-rigid, Held, IsPlainAt, is, rule-sound, plain-back, in-calls, each-row-sound}
 use Rattle.type_terms.proofs.BooleanBasics.{true-false}
@@ -64,9 +64,6 @@ pub made-but-last : (good : Label → Bool) (t : Trees) → is_made good terms t
 made-but-last good none m = refl
 made-but-last good (tree l c none) m = refl
 made-but-last good (tree l c (tree k d o)) m = first-before good l c (tree k d o) (but_last (tree k d o)) m (made-but-last good (tree k d o) (made-rest good l c (tree k d o) m))
-
-both : (x y : Bool) → x ≡ true → y ≡ true → x && y ≡ true
-both x y e f = rw (e, f) refl
 
 -- ---- the rule of a call
 call-rule : (b : Bool) → b ≡ true → (c o args : Trees) → args ≡ tree (fn_ptr zero) c (tree tuple (but_last c) o) → In (record { way = built_in fn_ptr_call; premises = last_asked sized c }) (if b then call_rules args else [])

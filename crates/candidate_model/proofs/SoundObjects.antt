@@ -26,7 +26,7 @@ use Rattle.candidate_model.specs.Candidates.{premise, by_rule, all_equal, if_so,
 use Rattle.candidate_model.specs.Cover.{read_reference}
 use Rattle.candidate_model.specs.Lawful.{IsSoundFor, ObjectBoundsAreSound}
 use Rattle.candidate_model.proofs.ByView.{rigid-read}
-use Rattle.candidate_model.proofs.Levels.{LeadDown}
+use Rattle.candidate_model.specs.Declared.{LeadDown}
 use Rattle.candidate_model.proofs.Stack.{elaborated-only}
 use Rattle.candidate_model.proofs.Unsizing.{compatible-same, principal-read, autos-read, traits-stay}
 use Rattle.candidate_model.proofs.LawfulCandidates.{asked-clauses}

@@ -25,7 +25,7 @@ use Rattle.candidate_model.specs.Candidates.{by_rule, all_equal, misc, if_so, up
 use Rattle.candidate_model.specs.Cover.{read_reference}
 use Rattle.candidate_model.specs.Lawful.{IsSoundFor, UpcastsAreSound}
 use Rattle.candidate_model.proofs.ByView.{rigid-read}
-use Rattle.candidate_model.proofs.Levels.{LeadDown}
+use Rattle.candidate_model.specs.Declared.{LeadDown}
 use Rattle.candidate_model.proofs.Stack.{elaborated-all, supertraits-only}
 use Rattle.candidate_model.proofs.Unsizing.{all-declared, principal-read, autos-read, traits-stay}
 use Rattle.candidate_model.proofs.Upcasts.{autos-same}

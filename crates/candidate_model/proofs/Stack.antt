@@ -6,10 +6,10 @@ use Rattle.type_terms.specs.Promised.Proofs.{In}
 use Rattle.type_terms.proofs.Members.{here, there, in-nothing, in-cases, in-append, in-flat, flat-in, some-member}
 use Rattle.type_terms.proofs.Fitting.{same-reference-sound}
 use Rattle.declarations.specs.Promised.Elaboration.{is_put, new_of, pushed, off_stack, all_levels, elaborate, supertraits}
-use Rattle.type_terms.specs.Codes.{same}
-use Rattle.candidate_model.proofs.Levels.{LeadDown, strict-closed, all-closed}
+use Rattle.candidate_model.specs.Declared.{LeadDown}
+use Rattle.declarations.proofs.Levels.{strict-closed, all-closed}
 use Rattle.declarations.proofs.Basics.{length-pushed, put-move}
-use Rattle.declarations.proofs.Stacks.{pushed-in}
+use Rattle.declarations.proofs.Stacks.{pushed-in, new-in}
 use Rattle.type_terms.proofs.BooleanBasics.{true-false}
 use Rattle.candidate_model.proofs.SoundImpls.{same-one}
 
@@ -71,14 +71,6 @@ new-fewer xs before (r ∷ rs) h = by (is_put r before) refl (new-fewer xs befor
         let less = missing-less xs before r (h r (here r rs)) e in
         let same : missing xs (r ∷ (new ++ before)) ≡ missing xs (new ++ (r ∷ before)) = missing-same xs (r ∷ (new ++ before)) (new ++ (r ∷ before)) (λ x. put-move x r new before) in
         subst (λ n. suc (length new) + n ≤ missing xs before) (sym same) (omega (arith, less, g))
-
-new-in : (before rs : List Reference) (x : Reference) → In x (new_of before rs) → In x rs
-new-in before [] x i = absurd (in-nothing x i)
-new-in before (r ∷ rs) x i = by (is_put r before) i (λ j. new-in before rs x j) (λ j. new-in (r ∷ before) rs x j)
-  where
-    by : (b : Bool) → In x (if b then new_of before rs else r ∷ new_of (r ∷ before) rs) → (In x (new_of before rs) → In x rs) → (In x (new_of (r ∷ before) rs) → In x rs) → In x (r ∷ rs)
-    by true j f g = there x r rs (f j)
-    by false j f g = elim (in-cases x r (new_of (r ∷ before) rs) j) [ inl q ↦ subst (λ z. In z (r ∷ rs)) q (here r rs) | inr k ↦ there x r rs (g k) ]
 
 -- each is new or was put before
 in-new : (before rs : List Reference) (x : Reference) → In x rs → In x (new_of before rs) ⊎ In x before

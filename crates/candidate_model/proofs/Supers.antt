@@ -23,6 +23,7 @@ use Rattle.candidate_model.proofs.Reading.{read_reference}
 use Rattle.candidate_model.proofs.Instances.{read-declared}
 use Rattle.type_terms.proofs.TermBasics.{label-kept}
 use Rattle.type_terms.proofs.BooleanBasics.{true-false}
+use Rattle.candidate_model.proofs.Elaborating.{every-in as each}
 
 -- ---- what is made of closed terms and declarations is closed
 abbrev Shuts : Trees → Type 0
@@ -65,11 +66,6 @@ open-none t e = by (some_node is_open t) e
 
 pub none-open : (t : Trees) → Shuts t → is_closed t ≡ true
 none-open t e = ap not e
-
--- ---- lists
-each : {A : Type 0} (P : A → Type 0) (xs : List A) → ((x : A) → In x xs → P x) → Every P xs
-each P [] f = tt
-each P (x ∷ xs) f = (f x (here x xs), each P xs (λ y i. f y (there y x xs i)))
 
 -- a written supertrait is a strict one
 written-strict : (V : World) (r s : Reference) → In s (written_supertraits V r) → In s (strict_supertraits V r)

@@ -26,7 +26,7 @@ use Rattle.candidate_model.proofs.Unsizing.{traits_of, map-append, spread-same, 
 use Rattle.candidate_model.proofs.Impls.{pairwise}
 use Rattle.candidate_model.proofs.Calls.{gives-equal}
 use Rattle.candidate_model.proofs.EqualRows.{IsOneOf, IsUpcast, upcast-by-rows}
-use Rattle.candidate_model.proofs.Levels.{LeadDown}
+use Rattle.candidate_model.specs.Declared.{LeadDown}
 use Rattle.candidate_model.proofs.Stack.{elaborated-all}
 use Rattle.candidate_model.proofs.Instances.{Shut}
 use Rattle.candidate_model.proofs.Objects.{BoundsArePlain, strict-read, principal-shut, dyn-shut}

@@ -11,18 +11,8 @@ use Rattle.type_terms.proofs.OpenWorld.{open-world}
 use Rattle.type_terms.proofs.ViewKnown.{unknown-by-view}
 use Rattle.type_terms.proofs.NoHolds.{supers-of-view}
 use Rattle.candidate_model.specs.Knowing.{WhatIsKnownFollowsByTheView, SupertraitsByTheViewStand}
-
-member : {A : Type 0} (P : A → Type 0) (xs : List A) (x : A) → Every P xs → In x xs → P x
-member P [] x e i = absurd (in-nothing x i)
-member P (y ∷ xs) x e i = by (in-cases x y xs i) (λ j. member P xs x e.1 j)
-  where
-    by : (y ≡ x) ⊎ In x xs → (In x xs → P x) → P x
-    by (inl q) go = subst P q e.0
-    by (inr j) go = go j
-
-each : {A : Type 0} (P : A → Type 0) (xs : List A) → ((x : A) → In x xs → P x) → Every P xs
-each P [] f = tt
-each P (x ∷ xs) f = (f x (here x xs), each P xs (λ y i. f y (there y x xs i)))
+use Rattle.candidate_model.proofs.Elaborating.{every-in as each}
+use Rattle.candidate_model.proofs.SoundObjects.{member-of as member}
 
 pub known-by-view-rule : WhatIsKnownFollowsByTheView
 known-by-view-rule W vs rank l c V e r z known p = by (open-world W vs rank l c r z u.0 u.1 u.2)

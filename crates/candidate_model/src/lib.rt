@@ -9,6 +9,7 @@ ghost use Rattle.candidate_model.specs.Cover.{SolutionsAreByCandidates, GivenIsR
 ghost use Rattle.candidate_model.specs.Lawful.{SolverIsLawfulAndCovers, WellDeclaredIsLawful, RowsAreSound, UnsizingIsSound, ImplsAreSound, ObjectBoundsAreSound, UpcastsAreSound, ToDynIsSound};
 ghost use Rattle.candidate_model.specs.DeclaredWell.{TestsTell, CoreIsDeclaredWell};
 ghost use Rattle.candidate_model.specs.HeldViews.{HeldIsDeclaredWell};
+ghost use Rattle.candidate_model.specs.NestedGoals.{NestedGoalsAreFew, NumberIsSmall};
 ghost use Rattle.candidate_model.specs.Worlds.{KeepWorlds};
 ghost use Rattle.candidate_model.specs.CoverLaw.{CoherenceIsCovered, CoherenceIsLawful, ErasedBoundsAreLeft};
 
@@ -64,6 +65,13 @@ pub fn views_are_tested()
     ensures tell { TestsTell }
     ensures core { CoreIsDeclaredWell }
     ensures held { HeldIsDeclaredWell }
+{}
+
+/// If the view is declared well, the nested goals of all candidates of a goal are no more than the promised number. With k where-clauses of
+/// impls, and no list of terms, bounds, fields or supertraits longer than m, it is less than `k + (m + 2) * (m + 2)`.
+pub fn nested_goals_are_few()
+    ensures few { NestedGoalsAreFew }
+    ensures small { NumberIsSmall }
 {}
 
 /// Each candidate by a rule is sound: if its equations hold, it is a rule instance of the view.
