@@ -16,3 +16,4 @@ pub mod Objects
 pub mod RuleAfterRule
 pub mod Relevant
 pub mod FoundKinds
+pub mod Noted

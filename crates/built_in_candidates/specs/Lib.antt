@@ -6,3 +6,4 @@ pub mod Unsizing
 pub mod FnPointers
 pub mod BuiltInRules
 pub mod Objects
+pub mod Noted

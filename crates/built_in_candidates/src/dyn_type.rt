@@ -1,18 +1,19 @@
 //! `dyn` types: their bounds, the principal with a self type, and its supertraits.
 ghost use Rattle.type_terms.specs.Growth.{GrewOrFull};
-ghost use Rattle.std.specs.Prelude.{◌≡◌, ◌==◌, List, length, filter, count_by, IfOk};
+ghost use Rattle.std.specs.Prelude.{◌≡◌, ◌==◌, List, [], ◌∷◌, length, filter, count_by, true, IfOk, OnOk};
 ghost use Rattle.std.specs.List.{list_any, slice_get};
 ghost use Rattle.type_terms.specs.Promised.Trees.{Trees, ◌+++◌};
 ghost use Rattle.type_terms.specs.Promised.Rules.{principal_with, autos_with, are_declared, are_dyn_compatible};
 ghost use Rattle.type_terms.specs.Promised.Handles.{Has, Entry, types, bounds_lists, trees_at};
 ghost use Rattle.type_terms.specs.Terms.{args_lists};
 ghost use Rattle.goal_evaluator.specs.Merge.{if_there};
-ghost use Rattle.declarations.specs.Items.{written};
+ghost use Rattle.declarations.specs.Items.{Items, reference_in, written};
 ghost use Rattle.declarations.specs.Held.{AreHeld};
 ghost use Rattle.declarations.specs.Promised.Elaboration.{Each};
 ghost use Rattle.declarations.specs.Applied.{references_in, TraitRefsHeld, AreApplied, HaveBounds};
 ghost use Rattle.declarations.specs.Promised.Elaboration.{elaborate};
 ghost use Rattle.built_in_candidates.specs.Objects.{AreArgumentsOf, AreBoundsOf, WithLifetime, numbered_to};
+ghost use Rattle.built_in_candidates.specs.Noted.{first_of, StayElaborated};
 
 use crate::built_in::SIZED;
 use declarations::declarations::Declarations;
@@ -150,6 +151,83 @@ pub(crate) fn elaborated_principal(
         principal,
         elaborated,
     })
+}
+
+/// The notes with which the candidates of a goal begin: there are none.
+pub fn no_notes(alloc: Global) -> Vec<TraitRef>
+    ensures { (es : List Entry) (d : Items) → StayElaborated es d result.items }
+{
+    Vec::new(alloc)
+}
+
+/// Whether the list begins with the trait reference.
+fn begins_with(references: &[TraitRef], trait_ref: TraitRef) -> bool
+    ensures { (es : List Entry) → result ≡ true → first_of (references_in es references.now) ≡ reference_in es trait_ref ∷ [] }
+{
+    match references {
+        [first, ..] => {
+            first.def_id.index == trait_ref.def_id.index && first.args.0 == trait_ref.args.0
+        }
+        [] => false,
+    }
+}
+
+/// Lets the notes be the principal, if there is one, followed by all its direct and indirect supertraits. They are not elaborated again
+/// if the notes begin with the principal.
+fn note_elaborated(
+    alloc: Global,
+    cx: &mut Interner,
+    declarations: &Declarations,
+    principal: Option<TraitRef>,
+    notes: &mut Vec<TraitRef>,
+) -> Result<(), Fault>
+    requires declared { AreHeld cx.old.entries declarations.now }
+    requires bounds { HaveBounds cx.old.entries declarations.now }
+    requires held { TraitRefsHeld cx.old.entries (if_there principal) }
+    requires applied { AreApplied cx.old.entries declarations.now (if_there principal) }
+    requires notes { StayElaborated cx.old.entries declarations.now notes.old.items }
+    ensures terms { GrewOrFull cx.old cx.new result }
+    ensures notes { OnOk result (StayElaborated cx.new.entries declarations.now notes.new.items) }
+    ensures are { OnOk result (references_in cx.new.entries notes.new.items
+        ≡ elaborate (written cx.old.entries declarations.now) (references_in cx.old.entries (if_there principal))) }
+{
+    match principal {
+        Some(trait_ref) => {
+            if !begins_with(notes, trait_ref) {
+                *notes = declarations.elaborate(alloc, cx, &[trait_ref])?;
+            }
+        }
+        None => notes.clear(),
+    }
+    Ok(())
+}
+
+/// The principal of a `dyn` with this self type, if there is one. The notes become the list of the principal and all its supertraits.
+pub(crate) fn noted_principal(
+    alloc: Global,
+    cx: &mut Interner,
+    declarations: &Declarations,
+    self_ty: Ty,
+    bounds: Bounds,
+    notes: &mut Vec<TraitRef>,
+) -> Result<Option<TraitRef>, Fault>
+    requires declared { AreHeld cx.old.entries declarations.now }
+    requires traits { HaveBounds cx.old.entries declarations.now }
+    requires self_held { Has cx.old.entries types self_ty.0 }
+    requires bounds { Has cx.old.entries bounds_lists bounds.0 }
+    requires applied { WithLifetime cx.old.entries bounds (λ b. Each (AreArgumentsOf declarations.now) (principal_with (trees_at cx.old.entries self_ty.0) b)) }
+    requires notes { StayElaborated cx.old.entries declarations.now notes.old.items }
+    ensures terms { GrewOrFull cx.old cx.new result }
+    ensures principal { IfOk result (λ p. WithLifetime cx.old.entries bounds (λ b. references_in cx.new.entries (if_there p)
+        ≡ principal_with (trees_at cx.old.entries self_ty.0) b)) }
+    ensures notes { OnOk result (StayElaborated cx.new.entries declarations.now notes.new.items) }
+    ensures elaborated { let V = written cx.old.entries declarations.now in
+        OnOk result (WithLifetime cx.old.entries bounds (λ b. references_in cx.new.entries notes.new.items
+        ≡ elaborate V (principal_with (trees_at cx.old.entries self_ty.0) b))) }
+{
+    let principal = principal_with(alloc, cx, self_ty, bounds)?;
+    note_elaborated(alloc, cx, declarations, principal, notes)?;
+    Ok(principal)
 }
 
 /// Whether the principal is declared. No rule applies to a `dyn` whose principal is not declared. Returns `true` if there is no principal.

@@ -1,6 +1,6 @@
 //! Candidates by the bounds of a `dyn`, if the self type is one.
 ghost use Rattle.type_terms.specs.Growth.{GrewOrFull};
-ghost use Rattle.std.specs.Prelude.{◌≡◌, IfOk, IfSome, option_map};
+ghost use Rattle.std.specs.Prelude.{◌≡◌, IfOk, IfSome, option_map, OnOk};
 ghost use Rattle.std.specs.List.{slice_get};
 ghost use Rattle.type_terms.specs.Promised.Rules.{principal_with};
 ghost use Rattle.type_terms.specs.Promised.Handles.{Has, types, bounds_lists, trees_at};
@@ -15,12 +15,11 @@ ghost use Rattle.declarations.specs.Applied.{references_in, TraitRefsHeld, IsApp
 ghost use Rattle.declarations.specs.Promised.Elaboration.{supertraits};
 ghost use Rattle.candidate_model.specs.Candidates.{all_equal, by_rule, by_objects};
 ghost use Rattle.built_in_candidates.specs.Goals.{asked_of, candidate_of};
+ghost use Rattle.built_in_candidates.specs.Noted.{StayElaborated};
 ghost use Rattle.built_in_candidates.specs.Objects.{ObjectIsApplied, AreArgumentsOf, WithLifetime, bound_in, object_bounds, written_and_elaborated};
 
 use crate::built_in::{SIZED, type_asked};
-use crate::dyn_type::{
-    count_autos, dyn_bounds, elaborated_principal, is_dyn_compatible, reference_at,
-};
+use crate::dyn_type::{count_autos, dyn_bounds, is_dyn_compatible, noted_principal, reference_at};
 use crate::parts::by_rule;
 use crate::relate::relate_args;
 use declarations::declarations::Declarations;
@@ -80,6 +79,7 @@ fn object_bound_at(
     def_id: TraitId,
     object: Object,
     place: usize,
+    notes: &mut Vec<TraitRef>,
 ) -> Result<Option<(BuiltinImplSource, TraitRef)>, Fault>
     requires declared { AreHeld cx.old.entries declarations.now }
     requires traits { HaveBounds cx.old.entries declarations.now }
@@ -87,15 +87,24 @@ fn object_bound_at(
     requires bounds { Has cx.old.entries bounds_lists object.bounds.0 }
     requires applied { let S = trees_at cx.old.entries object.self_ty.0 in
         WithLifetime cx.old.entries object.bounds (λ b. Each (AreArgumentsOf declarations.now) (principal_with S b)) }
+    requires notes { StayElaborated cx.old.entries declarations.now notes.old.items }
     ensures terms { GrewOrFull cx.old cx.new result }
+    ensures notes { OnOk result (StayElaborated cx.new.entries declarations.now notes.new.items) }
     ensures held { IfOk result (λ o. IfSome o (λ x. ReferenceHeld cx.new.entries x.1)) }
     ensures is { let V = written cx.old.entries declarations.now in let S = trees_at cx.old.entries object.self_ty.0 in
         IfOk result (λ o. WithLifetime cx.old.entries object.bounds (λ b. option_map (bound_in cx.new.entries) o
         ≡ slice_get (object_bounds V def_id.index S b) place)) }
 {
-    let from = elaborated_principal(alloc, cx, declarations, object.self_ty, object.bounds)?;
-    if is_dyn_compatible(declarations, from.principal, &from.elaborated) {
-        bound_of_trait(alloc, cx, def_id, object, &from.elaborated, place)
+    let principal = noted_principal(
+        alloc,
+        cx,
+        declarations,
+        object.self_ty,
+        object.bounds,
+        notes,
+    )?;
+    if is_dyn_compatible(declarations, principal, notes) {
+        bound_of_trait(alloc, cx, def_id, object, notes, place)
     } else {
         Ok(None)
     }
@@ -133,13 +142,14 @@ fn bound_candidate(
 /// auto traits that the `dyn` is written with come first, then its principal and the supertraits. The source of a candidate by one of
 /// the latter has its index in the elaborated list. rustc: `consider_object_bound_candidate`.
 ///
-/// Each call elaborates the principal, since a handler keeps no state between two candidates of a goal.
+/// The notes are left as the elaborated list, and a later call for the same `dyn` does not elaborate it again.
 pub fn consider_object_bound_candidate(
     alloc: Global,
     cx: &mut Interner,
     declarations: &Declarations,
     goal: &CanonicalInput,
     place: usize,
+    notes: &mut Vec<TraitRef>,
 ) -> Result<Option<CandidateSpec>, Fault>
     requires goal { GoalHeld cx.old.entries goal.now.goal }
     requires first { StartsWithType (trees_at cx.old.entries goal.now.goal.predicate.trait_ref.args.0) }
@@ -147,7 +157,9 @@ pub fn consider_object_bound_candidate(
     requires bounds { HaveBounds cx.old.entries declarations.now }
     requires applied { IsApplied cx.old.entries declarations.now goal.now.goal.predicate.trait_ref }
     requires object { ObjectIsApplied declarations.now (trees_at cx.old.entries goal.now.goal.predicate.trait_ref.args.0) }
+    requires notes { StayElaborated cx.old.entries declarations.now notes.old.items }
     ensures terms { GrewOrFull cx.old cx.new result }
+    ensures notes { OnOk result (StayElaborated cx.new.entries declarations.now notes.new.items) }
     ensures held { IfOk result (λ o. IfSome o (SpecHeld cx.new.entries)) }
     ensures is { let V = written cx.old.entries declarations.now in let a = asked_of cx.old.entries goal.now in
         IfOk result (λ o. option_map (candidate_of V a.reference.trait cx.new.entries) o ≡ slice_get (by_objects V a) place) }
@@ -157,7 +169,7 @@ pub fn consider_object_bound_candidate(
     match dyn_bounds(cx, self_ty) {
         Some(bounds) => {
             let object = Object { self_ty, bounds };
-            match object_bound_at(alloc, cx, declarations, asked.def_id, object, place)? {
+            match object_bound_at(alloc, cx, declarations, asked.def_id, object, place, notes)? {
                 Some((source, bound)) => {
                     let candidate = bound_candidate(alloc, cx, declarations, goal, source, bound)?;
                     Ok(Some(candidate))

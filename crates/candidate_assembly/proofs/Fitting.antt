@@ -75,7 +75,7 @@ of-struct ss (Some def) e = sorts-are ss (map sort_of_param def.params.items) e
 shut-is : (t : Trees) → is_shut t ≡ true → outer_binder t ≡ 0
 shut-is t e = eqb-true (outer_binder t) 0 e
 
-is-true : (b : Bool) → not b ≡ true → b ≡ false
+pub is-true : (b : Bool) → not b ≡ true → b ≡ false
 is-true true e = absurd (false-true e)
 is-true false e = refl
 

@@ -2,6 +2,7 @@
 -- goal to goal, and the solutions of nested goals are looked for where those of the goal are.
 use Rattle.std.proofs.Common.{◌≡◌, ◌≤◌, ℕ, ◌+◌, ◌*◌, max, arith, false, ◌&&◌, refl, sym, ◌∙◌, ap}
 use Rattle.std.proofs.lemmas.Nat.{mul-le}
+use Rattle.std.proofs.Math.Nat.{le_refl}
 use Rattle.type_terms.specs.Promised.Worlds.{World}
 use Rattle.infer_table.specs.Canonical.{CanonicalForm}
 use Rattle.infer_table.specs.declared.certainty.TypingMode.{TypingMode}
@@ -20,12 +21,13 @@ use Rattle.candidate_model.specs.Meaning.{proved_at}
 use Rattle.candidate_model.specs.DeclaredWell.{is_declared_well}
 use Rattle.candidate_model.specs.Lifetimes.{form_gives_lifetimes, given_by, GivesLifetimes}
 use Rattle.candidate_model.specs.Lawful.{ViewIsDeclaredWell}
-use Rattle.candidate_model.specs.Promised.Widths.{declared_width, number_at, clauses_in}
+use Rattle.candidate_model.specs.Promised.Widths.{declared_width, number_at, clauses_in, supertraits_in}
 use Rattle.candidate_model.specs.Solver.{widest_of, IsSolution}
 use Rattle.candidate_model.proofs.DeclaredWell.{tests-tell}
 use Rattle.candidate_model.proofs.SolverLaw.{solver-is-lawful-and-covers}
 use Rattle.candidate_model.proofs.Worlds.{same-place, keep-worlds}
 use Rattle.type_terms.proofs.Made.{left, right}
+use Rattle.built_in_candidates.proofs.Noted.{none-noted}
 use Rattle.candidate_assembly.specs.Kept.{ready-kept, solving-kept}
 use Rattle.candidate_assembly.specs.Solving.{Solving, meaning_for, solver_for}
 use Rattle.candidate_assembly.specs.SolverMeaning.{goals_by_view, solver_by_view}
@@ -47,10 +49,10 @@ greater-first a b d h = omega (arith, h)
 
 -- the bound on nested goals grows with the width
 number-grows : (V : World) (m k : ℕ) → m ≤ k → number_at V m ≤ number_at V k
-number-grows V m k h = sums (clauses_in V) ((m + (m + 1)) * m) ((k + (k + 1)) * k) (mul-le (m + (m + 1)) m (k + (k + 1)) k (omega (arith, h)) h)
+number-grows V m k h = sums (clauses_in V) (supertraits_in V) (m * supertraits_in V) (k * supertraits_in V) (mul-le m (supertraits_in V) k (supertraits_in V) h (le_refl (supertraits_in V)))
   where
-    sums : (c x y : ℕ) → x ≤ y → c + (x + (4 * m + 4)) ≤ c + (y + (4 * k + 4))
-    sums c x y e = omega (arith, h, e)
+    sums : (c s x y : ℕ) → x ≤ y → c + (s + ((m + (m + 2)) + (s + x))) ≤ c + (s + ((k + (k + 2)) + (s + y)))
+    sums c s x y e = omega (arith, h, e)
 
 pub goals-are-lawful : AreLawfulGoals goals_by_view
 goals-are-lawful = record {
@@ -82,5 +84,6 @@ pub solver-laws : HandlerIsLawful solver_by_view
 solver-laws = record {
   ready_kept = λ h old new k r. ready-kept h.declarations old new k r;
   world_kept = λ h old new k r. solving-kept h.declarations old new k r;
+  no_notes = λ h es. none-noted es h.declarations;
   goals = goals-are-lawful;
 }

@@ -14,6 +14,7 @@ use goal_evaluator::{Considered, HandlerStep};
 use goal_frames::GoalHandler;
 use infer_table::input::CanonicalInput;
 use std::alloc::Global;
+use term_folds::predicate::TraitRef;
 use type_terms::interner::Interner;
 use type_terms::{Fault, TraitId};
 
@@ -56,8 +57,9 @@ impl GoalHandler for Solver {
         cx: &mut Interner,
         goal: &CanonicalInput,
         done: &[Considered],
+        notes: &mut Vec<TraitRef>,
     ) -> Result<HandlerStep, Fault> {
-        compute_trait_goal(alloc, cx, &self.declarations, goal, done)
+        compute_trait_goal(alloc, cx, &self.declarations, goal, done, notes)
     }
 
     fn trait_is_coinductive(&self, def_id: TraitId) -> bool {

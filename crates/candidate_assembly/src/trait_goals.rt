@@ -8,7 +8,7 @@
 //!
 //! A goal that is not decided has one candidate, which is ambiguous.
 ghost use Rattle.type_terms.specs.Growth.{GrewOrFull};
-ghost use Rattle.std.specs.Prelude.{◌≡◌, ◌==◌, ◌&&◌, not, length, map, Some, Bool, List, IfErr, IfOk, IfSome, is_some, option_map};
+ghost use Rattle.std.specs.Prelude.{◌≡◌, ◌==◌, ◌&&◌, not, length, map, Some, Bool, List, IfErr, IfOk, IfSome, is_some, option_map, OnOk};
 ghost use Rattle.std.specs.List.{list_any, slice_get};
 ghost use Rattle.type_terms.specs.Promised.Handles.{Entry};
 ghost use Rattle.type_terms.specs.declared.Fault.TheVariants.{Memory};
@@ -24,6 +24,7 @@ ghost use Rattle.candidate_model.specs.Candidates.{unsure, by_objects};
 ghost use Rattle.candidate_model.specs.Solver.{says_nothing, is_non_global, is_settled};
 ghost use Rattle.candidate_assembly.specs.Counted.{ForEachPast};
 ghost use Rattle.built_in_candidates.specs.Goals.{asked_of, candidate_of};
+ghost use Rattle.built_in_candidates.specs.Noted.{StayElaborated};
 ghost use Rattle.candidate_assembly.specs.Nexts.{handled_in, IsNextBy, early_in, late_in, late_unless, until, next_inside_in, next_outside_in, next_decided, next_undecided, next_for, mode_at_end};
 ghost use Rattle.candidate_assembly.specs.Ready.{AreReadyDeclarations, Decides, IsWellPosedGoal};
 ghost use Rattle.candidate_assembly.specs.Sections.{is_unknowable, is_bound, is_first_step, misc_is_bound, considered_from};
@@ -46,6 +47,7 @@ use goal_evaluator::{
 use infer_table::input::CanonicalInput;
 use infer_table::response::CanonicalResponse;
 use std::alloc::Global;
+use term_folds::predicate::TraitRef;
 use type_terms::Fault;
 use type_terms::interner::Interner;
 
@@ -136,16 +138,19 @@ fn assemble_object_bound_candidates(
     declarations: &Declarations,
     goal: &CanonicalInput,
     done: &[Considered],
+    notes: &mut Vec<TraitRef>,
 ) -> Result<Option<CandidateSpec>, Fault>
-    requires { IsWellPosedGoal cx.old.entries declarations.now goal.now }
+    requires decided { IsWellPosedGoal cx.old.entries declarations.now goal.now }
+    requires notes { StayElaborated cx.old.entries declarations.now notes.old.items }
     ensures terms { GrewOrFull cx.old cx.new result }
     ensures held { IfOk result (λ o. IfSome o (SpecHeld cx.new.entries)) }
+    ensures notes { OnOk result (StayElaborated cx.new.entries declarations.now notes.new.items) }
     ensures is { let V = written cx.old.entries declarations.now in let a = asked_of cx.old.entries goal.now in
         IfOk result (λ o. ForEachPast cx.old.entries done.now (λ seen. option_map (candidate_of V a.reference.trait cx.new.entries) o
         ≡ slice_get (by_objects V a) (considered_from (is_bound (misc_is_bound a)) seen))) }
 {
     let place = considered_from(done, Section::ObjectBounds, misc_is_bound(cx, goal));
-    consider_object_bound_candidate(alloc, cx, declarations, goal, place)
+    consider_object_bound_candidate(alloc, cx, declarations, goal, place, notes)
 }
 
 /// The next candidate by a where-clause or a built-in rule.
@@ -175,16 +180,19 @@ fn late_candidate(
     declarations: &Declarations,
     goal: &CanonicalInput,
     done: &[Considered],
+    notes: &mut Vec<TraitRef>,
 ) -> Result<Option<CandidateSpec>, Fault>
     requires decided { IsWellPosedGoal cx.old.entries declarations.now goal.now }
     requires done { ConsideredHeld cx.old.entries done.now }
+    requires notes { StayElaborated cx.old.entries declarations.now notes.old.items }
     ensures terms { GrewOrFull cx.old cx.new result }
     ensures held { IfOk result (λ o. IfSome o (SpecHeld cx.new.entries)) }
+    ensures notes { OnOk result (StayElaborated cx.new.entries declarations.now notes.new.items) }
     ensures is { IfOk result (IsNextBy (late_in cx.old.entries declarations.now goal.now) cx.old.entries declarations.now goal.now done.now cx.new.entries) }
 {
     match assemble_impl_candidates(alloc, cx, declarations, goal, done)? {
         Some(candidate) => Ok(Some(candidate)),
-        None => assemble_object_bound_candidates(alloc, cx, declarations, goal, done),
+        None => assemble_object_bound_candidates(alloc, cx, declarations, goal, done, notes),
     }
 }
 
@@ -196,18 +204,21 @@ fn late_candidate_unless(
     goal: &CanonicalInput,
     done: &[Considered],
     stops: bool,
+    notes: &mut Vec<TraitRef>,
 ) -> Result<Option<CandidateSpec>, Fault>
     requires decided { IsWellPosedGoal cx.old.entries declarations.now goal.now }
     requires done { ConsideredHeld cx.old.entries done.now }
+    requires notes { StayElaborated cx.old.entries declarations.now notes.old.items }
     ensures terms { GrewOrFull cx.old cx.new result }
     ensures held { IfOk result (λ o. IfSome o (SpecHeld cx.new.entries)) }
+    ensures notes { OnOk result (StayElaborated cx.new.entries declarations.now notes.new.items) }
     ensures is { IfOk result
         (IsNextBy (late_unless stops cx.old.entries declarations.now goal.now) cx.old.entries declarations.now goal.now done.now cx.new.entries) }
 {
     if stops {
         Ok(None)
     } else {
-        late_candidate(alloc, cx, declarations, goal, done)
+        late_candidate(alloc, cx, declarations, goal, done, notes)
     }
 }
 
@@ -220,17 +231,20 @@ fn candidate_until(
     goal: &CanonicalInput,
     done: &[Considered],
     stops: bool,
+    notes: &mut Vec<TraitRef>,
 ) -> Result<Option<CandidateSpec>, Fault>
     requires decided { IsWellPosedGoal cx.old.entries declarations.now goal.now }
     requires done { ConsideredHeld cx.old.entries done.now }
+    requires notes { StayElaborated cx.old.entries declarations.now notes.old.items }
     ensures terms { GrewOrFull cx.old cx.new result }
     ensures held { IfOk result (λ o. IfSome o (SpecHeld cx.new.entries)) }
+    ensures notes { OnOk result (StayElaborated cx.new.entries declarations.now notes.new.items) }
     ensures is { IfOk result
         (IsNextBy (until stops cx.old.entries declarations.now goal.now) cx.old.entries declarations.now goal.now done.now cx.new.entries) }
 {
     match early_candidate(alloc, cx, declarations, goal, done)? {
         Some(candidate) => Ok(Some(candidate)),
-        None => late_candidate_unless(alloc, cx, declarations, goal, done, stops),
+        None => late_candidate_unless(alloc, cx, declarations, goal, done, stops, notes),
     }
 }
 
@@ -241,11 +255,14 @@ fn candidate_in_coherence(
     declarations: &Declarations,
     goal: &CanonicalInput,
     done: &[Considered],
+    notes: &mut Vec<TraitRef>,
 ) -> Result<Option<CandidateSpec>, Fault>
     requires decided { IsWellPosedGoal cx.old.entries declarations.now goal.now }
     requires done { ConsideredHeld cx.old.entries done.now }
+    requires notes { StayElaborated cx.old.entries declarations.now notes.old.items }
     ensures terms { GrewOrFull cx.old cx.new result }
     ensures held { IfOk result (λ o. IfSome o (SpecHeld cx.new.entries)) }
+    ensures notes { OnOk result (StayElaborated cx.new.entries declarations.now notes.new.items) }
     ensures is { IfOk result
         (IsNextBy (next_inside_in cx.old.entries declarations.now goal.now) cx.old.entries declarations.now goal.now done.now cx.new.entries) }
 {
@@ -256,7 +273,7 @@ fn candidate_in_coherence(
     if unknowable_holds(done) {
         return Ok(None);
     }
-    candidate_until(alloc, cx, declarations, goal, done, false)
+    candidate_until(alloc, cx, declarations, goal, done, false, notes)
 }
 
 /// The next candidate outside coherence.
@@ -266,17 +283,20 @@ fn candidate_outside_coherence(
     declarations: &Declarations,
     goal: &CanonicalInput,
     done: &[Considered],
+    notes: &mut Vec<TraitRef>,
 ) -> Result<Option<CandidateSpec>, Fault>
     requires decided { IsWellPosedGoal cx.old.entries declarations.now goal.now }
     requires done { ConsideredHeld cx.old.entries done.now }
     requires fits { ConsideredFits cx.old.entries done.now }
+    requires notes { StayElaborated cx.old.entries declarations.now notes.old.items }
     ensures terms { GrewOrFull cx.old cx.new result }
     ensures held { IfOk result (λ o. IfSome o (SpecHeld cx.new.entries)) }
+    ensures notes { OnOk result (StayElaborated cx.new.entries declarations.now notes.new.items) }
     ensures is { IfOk result
         (IsNextBy (next_outside_in cx.old.entries declarations.now goal.now) cx.old.entries declarations.now goal.now done.now cx.new.entries) }
 {
     let settled = is_settled(cx, done);
-    candidate_until(alloc, cx, declarations, goal, done, settled)
+    candidate_until(alloc, cx, declarations, goal, done, settled, notes)
 }
 
 /// The next candidate of a goal that is decided, in the goal's mode. If the newest candidate is by an impl, then no where-clause and no
@@ -287,22 +307,25 @@ fn decided_candidate(
     declarations: &Declarations,
     goal: &CanonicalInput,
     done: &[Considered],
+    notes: &mut Vec<TraitRef>,
 ) -> Result<Option<CandidateSpec>, Fault>
     requires decided { IsWellPosedGoal cx.old.entries declarations.now goal.now }
     requires done { ConsideredHeld cx.old.entries done.now }
     requires fits { ConsideredFits cx.old.entries done.now }
+    requires notes { StayElaborated cx.old.entries declarations.now notes.old.items }
     ensures terms { GrewOrFull cx.old cx.new result }
     ensures held { IfOk result (λ o. IfSome o (SpecHeld cx.new.entries)) }
+    ensures notes { OnOk result (StayElaborated cx.new.entries declarations.now notes.new.items) }
     ensures is { IfOk result
         (IsNextBy (next_decided cx.old.entries declarations.now goal.now) cx.old.entries declarations.now goal.now done.now cx.new.entries) }
 {
     if ends_by(done, Section::Impls) {
-        return late_candidate(alloc, cx, declarations, goal, done);
+        return late_candidate(alloc, cx, declarations, goal, done, notes);
     }
     match goal.mode {
-        TypingMode::Coherence => candidate_in_coherence(alloc, cx, declarations, goal, done),
+        TypingMode::Coherence => candidate_in_coherence(alloc, cx, declarations, goal, done, notes),
         TypingMode::PostAnalysis => {
-            candidate_outside_coherence(alloc, cx, declarations, goal, done)
+            candidate_outside_coherence(alloc, cx, declarations, goal, done, notes)
         }
     }
 }
@@ -331,18 +354,21 @@ pub fn assemble_and_evaluate_candidates(
     goal: &CanonicalInput,
     decided: bool,
     done: &[Considered],
+    notes: &mut Vec<TraitRef>,
 ) -> Result<Option<CandidateSpec>, Fault>
     requires ready { AreReadyDeclarations cx.old.entries declarations.now }
     requires goal { GoalHeld cx.old.entries goal.now.goal }
     requires decides { Decides cx.old.entries declarations.now goal.now decided }
     requires done { ConsideredHeld cx.old.entries done.now }
     requires fits { ConsideredFits cx.old.entries done.now }
+    requires notes { StayElaborated cx.old.entries declarations.now notes.old.items }
     ensures terms { GrewOrFull cx.old cx.new result }
     ensures held { IfOk result (λ o. IfSome o (SpecHeld cx.new.entries)) }
+    ensures notes { OnOk result (StayElaborated cx.new.entries declarations.now notes.new.items) }
     ensures is { IfOk result (IsNextBy (next_for cx.old.entries declarations.now goal.now) cx.old.entries declarations.now goal.now done.now cx.new.entries) }
 {
     if decided {
-        decided_candidate(alloc, cx, declarations, goal, done)
+        decided_candidate(alloc, cx, declarations, goal, done, notes)
     } else {
         Ok(undecided_candidate(alloc, done))
     }
@@ -388,19 +414,22 @@ pub fn compute_trait_goal(
     declarations: &Declarations,
     goal: &CanonicalInput,
     done: &[Considered],
+    notes: &mut Vec<TraitRef>,
 ) -> Result<HandlerStep, Fault>
     requires ready { AreReadyDeclarations cx.old.entries declarations.now }
     requires goal { GoalHeld cx.old.entries goal.now.goal }
     requires done { ConsideredHeld cx.old.entries done.now }
     requires fits { ConsideredFits cx.old.entries done.now }
     requires history { HasHistory cx.old.entries (handled_in cx.old.entries declarations.now goal.now) done.now }
+    requires notes { StayElaborated cx.old.entries declarations.now notes.old.items }
     ensures terms { GrewOrFull cx.old cx.new result }
     ensures held { IfOk result (HandlerStepHeld cx.new.entries) }
+    ensures notes { OnOk result (StayElaborated cx.new.entries declarations.now notes.new.items) }
     ensures fits { IfOk result (StepFits goal.now.variables.items cx.new.entries) }
     ensures next { IfOk result (IsNextAfter cx.old.entries (handled_in cx.old.entries declarations.now goal.now) done.now cx.new.entries) }
 {
     let decided = stays_decided(cx, declarations, goal, done);
-    match assemble_and_evaluate_candidates(alloc, cx, declarations, goal, decided, done)? {
+    match assemble_and_evaluate_candidates(alloc, cx, declarations, goal, decided, done, notes)? {
         Some(candidate) => Ok(HandlerStep::Consider(candidate)),
         None => {
             let mode = mode_at_end(goal.mode, decided);

@@ -29,7 +29,7 @@ use Rattle.type_terms.proofs.BooleanBasics.{either-last as or-right}
 abbrev AreOpen : List Label → Type 0
 AreOpen ls = Every (λ l. IsSome (kind_of_leaf l)) ls
 
-known-next : (o : Option CanonicalVarKind) (ks : List CanonicalVarKind) → is_some o ≡ true → with_first o (Some ks) ≡ Some (with_kind o ks)
+pub known-next : (o : Option CanonicalVarKind) (ks : List CanonicalVarKind) → is_some o ≡ true → with_first o (Some ks) ≡ Some (with_kind o ks)
 known-next None ks h = absurd (false-true h)
 known-next (Some k) ks h = refl
 
@@ -37,15 +37,15 @@ known-kinds : (ls : List Label) → AreOpen ls → all_known (map kind_of_leaf l
 known-kinds [] h = refl
 known-kinds (l ∷ ls) h = ap (with_first (kind_of_leaf l)) (known-kinds ls h.1) ∙ known-next (kind_of_leaf l) (kinds_of_labels ls) h.0
 
-kind-first : (o : Option CanonicalVarKind) (ks : List CanonicalVarKind) → is_some o ≡ true → kind_at (with_kind o ks) zero ≡ o
+pub kind-first : (o : Option CanonicalVarKind) (ks : List CanonicalVarKind) → is_some o ≡ true → kind_at (with_kind o ks) zero ≡ o
 kind-first None ks h = absurd (false-true h)
 kind-first (Some k) ks h = refl
 
-kind-later : (o : Option CanonicalVarKind) (ks : List CanonicalVarKind) (i : ℕ) → is_some o ≡ true → kind_at (with_kind o ks) (suc i) ≡ kind_at ks i
+pub kind-later : (o : Option CanonicalVarKind) (ks : List CanonicalVarKind) (i : ℕ) → is_some o ≡ true → kind_at (with_kind o ks) (suc i) ≡ kind_at ks i
 kind-later None ks i h = absurd (false-true h)
 kind-later (Some k) ks i h = refl
 
-kind-place : (ls : List Label) → AreOpen ls → (l : Label) → is_label_among l ls ≡ true → kind_at (kinds_of_labels ls) (place_of l ls) ≡ kind_of_leaf l
+pub kind-place : (ls : List Label) → AreOpen ls → (l : Label) → is_label_among l ls ≡ true → kind_at (kinds_of_labels ls) (place_of l ls) ≡ kind_of_leaf l
 kind-place [] h l a = absurd (false-true a)
 kind-place (m ∷ ls) h l a = by (same_label m l) refl a (λ f. kind-place ls h.1 l f)
   where
@@ -54,7 +54,7 @@ kind-place (m ∷ ls) h l a = by (same_label m l) refl a (λ f. kind-place ls h.
     by true q f g = kind-first (kind_of_leaf m) (kinds_of_labels ls) h.0 ∙ ap kind_of_leaf (same-label-sound m l q)
     by false q f g = kind-later (kind_of_leaf m) (kinds_of_labels ls) (place_of l ls) h.0 ∙ g f
 
-open-kind : (l : Label) → is_some (kind_of_leaf l) ≡ true → is_kind_of (sort_of l) (kind_of_leaf l) ≡ true
+pub open-kind : (l : Label) → is_some (kind_of_leaf l) ≡ true → is_kind_of (sort_of l) (kind_of_leaf l) ≡ true
 open-kind (infer of_type v) h = refl
 open-kind (infer of_const v) h = refl
 open-kind (infer of_lifetime v) h = refl

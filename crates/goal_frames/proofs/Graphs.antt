@@ -1,6 +1,6 @@
 -- A proof graph of a search unfolds to a proof.
 use Rattle.std.proofs.Common.{◌≡◌, Bool, true, false, List, [], ◌∷◌, inl, inr, refl, sym, ◌∙◌, ap, subst}
-use Rattle.search_graph.specs.declared.path_kind.PathKind.{PathKind}
+use Rattle.search_graph.specs.SearchPaths.declared.path_kind.PathKind.{PathKind}
 use Rattle.search_graph.specs.Path.{is_coinductive_path}
 use Rattle.search_graph.specs.Proof as Searched
 use Rattle.goal_evaluator.specs.Lists.{IsAmong}

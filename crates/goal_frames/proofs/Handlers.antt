@@ -28,7 +28,7 @@ use Rattle.goal_evaluator.specs.TableOperations.{begin, fresh}
 use Rattle.goal_evaluator.specs.Tables.{frame_tables}
 use Rattle.goal_evaluator.proofs.FrameTableLaws.{tables_are_lawful}
 use Rattle.goal_frames.specs.Listings.{listed, IsListing}
-use Rattle.goal_frames.specs.Rules.{TraitBound, goal_of, FrameRule, RuleBook, BoundIsOver, IsRule, AreRules, instance_of, IsBy, IsClosedFact, is_coinductive_trait, is_coinductive, FollowsClosed, HasProofByBook}
+use Rattle.goal_frames.specs.Rules.{TraitBound, goal_of, FrameRule, RuleBook, BoundIsOver, IsRule, AreRules, instance_of, IsBy, IsClosedFact, is_coinductive_trait, fact_is_coinductive, FollowsClosed, HasProofByBook}
 use Rattle.goal_frames.specs.Handlers.{BareGoal, bare_goal, bound_behind, as_one, nested_of_bound, spec_of, specs_for, unsure, number_of_rules, same_answer, applies_always, has_placeholder, world_of_search, widest_of, listing_of, handled_by}
 use Rattle.goal_frames.proofs.Listings.{listings-are-lawful}
 use Rattle.goal_evaluator.proofs.Readings.{reads-agree}
@@ -167,7 +167,7 @@ module _ (book : RuleBook) (rules_are : AreRules book) (mode : TypingMode) (f : 
 
   cover-asked : (v : Values) → HasProofByBook book (goal v) → SomeOf (Realizes frame_tables (HasProofByBook book) (begin a.kinds) v) (specs_for kind a book.rules)
   cover-asked v p =
-      let last = last_rule Fact (FollowsClosed book) (is_coinductive book) (goal v) p in
+      let last = last_rule Fact (FollowsClosed book) (fact_is_coinductive book) (goal v) p in
       some-spec kind a (Realizes frame_tables (HasProofByBook book) (begin a.kinds) v) book.rules
       (SomeOf-both IsRule (IsBy (goal v) last.0) (λ (r : FrameRule). (r.head.trait ≡ a.bound.trait) × Realizes frame_tables (HasProofByBook book) (begin a.kinds) v (spec_of kind a r))
       (λ r good by. (sym (parts v last.1.0 r good last.0 by).0, realizes v last.1.0 r good last.0 by last.2)) book.rules rules_are last.1.1)

@@ -2,12 +2,12 @@
 use Rattle.std.proofs.Common.{◌≡◌, ℕ, zero, suc, ◌+◌, ◌≤◌, ◌<◌, Bool, true, false, cond, List, [], ◌∷◌, ◌++◌, length, ◌⊎◌, inl, inr, refl, sym, ◌∙◌, ap, subst, Option, Some, None, unwrap_or, slice_get, arith}
 use Rattle.std.specs.Prelude.{slice_set}
 use Rattle.std.proofs.lemmas.List.{length-set}
-use Rattle.search_graph.specs.declared.path_kind.PathKind.{PathKind}
+use Rattle.search_graph.specs.SearchPaths.declared.path_kind.PathKind.{PathKind}
 use Rattle.search_graph.specs.declared.delegate.Request.{Request}
 use Rattle.search_graph.specs.declared.delegate.Request.TheVariants.{Evaluate, IgnoreCandidate, Done}
 use Rattle.search_graph.specs.declared.delegate.Reply.{Reply}
 use Rattle.search_graph.specs.declared.delegate.Reply.TheVariants.{Begin, Result, Entered, Finished, Ignored}
-use Rattle.search_graph.specs.Meaning.{Meaning, finished, ignoring, IsReplyTo, IsReplyBy, AreReplies, premise_of, premises_back, premises, answer_count, is_open, IsInOrder}
+use Rattle.search_graph.specs.Meaning.{Meaning, finished, ignoring, IsReplyTo, IsReplyBy, AreReplies, premise_of, premises_back, premises, answer_count, has_open_candidate, IsInOrder}
 use Rattle.goal_evaluator.specs.Lists.{SomeOf, IsAmong, IsNoneOf}
 use Rattle.goal_evaluator.specs.Script.{Script, done, ask}
 use Rattle.goal_evaluator.specs.Frame as Scripts
@@ -259,7 +259,7 @@ module _ {C I R F : Type 0} (m : Meaning C I R F) (Q : Type 0) (goal : Q → m.G
 
     -- ---- requests come in order
     abbrev IsOpenAt : List (Reply m.Answer) → Position Q m.Answer → Type 0
-    IsOpenAt heard p = is_open m heard ≡ is_inside p
+    IsOpenAt heard p = has_open_candidate m heard ≡ is_inside p
 
     open_on : IsKept IsOpenAt
     open_on heard =

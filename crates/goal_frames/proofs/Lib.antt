@@ -36,3 +36,4 @@ mod Keeping
 pub mod Merging
 pub mod Responses
 pub mod Collecting
+pub mod Notes

@@ -8,7 +8,7 @@ use Rattle.type_terms.specs.Growth.{FullAtLimit}
 use Rattle.infer_table.specs.declared.input.CanonicalInput.{CanonicalInput}
 use Rattle.infer_table.specs.declared.response.CanonicalResponse.{CanonicalResponse}
 use Rattle.infer_table.specs.Responses.{AnswerTrees, answer_trees}
-use Rattle.search_graph.specs.declared.path_kind.PathKind.{PathKind}
+use Rattle.search_graph.specs.SearchPaths.declared.path_kind.PathKind.{PathKind}
 use Rattle.search_graph.specs.declared.delegate.Request.{Request}
 use Rattle.search_graph.specs.declared.delegate.Request.TheVariants.{Evaluate, FinishCandidate}
 use Rattle.goal_evaluator.specs.declared.candidate.CandidateSource.{CandidateSource}

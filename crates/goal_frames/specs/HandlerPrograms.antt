@@ -1,7 +1,7 @@
 -- The goals of a handler as the programs of a search.
-use Rattle.std.specs.Prelude.{◌≡◌, ◌≤◌, false, List, Option, Some, None}
-use Rattle.search_graph.specs.declared.path_kind.PathKind.{PathKind}
-use Rattle.search_graph.specs.declared.path_kind.PathKind.TheVariants.{Inductive, Unknown, Coinductive, ForcedAmbiguity}
+use Rattle.std.specs.Prelude.{◌≡◌, ◌≤◌, false, List, [], Option, Some, None}
+use Rattle.search_graph.specs.SearchPaths.declared.path_kind.PathKind.{PathKind}
+use Rattle.search_graph.specs.SearchPaths.declared.path_kind.PathKind.TheVariants.{Inductive, Unknown, Coinductive, ForcedAmbiguity}
 use Rattle.infer_table.specs.Canonical.{CanonicalForm}
 use Rattle.infer_table.specs.declared.certainty.Certainty.{Certainty}
 use Rattle.infer_table.specs.declared.certainty.Certainty.TheVariants.{Yes, Maybe}
@@ -98,4 +98,6 @@ pub record HandlerIsLawful {Handler : Type 0} (m : HandlerMeaning Handler) : Typ
   -- as the interner grows, handles stay ready and represent the same declarations
   pub ready_kept : (h : Handler) (old new : List Entry) → Keeps old new → m.IsReady h old → m.IsReady h new
   pub world_kept : (h : Handler) (old new : List Entry) → Keeps old new → m.IsReady h old → m.world h new ≡ m.world h old
+  -- who notes nothing claims nothing
+  pub no_notes : (h : Handler) (es : List Entry) → m.AreNotes h es []
   pub goals : AreLawfulGoals m.goals

@@ -16,3 +16,4 @@ pub mod Steps
 pub mod Stores
 pub mod Meanings
 pub mod Merges
+pub mod Notes

@@ -1,7 +1,7 @@
 -- The handlers of all goals, for all declarations of contexts, and their laws.
 use Rattle.std.specs.Prelude.{◌≡◌, ◌≤◌, Bool, false, List, Option, Some, None}
-use Rattle.search_graph.specs.declared.path_kind.PathKind.{PathKind}
-use Rattle.search_graph.specs.declared.path_kind.PathKind.TheVariants.{Coinductive}
+use Rattle.search_graph.specs.SearchPaths.declared.path_kind.PathKind.{PathKind}
+use Rattle.search_graph.specs.SearchPaths.declared.path_kind.PathKind.TheVariants.{Coinductive}
 use Rattle.goal_evaluator.specs.Table.{Tables}
 use Rattle.goal_evaluator.specs.Law.{IsYes}
 use Rattle.goal_evaluator.specs.Handler.{Handled, IsHandler}

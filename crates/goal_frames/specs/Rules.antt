@@ -89,8 +89,8 @@ module _ (book : RuleBook) where
   is_coinductive_trait None = false
   is_coinductive_trait (Some i) = book.coinductive i
 
-  abbrev pub is_coinductive : Fact → Bool
-  is_coinductive f = is_coinductive_trait f.trait
+  abbrev pub fact_is_coinductive : Fact → Bool
+  fact_is_coinductive f = is_coinductive_trait f.trait
 
   -- only for proper trait references
   abbrev pub FollowsByRule : Fact → List Fact → Type 0
@@ -101,4 +101,4 @@ module _ (book : RuleBook) where
 
   -- solutions are sought among concrete trait references
   abbrev pub HasProofByBook : Fact → Type 0
-  HasProofByBook f = FactHasProof Fact FollowsClosed is_coinductive f
+  HasProofByBook f = FactHasProof Fact FollowsClosed fact_is_coinductive f

@@ -1,14 +1,14 @@
 //! The frame of a goal.
 
 ghost use Rattle.type_terms.specs.Growth.{GrewOrFull};
-ghost use Rattle.std.specs.Prelude.{◌≡◌, [], Err, IfOk, IfSome, drop, option_map, List};
+ghost use Rattle.std.specs.Prelude.{◌≡◌, [], Err, IfOk, IfSome, drop, option_map, List, OnOk};
 ghost use Rattle.type_terms.specs.Promised.Handles.{Entry};
 ghost use Rattle.infer_table.specs.Goals.{GoalHeld};
 ghost use Rattle.infer_table.specs.Canonical.{CanonicalForm};
 ghost use Rattle.infer_table.specs.declared.certainty.TypingMode.{TypingMode};
 ghost use Rattle.goal_evaluator.specs.Readings.{ResultHeld, SpecHeld, is_coinductive_step};
 ghost use Rattle.goal_frames.specs.Searches.{step_kind};
-ghost use Rattle.goal_frames.specs.Meanings.{goal_meaning};
+ghost use Rattle.goal_frames.specs.Meanings.{StayNotes, goal_meaning};
 ghost use Rattle.goal_frames.specs.Fitting.{ResultFits};
 ghost use Rattle.goal_frames.specs.Places.{FrameStanding};
 ghost use Rattle.goal_frames.specs.Frames.{FrameHeld, HasHeard, ReplyIsDue, ReplyIsMade, RequestHeld, FrameSteps, AsksHandler, AsksAt, GoesOnWith, IgnoresAt, IsAtStep, IsFinishingWith, reply_read};
@@ -24,6 +24,7 @@ use infer_table::response::CanonicalResponse;
 use search_graph::{PathKind, Reply, Request};
 use std::alloc::Global;
 use std::mem;
+use term_folds::predicate::TraitRef;
 use type_terms::Fault;
 use type_terms::interner::Interner;
 
@@ -53,6 +54,8 @@ pub struct GoalFrame {
     /// The finished candidates, the oldest first.
     considered: Vec<Considered>,
     place: Place,
+    /// What the handler left for its next step.
+    notes: Vec<TraitRef>,
 }
 
 // Hand-written so that the prover sees one drop call: docs/PROVING.md#drop.
@@ -62,6 +65,7 @@ impl Drop for GoalFrame {
             goal: _,
             considered: _,
             place: _,
+            notes: _,
         } = self;
     }
 }
@@ -91,6 +95,7 @@ impl GoalFrame {
     /// The frame of a goal, without replies.
     pub fn new<H: GoalHandler>(alloc: Global, goal: CanonicalInput) -> GoalFrame
         ensures goal { result.goal ≡ goal }
+        ensures notes { result.notes.items ≡ [] }
         ensures heard { (es : List Entry) (m : H.meaning.goals.World) (mode : TypingMode) (form : CanonicalForm) → GoalHeld es goal.goal
             → HasHeard es (H.meaning.goals.handled m mode form) result [] }
     {
@@ -98,6 +103,7 @@ impl GoalFrame {
             goal,
             considered: Vec::new(alloc),
             place: Place::Begun,
+            notes: Vec::new(alloc),
         }
     }
 
@@ -134,11 +140,14 @@ impl GoalFrame {
         requires ready { H.meaning.IsReady handler.now cx.old.entries }
         requires reply { ReplyIsMade cx.old.entries reply }
         requires due { ReplyIsDue cx.old.entries (goal_meaning H.meaning handler.now cx.old.entries self.old.goal) self.old (reply_read cx.old.entries reply) }
+        requires notes { StayNotes H.meaning handler.now cx.old.entries self.old.notes.items }
         ensures goal { self.new.goal ≡ self.old.goal }
         ensures terms { GrewOrFull cx.old cx.new result }
         ensures held { IfOk result (RequestHeld cx.new.entries) }
         ensures steps { IfOk result (let h = goal_meaning H.meaning handler.now cx.old.entries self.old.goal in
             FrameSteps cx.old.entries h self.old (reply_read cx.old.entries reply) cx.new.entries self.new) }
+
+        ensures notes { OnOk result (StayNotes H.meaning handler.now cx.new.entries self.new.notes.items) }
 
         // The open candidate can request fewer responses than before.
         ensures fewer { IfOk result (λ _. AsksFewer self.old.place self.new.place) }
@@ -178,13 +187,15 @@ impl GoalFrame {
         requires ready { H.meaning.IsReady handler.now cx.old.entries }
         requires held { FrameHeld cx.old.entries self.old }
         requires between { (p : FrameStanding) × AsksHandler cx.old.entries (goal_meaning H.meaning handler.now cx.old.entries self.old.goal) self.old p }
+        requires notes { StayNotes H.meaning handler.now cx.old.entries self.old.notes.items }
         ensures goal { self.new.goal ≡ self.old.goal }
         ensures terms { GrewOrFull cx.old cx.new result }
         ensures held { IfOk result (λ q. FrameHeld cx.new.entries self.new × RequestHeld cx.new.entries q) }
+        ensures notes { OnOk result (StayNotes H.meaning handler.now cx.new.entries self.new.notes.items) }
         ensures asks { IfOk result (λ q. let h = goal_meaning H.meaning handler.now cx.old.entries self.old.goal in
             (p : FrameStanding) → AsksHandler cx.old.entries h self.old p → AsksAt self.old.goal.mode cx.new.entries h self.new q p) }
     {
-        match handler.step(alloc, cx, &self.goal, &self.considered)? {
+        match handler.step(alloc, cx, &self.goal, &self.considered, &mut self.notes)? {
             HandlerStep::Consider(spec) => {
                 self.place = Place::Entering(spec);
                 Ok(Request::EnterCandidate)
@@ -204,6 +215,7 @@ impl GoalFrame {
         step: Result<CandidateStep, EvalError>,
     ) -> Result<Request<CanonicalInput, Option<CanonicalResponse>>, Fault>
         ensures goal { self.new.goal ≡ self.old.goal }
+        ensures notes { self.new.notes ≡ self.old.notes }
         ensures place { IfOk result (λ _. IsAtStep step self.new.place) }
         ensures goes_on { IfOk result (λ q. (old new : List Entry) →
             GoesOnWith old new (goal_meaning H.meaning handler.now old self.old.goal) self.old source step self.new q) }
@@ -244,6 +256,7 @@ impl GoalFrame {
     ) -> Request<CanonicalInput, Option<CanonicalResponse>>
         ensures goal { self.new.goal ≡ self.old.goal }
         ensures considered { self.new.considered ≡ self.old.considered }
+        ensures notes { self.new.notes ≡ self.old.notes }
         ensures held { (es : List Entry) → FrameHeld es self.old → ResultHeld es answer → ResultFits es answer → FrameHeld es self.new × RequestHeld es result }
         ensures asks { IgnoresAt answer (drop at ignored.items) result self.new.place }
     {

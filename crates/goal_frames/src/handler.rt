@@ -1,7 +1,7 @@
 //! Handlers: the rules of goals, for the frames that evaluate them.
 
 ghost use Rattle.type_terms.specs.Growth.{GrewOrFull};
-ghost use Rattle.std.specs.Prelude.{◌≡◌, List, IfOk};
+ghost use Rattle.std.specs.Prelude.{◌≡◌, List, IfOk, OnOk};
 ghost use Rattle.type_terms.specs.Promised.Handles.{Entry};
 ghost use Rattle.infer_table.specs.declared.certainty.TypingMode.{TypingMode};
 ghost use Rattle.infer_table.specs.Canonical.{CanonicalForm};
@@ -11,13 +11,14 @@ ghost use Rattle.goal_evaluator.specs.Readings.{IsOfTrait, ConsideredHeld, Handl
 ghost use Rattle.goal_evaluator.specs.Tables.{frame_tables};
 ghost use Rattle.goal_evaluator.specs.StepReadings.{HasHistory, IsNextAfter};
 ghost use Rattle.goal_frames.specs.Fitting.{ConsideredFits, StepFits};
-ghost use Rattle.goal_frames.specs.Meanings.{HandlerMeaning, goal_meaning};
+ghost use Rattle.goal_frames.specs.Meanings.{HandlerMeaning, StayNotes, goal_meaning};
 ghost use Rattle.goal_frames.specs.HandlerPrograms.{HandlerIsLawful, HandlersArePrograms};
 ghost use Rattle.goal_frames.specs.Steps.{StepsFall};
 
 use goal_evaluator::{Considered, HandlerStep};
 use infer_table::input::CanonicalInput;
 use std::alloc::Global;
+use term_folds::predicate::TraitRef;
 use type_terms::interner::Interner;
 use type_terms::{Fault, TraitId};
 
@@ -34,22 +35,28 @@ pub trait GoalHandler {
     ///
     /// It depends only on the goal, its typing mode and the candidates. A candidate's terms contain only the goal's variables and
     /// its own. The values of a response contain only its own variables.
+    ///
+    /// A frame keeps `notes` for its handler: the handler may leave there what it has found, so as not to find it again for the
+    /// next candidate. They are empty at first. Whatever true notes it gets, the request is the same.
     fn step(
         &self,
         alloc: Global,
         cx: &mut Interner,
         goal: &CanonicalInput,
         done: &[Considered],
+        notes: &mut Vec<TraitRef>,
     ) -> Result<HandlerStep, Fault>
         requires ready { meaning.IsReady self.now cx.old.entries }
         requires goal { GoalHeld cx.old.entries goal.now.goal }
         requires done { ConsideredHeld cx.old.entries done.now }
         requires fits { ConsideredFits cx.old.entries done.now }
         requires history { HasHistory cx.old.entries (goal_meaning meaning self.now cx.old.entries goal.now) done.now }
+        requires notes { StayNotes meaning self.now cx.old.entries notes.old.items }
         // `Full` is returned only if some kind of term has reached the interner's limit.
         ensures terms { GrewOrFull cx.old cx.new result }
         ensures held { IfOk result (HandlerStepHeld cx.new.entries) }
         ensures fits { IfOk result (StepFits goal.now.variables.items cx.new.entries) }
+        ensures notes { OnOk result (StayNotes meaning self.now cx.new.entries notes.new.items) }
 
         // It is the next request after each history that the candidates show.
         ensures next { IfOk result (IsNextAfter cx.old.entries (goal_meaning meaning self.now cx.old.entries goal.now) done.now cx.new.entries) };

@@ -15,6 +15,7 @@ use Rattle.candidate_model.specs.Candidates.{by_rule, all_equal}
 use Rattle.built_in_candidates.specs.Goals.{asked_of, candidate_of}
 use Rattle.built_in_candidates.specs.Objects.{AreArgumentsOf, bound_in}
 use Rattle.built_in_candidates.proofs.Asking.{asked-later}
+use Rattle.built_in_candidates.proofs.Noted.{noted-later}
 use Rattle.built_in_candidates.proofs.Objects.{principal-any, object-applied, object-first, by_bound, objects-at, no-objects}
 use Rattle.built_in_candidates.proofs.object.consider_object_bound_candidate.Goals as goal
 
@@ -85,3 +86,7 @@ returns-in-None-clause-is c =
     let S = trees_at es c.self_ty-self_ty.result.0 in
     let first = trees-is es types c.self_ty-self_ty.result.0 _ c.self_ty-self_ty.ensures.is in
     no-objects V (asked_of es g) T S c.requires.first first c.in-None.ensures c.args.place
+
+pub returns-in_ok-candidate-in-Some-2-clause-notes : goal.returns-in_ok-candidate-in-Some-2-clause-notes
+returns-in_ok-candidate-in-Some-2-clause-notes c =
+    noted-later c.object_bound_at.new.cx.entries c.bound_candidate.new.cx.entries c.args.declarations.now c.object_bound_at.new.notes.items c.bound_candidate.ensures.terms.grew.keeps c.in_ok-source-in-Some.ensures.notes

@@ -12,7 +12,7 @@ use Rattle.candidate_assembly.proofs.DecidedGoals.{object}
 use Rattle.candidate_assembly.proofs.trait_goals.assemble_object_bound_candidates.Goals as goal
 
 pub consider_object_bound_candidate-requires-clause-object : goal.consider_object_bound_candidate-requires-clause-object
-consider_object_bound_candidate-requires-clause-object c = object c.args.cx.now.entries c.args.declarations.now c.args.goal.now c.requires
+consider_object_bound_candidate-requires-clause-object c = object c.args.cx.now.entries c.args.declarations.now c.args.goal.now c.requires.decided
 
 pub returns-clause-is : goal.returns-clause-is
 returns-clause-is c =

@@ -5,6 +5,7 @@ use Rattle.candidate_model.specs.Candidates.{unknowable}
 use Rattle.candidate_model.specs.Knowing.{is_knowable}
 use Rattle.candidate_model.specs.Solver.{holds_from}
 use Rattle.built_in_candidates.specs.Goals.{asked_of}
+use Rattle.built_in_candidates.proofs.Noted.{noted-later}
 use Rattle.candidate_assembly.specs.Nexts.{until}
 use Rattle.candidate_assembly.specs.Sections.{is_first_step, is_unknowable}
 use Rattle.candidate_assembly.proofs.DecidedGoals.{inside-same, inside-none}
@@ -34,3 +35,7 @@ returns-clause-is c =
     ∙ inside-same (is_first_step seen && not (is_knowable V d.local a.reference)) (holds_from is_unknowable seen) (Some (unknowable V a)) (until false es d g seen)
     (sym (c.in_ok-begins_unknowable.ensures.is seen s) ∙ c.if-branch.false) (sym (holds is_unknowable es c.args.done.now seen s) ∙ sym c.unknowable_holds.ensures ∙ c.if-unknowable_holds.false))
     c.candidate_until.ensures.is
+
+pub returns-then-branch-clause-notes : goal.returns-then-branch-clause-notes
+returns-then-branch-clause-notes c =
+    noted-later c.args.cx.now.entries c.consider_coherence_unknowable_candidate.new.cx.entries c.args.declarations.now c.args.notes.now.items c.in_ok-candidate.ensures.terms.grew.keeps c.requires.notes

@@ -4,6 +4,7 @@ use Rattle.goal_frames.proofs.Later.{considered-later}
 use Rattle.type_terms.proofs.Grown.{grew-on}
 use Rattle.declarations.specs.Items.{written}
 use Rattle.built_in_candidates.specs.Goals.{candidate_of}
+use Rattle.built_in_candidates.proofs.Noted.{noted-later}
 use Rattle.candidate_assembly.specs.Nexts.{early_in, late_unless}
 use Rattle.candidate_assembly.specs.Sections.{late}
 use Rattle.candidate_assembly.proofs.DecidedGoals.{decided-later, histories-later, first-of, second-of}
@@ -15,6 +16,14 @@ late_candidate_unless-requires-clause-decided c =
 
 pub late_candidate_unless-requires-clause-done : goal.late_candidate_unless-requires-clause-done
 late_candidate_unless-requires-clause-done c = considered-later c.args.cx.now.entries c.early_candidate.new.cx.entries c.in_ok-candidate.ensures.terms.grew.keeps c.args.done.now c.requires.done
+
+pub late_candidate_unless-requires-clause-notes : goal.late_candidate_unless-requires-clause-notes
+late_candidate_unless-requires-clause-notes c =
+    noted-later c.args.cx.now.entries c.early_candidate.new.cx.entries c.args.declarations.now c.args.notes.now.items c.in_ok-candidate.ensures.terms.grew.keeps c.requires.notes
+
+pub returns-in-Some-clause-notes : goal.returns-in-Some-clause-notes
+returns-in-Some-clause-notes c =
+    noted-later c.args.cx.now.entries c.early_candidate.new.cx.entries c.args.declarations.now c.args.notes.now.items c.in_ok-candidate.ensures.terms.grew.keeps c.requires.notes
 
 pub returns-in-None-clause-terms : goal.returns-in-None-clause-terms
 returns-in-None-clause-terms c = record {

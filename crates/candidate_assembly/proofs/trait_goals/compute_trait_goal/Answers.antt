@@ -5,6 +5,7 @@ use Rattle.goal_evaluator.specs.Tables.{frame_tables}
 use Rattle.goal_frames.proofs.Later.{shown-later, considered-later, considered-fits-later}
 use Rattle.declarations.specs.Items.{written}
 use Rattle.built_in_candidates.specs.Goals.{candidate_of}
+use Rattle.built_in_candidates.proofs.Noted.{always-ok, noted-later}
 use Rattle.candidate_assembly.specs.Merging.{end_in}
 use Rattle.candidate_assembly.specs.Nexts.{mode_at_end}
 use Rattle.candidate_assembly.proofs.TraitGoals.{considers, answers, candidate-fits}
@@ -49,3 +50,9 @@ returns-in-None-clause-next c =
     ∙ ap (λ ks. wanted frame_tables (end_in (mode_at_end g.mode b) ks seen)) c.deref.ensures.value
     ∙ answers es d g b c.stays_decided-decided.ensures seen t (ap (option_map at) (sym c.in-None.is) ∙ c.in_ok-candidate.ensures.is seen s t))
     c.merge_trait_candidates.ensures.is
+
+pub returns-in-None-clause-notes : goal.returns-in-None-clause-notes
+returns-in-None-clause-notes c =
+    let mid = c.assemble_and_evaluate_candidates.new.cx.entries in
+    always-ok c.merge_trait_candidates.result
+    (noted-later mid c.merge_trait_candidates.new.cx.entries c.args.declarations.now c.assemble_and_evaluate_candidates.new.notes.items c.merge_trait_candidates.ensures.terms.grew.keeps c.in_ok-candidate.ensures.notes)

@@ -3,12 +3,21 @@ use Rattle.std.proofs.lemmas.Result.{IfOk-weaker}
 use Rattle.type_terms.proofs.Grown.{grew-on}
 use Rattle.declarations.specs.Items.{written}
 use Rattle.built_in_candidates.specs.Goals.{asked_of, candidate_of}
+use Rattle.built_in_candidates.proofs.Noted.{noted-later}
 use Rattle.candidate_assembly.proofs.DecidedGoals.{decided-later, past-later, walk-in, first-of, second-of, next_impl, next_bound}
 use Rattle.candidate_assembly.proofs.trait_goals.late_candidate.Goals as goal
 
-pub assemble_object_bound_candidates-requires : goal.assemble_object_bound_candidates-requires
-assemble_object_bound_candidates-requires c =
+pub assemble_object_bound_candidates-requires-clause-decided : goal.assemble_object_bound_candidates-requires-clause-decided
+assemble_object_bound_candidates-requires-clause-decided c =
     decided-later c.args.cx.now.entries c.assemble_impl_candidates.new.cx.entries c.in_ok-candidate.ensures.terms.grew.keeps c.args.declarations.now c.args.goal.now c.requires.decided
+
+pub assemble_object_bound_candidates-requires-clause-notes : goal.assemble_object_bound_candidates-requires-clause-notes
+assemble_object_bound_candidates-requires-clause-notes c =
+    noted-later c.args.cx.now.entries c.assemble_impl_candidates.new.cx.entries c.args.declarations.now c.args.notes.now.items c.in_ok-candidate.ensures.terms.grew.keeps c.requires.notes
+
+pub returns-in-Some-clause-notes : goal.returns-in-Some-clause-notes
+returns-in-Some-clause-notes c =
+    noted-later c.args.cx.now.entries c.assemble_impl_candidates.new.cx.entries c.args.declarations.now c.args.notes.now.items c.in_ok-candidate.ensures.terms.grew.keeps c.requires.notes
 
 pub returns-in-None-clause-terms : goal.returns-in-None-clause-terms
 returns-in-None-clause-terms c = record {

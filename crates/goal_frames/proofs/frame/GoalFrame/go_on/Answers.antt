@@ -14,7 +14,8 @@ returns-in-Consider-clause-held g c =
     let f = c.args.self.now in
     let held = subst (HandlerStepHeld c.step.new.cx.entries) c.in-Consider.is c.in_ok-spec.ensures.held in
     let fits = subst (StepFits f.goal.variables.items c.step.new.cx.entries) c.in-Consider.is c.in_ok-spec.ensures.fits in
-    (frame-at c.args.cx.now.entries c.step.new.cx.entries c.step.ensures.terms.grew.keeps f c.requires.held (Entering c.in-Consider.spec) (held, fits), tt)
+    let there = frame-at c.args.cx.now.entries c.step.new.cx.entries c.step.ensures.terms.grew.keeps f c.requires.held (Entering c.in-Consider.spec) (held, fits) in
+    (record { goal = there.goal; considered = there.considered; fits = there.fits; place = there.place }, tt)
 
 pub returns-in-Consider-clause-asks : goal.returns-in-Consider-clause-asks
 returns-in-Consider-clause-asks g c =
@@ -31,7 +32,8 @@ returns-in-Answer-clause-held g c =
     let f = c.args.self.now in
     let old = c.args.cx.now.entries in
     let new = c.step.new.cx.entries in
-    c.ignore_from.ensures.held new (frame-later old new c.step.ensures.terms.grew.keeps f c.requires.held) (subst (HandlerStepHeld new) c.in-Answer.is c.in_ok-spec.ensures.held)
+    let there = frame-later old new c.step.ensures.terms.grew.keeps f c.requires.held in
+    c.ignore_from.ensures.held new (record { goal = there.goal; considered = there.considered; fits = there.fits; place = there.place }) (subst (HandlerStepHeld new) c.in-Answer.is c.in_ok-spec.ensures.held)
     (subst (StepFits f.goal.variables.items new) c.in-Answer.is c.in_ok-spec.ensures.fits)
 
 pub returns-in-Answer-clause-asks : goal.returns-in-Answer-clause-asks
@@ -52,7 +54,8 @@ returns-in-NoSolution-clause-held g c =
     let f = c.args.self.now in
     let old = c.args.cx.now.entries in
     let new = c.step.new.cx.entries in
-    c.ignore_from-in-NoSolution.ensures.held new (frame-later old new c.step.ensures.terms.grew.keeps f c.requires.held) tt tt
+    let there = frame-later old new c.step.ensures.terms.grew.keeps f c.requires.held in
+    c.ignore_from-in-NoSolution.ensures.held new (record { goal = there.goal; considered = there.considered; fits = there.fits; place = there.place }) tt tt
 
 pub returns-in-NoSolution-clause-asks : goal.returns-in-NoSolution-clause-asks
 returns-in-NoSolution-clause-asks g c =

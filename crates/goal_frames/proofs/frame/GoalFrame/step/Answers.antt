@@ -13,6 +13,7 @@ use Rattle.goal_frames.specs.declared.frame.Place.TheVariants as InCode
 use Rattle.goal_frames.proofs.Held.{answers-stand}
 use Rattle.goal_frames.proofs.Stepping.{shown-more, steps-to, begun-there, inside-there, hears-there, finishes-there, ignores-there, begun-waits, entering-waits, inside-waits, finishing-waits, ignoring-waits, over-waits}
 use Rattle.goal_frames.proofs.Opened.{goes-at, begun-comes, resumed-comes, open-held, open-steps, entered-fewer, resumed-fewer, closed-fewer, candidate-fault}
+use Rattle.goal_frames.proofs.Notes.{notes-left}
 use Rattle.goal_frames.proofs.Running.{result-fits}
 use Rattle.std.specs.Prelude.{IfOk}
 use Rattle.goal_frames.proofs.frame.GoalFrame.step.Goals as goal
@@ -264,3 +265,14 @@ pub returns-in-Ignoring-Ignored-clause-fewer : goal.returns-in-Ignoring-Ignored-
 returns-in-Ignoring-Ignored-clause-fewer g c =
     let x = c.in-Ignoring-Ignored in
     subst (λ (y : Place). AsksFewer y c.ignore_from.new.self.place) (sym (sym c.replace.ensures.value ∙ x.is-0)) tt
+
+-- ---- the notes
+pub returns-in-Entering-Entered-clause-notes : goal.returns-in-Entering-Entered-clause-notes
+returns-in-Entering-Entered-clause-notes g c =
+    notes-left g.H.GoalHandler.meaning c.args.handler.now c.args.cx.now.entries c.begin_candidate-step.new.cx.entries c.begin_candidate-step.ensures.terms.grew.keeps c.args.self.now.notes.items
+    c.go_on_with.new.self.notes.items (ap (λ v. v.items) c.go_on_with.ensures.notes) c.go_on_with.result c.requires.notes
+
+pub returns-in-Inside-Result-clause-notes : goal.returns-in-Inside-Result-clause-notes
+returns-in-Inside-Result-clause-notes g c =
+    notes-left g.H.GoalHandler.meaning c.args.handler.now c.args.cx.now.entries c.resume-step.new.cx.entries c.resume-step.ensures.terms.grew.keeps c.args.self.now.notes.items
+    c.go_on_with-in-Inside-Result.new.self.notes.items (ap (λ v. v.items) c.go_on_with-in-Inside-Result.ensures.notes) c.go_on_with-in-Inside-Result.result c.requires.notes
