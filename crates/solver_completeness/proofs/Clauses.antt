@@ -28,52 +28,13 @@ use Rattle.candidate_model.specs.Meaning.{ViewMeaning}
 use Rattle.candidate_model.specs.Asking.{GoalOverKinds, goal_over_kinds, clauses, are_clauses}
 use Rattle.candidate_model.specs.Candidates.{first_value, all_equal, by_rule, by_clauses, clause_source}
 use Rattle.candidate_model.specs.Cover.{goal_fact}
-use Rattle.candidate_model.proofs.EquationTerms.{IsOpenTerms, first-made, made-open}
+use Rattle.candidate_model.proofs.EquationTerms.{IsOpenTerms, first-made, made-open, rests, rest-made, leaf-is, one-is, term-is}
 use Rattle.candidate_model.proofs.Facts.{same-self}
 use Rattle.candidate_model.proofs.Impls.{pairwise}
 use Rattle.candidate_model.proofs.Moving.{met-reads}
 use Rattle.solver_completeness.specs.RowWays.{clause_ways, AreWaysOf, ClausesAreWays}
 use Rattle.solver_completeness.proofs.Instances.{is, are, terms_of, allowed, Read, instance, instance-is, rule-applies}
 use Rattle.type_terms.proofs.BooleanBasics.{both}
-
--- ---- the sides of equations between made terms are terms
-rests : (x y z w : Bool) → x && (y && (z && w)) ≡ true → (z ≡ true) × (w ≡ true)
-rests x y z w h = let q = right y (z && w) (right x (y && (z && w)) h) in (left z w q, right z w q)
-
-rest-made : (l : Label) (c o : Trees) → IsOpenTerms (tree l c o) → IsOpenTerms o
-rest-made dynamic c o h = right (is_made is_open_label bounds c) (is_made is_open_label terms o) h
-rest-made (principal n t) c o h = absurd (false-true h)
-rest-made (auto_trait t) c o h = absurd (false-true h)
-rest-made (predicate t) c o h = absurd (false-true h)
-rest-made l c o h = (rests (is_open_label l) (not (is_leaf_label l) || is_no_tree c) (is_made is_open_label terms c) (is_made is_open_label terms o) h).1
-
--- ---- equations of lists
-leaf-is : (c : Trees) → is_no_tree c && (is_made is_open_label terms c && true) ≡ true → is_no_tree c && true ≡ true
-leaf-is c h = both (is_no_tree c) true (left (is_no_tree c) (is_made is_open_label terms c && true) h) refl
-
-one-is : (l : Label) (c : Trees) → IsOpenTerms (tree l c none) → is_a (sort_of l) (tree l c none) ≡ true
-one-is static c h = leaf-is c h
-one-is (param of_lifetime i) c h = leaf-is c h
-one-is (placeholder of_lifetime i) c h = leaf-is c h
-one-is (canonical of_lifetime i) c h = leaf-is c h
-one-is (bound of_lifetime i j) c h = leaf-is c h
-one-is (infer k v) c h = absurd (false-true h)
-one-is (param of_type i) c h = refl
-one-is (param of_const i) c h = refl
-one-is (placeholder of_type i) c h = refl
-one-is (placeholder of_const i) c h = refl
-one-is (canonical of_type i) c h = refl
-one-is (canonical of_const i) c h = refl
-one-is (bound of_type i j) c h = refl
-one-is (bound of_const i j) c h = refl
-one-is l c h = refl
-
-term-is : (l : Label) (c o : Trees) → IsOpenTerms (tree l c o) → term_of (first_value l c) ≡ (first_value l c).trees
-term-is l c o h =
-    ap (λ b. if b then tree l c none else leaf_of) (both (is_a (sort_of l) (tree l c none)) (is_made is_open_label terms (tree l c none)) (one-is l c (first-made l c o h)) (first-made l c o h))
-  where
-    leaf_of : Trees
-    leaf_of = tree (default_label (sort_of l)) none none
 
 abbrev AreTerms : List Equation → Type 0
 AreTerms es = Every (λ (e : Equation). (term_of e.left ≡ e.left.trees) × (term_of e.right ≡ e.right.trees)) es

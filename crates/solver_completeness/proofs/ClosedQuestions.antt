@@ -24,7 +24,7 @@ use Rattle.goal_evaluator.proofs.Applying.{goal-leaves}
 use Rattle.solver_completeness.specs.ClosedTables.{Kinds, IsClosedKind, AreClosed, kind_in, FitPlaces, TellPlaces, ArePlaces}
 use Rattle.solver_completeness.proofs.FreeTables.{no-unknown}
 use Rattle.type_terms.proofs.BooleanBasics.{or-right, both-true}
-use Rattle.goal_evaluator.proofs.FirstAnswers.{among-has}
+use Rattle.goal_evaluator.proofs.FirstAnswers.{among-has, or-false}
 use Rattle.goal_evaluator.proofs.Determined.{open-in-clause}
 
 module _ (t : FrameTable) (m : IsMadeFrame t) (closed : AreClosed (map Some t.kinds)) (n : Nested) (determined : IsDetermined t n) where
@@ -66,10 +66,6 @@ module _ (t : FrameTable) (m : IsMadeFrame t) (closed : AreClosed (map Some t.ki
 abbrev pub AreOnce : List Label → Type 0
 AreOnce [] = Unit {0}
 AreOnce (l ∷ ls) = (is_label_among l ls ≡ false) × AreOnce ls
-
-or-false : (a b : Bool) → (a || b) ≡ false → (a ≡ false) × (b ≡ false)
-or-false true b h = absurd (false-true (sym h))
-or-false false b h = (refl, h)
 
 or-both : (a b : Bool) → a ≡ false → b ≡ false → (a || b) ≡ false
 or-both a b e f = ap (λ x. x || b) e ∙ f

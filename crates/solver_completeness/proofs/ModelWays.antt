@@ -18,6 +18,7 @@ use Rattle.type_terms.proofs.Made.{false-true as no-true}
 use Rattle.type_terms.proofs.ProofLists.{stands-after}
 use Rattle.type_terms.proofs.BooleanBasics.{or-right, both-left as left, both-true as both}
 use Rattle.goal_evaluator.proofs.Basics.{both-lists as every-append}
+use Rattle.candidate_model.proofs.ByView.{some-left, some-right}
 
 right : (a b : Bool) → (a && b) ≡ true → b ≡ true
 right true b e = e
@@ -213,15 +214,6 @@ any-from : {A : Type 0} (f : A → Bool) (P : A → Type 0) → ((x : A) → P x
 any-from f P g [] s = absurd s
 any-from f P g (x ∷ xs) (inl p) = or-left (f x) _ (g x p)
 any-from f P g (x ∷ xs) (inr s) = or-right (f x) _ (any-from f P g xs s)
-
-some-left : {A : Type 0} (P : A → Type 0) (xs ys : List A) → SomeOf P xs → SomeOf P (xs ++ ys)
-some-left P [] ys s = absurd s
-some-left P (x ∷ xs) ys (inl p) = inl p
-some-left P (x ∷ xs) ys (inr s) = inr (some-left P xs ys s)
-
-some-right : {A : Type 0} (P : A → Type 0) (xs ys : List A) → SomeOf P ys → SomeOf P (xs ++ ys)
-some-right P [] ys s = s
-some-right P (x ∷ xs) ys s = inr (some-right P xs ys s)
 
 some-parts : {A : Type 0} (P : A → Type 0) (xs ys : List A) → SomeOf P (xs ++ ys) → SomeOf P xs ⊎ SomeOf P ys
 some-parts P [] ys s = inr s

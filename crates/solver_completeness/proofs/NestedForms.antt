@@ -38,10 +38,8 @@ use Rattle.solver_completeness.specs.GoalSets.{begins_typed, any_label, IsAskabl
 use Rattle.solver_completeness.proofs.QuestionTerms.{is_unknown, made-back}
 use Rattle.solver_completeness.proofs.QuestionNames.{names-back, names-numbered}
 use Rattle.solver_completeness.proofs.Renumbering.{kinds-known, made-numbered, made-in-clause, goal-open, goal-listed}
-
--- ---- where no unknown stands
-none-of : (a b c : Bool) → a ≡ false → b ≡ false → c ≡ false → (a || b || c) ≡ false
-none-of a b c e f g = rw (e, f, g) refl
+use Rattle.infer_table.proofs.Basics.{same-goal}
+use Rattle.type_terms.proofs.BooleanBasics.{none-of}
 
 pub no-unknowns : (t : Trees) → ((k : Sort) (v : ℕ) → HasValues k → StandsIn kind_of_leaf t (infer k v) → ⊥) → some_node is_unknown t ≡ false
 no-unknowns none h = refl
@@ -182,10 +180,7 @@ resolved-trait : (bs : List Binding) (t : ℕ) (c : Trees) → resolved bs (tree
 resolved-trait [] t c = refl
 resolved-trait (b ∷ older) t c = ap (replace b.sort b.var (resolved older b.value)) (resolved-trait older t c)
 
-same-goal : (e d p q : Trees) → e ≡ d → p ≡ q → ◌≡◌ {A = GoalTrees} (record { environment = e; predicate = p }) (record { environment = d; predicate = q })
-same-goal e d p q x y = cc
-
-all-true : (a b c d e : Bool) → a ≡ true → b ≡ true → c ≡ true → d ≡ true → e ≡ true → (a && (b && ((c && d) && e))) ≡ true
+pub all-true : (a b c d e : Bool) → a ≡ true → b ≡ true → c ≡ true → d ≡ true → e ≡ true → (a && (b && ((c && d) && e))) ≡ true
 all-true a b c d e f g h i j = rw (f, g, h, i, j) refl
 
 module _ (V : World) (T : FrameTable) (made : IsMadeFrame T) (closed : AreClosed (map Some T.kinds)) (s : ChosenTerms) (allowed : Allows T s) where

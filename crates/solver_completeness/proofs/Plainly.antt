@@ -1,6 +1,6 @@
 -- Plain recursion over the requests of a frame is a run of the frame.
 use Rattle.std.proofs.Common.{◌≡◌, ℕ, List, [], ◌∷◌, length, refl, sym, ◌∙◌, ap, subst}
-use Rattle.search_graph.specs.declared.path_kind.PathKind.{PathKind}
+use Rattle.search_graph.specs.SearchPaths.declared.path_kind.PathKind.{PathKind}
 use Rattle.search_graph.specs.declared.delegate.Request.{Request}
 use Rattle.search_graph.specs.declared.delegate.Request.TheVariants.{Evaluate, EnterCandidate, FinishCandidate, IgnoreCandidate, Done}
 use Rattle.search_graph.specs.declared.delegate.Reply.{Reply}

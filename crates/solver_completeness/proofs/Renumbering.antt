@@ -20,6 +20,7 @@ use Rattle.goal_frames.specs.Forms.{is_unnumbered}
 use Rattle.goal_evaluator.specs.Variables.{is_variable_over}
 use Rattle.candidate_model.specs.Asking.{with_first, all_known}
 use Rattle.goal_evaluator.proofs.Labels.{each-label}
+use Rattle.goal_frames.proofs.Forms.{kind-first, kind-later, open-kind}
 
 -- ---- labels in the place of open leaves
 module _ (good : Label → Bool) (f : Label → Label) where
@@ -110,14 +111,6 @@ pub kinds-known : (ls : List Label) → AreOpen ls → all_known (map kind_of_le
 kinds-known [] h = refl
 kinds-known (l ∷ ls) h = ap (with_first (kind_of_leaf l)) (kinds-known ls h.1) ∙ known-next (kind_of_leaf l) (kinds_of_labels ls) h.0
 
-kind-first : (o : Option CanonicalVarKind) (ks : List CanonicalVarKind) → is_some o ≡ true → kind_at (with_kind o ks) zero ≡ o
-kind-first None ks h = absurd (false-true h)
-kind-first (Some k) ks h = refl
-
-kind-later : (o : Option CanonicalVarKind) (ks : List CanonicalVarKind) (i : ℕ) → is_some o ≡ true → kind_at (with_kind o ks) (suc i) ≡ kind_at ks i
-kind-later None ks i h = absurd (false-true h)
-kind-later (Some k) ks i h = refl
-
 kind-place : (ls : List Label) → AreOpen ls → (l : Label) → is_label_among l ls ≡ true → kind_at (kinds_of_labels ls) (place_of l ls) ≡ kind_of_leaf l
 kind-place [] h l a = absurd (false-true a)
 kind-place (m ∷ ls) h l a = by (same_label m l) refl a (λ f. kind-place ls h.1 l f)
@@ -126,19 +119,6 @@ kind-place (m ∷ ls) h l a = by (same_label m l) refl a (λ f. kind-place ls h.
         → kind_at (with_kind (kind_of_leaf m) (kinds_of_labels ls)) (if b then zero else suc (place_of l ls)) ≡ kind_of_leaf l
     by true q f g = kind-first (kind_of_leaf m) (kinds_of_labels ls) h.0 ∙ ap kind_of_leaf (same-label-sound m l q)
     by false q f g = kind-later (kind_of_leaf m) (kinds_of_labels ls) (place_of l ls) h.0 ∙ g f
-
-open-kind : (l : Label) → is_some (kind_of_leaf l) ≡ true → is_kind_of (sort_of l) (kind_of_leaf l) ≡ true
-open-kind (infer of_type v) h = refl
-open-kind (infer of_const v) h = refl
-open-kind (infer of_lifetime v) h = refl
-open-kind (param of_type v) h = refl
-open-kind (param of_const v) h = refl
-open-kind (param of_lifetime v) h = refl
-open-kind (placeholder of_type v) h = refl
-open-kind (placeholder of_const v) h = refl
-open-kind (placeholder of_lifetime v) h = refl
-open-kind static h = refl
-open-kind l h = absurd (false-true h)
 
 open-leaf : (l : Label) → is_some (kind_of_leaf l) ≡ true → is_leaf_label l ≡ true
 open-leaf (infer k v) h = refl

@@ -185,7 +185,7 @@ without x (s ∷ ss) i = by (in-cases x s ss i) (λ j. without x ss j)
           keeps = λ y k. kept w y (in-cases y s ss k);
         }
 
-hits-fewer : {A : Type 0} (xs ss : List A) → AreOnce xs → ((x : A) → In x xs → In x ss) → (p : A → Bool) → hits p xs ≤ hits p ss
+pub hits-fewer : {A : Type 0} (xs ss : List A) → AreOnce xs → ((x : A) → In x xs → In x ss) → (p : A → Bool) → hits p xs ≤ hits p ss
 hits-fewer [] ss once among p = omega arith
 hits-fewer (x ∷ xs) ss once among p =
     let w = without x ss (among x (here x xs)) in

@@ -66,7 +66,7 @@ module _ (m : ViewMeaning) (well : IsDeclaredWell m.view) (f : CanonicalForm) (a
 
   -- ---- how many there are
   few : suc (length (all_candidates m.view a)) ≤ most_candidates m.view f
-  few = (candidates-are-few m well.one_struct).0 f a is_asked
+  few = (candidates-are-few m well.one_struct well.rank well.acyclic).0 f a is_asked
 
   few-in-coherence : (b : Bool) → length (if b then all_candidates m.view a else unknowable m.view a ∷ all_candidates m.view a) ≤ most_candidates m.view f
   few-in-coherence true = omega (arith, few)

@@ -2,6 +2,7 @@
 use Rattle.std.specs.Prelude.{◌≡◌, ◌≤◌, ◌+◌, ℕ, Bool, true, List, [], Option}
 use Rattle.type_terms.specs.Promised.Handles.{Entry}
 use Rattle.type_terms.specs.Promised.Answers.{SingleWay, is_bounded}
+use Rattle.goal_frames.specs.Notes.{Notes}
 use Rattle.infer_table.specs.Canonical.{CanonicalForm}
 use Rattle.infer_table.specs.declared.certainty.TypingMode.{TypingMode}
 use Rattle.infer_table.specs.declared.certainty.TypingMode.TheVariants.{Coherence, PostAnalysis}
@@ -26,10 +27,10 @@ use Rattle.solver_completeness.specs.FormedFacts.{Sorts}
 use Rattle.solver_completeness.specs.FormedAnswers.{IsFormedGoal, AreDeclared}
 
 module _ {W : Type 0} (applicable : AnswerTrees → Bool) (same : AnswerTrees → AnswerTrees → Bool) (meaning_of : W → ViewMeaning) (fits_in : W → CanonicalForm → Bool)
-    {Handler : Type 0} (is_ready : Handler → List Entry → Type 0) (declares : Handler → List Entry → W) where
+    {Handler : Type 0} (is_ready : Handler → List Entry → Type 0) (declares : Handler → List Entry → W) (are_notes : Handler → List Entry → Notes → Type 0) where
   -- the solver's goals for such a handler, and their meaning for the search of a context with it
   abbrev pub solver_in : HandlerMeaning Handler
-  solver_in = record { goals = solver_goals applicable same meaning_of fits_in; IsReady = is_ready; world = declares }
+  solver_in = record { goals = solver_goals applicable same meaning_of fits_in; IsReady = is_ready; world = declares; AreNotes = are_notes }
 
   abbrev pub root_meaning : Search.Meaning (SolverCx Handler) InputId (Option ResponseId) GoalFrame
   root_meaning = solver_meaning solver_in

@@ -1,6 +1,7 @@
 //! Completeness for goals without inference variables whose facts are well-formed. Their nested goals are such goals again.
 ghost use Rattle.std.specs.Prelude.{Bool, List};
 ghost use Rattle.type_terms.specs.Promised.Handles.{Entry};
+ghost use Rattle.goal_frames.specs.Notes.{Notes};
 ghost use Rattle.infer_table.specs.Canonical.{CanonicalForm};
 ghost use Rattle.infer_table.specs.Responses.{AnswerTrees};
 ghost use Rattle.goal_evaluator.specs.Tables.{frame_tables};
@@ -87,6 +88,9 @@ pub trait RootSearching {
     ghost is_ready: { Handler → List Entry → Type 0 };
 
     ghost declares: { Handler → List Entry → World };
+
+    /// What the handler's notes claim.
+    ghost are_notes: { Handler → List Entry → Notes → Type 0 };
 }
 
 /// The same for the search results of `evaluate_root_goal` in its clauses `says` and `refusal` (`found` of `IsResult`), for
@@ -94,7 +98,7 @@ pub trait RootSearching {
 /// and any other is. Outside coherence a goal with a definite yes has a proof, and a refuted one has none.
 pub fn root_answers_are_right<S: RootSearching>()
     requires programs { ArePrograms frame_tables (solver_programs S.applicable S.same S.meaning_of S.fits_in) }
-    ensures exact { RootsAreExact S.applicable S.same S.meaning_of S.fits_in S.is_ready S.declares }
-    ensures right { RootsAreRight S.applicable S.same S.meaning_of S.fits_in S.is_ready S.declares }
-    ensures possible { RootsTellPossible S.applicable S.same S.meaning_of S.fits_in S.is_ready S.declares }
+    ensures exact { RootsAreExact S.applicable S.same S.meaning_of S.fits_in S.is_ready S.declares S.are_notes }
+    ensures right { RootsAreRight S.applicable S.same S.meaning_of S.fits_in S.is_ready S.declares S.are_notes }
+    ensures possible { RootsTellPossible S.applicable S.same S.meaning_of S.fits_in S.is_ready S.declares S.are_notes }
 {}

@@ -4,7 +4,7 @@ use Rattle.search_graph.specs.declared.delegate.Request.{Request}
 use Rattle.search_graph.specs.declared.delegate.Request.TheVariants.{Evaluate, EnterCandidate, FinishCandidate, IgnoreCandidate, Done}
 use Rattle.search_graph.specs.declared.delegate.Reply.{Reply}
 use Rattle.search_graph.specs.declared.delegate.Reply.TheVariants.{Begin, Result, Entered, Finished, Ignored}
-use Rattle.search_graph.specs.Meaning.{Meaning, is_open, ignoring, finished, IsInOrder, IsReplyTo, IsReplyBy, IsDueAfter, AreReplies}
+use Rattle.search_graph.specs.Meaning.{Meaning, has_open_candidate, ignoring, finished, IsInOrder, IsReplyTo, IsReplyBy, IsDueAfter, AreReplies}
 use Rattle.goal_evaluator.specs.History.{CameInOrder}
 use Rattle.goal_evaluator.specs.Promises as Frames
 use Rattle.goal_evaluator.specs.Promises.{frame_of_goal}
@@ -24,7 +24,7 @@ module _ {Question Response : Type 0} (t : Tables Question Response) (p : Progra
     abbrev n : Meaning D J S G
     n = meaning t p other
 
-    open-same : (heard : List (Reply Answer)) → is_open n heard ≡ is_open m heard
+    open-same : (heard : List (Reply Answer)) → has_open_candidate n heard ≡ has_open_candidate m heard
     open-same [] = refl
     open-same (Begin ∷ heard) = open-same heard
     open-same (Result a ∷ heard) = open-same heard

@@ -3,7 +3,7 @@ use Rattle.std.proofs.Common.{◌≡◌, ℕ, Bool, true, ◌&&◌, List, [], �
 use Rattle.std.specs.Prelude.{IsSome}
 use Rattle.type_terms.specs.Promised.Label.{Label, Sort, of_type, of_const, of_lifetime, infer, param, placeholder, canonical, bound, static}
 use Rattle.type_terms.specs.Promised.Trees.{Trees, none, tree, leaf, ◌+++◌, erase_label, is_sort}
-use Rattle.type_terms.specs.Trees.{is_a, placed}
+use Rattle.type_terms.specs.Trees.{is_a, put_at_node}
 use Rattle.type_terms.specs.Made.{is_leaf_label}
 use Rattle.infer_table.specs.Canonical.{OpenKinds, GoalTrees, kind_of_leaf, kind_in_clause, StandsIn, HasNoCanonical, is_label_among, place_of, canonical_label, goal_leaves, leaves, relabeled}
 use Rattle.infer_table.specs.Solutions.{Assignment, Binding, IsSorted, Solves, AllValued, instance, resolved}
@@ -41,18 +41,18 @@ module _ (s : Assignment) (sorted : IsSorted s) (ls : List Label) where
 
   -- what is read at a node, whose children and rest are read as instances
   abbrev IsReadAt : Label → Label → Trees → Trees → Type 0
-  IsReadAt l m c o = (d p : Trees) → d ≡ instance s c → p ≡ instance s o → placed (standing m) (tree (erase_label m) d none) +++ p ≡ instance s (tree l c o)
+  IsReadAt l m c o = (d p : Trees) → d ≡ instance s c → p ≡ instance s o → put_at_node (standing m) (tree (erase_label m) d none) +++ p ≡ instance s (tree l c o)
 
   -- a leaf in the place of which something stands
   stands : (l m : Label) (c o x : Trees) → standing m ≡ Some x → x +++ instance s o ≡ instance s (tree l c o) → IsReadAt l m c o
-  stands l m c o x e f d p q r = ap (λ z. placed z (tree (erase_label m) d none) +++ p) e ∙ ap (λ z. x +++ z) r ∙ f
+  stands l m c o x e f d p q r = ap (λ z. put_at_node z (tree (erase_label m) d none) +++ p) e ∙ ap (λ z. x +++ z) r ∙ f
 
   leaf-with : (l : Label) (c o : Trees) → c ≡ none → tree l none o ≡ tree l (instance s c) o
   leaf-with l c o e = ap (λ z. tree l (instance s z) o) (sym e)
 
   plain : (l : Label) (c o : Trees) → standing l ≡ None → tree (erase_label l) (instance s c) (instance s o) ≡ instance s (tree l c o) → IsReadAt l l c o
   plain l c o e f d p q r =
-      ap (λ z. placed z (tree (erase_label l) d none) +++ p) e ∙ ap (λ z. tree (erase_label l) z p) q ∙ ap (λ z. tree (erase_label l) (instance s c) z) r ∙ f
+      ap (λ z. put_at_node z (tree (erase_label l) d none) +++ p) e ∙ ap (λ z. tree (erase_label l) z p) q ∙ ap (λ z. tree (erase_label l) (instance s c) z) r ∙ f
 
   abbrev IsListed : OpenKinds → Label → Type 0
   IsListed kind l = IsSome (kind l) → is_label_among l ls ≡ true

@@ -18,15 +18,16 @@ use Rattle.goal_frames.specs.Searches.{replies_of}
 use Rattle.goal_frames.specs.declared.store.InputId.{InputId}
 use Rattle.goal_frames.specs.declared.store.ResponseId.{ResponseId}
 use Rattle.goal_frames.specs.Stores.{StoreIsHeld, StoreGrows, response_at, HasResponse, StandsForInput, StandsForResponse, limit_of}
+use Rattle.term_folds.specs.declared.predicate.TraitRef.{TraitRef}
 use Rattle.goal_frames.proofs.Answers.{response-held-later, answer-later, same-answers}
 use Rattle.goal_frames.proofs.Numbers.{goal-later, same-goals}
 use Rattle.infer_table.proofs.Numbers.{goal-held-later}
 use Rattle.goal_frames.specs.declared.frame.GoalFrame.{GoalFrame}
 use Rattle.goal_frames.specs.Frames as Frames
-use Rattle.goal_frames.specs.Meanings.{HandlerMeaning}
+use Rattle.goal_frames.specs.Meanings.{HandlerMeaning, StayNotes}
 use Rattle.solver_graph.specs.declared.context.SolverCx.{SolverCx}
 use Rattle.solver_graph.specs.Contexts.{Asked, asked_of, asked_or_none, entries_of, goal_of, answer_of, IsReady, IsInput, ResponseIsMade, IsKeptAnswer, Advances, KeepsLimits}
-use Rattle.solver_graph.specs.Searching.{bare, AnyAnswer, RepliedResultIs, world_of, FrameHasHeard, solver_meaning, Lasting, of_term, of_limits, HasLasting}
+use Rattle.solver_graph.specs.Searching.{bare, AnyAnswer, RepliedResultIs, world_in, FrameHasHeard, solver_meaning, Lasting, of_term, of_limits, HasLasting}
 use Rattle.solver_graph.proofs.Frames.{heard-later}
 
 pub grows-same : {Handler : Type 0} (c : SolverCx Handler) → StoreGrows c.store c.store
@@ -129,7 +130,7 @@ module _ {Handler : Type 0} (ready : Handler → List Entry → Type 0) where
 module _ {Handler : Type 0} (m : HandlerMeaning Handler)
     (kept : (h : Handler) (old new : List Entry) → Keeps old new → m.IsReady h old → m.world h new ≡ m.world h old) where
   abbrev world : SolverCx Handler → m.goals.World
-  world c = world_of m c
+  world c = world_in m c
 
   abbrev Heard : SolverCx Handler → Asked → List (Reply (Option AnswerTrees)) → GoalFrame → Type 0
   Heard = FrameHasHeard m
@@ -153,6 +154,10 @@ module _ {Handler : Type 0} (m : HandlerMeaning Handler)
     pub same-world : world d ≡ world c
     same-world = ap (λ h. m.world h (entries_of d)) a.handler ∙ kept c.handler (entries_of c) (entries_of d) a.entries now.handler
 
+    -- true notes stay true
+    pub notes-later : (notes : List TraitRef) → StayNotes m c.handler (entries_of c) notes → StayNotes m d.handler (entries_of d) notes
+    notes-later notes x = λ later k. subst (λ h. m.AreNotes h later notes) (sym a.handler) (x later (λ i e h. k i e (a.entries i e h)))
+
     frame-later : (g : Asked) (heard : List (Reply (Option AnswerTrees))) (f : GoalFrame) → Heard c g heard f → Heard d g heard f
     frame-later g heard f x = record {
       ready = a.ready;
@@ -163,9 +168,10 @@ module _ {Handler : Type 0} (m : HandlerMeaning Handler)
       due = subst (λ w. Search.AreReplies (bare m.goals) AnyAnswer w g heard) (sym same-world) x.due;
       frame = subst (λ w. Frames.HasHeard (entries_of d) (m.goals.handled w g.0 g.1) f (replies_of heard)) (sym same-world)
           (heard-later (entries_of c) (entries_of d) a.entries (m.goals.handled (world c) g.0 g.1) f (replies_of heard) x.frame);
+      notes = notes-later f.notes.items x.notes;
     }
 
-    pub keeps : Search.Keeps (solver_meaning m) c d
+    pub keeps : Search.KeepsContext (solver_meaning m) c d
     keeps = record {
       world = same-world;
       inputs = λ i x. input-later m.IsReady c d a i x;
@@ -176,8 +182,9 @@ module _ {Handler : Type 0} (m : HandlerMeaning Handler)
 
   -- the frame of a goal that is kept
   pub started : (c : SolverCx Handler) (i : InputId) (a : CanonicalInput) (f : GoalFrame) → IsInput m.IsReady c i → StandsForInput c.store i a → f.goal ≡ a
-      → Frames.HasHeard (entries_of c) (m.goals.handled (world c) (goal_of c i).0 (goal_of c i).1) f [] → Heard c (goal_of c i) [] f
-  started c i a f x s e heard =
+      → Frames.HasHeard (entries_of c) (m.goals.handled (world c) (goal_of c i).0 (goal_of c i).1) f [] → StayNotes m c.handler (entries_of c) f.notes.items
+      → Heard c (goal_of c i) [] f
+  started c i a f x s e heard notes =
       let same = goal-is m.IsReady c i a s in
       record {
         ready = x.0;
@@ -187,4 +194,5 @@ module _ {Handler : Type 0} (m : HandlerMeaning Handler)
         replies = tt;
         due = tt;
         frame = heard;
+        notes = notes;
       }

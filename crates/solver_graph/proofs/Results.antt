@@ -37,7 +37,7 @@ module _ {C I R F : Type 0} (m : Search.Meaning C I R F) where
     no-limits = record { noted = λ e. e; not_plain = λ e n. both s.limits_met e n }
 
   -- ---- a context that has grown
-  module _ (c d : C) (keeps : Search.Keeps m c d) where
+  module _ (c d : C) (keeps : Search.KeepsContext m c d) where
     answers-later : (ks : List (KnownResult I R)) → AreJustified m c ks → answers_in m d ks ≡ answers_in m c ks
     answers-later [] h = refl
     answers-later (k ∷ ks) h = one-more _ _ _ _ _ _ (keeps.inputs k.input h.0.known).1 (keeps.results k.result h.0.result.known).1 (answers-later ks h.1)
@@ -96,12 +96,12 @@ module _ {C I R F : Type 0} (m : Search.Meaning C I R F) where
             }
 
   -- the cache that a search leaves holds the answer in a context that has grown since
-  pub result-later : (c d e : C) (keeps : Search.Keeps m d e) (ks ls : List (KnownResult I R)) → AreJustified m d ls → (old new : SearchState) (g : m.Goal) (a : m.Answer)
+  pub result-later : (c d e : C) (keeps : Search.KeepsContext m d e) (ks ls : List (KnownResult I R)) → AreJustified m d ls → (old new : SearchState) (g : m.Goal) (a : m.Answer)
       → IsResult m c ks old d ls new g a → IsResult m c ks old e ls new g a
   result-later c d e keeps ks ls then old new g a x = record { found = x.found; known = x.known; kept = known-later d e keeps ls then old.root_depth g a x.kept; limits = x.limits }
 
   -- ---- a search for the goal of an input, which no other input stands for
-  module _ (c d : C) (keeps : Search.Keeps m c d) (ks : List (KnownResult I R)) (now : AreJustified m c ks) (input : I) (is : m.IsInput c input)
+  module _ (c d : C) (keeps : Search.KeepsContext m c d) (ks : List (KnownResult I R)) (now : AreJustified m c ks) (input : I) (is : m.IsInput c input)
       (one : (i : I) → m.IsInput c i → m.goal_of c i ≡ m.goal_of c input → i ≡ input) where
     pub its-input : (depth : ℕ) (a : m.Answer) (x : IsCachedAnswer m c ks depth (m.goal_of c input) a) → x.result.input ≡ input
     its-input depth a x = one x.result.input (justified-at c ks x.place x.result x.there now).known x.goal

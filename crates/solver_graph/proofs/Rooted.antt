@@ -18,7 +18,7 @@ use Rattle.goal_evaluator.specs.Tables.{frame_tables}
 use Rattle.goal_frames.specs.Meanings.{HandlerMeaning}
 use Rattle.solver_graph.specs.declared.context.SolverCx.{SolverCx}
 use Rattle.solver_graph.specs.Contexts.{Asked, entries_of, goal_of, IsReady, Advances, KeepsLimits}
-use Rattle.solver_graph.specs.Searching.{solver_meaning, world_of, of_term, of_limits}
+use Rattle.solver_graph.specs.Searching.{solver_meaning, world_in, of_term, of_limits}
 use Rattle.solver_graph.proofs.Growing.{same-world, keeps, limits-further}
 use Rattle.solver_graph.specs.Changes.{changed}
 use Rattle.solver_graph.specs.Evaluations.{IsRight}
@@ -37,15 +37,15 @@ module _ {Handler : Type 0} (m : HandlerMeaning Handler)
   meaning = solver_meaning m
 
   abbrev world : SolverCx Handler → m.goals.World
-  world c = world_of m c
+  world c = world_in m c
 
   -- a search leaves the limits
-  limits-searched : (c d : SolverCx Handler) → Search.Keeps meaning c d → KeepsLimits c d
+  limits-searched : (c d : SolverCx Handler) → Search.KeepsContext meaning c d → KeepsLimits c d
   limits-searched c d k = let same = k.held (of_limits c.interner.limit (limit_of c.store)) (refl, refl) in record { terms = same.0; kept = same.1 }
 
   -- a context, one that it has grown to, and one that a search has left
-  module _ (b c d : SolverCx Handler) (now : IsReady m.IsReady b) (a : Advances m.IsReady b c) (k : Search.Keeps meaning c d) where
-    pub keeps-two : Search.Keeps meaning b d
+  module _ (b c d : SolverCx Handler) (now : IsReady m.IsReady b) (a : Advances m.IsReady b c) (k : Search.KeepsContext meaning c d) where
+    pub keeps-two : Search.KeepsContext meaning b d
     keeps-two = Keeps-trans meaning b c d (keeps m kept b c now a) k
 
     pub entries-two : Keeps (entries_of b) (entries_of d)
@@ -55,7 +55,7 @@ module _ {Handler : Type 0} (m : HandlerMeaning Handler)
     limits-two = limits-further b c d a.limits (limits-searched c d k)
 
     -- and it has grown again
-    pub keeps-three : (e : SolverCx Handler) → IsReady m.IsReady d → Advances m.IsReady d e → Search.Keeps meaning b e
+    pub keeps-three : (e : SolverCx Handler) → IsReady m.IsReady d → Advances m.IsReady d e → Search.KeepsContext meaning b e
     keeps-three e then x = Keeps-trans meaning b d e keeps-two (keeps m kept d e then x)
 
   pub right-at : (b c : SolverCx Handler) → IsReady m.IsReady b → Advances m.IsReady b c → (i : InputId) (q : Asked) (x y : Option AnswerTrees) → goal_of c i ≡ q → x ≡ y

@@ -1,6 +1,6 @@
 -- The response without values to a stored goal: each variable is its own value.
 use Rattle.std.proofs.Common.{◌≡◌, List, ◌∙◌, ap, Some, Result, Ok, Err, IfOk, subst}
-use Rattle.search_graph.specs.declared.path_kind.PathKind.{PathKind}
+use Rattle.search_graph.specs.SearchPaths.declared.path_kind.PathKind.{PathKind}
 use Rattle.infer_table.specs.Canonical.{CanonicalForm}
 use Rattle.infer_table.specs.declared.canonical.CanonicalVarKind.{CanonicalVarKind}
 use Rattle.infer_table.specs.declared.certainty.Certainty.{Certainty}

@@ -25,11 +25,11 @@ use Rattle.goal_frames.specs.Frames as Frames
 use Rattle.goal_frames.specs.Steps as Steps
 use Rattle.goal_frames.specs.Steps.{AsksFewer}
 use Rattle.goal_frames.proofs.Falling.{falls}
-use Rattle.goal_frames.specs.Meanings.{HandlerMeaning}
+use Rattle.goal_frames.specs.Meanings.{HandlerMeaning, StayNotes}
 use Rattle.solver_graph.specs.declared.context.SolverCx.{SolverCx}
 use Rattle.solver_graph.specs.Contexts.{Asked, entries_of, Advances, IsKeptAnswer}
 use Rattle.solver_graph.specs.Answers.{reply_read, request_read}
-use Rattle.solver_graph.specs.Searching.{programs, bare, bare_handles, AnyAnswer, RepliedResultIs, world_of, handles, FrameHasHeard, solver_meaning, steps_left}
+use Rattle.solver_graph.specs.Searching.{programs, bare, bare_handles, AnyAnswer, RepliedResultIs, world_in, handles, FrameHasHeard, solver_meaning, steps_left}
 use Rattle.solver_graph.proofs.Due.{due-same, heard-more, came-anyhow}
 use Rattle.solver_graph.proofs.Growing.{asked-later, input-later, told-there, all-told, same-world}
 
@@ -74,7 +74,7 @@ told-kept m c reply given same is = subst (RepliedResultIs (IsKeptAnswer m.IsRea
 module _ {Handler : Type 0} (m : HandlerMeaning Handler)
     (kept : (h : Handler) (old new : List Entry) → Keeps old new → m.IsReady h old → m.world h new ≡ m.world h old) where
   abbrev world : SolverCx Handler → m.goals.World
-  world c = world_of m c
+  world c = world_in m c
 
   abbrev Heard : SolverCx Handler → Asked → List (Reply (Option AnswerTrees)) → GoalFrame → Type 0
   Heard = FrameHasHeard m
@@ -116,8 +116,8 @@ module _ {Handler : Type 0} (m : HandlerMeaning Handler)
             (subst (λ h. Frames.FrameSteps (entries_of c) h f (Frames.reply_read (entries_of c) reply) (entries_of d) after q) (sym (of-goal g heard x)) steps) (replies_of heard) x.frame (in-order due)
 
         -- the frame has heard one reply more
-        pub hears-more : Due → Heard d g (reply_read (entries_of c) reply ∷ heard) after
-        hears-more due =
+        pub hears-more : Due → StayNotes m d.handler (entries_of d) after.notes.items → Heard d g (reply_read (entries_of c) reply ∷ heard) after
+        hears-more due notes =
             let same = same-world m kept c d x.ready a in
             record {
               ready = a.ready;
@@ -128,6 +128,7 @@ module _ {Handler : Type 0} (m : HandlerMeaning Handler)
               due = subst (λ w. Search.AreReplies (bare m.goals) AnyAnswer w g (reply_read (entries_of c) reply ∷ heard)) (sym same) (all-due due);
               frame = subst (λ w. Frames.HasHeard (entries_of d) (m.goals.handled w g.0 g.1) after (replies_of (reply_read (entries_of c) reply ∷ heard))) (sym same)
                   (subst (λ y. Frames.HasHeard (entries_of d) (m.goals.handled (world c) g.0 g.1) after (y ∷ replies_of heard)) (same-reply (entries_of c) reply) (stepped due).0);
+              notes = notes;
             }
 
         -- and makes the search's request

@@ -4,7 +4,7 @@ use Rattle.std.proofs.Math.Nat.{le_refl}
 use Rattle.std.specs.Option.{option_eq}
 use Rattle.type_terms.specs.Promised.Handles.{Entry}
 use Rattle.search_graph.specs.declared.delegate.Reply.{Reply}
-use Rattle.search_graph.specs.Meaning.{Keeps, IsLawful}
+use Rattle.search_graph.specs.Meaning.{KeepsContext, IsLawful}
 use Rattle.infer_table.specs.Canonical.{CanonicalForm}
 use Rattle.infer_table.specs.declared.certainty.TypingMode.{TypingMode}
 use Rattle.infer_table.specs.Inputs.{form_of}
@@ -22,7 +22,7 @@ use Rattle.goal_frames.specs.Steps as Steps
 use Rattle.goal_frames.specs.Meanings.{HandlerMeaning}
 use Rattle.solver_graph.specs.declared.context.SolverCx.{SolverCx}
 use Rattle.solver_graph.specs.Contexts.{Asked, entries_of, answer_of, ResponseIsMade}
-use Rattle.solver_graph.specs.Searching.{programs, handles, FrameHasHeard, solver_meaning, world_of, steps_left}
+use Rattle.solver_graph.specs.Searching.{programs, handles, FrameHasHeard, solver_meaning, world_in, steps_left}
 
 same-number : (a b : ResponseId) → a ≡ b → response.eq a b ≡ true
 same-number a b e = (response-id-eq a b).1 e
@@ -48,9 +48,9 @@ module _ {Handler : Type 0} (m : HandlerMeaning Handler) where
       (subst (λ z. Steps.steps_left (m.goals.handled w mode x) f ≤ Steps.steps_left (m.goals.handled w mode z) f) h (le_refl (Steps.steps_left (m.goals.handled w mode x) f)))
 
   -- a context that has grown leaves a frame as many steps
-  pub steps-kept : (c d : SolverCx Handler) (g : Asked) (heard : List (Reply (Option AnswerTrees))) (f : GoalFrame) → Keeps (solver_meaning m) c d
+  pub steps-kept : (c d : SolverCx Handler) (g : Asked) (heard : List (Reply (Option AnswerTrees))) (f : GoalFrame) → KeepsContext (solver_meaning m) c d
       → FrameHasHeard m c g heard f → steps_left m d f ≤ steps_left m c f
   steps-kept c d g heard f k h =
       let later = k.frames g heard f h in
-      steps-same f f.goal.mode (world_of m d) (world_of m c) (form_of (entries_of d) f.goal) (form_of (entries_of c) f.goal)
+      steps-same f f.goal.mode (world_in m d) (world_in m c) (form_of (entries_of d) f.goal) (form_of (entries_of c) f.goal)
       k.world (later.form ∙ sym h.form)

@@ -21,7 +21,7 @@ use Rattle.solver_graph.specs.Contexts.{Asked, entries_of, IsReady, KeepsLimits}
 use Rattle.solver_graph.specs.Evaluations.{asked_in, Says}
 use Rattle.solver_graph.specs.Results.{FramesAreBounded, KnownIsFree, LimitsAreNoted, IsNotPlainWithin, IsResult}
 use Rattle.solver_graph.specs.Roots.{goal_in, values_in, left_by, SolutionsAreProved, AtProvedSolutions, SolutionGoesOn}
-use Rattle.solver_graph.specs.Searching.{solver_meaning, world_of}
+use Rattle.solver_graph.specs.Searching.{solver_meaning, world_in}
 use Rattle.solver_graph.specs.Shortages.{RootFullAtLimit}
 use Rattle.solver_graph.specs.declared.context.SolverCx.{SolverCx}
 use Rattle.solver_graph.specs.declared.outcome.GoalEvaluation.{GoalEvaluation}
@@ -39,12 +39,12 @@ goal_asked c t mode g = asked_in mode (entries_of c) t g
 module _ {Handler : Type 0} (m : HandlerMeaning Handler) (c : SolverCx Handler) (t : Table) where
   -- The property holds at each solution of the table at which the goal has a proof.
   abbrev pub AtProved : TypingMode → Goal → (Assignment → Type 0) → Type 0
-  AtProved mode g P = AtProvedSolutions (m.goals.handled (world_of m c)) mode (entries_of c) t g P
+  AtProved mode g P = AtProvedSolutions (m.goals.handled (world_in m c)) mode (entries_of c) t g P
 
   -- A definite yes: each instance of the goal by a solution of the table has a proof.
   abbrev pub YesIsProved : Goal → GoalEvaluation → Type 0
   YesIsProved g e =
-      e.certainty ≡ Yes → e.has_changed ≡ No → SolutionsAreProved (m.goals.Rule (world_of m c)) (m.goals.coinductive (world_of m c)) (entries_of c) t g
+      e.certainty ≡ Yes → e.has_changed ≡ No → SolutionsAreProved (m.goals.Rule (world_in m c)) (m.goals.coinductive (world_in m c)) (entries_of c) t g
 
 -- A context, a graph, a cache and a table, before and after the call.
 module _ {Handler : Type 0} (m : HandlerMeaning Handler) (c : SolverCx Handler) (graph : SearchState) (ks : KnownResults) (t : Table)
@@ -57,7 +57,7 @@ module _ {Handler : Type 0} (m : HandlerMeaning Handler) (c : SolverCx Handler) 
     pub consistent : AreConsistent ks → AreConsistent ls
     pub results : KeepsResults ks ls
     pub ready : IsReady m.IsReady d
-    pub keeps : Search.Keeps (solver_meaning m) c d
+    pub keeps : Search.KeepsContext (solver_meaning m) c d
     pub entries : Keeps (entries_of c) (entries_of d)
     pub limits : KeepsLimits c d
     pub table : Ready (entries_of d) u

@@ -15,7 +15,7 @@ use Rattle.goal_frames.specs.declared.store.InputId.{InputId}
 use Rattle.goal_frames.specs.declared.store.ResponseId.{ResponseId}
 use Rattle.goal_frames.specs.declared.frame.GoalFrame.{GoalFrame}
 use Rattle.goal_frames.specs.Frames as Frames
-use Rattle.goal_frames.specs.Meanings.{Goals, HandlerMeaning}
+use Rattle.goal_frames.specs.Meanings.{Goals, HandlerMeaning, StayNotes}
 use Rattle.goal_frames.specs.HandlerPrograms.{programs_of}
 use Rattle.goal_frames.specs.Steps as Steps
 use Rattle.solver_graph.specs.declared.context.SolverCx.{SolverCx}
@@ -63,8 +63,8 @@ HasLasting c (of_limits terms kept) = (c.interner.limit ≡ terms) × (limit_of 
 
 module _ {Handler : Type 0} (m : HandlerMeaning Handler) where
   -- the declarations of the context's handler
-  abbrev pub world_of : SolverCx Handler → m.goals.World
-  world_of c = m.world c.handler (entries_of c)
+  abbrev pub world_in : SolverCx Handler → m.goals.World
+  world_in c = m.world c.handler (entries_of c)
 
   -- the frame is the goal's, in its typing mode, and has had these replies, each of which was due, the newest first
   pub record FrameHasHeard (c : SolverCx Handler) (g : Asked) (heard : List (Reply (Option AnswerTrees))) (f : GoalFrame) : Type 0 where
@@ -74,12 +74,13 @@ module _ {Handler : Type 0} (m : HandlerMeaning Handler) where
     -- the goal is stored, and so is each result among the replies
     pub kept : (i : InputId) × IsInput m.IsReady c i × (goal_of c i ≡ g)
     pub replies : Every (RepliedResultIs (IsKeptAnswer m.IsReady c)) heard
-    pub due : AreReplies (bare m.goals) AnyAnswer (world_of c) g heard
-    pub frame : Frames.HasHeard (entries_of c) (m.goals.handled (world_of c) g.0 g.1) f (replies_of heard)
+    pub due : AreReplies (bare m.goals) AnyAnswer (world_in c) g heard
+    pub frame : Frames.HasHeard (entries_of c) (m.goals.handled (world_in c) g.0 g.1) f (replies_of heard)
+    pub notes : StayNotes m c.handler (entries_of c) f.notes.items
 
   abbrev pub handles : Handles (SolverCx Handler) InputId (Option ResponseId) GoalFrame m.goals.World Asked (Option AnswerTrees)
   handles = record {
-    world = world_of;
+    world = world_in;
     IsFull = ContextIsFull;
     IsInput = IsInput m.IsReady;
     goal_of = goal_of;
@@ -95,4 +96,4 @@ module _ {Handler : Type 0} (m : HandlerMeaning Handler) where
 
   -- the greatest number of steps of a frame
   abbrev pub steps_left : SolverCx Handler → GoalFrame → ℕ
-  steps_left c f = Steps.steps_left (m.goals.handled (world_of c) f.goal.mode (form_of (entries_of c) f.goal)) f
+  steps_left c f = Steps.steps_left (m.goals.handled (world_in c) f.goal.mode (form_of (entries_of c) f.goal)) f

@@ -2,7 +2,7 @@
 
 ghost use Rattle.std.specs.Prelude.{◌≡◌, ◌↔◌, ◌<◌, Err, IfOk, IfSome, IsSome, IsTrue, Some, true, false};
 ghost use Rattle.infer_table.specs.declared.certainty.Certainty.TheVariants.{Maybe};
-ghost use Rattle.search_graph.specs.Meaning.{Keeps, IsFair, IsDue, IsReply, Steps};
+ghost use Rattle.search_graph.specs.Meaning.{KeepsContext, IsFair, IsDue, IsReply, Steps};
 ghost use Rattle.goal_evaluator.specs.Tables.{frame_tables};
 ghost use Rattle.goal_frames.specs.Searches.{is_ambiguous_answer, is_yes_answer};
 ghost use Rattle.goal_frames.specs.HandlerPrograms.{silent, cycle_answer};
@@ -12,6 +12,7 @@ ghost use Rattle.solver_graph.specs.Searching.{solver_meaning, steps_left};
 ghost use Rattle.solver_graph.specs.Shortages.{ContextIsFull};
 
 use crate::context::SolverCx;
+use crate::frame::SolverFrame;
 use crate::requests::{keep_request, read_reply};
 use crate::silent::{cycle_certainty, holds_nothing, is_silent, silent_answer};
 use goal_frames::store::{InputId, ResponseId};
@@ -39,7 +40,7 @@ pub struct SolverGraph<H> {
 impl<H: GoalHandler> Delegate for SolverGraph<H> {
     type Cx = SolverCx<H>;
 
-    type Frame = GoalFrame;
+    type Frame = SolverFrame;
 
     const FIXPOINT_STEP_LIMIT: usize = goal_evaluator::FIXPOINT_STEP_LIMIT;
 
@@ -137,7 +138,7 @@ impl<H: GoalHandler> Delegate for SolverGraph<H> {
         ambiguity_info: MaybeCause,
     ) -> Result<Option<ResponseId>, Fault>
         requires { IsInput H.meaning.IsReady cx.old for_input.now }
-        ensures keeps { Keeps (solver_meaning H.meaning) cx.old cx.new }
+        ensures keeps { KeepsContext (solver_meaning H.meaning) cx.old cx.new }
         ensures full { result ≡ Err Fault.Full → ContextIsFull cx.new }
         ensures known { IfOk result (ResponseIsMade H.meaning.IsReady cx.new) }
         ensures fair { IfOk result (λ r. let m = solver_meaning H.meaning in
@@ -156,9 +157,11 @@ impl<H: GoalHandler> Delegate for SolverGraph<H> {
     }
 
     /// The frame of the goal with this number, in its typing mode.
-    fn start(cx: &mut SolverCx<H>, input: &InputId) -> Result<GoalFrame, Fault> {
+    fn start(cx: &mut SolverCx<H>, input: &InputId) -> Result<SolverFrame, Fault> {
         let goal = cx.store.copy_input(*input)?;
-        Ok(GoalFrame::new::<H>(cx.alloc, goal))
+        let begun = GoalFrame::new::<H>(cx.alloc, goal);
+        let frame = SolverFrame::new(cx.alloc, begun)?;
+        Ok(frame)
     }
 
     /// Passes the reply to the frame, and stores the nested goal or the response of its request.
@@ -166,13 +169,13 @@ impl<H: GoalHandler> Delegate for SolverGraph<H> {
     /// `Full` is returned if a table of the interner is full, or as many goals or responses are stored as the limit allows.
     /// `Memory` is returned if memory is refused, or the frame needs more variables than there are numbers.
     fn step(
-        frame: &mut GoalFrame,
+        frame: &mut SolverFrame,
         cx: &mut SolverCx<H>,
         reply: Reply<Option<ResponseId>>,
     ) -> Result<Request<InputId, Option<ResponseId>>, Fault>
         requires due { IsDue (solver_meaning H.meaning) cx.old frame.old reply }
         requires reply { IsReply (solver_meaning H.meaning) cx.old reply }
-        ensures keeps { Keeps (solver_meaning H.meaning) cx.old cx.new }
+        ensures keeps { KeepsContext (solver_meaning H.meaning) cx.old cx.new }
         ensures full { result ≡ Err Fault.Full → ContextIsFull cx.new }
         ensures steps { IfOk result (λ q. Steps (solver_meaning H.meaning) cx.old frame.old reply cx.new frame.new q) }
         ensures falls { IfOk result (λ q. steps_left H.meaning cx.new frame.new < steps_left H.meaning cx.old frame.old) }

@@ -13,8 +13,8 @@ use goal_frames::GoalHandler;
 pub fn context_laws<H: GoalHandler>()
     ensures interner { (c d : _) → IsReady H.meaning.IsReady c → InternerGrows c d → Advances H.meaning.IsReady c d }
     ensures further { (c d e : _) → Advances H.meaning.IsReady c d → Advances H.meaning.IsReady d e → Advances H.meaning.IsReady c e }
-    ensures keeps { (c d : _) → IsReady H.meaning.IsReady c → Advances H.meaning.IsReady c d → Search.Keeps (solver_meaning H.meaning) c d }
-    ensures justified { (c d : _) (ks : _) → Search.Keeps (solver_meaning H.meaning) c d
+    ensures keeps { (c d : _) → IsReady H.meaning.IsReady c → Advances H.meaning.IsReady c d → Search.KeepsContext (solver_meaning H.meaning) c d }
+    ensures justified { (c d : _) (ks : _) → Search.KeepsContext (solver_meaning H.meaning) c d
         → AreJustified (solver_meaning H.meaning) c ks → AreJustified (solver_meaning H.meaning) d ks }
 {}
 

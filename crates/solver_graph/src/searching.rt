@@ -5,7 +5,7 @@ ghost use Rattle.goal_evaluator.specs.Readings.{ResultHeld};
 ghost use Rattle.goal_frames.specs.Fitting.{ResultFits};
 ghost use Rattle.goal_evaluator.specs.StepReadings.{result_read};
 ghost use Rattle.search_graph.specs.Cache.{AreJustified, AreConsistent, HasConflict, KeepsResults};
-ghost use Rattle.search_graph.specs.Meaning.{Keeps, IsFair};
+ghost use Rattle.search_graph.specs.Meaning.{KeepsContext, IsFair};
 ghost use Rattle.search_graph.specs.Proof.{HasGraphProof};
 ghost use Rattle.solver_graph.specs.Contexts.{goal_of, IsReady, IsInput};
 ghost use Rattle.solver_graph.specs.Searching.{solver_meaning};
@@ -32,7 +32,7 @@ pub(crate) fn search<H: GoalHandler>(
     requires empty { graph.old.current_depth ≡ 0 }
     requires cache { AreJustified (solver_meaning H.meaning) cx.old cache.old }
     requires input { IsInput H.meaning.IsReady cx.old input }
-    ensures keeps { Keeps (solver_meaning H.meaning) cx.old cx.new }
+    ensures keeps { KeepsContext (solver_meaning H.meaning) cx.old cx.new }
     ensures ready { IsReady H.meaning.IsReady cx.new }
     ensures empty { graph.new.current_depth ≡ 0 }
     ensures depth { graph.new.root_depth ≡ graph.old.root_depth }

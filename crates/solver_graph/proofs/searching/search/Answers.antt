@@ -2,7 +2,7 @@ use Rattle.std.proofs.Common.{◌∙◌, ap, sym, Err}
 use Rattle.goal_evaluator.specs.Tables.{frame_tables}
 use Rattle.goal_frames.proofs.Orders.{keeps_order}
 use Rattle.solver_graph.specs.Contexts.{goal_of}
-use Rattle.solver_graph.specs.Searching.{programs, handles, world_of}
+use Rattle.solver_graph.specs.Searching.{programs, handles, world_in}
 use Rattle.solver_graph.specs.Searching.{solver_meaning}
 use Rattle.solver_graph.proofs.Inputs.{one-number}
 use Rattle.solver_graph.proofs.Results.{free-here, result-here}
@@ -13,7 +13,7 @@ pub unreachable-requires : goal.unreachable-requires
 unreachable-requires g c =
     keeps_order frame_tables (programs g.H.GoalHandler.meaning.goals) c.handlers_are_programs.ensures
     (handles g.H.GoalHandler.meaning)
-    (world_of g.H.GoalHandler.meaning c.args.cx.now) (goal_of c.args.cx.now c.args.input)
+    (world_in g.H.GoalHandler.meaning c.args.cx.now) (goal_of c.args.cx.now c.args.input)
     (c.evaluate_goal.ensures.protocol (c.in-Err-Protocol.is ∙ ap Err c.in-Err-Protocol.field-0-is))
 
 pub returns-in_err-answer-in-Ok-clause-cached : goal.returns-in_err-answer-in-Ok-clause-cached

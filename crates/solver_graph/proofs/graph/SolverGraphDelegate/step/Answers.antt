@@ -20,6 +20,9 @@ step-asked-requires-clause-due g c =
     is-due h.meaning m.lawful.world_kept cx c.args.frame.now c.in_ok-reply.reply due.0 due.1 due.2
     (subst (λ y. Search.IsDueAfter meaning (h.meaning.world cx.handler cx.interner.entries) due.0 due.1 y) (sym c.in_ok-reply.ensures.is) due.3)
 
+pub step-asked-requires-clause-notes : goal.step-asked-requires-clause-notes
+step-asked-requires-clause-notes g c = c.requires.due.2.notes
+
 pub returns-in_err-asked-clause-keeps : goal.returns-in_err-asked-clause-keeps
 returns-in_err-asked-clause-keeps g c =
     let h = g.H.GoalHandler in
@@ -68,7 +71,7 @@ returns-clause-steps g c =
       λ goal heard has due.
           let here = subst (λ y. Search.IsDueAfter meaning world goal heard y) (sym same) due in
           let there =
-          hears-more h.meaning m.lawful.world_kept cx before reply goal heard has mid first after asked c.in_ok-reply.ensures.held told c.in_ok-asked.ensures.fewer c.step-asked.ensures.goal c.in_ok-asked.ensures.steps here
+          hears-more h.meaning m.lawful.world_kept cx before reply goal heard has mid first after asked c.in_ok-reply.ensures.held told c.in_ok-asked.ensures.fewer c.step-asked.ensures.goal c.in_ok-asked.ensures.steps here c.in_ok-asked.ensures.notes
           in
           let on = (keeps h.meaning m.lawful.world_kept mid new first.ready c.keep_request.ensures.advances).frames goal _ after there in (
             subst (λ y. FrameHasHeard h.meaning new goal (y ∷ heard) after) same on,
@@ -96,7 +99,7 @@ returns-clause-falls g c =
     let first = later h.meaning.IsReady m.lawful.ready_kept cx mid now refl refl c.step-asked.ensures.terms.grew.keeps c.lawful.ensures c.step-asked.ensures.terms.grew.limit in
     let here = subst (λ y. Search.IsDueAfter meaning (h.meaning.world cx.handler cx.interner.entries) due.0 due.1 y) (sym c.in_ok-reply.ensures.is) due.3 in
     let there =
-    hears-more h.meaning m.lawful.world_kept cx before reply due.0 due.1 due.2 mid first after asked c.in_ok-reply.ensures.held told c.in_ok-asked.ensures.fewer c.step-asked.ensures.goal c.in_ok-asked.ensures.steps here
+    hears-more h.meaning m.lawful.world_kept cx before reply due.0 due.1 due.2 mid first after asked c.in_ok-reply.ensures.held told c.in_ok-asked.ensures.fewer c.step-asked.ensures.goal c.in_ok-asked.ensures.steps here c.in_ok-asked.ensures.notes
     in
     let on = (keeps h.meaning m.lawful.world_kept mid new first.ready c.keep_request.ensures.advances).frames due.0 _ after there in
     let whole = further h.meaning.IsReady cx mid new first c.keep_request.ensures.advances in
