@@ -1,8 +1,12 @@
 -- The first token of bytes that do not begin with a space, and the bytes after it.
-use Rattle.std.specs.Prelude.{ℕ, List, [], ◌∷◌, length, drop, take_while, Option, Some, None, ◌==◌, if◌then◌else◌}
+use Rattle.std.specs.Prelude.{◌≡◌, ℕ, List, [], ◌∷◌, length, drop, take_while, Option, Some, None, ◌==◌, if◌then◌else◌}
 use Rattle.std.specs.Option.{option_map}
-use Rattle.text_language.specs.Words.{is_word_byte, sign_at}
+use Rattle.text_language.specs.Words.{is_word_byte, sign_at, keyword_named, primitive_named}
 use Rattle.text_language.specs.Tokens.{Token, sign, arrow, word_token, as_lifetime, as_variable}
+
+-- neither a keyword nor a primitive type
+abbrev pub IsUnreserved : List ℕ → Type 0
+IsUnreserved w = (keyword_named w ≡ None) × (primitive_named w ≡ None)
 
 -- the token of the word at the front, and the bytes after the word
 abbrev pub of_word : (Option Token → Option Token) → List ℕ → Option (Token × List ℕ)

@@ -80,6 +80,9 @@ pub fn is_blank(line: &[u8]) -> bool
     rest.is_empty() || rest.starts_with(b"//")
 }
 
+/// Room for the cells of most lines, so that the list grows for long ones alone.
+const CELLS_EXPECTED: usize = 24;
+
 /// The line that these tokens spell.
 #[tactic(auto, unfolding(crate::specs::Parts::line_at))]
 fn read_tokens<'a>(alloc: Global, tokens: &[Token<'a>]) -> Result<LineRead<'a>, LineError>
@@ -88,7 +91,7 @@ fn read_tokens<'a>(alloc: Global, tokens: &[Token<'a>]) -> Result<LineRead<'a>, 
     let mut reader = Reader {
         alloc,
         cursor: Cursor::new(tokens),
-        cells: Vec::new(alloc),
+        cells: Vec::with_capacity(alloc, tokens.len().min(CELLS_EXPECTED))?,
     };
     let statement = reader.statement()?;
     if !reader.cursor.is_empty() {

@@ -41,7 +41,8 @@ fn clause_parts(
 ) -> Result<Vec<LinePart>, AllocError>
     ensures { IfOk result (λ v. v.items ≡ first ∷ second ∷ flat_map clause_places clauses.now) }
 {
-    let mut parts = Vec::new(alloc);
+    let count = clauses.len().saturating_mul(2).saturating_add(2);
+    let mut parts = Vec::with_capacity(alloc, count)?;
     parts.push(first)?;
     parts.push(second)?;
     let mut rest = clauses;

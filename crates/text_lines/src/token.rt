@@ -1,11 +1,11 @@
 //! A line as words and signs.
-ghost use Rattle.std.specs.Prelude.{◌≡◌, length, drop, take_while, IfOk};
+ghost use Rattle.std.specs.Prelude.{◌≡◌, IsTrue, length, drop, take_while, IfOk};
 ghost use Rattle.std.specs.Option.{option_map};
 ghost use Rattle.std.specs.List.{list_all};
 ghost use Rattle.text_language.specs.Words.{keyword_named, primitive_named, is_digit, is_word_byte, sign_at};
 ghost use Rattle.text_language.specs.Tokens.{word_token, as_lifetime, as_variable, tokens_of};
 ghost use Rattle.text_lines.specs.TokenViews.{keyword_of, primitive_label, sign_of, token_of, tokens_in};
-ghost use Rattle.text_lines.specs.TokenReading.{of_word, itself, arrow_at, lone_sign, token_at};
+ghost use Rattle.text_lines.specs.TokenReading.{IsUnreserved, of_word, itself, arrow_at, lone_sign, token_at};
 
 use std::alloc::{AllocError, Global};
 
@@ -117,6 +117,16 @@ fn primitive_named(word: &[u8]) -> Option<Primitive>
     None
 }
 
+/// Whether the first byte is before `a`, as in most names of structs and traits. Each reserved word begins with a small letter.
+fn is_never_reserved(word: &[u8]) -> bool
+    ensures { IsTrue result → IsUnreserved word.now }
+{
+    match word {
+        [first, ..] => *first < b'a',
+        [] => false,
+    }
+}
+
 fn is_digit(b: u8) -> bool
     ensures { result ≡ is_digit b }
 {
@@ -209,6 +219,9 @@ fn word_token(word: &[u8]) -> Option<Token<'_>>
     }
     if word.first().is_some_and(|b| is_digit(*b)) {
         return None;
+    }
+    if is_never_reserved(word) {
+        return Some(Token::Name(word));
     }
     if let Some(keyword) = keyword_named(word) {
         return Some(Token::Keyword(keyword));
@@ -321,12 +334,15 @@ fn token_at(bytes: &[u8]) -> Option<(Token<'_>, &[u8])>
     }
 }
 
+/// Room for the tokens of most lines, so that the list grows for long ones alone.
+const TOKENS_EXPECTED: usize = 40;
+
 /// The tokens of a line, from left to right. Returns `None` if something in it is no token: another byte, a `'`, `?` or `-` alone, or a
 /// word that begins with a digit and has other characters. Fails only if memory is refused.
 pub fn tokens(alloc: Global, line: &[u8]) -> Result<Option<Vec<Token<'_>>>, AllocError>
     ensures { IfOk result (λ found. option_map (λ v. tokens_in v.items) found ≡ tokens_of line.now) }
 {
-    let mut found = Vec::new(alloc);
+    let mut found = Vec::with_capacity(alloc, line.len().min(TOKENS_EXPECTED))?;
     let mut rest = line;
     while let [first, after_first @ ..] = rest {
         if *first == b' ' {

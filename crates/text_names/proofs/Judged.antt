@@ -16,6 +16,7 @@ use Rattle.text_names.proofs.Uses.{findings-append}
 use Rattle.text_names.specs.LookUps.{place_in, scope_place, is_own_name}
 use Rattle.text_names.specs.Resolved.{static_region, region_of, param_region, bound_region, region_under}
 use Rattle.type_terms.proofs.BooleanBasics.{no-more as or-false}
+use Rattle.text_language.proofs.SamePrintedUnknowns.{and-true}
 
 option-false : {A : Type 0} (o : Option A) → option_map_or (λ c. false) o false ≡ false
 option-false None = refl
@@ -149,10 +150,6 @@ pub one_trait : (v : Sight) (n : List ℕ) (k : ℕ) (b c d e : Bool) → b ≡ 
     → c ≡ option_map_or (λ j. is_hidden_name v.before v.line j n) (looking_crate v.before v.line) false → d ≡ is_other_sort v.before v.line (trait_use n k) → e ≡ is_own_name v n
     → made false b c d e false false ≡ findings v (trait_use n k ∷ [])
 one_trait v n k b c d e hb hc hd he = one-use v (trait_use n k) false b c d e false false refl hb hc hd he refl refl
-
-and-true : (b : Bool) → b && true ≡ b
-and-true true = refl
-and-true false = refl
 
 pub fits-place : (n : List ℕ) (ns : List (List ℕ)) (o : Option ℕ) (k : ℕ) → o ≡ place_in n ns → k ≡ 0 → is_some o ≡ (is_among n ns && (k == 0))
 fits-place n ns o k e z = ap is_some e ∙ among-place 0 n ns ∙ sym (and-true (is_among n ns)) ∙ ap (λ j. is_among n ns && (j == 0)) (sym z)

@@ -71,7 +71,7 @@ types_list : Meanings → List (List (List ℕ)) → Types → List Trees
 types_list e s no_types = []
 types_list e s (and_type t ts) = type_tree e s of_type t ∷ types_list e s ts
 
-args_list : Meanings → List (List (List ℕ)) → List Sort → Args → List Trees
+pub args_list : Meanings → List (List (List ℕ)) → List Sort → Args → List Trees
 args_list e s ks no_args = []
 args_list e s ks (and_arg a args) = arg_tree e s (next_kind ks) a ∷ args_list e s (other_kinds ks) args
 

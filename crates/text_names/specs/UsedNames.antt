@@ -1,5 +1,5 @@
 -- The names that occur in types where a type or a constant is expected.
-use Rattle.std.specs.Prelude.{◌≡◌, ℕ, ◌||◌, List, [], ◌∷◌, ◌++◌, length, drop}
+use Rattle.std.specs.Prelude.{◌≡◌, ℕ, ◌||◌, List, [], ◌∷◌, ◌++◌, length, drop, map}
 use Rattle.std.specs.Borrow.{Bor}
 use Rattle.std.specs.List.{list_any}
 use Rattle.std.specs.HashSet.{contains}
@@ -10,6 +10,7 @@ use Rattle.text_language.specs.Promised.Declarations.{Declarations}
 use Rattle.text_language.specs.Promised.Faults.{is_among}
 use Rattle.text_language.specs.Faults.{is_name_use}
 use Rattle.text_language.specs.Uses.{type_uses, args_uses}
+use Rattle.text_lines.specs.TokenViews.{text_of}
 use Rattle.text_lines.specs.Cells.{Cell, named_cell, array_cell, type_onto, args_onto}
 use Rattle.text_names.specs.declared.name_set.NameSet.{NameSet}
 
@@ -25,7 +26,7 @@ names_with (c ∷ cs) ns = names_with cs (name_of c ++ ns)
 
 -- the set holds these names and no other
 abbrev pub Holds : NameSet → List (List ℕ) → Type 0
-Holds u ns = (n : Bor (List ℕ)) → contains (λ a b. bytes_eq a.now b.now) u.names n ≡ is_among n.now ns
+Holds u ns = (n : Bor (List ℕ)) → is_among n.now (map text_of u.few.items) || contains (λ a b. bytes_eq a.now b.now) u.names n ≡ is_among n.now ns
 
 -- The names in the cells of a type are those that it uses where a type or a constant is expected.
 abbrev pub TypesUseNames : Type 0

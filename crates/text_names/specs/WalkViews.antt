@@ -35,6 +35,7 @@ frames_in fs = frames_onto fs []
 -- The state of the machine, if this comes next.
 abbrev pub state_in : Next → Walk → WalkState
 state_in (nexts.Visiting p) w = visiting (place_of p) (frames_in w.frames.items) w.binders w.rest w.found
+state_in (nexts.Opened f) w = going (frame_of f ∷ frames_in w.frames.items) w.binders w.rest w.found
 state_in nexts.Going w = going (frames_in w.frames.items) w.binders w.rest w.found
 state_in nexts.Finished w = finished w.rest w.found
 

@@ -1,22 +1,31 @@
 //! Sets of names.
 ghost use Rattle.std.specs.Prelude.{◌≡◌, ℕ, List, [], ◌∷◌, ◌++◌, OnOk};
+ghost use Rattle.std.specs.HashSet.{contains};
+ghost use Rattle.std.specs.Str.{bytes_eq};
 ghost use Rattle.text_language.specs.Promised.Faults.{is_among};
 ghost use Rattle.text_lines.specs.TypeViews.{cell_of, cells_in};
 ghost use Rattle.text_names.specs.UsedNames.{Holds, name_of, names_with};
 
+use crate::binders::place_in;
 use std::alloc::{AllocError, Global};
 use std::collections::HashSet;
 use text_lines::{Cell, Length};
 
-/// The names that types use where a type or a constant is expected. With it, a parameter of an impl is looked for in its header.
+/// Up to so many names are compared one by one, which costs less than to hash them.
+const FEW: usize = 16;
+
+/// A set of names. With it, a parameter of an impl is looked for in its header.
 pub struct NameSet<'a> {
+    /// The first names, not each once.
+    few: Vec<&'a [u8]>,
+    /// All further ones.
     names: HashSet<&'a [u8]>,
 }
 
 // Hand-written so that the prover sees one drop call: docs/PROVING.md#drop.
 impl Drop for NameSet<'_> {
     fn drop(self) {
-        let NameSet { names: _ } = self;
+        let NameSet { few: _, names: _ } = self;
     }
 }
 
@@ -26,6 +35,7 @@ impl<'a> NameSet<'a> {
         ensures { Holds result [] }
     {
         NameSet {
+            few: Vec::new(alloc),
             names: HashSet::new(alloc),
         }
     }
@@ -34,7 +44,11 @@ impl<'a> NameSet<'a> {
     pub fn insert(&mut self, name: &'a [u8]) -> Result<(), AllocError>
         ensures { OnOk result ((ns : List (List ℕ)) → Holds self.old ns → Holds self.new (name.now ∷ ns)) }
     {
-        let _ = self.names.insert(name)?;
+        if self.few.len() < FEW {
+            self.few.push(name)?;
+        } else {
+            let _ = self.names.insert(name)?;
+        }
         Ok(())
     }
 
@@ -61,10 +75,23 @@ impl<'a> NameSet<'a> {
         Ok(())
     }
 
-    /// Whether the name is in the set. It takes no memory and one hash.
+    /// Whether the name is one of those that are hashed.
+    fn hashes(&self, name: &[u8]) -> bool
+        ensures { result ≡ contains (λ a b. bytes_eq a.now b.now) self.now.names name.entry }
+    {
+        if self.names.is_empty() {
+            return false;
+        }
+        self.names.contains(name)
+    }
+
+    /// Whether the name is in the set. It takes no memory and at most one hash.
     pub fn contains(&self, name: &[u8]) -> bool
         ensures { (ns : List (List ℕ)) → Holds self.now ns → result ≡ is_among name.now ns }
     {
-        self.names.contains(name)
+        match place_in(&self.few, name) {
+            Some(_) => true,
+            None => self.hashes(name),
+        }
     }
 }

@@ -44,16 +44,16 @@ pub(crate) fn cells_to<'c, 'a>(cells: &'c [Cell<'a>], end: usize) -> &'c [Cell<'
 }
 
 impl<'a> PartsFound<'a> {
-    /// What is found of no types.
-    fn nothing(alloc: Global) -> Self
-        ensures { (v : Sight) → IsFound v [] result }
+    /// What is found of no types, with room for this many.
+    fn nothing(alloc: Global, count: usize) -> Result<Self, AllocError>
+        ensures { IfOk result (λ found. (v : Sight) → IsFound v [] found) }
     {
-        PartsFound {
+        Ok(PartsFound {
             faults: Findings::NONE,
             variables: Vec::new(alloc),
             is_deep: false,
-            parts: Vec::new(alloc),
-        }
+            parts: Vec::with_capacity(alloc, count)?,
+        })
     }
 
     /// Adds what was found of one more. For a bound, with the number of its trait.
@@ -117,7 +117,7 @@ pub fn find_parts<'a, N: Names>(
 ) -> Result<PartsFound<'a>, AllocError>
     ensures { IfOk result (λ found. FindsParts (N.sight names.now) (cells_in cells.now) parts.now found) }
 {
-    let mut found = PartsFound::nothing(alloc);
+    let mut found = PartsFound::nothing(alloc, parts.len())?;
     for part in parts {
         found.add(names, alloc, cells, *part)?;
     }

@@ -239,7 +239,7 @@ impl<'n, 'c, 'a> Walk<'n, 'c, 'a> {
         alloc: Global,
         place: Place,
         start: usize,
-    ) -> Result<Next, AllocError>
+    ) -> Result<Next<'n>, AllocError>
         requires { length self.old.rest + 1 < 2 ^ 64 }
         ensures { WalkSteps result (λ fs s r a. dyn_step (N.sight names.now) (place_of place) fs s start r a) self.old self.new }
     {

@@ -55,7 +55,7 @@ impl<'n, 'c, 'a> Walk<'n, 'c, 'a> {
         frame: Frame<'n>,
         kinds: &'n [ParamKind],
         left: usize,
-    ) -> Result<Next, AllocError>
+    ) -> Result<Next<'n>, AllocError>
         ensures { (v : Sight)
             → WalkSteps result (λ fs s r a. inside_step v (args_inside (sorts_of kinds.now) left) (frame_of frame.entry) fs s r a) self.old self.new }
     {
@@ -70,7 +70,7 @@ impl<'n, 'c, 'a> Walk<'n, 'c, 'a> {
         Ok(Next::Visiting(arg_place(kind_at(kinds, left), frame.room, frame.is_kept)))
     }
 
-    fn type_inside(&mut self, frame: Frame<'n>) -> Result<Next, AllocError>
+    fn type_inside(&mut self, frame: Frame<'n>) -> Result<Next<'n>, AllocError>
         ensures { (v : Sight) → WalkSteps result (λ fs s r a. inside_step v types_inside (frame_of frame.entry) fs s r a) self.old self.new }
     {
         self.push(frame)?;
@@ -83,7 +83,7 @@ impl<'n, 'c, 'a> Walk<'n, 'c, 'a> {
         names: &'n N,
         alloc: Global,
         frame: Frame<'n>,
-    ) -> Result<Next, AllocError>
+    ) -> Result<Next<'n>, AllocError>
         ensures { WalkSteps result (λ fs s r a. item_step (N.sight names.now) (frame_of frame.entry) fs s r a) self.old self.new }
     {
         let before = self.rest.fork();
@@ -105,7 +105,7 @@ impl<'n, 'c, 'a> Walk<'n, 'c, 'a> {
         names: &'n N,
         alloc: Global,
         frame: Frame<'n>,
-    ) -> Result<Next, AllocError>
+    ) -> Result<Next<'n>, AllocError>
         ensures { WalkSteps result
             (λ fs s r a. inside_step (N.sight names.now) (inside_of frame.entry.holds) (frame_of frame.entry) fs s r a) self.old self.new }
     {
@@ -116,20 +116,30 @@ impl<'n, 'c, 'a> Walk<'n, 'c, 'a> {
         }
     }
 
-    /// The step at what is open: it ends, or something inside it comes.
-    fn frame_step<N: Names>(&mut self, names: &'n N, alloc: Global) -> Result<Next, AllocError>
+    /// The step at this frame, which was on top: it ends, or something inside it comes.
+    fn opened_step<N: Names>(
+        &mut self,
+        names: &'n N,
+        alloc: Global,
+        frame: Frame<'n>,
+    ) -> Result<Next<'n>, AllocError>
+        ensures { WalkSteps result (λ fs s r a. frame_step (N.sight names.now) (frame_of frame.entry ∷ fs) s r a) self.old self.new }
+    {
+        if self.rest.len() == frame.inner {
+            self.close(frame);
+            Ok(Next::Going)
+        } else {
+            self.inside(names, alloc, frame)
+        }
+    }
+
+    /// The step at what is open.
+    fn frame_step<N: Names>(&mut self, names: &'n N, alloc: Global) -> Result<Next<'n>, AllocError>
         ensures { WalkSteps result (λ fs s r a. frame_step (N.sight names.now) fs s r a) self.old self.new }
     {
         match self.pop() {
             None => Ok(Next::Finished),
-            Some(frame) => {
-                if self.rest.len() == frame.inner {
-                    self.close(frame);
-                    Ok(Next::Going)
-                } else {
-                    self.inside(names, alloc, frame)
-                }
-            }
+            Some(frame) => self.opened_step(names, alloc, frame),
         }
     }
 
@@ -139,7 +149,7 @@ impl<'n, 'c, 'a> Walk<'n, 'c, 'a> {
         names: &'n N,
         alloc: Global,
         place: Place,
-    ) -> Result<Next, AllocError>
+    ) -> Result<Next<'n>, AllocError>
         ensures { WalkSteps result (λ fs s r a. visit_step (N.sight names.now) (place_of place) fs s r a) self.old self.new }
     {
         let before = self.rest.fork();
@@ -172,12 +182,13 @@ impl<'n, 'c, 'a> Walk<'n, 'c, 'a> {
         &mut self,
         names: &'n N,
         alloc: Global,
-        next: Next,
-    ) -> Result<Next, AllocError>
-        ensures { WalkComes result (step (N.sight names.now) (state_in next self.old)) self.new }
+        next: Next<'n>,
+    ) -> Result<Next<'n>, AllocError>
+        ensures { WalkComes result (step (N.sight names.now) (state_in next.entry self.old)) self.new }
     {
         match next {
             Next::Visiting(place) => self.visit(names, alloc, place),
+            Next::Opened(frame) => self.opened_step(names, alloc, frame),
             Next::Going => self.frame_step(names, alloc),
             Next::Finished => Ok(Next::Finished),
         }
@@ -188,9 +199,9 @@ impl<'n, 'c, 'a> Walk<'n, 'c, 'a> {
         &mut self,
         names: &'n N,
         alloc: Global,
-        first: Next,
+        first: Next<'n>,
     ) -> Result<(), AllocError>
-        ensures { WalkEnds result (N.sight names.now) (state_in first self.old) self.new }
+        ensures { WalkEnds result (N.sight names.now) (state_in first.entry self.old) self.new }
     {
         let mut next = first;
         while !next.is_finished() {
@@ -209,14 +220,13 @@ impl<'n, 'c, 'a> Walk<'n, 'c, 'a> {
         ensures { WalkEnds result (N.sight names.now)
             (going (frame_of frame.entry ∷ frames_in self.old.frames.items) self.old.binders self.old.rest self.old.found) self.new }
     {
-        self.push(frame)?;
-        self.run(names, alloc, Next::Going)
+        self.run(names, alloc, Next::Opened(frame))
     }
 }
 
-impl Next {
+impl Next<'_> {
     fn is_finished(self) -> bool
-        ensures { result ≡ is_finished self }
+        ensures { result ≡ is_finished self.entry }
     {
         match self {
             Next::Finished => true,

@@ -66,8 +66,11 @@ pub(crate) struct BoundHead<'a> {
 
 /// What comes next: a type or an argument, what is open, or nothing.
 #[derive(Clone, Copy)]
-pub(crate) enum Next {
+pub(crate) enum Next<'n> {
     Visiting(Place),
+    /// What was opened last. It is on the stack only while something inside it is visited, so a name alone needs no stack.
+    Opened(Frame<'n>),
+    /// What is on top of the stack.
     Going,
     Finished,
 }
@@ -167,7 +170,7 @@ impl<'n, 'c, 'a> Walk<'n, 'c, 'a> {
     }
 
     /// The step at a type with no others inside.
-    pub fn leaf(&mut self, place: Place, label: NodeLabel<'a>) -> Result<Next, AllocError>
+    pub fn leaf(&mut self, place: Place, label: NodeLabel<'a>) -> Result<Next<'n>, AllocError>
         ensures { (v : Sight) → WalkSteps result (λ fs s r a. leaf_step v (place_of place) fs s (label_in label.entry) r a) self.old self.new }
     {
         let cell = ResolvedCell::Node { label, inside: 0 };
@@ -176,7 +179,7 @@ impl<'n, 'c, 'a> Walk<'n, 'c, 'a> {
     }
 
     /// The step at a variable: one more use, one more variable, and a resolved cell with its name.
-    pub fn variable(&mut self, place: Place, name: &'a [u8]) -> Result<Next, AllocError>
+    pub fn variable(&mut self, place: Place, name: &'a [u8]) -> Result<Next<'n>, AllocError>
         ensures { (v : Sight) → WalkSteps result (λ fs s r a. variable_step v (place_of place) fs s name.now r a) self.old self.new }
     {
         let faults = judge_use::named_misfits(place.sort).either(judge_use::variable(name));
@@ -195,7 +198,7 @@ impl<'n, 'c, 'a> Walk<'n, 'c, 'a> {
         names: &N,
         place: Place,
         name: &'a [u8],
-    ) -> Result<Next, AllocError>
+    ) -> Result<Next<'n>, AllocError>
         ensures { WalkSteps result (λ fs s r a. lifetime_step (N.sight names.now) (place_of place) fs s name.now r a) self.old self.new }
     {
         let region = judge_use::region(names, &self.binders, name);
@@ -208,7 +211,7 @@ impl<'n, 'c, 'a> Walk<'n, 'c, 'a> {
     }
 
     /// The step at a number as an argument.
-    pub fn number(&mut self, place: Place, digits: &'a [u8]) -> Result<Next, AllocError>
+    pub fn number(&mut self, place: Place, digits: &'a [u8]) -> Result<Next<'n>, AllocError>
         ensures { (v : Sight) → WalkSteps result (λ fs s r a. number_step v (place_of place) fs s (number_from 0 digits.now) r a) self.old self.new }
     {
         let faults = judge_use::number_argument(place.sort, digits);
@@ -226,7 +229,7 @@ impl<'n, 'c, 'a> Walk<'n, 'c, 'a> {
         place: Place,
         name: &'a [u8],
         start: usize,
-    ) -> Result<Next, AllocError>
+    ) -> Result<Next<'n>, AllocError>
         ensures { WalkSteps result (λ fs s r a. named_step (N.sight names.now) (place_of place) fs s name.now start r a) self.old self.new }
     {
         let count = self.rest.count_above(start);
@@ -236,15 +239,14 @@ impl<'n, 'c, 'a> Walk<'n, 'c, 'a> {
         let cell = heads::named_cell(names, place.sort, name, count, meaning);
         self.found.add(place, faults, cell)?;
         let kinds = heads::struct_kinds(meaning);
-        self.push(Frame {
+        Ok(Next::Opened(Frame {
             start,
             inner: start,
             binds: false,
             holds: Inside::Args { kinds, left: count },
             room: deeper(place.room),
             is_kept: keeps_args(place),
-        })?;
-        Ok(Next::Going)
+        }))
     }
 
     /// The step at an array. Its item type comes next.
@@ -253,7 +255,7 @@ impl<'n, 'c, 'a> Walk<'n, 'c, 'a> {
         names: &N,
         place: Place,
         length: Length<'a>,
-    ) -> Result<Next, AllocError>
+    ) -> Result<Next<'n>, AllocError>
         ensures { WalkSteps result (λ fs s r a. array_step (N.sight names.now) (place_of place) fs s (length_of length.entry) r a) self.old self.new }
     {
         let faults = judge_use::misfits(place.sort).either(judge_use::length(names, length));
@@ -267,7 +269,7 @@ impl<'n, 'c, 'a> Walk<'n, 'c, 'a> {
     }
 
     /// The step at a pointer or a slice. The type inside it comes next.
-    pub fn wrapped(&mut self, place: Place, label: NodeLabel<'a>) -> Result<Next, AllocError>
+    pub fn wrapped(&mut self, place: Place, label: NodeLabel<'a>) -> Result<Next<'n>, AllocError>
         ensures { (v : Sight)
             → WalkSteps result (λ fs s r a. wrapped_step v (place_of place) fs s [] (λ cs. node_cell (label_in label.entry) 1 ∷ cs) r a) self.old self.new }
     {
@@ -283,7 +285,7 @@ impl<'n, 'c, 'a> Walk<'n, 'c, 'a> {
         place: Place,
         lifetime: Option<&'a [u8]>,
         is_mut: bool,
-    ) -> Result<Next, AllocError>
+    ) -> Result<Next<'n>, AllocError>
         ensures { WalkSteps result
             (λ fs s r a. reference_step (N.sight names.now) (place_of place) fs s (option_map text_of lifetime.entry) is_mut r a) self.old self.new }
     {
@@ -296,7 +298,7 @@ impl<'n, 'c, 'a> Walk<'n, 'c, 'a> {
     }
 
     /// The step at a tuple. The cells tell how many items it has, and they come next.
-    pub fn tuple(&mut self, place: Place, start: usize) -> Result<Next, AllocError>
+    pub fn tuple(&mut self, place: Place, start: usize) -> Result<Next<'n>, AllocError>
         ensures { (v : Sight) → WalkSteps result (λ fs s r a. tuple_step v (place_of place) fs s start r a) self.old self.new }
     {
         let count = self.rest.count_above(start);
@@ -309,15 +311,14 @@ impl<'n, 'c, 'a> Walk<'n, 'c, 'a> {
             judge_use::misfits(place.sort).either(judge_use::items(count)),
             cell,
         )?;
-        self.push(Frame {
+        Ok(Next::Opened(Frame {
             start,
             inner: start,
             binds: false,
             holds: Inside::Types,
             room: deeper(place.room),
             is_kept: place.is_kept,
-        })?;
-        Ok(Next::Going)
+        }))
     }
     /// Opens what binds these lifetimes.
     fn open(&mut self, frame: Frame<'n>, bound: Vec<&'a [u8]>) -> Result<(), AllocError>
@@ -339,7 +340,7 @@ impl<'n, 'c, 'a> Walk<'n, 'c, 'a> {
         place: Place,
         start: usize,
         inner: usize,
-    ) -> Result<Next, AllocError>
+    ) -> Result<Next<'n>, AllocError>
         ensures { WalkSteps result (λ fs s r a. fn_to_step (N.sight names.now) (place_of place) fs s start inner r a) self.old self.new }
     {
         let bound = self.rest.names_between(alloc, start, inner)?;
@@ -365,7 +366,7 @@ impl<'n, 'c, 'a> Walk<'n, 'c, 'a> {
         place: Place,
         start: usize,
         inner: usize,
-    ) -> Result<Next, AllocError>
+    ) -> Result<Next<'n>, AllocError>
         requires { length self.old.rest + 1 < 2 ^ 64 }
         ensures { WalkSteps result (λ fs s r a. fn_step (N.sight names.now) (place_of place) fs s start inner r a) self.old self.new }
     {
@@ -393,7 +394,7 @@ impl<'n, 'c, 'a> Walk<'n, 'c, 'a> {
         names: &N,
         outer: Frame<'n>,
         name: &'a [u8],
-    ) -> Result<Next, AllocError>
+    ) -> Result<Next<'n>, AllocError>
         ensures { WalkSteps result
             (λ fs s r a. going (frame_of outer.entry ∷ fs) s r (using (N.sight names.now) (lifetime_use s name.now ∷ []) a)) self.old self.new }
     {
@@ -410,7 +411,7 @@ impl<'n, 'c, 'a> Walk<'n, 'c, 'a> {
         alloc: Global,
         outer: Frame<'n>,
         head: BoundHead<'a>,
-    ) -> Result<Next, AllocError>
+    ) -> Result<Next<'n>, AllocError>
         ensures { WalkSteps result (λ fs s r a. bound_step (N.sight names.now) (frame_of outer.entry) fs s
             head.entry.name.now head.entry.start head.entry.inner r a) self.old self.new }
     {

@@ -61,7 +61,8 @@ fn reference<'a>(
 ) -> Result<ReferenceCells, AllocError>
     ensures { IfOk result (λ r. (v : Sight) (e : Meanings) → IsNumbersOf numbers.now e → MeansReference v e subject.now bound.now r) }
 {
-    let mut own = Vec::new(alloc);
+    let count = subject.cells.len().saturating_add(bound.cells.len());
+    let mut own = Vec::with_capacity(alloc, count)?;
     push_type(numbers, subject, &mut own)?;
     let made = with_self(numbers, bound, own)?;
     Ok(made)
@@ -118,7 +119,7 @@ pub fn clauses_cells<'a, N: Names>(
     ensures { IfOk result (λ rs. MeansClauses (N.sight names.now) numbering.entry parts.now rs.items) }
 {
     let numbers = Numbers::of(names, numbering);
-    let mut references = Vec::new(alloc);
+    let mut references = Vec::with_capacity(alloc, parts.len() / 2)?;
     let mut rest = parts;
     while let [subject, bound, others @ ..] = rest {
         let made = reference(&numbers, alloc, subject, bound)?;

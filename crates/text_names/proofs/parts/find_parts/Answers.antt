@@ -5,7 +5,7 @@ use Rattle.text_names.proofs.Finding.{Going, going-starts, going-at, going-ends}
 use Rattle.text_names.proofs.parts.find_parts.Goals as goal
 
 pub loop-part-init : goal.loop-part-init
-loop-part-init g c ps h = going-starts (g.N.Names.sight c.args.names.now) (cells_in c.args.cells.now) ps c.args.parts.now c.nothing-found.result (c.nothing-found.ensures (g.N.Names.sight c.args.names.now)) h
+loop-part-init g c ps h = going-starts (g.N.Names.sight c.args.names.now) (cells_in c.args.cells.now) ps c.args.parts.now c.in_ok-found.found (c.in_ok-found.ensures (g.N.Names.sight c.args.names.now)) h
 
 pub loop-part-preserved : goal.loop-part-preserved
 loop-part-preserved g c ps h =

@@ -6,7 +6,7 @@ use Rattle.text_parser.proofs.parts.clauses_cells.Goals as goal
 pub loop-rest-init : goal.loop-rest-init
 loop-rest-init g c line ks s st u =
     let v = g.N.Names.sight c.args.names.now in
-    clauses-start v (meanings v c.args.numbering) line ks c.args.parts.now st u c.new-references.result.items c.new-references.ensures.items
+    clauses-start v (meanings v c.args.numbering) line ks c.args.parts.now st u c.in_ok-references.references.items c.in_ok-references.ensures.items
 
 pub loop-rest-preserved : goal.loop-rest-preserved
 loop-rest-preserved g c line ks s st u =

@@ -3,11 +3,11 @@ use Rattle.std.specs.Prelude.{not, ◌&&◌}
 use Rattle.type_terms.specs.Promised.Label.{Sort}
 use Rattle.text_language.specs.Promised.Declarations.{known}
 use Rattle.text_language.specs.Uses.{name_use, kinds_of_struct}
-use Rattle.workspace.specs.Views.{sort_of_kind}
+use Rattle.workspace.specs.Views.{sort_of_kind, sorts_of}
 use Rattle.text_names.specs.Views.{resolved_in}
 use Rattle.text_names.specs.Machine.{WalkFrame, Found, seen_items, going, keeping, deepening, deeper, using, name_misfits, name_cells, is_const_place, args_inside}
 use Rattle.text_names.specs.WalkViews.{frames_in}
-use Rattle.text_names.proofs.Walking.{noted, name-variables, kept-same, together, going-same}
+use Rattle.text_names.proofs.Walking.{noted, name-variables, kept-same, together}
 use Rattle.text_names.proofs.walk.Walk.named.Goals as goal
 
 pub returns : goal.returns
@@ -29,11 +29,10 @@ returns g c =
     let both = together v (name_misfits p) (name_use p n k ∷ []) c.named_misfits-misfits.result c.name.result c.either-faults.result (c.named_misfits-misfits.ensures v) c.name.ensures c.either-faults.ensures in
     let e : using v us x ≡ c.add.new.self = noted v us c.either-faults.result x c.add.new.self (name-variables p n k) both c.in_ok-add.ensures in
     let f = frame ks k (deeper room) own in
-    let h : frames_in c.push.new.self.frames.items ≡ f ∷ fs =
-    c.in_ok-push.ensures.frames
-    ∙ ap (λ z. frame z k c.deeper.result c.keeps_args.result ∷ fs) (c.struct_kinds-kinds.ensures ∙ ap kinds_of_struct c.known-meaning.ensures)
+    let h : frame (sorts_of c.struct_kinds-kinds.result.now) k c.deeper.result c.keeps_args.result ∷ fs ≡ f ∷ fs =
+    ap (λ z. frame z k c.deeper.result c.keeps_args.result ∷ fs) (c.struct_kinds-kinds.ensures ∙ ap kinds_of_struct c.known-meaning.ensures)
     ∙ ap (λ z. frame ks k z c.keeps_args.result ∷ fs) c.deeper.ensures ∙ ap (λ z. frame ks k (deeper room) z ∷ fs) c.keeps_args.ensures in
     ap (λ j. going (frame ks j (deeper room) own ∷ fs) w.binders w.rest (using v (name_misfits p ++ name_use p n j ∷ []) (deepening room (keeping b (name_cells v p n j) w.found)))) (sym c.count_above-count.ensures)
     ∙ ap (λ a. going (f ∷ fs) w.binders w.rest (using v us (deepening room a))) (kept-same b (name_cells v p n k) (λ cs. cell ∷ cs) w.found (c.named_cell-cell.ensures w.found.cells))
     ∙ ap (going (f ∷ fs) w.binders w.rest) e
-    ∙ going-same (f ∷ fs) (frames_in c.push.new.self.frames.items) w.binders c.push.new.self.binders w.rest c.push.new.self.rest c.add.new.self c.push.new.self.found h c.push.ensures.binders c.push.ensures.rest c.push.ensures.found
+    ∙ ap (λ z. going z w.binders w.rest c.add.new.self) (sym h)

@@ -1,11 +1,11 @@
-use Rattle.std.proofs.Common.{◌≡◌, ◌∷◌, [], ◌++◌, refl, sym, ap, ◌∙◌, false}
+use Rattle.std.proofs.Common.{◌≡◌, ℕ, Option, ◌∷◌, [], ◌++◌, refl, sym, ap, ◌∙◌, false}
 use Rattle.type_terms.specs.Promised.Label.{tuple}
 use Rattle.text_language.specs.Uses.{items_use}
 use Rattle.workspace.specs.Views.{sort_of_kind}
 use Rattle.text_names.specs.Resolved as resolved
 use Rattle.text_names.specs.Machine.{WalkFrame, Found, going, using, keeping, deepening, deeper, sort_misfits, types_inside, tuple_step}
 use Rattle.text_names.specs.WalkViews.{place_of, frames_in}
-use Rattle.text_names.proofs.Walking.{noted, no-variables-with, together, going-same}
+use Rattle.text_names.proofs.Walking.{noted, no-variables-with, together}
 use Rattle.text_names.proofs.walk.Walk.tuple.Goals as goal
 
 pub returns : goal.returns
@@ -20,8 +20,6 @@ returns c v =
     let f : WalkFrame = record { start = c.args.start; inner = c.args.start; binds = false; holds = types_inside; room = deeper c.args.place.room; is_kept = c.args.place.is_kept } in
     let at : tuple_step v (place_of c.args.place) (frames_in w.frames.items) w.binders c.args.start w.rest w.found ≡ going (f ∷ frames_in w.frames.items) w.binders w.rest (using v us x) =
     ap (λ j. going (f ∷ frames_in w.frames.items) w.binders w.rest (using v (sort_misfits p ++ items_use j ∷ []) (deepening c.args.place.room (keeping c.args.place.is_kept (λ cs. resolved.node_cell tuple j ∷ cs) w.found)))) (sym c.count_above-count.ensures) in
-    let g : frames_in c.push.new.self.frames.items ≡ f ∷ frames_in w.frames.items =
-    c.in_ok-push.ensures.frames
-    ∙ ap (λ z. record { start = c.args.start; inner = c.args.start; binds = false; holds = types_inside; room = z; is_kept = c.args.place.is_kept } ∷ frames_in w.frames.items) c.deeper.ensures in
+    let room : Option ℕ → WalkFrame = λ z. record { start = c.args.start; inner = c.args.start; binds = false; holds = types_inside; room = z; is_kept = c.args.place.is_kept } in
     at ∙ ap (going (f ∷ frames_in w.frames.items) w.binders w.rest) e
-    ∙ going-same (f ∷ frames_in w.frames.items) (frames_in c.push.new.self.frames.items) w.binders c.push.new.self.binders w.rest c.push.new.self.rest c.add.new.self c.push.new.self.found g c.push.ensures.binders c.push.ensures.rest c.push.ensures.found
+    ∙ ap (λ z. going (room z ∷ frames_in w.frames.items) w.binders w.rest c.add.new.self) (sym c.deeper.ensures)
