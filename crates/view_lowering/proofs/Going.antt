@@ -16,10 +16,10 @@ one-further : {A : Type 0} (p : A → Bool) (xs : List A) (i : ℕ) (x : A) → 
 one-further p xs i x e =
     ap (filter p) (one-more-taken xs i x e) ∙ filter-append p (take i xs) (x ∷ [])
 
-passed : {A : Type 0} (p : A → Bool) (xs : List A) (i : ℕ) (x : A) → slice_get xs i ≡ Some x → p x ≡ false → filter p (take (i + 1) xs) ≡ filter p (take i xs)
+pub passed : {A : Type 0} (p : A → Bool) (xs : List A) (i : ℕ) (x : A) → slice_get xs i ≡ Some x → p x ≡ false → filter p (take (i + 1) xs) ≡ filter p (take i xs)
 passed p xs i x e isnt = one-further p xs i x e ∙ ap (λ b. filter p (take i xs) ++ cond b (x ∷ []) []) isnt ∙ append-nil (filter p (take i xs))
 
-taken : {A : Type 0} (p : A → Bool) (xs : List A) (i : ℕ) (x : A) → slice_get xs i ≡ Some x → p x ≡ true → filter p (take (i + 1) xs) ≡ filter p (take i xs) ++ x ∷ []
+pub taken : {A : Type 0} (p : A → Bool) (xs : List A) (i : ℕ) (x : A) → slice_get xs i ≡ Some x → p x ≡ true → filter p (take (i + 1) xs) ≡ filter p (take i xs) ++ x ∷ []
 taken p xs i x e is = one-further p xs i x e ∙ ap (λ b. filter p (take i xs) ++ cond b (x ∷ []) []) is
 
 pub all-taken : {A : Type 0} (xs : List A) (i : ℕ) → i ≡ length xs → take i xs ≡ xs

@@ -35,17 +35,17 @@ pub plain-erased : (k : ℕ → Bool) (t : Trees) → erase (plain k t) ≡ eras
 plain-erased k none = refl
 plain-erased k (tree l c o) = node (label-erased k l) (plain-erased k c) (plain-erased k o)
 
-map-again : {A B : Type 0} (f : A → A) (g : A → B) → ((x : A) → g (f x) ≡ g x) → (xs : List A) → map g (map f xs) ≡ map g xs
+pub map-again : {A B : Type 0} (f : A → A) (g : A → B) → ((x : A) → g (f x) ≡ g x) → (xs : List A) → map g (map f xs) ≡ map g xs
 map-again f g h [] = refl
 map-again f g h (x ∷ xs) = two (h x) (map-again f g h xs)
 
 pub reference-erased : (k : ℕ → Bool) (r : Reference) → erased_reference (plain_reference k r) ≡ erased_reference r
 reference-erased k r = ap (λ z. (let x : Reference = record { trait = r.trait; args = z } in x)) (plain-erased k r.args)
 
-struct-erased : (x : StructDecl) → erased_struct (plain_struct x) ≡ erased_struct x
+pub struct-erased : (x : StructDecl) → erased_struct (plain_struct x) ≡ erased_struct x
 struct-erased x = ap (λ z. (let y : StructDecl = record { name = x.name; home = x.home; is_fundamental = x.is_fundamental; fields = z } in y)) (map-again (plain none_kept) erase (plain-erased none_kept) x.fields)
 
-trait-erased : (x : TraitDecl) → erased_trait (plain_trait x) ≡ erased_trait x
+pub trait-erased : (x : TraitDecl) → erased_trait (plain_trait x) ≡ erased_trait x
 trait-erased x =
     ap (λ z. (let y : TraitDecl = record { name = x.name; home = x.home; is_fundamental = x.is_fundamental; is_auto = x.is_auto; bounds = z } in y))
     (map-again (plain_reference none_kept) erased_reference (reference-erased none_kept) x.bounds)

@@ -19,4 +19,4 @@ pub use laws::{
     refutations_have_variables_alone, texts_are_declared_well,
 };
 pub use question::{LoweredQuestion, lower_question};
-pub use view::{begins_with, lower, lower_behind};
+pub use view::{lower, lower_behind};

@@ -38,13 +38,13 @@ add_impl-requires-clause-above c =
     subst (λ j. Each (λ h. h.id.index < j) c.loop-entry.decls.impls) (sym (c.crates.ensures.numbered.impls i (impl_of x) at).0) (c.loop-entry.invariant.gone.below i (impl_of x) (omega arith) at (sym c.is_new.ensures ∙ c.if-is_new.true))
 
 pub loop-entry-init : goal.loop-entry-init
-loop-entry-init c = impls-first c.args.workspace.now c.args.crate_id.index c.args.earlier c.args.cx.now.entries c.args.cx.now.limit c.args.decls.now c.requires.before c.requires.held
+loop-entry-init c = impls-first c.args.workspace.now c.args.crate_id.index c.args.from c.args.cx.now.entries c.args.cx.now.limit c.args.decls.now c.requires.before c.requires.held
 
 pub loop-entry-preserved : goal.loop-entry-preserved
 loop-entry-preserved c =
     let d = c.args.workspace.now in
     let n = c.args.crate_id.index in
-    let e = c.args.earlier in
+    let e = c.args.from in
     let old = c.args.cx.now in
     let i = c.loop-entry.entry-index in
     let x = c.entry-item.result in
@@ -73,7 +73,7 @@ pub returns-clause-impls : goal.returns-clause-impls
 returns-clause-impls c =
     let l = c.loop-entry in
     let rows = c.impls-entries.result.now in
-    impls-all c.args.workspace.now c.args.crate_id.index c.args.earlier c.args.cx.now.entries c.args.cx.now.limit c.args.decls.now l.entry-index l.cx.entries l.cx.limit l.decls
+    impls-all c.args.workspace.now c.args.crate_id.index c.args.from c.args.cx.now.entries c.args.cx.now.limit c.args.decls.now l.entry-index l.cx.entries l.cx.limit l.decls
     (sym (ap length c.impls-entries.ensures.items) ∙ length-map rows impl_of ∙ at-end (length rows) l.entry-index c.loop-entry-test.false l.auto.entry-index-end) l.invariant
   where
     at-end : (n i : ℕ) → n ≤ i → i ≤ n → n ≡ i
@@ -88,7 +88,7 @@ returns-in_err-def-clause-few c =
     let es = c.loop-entry.cx in
     let there = slice_get_read c.impls-entries.result.now _ i x refl c.loop-entry-test.true c.entry-item.is in
     let at = sym (ap (λ l. slice_get l i) (c.impls-entries.ensures.items)) ∙ slice_get-map impl_of c.impls-entries.result.now i ∙ ap (option_map impl_of) there in
-    impls-fewer d c.args.crate_id.index c.args.earlier old.entries old.limit c.args.decls.now i es.entries es.limit c.loop-entry.decls (impl_of x) c.lower_impl.new.cx.entries at (sym c.is_new.ensures ∙ c.if-is_new.true) c.lower_impl.ensures.few c.loop-entry.invariant
+    impls-fewer d c.args.crate_id.index c.args.from old.entries old.limit c.args.decls.now i es.entries es.limit c.loop-entry.decls (impl_of x) c.lower_impl.new.cx.entries at (sym c.is_new.ensures ∙ c.if-is_new.true) c.lower_impl.ensures.few c.loop-entry.invariant
 
 pub returns-in_err-add_impl-clause-few : goal.returns-in_err-add_impl-clause-few
 returns-in_err-add_impl-clause-few c =
@@ -99,16 +99,16 @@ returns-in_err-add_impl-clause-few c =
     let es = c.loop-entry.cx in
     let there = slice_get_read c.impls-entries.result.now _ i x refl c.loop-entry-test.true c.entry-item.is in
     let at = sym (ap (λ l. slice_get l i) (c.impls-entries.ensures.items)) ∙ slice_get-map impl_of c.impls-entries.result.now i ∙ ap (option_map impl_of) there in
-    impls-fewer d c.args.crate_id.index c.args.earlier old.entries old.limit c.args.decls.now i es.entries es.limit c.loop-entry.decls (impl_of x) c.lower_impl.new.cx.entries at (sym c.is_new.ensures ∙ c.if-is_new.true) c.lower_impl.ensures.few c.loop-entry.invariant
+    impls-fewer d c.args.crate_id.index c.args.from old.entries old.limit c.args.decls.now i es.entries es.limit c.loop-entry.decls (impl_of x) c.lower_impl.new.cx.entries at (sym c.is_new.ensures ∙ c.if-is_new.true) c.lower_impl.ensures.few c.loop-entry.invariant
 
 pub returns-clause-few : goal.returns-clause-few
-returns-clause-few c = impls-few c.args.workspace.now c.args.crate_id.index c.args.earlier c.args.cx.now.entries c.args.cx.now.limit c.args.decls.now c.loop-entry.entry-index c.loop-entry.cx.entries c.loop-entry.cx.limit c.loop-entry.decls c.loop-entry.invariant
+returns-clause-few c = impls-few c.args.workspace.now c.args.crate_id.index c.args.from c.args.cx.now.entries c.args.cx.now.limit c.args.decls.now c.loop-entry.entry-index c.loop-entry.cx.entries c.loop-entry.cx.limit c.loop-entry.decls c.loop-entry.invariant
 
 pub returns-clause-sorts : goal.returns-clause-sorts
 returns-clause-sorts c =
     let l = c.loop-entry in
     let rows = c.impls-entries.result.now in
-    impls-sorted c.args.workspace.now c.args.crate_id.index c.args.earlier c.args.cx.now.entries c.args.cx.now.limit c.args.decls.now l.entry-index l.cx.entries l.cx.limit l.decls
+    impls-sorted c.args.workspace.now c.args.crate_id.index c.args.from c.args.cx.now.entries c.args.cx.now.limit c.args.decls.now l.entry-index l.cx.entries l.cx.limit l.decls
     (sym (ap length c.impls-entries.ensures.items) ∙ length-map rows impl_of ∙ at-end (length rows) l.entry-index c.loop-entry-test.false l.auto.entry-index-end) l.invariant
   where
     at-end : (n i : ℕ) → n ≤ i → i ≤ n → n ≡ i

@@ -20,17 +20,17 @@ add_struct-requires c =
     let x = c.entry-item.result in
     let there = slice_get_read c.structs-entries.result.now _ i x refl c.loop-entry-test.true c.entry-item.is in
     let at = sym (ap (λ l. slice_get l i) (c.structs-entries.ensures.items)) ∙ slice_get-map struct_of c.structs-entries.result.now i ∙ ap (option_map struct_of) there in
-    structs-absent c.args.workspace.now c.args.crate_id.index c.args.earlier c.args.cx.now.entries c.args.cx.now.limit c.args.decls.now i c.loop-entry.cx.entries c.loop-entry.cx.limit c.loop-entry.decls (struct_of x) x.id.index at (sym c.is_new.ensures ∙ c.if-is_new.true)
+    structs-absent c.args.workspace.now c.args.crate_id.index c.args.from c.args.cx.now.entries c.args.cx.now.limit c.args.decls.now i c.loop-entry.cx.entries c.loop-entry.cx.limit c.loop-entry.decls (struct_of x) x.id.index at (sym c.is_new.ensures ∙ c.if-is_new.true)
     (c.crates.ensures.numbered.structs i (struct_of x) at).0 c.loop-entry.invariant
 
 pub loop-entry-init : goal.loop-entry-init
-loop-entry-init c = structs-first c.args.workspace.now c.args.crate_id.index c.args.earlier c.args.cx.now.entries c.args.cx.now.limit c.args.decls.now c.requires.before c.requires.held
+loop-entry-init c = structs-first c.args.workspace.now c.args.crate_id.index c.args.from c.args.cx.now.entries c.args.cx.now.limit c.args.decls.now c.requires.before c.requires.held
 
 pub loop-entry-preserved : goal.loop-entry-preserved
 loop-entry-preserved c =
     let d = c.args.workspace.now in
     let n = c.args.crate_id.index in
-    let e = c.args.earlier in
+    let e = c.args.from in
     let old = c.args.cx.now in
     let i = c.loop-entry.entry-index in
     let x = c.entry-item.result in
@@ -59,7 +59,7 @@ pub returns-clause-structs : goal.returns-clause-structs
 returns-clause-structs c =
     let l = c.loop-entry in
     let rows = c.structs-entries.result.now in
-    structs-all c.args.workspace.now c.args.crate_id.index c.args.earlier c.args.cx.now.entries c.args.cx.now.limit c.args.decls.now l.entry-index l.cx.entries l.cx.limit l.decls
+    structs-all c.args.workspace.now c.args.crate_id.index c.args.from c.args.cx.now.entries c.args.cx.now.limit c.args.decls.now l.entry-index l.cx.entries l.cx.limit l.decls
     (sym (ap length c.structs-entries.ensures.items) ∙ length-map rows struct_of ∙ at-end (length rows) l.entry-index c.loop-entry-test.false l.auto.entry-index-end) l.invariant
   where
     at-end : (n i : ℕ) → n ≤ i → i ≤ n → n ≡ i
@@ -74,7 +74,7 @@ returns-in_err-def-clause-few c =
     let es = c.loop-entry.cx in
     let there = slice_get_read c.structs-entries.result.now _ i x refl c.loop-entry-test.true c.entry-item.is in
     let at = sym (ap (λ l. slice_get l i) (c.structs-entries.ensures.items)) ∙ slice_get-map struct_of c.structs-entries.result.now i ∙ ap (option_map struct_of) there in
-    structs-fewer d c.args.crate_id.index c.args.earlier old.entries old.limit c.args.decls.now i es.entries es.limit c.loop-entry.decls (struct_of x) c.lower_struct.new.cx.entries at (sym c.is_new.ensures ∙ c.if-is_new.true) c.lower_struct.ensures.few c.loop-entry.invariant
+    structs-fewer d c.args.crate_id.index c.args.from old.entries old.limit c.args.decls.now i es.entries es.limit c.loop-entry.decls (struct_of x) c.lower_struct.new.cx.entries at (sym c.is_new.ensures ∙ c.if-is_new.true) c.lower_struct.ensures.few c.loop-entry.invariant
 
 pub returns-in_err-add_struct-clause-few : goal.returns-in_err-add_struct-clause-few
 returns-in_err-add_struct-clause-few c =
@@ -85,16 +85,16 @@ returns-in_err-add_struct-clause-few c =
     let es = c.loop-entry.cx in
     let there = slice_get_read c.structs-entries.result.now _ i x refl c.loop-entry-test.true c.entry-item.is in
     let at = sym (ap (λ l. slice_get l i) (c.structs-entries.ensures.items)) ∙ slice_get-map struct_of c.structs-entries.result.now i ∙ ap (option_map struct_of) there in
-    structs-fewer d c.args.crate_id.index c.args.earlier old.entries old.limit c.args.decls.now i es.entries es.limit c.loop-entry.decls (struct_of x) c.lower_struct.new.cx.entries at (sym c.is_new.ensures ∙ c.if-is_new.true) c.lower_struct.ensures.few c.loop-entry.invariant
+    structs-fewer d c.args.crate_id.index c.args.from old.entries old.limit c.args.decls.now i es.entries es.limit c.loop-entry.decls (struct_of x) c.lower_struct.new.cx.entries at (sym c.is_new.ensures ∙ c.if-is_new.true) c.lower_struct.ensures.few c.loop-entry.invariant
 
 pub returns-clause-few : goal.returns-clause-few
-returns-clause-few c = structs-few c.args.workspace.now c.args.crate_id.index c.args.earlier c.args.cx.now.entries c.args.cx.now.limit c.args.decls.now c.loop-entry.entry-index c.loop-entry.cx.entries c.loop-entry.cx.limit c.loop-entry.decls c.loop-entry.invariant
+returns-clause-few c = structs-few c.args.workspace.now c.args.crate_id.index c.args.from c.args.cx.now.entries c.args.cx.now.limit c.args.decls.now c.loop-entry.entry-index c.loop-entry.cx.entries c.loop-entry.cx.limit c.loop-entry.decls c.loop-entry.invariant
 
 pub returns-clause-sorts : goal.returns-clause-sorts
 returns-clause-sorts c =
     let l = c.loop-entry in
     let rows = c.structs-entries.result.now in
-    structs-sorted c.args.workspace.now c.args.crate_id.index c.args.earlier c.args.cx.now.entries c.args.cx.now.limit c.args.decls.now l.entry-index l.cx.entries l.cx.limit l.decls
+    structs-sorted c.args.workspace.now c.args.crate_id.index c.args.from c.args.cx.now.entries c.args.cx.now.limit c.args.decls.now l.entry-index l.cx.entries l.cx.limit l.decls
     (sym (ap length c.structs-entries.ensures.items) ∙ length-map rows struct_of ∙ at-end (length rows) l.entry-index c.loop-entry-test.false l.auto.entry-index-end) l.invariant
   where
     at-end : (n i : ℕ) → n ≤ i → i ≤ n → n ≡ i
