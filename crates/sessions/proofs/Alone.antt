@@ -35,7 +35,7 @@ use Rattle.sessions.proofs.Posed.{no-canonical, known}
 use Rattle.sessions.proofs.VariableKinds.{kinds-are}
 
 -- ---- the goal
-same-goal : (a b p r : Trees) → a ≡ b → p ≡ r → (let g : GoalTrees = record { environment = a; predicate = p } in g) ≡ record { environment = b; predicate = r }
+pub same-goal : (a b p r : Trees) → a ≡ b → p ≡ r → (let g : GoalTrees = record { environment = a; predicate = p } in g) ≡ record { environment = b; predicate = r }
 same-goal a b p r e f = cc
 
 pub alone-is : (es : List Entry) (goal : Goal) (r : TraitRef) → goal.param_env.items ≡ [] → goal.predicate.trait_ref ≡ r → goal_trees es goal ≡ goal_alone (reference_in es r)

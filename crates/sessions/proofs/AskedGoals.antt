@@ -45,7 +45,8 @@ use Rattle.solver_completeness.proofs.Renumbering.{kinds-known, made-numbered, m
 use Rattle.solver_completeness.proofs.UnboundTerms.{numbered-unbound}
 use Rattle.sessions.specs.Goals.{goal_of, is_fixed, are_fixed, IsFormedQuestion, AsksUnderClauses, FormedQuestionsAreGoals}
 use Rattle.infer_table.proofs.Basics.{clause-known as clause-open}
-use Rattle.type_terms.proofs.BooleanBasics.{not-true}
+use Rattle.type_terms.proofs.BooleanBasics.{not-true, none-of}
+use Rattle.solver_completeness.proofs.NestedForms.{all-true}
 
 -- ---- labels
 abbrev is_loose : Label → Bool
@@ -55,14 +56,11 @@ is_loose l = not (is_fixed l)
 abbrev Fixed : Trees → Type 0
 Fixed t = some_node is_loose t ≡ false
 
-none-of : (a b c : Bool) → a ≡ false → b ≡ false → c ≡ false → (a || b || c) ≡ false
-none-of a b c e f g = rw (e, f, g) refl
-
 first-of : (a b c : Bool) → (a || b || c) ≡ false → a ≡ false
 first-of false b c h = refl
 first-of true b c h = absurd cc
 
-not-false : (b : Bool) → not b ≡ false → b ≡ true
+pub not-false : (b : Bool) → not b ≡ false → b ≡ true
 not-false true h = refl
 not-false false h = absurd cc
 
@@ -334,7 +332,7 @@ module _ (V : World) (sorts : Sorts) where
       none-of (is_undeclared V l) (some_node (is_undeclared V) c) (some_node (is_undeclared V) o) (name-declared l c h.0) (names-declared c h.1) (names-declared o h.2)
 
 -- ---- the first type, once leaves are numbered
-head-is : (s t : Sort) (xs ys : List Sort) → s ∷ xs ≡ t ∷ ys → s ≡ t
+pub head-is : (s t : Sort) (xs ys : List Sort) → s ∷ xs ≡ t ∷ ys → s ≡ t
 head-is s t xs ys e = cc
 
 begins-numbered : (ls : List Label) (t : Trees) → Fixed t → begins_typed t ≡ true → begins_with_type (relabeled kind_of_leaf (canonical_label ls) t) ≡ true
@@ -432,10 +430,6 @@ module _ (s : Assignment) where
 
   same-number-of : (k : Sort) (i j : ℕ) → leaf (placeholder k i) ≡ leaf (placeholder k j) → i ≡ j
   same-number-of k i j e = cc
-
--- ---- where-clauses
-all-true : (a b c d e : Bool) → a ≡ true → b ≡ true → c ≡ true → d ≡ true → e ≡ true → (a && (b && ((c && d) && e))) ≡ true
-all-true a b c d e f g h i j = rw (f, g, h, i, j) refl
 
 abbrev AreFixed : List Reference → Type 0
 AreFixed E = list_all (λ (c : Reference). are_fixed c.args) E ≡ true

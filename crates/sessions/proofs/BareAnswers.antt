@@ -6,7 +6,7 @@ use Rattle.std.specs.Prelude.{option_map, option_and_then, unwrap_or}
 use Rattle.std.specs.List.{slice_get}
 use Rattle.type_terms.specs.Promised.Label.{Label, Sort, of_lifetime, infer, canonical}
 use Rattle.type_terms.specs.Promised.Trees.{Trees, none, tree, leaf, ◌+++◌, sort_of, is_sort}
-use Rattle.type_terms.specs.Trees.{is_a, is_no_tree, placed}
+use Rattle.type_terms.specs.Trees.{is_a, is_no_tree, put_at_node}
 use Rattle.type_terms.specs.Codes.{same}
 use Rattle.type_terms.specs.Made.{terms, is_made}
 use Rattle.type_terms.proofs.Made.{left, right, no-tree, false-true}
@@ -25,10 +25,11 @@ use Rattle.infer_table.proofs.SolutionLaws.{is_sort-equal as is-sort}
 use Rattle.infer_table.proofs.UnifyFacts.{same-self}
 use Rattle.goal_evaluator.specs.FrameTables.{kind_at}
 use Rattle.goal_evaluator.specs.TableAnswers.{is_variable_itself, are_variables, has_values, is_kind_of, is_variable_of, is_fitting, are_fitting, is_fitting_answer, put_into, leaf_value}
-use Rattle.goal_evaluator.proofs.Applying.{for-bindings, new-value}
+use Rattle.goal_evaluator.proofs.Applying.{for-bindings, new-value, some-kind}
 use Rattle.solver_graph.specs.Roots.{left_by}
 use Rattle.type_terms.proofs.TermBasics.{is_sort-self}
 use Rattle.type_terms.proofs.NumberBasics.{itself, number-self}
+use Rattle.goal_evaluator.proofs.Answering.{not-false}
 
 -- ---- leaves in pairs
 -- one leaf twice, or two lifetimes
@@ -99,10 +100,6 @@ row-left t e (l ∷ ls) [] h = absurd h
 row-is : (ls : List Label) → trees_of (map leaf_value ls) ≡ row ls
 row-is [] = refl
 row-is (l ∷ ls) = ap (tree l none) (row-is ls)
-
--- ---- what is put in for the variables of an answer
-some-kind : (k d : CanonicalVarKind) → Some k ≡ Some d → k ≡ d
-some-kind k d e = cc
 
 none-kind : (k : CanonicalVarKind) (A : Type 0) → None ≡ Some k → A
 none-kind k A e = absurd cc
@@ -187,7 +184,7 @@ module _ (t : TableTrees) (labels : List Label) (a : AnswerTrees) where
 
   -- what a leaf becomes
   abbrev Becomes : Label → Label → Type 0
-  Becomes l m = placed (value_for values l) (leaf l) ≡ leaf m
+  Becomes l m = put_at_node (value_for values l) (leaf l) ≡ leaf m
 
   lifetime-becomes : (l : Label) → sort_of l ≡ of_lifetime → is_made (is_variable_of a.kinds) terms (leaf l) ≡ true → (m : Label) × Becomes l m × (sort_of m ≡ of_lifetime)
   lifetime-becomes (canonical s i) e h =
@@ -195,8 +192,8 @@ module _ (t : TableTrees) (labels : List Label) (a : AnswerTrees) where
       by x.0 x.1 (is_sort (sort_of x.0) s) refl
     where
       by : (m : Label) → slice_get values i ≡ Some (leaf_value m) → (b : Bool) → is_sort (sort_of m) s ≡ b → (n : Label) × Becomes (canonical s i) n × (sort_of n ≡ of_lifetime)
-      by m q true f = (m, ap (λ z. placed (if_of_sort s z) (leaf (canonical s i))) q ∙ ap (λ (b : Bool). placed (if b then Some (leaf m) else None) (leaf (canonical s i))) f, is-sort (sort_of m) s f ∙ e)
-      by m q false f = (canonical s i, ap (λ z. placed (if_of_sort s z) (leaf (canonical s i))) q ∙ ap (λ (b : Bool). placed (if b then Some (leaf m) else None) (leaf (canonical s i))) f, e)
+      by m q true f = (m, ap (λ z. put_at_node (if_of_sort s z) (leaf (canonical s i))) q ∙ ap (λ (b : Bool). put_at_node (if b then Some (leaf m) else None) (leaf (canonical s i))) f, is-sort (sort_of m) s f ∙ e)
+      by m q false f = (canonical s i, ap (λ z. put_at_node (if_of_sort s z) (leaf (canonical s i))) q ∙ ap (λ (b : Bool). put_at_node (if b then Some (leaf m) else None) (leaf (canonical s i))) f, e)
   lifetime-becomes l e h = (l, refl, e)
 
   known-becomes : (s : Sort) (i : ℕ) (l : Label) → is_kind_of s (kind_at a.kinds i) ≡ true → sort_of l ≡ s → known i ≡ Some (leaf_value l) → Becomes (canonical s i) l
@@ -206,9 +203,9 @@ module _ (t : TableTrees) (labels : List Label) (a : AnswerTrees) where
       by None q g = absurd (false-true g)
       by (Some k) q g =
           let x = value-is i k q in
-          ap (λ z. placed (if_of_sort s z) (leaf (canonical s i))) (x.1 ∙ ap (λ z. Some (unwrap_or z (next_unknown x.0 k))) n)
-          ∙ ap (λ z. placed (if is_sort z s then Some (leaf l) else None) (leaf (canonical s i))) e
-          ∙ ap (λ (b : Bool). placed (if b then Some (leaf l) else None) (leaf (canonical s i))) (is_sort-self s)
+          ap (λ z. put_at_node (if_of_sort s z) (leaf (canonical s i))) (x.1 ∙ ap (λ z. Some (unwrap_or z (next_unknown x.0 k))) n)
+          ∙ ap (λ z. put_at_node (if is_sort z s then Some (leaf l) else None) (leaf (canonical s i))) e
+          ∙ ap (λ (b : Bool). put_at_node (if b then Some (leaf l) else None) (leaf (canonical s i))) (is_sort-self s)
 
   -- ---- row by row: what is known from variable n on stands in the rest of the row, but for lifetimes
   abbrev StandsBehind : ℕ → List Label → List Value → Type 0
@@ -309,11 +306,6 @@ module _ (t : TableTrees) (labels : List Label) (a : AnswerTrees) where
       by false q h next same_number =
           let life = is-sort v.sort of_lifetime (left (is_sort v.sort of_lifetime) _ h) in
           lifetime l ls v vs sort fit life (same_number (right (is_sort v.sort of_lifetime) _ h) (behind-lifetime n l ls v vs fit life stands))
-
--- ---- answers without values
-not-false : (b : Bool) → not b ≡ false → b ≡ true
-not-false true e = refl
-not-false false e = absurd (false-true (sym e))
 
 some-none : (u : TableTrees) → Some u ≡ None → ⊥
 some-none u e = cc

@@ -36,7 +36,7 @@ unbound-outer (tree l c o) h =
     maxes : (a b c : ℕ) → a ≡ 0 → b ≡ 0 → c ≡ 0 → max (max a b) c ≡ 0
     maxes a b c p q r = cc
 
-each-of : {A : Type 0} (P : A → Type 0) (xs : List A) → ((x : A) → In x xs → P x) → Each P xs
+pub each-of : {A : Type 0} (P : A → Type 0) (xs : List A) → ((x : A) → In x xs → P x) → Each P xs
 each-of P [] f = tt
 each-of P (x ∷ xs) f = (f x (here x xs), each-of P xs (λ y i. f y (there y x xs i)))
 

@@ -21,6 +21,7 @@ use Rattle.solver_completeness.proofs.Selecting.{every-left, some-cases, some-bo
 use Rattle.goal_evaluator.proofs.Basics.{every-append}
 use Rattle.type_terms.proofs.ListBasics.{append-assoc}
 use Rattle.solver_completeness.proofs.Basics.{premises-append}
+pub use Rattle.solver_completeness.proofs.Selecting.{hits-fewer}
 
 -- ---- the rules
 abbrev pub own_rules : Reference → ℕ → List Reference → List Rule
@@ -130,21 +131,6 @@ without x (s ∷ ss) i = by (in-cases x s ss i) (λ j. without x ss j)
           same_hits = λ p. ap (λ n. if p s then suc n else n) (w.same_hits p) ∙ two (p s) (p x) (hits p w.rest);
           keeps = λ y k. kept w y (in-cases y s ss k);
         }
-
-pub hits-fewer : {A : Type 0} (xs ss : List A) → AreOnce xs → ((x : A) → In x xs → In x ss) → (p : A → Bool) → hits p xs ≤ hits p ss
-hits-fewer [] ss once among p = omega arith
-hits-fewer (x ∷ xs) ss once among p =
-    let w = without x ss (among x (here x xs)) in
-    let less = hits-fewer xs w.rest once.1 (λ y i. by y i (w.keeps y (among y (there y x xs i)))) p in
-    subst (λ n. hits p (x ∷ xs) ≤ n) (sym (w.same_hits p)) (more (p x) (hits p xs) (hits p w.rest) less)
-  where
-    by : (y : _) → In y xs → (x ≡ y) ⊎ In y (without x ss (among x (here x xs))).rest → In y (without x ss (among x (here x xs))).rest
-    by y i (inl q) = absurd (once.0 (subst (λ z. In z xs) (sym q) i))
-    by y i (inr j) = j
-
-    more : (b : Bool) (n k : ℕ) → n ≤ k → (if b then suc n else n) ≤ (if b then suc k else k)
-    more true n k l = omega (arith, l)
-    more false n k l = l
 
 -- ---- how many rules there are by where-clauses
 module _ (V : World) (r : Reference) where

@@ -22,7 +22,7 @@ use Rattle.candidate_model.specs.Declared.{is_declared_leaf, is_lifetime_paramet
 use Rattle.candidate_model.specs.DeclaredWell.{IsDeclaredWell, are_distinct}
 use Rattle.candidate_model.proofs.DeclaredParts.{bound-declared}
 use Rattle.candidate_model.proofs.ErasedRows.{label-stays}
-use Rattle.candidate_model.proofs.Levels.{strict-closed, all-closed}
+use Rattle.declarations.proofs.Levels.{strict-closed, all-closed}
 use Rattle.candidate_model.proofs.Objects.{map-flat, flat-map}
 use Rattle.candidate_model.proofs.PlainRules.{is_wild, tame}
 use Rattle.candidate_model.proofs.Stack.{elaborated-all, elaborated-only}

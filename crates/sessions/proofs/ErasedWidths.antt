@@ -11,7 +11,7 @@ use Rattle.type_terms.proofs.RenumberedRules.{map-append}
 use Rattle.type_terms.proofs.TermRules.{filter-map}
 use Rattle.goal_evaluator.specs.Promised.Widths.{count, width, with_self}
 use Rattle.goal_evaluator.proofs.Widths.{count-append}
-use Rattle.candidate_model.specs.Promised.Widths.{clauses_in, declared_width, greatest, supers_of, width_of}
+use Rattle.candidate_model.specs.Promised.Widths.{clauses_in, declared_width, greatest, supers_of, supertraits_in, width_of}
 use Rattle.view_lowering.specs.Promised.SeenWorlds.{plain_reference}
 use Rattle.sessions.proofs.SeenPlainly.{reference-erased}
 use Rattle.type_terms.proofs.ListBasics.{map-length as length-map}
@@ -146,6 +146,9 @@ module _ (V W : World) (is : IsErasedWorld V W) where
       max-same (greatest-erased (λ (x : StructDecl). max (count (together x.fields)) (greatest width x.fields)) erased_struct (λ (x : StructDecl). max (count (together x.fields)) (greatest width x.fields)) struct-width V.structs W.structs is.structs)
       (max-same (greatest-erased (λ (x : TraitDecl). max (supers_of W x) (max (length x.bounds) (greatest width_of x.bounds))) erased_trait (λ (x : TraitDecl). max (supers_of V x) (max (length x.bounds) (greatest width_of x.bounds))) trait-width V.traits W.traits is.traits)
       (greatest-erased (λ (x : ImplDecl). max (width_of x.header) (greatest width_of x.clauses)) erased_impl (λ (x : ImplDecl). max (width_of x.header) (greatest width_of x.clauses)) impl-width V.impls W.impls is.impls))
+
+  pub supertraits-erased : supertraits_in V ≡ supertraits_in W
+  supertraits-erased = greatest-erased (supers_of W) erased_trait (supers_of V) supers-erased V.traits W.traits is.traits
 
   pub clauses-in-erased : clauses_in V ≡ clauses_in W
   clauses-in-erased =

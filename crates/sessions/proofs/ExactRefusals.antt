@@ -70,7 +70,7 @@ open-erased none = refl
 open-erased (tree l c o) =
     ap (λ b. is_open (erase_label l) || b || some_node is_open (erase o)) (open-erased c) ∙ ap (λ b. is_open (erase_label l) || some_node (λ m. is_open (erase_label m)) c || b) (open-erased o)
 
-not-so : (b : Bool) → not b ≡ true → b ≡ false
+pub not-so : (b : Bool) → not b ≡ true → b ≡ false
 not-so false e = refl
 not-so true e = absurd (false-true e)
 

@@ -50,7 +50,7 @@ module _ (f : Trees → Trees) where
   values-fit a (of_const ∷ ks) t c = (a of_const c, values-fit a ks t (suc c))
   values-fit a (of_lifetime ∷ ks) t c = (a of_lifetime 0, values-fit a ks t c)
 
-node : {l m : Label} {c d o p : Trees} → l ≡ m → c ≡ d → o ≡ p → tree l c o ≡ tree m d p
+pub node : {l m : Label} {c d o p : Trees} → l ≡ m → c ≡ d → o ≡ p → tree l c o ≡ tree m d p
 node e g h = cc
 
 -- where each value is what the assignment gives to its unknown

@@ -32,7 +32,7 @@ use Rattle.type_terms.proofs.TermBasics.{sort-self as same-sort}
 use Rattle.type_terms.proofs.BooleanBasics.{none-of}
 
 -- ---- sorts
-same-ones : (ss : List Sort) → same_sorts ss ss ≡ true
+pub same-ones : (ss : List Sort) → same_sorts ss ss ≡ true
 same-ones [] = refl
 same-ones (s ∷ ss) = both (is_sort s s) (same_sorts ss ss) (same-sort s) (same-ones ss)
 

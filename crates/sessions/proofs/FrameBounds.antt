@@ -1,5 +1,5 @@
 -- The frames of a session's questions are within numbers of what the crate sees, of the question and of the depth.
-use Rattle.std.proofs.Common.{◌≡◌, ◌≤◌, ◌+◌, ◌*◌, ℕ, zero, suc, max, List, [], ◌∷◌, inl, inr, Some, length, false, arith, refl, sym, ap, subst}
+use Rattle.std.proofs.Common.{◌≡◌, ◌≤◌, ◌+◌, ◌*◌, ℕ, zero, suc, max, List, [], ◌∷◌, inl, inr, Some, length, false, arith, refl, sym, ◌∙◌, ap, subst}
 use Rattle.std.proofs.Math.Nat.{le_refl, mul-le-mul_left}
 use Rattle.type_terms.specs.Promised.Label.{Sort, of_type, of_const, of_lifetime}
 use Rattle.type_terms.specs.Promised.Trees.{Trees, none, tree, IsA}
@@ -13,7 +13,7 @@ use Rattle.infer_table.specs.Solutions.{Binding}
 use Rattle.infer_table.specs.Unification.{TableTrees, table_trees}
 use Rattle.infer_table.specs.declared.certainty.TypingMode.{TypingMode}
 use Rattle.infer_table.specs.declared.certainty.TypingMode.TheVariants.{Coherence, PostAnalysis}
-use Rattle.search_graph.specs.declared.path_kind.PathKind.{PathKind}
+use Rattle.search_graph.specs.SearchPaths.declared.path_kind.PathKind.{PathKind}
 use Rattle.search_graph.specs.declared.delegate.Request.{Request}
 use Rattle.search_graph.specs.declared.delegate.Request.TheVariants.{Evaluate, EnterCandidate, FinishCandidate, IgnoreCandidate, Done}
 use Rattle.search_graph.specs.declared.delegate.Reply.{Reply}
@@ -31,7 +31,7 @@ use Rattle.goal_evaluator.proofs.Widths.{AllOne, ArePredicatesWithin, IsWithin, 
 use Rattle.goal_evaluator.proofs.WidthLaws.{put-into-within, makes-canonical as makes-no-bounds}
 use Rattle.goal_frames.proofs.HandlerPrograms.{handlers-are-programs}
 use Rattle.candidate_model.specs.Facts.{trees_of_clauses}
-use Rattle.candidate_model.specs.Promised.Widths.{declared_width, greatest, number_at, supers_of, width_of}
+use Rattle.candidate_model.specs.Promised.Widths.{built_in_rows, clauses_in, declared_width, dyn_bounds, greatest, number_at, supers_of, supertraits_in, width_of}
 use Rattle.candidate_model.specs.Solver.{widest_of}
 use Rattle.candidate_model.proofs.CandidateWidths.{instance-within}
 use Rattle.candidate_model.proofs.DeclaredWidths.{greatest-at}
@@ -54,9 +54,9 @@ use Rattle.sessions.specs.Goals.{goal_of}
 use Rattle.sessions.specs.Promised.Promises.{view_in}
 use Rattle.sessions.specs.Proving.{asked_outside, goal_asking}
 use Rattle.sessions.specs.Tables.{table_of}
-use Rattle.sessions.specs.declared.settling.TheConstants.{MAX_ASKINGS}
+use Rattle.solver_graph.specs.declared.handle.TheConstants.{MAX_ASKINGS}
 use Rattle.sessions.proofs.SeenPlainly.{rules-are}
-use Rattle.sessions.proofs.ErasedWidths.{IsErasedWorld, clauses-in-erased, declared-erased, plain-width}
+use Rattle.sessions.proofs.ErasedWidths.{IsErasedWorld, clauses-in-erased, declared-erased, plain-width, supertraits-erased}
 use Rattle.goal_evaluator.proofs.ListLaws.{Every-map as every-map}
 
 -- ---- what a search finds is no wider than its goal
@@ -172,7 +172,7 @@ times-more : (a b c d : ℕ) → a ≤ b → c ≤ d → a * c ≤ b * d
 times-more a b c d h k = let x = mul-le-mul_left a k in let y = mul-le-mul_left d h in omega (arith, x, y)
 
 number-more : (V : World) (m n : ℕ) → m ≤ n → number_at V m ≤ number_at V n
-number-more V m n h = let x = times-more (m + (m + 1)) (n + (n + 1)) m n (omega (arith, h)) h in omega (arith, x, h)
+number-more V m n h = let x = times-more m n (supertraits_in V) (supertraits_in V) h (le_refl (supertraits_in V)) in omega (arith, x, h)
 
 one-more : (a b : ℕ) → a ≤ b → 1 + a ≤ 1 + b
 one-more a b h = omega (arith, h)
@@ -243,7 +243,9 @@ seen-erased-world es items d c e =
     record { structs = ap (λ (V : World). V.structs) all; traits = ap (λ (V : World). V.traits) all; impls = ap (λ (V : World). V.impls) all }
 
 number-erased : (V W : World) → IsErasedWorld V W → (n : ℕ) → number_at V n ≡ number_at W n
-number-erased V W e n = ap (λ z. z + ((n + (n + 1)) * n + (4 * n + 4))) (clauses-in-erased V W e)
+number-erased V W e n =
+    ap (λ z. z + (supertraits_in V + (built_in_rows n + dyn_bounds V n))) (clauses-in-erased V W e)
+    ∙ ap (λ z. clauses_in W + (z + (built_in_rows n + (z + n * z)))) (supertraits-erased V W e)
 
 module _ (s : Solving) (W : World) (is : IsErasedWorld s.view W) (depth : ℕ) (q : Question) (before after : ℕ) where
   -- a question's reference alone

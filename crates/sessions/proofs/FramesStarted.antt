@@ -19,7 +19,7 @@ use Rattle.solver_graph.specs.declared.context.SolverCx.{SolverCx}
 use Rattle.goal_frames.specs.Meanings.{HandlerMeaning}
 use Rattle.sessions.specs.Frames.{AreTermsOfSorts, frames_for, resolved_over, AskingsStartFrames, AskingsOf, StartsFramesOfAsking, IsLeftByAnswer, SettlesInFrames}
 use Rattle.sessions.specs.Proving.{asked_outside}
-use Rattle.sessions.specs.declared.settling.TheConstants.{MAX_ASKINGS}
+use Rattle.solver_graph.specs.declared.handle.TheConstants.{MAX_ASKINGS}
 
 -- an asking less is left
 pub one-less : (i : ℕ) → i < MAX_ASKINGS → suc (MAX_ASKINGS - (i + 1)) ≡ MAX_ASKINGS - i

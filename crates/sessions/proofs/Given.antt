@@ -13,9 +13,7 @@ use Rattle.type_terms.specs.Promised.Questions.{FitKinds, of_kind, filled}
 use Rattle.view_lowering.specs.QuestionVariables.{number_of, is_undeclared_variable}
 use Rattle.type_terms.proofs.Matching.{or-false-left as no-left}
 use Rattle.type_terms.proofs.TermBasics.{is_sort-self}
-
-node : {l m : Label} {c d o p : Trees} → l ≡ m → c ≡ d → o ≡ p → tree l c o ≡ tree m d p
-node a b e = cc
+use Rattle.overlap_check.proofs.Filling.{node}
 
 -- ---- an assignment of trees to places
 abbrev pub default_node : Sort → Label × Trees

@@ -31,18 +31,14 @@ use Rattle.sessions.specs.declared.supertraits.SupertraitGoals.{SupertraitGoals}
 use Rattle.sessions.proofs.CheckedSubjects.{one-more}
 use Rattle.sessions.proofs.ImplNumbers.{names-below}
 use Rattle.type_terms.proofs.ListBasics.{take-map}
+use Rattle.goal_evaluator.proofs.Contexts.{every-more as every-last}
 
--- ---- lists
-every-last : {A : Type 0} (P : A → Type 0) (xs : List A) (x : A) → Every P xs → P x → Every P (xs ++ x ∷ [])
-every-last P [] x h p = (p, tt)
-every-last P (y ∷ ys) x h p = (h.0, every-last P ys x h.1 p)
-
-there-at : {A : Type 0} (xs : List A) (i : ℕ) (d : A) → i < length xs → slice_get xs i ≡ Some (get_or xs i d)
+pub there-at : {A : Type 0} (xs : List A) (i : ℕ) (d : A) → i < length xs → slice_get xs i ≡ Some (get_or xs i d)
 there-at [] i d l = absurd (omega arith)
 there-at (x ∷ xs) zero d l = refl
 there-at (x ∷ xs) (suc i) d l = there-at xs i d (omega arith)
 
-get-map : {A B : Type 0} (f : A → B) (xs : List A) (n : ℕ) (x : A) → slice_get xs n ≡ Some x → slice_get (map f xs) n ≡ Some (f x)
+pub get-map : {A B : Type 0} (f : A → B) (xs : List A) (n : ℕ) (x : A) → slice_get xs n ≡ Some x → slice_get (map f xs) n ≡ Some (f x)
 get-map f [] n x e = absurd cc
 get-map f (y ∷ xs) zero x e = ap Some (ap f (the-same y x e))
   where

@@ -127,7 +127,7 @@ module _ {Handler : Type 0} (handler : HandlerMeaning Handler) where
   at-all P w v d e g h p q r x = subst (λ z. P z e h) p (subst (λ z. P w z h) q (subst (P w d) r x))
 
   -- what is said in a context that has grown, by a graph of the same depth and over the same table, is so in the one before
-  module _ (c d : SolverCx Handler) (k : Search.Keeps m c d) (s u : SearchState) (depth : u.root_depth ≡ s.root_depth) (t v : Table) (same : v ≡ t) (tr : Ready (entries_of c) t)
+  module _ (c d : SolverCx Handler) (k : Search.KeepsContext m c d) (s u : SearchState) (depth : u.root_depth ≡ s.root_depth) (t v : Table) (same : v ≡ t) (tr : Ready (entries_of c) t)
       (r : TraitRef) (held : ReferenceHeld (entries_of c) r) where
     entries : Keeps (entries_of c) (entries_of d)
     entries = λ i e h. k.held (of_term i e) h

@@ -50,6 +50,7 @@ use Rattle.sessions.proofs.RisingBounds.{Rises}
 use Rattle.sessions.proofs.KeptTexts.{AtHome, HeaderKept, ImplRises, AllKept, texts-are-kept}
 use Rattle.text_language.proofs.SameTexts.{text-gives}
 use Rattle.declarations.proofs.Growth.{each-kept as each-map}
+use Rattle.workspace.proofs.Each.{slice_get-there as within}
 
 -- ---- lists
 pub map-at : {A B : Type 0} (f : A → B) (xs : List A) (y : B) → In y (map f xs) → (k : ℕ) × (x : A) × (slice_get xs k ≡ Some x) × (y ≡ f x)
@@ -99,11 +100,6 @@ erase-twice t =
 
 good-term : (kept : ℕ → Bool) (sorts : List Sort) (t : Trees) → is_good kept sorts t ≡ true → IsPlainTerm (erase t)
 good-term kept sorts t h = record { term = erase-twice t; open_places = good-plain kept sorts t h; dyns = good-dyns kept sorts t h }
-
-within : {A : Type 0} (xs : List A) (k : ℕ) → k < length xs → (x : A) × (slice_get xs k ≡ Some x)
-within [] k h = absurd (omega (arith, h))
-within (x ∷ xs) zero h = (x, refl)
-within (x ∷ xs) (suc k) h = within xs k (omega (arith, h))
 
 -- what is seen of the items of `core` and others behind them
 core-alone : {N D : Type 0} (er : D → D) (item : N → D) (p : D → Bool) (first ys : List N) → Each (λ n. p (er (item n)) ≡ true) first → Each (λ n. p (er (item n)) ≡ false) ys → filter p (map er (map item (first ++ ys))) ≡ map er (map item first)

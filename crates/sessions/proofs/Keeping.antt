@@ -53,7 +53,7 @@ limits-stay handles c d h k = record { terms = k.terms ∙ h.terms; kept = k.kep
 -- ---- any handler
 module _ {Handler : Type 0} (handler : HandlerMeaning Handler) where
   -- a search leaves the limits
-  pub limits-searched : (c d : SolverCx Handler) → Search.Keeps (solver_meaning handler) c d → KeepsLimits c d
+  pub limits-searched : (c d : SolverCx Handler) → Search.KeepsContext (solver_meaning handler) c d → KeepsLimits c d
   limits-searched c d k = let same = k.held (of_limits c.interner.limit (limit_of c.store)) (refl, refl) in record { terms = same.0; kept = same.1 }
 
   pub resting-first : (n : ℕ) (c : SolverCx Handler) (s : SearchState) (ks : Cached) → s ≡ record { root_depth = n; current_depth = 0; frames = 0; limits_met = false } → ks ≡ [] → IsReadyContext handler.IsReady c

@@ -67,7 +67,7 @@ pub mod Posing
 pub mod ClausesApply
 pub mod SolversClauses
 pub mod RightAnswers
-mod ProvedQuestions
+pub mod ProvedQuestions
 mod BareAnswers
 mod OtherAnswers
 pub mod OpaqueTerms
@@ -81,7 +81,7 @@ pub mod TraitLists
 pub mod ByTrait
 pub mod Matching
 pub mod Partners
-mod DeclaredTrees
+pub mod DeclaredTrees
 mod CoveredClauses
 mod RisingBounds
 mod KeptTexts

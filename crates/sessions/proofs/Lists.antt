@@ -3,16 +3,12 @@ use Rattle.std.proofs.Common.{◌≡◌, ◌<◌, ◌+◌, ℕ, zero, suc, arith
 use Rattle.std.proofs.lemmas.List.{take_more}
 use Rattle.type_terms.specs.Promised.Proofs.{In}
 use Rattle.declarations.specs.Promised.Elaboration.{Each}
+use Rattle.sessions.proofs.HeaderChecks.{there-at as there}
 
 each-at : {A : Type 0} (P : A → Type 0) (xs : List A) (i : ℕ) (d : A) → Each P xs → i < length xs → P (get_or xs i d)
 each-at P [] i d h l = absurd (omega arith)
 each-at P (x ∷ xs) zero d h l = h.0
 each-at P (x ∷ xs) (suc i) d h l = each-at P xs i d h.1 (omega arith)
-
-there : {A : Type 0} (xs : List A) (i : ℕ) (d : A) → i < length xs → slice_get xs i ≡ Some (get_or xs i d)
-there [] i d l = absurd (omega arith)
-there (x ∷ xs) zero d l = refl
-there (x ∷ xs) (suc i) d l = there xs i d (omega arith)
 
 each-last : {A : Type 0} (P : A → Type 0) (xs : List A) (x : A) → Each P xs → P x → Each P (xs ++ x ∷ [])
 each-last P [] x h p = (p, tt)

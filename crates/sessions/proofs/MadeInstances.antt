@@ -9,6 +9,7 @@ use Rattle.candidate_model.specs.Declared.{is_declared_leaf, is_lifetime_paramet
 use Rattle.candidate_model.proofs.Instances.{is_bound, shift-unbound}
 use Rattle.type_terms.proofs.TermBasics.{gone}
 use Rattle.type_terms.proofs.BooleanBasics.{none-of}
+use Rattle.candidate_model.proofs.BoundTerms.{no-children}
 
 -- a label of no open place
 abbrev pub is_closed_label : Label → Bool
@@ -24,12 +25,6 @@ none-parts false false false h = (refl, refl, refl)
 none-parts true b c h = absurd (false-true (sym h))
 none-parts false true c h = absurd (false-true (sym h))
 none-parts false false true h = absurd (false-true (sym h))
-
--- ---- no children
-no-children : (b : Bool) (f : Trees → Trees) → f none ≡ none → (c : Trees) → (not b || is_no_tree c) ≡ true → (not b || is_no_tree (f c)) ≡ true
-no-children false f e c h = refl
-no-children true f e none h = ap is_no_tree e
-no-children true f e (tree l c o) h = absurd (false-true h)
 
 -- ---- what is declared without lifetime parameters
 abbrev NoLifetimes : Trees → Type 0

@@ -27,6 +27,8 @@ use Rattle.sessions.specs.Goals.{is_fixed}
 use Rattle.sessions.specs.Placeholders.{placeholders_from}
 use Rattle.sessions.proofs.SeenPlainly.{plain-erased}
 use Rattle.candidate_model.proofs.Basics.{same-autos}
+use Rattle.candidate_model.proofs.BoundTerms.{no-children}
+use Rattle.overlap_check.proofs.Unknowns.{last-arg}
 
 -- ---- placeholders in a row
 pub placeholders-closed : (n : ℕ) (ss : List Sort) → outer_binder (placeholders_from n ss) ≡ 0
@@ -75,7 +77,7 @@ arguments-too A B e (tree (infer s i) c o) h = (h.0, h.1, arguments-too A B e o 
 arguments-too A B e (tree l c o) h = (h.0, arguments-too A B e c h.1, arguments-too A B e o h.2)
 
 -- ---- put in for parameters
-node : (l : Label) {c d o p : Trees} → c ≡ d → o ≡ p → tree l c o ≡ tree l d p
+pub node : (l : Label) {c d o p : Trees} → c ≡ d → o ≡ p → tree l c o ≡ tree l d p
 node l e f = cc
 
 module _ (ss : List Sort) where
@@ -110,12 +112,6 @@ opaque-nodes V sorts none n = tt
 opaque-nodes V sorts (tree (param s i) c o) n = (tt, opaque-nodes V sorts c n.1, opaque-nodes V sorts o n.2)
 opaque-nodes V sorts (tree dynamic c o) n = (same-autos c (opaque c) (opaque-autos c) ∙ n.0, opaque-nodes V sorts c n.1, opaque-nodes V sorts o n.2)
 opaque-nodes V sorts (tree l c o) n = (node-same V sorts l c (opaque c) refl (opaque-sorts c) n.0, opaque-nodes V sorts c n.1, opaque-nodes V sorts o n.2)
-
--- ---- how terms are made
-no-children : (b : Bool) (f : Trees → Trees) → f none ≡ none → (c : Trees) → (not b || is_no_tree c) ≡ true → (not b || is_no_tree (f c)) ≡ true
-no-children false f e c h = refl
-no-children true f e none h = ap is_no_tree e
-no-children true f e (tree l c o) h = absurd (false-true h)
 
 gone : (c : Trees) → c ≡ none → is_no_tree (opaque c) ≡ true
 gone c h = subst (λ z. is_no_tree (opaque z) ≡ true) (sym h) refl
@@ -206,13 +202,6 @@ reference-opaque-erased r = ap (refer r.trait) (opaque-erased r.args)
 -- without binders it is the same up to lifetimes
 pub plain-opaque : (kept : ℕ → Bool) (r : Reference) → erased_reference (opaque_reference (plain_reference kept r)) ≡ erased_reference (opaque_reference r)
 plain-opaque kept r = ap (refer r.trait) (sym (opaque-erased (plain kept r.args)) ∙ ap opaque (plain-erased kept r.args) ∙ opaque-erased r.args)
-
--- ---- one more placeholder
-last-arg : (es : List Entry) (xs : List GenericArgKind) (a : GenericArgKind) (y : Trees) → args_trees es (xs ++ a ∷ []) +++ y ≡ args_trees es xs +++ (arg_trees es a +++ y)
-last-arg es [] a y = ap (λ t. t +++ y) (append-none (arg_trees es a))
-last-arg es (x ∷ xs) a y =
-    append-assoc (arg_trees es x) (args_trees es (xs ++ a ∷ [])) y ∙ ap (λ t. arg_trees es x +++ t) (last-arg es xs a y)
-    ∙ sym (append-assoc (arg_trees es x) (args_trees es xs) (arg_trees es a +++ y))
 
 pub one-more-placeholder : (now new : List Entry) → Keeps now new → (xs : List GenericArgKind) (a : GenericArgKind) (n m : ℕ) (s : Sort) (ss : List Sort) (all : Trees) → ArgsHeld now xs
     → arg_trees new a ≡ leaf (placeholder s n) → m ≡ n + 1 → args_trees now xs +++ placeholders_from n (s ∷ ss) ≡ all → args_trees new (xs ++ a ∷ []) +++ placeholders_from m ss ≡ all

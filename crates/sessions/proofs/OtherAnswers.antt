@@ -47,13 +47,12 @@ use Rattle.sessions.specs.Promised.Subjects.{IsOfText}
 use Rattle.sessions.specs.Tables.{table_of}
 use Rattle.sessions.proofs.BareAnswers.{bare-is-left}
 use Rattle.sessions.proofs.DecidedAnswers.{decided-are-answered, asked-is, clauses-are, formed-so, single}
+use Rattle.sessions.proofs.OpaqueTerms.{node}
+use Rattle.sessions.proofs.ExactRefusals.{not-so}
 
 -- ---- terms in which nothing may get a value but lifetimes, which get none
 abbrev pub IsFixed : Label → Type 0
 IsFixed l = IsGoodLabel is_fixed l
-
-node : (l : Label) {c d o p : Trees} → c ≡ d → o ≡ p → tree l c o ≡ tree l d p
-node l e f = cc
 
 -- resolving changes none of them
 lifetime-stays : (k : Sort) (v w : ℕ) (r c o : Trees) → HasValues k → replace k v r (tree (infer of_lifetime w) c o) ≡ tree (infer of_lifetime w) c (replace k v r o)
@@ -94,11 +93,6 @@ none-unknown : (t : Trees) → EachLabel IsFixed t → some_node is_unknown_term
 none-unknown none h = refl
 none-unknown (tree l c o) h =
     ap (λ b. b || some_node is_unknown_term c || some_node is_unknown_term o) (not-unknown l h.0) ∙ ap (λ b. b || some_node is_unknown_term o) (none-unknown c h.1) ∙ none-unknown o h.2
-
--- ---- answers
-not-so : (b : Bool) → not b ≡ true → b ≡ false
-not-so false e = refl
-not-so true e = absurd (false-true e)
 
 -- a definite yes holds no values
 yes-is-bare : (a : AnswerTrees) → IsYes frame_tables (Some a) → has_values a ≡ false
@@ -188,6 +182,6 @@ module _ (d : Declarations) (text : IsOfText d) (n : ℕ) (q : Question) (is : I
 
 pub other-answers-are-right : OtherAnswersAreRight
 other-answers-are-right d text n q is s of depth es = (
-  λ h. (λ decided proof. unproved d text n q is s of depth decided h proof, tt),
-  λ h. (λ decided. never-maybe d text n q is s of depth decided es h, tt),
+  λ h. (λ decided proof. unproved d text n q is s of depth decided h proof, tt, tt),
+  λ h. (λ decided. never-maybe d text n q is s of depth decided es h, tt, tt),
 )

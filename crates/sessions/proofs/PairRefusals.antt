@@ -39,6 +39,7 @@ use Rattle.sessions.proofs.Given.{IsPlaced, placed-at}
 use Rattle.type_terms.proofs.Matching.{or-false-left as no-left}
 use Rattle.type_terms.proofs.BooleanBasics.{true-false as no-true}
 use Rattle.sessions.proofs.Basics.{all-consts, types-skipped}
+use Rattle.sessions.proofs.Alone.{same-goal}
 
 -- ---- open places that get no value: parameters, placeholders, bound and canonical variables that are types or constants
 abbrev pub is_place : Label → Bool
@@ -208,9 +209,6 @@ made : (es : List Entry) → Lawful es → (i : ℕ) → Has es args_lists i →
 made es lawful i h =
     trees-of is_numbered terms (trees_at es i)
     (made-weaker is_in_range is_numbered numbered terms (trees_at es i) (subst (λ t. is_made is_in_range terms t ≡ true) (sym (is-trees es args_lists i h.0 h.1)) ((lawful.made i _ h.1).as_terms (λ e. cc))))
-
-same-goal : (a b p r : Trees) → a ≡ b → p ≡ r → (let g : GoalTrees = record { environment = a; predicate = p } in g) ≡ record { environment = b; predicate = r }
-same-goal a b p r e f = cc
 
 args-same : (a b : Reference) → a ≡ b → a.args ≡ b.args
 args-same a b e = ap (λ (r : Reference). r.args) e

@@ -21,11 +21,7 @@ use Rattle.candidate_model.proofs.PlainRules.{Plain, IsPlainReference, HavePlain
 use Rattle.candidate_model.proofs.ReadOff.{arguments-plain}
 use Rattle.candidate_model.proofs.Rows.{fields-declared}
 use Rattle.goal_evaluator.proofs.Basics.{every-append}
-
--- ---- lists
-every-of : {A : Type 0} (P : A → Type 0) (xs : List A) → ((x : A) → In x xs → P x) → Every P xs
-every-of P [] f = tt
-every-of P (x ∷ xs) f = (f x (here x xs), every-of P xs (λ y i. f y (there y x xs i)))
+use Rattle.candidate_model.proofs.Elaborating.{every-in as every-of}
 
 if-plain : (b : Bool) (us : List Rule) → HavePlainPremises us → HavePlainPremises (if b then us else [])
 if-plain true us h = h

@@ -2,7 +2,7 @@
 -- without their lifetimes.
 use Rattle.std.proofs.Common.{◌≡◌, ◌-◌, ◌<◌, ℕ, suc, Bool, true, false, not, ◌||◌, if◌then◌else◌, List, [], ◌∷◌, map, refl, sym, ◌∙◌, ap, subst}
 use Rattle.std.specs.Global.{Vec}
-use Rattle.type_terms.specs.Promised.Label.{Label, Sort, of_type, of_const, of_lifetime, dynamic, principal, auto_trait, of_trait, predicate, param, placeholder, infer, canonical, bound}
+use Rattle.type_terms.specs.Promised.Label.{Label, Sort, of_type, of_const, of_lifetime, bool, char, value, dynamic, principal, auto_trait, of_trait, predicate, param, placeholder, infer, canonical, bound}
 use Rattle.type_terms.specs.Promised.Proofs.{In, HasProof}
 use Rattle.type_terms.specs.Promised.Rules.{elaborated}
 use Rattle.type_terms.specs.Promised.Erased.{erased_reference}
@@ -48,14 +48,14 @@ use Rattle.view_lowering.specs.Plain.{unbound_references}
 use Rattle.view_lowering.specs.QuestionVariables.{number_of}
 use Rattle.view_lowering.specs.Promised.Questions.{variable_kinds}
 use Rattle.view_lowering.specs.Ready.{AreSeen}
-use Rattle.type_terms.specs.Promised.Questions.{FitKinds, HoldUnknownsAlone, SolutionBy, IsProveAnswer, filled, filled_reference}
+use Rattle.type_terms.specs.Promised.Questions.{FitKinds, HoldUnknownsAlone, SolutionBy, IsProveAnswer, yes as answer_yes, filled, filled_reference}
 use Rattle.sessions.specs.Clauses.{AddSupertraits}
 use Rattle.sessions.specs.Fitting.{sorts_in}
 use Rattle.sessions.specs.Goals.{goal_of, is_fixed, are_fixed}
 use Rattle.sessions.specs.Proved.{fact_with_values}
 use Rattle.sessions.specs.ProvedQuestions.{YesIsRight}
 use Rattle.sessions.specs.Promised.Given.{answer_in}
-use Rattle.sessions.specs.Promised.Promises.{IsProved, view_in}
+use Rattle.sessions.specs.Promised.Promises.{AreForced, IsProved, view_in}
 use Rattle.sessions.specs.Sessions.{IsSolvingOf}
 use Rattle.sessions.specs.Promised.OwnValues.{is_unknown, are_own, SpeaksOfOwn}
 use Rattle.sessions.specs.Foreign.{is_unknown_term}
@@ -73,7 +73,7 @@ use Rattle.sessions.proofs.PlainProofs.{plain-proof}
 use Rattle.sessions.proofs.SeenPlainly.{rules-are, seen-begin, seen-erased}
 use Rattle.sessions.proofs.WithoutLifetimes.{FieldsAreErased, erased-is}
 use Rattle.sessions.proofs.Itself.{themselves, themselves-read}
-use Rattle.sessions.proofs.ClosedValues.{label-plain, plain-ground, closed-each, closing, closing-solves, closing-reads, closed_value, closed-fit, closed-fill}
+use Rattle.sessions.proofs.ClosedValues.{IsGround, bools-are, chars-are, alike-each, label-plain, plain-ground, closed-each, closing, closing-solves, closing-reads, closed_value, closed-fit, closed-fill}
 use Rattle.sessions.proofs.QuestionTerms.{is_own, so-below}
 use Rattle.sessions.proofs.Refusals.{plain-erased}
 use Rattle.sessions.proofs.FormedViews.{texts-views-are-formed}
@@ -162,7 +162,7 @@ fixed-instance s (tree (infer of_type v) c o) h = absurd (false-true h.0)
 fixed-instance s (tree (infer of_const v) c o) h = absurd (false-true h.0)
 fixed-instance s (tree l c o) h = ap (λ z. tree (erase_label l) z (instance s o)) (fixed-instance s c h.1) ∙ ap (λ z. tree (erase_label l) (erase c) z) (fixed-instance s o h.2)
 
-inner : {l : Label} {c d o p : Trees} → c ≡ d → o ≡ p → tree l c o ≡ tree l d p
+pub inner : {l : Label} {c d o p : Trees} → c ≡ d → o ≡ p → tree l c o ≡ tree l d p
 inner e f = cc
 
 -- values change nothing in which no unknown stands
@@ -287,14 +287,14 @@ module _ (d : Declarations) (text : IsOfText d) (c : ℕ) (items : List Entry) (
   Asked bs = reference_in (fact_with_values bs g) ≡ filled_reference ks (values_in bs ks) (erased_reference r)
 
   -- the reference with closed terms for the unknowns without value
-  abbrev closed_values : (fs : List Entry) (t : Table) → Ready fs t → List Trees
-  closed_values fs t ready = map (closed_value fs t ready) (unknowns_of ks)
+  abbrev closed_values : (fs : List Entry) (t : Table) → Ready fs t → (ty ct : Label) → IsGround ty ct → List Trees
+  closed_values fs t ready ty ct is = map (closed_value fs t ready ty ct is) (unknowns_of ks)
 
-  abbrev AskedClosed : (fs : List Entry) (t : Table) → Ready fs t → Type 0
-  AskedClosed fs t ready = reference_in (fact_under (closing fs t ready) g) ≡ filled_reference ks (closed_values fs t ready) (erased_reference r)
+  abbrev AskedClosed : (fs : List Entry) (t : Table) → Ready fs t → (ty ct : Label) → IsGround ty ct → Type 0
+  AskedClosed fs t ready ty ct is = reference_in (fact_under (closing fs t ready ty ct is) g) ≡ filled_reference ks (closed_values fs t ready ty ct is) (erased_reference r)
 
   module _ (clean : HasNoCanonical r.args) (proper_args : IsProper r.args) (asked : (fs : List Entry) (t : Table) → Ready fs t → Asked (content fs t.values))
-      (asked_closed : (fs : List Entry) (t : Table) (ready : Ready fs t) → AskedClosed fs t ready) where
+      (asked_closed : (fs : List Entry) (t : Table) (ready : Ready fs t) (ty ct : Label) (is : IsGround ty ct) → AskedClosed fs t ready ty ct is) where
     without : IsWithoutCanonical g
     without = record { environment = clauses-clean all all-fixed; predicate = (clean, tt) }
 
@@ -322,59 +322,79 @@ module _ (d : Declarations) (text : IsOfText d) (c : ℕ) (items : List Entry) (
       plain-asked unbound = subst (λ (y : Reference). Plain y.args) (asked fs t ready) (children-plain (erase (resolved bs g.predicate)) (all-plain (resolved bs g.predicate) unbound))
 
       -- ---- a solution
-      abbrev s : Assignment
-      s = closing fs t ready
+      module _ (ty ct : Label) (is : IsGround ty ct) where
+        abbrev s : Assignment
+        s = closing fs t ready ty ct is
 
-      abbrev closed : Fact
-      closed = fact_under s g
+        abbrev closed : Fact
+        closed = fact_under s g
 
-      closed-clauses : clauses_of closed.goal.environment ≡ map erased_reference all
-      closed-clauses = ap clauses_of (clauses-instance s all all-fixed) ∙ references-come-back (map erased_reference all)
+        closed-clauses : clauses_of closed.goal.environment ≡ map erased_reference all
+        closed-clauses = ap clauses_of (clauses-instance s all all-fixed) ∙ references-come-back (map erased_reference all)
 
-      abbrev y : Reference
-      y = filled_reference ks (closed_values fs t ready) (erased_reference r)
+        abbrev y : Reference
+        y = filled_reference ks (closed_values fs t ready ty ct is) (erased_reference r)
 
-      closed-plain : some_node is_bound_term (resolved bs g.predicate) ≡ false → some_node is_unerased (instance s g.predicate) ≡ false
-      closed-plain unbound = ap (some_node is_unerased) (closing-reads fs t ready g.predicate (proper_args, tt)) ∙ plain-ground (resolved bs g.predicate) unbound
+        closed-plain : some_node is_bound_term (resolved bs g.predicate) ≡ false → some_node is_unerased (instance s g.predicate) ≡ false
+        closed-plain unbound = ap (some_node is_unerased) (closing-reads fs t ready ty ct is g.predicate (proper_args, tt)) ∙ plain-ground ty ct is (resolved bs g.predicate) unbound
 
-      plain-there : some_node is_bound_term (resolved bs g.predicate) ≡ false → Plain y.args
-      plain-there unbound = subst (λ (z : Reference). Plain z.args) (asked_closed fs t ready) (children-plain (instance s g.predicate) (closed-plain unbound))
+        plain-there : some_node is_bound_term (resolved bs g.predicate) ≡ false → Plain y.args
+        plain-there unbound = subst (λ (z : Reference). Plain z.args) (asked_closed fs t ready ty ct is) (children-plain (instance s g.predicate) (closed-plain unbound))
 
-      solution : some_node is_bound_term (resolved bs g.predicate) ≡ false → Lists.FactHasProof Fact (FollowsByView V) (is_coinductive_fact V) closed → HoldUnknownsAlone ts → Solved
-      solution unbound p alone = record {
-        values = closed_values fs t ready;
-        fitting = closed-fit fs t ready ks;
-        closed = closed-each bs (unknowns_of ks) alone;
-        proved =
-            subst (λ (W : World). HasProof W (map erased_reference E) y) (sym view-is)
-            (plain-proof V declared begin erased cs (map erased_reference E) y (plain-there unbound)
-            (fewer y
-            (subst (λ zs. HasProof V zs y) closed-clauses
-            (subst (λ z. HasProof V (clauses_of closed.goal.environment) z) (asked_closed fs t ready) (proofs-of-facts V closed refl (ap not (closed-plain unbound)) p)))));
-      }
+        solution : some_node is_bound_term (resolved bs g.predicate) ≡ false → Lists.FactHasProof Fact (FollowsByView V) (is_coinductive_fact V) closed → HoldUnknownsAlone ts → Solved
+        solution unbound p alone = record {
+          values = closed_values fs t ready ty ct is;
+          fitting = closed-fit fs t ready ty ct is ks;
+          closed = closed-each ty ct is bs (unknowns_of ks) alone;
+          proved =
+              subst (λ (W : World). HasProof W (map erased_reference E) y) (sym view-is)
+              (plain-proof V declared begin erased cs (map erased_reference E) y (plain-there unbound)
+              (fewer y
+              (subst (λ zs. HasProof V zs y) closed-clauses
+              (subst (λ z. HasProof V (clauses_of closed.goal.environment) z) (asked_closed fs t ready ty ct is) (proofs-of-facts V closed refl (ap not (closed-plain unbound)) p)))));
+        }
 
-      proved : some_node is_bound_term (resolved bs g.predicate) ≡ false → Lists.FactHasProof Fact (FollowsByView V) (is_coinductive_fact V) f
-          → Lists.FactHasProof Fact (FollowsByView V) (is_coinductive_fact V) closed → IsProvedWith ts
-      proved unbound p q = (
-        (values-fill fs t ready ks).0,
-        subst (λ (W : World). HasProof W (map erased_reference E) x) (sym view-is)
-            (plain-proof V declared begin erased cs (map erased_reference E) x (plain-asked unbound)
-            (fewer x
-            (subst (λ zs. HasProof V zs x) clauses
-            (subst (λ y. HasProof V (clauses_of f.goal.environment) y) (asked fs t ready) (proofs-of-facts V f refl (ap not (all-plain (resolved bs g.predicate) unbound)) p))))),
-        solution unbound q,
-      )
+      module _ (unbound : some_node is_bound_term (resolved bs g.predicate) ≡ false)
+          (solved : (ty ct : Label) (is : IsGround ty ct) → Lists.FactHasProof Fact (FollowsByView V) (is_coinductive_fact V) (fact_under (closing fs t ready ty ct is) g)) where
+        first : HoldUnknownsAlone ts → Solved
+        first alone = solution bool (value 0) bools-are unbound (solved bool (value 0) bools-are) alone
+
+        second : HoldUnknownsAlone ts → Solved
+        second alone = solution char (value 1) chars-are unbound (solved char (value 1) chars-are) alone
+
+        -- if there is one alone, the values are that one
+        pub forced : AreForced (view_in d c) ks (map erased_reference E) (erased_reference r) (answer_yes ts)
+        unfolding first second solution
+        forced = λ alone x only. alike-each bs (unknowns_of ks) (only (first alone) ∙ sym (only (second alone))) ∙ only (first alone)
+
+        proved : Lists.FactHasProof Fact (FollowsByView V) (is_coinductive_fact V) f → IsProvedWith ts
+        proved p = (
+          (values-fill fs t ready ks).0,
+          subst (λ (W : World). HasProof W (map erased_reference E) x) (sym view-is)
+              (plain-proof V declared begin erased cs (map erased_reference E) x (plain-asked unbound)
+              (fewer x
+              (subst (λ zs. HasProof V zs x) clauses
+              (subst (λ y. HasProof V (clauses_of f.goal.environment) y) (asked fs t ready) (proofs-of-facts V f refl (ap not (all-plain (resolved bs g.predicate) unbound)) p))))),
+          (λ alone. first alone),
+        )
 
     values-are : (bs : List Binding) (xs : List Trees) → xs ≡ map (λ u. resolved bs u) (unknowns_from 0 0 ks) → map erase xs ≡ values_in bs ks
     values-are bs xs e = ap (map erase) e ∙ over (λ u. resolved bs u) erase (unknowns_from 0 0 ks)
 
-    -- a yes is right
-    pub yes-proves : (limit depth : ℕ) (es : List Entry) (values : Vec GenericArgKind) → IsGoalAnswered (solving_of items decls) depth ks g (unknowns_from 0 0 ks) es (Yes values)
-        → IsProveAnswer limit (view_in d c) ks (map erased_reference E) (erased_reference r) (answer_in es (Yes values))
-    yes-proves limit depth es values h =
-        subst IsProvedWith (sym (sym (over (arg_trees es) erase values.items) ∙ values-are (content h.entries h.table.values) (map (arg_trees es) values.items) h.are))
-        (proved h.entries h.table h.ready h.unbound (h.proved without)
-        (h.solved without (closing h.entries h.table h.ready) (closing-solves h.entries h.table h.ready)))
+    module _ (depth : ℕ) (es : List Entry) (values : Vec GenericArgKind) (h : IsGoalAnswered (solving_of items decls) depth ks g (unknowns_from 0 0 ks) es (Yes values)) where
+      read-off : map (λ v. erase (arg_trees es v)) values.items ≡ values_in (content h.entries h.table.values) ks
+      read-off = sym (over (arg_trees es) erase values.items) ∙ values-are (content h.entries h.table.values) (map (arg_trees es) values.items) h.are
+
+      solved-so : (ty ct : Label) (is : IsGround ty ct) → Lists.FactHasProof Fact (FollowsByView V) (is_coinductive_fact V) (fact_under (closing h.entries h.table h.ready ty ct is) g)
+      solved-so ty ct is = h.solved without (closing h.entries h.table h.ready ty ct is) (closing-solves h.entries h.table h.ready ty ct is)
+
+      -- a yes is right
+      pub yes-proves : (limit : ℕ) → IsProveAnswer limit (view_in d c) ks (map erased_reference E) (erased_reference r) (answer_in es (Yes values))
+      yes-proves limit = subst IsProvedWith (sym read-off) (proved h.entries h.table h.ready h.unbound solved-so (h.proved without))
+
+      -- and its values are forced
+      pub yes-forced : AreForced (view_in d c) ks (map erased_reference E) (erased_reference r) (answer_in es (Yes values))
+      yes-forced = subst (λ zs. AreForced (view_in d c) ks (map erased_reference E) (erased_reference r) (answer_yes zs)) (sym read-off) (forced h.entries h.table h.ready h.unbound solved-so)
 
 -- ---- of unknowns of these kinds
 module _ (ks : List Sort) (E : List Reference) (r : Reference) (own : is_made (is_own ks) terms r.args ≡ true) where
@@ -395,9 +415,9 @@ module _ (ks : List Sort) (E : List Reference) (r : Reference) (own : is_made (i
       ∙ ap (reference r.trait) (themselves-read fs t ready r.args proper-args)
       ∙ ap (reference r.trait) (sym (filled-args fs t ready))
 
-  asked-closed : (F : List Reference) (fs : List Entry) (t : Table) (ready : Ready fs t)
-      → reference_in (fact_under (closing fs t ready) (goal_of F r)) ≡ filled_reference ks (map (closed_value fs t ready) (unknowns_of ks)) (erased_reference r)
-  asked-closed F fs t ready = ap (reference r.trait) (sym (closed-fill fs t ready ks r.args proper-args (known ks r.args good)))
+  asked-closed : (F : List Reference) (fs : List Entry) (t : Table) (ready : Ready fs t) (ty ct : Label) (is : IsGround ty ct)
+      → reference_in (fact_under (closing fs t ready ty ct is) (goal_of F r)) ≡ filled_reference ks (map (closed_value fs t ready ty ct is) (unknowns_of ks)) (erased_reference r)
+  asked-closed F fs t ready ty ct is = ap (reference r.trait) (sym (closed-fill fs t ready ty ct is ks r.args proper-args (known ks r.args good)))
 
 -- ---- questions
 module _ (d : Declarations) (text : IsOfText d) (n : ℕ) (q : Question) (is : IsQuestion d n q) (s : Solving) (of : IsSolvingOf d q.asker s) where
@@ -439,15 +459,22 @@ module _ (d : Declarations) (text : IsOfText d) (n : ℕ) (q : Question) (is : I
       ∙ ap (λ (V : World). are_own V (map erased_reference (asked ∷ E)) (map erase xs)) (view-is d text q.asker of.entries of.declarations of.seen kinds E asked each)
       ∙ own-erased (without_lifetimes W (view_in d q.asker).crates) W (undeclared-erased W (view_in d q.asker).crates) (asked ∷ E) xs ∙ own (unknown u)
 
+  -- of what is asked, up to lifetimes
+  as-asked : (P : List Reference → Reference → Type 0) → P (map erased_reference E) (erased_reference asked) → P (map erased_reference q.clauses) (erased_reference q.asked)
+  as-asked P h = subst (λ F. P F (erased_reference q.asked)) (clauses-erased q.clauses) (subst (P (map erased_reference E)) (ap (reference q.asked.trait) (plain-erased q.asked.args)) h)
+
   yes : (limit depth : ℕ) (es : List Entry) (values : Vec GenericArgKind) → IsAnsweredBySolver s depth q es (Yes values) → IsProved limit d q (answer_in es (Yes values))
   yes limit depth es values h =
-      let told = subst (λ (x : Solving). IsAnsweredBySolver x depth q es (Yes values)) of.is h in (
-        subst (λ F. IsProveAnswer limit (view_in d q.asker) kinds F (erased_reference q.asked) (answer_in es (Yes values))) (clauses-erased q.clauses)
-            (subst (λ x. IsProveAnswer limit (view_in d q.asker) kinds (map erased_reference E) x (answer_in es (Yes values))) (ap (reference q.asked.trait) (plain-erased q.asked.args))
-            (yes-proves d text q.asker of.entries of.declarations of.seen kinds E asked each (clean-own kinds asked.args (good kinds E asked own)) (proper-args kinds E asked own)
-            (asked-with kinds E asked own (elaborate W E)) (asked-closed kinds E asked own (elaborate W E)) limit depth es values
-            (subst (λ us. IsGoalAnswered (solving_of of.entries of.declarations) depth kinds (goal_of (elaborate W E) asked) us es (Yes values)) (own-are 0 0 q.variables) told.0))),
+      let told = subst (λ (x : Solving). IsAnsweredBySolver x depth q es (Yes values)) of.is h in
+      let searched = subst (λ us. IsGoalAnswered (solving_of of.entries of.declarations) depth kinds (goal_of (elaborate W E) asked) us es (Yes values)) (own-are 0 0 q.variables) told.0 in
+      let clean = clean-own kinds asked.args (good kinds E asked own) in (
+        as-asked (λ F x. IsProveAnswer limit (view_in d q.asker) kinds F x (answer_in es (Yes values)))
+            (yes-proves d text q.asker of.entries of.declarations of.seen kinds E asked each clean (proper-args kinds E asked own)
+            (asked-with kinds E asked own (elaborate W E)) (asked-closed kinds E asked own (elaborate W E)) depth es values searched limit),
         speaks es values told.1,
+        as-asked (λ F x. AreForced (view_in d q.asker) kinds F x (answer_in es (Yes values)))
+            (yes-forced d text q.asker of.entries of.declarations of.seen kinds E asked each clean (proper-args kinds E asked own)
+            (asked-with kinds E asked own (elaborate W E)) (asked-closed kinds E asked own (elaborate W E)) depth es values searched),
       )
 
 pub yes-is-right : YesIsRight

@@ -19,7 +19,7 @@ use Rattle.candidate_model.specs.Meaning.{ViewMeaning, LinkedWith, SelfTypesBegi
 use Rattle.candidate_model.specs.Solver.{solver_handled}
 use Rattle.type_terms.specs.Promised.Verdicts.{placed}
 use Rattle.type_terms.specs.Promised.Questions.{FitKinds, filled, filled_reference, SolutionBy, Solution}
-use Rattle.overlap_check.proofs.Filling.{over-filled-reference, over-fit, over-each-closed}
+use Rattle.overlap_check.proofs.Filling.{over-filled-reference, over-fit, over-each-closed, node}
 use Rattle.text_language.specs.Promised.Declarations.{Declarations, Question}
 use Rattle.view_lowering.specs.Promised.SeenWorlds.{all_kept, plain, plain_label, unbound_reference}
 use Rattle.view_lowering.specs.Seen.{rules_seen_from}
@@ -37,12 +37,8 @@ with_crates V cs = record V { crates = cs }
 same-view : (V : World) (d : Declarations) (c : ℕ) → erased_world V ≡ rules_seen_from d c → with_crates (erased_world V) (view_in d c).crates ≡ view_in d c
 same-view V d c e = ap (λ (W : World). with_crates W (view_in d c).crates) e
 
-same-placed : (V W : World) (a b : ℕ) (ρ : Renumbering) → V ≡ W → a ≡ b → (let v : View = record { numbers = ρ; asker = a; world = V } in v) ≡ record { numbers = ρ; asker = b; world = W }
+pub same-placed : (V W : World) (a b : ℕ) (ρ : Renumbering) → V ≡ W → a ≡ b → (let v : View = record { numbers = ρ; asker = a; world = V } in v) ≡ record { numbers = ρ; asker = b; world = W }
 same-placed V W a b ρ e f = cc
-
--- up to lifetimes a term is what it is without binders
-node : {l m : Label} {c d o p : Trees} → l ≡ m → c ≡ d → o ≡ p → tree l c o ≡ tree m d p
-node a b e = cc
 
 label-erased : (l : Label) → erase_label (plain_label all_kept l) ≡ erase_label l
 label-erased (param of_lifetime i) = refl

@@ -18,15 +18,13 @@ use Rattle.overlap_check.proofs.Filling.{over-filled-reference, over-fit, over-e
 use Rattle.text_language.specs.Promised.Declarations.{Declarations}
 use Rattle.view_lowering.specs.Seen.{rules_seen_from}
 use Rattle.sessions.specs.Promised.Promises.{view_in}
+use Rattle.sessions.proofs.Refusals.{same-placed}
 
 abbrev with_crates : World → List CrateDecl → World
 with_crates V cs = record V { crates = cs }
 
 same-view : (V : World) (d : Declarations) (c : ℕ) → erased_world V ≡ rules_seen_from d c → with_crates (erased_world V) (view_in d c).crates ≡ view_in d c
 same-view V d c e = ap (λ (W : World). with_crates W (view_in d c).crates) e
-
-same-placed : (V W : World) (a b : ℕ) (ρ : Renumbering) → V ≡ W → a ≡ b → (let v : View = record { numbers = ρ; asker = a; world = V } in v) ≡ record { numbers = ρ; asker = b; world = W }
-same-placed V W a b ρ e f = cc
 
 -- the goal, with unknowns of these kinds, by what crate c sees of the text
 module _ (d : Declarations) (c : ℕ) (m : ViewMeaning) (view : erased_world m.view ≡ rules_seen_from d c) (crate : m.crate ≡ c) (ks : List Sort) (g : Reference) where

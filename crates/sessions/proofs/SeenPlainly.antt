@@ -25,28 +25,14 @@ use Rattle.sessions.proofs.FormedViews.{map-in}
 use Rattle.sessions.proofs.WithoutLifetimes.{FieldsAreErased}
 use Rattle.type_terms.proofs.RenumberedRules.{cons-same as two}
 use Rattle.type_terms.proofs.TermBasics.{three as node}
-use Rattle.view_lowering.proofs.Plainly.{begins-plain}
+use Rattle.view_lowering.proofs.Plainly.{begins-plain, struct-erased, trait-erased}
 use Rattle.view_lowering.proofs.Basics.{label-erased}
+pub use Rattle.view_lowering.proofs.Plainly.{map-again, reference-erased}
 
 -- ---- up to lifetimes nothing changes
 pub plain-erased : (k : ℕ → Bool) (t : Trees) → erase (plain k t) ≡ erase t
 plain-erased k none = refl
 plain-erased k (tree l c o) = node (label-erased k l) (plain-erased k c) (plain-erased k o)
-
-pub map-again : {A B : Type 0} (f : A → A) (g : A → B) → ((x : A) → g (f x) ≡ g x) → (xs : List A) → map g (map f xs) ≡ map g xs
-map-again f g h [] = refl
-map-again f g h (x ∷ xs) = two (h x) (map-again f g h xs)
-
-pub reference-erased : (k : ℕ → Bool) (r : Reference) → erased_reference (plain_reference k r) ≡ erased_reference r
-reference-erased k r = ap (λ z. (let x : Reference = record { trait = r.trait; args = z } in x)) (plain-erased k r.args)
-
-struct-erased : (x : StructDecl) → erased_struct (plain_struct x) ≡ erased_struct x
-struct-erased x = ap (λ z. (let y : StructDecl = record { name = x.name; home = x.home; is_fundamental = x.is_fundamental; fields = z } in y)) (map-again (plain none_kept) erase (plain-erased none_kept) x.fields)
-
-trait-erased : (x : TraitDecl) → erased_trait (plain_trait x) ≡ erased_trait x
-trait-erased x =
-    ap (λ z. (let y : TraitDecl = record { name = x.name; home = x.home; is_fundamental = x.is_fundamental; is_auto = x.is_auto; bounds = z } in y))
-    (map-again (plain_reference none_kept) erased_reference (reference-erased none_kept) x.bounds)
 
 impl-erased : (x : ImplDecl) → erased_impl (plain_impl x) ≡ erased_impl x
 impl-erased x = join _ _ _ _ (reference-erased all_kept x.header) (map-again (plain_reference (stands_in x.header.args)) erased_reference (reference-erased (stands_in x.header.args)) x.clauses)

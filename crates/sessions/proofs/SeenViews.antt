@@ -1,16 +1,16 @@
 -- What sessions leave, and sessions that begin on it.
-use Rattle.std.proofs.Common.{◌≡◌, ◌≤◌, ℕ, Bool, true, false, List, [], refl, sym, ap, ◌∙◌, subst, arith}
-use Rattle.std.specs.Prelude.{◌&&◌, not, if◌then◌else◌, Some}
-use Rattle.std.proofs.lemmas.List.Sums.{sum_by-le-sum_by}
+use Rattle.std.proofs.Common.{◌≡◌, ◌≤◌, ℕ, Bool, true, false, List, [], ◌∷◌, refl, sym, ap, ◌∙◌, subst, arith}
+use Rattle.std.proofs.lemmas.List.Sums.{sum_by-cons}
+use Rattle.std.specs.Prelude.{if◌then◌else◌, sum_by}
 use Rattle.type_terms.specs.Promised.Handles.{Entry}
 use Rattle.type_terms.specs.Terms.{Terms}
 use Rattle.type_terms.specs.Promised.Worlds.{sees}
 use Rattle.type_terms.specs.declared.CrateId.{CrateId}
 use Rattle.search_graph.specs.SearchState.{SearchState}
 use Rattle.declarations.specs.Items.{Items}
-use Rattle.text_language.specs.Promised.Declarations.{Declarations, world_of}
-use Rattle.view_lowering.specs.Behind.{most_new_terms, new_struct_terms, new_trait_terms, new_impl_terms}
-use Rattle.view_lowering.specs.MostTerms.{most_terms, struct_terms, trait_terms, impl_terms, struct_terms_seen, trait_terms_seen, impl_terms_seen}
+use Rattle.text_language.specs.Promised.Declarations.{Declarations, NamedStruct, NamedTrait, NamedImpl, world_of}
+use Rattle.view_lowering.specs.Behind.{from_difference, most_new_terms}
+use Rattle.view_lowering.specs.MostTerms.{most_terms, struct_terms_seen, trait_terms_seen, impl_terms_seen}
 use Rattle.goal_frames.specs.Stores.{limit_of}
 use Rattle.solver_graph.specs.Contexts.{IsReady as IsReadyContext}
 use Rattle.solver_graph.specs.declared.context.SolverCx.{SolverCx}
@@ -25,21 +25,29 @@ use Rattle.sessions.specs.Promised.Subjects.{IsOfText}
 use Rattle.sessions.proofs.Keeping.{solves-view, solves-seen, solver-rests-first}
 
 -- ---- what is new is made no more terms than all that is seen
-fewer-where : (p q : Bool) (n : ℕ) → (if p && not q then n else 0) ≤ (if p then n else 0)
-fewer-where true true n = omega arith
-fewer-where true false n = omega arith
-fewer-where false q n = omega arith
+rest-fewer : {A : Type 0} (p q : A → Bool) (f : A → ℕ) (xs : List A) → sum_by f (from_difference p q xs) ≤ sum_by f xs
+rest-fewer p q f [] = let le : 0 ≤ 0 = omega arith in le
+rest-fewer p q f (x ∷ xs) = by (p x) (q x) (rest-fewer p q f xs)
+  where
+    fewer : sum_by f (from_difference p q xs) ≤ sum_by f xs → sum_by f (from_difference p q xs) ≤ sum_by f (x ∷ xs)
+    fewer h = let e = sum_by-cons f x xs in omega (arith, h, e)
 
-module _ (d : Declarations) (c : ℕ) (e : CrateId) where
-  fewer-of : (home n : ℕ) → (if sees (world_of d) c home && not (sees (world_of d) e.index home) then n else 0) ≤ (if sees (world_of d) c home then n else 0)
-  fewer-of home n = fewer-where (sees (world_of d) c home) (sees (world_of d) e.index home) n
+    all : sum_by f (x ∷ xs) ≤ sum_by f (x ∷ xs)
+    all = omega arith
 
-  pub new-are-fewer : most_new_terms d c (Some e) ≤ most_terms d c
-  new-are-fewer =
-      let structs = sum_by-le-sum_by (new_struct_terms d c (Some e)) (struct_terms_seen d c) d.structs (λ s. fewer-of s.item.home (struct_terms s.item)) in
-      let traits = sum_by-le-sum_by (new_trait_terms d c (Some e)) (trait_terms_seen d c) d.traits (λ t. fewer-of t.item.home (trait_terms t.item)) in
-      let impls = sum_by-le-sum_by (new_impl_terms d c (Some e)) (impl_terms_seen d c) d.impls (λ i. fewer-of i.item.home (impl_terms i.item)) in
-      omega (arith, structs, traits, impls)
+    by : (a b : Bool) → sum_by f (from_difference p q xs) ≤ sum_by f xs
+        → sum_by f (if a then (if b then from_difference p q xs else x ∷ xs) else (if b then x ∷ xs else from_difference p q xs)) ≤ sum_by f (x ∷ xs)
+    by true true h = fewer h
+    by true false h = all
+    by false true h = all
+    by false false h = fewer h
+
+pub new-are-fewer : (d : Declarations) (c e : ℕ) → most_new_terms d c e ≤ most_terms d c
+new-are-fewer d c e =
+    let structs = rest-fewer (λ (s : NamedStruct). sees (world_of d) c s.item.home) (λ s. sees (world_of d) e s.item.home) (struct_terms_seen d c) d.structs in
+    let traits = rest-fewer (λ (t : NamedTrait). sees (world_of d) c t.item.home) (λ t. sees (world_of d) e t.item.home) (trait_terms_seen d c) d.traits in
+    let impls = rest-fewer (λ (i : NamedImpl). sees (world_of d) c i.item.home) (λ i. sees (world_of d) e i.item.home) (impl_terms_seen d c) d.impls in
+    omega (arith, structs, traits, impls)
 
 -- ---- what a session leaves is what its crate sees
 pub view-left : (d : Declarations) (id : CrateId) (depth handles : ℕ) (cx : SolverCx Solver) (graph : SearchState) (cache : Cached) → IsSessionWithin d id.index depth handles cx graph cache

@@ -10,14 +10,7 @@ use Rattle.declarations.specs.Held.{ImplHeld, AreHeld}
 use Rattle.declarations.specs.Items.{Items, HeldImpl, impl_in, written}
 use Rattle.declarations.specs.Promised.Elaboration.{Each}
 use Rattle.candidate_model.specs.Meaning.{SelfTypesBegin}
-
-each-of : {A : Type 0} (P : A → Type 0) (xs : List A) (x : A) → Each P xs → In x xs → P x
-each-of P [] x e i = absurd (in-nothing x i)
-each-of P (y ∷ xs) x e i = by (in-cases x y xs i) (λ j. each-of P xs x e.1 j)
-  where
-    by : (y ≡ x) ⊎ In x xs → (In x xs → P x) → P x
-    by (inl q) go = subst P q e.0
-    by (inr j) go = go j
+use Rattle.candidate_model.proofs.HeldViews.{each-of}
 
 -- those of the declarations as they are written
 pub self-types-begin : (es : List Entry) (d : Items) → AreHeld es d → SelfTypesBegin (written es d)

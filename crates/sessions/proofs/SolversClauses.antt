@@ -21,11 +21,7 @@ use Rattle.sessions.specs.Applying.{SolversClausesApply}
 use Rattle.sessions.proofs.ClausesApply.{texts-clauses-apply}
 use Rattle.type_terms.proofs.TermBasics.{sort-self as same-sort}
 use Rattle.sessions.proofs.GivenTexts.{text-given}
-
--- ---- sorts
-same-ones : (ss : List Sort) → same_sorts ss ss ≡ true
-same-ones [] = refl
-same-ones (s ∷ ss) = both (is_sort s s) (same_sorts ss ss) (same-sort s) (same-ones ss)
+use Rattle.sessions.proofs.Fitting.{same-ones}
 
 sort-is : (s t : Sort) → is_sort s t ≡ true → s ≡ t
 sort-is of_type of_type h = refl

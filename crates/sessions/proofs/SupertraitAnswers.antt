@@ -7,6 +7,7 @@ use Rattle.type_terms.specs.Promised.Proofs.{In, Every, HasProof}
 use Rattle.type_terms.specs.Promised.Rules.{strict_supertraits}
 use Rattle.type_terms.specs.Promised.Supers.{opaque_reference, SupersHold}
 use Rattle.type_terms.specs.Promised.Erased.{erased_reference, erased_impl}
+use Rattle.type_terms.specs.Promised.Label.{Label}
 use Rattle.type_terms.specs.Promised.Trees.{Trees, erase}
 use Rattle.type_terms.specs.Promised.Worlds.{World, CrateDecl, Reference, ImplDecl, view_of}
 use Rattle.type_terms.proofs.ProofEntries.{map-in}
@@ -53,7 +54,7 @@ use Rattle.sessions.proofs.ElaboratedClauses.{within-erased}
 use Rattle.sessions.proofs.OpaqueImpls.{declared-well, formed-view, header-formed, clauses-formed, super-formed, super-as-written}
 use Rattle.sessions.proofs.OpaqueTerms.{plain-opaque, reference-opaque-erased}
 use Rattle.sessions.proofs.OtherAnswers.{never-unsettled, refused-unproved, resolved-stays}
-use Rattle.sessions.proofs.ClosedValues.{closing}
+use Rattle.sessions.proofs.ClosedValues.{IsGround, closing}
 use Rattle.sessions.proofs.ProvedQuestions.{args-fixed, clean-fixed, filled-fixed, fixed-instance, fixed-proper, yes-proves}
 use Rattle.sessions.proofs.SeenPlainly.{rules-are, seen-begin, seen-erased}
 use Rattle.sessions.proofs.StrictSupertraits.{strict-among}
@@ -61,6 +62,8 @@ use Rattle.sessions.proofs.WithoutLifetimes.{FieldsAreErased, erased-is, supers-
 use Rattle.candidate_model.specs.Meaning.{SelfTypesBegin}
 use Rattle.sessions.proofs.GivenTexts.{text-given}
 use Rattle.type_terms.proofs.ListBasics.{take-map}
+use Rattle.candidate_model.proofs.Elaborating.{every-in as every-of}
+use Rattle.sessions.proofs.HeaderChecks.{get-map}
 
 -- ---- lists
 every-in : {A : Type 0} (P : A → Type 0) (xs : List A) → Every P xs → (x : A) → In x xs → P x
@@ -71,10 +74,6 @@ every-in P (y ∷ xs) h x i = by (in-cases x y xs i) (every-in P xs h.1 x)
     by (inl e) f = subst P e h.0
     by (inr j) f = f j
 
-every-of : {A : Type 0} (P : A → Type 0) (xs : List A) → ((x : A) → In x xs → P x) → Every P xs
-every-of P [] f = tt
-every-of P (x ∷ xs) f = (f x (here x xs), every-of P xs (λ y i. f y (there y x xs i)))
-
 in-take : {A : Type 0} (n : ℕ) (xs : List A) (x : A) → In x (take n xs) → In x xs
 in-take zero xs x i = absurd (in-nothing x i)
 in-take (suc n) [] x i = absurd (in-nothing x i)
@@ -83,14 +82,6 @@ in-take (suc n) (y ∷ xs) x i = by (in-cases x y (take n xs) i) (in-take n xs x
     by : (y ≡ x) ⊎ In x (take n xs) → (In x (take n xs) → In x xs) → In x (y ∷ xs)
     by (inl e) f = subst (λ z. In z (y ∷ xs)) e (here y xs)
     by (inr j) f = there x y xs (f j)
-
-get-map : {A B : Type 0} (f : A → B) (xs : List A) (n : ℕ) (x : A) → slice_get xs n ≡ Some x → slice_get (map f xs) n ≡ Some (f x)
-get-map f [] n x e = absurd cc
-get-map f (y ∷ xs) zero x e = ap Some (ap f (the-same y x e))
-  where
-    the-same : {A : Type 0} (a b : A) → Some a ≡ Some b → a ≡ b
-    the-same a b q = cc
-get-map f (y ∷ xs) (suc n) x e = get-map f xs n x e
 
 map-two : (f g h k : Reference → Reference) → ((r : Reference) → f (g r) ≡ h (k r)) → (rs : List Reference) → map f (map g rs) ≡ map h (map k rs)
 map-two f g h k e [] = refl
@@ -158,8 +149,9 @@ module _ (d : Declarations) (text : IsOfText d) (c : ℕ) (items : List Entry) (
           (resolved-stays (content fs t.values) (valued fs t.values) (goal_of F r).predicate (λ o. absurd (false-true o), made-labels is_fixed terms r.args fixed, tt))
           ∙ sym (stays-so (values_in (content fs t.values) []))
 
-      asked-closed : (fs : List Entry) (t : Table) (ready : Ready fs t) → reference_in (fact_under (closing fs t ready) (goal_of F r)) ≡ filled_reference [] [] (erased_reference r)
-      asked-closed fs t ready = ap (refer r.trait) (fixed-instance (closing fs t ready) r.args (args-fixed r.args fixed)) ∙ sym (stays-so [])
+      asked-closed : (fs : List Entry) (t : Table) (ready : Ready fs t) (ty ct : Label) (is : IsGround ty ct)
+          → reference_in (fact_under (closing fs t ready ty ct is) (goal_of F r)) ≡ filled_reference [] [] (erased_reference r)
+      asked-closed fs t ready ty ct is = ap (refer r.trait) (fixed-instance (closing fs t ready ty ct is) r.args (args-fixed r.args fixed)) ∙ sym (stays-so [])
 
       -- what it proves has a proof
       told-proved : SolverTells s depth F r Proved → HasProof U own (erased_reference r)
@@ -168,7 +160,7 @@ module _ (d : Declarations) (text : IsOfText d) (c : ℕ) (items : List Entry) (
           by : (a : ProveAnswer) → outcome_of a ≡ Proved → IsGoalAnswered s depth [] (goal_of F r) [] t.entries a → HasProof U own (erased_reference r)
           by (Yes values) e h =
               subst (λ x. HasProof U own x) (stays-so (map (λ v. erase (arg_trees t.entries v)) values.items))
-              (yes-proves d text c items decls seen [] E r (clauses-formed d text c items decls seen i stands) clean (fixed-proper r.args fixed) asked asked-closed depth depth t.entries values h).1
+              (yes-proves d text c items decls seen [] E r (clauses-formed d text c items decls seen i stands) clean (fixed-proper r.args fixed) asked asked-closed depth t.entries values h depth).1
           by IsUnproved e h = absurd cc
           by IsMaybe e h = absurd cc
 

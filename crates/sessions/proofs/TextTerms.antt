@@ -30,6 +30,7 @@ use Rattle.solver_completeness.specs.GoalSets.{begins_typed}
 use Rattle.solver_completeness.specs.RowWays.{autos_stand_once}
 use Rattle.solver_completeness.specs.FormedFacts.{EachNode, AreTypeSorts}
 use Rattle.solver_completeness.proofs.Basics.{are-types-append}
+use Rattle.sessions.proofs.AskedGoals.{not-false, head-is}
 
 -- ---- what is declared, and of which crates it is seen
 pub record Scope : Type 0 where
@@ -68,9 +69,6 @@ pub nodes-append : (P : Label → Trees → Type 0) (x y : Trees) → EachNode P
 nodes-append P none y h g = g
 nodes-append P (tree l c o) y h g = (h.0, h.1, nodes-append P o y h.2 g)
 
-head-is : (s t : Sort) (xs ys : List Sort) → s ∷ xs ≡ t ∷ ys → s ≡ t
-head-is s t xs ys e = cc
-
 begins-by : (x o : Trees) → sorts_of x ≡ of_type ∷ [] → begins_typed (x +++ o) ≡ true
 begins-by none o e = absurd cc
 begins-by (tree l c p) o e = ap (λ s. is_sort s of_type) (head-is (sort_of l) of_type (sorts_of p) [] e)
@@ -89,10 +87,6 @@ IsPlaced {A = A} number xs = (k : ℕ) (x : A) → slice_get xs k ≡ Some x →
 
 pub found-placed : {A : Type 0} (number : A → ℕ) (f : A → Bool) (xs : List A) (x : A) → IsPlaced number xs → find f xs ≡ Some x → slice_get xs (number x) ≡ Some x
 found-placed number f xs x p e = let q = found-at f xs x e in subst (λ k. slice_get xs k ≡ Some x) (sym (p q.0 x q.1)) q.1
-
-not-false : (b : Bool) → not b ≡ false → b ≡ true
-not-false true h = refl
-not-false false h = absurd cc
 
 true-false : (b : Bool) → b ≡ true → b ≡ false → ⊥
 true-false true h g = absurd cc

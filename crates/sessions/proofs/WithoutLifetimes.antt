@@ -22,7 +22,7 @@ use Rattle.type_terms.proofs.Members.{here, there, in-cases, in-nothing, same-nu
 use Rattle.type_terms.proofs.NoHolds.{member-each}
 use Rattle.type_terms.proofs.Supertraits.{flat-same}
 use Rattle.type_terms.proofs.TreeLaws.{erase-instantiate, nth-single-zero, nth-single-suc, single-nth}
-use Rattle.type_terms.proofs.Walking.{left, right}
+use Rattle.type_terms.proofs.Walking.{left, right, or-right as or-second}
 use Rattle.type_terms.specs.Made.{terms, is_made}
 use Rattle.type_terms.proofs.Made.{false-true}
 use Rattle.goal_evaluator.specs.Lists.{Every}
@@ -101,10 +101,6 @@ nth-plain (tree l c o) (suc i) h = nth-plain o i (next-shut is_unerased l c o h)
 or-first : (a b : Bool) → a ≡ true → a || b ≡ true
 or-first true b h = refl
 or-first false b h = absurd (false-true h)
-
-or-second : (a b : Bool) → b ≡ true → a || b ≡ true
-or-second true b h = refl
-or-second false b h = h
 
 kept-mentions : (j : ℕ) (l : Label) (c o : Trees) → is_kept l ≡ true → mentions j (tree l c o) ≡ mentions j c || mentions j o
 kept-mentions j (param s i) c o h = absurd (false-true h)

@@ -43,19 +43,12 @@ use Rattle.overlap_check.specs.Orphans.{HoldsParams, HeaderHoldsParams}
 use Rattle.overlap_check.specs.Written.{IsWrittenWell}
 use Rattle.sessions.specs.Checking.{ReadyAreWritten}
 use Rattle.sessions.proofs.Mentioned.{node-weaker, kept-node, mentioned-kept, standing-mentioned}
-
--- ---- lists and tests
-each-of : {A : Type 0} (P : A → Type 0) (xs : List A) → ((x : A) → In x xs → P x) → Each P xs
-each-of P [] f = tt
-each-of P (x ∷ xs) f = (f x (here x xs), each-of P xs (λ y i. f y (there y x xs i)))
+use Rattle.candidate_assembly.proofs.Fitting.{is-true as not-true}
+use Rattle.sessions.proofs.ClausesApply.{each-of}
 
 is-false : (b : Bool) → (b ≡ true → ⊥) → b ≡ false
 is-false true f = absurd (f refl)
 is-false false f = refl
-
-not-true : (b : Bool) → not b ≡ true → b ≡ false
-not-true true e = absurd (false-true e)
-not-true false e = refl
 
 -- ---- each parameter that is a type or a constant stands in a header that tells its kind
 same-label : (s : Sort) (i : ℕ) (l : Label) → is_this_param s i l ≡ is_label s i l

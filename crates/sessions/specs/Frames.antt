@@ -27,7 +27,7 @@ use Rattle.view_lowering.specs.Promised.Questions.{variable_kinds}
 use Rattle.sessions.specs.Asking.{asked_alone}
 use Rattle.sessions.specs.Proving.{asked_outside, goal_asking}
 use Rattle.sessions.specs.Tables.{table_of}
-use Rattle.sessions.specs.declared.settling.TheConstants.{MAX_ASKINGS}
+use Rattle.solver_graph.specs.declared.handle.TheConstants.{MAX_ASKINGS}
 
 -- The values are terms of their variables' kinds.
 abbrev pub AreTermsOfSorts : List Binding → Type 0

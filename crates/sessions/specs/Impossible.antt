@@ -26,7 +26,7 @@ use Rattle.solver_graph.specs.Contexts.{Asked, entries_of}
 use Rattle.solver_graph.specs.Evaluations.{IsFoundBySearch}
 use Rattle.solver_graph.specs.Results.{IsNotPlainWithin}
 use Rattle.solver_graph.specs.Roots.{fact_under}
-use Rattle.solver_graph.specs.Searching.{solver_meaning, world_of}
+use Rattle.solver_graph.specs.Searching.{solver_meaning, world_in}
 use Rattle.goal_frames.specs.Meanings.{HandlerMeaning}
 
 -- The trait reference as a goal without where-clauses.
@@ -61,7 +61,7 @@ module _ {Handler : Type 0} (handler : HandlerMeaning Handler) where
   -- The search gives the goal this answer.
   abbrev pub SearchAnswers : SolverCx Handler → SearchState → Table → TraitRef → AnswerTrees → Type 0
   SearchAnswers c s t r a =
-      IsFoundBySearch (solver_meaning handler) (world_of handler c) s.root_depth (asked_alone (entries_of c) t r) (Some a)
+      IsFoundBySearch (solver_meaning handler) (world_in handler c) s.root_depth (asked_alone (entries_of c) t r) (Some a)
 
   -- The search gives the goal an answer that is no refusal, or plain recursion within the graph's depth has none.
   abbrev pub SearchLeavesOpen : SolverCx Handler → SearchState → Table → TraitRef → Type 0

@@ -22,7 +22,7 @@ use Rattle.goal_frames.specs.declared.store.InputId.{InputId}
 use Rattle.goal_frames.specs.declared.store.ResponseId.{ResponseId}
 use Rattle.solver_graph.specs.Contexts.{entries_of, IsReady}
 use Rattle.solver_graph.specs.Evaluations.{asked_in, IsFoundBySearch}
-use Rattle.solver_graph.specs.Results.{IsNotPlainWithin}
+use Rattle.solver_graph.specs.Results.{IsCachedAnswer, IsNotPlainWithin}
 use Rattle.solver_graph.specs.Roots.{goal_in, fact_under, left_by}
 use Rattle.solver_graph.specs.Searching.{solver_meaning}
 use Rattle.solver_graph.specs.declared.context.SolverCx.{SolverCx}
@@ -47,7 +47,7 @@ module _ {Handler : Type 0} (handler : HandlerMeaning Handler) where
     pub depth : graph_left.root_depth ≡ graph.root_depth
     pub results : KeepsResults ks ls
     pub consistent : AreConsistent ks → AreConsistent ls
-    pub keeps : Search.Keeps m c d
+    pub keeps : Search.KeepsContext m c d
     pub entries : Keeps (entries_of c) (entries_of d)
     pub grows : Grows t u
     pub narrows : (s : Assignment) → Solves s (content (entries_of d) u.values) → Solves s (content (entries_of c) t.values)
@@ -63,6 +63,12 @@ module _ {Handler : Type 0} (handler : HandlerMeaning Handler) where
   abbrev pub GoalIsRefused : SolverCx Handler → SearchState → Table → Goal → Type 0
   GoalIsRefused c graph t g =
       (a : Option AnswerTrees) × IsFoundBySearch m (m.world c) graph.root_depth (asked_in PostAnalysis (entries_of c) t g) a
+      × (left_by (table_trees (entries_of c) t) (goal_in (entries_of c) t g) a ≡ None)
+
+  -- The cache that the search leaves has a result for the goal that the table refuses. Of a goal that ends in a conflict nothing says so.
+  abbrev pub RefusalIsKept : SolverCx Handler → SearchState → Table → Goal → SolverCx Handler → List (KnownResult InputId (Option ResponseId)) → Type 0
+  RefusalIsKept c graph t g d ls =
+      (a : Option AnswerTrees) × IsCachedAnswer m d ls graph.root_depth (asked_in PostAnalysis (entries_of c) t g) a
       × (left_by (table_trees (entries_of c) t) (goal_in (entries_of c) t g) a ≡ None)
 
   -- The search gives an answer that is no definite yes, or plain recursion has none within the depth.

@@ -23,8 +23,7 @@ use overlap_check::heads::headers_differ;
 use overlap_check::intersection::{ImplIntersection, impl_intersection};
 use overlap_check::orphans::first_orphan;
 use overlap_check::partners::pair_at;
-use search_graph::{GlobalCache, SearchGraph};
-use solver_graph::{SolverCx, SolverGraph};
+use solver_graph::{Search, SolverCx};
 use type_terms::kinds::Ty;
 use type_terms::{Fault, ImplId};
 
@@ -81,29 +80,27 @@ pub fn intersection_at(
 ///
 /// Everything stays at rest, after a fault too. Fails with `Memory` if memory is refused, or with `Full` if a table is full.
 pub fn overlap_at(
-    graph: &mut SearchGraph<SolverGraph<Solver>>,
-    cache: &mut GlobalCache<SolverGraph<Solver>>,
-    cx: &mut SolverCx<Solver>,
+    search: &mut Search<Solver>,
     later: ImplId,
     earlier: ImplId,
 ) -> Result<bool, Fault>
-    requires rest { SolverRests graph.old.root_depth cx.old graph.old cache.old }
-    requires numbers { HaveOwnNumbers (rules_in cx.old) }
-    ensures rest { SolverRests graph.old.root_depth cx.new graph.new cache.new }
-    ensures solving { solving_in cx.new ≡ solving_in cx.old }
-    ensures entries { Keeps cx.old.interner.entries cx.new.interner.entries }
-    ensures limits { KeepsLimits cx.old cx.new }
-    ensures judged { (d : Declarations) (c depth : ℕ) → IsSession d c depth cx.old graph.old cache.old
+    requires rest { SolverRests search.old.graph.root_depth search.old.cx search.old.graph search.old.cache }
+    requires numbers { HaveOwnNumbers (rules_in search.old.cx) }
+    ensures rest { SolverRests search.old.graph.root_depth search.new.cx search.new.graph search.new.cache }
+    ensures solving { solving_in search.new.cx ≡ solving_in search.old.cx }
+    ensures entries { Keeps search.old.cx.interner.entries search.new.cx.interner.entries }
+    ensures limits { KeepsLimits search.old.cx search.new.cx }
+    ensures judged { (d : Declarations) (c depth : ℕ) → IsSession d c depth search.old.cx search.old.graph search.old.cache
         → IfOk result (IsJudgedAt depth (view_in d c) c later.index earlier.index) }
-    ensures full { IfErr result (ContextFullAtLimit cx.new) }
+    ensures full { IfErr result (ContextFullAtLimit search.new.cx) }
 {
     rest_laws::<Solver>();
     ready_impls_are_written_well();
     open_pair_goals_are_possible();
-    let Some(mut found) = intersection_at(cx, later, earlier)? else {
+    let Some(mut found) = intersection_at(&mut search.cx, later, earlier)? else {
         return Ok(false);
     };
-    let refused = has_impossible_obligation(graph, cache, cx, &mut found)?;
+    let refused = has_impossible_obligation(search, &mut found)?;
     Ok(is_overlap(refused))
 }
 

@@ -4,7 +4,7 @@ ghost use Rattle.type_terms.specs.Promised.Handles.{Keeps};
 ghost use Rattle.infer_table.specs.Content.{Table, Ready, Grows, place_in};
 ghost use Rattle.declarations.specs.Held.{ReferenceHeld};
 ghost use Rattle.search_graph.specs.Cache.{AreJustified, AreConsistent, KeepsResults};
-ghost use Rattle.search_graph.specs.Meaning as Search;
+ghost use Rattle.search_graph.specs.Meaning as Searches;
 ghost use Rattle.solver_graph.specs.Contexts.{IsReady};
 ghost use Rattle.solver_graph.specs.Searching.{solver_meaning};
 ghost use Rattle.solver_graph.specs.Shortages.{ContextFullAtLimit, RootFullAtLimit};
@@ -15,8 +15,7 @@ use goal_frames::GoalHandler;
 use infer_table::goal::Goal;
 use infer_table::infer_ctxt::InferCtxt;
 use infer_table::terms::Snapshot;
-use search_graph::{GlobalCache, SearchGraph};
-use solver_graph::{GoalEvaluation, RootError, SolverCx, SolverGraph, evaluate_root_goal};
+use solver_graph::{GoalEvaluation, RootError, Search};
 use term_folds::predicate::{TraitPredicate, TraitRef};
 use type_terms::Fault;
 
@@ -31,68 +30,64 @@ use type_terms::Fault;
 ///
 /// rustc: `SolverDelegateEvalExt::root_goal_may_hold_with_depth`, with the opposite answer.
 pub fn is_impossible<H: GoalHandler>(
-    graph: &mut SearchGraph<SolverGraph<H>>,
-    cache: &mut GlobalCache<SolverGraph<H>>,
-    cx: &mut SolverCx<H>,
+    search: &mut Search<H>,
     table: &mut InferCtxt,
     trait_ref: TraitRef,
 ) -> Result<bool, Fault>
-    requires empty { graph.old.current_depth ≡ 0 }
-    requires cache { AreJustified (solver_meaning H.meaning) cx.old cache.old }
-    requires ready { IsReady H.meaning.IsReady cx.old }
-    requires table { Ready cx.old.interner.entries table.old }
-    requires held { ReferenceHeld cx.old.interner.entries trait_ref }
+    requires empty { search.old.graph.current_depth ≡ 0 }
+    requires cache { AreJustified (solver_meaning H.meaning) search.old.cx search.old.cache }
+    requires ready { IsReady H.meaning.IsReady search.old.cx }
+    requires table { Ready search.old.cx.interner.entries table.old }
+    requires held { ReferenceHeld search.old.cx.interner.entries trait_ref }
 
     // After a fault too.
-    ensures empty { graph.new.current_depth ≡ 0 }
-    ensures depth { graph.new.root_depth ≡ graph.old.root_depth }
-    ensures cache { AreJustified (solver_meaning H.meaning) cx.new cache.new }
-    ensures consistent { AreConsistent cache.old → AreConsistent cache.new }
-    ensures results { KeepsResults cache.old cache.new }
-    ensures ready { IsReady H.meaning.IsReady cx.new }
-    ensures keeps { Search.Keeps (solver_meaning H.meaning) cx.old cx.new }
-    ensures entries { Keeps cx.old.interner.entries cx.new.interner.entries }
+    ensures empty { search.new.graph.current_depth ≡ 0 }
+    ensures depth { search.new.graph.root_depth ≡ search.old.graph.root_depth }
+    ensures cache { AreJustified (solver_meaning H.meaning) search.new.cx search.new.cache }
+    ensures consistent { AreConsistent search.old.cache → AreConsistent search.new.cache }
+    ensures results { KeepsResults search.old.cache search.new.cache }
+    ensures ready { IsReady H.meaning.IsReady search.new.cx }
+    ensures keeps { Searches.KeepsContext (solver_meaning H.meaning) search.old.cx search.new.cx }
+    ensures entries { Keeps search.old.cx.interner.entries search.new.cx.interner.entries }
     ensures same { table.new ≡ table.old }
-    ensures impossible { IfOk result (λ refused. IsTrue refused → IsImpossible H.meaning cx.old table.old trait_ref) }
-    ensures left_open { IfOk result (λ refused. refused ≡ false → SearchLeavesOpen H.meaning cx.old graph.old table.old trait_ref) }
-    ensures full { IfErr result (ContextFullAtLimit cx.new) }
+    ensures impossible { IfOk result (λ refused. IsTrue refused → IsImpossible H.meaning search.old.cx table.old trait_ref) }
+    ensures left_open { IfOk result (λ refused. refused ≡ false → SearchLeavesOpen H.meaning search.old.cx search.old.graph table.old trait_ref) }
+    ensures full { IfErr result (ContextFullAtLimit search.new.cx) }
 {
-    let evaluated = evaluate_alone(graph, cache, cx, table, trait_ref);
+    let evaluated = evaluate_alone(search, table, trait_ref);
     is_refused(evaluated)
 }
 
 /// Evaluates a trait reference in coherence, alone over the table and without where-clauses. The values of its answer are taken back.
 fn evaluate_alone<H: GoalHandler>(
-    graph: &mut SearchGraph<SolverGraph<H>>,
-    cache: &mut GlobalCache<SolverGraph<H>>,
-    cx: &mut SolverCx<H>,
+    search: &mut Search<H>,
     table: &mut InferCtxt,
     trait_ref: TraitRef,
 ) -> Result<GoalEvaluation, RootError>
-    requires empty { graph.old.current_depth ≡ 0 }
-    requires cache { AreJustified (solver_meaning H.meaning) cx.old cache.old }
-    requires ready { IsReady H.meaning.IsReady cx.old }
-    requires table { Ready cx.old.interner.entries table.old }
-    requires held { ReferenceHeld cx.old.interner.entries trait_ref }
-    ensures empty { graph.new.current_depth ≡ 0 }
-    ensures depth { graph.new.root_depth ≡ graph.old.root_depth }
-    ensures cache { AreJustified (solver_meaning H.meaning) cx.new cache.new }
-    ensures consistent { AreConsistent cache.old → AreConsistent cache.new }
-    ensures results { KeepsResults cache.old cache.new }
-    ensures ready { IsReady H.meaning.IsReady cx.new }
-    ensures keeps { Search.Keeps (solver_meaning H.meaning) cx.old cx.new }
-    ensures entries { Keeps cx.old.interner.entries cx.new.interner.entries }
+    requires empty { search.old.graph.current_depth ≡ 0 }
+    requires cache { AreJustified (solver_meaning H.meaning) search.old.cx search.old.cache }
+    requires ready { IsReady H.meaning.IsReady search.old.cx }
+    requires table { Ready search.old.cx.interner.entries table.old }
+    requires held { ReferenceHeld search.old.cx.interner.entries trait_ref }
+    ensures empty { search.new.graph.current_depth ≡ 0 }
+    ensures depth { search.new.graph.root_depth ≡ search.old.graph.root_depth }
+    ensures cache { AreJustified (solver_meaning H.meaning) search.new.cx search.new.cache }
+    ensures consistent { AreConsistent search.old.cache → AreConsistent search.new.cache }
+    ensures results { KeepsResults search.old.cache search.new.cache }
+    ensures ready { IsReady H.meaning.IsReady search.new.cx }
+    ensures keeps { Searches.KeepsContext (solver_meaning H.meaning) search.old.cx search.new.cx }
+    ensures entries { Keeps search.old.cx.interner.entries search.new.cx.interner.entries }
     ensures same { table.new ≡ table.old }
-    ensures impossible { result ≡ Err RootError.NoSolution → IsImpossible H.meaning cx.old table.old trait_ref }
-    ensures left_open { IsNoRefusal result → SearchLeavesOpen H.meaning cx.old graph.old table.old trait_ref }
-    ensures full { IfErr result (RootFullAtLimit cx.new) }
+    ensures impossible { result ≡ Err RootError.NoSolution → IsImpossible H.meaning search.old.cx table.old trait_ref }
+    ensures left_open { IsNoRefusal result → SearchLeavesOpen H.meaning search.old.cx search.old.graph table.old trait_ref }
+    ensures full { IfErr result (RootFullAtLimit search.new.cx) }
 {
     let goal = Goal {
-        param_env: Vec::new(cx.alloc),
+        param_env: Vec::new(search.cx.alloc),
         predicate: TraitPredicate { trait_ref },
     };
     let place = table.snapshot();
-    let evaluated = evaluate_root_goal(graph, cache, cx, table, TypingMode::Coherence, &goal);
+    let evaluated = search.evaluate(table, TypingMode::Coherence, &goal);
     take_back(table, place);
     evaluated
 }

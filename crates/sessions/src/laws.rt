@@ -153,7 +153,7 @@ pub(crate) fn other_answers_are_right()
 // ---- what the answer `Yes` proves
 
 /// The answer `Yes` to a query of a text without a fault is right. There is a value of its kind for each variable. With these values the
-/// query's bound has a proof by its where-clauses and by what its crate sees, up to lifetimes.
+/// query's bound has a proof by its where-clauses and by what its crate sees, up to lifetimes. If it has one solution alone, these are it.
 pub(crate) fn yes_is_proved()
     ensures { YesIsRight }
 {}

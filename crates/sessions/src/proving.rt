@@ -41,8 +41,7 @@ use candidate_assembly::solver::Solver;
 use goal_frames::GoalHandler;
 use infer_table::goal::Goal;
 use infer_table::infer_ctxt::InferCtxt;
-use search_graph::{GlobalCache, SearchGraph};
-use solver_graph::{SolverCx, SolverGraph};
+use solver_graph::{Search, SolverCx};
 use std::alloc::{AllocError, Global};
 use term_folds::predicate::{Clause, TraitPredicate, TraitRef};
 use type_terms::Fault;
@@ -144,33 +143,37 @@ pub fn question_table_in<H: GoalHandler>(
 ///
 /// Everything stays at rest, after a fault too. Fails with `Memory` if memory is refused, or with `Full` if a table is full.
 fn ask_for<H: GoalHandler>(
-    graph: &mut SearchGraph<SolverGraph<H>>,
-    cache: &mut GlobalCache<SolverGraph<H>>,
-    cx: &mut SolverCx<H>,
+    search: &mut Search<H>,
     table: &mut InferCtxt,
     goal: &Goal,
     unknowns: &[GenericArgKind],
 ) -> Result<ProveAnswer, Fault>
-    requires rest { AreAtRest H.meaning graph.old.root_depth cx.old graph.old cache.old }
-    requires ready { Ready cx.old.interner.entries table.old }
+    requires rest { AreAtRest H.meaning search.old.graph.root_depth search.old.cx search.old.graph search.old.cache }
+    requires ready { Ready search.old.cx.interner.entries table.old }
     requires table { table.old ≡ table_of (map arg_sort unknowns.now) }
-    requires goal { GoalHeld cx.old.interner.entries goal.now }
-    requires unknowns { ArgsHeld cx.old.interner.entries unknowns.now }
-    ensures rest { AreAtRest H.meaning graph.old.root_depth cx.new graph.new cache.new }
-    ensures meaning { H.meaning.world cx.new.handler cx.new.interner.entries ≡ H.meaning.world cx.old.handler cx.old.interner.entries }
-    ensures keeps { Keeps cx.old.interner.entries cx.new.interner.entries }
-    ensures limits { KeepsLimits cx.old cx.new }
-    ensures held { IfOk result (AnswerValuesHeld cx.new.interner.entries) }
-    ensures answer { IfOk result (IsAnswered H.meaning (H.meaning.world cx.old.handler cx.old.interner.entries) graph.old.root_depth
-        (map arg_sort unknowns.now) (goal_trees cx.old.interner.entries goal.now)
-        (map (arg_trees cx.old.interner.entries) unknowns.now) cx.new.interner.entries) }
-    ensures frames { SettlesInFrames H.meaning (H.meaning.world cx.old.handler cx.old.interner.entries) graph.old.root_depth
-        (map arg_sort unknowns.now) (goal_trees cx.old.interner.entries goal.now) graph.old graph.new }
-    ensures full { IfErr result (ContextFullAtLimit cx.new) }
+    requires goal { GoalHeld search.old.cx.interner.entries goal.now }
+    requires unknowns { ArgsHeld search.old.cx.interner.entries unknowns.now }
+    ensures rest { AreAtRest H.meaning search.old.graph.root_depth search.new.cx search.new.graph search.new.cache }
+    ensures meaning { H.meaning.world search.new.cx.handler search.new.cx.interner.entries ≡ H.meaning.world search.old.cx.handler
+        search.old.cx.interner.entries }
+    ensures keeps { Keeps search.old.cx.interner.entries search.new.cx.interner.entries }
+    ensures limits { KeepsLimits search.old.cx search.new.cx }
+    ensures held { IfOk result (AnswerValuesHeld search.new.cx.interner.entries) }
+    ensures answer { IfOk result (IsAnswered H.meaning (H.meaning.world search.old.cx.handler search.old.cx.interner.entries) search.old.graph.root_depth
+        (map arg_sort unknowns.now) (goal_trees search.old.cx.interner.entries goal.now)
+        (map (arg_trees search.old.cx.interner.entries) unknowns.now) search.new.cx.interner.entries) }
+    ensures frames { SettlesInFrames H.meaning (H.meaning.world search.old.cx.handler search.old.cx.interner.entries) search.old.graph.root_depth
+        (map arg_sort unknowns.now) (goal_trees search.old.cx.interner.entries goal.now) search.old.graph search.new.graph }
+    ensures full { IfErr result (ContextFullAtLimit search.new.cx) }
 {
     rest_laws::<H>();
-    match ask_until_settled(graph, cache, cx, table, goal)? {
-        Outcome::Proved => read_values_in(cx, table, goal.predicate.trait_ref, unknowns),
+    match ask_until_settled(search, table, goal)? {
+        Outcome::Proved => read_values_in(
+            &mut search.cx,
+            table,
+            goal.predicate.trait_ref,
+            unknowns,
+        ),
         Outcome::Unproved => Ok(ProveAnswer::Unproved),
         Outcome::Maybe => Ok(ProveAnswer::Maybe),
     }
@@ -212,62 +215,61 @@ pub fn goal_under(alloc: Global, clauses: &[TraitRef], asked: TraitRef) -> Resul
 ///
 /// Everything stays at rest, after a fault too. Fails with `Memory` if memory is refused, or with `Full` if a table is full.
 pub(crate) fn prove_under(
-    graph: &mut SearchGraph<SolverGraph<Solver>>,
-    cache: &mut GlobalCache<SolverGraph<Solver>>,
-    cx: &mut SolverCx<Solver>,
+    search: &mut Search<Solver>,
     clauses: &[TraitRef],
     asked: TraitRef,
     unknowns: &[GenericArgKind],
 ) -> Result<ProveAnswer, Fault>
-    requires rest { SolverRests graph.old.root_depth cx.old graph.old cache.old }
-    requires clauses { TraitRefsHeld cx.old.interner.entries clauses.now }
-    requires asked { ReferenceHeld cx.old.interner.entries asked }
-    requires unknowns { ArgsHeld cx.old.interner.entries unknowns.now }
-    ensures rest { SolverRests graph.old.root_depth cx.new graph.new cache.new }
-    ensures solving { SolvesTheSame cx.old cx.new }
-    ensures keeps { Keeps cx.old.interner.entries cx.new.interner.entries }
-    ensures limits { KeepsLimits cx.old cx.new }
-    ensures held { IfOk result (AnswerValuesHeld cx.new.interner.entries) }
+    requires rest { SolverRests search.old.graph.root_depth search.old.cx search.old.graph search.old.cache }
+    requires clauses { TraitRefsHeld search.old.cx.interner.entries clauses.now }
+    requires asked { ReferenceHeld search.old.cx.interner.entries asked }
+    requires unknowns { ArgsHeld search.old.cx.interner.entries unknowns.now }
+    ensures rest { SolverRests search.old.graph.root_depth search.new.cx search.new.graph search.new.cache }
+    ensures solving { SolvesTheSame search.old.cx search.new.cx }
+    ensures keeps { Keeps search.old.cx.interner.entries search.new.cx.interner.entries }
+    ensures limits { KeepsLimits search.old.cx search.new.cx }
+    ensures held { IfOk result (AnswerValuesHeld search.new.cx.interner.entries) }
     ensures answer { IfOk result
-        (IsGoalAnswered (solving_of cx.old.interner.entries cx.old.handler.declarations) graph.old.root_depth (map arg_sort unknowns.now)
-        (goal_of (references_in cx.old.interner.entries clauses.now) (reference_in cx.old.interner.entries asked))
-        (map (arg_trees cx.old.interner.entries) unknowns.now) cx.new.interner.entries) }
+        (IsGoalAnswered (solving_of search.old.cx.interner.entries search.old.cx.handler.declarations) search.old.graph.root_depth (map arg_sort unknowns.now)
+        (goal_of (references_in search.old.cx.interner.entries clauses.now) (reference_in search.old.cx.interner.entries asked))
+        (map (arg_trees search.old.cx.interner.entries) unknowns.now) search.new.cx.interner.entries) }
     ensures frames { SettlesInFrames solver_by_view
-        (solving_of cx.old.interner.entries cx.old.handler.declarations) graph.old.root_depth (map arg_sort unknowns.now)
-        (goal_of (references_in cx.old.interner.entries clauses.now) (reference_in cx.old.interner.entries asked)) graph.old graph.new }
-    ensures full { IfErr result (ContextFullAtLimit cx.new) }
+        (solving_of search.old.cx.interner.entries search.old.cx.handler.declarations) search.old.graph.root_depth (map arg_sort unknowns.now)
+        (goal_of (references_in search.old.cx.interner.entries clauses.now) (reference_in search.old.cx.interner.entries asked)) search.old.graph
+        search.new.graph }
+    ensures full { IfErr result (ContextFullAtLimit search.new.cx) }
 {
     rest_laws::<Solver>();
     references_are_goals();
-    let goal = goal_under(cx.alloc, clauses, asked)?;
-    let mut table = question_table_in(cx, unknowns)?;
-    ask_for(graph, cache, cx, &mut table, &goal, unknowns)
+    let goal = goal_under(search.cx.alloc, clauses, asked)?;
+    let mut table = question_table_in(&mut search.cx, unknowns)?;
+    ask_for(search, &mut table, &goal, unknowns)
 }
 
 /// Evaluates a query of the context's terms outside coherence, under its where-clauses with all their supertraits.
 fn prove_lowered(
-    graph: &mut SearchGraph<SolverGraph<Solver>>,
-    cache: &mut GlobalCache<SolverGraph<Solver>>,
-    cx: &mut SolverCx<Solver>,
+    search: &mut Search<Solver>,
     lowered: &LoweredQuestion,
 ) -> Result<ProveAnswer, Fault>
-    requires rest { SolverRests graph.old.root_depth cx.old graph.old cache.old }
-    requires lowered { (q : Question) × IsLowered cx.old.interner.entries q lowered.now }
-    requires applied { AreApplied cx.old.interner.entries cx.old.handler.declarations lowered.now.clauses.items }
-    ensures rest { SolverRests graph.old.root_depth cx.new graph.new cache.new }
-    ensures solving { SolvesTheSame cx.old cx.new }
-    ensures keeps { Keeps cx.old.interner.entries cx.new.interner.entries }
-    ensures limits { KeepsLimits cx.old cx.new }
-    ensures held { IfOk result (AnswerValuesHeld cx.new.interner.entries) }
-    ensures answer { IfOk result (λ a. (q : Question) → IsLowered cx.old.interner.entries q lowered.now
-        → IsAnsweredInSearch (solving_of cx.old.interner.entries cx.old.handler.declarations) graph.old.root_depth q cx.new.interner.entries a) }
-    ensures frames { (q : Question) → IsLowered cx.old.interner.entries q lowered.now
-        → QuestionInFrames (solving_of cx.old.interner.entries cx.old.handler.declarations) graph.old.root_depth q graph.old graph.new }
-    ensures full { IfErr result (ContextFullAtLimit cx.new) }
+    requires rest { SolverRests search.old.graph.root_depth search.old.cx search.old.graph search.old.cache }
+    requires lowered { (q : Question) × IsLowered search.old.cx.interner.entries q lowered.now }
+    requires applied { AreApplied search.old.cx.interner.entries search.old.cx.handler.declarations lowered.now.clauses.items }
+    ensures rest { SolverRests search.old.graph.root_depth search.new.cx search.new.graph search.new.cache }
+    ensures solving { SolvesTheSame search.old.cx search.new.cx }
+    ensures keeps { Keeps search.old.cx.interner.entries search.new.cx.interner.entries }
+    ensures limits { KeepsLimits search.old.cx search.new.cx }
+    ensures held { IfOk result (AnswerValuesHeld search.new.cx.interner.entries) }
+    ensures answer { IfOk result (λ a. (q : Question) → IsLowered search.old.cx.interner.entries q lowered.now
+        → IsAnsweredInSearch (solving_of search.old.cx.interner.entries search.old.cx.handler.declarations) search.old.graph.root_depth q
+        search.new.cx.interner.entries a) }
+    ensures frames { (q : Question) → IsLowered search.old.cx.interner.entries q lowered.now
+        → QuestionInFrames (solving_of search.old.cx.interner.entries search.old.cx.handler.declarations) search.old.graph.root_depth q
+        search.old.graph search.new.graph }
+    ensures full { IfErr result (ContextFullAtLimit search.new.cx) }
 {
     rest_laws::<Solver>();
-    let clauses = elaborate_in(cx, &lowered.clauses)?;
-    prove_under(graph, cache, cx, &clauses, lowered.asked, &lowered.unknowns)
+    let clauses = elaborate_in(&mut search.cx, &lowered.clauses)?;
+    prove_under(search, &clauses, lowered.asked, &lowered.unknowns)
 }
 
 /// Answers the `prove` query with this number: its trait reference is evaluated outside coherence, under its where-clauses with all their
@@ -275,28 +277,33 @@ fn prove_lowered(
 ///
 /// Everything stays at rest, after a fault too. Fails with `Memory` if memory is refused, or with `Full` if a table is full.
 pub(crate) fn prove_question(
-    graph: &mut SearchGraph<SolverGraph<Solver>>,
-    cache: &mut GlobalCache<SolverGraph<Solver>>,
-    cx: &mut SolverCx<Solver>,
+    search: &mut Search<Solver>,
     workspace: &Workspace,
     number: u32,
 ) -> Result<ProveAnswer, Fault>
-    requires rest { SolverRests graph.old.root_depth cx.old graph.old cache.old }
+    requires rest { SolverRests search.old.graph.root_depth search.old.cx search.old.graph search.old.cache }
     requires question { (q : Question) × IsQuestion workspace.now number q }
-    requires applied { (q : Question) → IsQuestion workspace.now number q → ClausesApply cx.old.handler.declarations q }
-    ensures rest { SolverRests graph.old.root_depth cx.new graph.new cache.new }
-    ensures solving { SolvesTheSame cx.old cx.new }
-    ensures keeps { Keeps cx.old.interner.entries cx.new.interner.entries }
-    ensures limits { KeepsLimits cx.old cx.new }
-    ensures held { IfOk result (AnswerValuesHeld cx.new.interner.entries) }
+    requires applied { (q : Question) → IsQuestion workspace.now number q → ClausesApply search.old.cx.handler.declarations q }
+    ensures rest { SolverRests search.old.graph.root_depth search.new.cx search.new.graph search.new.cache }
+    ensures solving { SolvesTheSame search.old.cx search.new.cx }
+    ensures keeps { Keeps search.old.cx.interner.entries search.new.cx.interner.entries }
+    ensures limits { KeepsLimits search.old.cx search.new.cx }
+    ensures held { IfOk result (AnswerValuesHeld search.new.cx.interner.entries) }
     ensures answer { IfOk result (λ a. (q : Question) → IsQuestion workspace.now number q
-        → IsAnsweredBySolver (solving_of cx.old.interner.entries cx.old.handler.declarations) graph.old.root_depth q cx.new.interner.entries a) }
+        → IsAnsweredBySolver (solving_of search.old.cx.interner.entries search.old.cx.handler.declarations) search.old.graph.root_depth q
+        search.new.cx.interner.entries a) }
     ensures frames { (q : Question) → IsQuestion workspace.now number q
-        → QuestionInFrames (solving_of cx.old.interner.entries cx.old.handler.declarations) graph.old.root_depth q graph.old graph.new }
-    ensures full { IfErr result (ContextFullAtLimit cx.new) }
+        → QuestionInFrames (solving_of search.old.cx.interner.entries search.old.cx.handler.declarations) search.old.graph.root_depth q
+        search.old.graph search.new.graph }
+    ensures full { IfErr result (ContextFullAtLimit search.new.cx) }
 {
     rest_laws::<Solver>();
-    let lowered = lower_in(cx, workspace, number)?;
-    let answer = prove_lowered(graph, cache, cx, &lowered)?;
-    Ok(own_answer(&cx.interner, &cx.handler.declarations, &lowered, answer))
+    let lowered = lower_in(&mut search.cx, workspace, number)?;
+    let answer = prove_lowered(search, &lowered)?;
+    Ok(own_answer(
+        &search.cx.interner,
+        &search.cx.handler.declarations,
+        &lowered,
+        answer,
+    ))
 }

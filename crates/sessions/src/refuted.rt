@@ -28,8 +28,7 @@ use goal_evaluator::TypingMode;
 use goal_frames::GoalHandler;
 use infer_table::goal::Goal;
 use infer_table::infer_ctxt::InferCtxt;
-use search_graph::{GlobalCache, SearchGraph};
-use solver_graph::{GoalEvaluation, RootError, SolverCx, SolverGraph, evaluate_root_goal};
+use solver_graph::{GoalEvaluation, RootError, Search};
 use term_folds::predicate::{TraitPredicate, TraitRef};
 use type_terms::Fault;
 use view_lowering::LoweredQuestion;
@@ -39,40 +38,39 @@ use workspace::Workspace;
 ///
 /// A conflict refuses nothing. Fails with `Memory` if memory is refused, or with `Full` if a table is full.
 fn ask_in_coherence<H: GoalHandler>(
-    graph: &mut SearchGraph<SolverGraph<H>>,
-    cache: &mut GlobalCache<SolverGraph<H>>,
-    cx: &mut SolverCx<H>,
+    search: &mut Search<H>,
     table: &mut InferCtxt,
     asked: TraitRef,
 ) -> Result<RefuteAnswer, Fault>
-    requires rest { AreAtRest H.meaning graph.old.root_depth cx.old graph.old cache.old }
-    requires table { Ready cx.old.interner.entries table.old }
+    requires rest { AreAtRest H.meaning search.old.graph.root_depth search.old.cx search.old.graph search.old.cache }
+    requires table { Ready search.old.cx.interner.entries table.old }
     requires no_values { table.old.values ≡ [] }
-    requires held { Has cx.old.interner.entries args_lists asked.args.0 }
-    ensures rest { AreAtRest H.meaning graph.old.root_depth cx.new graph.new cache.new }
-    ensures meaning { H.meaning.world cx.new.handler cx.new.interner.entries ≡ H.meaning.world cx.old.handler cx.old.interner.entries }
-    ensures keeps { Keeps cx.old.interner.entries cx.new.interner.entries }
-    ensures limits { KeepsLimits cx.old cx.new }
+    requires held { Has search.old.cx.interner.entries args_lists asked.args.0 }
+    ensures rest { AreAtRest H.meaning search.old.graph.root_depth search.new.cx search.new.graph search.new.cache }
+    ensures meaning { H.meaning.world search.new.cx.handler search.new.cx.interner.entries ≡ H.meaning.world search.old.cx.handler
+        search.old.cx.interner.entries }
+    ensures keeps { Keeps search.old.cx.interner.entries search.new.cx.interner.entries }
+    ensures limits { KeepsLimits search.old.cx search.new.cx }
 
     // A trait reference that is refused has no proof, if it has variables of the table alone.
-    ensures no { result ≡ Ok RefuteAnswer.No → let r = reference_in cx.old.interner.entries asked in HasNoCanonical r.args
+    ensures no { result ≡ Ok RefuteAnswer.No → let r = reference_in search.old.cx.interner.entries asked in HasNoCanonical r.args
         → AreKnown (variables_of table.old) r.args
-        → HasNoProof (H.meaning.goals.handled (H.meaning.world cx.old.handler cx.old.interner.entries)) (goal_alone r) }
-    ensures refused { result ≡ Ok RefuteAnswer.No → (let w = H.meaning.world cx.old.handler cx.old.interner.entries in
-        IsRefusedAlone H.meaning w graph.old.root_depth (reference_in cx.old.interner.entries asked)) }
-    ensures open { result ≡ Ok RefuteAnswer.Open → (let w = H.meaning.world cx.old.handler cx.old.interner.entries in
-        IsLeftOpen H.meaning w graph.old.root_depth (reference_in cx.old.interner.entries asked)) }
+        → HasNoProof (H.meaning.goals.handled (H.meaning.world search.old.cx.handler search.old.cx.interner.entries)) (goal_alone r) }
+    ensures refused { result ≡ Ok RefuteAnswer.No → (let w = H.meaning.world search.old.cx.handler search.old.cx.interner.entries in
+        IsRefusedAlone H.meaning w search.old.graph.root_depth (reference_in search.old.cx.interner.entries asked)) }
+    ensures open { result ≡ Ok RefuteAnswer.Open → (let w = H.meaning.world search.old.cx.handler search.old.cx.interner.entries in
+        IsLeftOpen H.meaning w search.old.graph.root_depth (reference_in search.old.cx.interner.entries asked)) }
 
     // After a fault too.
-    ensures frames { let es = cx.old.interner.entries in
-        StartsFramesOfOne H.meaning (H.meaning.world cx.old.handler es) (reference_in es asked) graph.old graph.new }
-    ensures full { IfErr result (ContextFullAtLimit cx.new) }
+    ensures frames { let es = search.old.cx.interner.entries in
+        StartsFramesOfOne H.meaning (H.meaning.world search.old.cx.handler es) (reference_in es asked) search.old.graph search.new.graph }
+    ensures full { IfErr result (ContextFullAtLimit search.new.cx) }
 {
     let goal = Goal {
-        param_env: Vec::new(cx.alloc),
+        param_env: Vec::new(search.cx.alloc),
         predicate: TraitPredicate { trait_ref: asked },
     };
-    let evaluated = evaluate_root_goal(graph, cache, cx, table, TypingMode::Coherence, &goal);
+    let evaluated = search.evaluate(table, TypingMode::Coherence, &goal);
     answer_of(evaluated)
 }
 
@@ -92,62 +90,64 @@ fn answer_of(evaluated: Result<GoalEvaluation, RootError>) -> Result<RefuteAnswe
 
 /// Evaluates a query of the context's terms in coherence, over a new table.
 fn refute_lowered<H: GoalHandler>(
-    graph: &mut SearchGraph<SolverGraph<H>>,
-    cache: &mut GlobalCache<SolverGraph<H>>,
-    cx: &mut SolverCx<H>,
+    search: &mut Search<H>,
     lowered: &LoweredQuestion,
 ) -> Result<RefuteAnswer, Fault>
-    requires rest { AreAtRest H.meaning graph.old.root_depth cx.old graph.old cache.old }
-    requires lowered { (q : Question) × IsLowered cx.old.interner.entries q lowered.now }
-    ensures rest { AreAtRest H.meaning graph.old.root_depth cx.new graph.new cache.new }
-    ensures meaning { H.meaning.world cx.new.handler cx.new.interner.entries ≡ H.meaning.world cx.old.handler cx.old.interner.entries }
-    ensures keeps { Keeps cx.old.interner.entries cx.new.interner.entries }
-    ensures limits { KeepsLimits cx.old cx.new }
-    ensures no { result ≡ Ok RefuteAnswer.No → (q : Question) → IsLowered cx.old.interner.entries q lowered.now → HasVariablesAlone q
-        → HasNoProof (H.meaning.goals.handled (H.meaning.world cx.old.handler cx.old.interner.entries)) (goal_alone (unbound_reference q.asked)) }
-    ensures refused { result ≡ Ok RefuteAnswer.No → (q : Question) → IsLowered cx.old.interner.entries q lowered.now
-        → IsRefusedAlone H.meaning (H.meaning.world cx.old.handler cx.old.interner.entries) graph.old.root_depth (unbound_reference q.asked) }
-    ensures open { result ≡ Ok RefuteAnswer.Open → (q : Question) → IsLowered cx.old.interner.entries q lowered.now
-        → IsLeftOpen H.meaning (H.meaning.world cx.old.handler cx.old.interner.entries) graph.old.root_depth (unbound_reference q.asked) }
-    ensures frames { (q : Question) → IsLowered cx.old.interner.entries q lowered.now
-        → StartsFramesOfOne H.meaning (H.meaning.world cx.old.handler cx.old.interner.entries) (unbound_reference q.asked) graph.old graph.new }
-    ensures full { IfErr result (ContextFullAtLimit cx.new) }
+    requires rest { AreAtRest H.meaning search.old.graph.root_depth search.old.cx search.old.graph search.old.cache }
+    requires lowered { (q : Question) × IsLowered search.old.cx.interner.entries q lowered.now }
+    ensures rest { AreAtRest H.meaning search.old.graph.root_depth search.new.cx search.new.graph search.new.cache }
+    ensures meaning { H.meaning.world search.new.cx.handler search.new.cx.interner.entries ≡ H.meaning.world search.old.cx.handler
+        search.old.cx.interner.entries }
+    ensures keeps { Keeps search.old.cx.interner.entries search.new.cx.interner.entries }
+    ensures limits { KeepsLimits search.old.cx search.new.cx }
+    ensures no { result ≡ Ok RefuteAnswer.No → (q : Question) → IsLowered search.old.cx.interner.entries q lowered.now → HasVariablesAlone q
+        → HasNoProof (H.meaning.goals.handled (H.meaning.world search.old.cx.handler search.old.cx.interner.entries)) (goal_alone (unbound_reference q.asked)) }
+    ensures refused { result ≡ Ok RefuteAnswer.No → (q : Question) → IsLowered search.old.cx.interner.entries q lowered.now
+        → IsRefusedAlone H.meaning (H.meaning.world search.old.cx.handler search.old.cx.interner.entries) search.old.graph.root_depth
+        (unbound_reference q.asked) }
+    ensures open { result ≡ Ok RefuteAnswer.Open → (q : Question) → IsLowered search.old.cx.interner.entries q lowered.now
+        → IsLeftOpen H.meaning (H.meaning.world search.old.cx.handler search.old.cx.interner.entries) search.old.graph.root_depth (unbound_reference q.asked) }
+    ensures frames { (q : Question) → IsLowered search.old.cx.interner.entries q lowered.now
+        → StartsFramesOfOne H.meaning (H.meaning.world search.old.cx.handler search.old.cx.interner.entries) (unbound_reference q.asked)
+        search.old.graph search.new.graph }
+    ensures full { IfErr result (ContextFullAtLimit search.new.cx) }
 {
     rest_laws::<H>();
-    let mut table = question_table_in(cx, &lowered.unknowns)?;
-    ask_in_coherence(graph, cache, cx, &mut table, lowered.asked)
+    let mut table = question_table_in(&mut search.cx, &lowered.unknowns)?;
+    ask_in_coherence(search, &mut table, lowered.asked)
 }
 
 /// Answers the `refute` query with this number: its trait reference is evaluated in coherence, over a new table with its variables.
 ///
 /// Everything stays at rest, after a fault too. Fails with `Memory` if memory is refused, or with `Full` if a table is full.
 pub(crate) fn refute_question<H: GoalHandler>(
-    graph: &mut SearchGraph<SolverGraph<H>>,
-    cache: &mut GlobalCache<SolverGraph<H>>,
-    cx: &mut SolverCx<H>,
+    search: &mut Search<H>,
     workspace: &Workspace,
     number: u32,
 ) -> Result<RefuteAnswer, Fault>
-    requires rest { AreAtRest H.meaning graph.old.root_depth cx.old graph.old cache.old }
+    requires rest { AreAtRest H.meaning search.old.graph.root_depth search.old.cx search.old.graph search.old.cache }
     requires question { (q : Question) × IsQuestion workspace.now number q }
-    ensures rest { AreAtRest H.meaning graph.old.root_depth cx.new graph.new cache.new }
-    ensures meaning { H.meaning.world cx.new.handler cx.new.interner.entries ≡ H.meaning.world cx.old.handler cx.old.interner.entries }
-    ensures keeps { Keeps cx.old.interner.entries cx.new.interner.entries }
-    ensures limits { KeepsLimits cx.old cx.new }
+    ensures rest { AreAtRest H.meaning search.old.graph.root_depth search.new.cx search.new.graph search.new.cache }
+    ensures meaning { H.meaning.world search.new.cx.handler search.new.cx.interner.entries ≡ H.meaning.world search.old.cx.handler
+        search.old.cx.interner.entries }
+    ensures keeps { Keeps search.old.cx.interner.entries search.new.cx.interner.entries }
+    ensures limits { KeepsLimits search.old.cx search.new.cx }
 
     // The trait reference is made as an interner's terms are.
     ensures made { OnOk result ((q : Question) → IsQuestion workspace.now number q → is_made is_in_range terms (unbound_reference q.asked).args ≡ true) }
     ensures no { result ≡ Ok RefuteAnswer.No → (q : Question) → IsQuestion workspace.now number q → HasVariablesAlone q
-        → HasNoProof (H.meaning.goals.handled (H.meaning.world cx.old.handler cx.old.interner.entries)) (goal_alone (unbound_reference q.asked)) }
+        → HasNoProof (H.meaning.goals.handled (H.meaning.world search.old.cx.handler search.old.cx.interner.entries)) (goal_alone (unbound_reference q.asked)) }
     ensures refused { result ≡ Ok RefuteAnswer.No → (q : Question) → IsQuestion workspace.now number q
-        → IsRefusedAlone H.meaning (H.meaning.world cx.old.handler cx.old.interner.entries) graph.old.root_depth (unbound_reference q.asked) }
+        → IsRefusedAlone H.meaning (H.meaning.world search.old.cx.handler search.old.cx.interner.entries) search.old.graph.root_depth
+        (unbound_reference q.asked) }
     ensures open { result ≡ Ok RefuteAnswer.Open → (q : Question) → IsQuestion workspace.now number q
-        → IsLeftOpen H.meaning (H.meaning.world cx.old.handler cx.old.interner.entries) graph.old.root_depth (unbound_reference q.asked) }
+        → IsLeftOpen H.meaning (H.meaning.world search.old.cx.handler search.old.cx.interner.entries) search.old.graph.root_depth (unbound_reference q.asked) }
     ensures frames { (q : Question) → IsQuestion workspace.now number q
-        → StartsFramesOfOne H.meaning (H.meaning.world cx.old.handler cx.old.interner.entries) (unbound_reference q.asked) graph.old graph.new }
-    ensures full { IfErr result (ContextFullAtLimit cx.new) }
+        → StartsFramesOfOne H.meaning (H.meaning.world search.old.cx.handler search.old.cx.interner.entries) (unbound_reference q.asked)
+        search.old.graph search.new.graph }
+    ensures full { IfErr result (ContextFullAtLimit search.new.cx) }
 {
     rest_laws::<H>();
-    let lowered = lower_in(cx, workspace, number)?;
-    refute_lowered(graph, cache, cx, &lowered)
+    let lowered = lower_in(&mut search.cx, workspace, number)?;
+    refute_lowered(search, &lowered)
 }

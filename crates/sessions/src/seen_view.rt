@@ -2,7 +2,6 @@
 
 ghost use Rattle.std.specs.Prelude.{◌≡◌, ◌<◌, ◌≤◌, ◌+◌, length, IfOk, Err};
 ghost use Rattle.type_terms.specs.declared.interner.TheConstants.{MAX_HANDLES};
-ghost use Rattle.view_lowering.specs.Behind.{BeginsWith};
 ghost use Rattle.view_lowering.specs.MostTerms.{most_terms};
 ghost use Rattle.sessions.specs.SeenViews.{IsViewOf};
 ghost use Rattle.sessions.specs.Promised.Subjects.{IsOfText};
@@ -13,7 +12,7 @@ use std::alloc::Global;
 use type_terms::interner::Interner;
 use type_terms::{CrateId, Fault};
 use view_lowering::laws::impls_begin_declared;
-use view_lowering::{begins_with, lower_behind};
+use view_lowering::lower_behind;
 use workspace::Workspace;
 
 /// A view is passed on only while searches over its interner have started at most one frame for each 64 terms of the handle limit. A frame
@@ -22,8 +21,8 @@ const TERMS_FOR_A_FRAME: u32 = 64;
 
 /// What a crate of a text sees, lowered. `Session::into_view` leaves it.
 ///
-/// The session of a crate that sees all of it and more may begin with it, and lowers only what is new (`Session::behind`). The terms that
-/// the earlier session made stay in its interner.
+/// The session of another crate may begin with it, and lowers only what is new behind what both crates see alike (`Session::behind`). The
+/// terms that the earlier session made stay in its interner, also those of what is removed.
 pub struct SeenView {
     /// The crate that sees it.
     pub crate_id: CrateId,
@@ -71,7 +70,7 @@ impl SeenView {
         })
     }
 
-    /// What a crate sees that sees all of this first: only what is new is lowered. The errors are those of `lower`.
+    /// What another crate sees: only what is new behind what both see alike is lowered. The errors are those of `lower`.
     fn grown(
         self,
         alloc: Global,
@@ -82,7 +81,6 @@ impl SeenView {
         requires text { IsOfText workspace.now }
         requires declared { crate_id.index < length workspace.now.crates }
         requires view { IsViewOf workspace.now self.crate_id.index handles self }
-        requires begins { BeginsWith workspace.now crate_id.index self.crate_id.index }
         ensures view { IfOk result (IsViewOf workspace.now crate_id.index handles) }
         ensures of_crate { IfOk result (λ view. view.crate_id ≡ crate_id) }
         ensures full { result ≡ Err Fault.Full → handles ≤ length self.interner.entries + most_terms workspace.now crate_id.index }
@@ -111,8 +109,8 @@ impl SeenView {
         })
     }
 
-    /// What another crate sees. It grows from this one if that sees all of it first and few frames were started. Otherwise it is lowered
-    /// into a new interner. The errors are those of `lower`.
+    /// What another crate sees. It grows from this one if few frames were started. Otherwise it is lowered into a new interner. The errors
+    /// are those of `lower`.
     pub(crate) fn handed_on(
         self,
         alloc: Global,
@@ -129,7 +127,7 @@ impl SeenView {
         ensures full { result ≡ Err Fault.Full → handles ≤ length self.interner.entries + most_terms workspace.now crate_id.index }
     {
         let few = self.frames <= u64::from(handles / TERMS_FOR_A_FRAME);
-        if few && begins_with(workspace, self.crate_id, crate_id) {
+        if few {
             return self.grown(alloc, workspace, crate_id, handles);
         }
         drop(self);

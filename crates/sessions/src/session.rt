@@ -47,7 +47,7 @@ use orphan_check::errors::OrphanCheckErr;
 use overlap_check::{accepted_sets_have_one_impl, answers_hold_in_linked_sets};
 use proof_checker::steps::Step;
 use search_graph::{GlobalCache, SearchGraph};
-use solver_graph::{SolverCx, SolverGraph};
+use solver_graph::{Search, SolverCx};
 use std::alloc::{AllocError, Global};
 use std::marker::Model;
 use std::mem;
@@ -71,9 +71,7 @@ pub struct Session<'w> {
     pub workspace: &'w Workspace,
     pub crate_id: CrateId,
     pub limits: Limits,
-    pub cx: SolverCx<Solver>,
-    pub graph: SearchGraph<SolverGraph<Solver>>,
-    pub cache: GlobalCache<SolverGraph<Solver>>,
+    pub search: Search<Solver>,
     /// How many frames earlier sessions over the interner have started.
     pub frames_before: u64,
 }
@@ -85,9 +83,7 @@ impl Drop for Session<'_> {
             workspace: _,
             crate_id: _,
             limits: _,
-            cx: _,
-            graph: _,
-            cache: _,
+            search: _,
             frames_before: _,
         } = self;
     }
@@ -110,13 +106,13 @@ impl<'w> Model for Session<'w> {
       of_crate = s.crate_id.index;
       depth = s.limits.depth;
       handles = s.limits.handles;
-      terms = s.cx.interner.entries;
-      goals = length (kept_inputs s.cx.store);
-      answers = length (kept_responses s.cx.store);
-      frames = s.graph.frames;
+      terms = s.search.cx.interner.entries;
+      goals = length (kept_inputs s.search.cx.store);
+      answers = length (kept_responses s.search.cx.store);
+      frames = s.search.graph.frames;
     } };
 
-    ghost invariant = { λ s. IsSessionWithin s.workspace.now s.crate_id.index s.limits.depth s.limits.handles s.cx s.graph s.cache };
+    ghost invariant = { λ s. IsSessionWithin s.workspace.now s.crate_id.index s.limits.depth s.limits.handles s.search.cx s.search.graph s.search.cache };
 }
 
 impl<'w> Session<'w> {
@@ -146,9 +142,9 @@ impl<'w> Session<'w> {
 
     /// A session for a crate of a text that begins with the view that the session of another crate left (`into_view`).
     ///
-    /// If what the crate sees begins with what the other one sees, only what is new is lowered. Otherwise, or if searches over the view's
-    /// interner have started many frames, the view is dropped and everything is lowered, as `new` does. Each call promises the same as of a
-    /// session that `new` makes.
+    /// The first items of the text that both crates see alike stay, and only what this crate sees behind them is lowered. If searches over
+    /// the view's interner have started many frames, the view is dropped and everything is lowered, as `new` does. Each call promises the
+    /// same as of a session that `new` makes.
     ///
     /// Fails with `Memory` if memory is refused, and with `Full` as `new` does, but the terms that the view holds count too. So a table may
     /// be full sooner than in a new session, here and at a later call.
@@ -224,9 +220,7 @@ impl<'w> Session<'w> {
             workspace,
             crate_id,
             limits,
-            cx,
-            graph,
-            cache,
+            search: Search { graph, cache, cx },
             frames_before,
         })
     }
@@ -240,20 +234,18 @@ impl<'w> Session<'w> {
             workspace: _,
             crate_id,
             limits: _,
-            mut cx,
-            graph,
-            cache: _,
+            mut search,
             frames_before,
         } = self;
-        let no_terms = Interner::new(cx.alloc, 0);
-        let nothing = Solver::new(Declarations::new(cx.alloc, crate_id));
-        let interner = mem::replace(&mut cx.interner, no_terms);
-        let solver = mem::replace(&mut cx.handler, nothing);
+        let no_terms = Interner::new(search.cx.alloc, 0);
+        let nothing = Solver::new(Declarations::new(search.cx.alloc, crate_id));
+        let interner = mem::replace(&mut search.cx.interner, no_terms);
+        let solver = mem::replace(&mut search.cx.handler, nothing);
         SeenView {
             crate_id,
             interner,
             declarations: solver.declarations,
-            frames: frames_before.saturating_add(graph.frames()),
+            frames: frames_before.saturating_add(search.graph.frames()),
         }
     }
 
@@ -307,7 +299,7 @@ impl<'w> Session<'w> {
         ensures full { IfErr result (SessionFullAtLimit self.new) }
     {
         rest_laws::<Solver>();
-        first_broken_header(&mut self.cx, end)
+        first_broken_header(&mut self.search.cx, end)
     }
 
     /// A pair that the crate brings together and that overlaps, if there is one. The search returns the one whose own impl has the smallest
@@ -338,9 +330,9 @@ impl<'w> Session<'w> {
         ensures { IfOk result (ListsSeen self.now) }
     {
         ImplsByTrait::of_declarations(
-            self.cx.alloc,
-            &self.cx.interner,
-            &self.cx.handler.declarations,
+            self.search.cx.alloc,
+            &self.search.cx.interner,
+            &self.search.cx.handler.declarations,
             end,
         )
     }
@@ -351,9 +343,9 @@ impl<'w> Session<'w> {
         ensures { IfOk result (λ ids. HavePartnersSeen self.now later.index ids.items) }
     {
         impls.partners_of(
-            self.cx.alloc,
-            &self.cx.interner,
-            &self.cx.handler.declarations,
+            self.search.cx.alloc,
+            &self.search.cx.interner,
+            &self.search.cx.handler.declarations,
             later,
         )
     }
@@ -386,13 +378,7 @@ impl<'w> Session<'w> {
         ensures stays { StaysOn self.old self.new }
         ensures full { IfErr result (SessionFullAtLimit self.new) }
     {
-        overlap_at(
-            &mut self.graph,
-            &mut self.cache,
-            &mut self.cx,
-            later,
-            earlier,
-        )
+        overlap_at(&mut self.search, later, earlier)
     }
 
     /// The terms of the session. The handles of its answers are of this interner.
@@ -400,7 +386,7 @@ impl<'w> Session<'w> {
         ensures terms { result.now.entries ≡ self.now.terms }
         ensures limit { result.now.limit ≡ self.now.handles }
     {
-        &self.cx.interner
+        &self.search.cx.interner
     }
 
     /// How many frames this session has started since it was made, or the greatest `u64` if there were more. Each evaluation of a goal is
@@ -408,7 +394,7 @@ impl<'w> Session<'w> {
     pub fn frames(&self) -> u64
         ensures { result ≡ self.now.frames }
     {
-        self.graph.frames()
+        self.search.graph.frames()
     }
 
     /// Whether a later version of this crate may add the impls of a section. Sections count from 0.
@@ -433,7 +419,7 @@ impl<'w> Session<'w> {
     {
         rest_laws::<Solver>();
         added_impls_break_no_user();
-        later_answer(&mut self.cx, self.workspace, section)
+        later_answer(&mut self.search.cx, self.workspace, section)
     }
 
     /// Whether each impl of this crate has the supertraits of its header proved from its where-clauses, whatever its parameters stand for.
@@ -483,7 +469,7 @@ impl<'w> Session<'w> {
         ensures full { IfErr result (SessionFullAtLimit self.new) }
     {
         impls_apply();
-        header_answer_at(&mut self.graph, &mut self.cache, &mut self.cx, id)
+        header_answer_at(&mut self.search, id)
     }
 
     /// Whether the reference of a `prove` question of this crate has a proof, by what the crate sees of the text and by the question's
@@ -492,7 +478,8 @@ impl<'w> Session<'w> {
     /// It is asked outside coherence, under the where-clauses with all their supertraits, and again until an answer brings no more values.
     /// `Yes` has a value for each of the question's variables, in their order: with them the reference has a proof, in which parameters, and
     /// variables that a value leaves, stand for themselves. The values name only what the crate sees; what is open in them are unknowns and
-    /// parameters that the question names. `Unproved` says that the search found none, and `Maybe` that it does not know.
+    /// parameters that the question names. If the reference has one solution alone, the values are that one. `Unproved` says that the search
+    /// found none, and `Maybe` that it does not know.
     /// A reference is decided if it has no variables, its chains of premises are shorter than the depth, and at each step one rule at most
     /// has premises with proofs: of such a one `Unproved` says that it has no proof, and `Maybe` is never said. The fault is `Memory` where
     /// memory is refused, or `Full` where a table of the session is full.
@@ -501,7 +488,8 @@ impl<'w> Session<'w> {
     pub fn prove(&mut self, number: u32) -> Result<ProveAnswer, Fault>
         requires { (q : Question) × AsksProof self.old.declarations self.old.of_crate number q }
 
-        // With the values of `Yes` there is a proof. For an unambiguous query the answer is `Yes`, or `Unproved` if there is no proof.
+        // With the values of `Yes` there is a proof, and if there is one solution alone they are it. For an unambiguous query the answer is
+        // `Yes`, or `Unproved` if there is no proof.
         ensures answer { (q : Question) → AsksProof self.old.declarations self.old.of_crate number q
             → IfOk result (λ a. IsProved self.old.depth self.old.declarations q (answer_in self.new.terms a)) }
         ensures held { IfOk result (AnswerValuesHeld self.new.terms) }
@@ -514,13 +502,7 @@ impl<'w> Session<'w> {
         clauses_apply();
         yes_is_proved();
         other_answers_are_right();
-        prove_question(
-            &mut self.graph,
-            &mut self.cache,
-            &mut self.cx,
-            self.workspace,
-            number,
-        )
+        prove_question(&mut self.search, self.workspace, number)
     }
 
     /// Whether steps are a proof of the trait reference of a `prove` query of this crate: by what the crate sees, by the query's
@@ -546,7 +528,7 @@ impl<'w> Session<'w> {
         ensures frames { self.new.frames ≡ self.old.frames }
     {
         rest_laws::<Solver>();
-        is_proof_of_question(&mut self.cx, self.workspace, number, values, steps)
+        is_proof_of_question(&mut self.search.cx, self.workspace, number, values, steps)
     }
 
     /// Whether the trait reference of a `refute` query of this crate is refused: it has no proof in any linked set with the crate, whatever
@@ -569,12 +551,6 @@ impl<'w> Session<'w> {
         ensures full { IfErr result (SessionFullAtLimit self.new) }
     {
         refutations_have_variables_alone();
-        refute_question(
-            &mut self.graph,
-            &mut self.cache,
-            &mut self.cx,
-            self.workspace,
-            number,
-        )
+        refute_question(&mut self.search, self.workspace, number)
     }
 }

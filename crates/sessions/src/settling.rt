@@ -4,19 +4,15 @@
 ghost use Rattle.std.specs.Prelude.{◌≡◌, ◌-◌, Ok, IfErr};
 ghost use Rattle.solver_graph.specs.Shortages.{ContextFullAtLimit};
 ghost use Rattle.sessions.specs.Frames.{AskingsOf, IsLeftByAnswer, StartsFramesOfAsking};
-ghost use Rattle.sessions.specs.declared.settling.TheConstants.{MAX_ASKINGS};
-ghost use Rattle.sessions.specs.Settling.{IsAskable, HasAsked, IsProvedBy, GoalIsRefused, IsUnsettled};
+ghost use Rattle.solver_graph.specs.declared.handle.TheConstants.{MAX_ASKINGS};
+ghost use Rattle.sessions.specs.Settling.{IsAskable, HasAsked, IsProvedBy, GoalIsRefused, RefusalIsKept, IsUnsettled};
 
 use goal_evaluator::{Certainty, HasChanged, TypingMode};
 use goal_frames::GoalHandler;
 use infer_table::goal::Goal;
 use infer_table::infer_ctxt::InferCtxt;
-use search_graph::{GlobalCache, SearchGraph};
-use solver_graph::{RootError, SolverCx, SolverGraph, evaluate_root_goal};
+use solver_graph::{MAX_ASKINGS, RootError, Search};
 use type_terms::Fault;
-
-/// How often a goal is evaluated at most. The values of one answer may make the next one definite.
-pub const MAX_ASKINGS: u32 = 8;
 
 /// What is known of a query's goal at the end.
 #[derive(Clone, Copy)]
@@ -73,25 +69,24 @@ fn read_error(error: RootError) -> Result<Asking, Fault>
 
 /// Evaluates the goal once, outside coherence. The answer's values stay in the table.
 fn ask_once<H: GoalHandler>(
-    graph: &mut SearchGraph<SolverGraph<H>>,
-    cache: &mut GlobalCache<SolverGraph<H>>,
-    cx: &mut SolverCx<H>,
+    search: &mut Search<H>,
     table: &mut InferCtxt,
     goal: &Goal,
 ) -> Result<Asking, Fault>
-    requires { IsAskable H.meaning graph.old cache.old cx.old table.old goal.now }
-    ensures again { IsAskable H.meaning graph.new cache.new cx.new table.new goal.now }
-    ensures asked { HasAsked H.meaning graph.old cache.old cx.old table.old graph.new cache.new cx.new table.new }
+    requires { IsAskable H.meaning search.old.graph search.old.cache search.old.cx table.old goal.now }
+    ensures again { IsAskable H.meaning search.new.graph search.new.cache search.new.cx table.new goal.now }
+    ensures asked { HasAsked H.meaning search.old.graph search.old.cache search.old.cx table.old search.new.graph search.new.cache search.new.cx table.new }
     ensures holds { result ≡ Ok Asking.Holds
-        → IsProvedBy H.meaning (H.meaning.world cx.old.handler cx.old.interner.entries) cx.old table.old cx.new table.new goal.now }
-    ensures changes { result ≡ Ok Asking.Changes → IsUnsettled H.meaning cx.old graph.old table.old goal.now }
-    ensures unsure { result ≡ Ok Asking.IsUnsure → IsUnsettled H.meaning cx.old graph.old table.old goal.now }
-    ensures refused { result ≡ Ok Asking.IsRefused → GoalIsRefused H.meaning cx.old graph.old table.old goal.now }
-    ensures full { IfErr result (ContextFullAtLimit cx.new) }
-    ensures frames { StartsFramesOfAsking H.meaning cx.old graph.old table.old goal.now graph.new }
-    ensures left { result ≡ Ok Asking.Changes → IsLeftByAnswer H.meaning cx.old graph.old table.old goal.now cx.new table.new }
+        → IsProvedBy H.meaning (H.meaning.world search.old.cx.handler search.old.cx.interner.entries) search.old.cx table.old search.new.cx table.new goal.now }
+    ensures changes { result ≡ Ok Asking.Changes → IsUnsettled H.meaning search.old.cx search.old.graph table.old goal.now }
+    ensures unsure { result ≡ Ok Asking.IsUnsure → IsUnsettled H.meaning search.old.cx search.old.graph table.old goal.now }
+    ensures refused { result ≡ Ok Asking.IsRefused → GoalIsRefused H.meaning search.old.cx search.old.graph table.old goal.now }
+    ensures kept { result ≡ Ok Asking.IsRefused → RefusalIsKept H.meaning search.old.cx search.old.graph table.old goal.now search.new.cx search.new.cache }
+    ensures full { IfErr result (ContextFullAtLimit search.new.cx) }
+    ensures frames { StartsFramesOfAsking H.meaning search.old.cx search.old.graph table.old goal.now search.new.graph }
+    ensures left { result ≡ Ok Asking.Changes → IsLeftByAnswer H.meaning search.old.cx search.old.graph table.old goal.now search.new.cx table.new }
 {
-    match evaluate_root_goal(graph, cache, cx, table, TypingMode::PostAnalysis, goal) {
+    match search.evaluate(table, TypingMode::PostAnalysis, goal) {
         Ok(evaluation) => Ok(read(evaluation.certainty, evaluation.has_changed)),
         Err(error) => read_error(error),
     }
@@ -100,23 +95,21 @@ fn ask_once<H: GoalHandler>(
 /// Evaluates a goal again whose last answer had values, as often as is still allowed. A refusal now does not say that there is no proof,
 /// because the values need not be forced.
 fn ask_again<H: GoalHandler>(
-    graph: &mut SearchGraph<SolverGraph<H>>,
-    cache: &mut GlobalCache<SolverGraph<H>>,
-    cx: &mut SolverCx<H>,
+    search: &mut Search<H>,
     table: &mut InferCtxt,
     goal: &Goal,
 ) -> Result<Outcome, Fault>
-    requires { IsAskable H.meaning graph.old cache.old cx.old table.old goal.now }
-    ensures again { IsAskable H.meaning graph.new cache.new cx.new table.new goal.now }
-    ensures asked { HasAsked H.meaning graph.old cache.old cx.old table.old graph.new cache.new cx.new table.new }
+    requires { IsAskable H.meaning search.old.graph search.old.cache search.old.cx table.old goal.now }
+    ensures again { IsAskable H.meaning search.new.graph search.new.cache search.new.cx table.new goal.now }
+    ensures asked { HasAsked H.meaning search.old.graph search.old.cache search.old.cx table.old search.new.graph search.new.cache search.new.cx table.new }
     ensures proved { result ≡ Ok Outcome.Proved
-        → IsProvedBy H.meaning (H.meaning.world cx.old.handler cx.old.interner.entries) cx.old table.old cx.new table.new goal.now }
+        → IsProvedBy H.meaning (H.meaning.world search.old.cx.handler search.old.cx.interner.entries) search.old.cx table.old search.new.cx table.new goal.now }
     ensures not_unproved { result ≡ Ok Outcome.Unproved → ⊥ }
-    ensures full { IfErr result (ContextFullAtLimit cx.new) }
-    ensures frames { AskingsOf H.meaning (MAX_ASKINGS - 1) cx.old graph.old table.old goal.now graph.new }
+    ensures full { IfErr result (ContextFullAtLimit search.new.cx) }
+    ensures frames { AskingsOf H.meaning (MAX_ASKINGS - 1) search.old.cx search.old.graph table.old goal.now search.new.graph }
 {
     for _asking in 1..MAX_ASKINGS {
-        match ask_once(graph, cache, cx, table, goal)? {
+        match ask_once(search, table, goal)? {
             Asking::Holds => return Ok(Outcome::Proved),
             Asking::Changes => {}
             Asking::IsUnsure | Asking::IsRefused => return Ok(Outcome::Maybe),
@@ -140,26 +133,27 @@ fn ask_again<H: GoalHandler>(
 ///
 /// rustc: `evaluate_root_goal` in the loop of `FulfillmentCtxt` of `rustc_trait_selection`, for one goal.
 pub fn ask_until_settled<H: GoalHandler>(
-    graph: &mut SearchGraph<SolverGraph<H>>,
-    cache: &mut GlobalCache<SolverGraph<H>>,
-    cx: &mut SolverCx<H>,
+    search: &mut Search<H>,
     table: &mut InferCtxt,
     goal: &Goal,
 ) -> Result<Outcome, Fault>
-    requires { IsAskable H.meaning graph.old cache.old cx.old table.old goal.now }
-    ensures again { IsAskable H.meaning graph.new cache.new cx.new table.new goal.now }
-    ensures asked { HasAsked H.meaning graph.old cache.old cx.old table.old graph.new cache.new cx.new table.new }
+    requires { IsAskable H.meaning search.old.graph search.old.cache search.old.cx table.old goal.now }
+    ensures again { IsAskable H.meaning search.new.graph search.new.cache search.new.cx table.new goal.now }
+    ensures asked { HasAsked H.meaning search.old.graph search.old.cache search.old.cx table.old search.new.graph search.new.cache search.new.cx table.new }
     ensures proved { result ≡ Ok Outcome.Proved
-        → IsProvedBy H.meaning (H.meaning.world cx.old.handler cx.old.interner.entries) cx.old table.old cx.new table.new goal.now }
-    ensures unproved { result ≡ Ok Outcome.Unproved → GoalIsRefused H.meaning cx.old graph.old table.old goal.now }
-    ensures maybe { result ≡ Ok Outcome.Maybe → IsUnsettled H.meaning cx.old graph.old table.old goal.now }
-    ensures full { IfErr result (ContextFullAtLimit cx.new) }
-    ensures frames { AskingsOf H.meaning MAX_ASKINGS cx.old graph.old table.old goal.now graph.new }
+        → IsProvedBy H.meaning (H.meaning.world search.old.cx.handler search.old.cx.interner.entries) search.old.cx table.old search.new.cx table.new goal.now }
+    ensures unproved { result ≡ Ok Outcome.Unproved → GoalIsRefused H.meaning search.old.cx search.old.graph table.old goal.now }
+
+    // The search found the refusal, and the cache has it. Of a goal that ends in a conflict nothing says so.
+    ensures kept { result ≡ Ok Outcome.Unproved → RefusalIsKept H.meaning search.old.cx search.old.graph table.old goal.now search.new.cx search.new.cache }
+    ensures maybe { result ≡ Ok Outcome.Maybe → IsUnsettled H.meaning search.old.cx search.old.graph table.old goal.now }
+    ensures full { IfErr result (ContextFullAtLimit search.new.cx) }
+    ensures frames { AskingsOf H.meaning MAX_ASKINGS search.old.cx search.old.graph table.old goal.now search.new.graph }
 {
-    match ask_once(graph, cache, cx, table, goal)? {
+    match ask_once(search, table, goal)? {
         Asking::Holds => Ok(Outcome::Proved),
         Asking::IsRefused => Ok(Outcome::Unproved),
         Asking::IsUnsure => Ok(Outcome::Maybe),
-        Asking::Changes => ask_again(graph, cache, cx, table, goal),
+        Asking::Changes => ask_again(search, table, goal),
     }
 }

@@ -26,8 +26,7 @@ use crate::settling::Outcome;
 use candidate_assembly::solver::Solver;
 use declarations::declarations::Declarations;
 use declarations::items::ImplDef;
-use search_graph::{GlobalCache, SearchGraph};
-use solver_graph::{SolverCx, SolverGraph};
+use solver_graph::{Search, SolverCx};
 use std::alloc::Global;
 use term_folds::predicate::TraitRef;
 use type_terms::interner::Interner;
@@ -122,24 +121,22 @@ pub fn own_goals_in(cx: &mut SolverCx<Solver>, id: ImplId) -> Result<Option<Supe
 ///
 /// Everything stays at rest, after a fault too. Fails with `Memory` if memory is refused, or with `Full` if a table is full.
 fn ask_under(
-    graph: &mut SearchGraph<SolverGraph<Solver>>,
-    cache: &mut GlobalCache<SolverGraph<Solver>>,
-    cx: &mut SolverCx<Solver>,
+    search: &mut Search<Solver>,
     clauses: &[TraitRef],
     asked: TraitRef,
 ) -> Result<Outcome, Fault>
-    requires rest { SolverRests graph.old.root_depth cx.old graph.old cache.old }
-    requires clauses { TraitRefsHeld cx.old.interner.entries clauses.now }
-    requires asked { ReferenceHeld cx.old.interner.entries asked }
-    ensures rest { SolverRests graph.old.root_depth cx.new graph.new cache.new }
-    ensures solving { SolvesTheSame cx.old cx.new }
-    ensures keeps { Keeps cx.old.interner.entries cx.new.interner.entries }
-    ensures limits { KeepsLimits cx.old cx.new }
-    ensures told { IfOk result (SolverTells (solving_of cx.old.interner.entries cx.old.handler.declarations) graph.old.root_depth
-        (references_in cx.old.interner.entries clauses.now) (reference_in cx.old.interner.entries asked)) }
-    ensures full { IfErr result (ContextFullAtLimit cx.new) }
+    requires rest { SolverRests search.old.graph.root_depth search.old.cx search.old.graph search.old.cache }
+    requires clauses { TraitRefsHeld search.old.cx.interner.entries clauses.now }
+    requires asked { ReferenceHeld search.old.cx.interner.entries asked }
+    ensures rest { SolverRests search.old.graph.root_depth search.new.cx search.new.graph search.new.cache }
+    ensures solving { SolvesTheSame search.old.cx search.new.cx }
+    ensures keeps { Keeps search.old.cx.interner.entries search.new.cx.interner.entries }
+    ensures limits { KeepsLimits search.old.cx search.new.cx }
+    ensures told { IfOk result (SolverTells (solving_of search.old.cx.interner.entries search.old.cx.handler.declarations) search.old.graph.root_depth
+        (references_in search.old.cx.interner.entries clauses.now) (reference_in search.old.cx.interner.entries asked)) }
+    ensures full { IfErr result (ContextFullAtLimit search.new.cx) }
 {
-    match prove_under(graph, cache, cx, clauses, asked, &[])? {
+    match prove_under(search, clauses, asked, &[])? {
         ProveAnswer::Yes(_) => Ok(Outcome::Proved),
         ProveAnswer::Unproved => Ok(Outcome::Unproved),
         ProveAnswer::Maybe => Ok(Outcome::Maybe),
@@ -150,26 +147,24 @@ fn ask_under(
 ///
 /// Everything stays at rest, after a fault too. Fails with `Memory` if memory is refused, or with `Full` if a table is full.
 fn first_unproved(
-    graph: &mut SearchGraph<SolverGraph<Solver>>,
-    cache: &mut GlobalCache<SolverGraph<Solver>>,
-    cx: &mut SolverCx<Solver>,
+    search: &mut Search<Solver>,
     goals: &SupertraitGoals,
 ) -> Result<HeaderAnswer, Fault>
-    requires rest { SolverRests graph.old.root_depth cx.old graph.old cache.old }
-    requires supertraits { TraitRefsHeld cx.old.interner.entries goals.now.supertraits.items }
-    requires clauses { TraitRefsHeld cx.old.interner.entries goals.now.clauses.items }
-    ensures rest { SolverRests graph.old.root_depth cx.new graph.new cache.new }
-    ensures solving { SolvesTheSame cx.old cx.new }
-    ensures keeps { Keeps cx.old.interner.entries cx.new.interner.entries }
-    ensures limits { KeepsLimits cx.old cx.new }
-    ensures told { IfOk result (IsHeaderTold (solving_of cx.old.interner.entries cx.old.handler.declarations) graph.old.root_depth
-        (references_in cx.old.interner.entries goals.now.clauses.items) (references_in cx.old.interner.entries goals.now.supertraits.items)) }
-    ensures full { IfErr result (ContextFullAtLimit cx.new) }
+    requires rest { SolverRests search.old.graph.root_depth search.old.cx search.old.graph search.old.cache }
+    requires supertraits { TraitRefsHeld search.old.cx.interner.entries goals.now.supertraits.items }
+    requires clauses { TraitRefsHeld search.old.cx.interner.entries goals.now.clauses.items }
+    ensures rest { SolverRests search.old.graph.root_depth search.new.cx search.new.graph search.new.cache }
+    ensures solving { SolvesTheSame search.old.cx search.new.cx }
+    ensures keeps { Keeps search.old.cx.interner.entries search.new.cx.interner.entries }
+    ensures limits { KeepsLimits search.old.cx search.new.cx }
+    ensures told { IfOk result (IsHeaderTold (solving_of search.old.cx.interner.entries search.old.cx.handler.declarations) search.old.graph.root_depth
+        (references_in search.old.cx.interner.entries goals.now.clauses.items) (references_in search.old.cx.interner.entries goals.now.supertraits.items)) }
+    ensures full { IfErr result (ContextFullAtLimit search.new.cx) }
 {
     let mut place = 0;
     for supertrait in &goals.supertraits {
         place = next_number(place)?;
-        match ask_under(graph, cache, cx, &goals.clauses, *supertrait)? {
+        match ask_under(search, &goals.clauses, *supertrait)? {
             Outcome::Proved => {}
             Outcome::Unproved => return Ok(HeaderAnswer::Missing(place)),
             Outcome::Maybe => return Ok(HeaderAnswer::Undecided(place)),
@@ -183,24 +178,23 @@ fn first_unproved(
 ///
 /// Everything stays at rest, after a fault too. Fails with `Memory` if memory is refused, or with `Full` if a table is full.
 pub(crate) fn header_answer_at(
-    graph: &mut SearchGraph<SolverGraph<Solver>>,
-    cache: &mut GlobalCache<SolverGraph<Solver>>,
-    cx: &mut SolverCx<Solver>,
+    search: &mut Search<Solver>,
     id: ImplId,
 ) -> Result<HeaderAnswer, Fault>
-    requires rest { SolverRests graph.old.root_depth cx.old graph.old cache.old }
-    requires applied { ImplsApply cx.old.handler.declarations (written cx.old.interner.entries cx.old.handler.declarations) }
-    ensures rest { SolverRests graph.old.root_depth cx.new graph.new cache.new }
-    ensures solving { SolvesTheSame cx.old cx.new }
-    ensures keeps { Keeps cx.old.interner.entries cx.new.interner.entries }
-    ensures limits { KeepsLimits cx.old cx.new }
-    ensures checked { (d : text.Declarations) (c depth : ℕ) → IsSession d c depth cx.old graph.old cache.old → IfOk result (IsCheckedAt depth d c id.index) }
-    ensures full { IfErr result (ContextFullAtLimit cx.new) }
+    requires rest { SolverRests search.old.graph.root_depth search.old.cx search.old.graph search.old.cache }
+    requires applied { ImplsApply search.old.cx.handler.declarations (written search.old.cx.interner.entries search.old.cx.handler.declarations) }
+    ensures rest { SolverRests search.old.graph.root_depth search.new.cx search.new.graph search.new.cache }
+    ensures solving { SolvesTheSame search.old.cx search.new.cx }
+    ensures keeps { Keeps search.old.cx.interner.entries search.new.cx.interner.entries }
+    ensures limits { KeepsLimits search.old.cx search.new.cx }
+    ensures checked { (d : text.Declarations) (c depth : ℕ) → IsSession d c depth search.old.cx search.old.graph search.old.cache → IfOk result
+        (IsCheckedAt depth d c id.index) }
+    ensures full { IfErr result (ContextFullAtLimit search.new.cx) }
 {
     rest_laws::<Solver>();
     supertraits_are_told();
-    let Some(goals) = own_goals_in(cx, id)? else {
+    let Some(goals) = own_goals_in(&mut search.cx, id)? else {
         return Ok(HeaderAnswer::Held);
     };
-    first_unproved(graph, cache, cx, &goals)
+    first_unproved(search, &goals)
 }

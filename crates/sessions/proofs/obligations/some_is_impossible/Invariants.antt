@@ -10,14 +10,14 @@ use Rattle.sessions.proofs.obligations.some_is_impossible.Given as goal
 
 abbrev pub invariant-references : goal.invariant-references
 invariant-references g l = record {
-  empty : l.graph.current_depth ≡ 0;
-  depth : l.graph.root_depth ≡ l.fn.graph.root_depth;
-  cache : AreJustified (solver_meaning g.H.GoalHandler.meaning) l.cx l.cache;
-  consistent : AreConsistent l.fn.cache → AreConsistent l.cache;
-  results : KeepsResults l.fn.cache l.cache;
-  ready : IsReady g.H.GoalHandler.meaning.IsReady l.cx;
-  keeps : Search.Keeps (solver_meaning g.H.GoalHandler.meaning) l.fn.cx l.cx;
-  entries : Keeps l.fn.cx.interner.entries l.cx.interner.entries;
+  empty : l.search.graph.current_depth ≡ 0;
+  depth : l.search.graph.root_depth ≡ l.fn.search.graph.root_depth;
+  cache : AreJustified (solver_meaning g.H.GoalHandler.meaning) l.search.cx l.search.cache;
+  consistent : AreConsistent l.fn.search.cache → AreConsistent l.search.cache;
+  results : KeepsResults l.fn.search.cache l.search.cache;
+  ready : IsReady g.H.GoalHandler.meaning.IsReady l.search.cx;
+  keeps : Search.KeepsContext (solver_meaning g.H.GoalHandler.meaning) l.fn.search.cx l.search.cx;
+  entries : Keeps l.fn.search.cx.interner.entries l.search.cx.interner.entries;
   same : l.table ≡ l.fn.table;
-  left_open : Each (SearchLeavesOpen g.H.GoalHandler.meaning l.fn.cx l.fn.graph l.fn.table) (take l.trait_ref-index l.references);
+  left_open : Each (SearchLeavesOpen g.H.GoalHandler.meaning l.fn.search.cx l.fn.search.graph l.fn.table) (take l.trait_ref-index l.references);
 }

@@ -6,7 +6,7 @@ use Rattle.sessions.proofs.Answered.{read-goal, refused-goal, unsettled-goal}
 use Rattle.sessions.proofs.Posing.{over-ok}
 use Rattle.infer_table.specs.Content.{Table}
 use Rattle.sessions.specs.Frames.{AskingsOf}
-use Rattle.sessions.specs.declared.settling.TheConstants.{MAX_ASKINGS}
+use Rattle.solver_graph.specs.declared.handle.TheConstants.{MAX_ASKINGS}
 use Rattle.solver_graph.proofs.Growing.{limits-further}
 use Rattle.sessions.proofs.Keeping.{limits-searched}
 use Rattle.std.proofs.lemmas.Result.{IfErr-weaker}
@@ -38,17 +38,17 @@ read_values_in-requires-clause-asked g c = c.ask_until_settled.ensures.again.goa
 
 pub read_values_in-requires-clause-unknowns : goal.read_values_in-requires-clause-unknowns
 read_values_in-requires-clause-unknowns g c =
-    args-held-later c.args.cx.now.interner.entries c.ask_until_settled.new.cx.interner.entries c.ask_until_settled.ensures.asked.entries c.args.unknowns.now c.requires.unknowns
+    args-held-later c.args.search.now.cx.interner.entries c.ask_until_settled.new.search.cx.interner.entries c.ask_until_settled.ensures.asked.entries c.args.unknowns.now c.requires.unknowns
 
 pub returns-in-Proved-clause-rest : goal.returns-in-Proved-clause-rest
 returns-in-Proved-clause-rest g c =
     let e = c.ask_until_settled.ensures in
-    c.rest_laws.ensures.rest c.args.graph.now.root_depth c.ask_until_settled.new.cx c.read_values_in.new.cx c.ask_until_settled.new.graph c.ask_until_settled.new.cache
+    c.rest_laws.ensures.rest c.args.search.now.graph.root_depth c.ask_until_settled.new.search.cx c.read_values_in.new.cx c.ask_until_settled.new.search.graph c.ask_until_settled.new.search.cache
     (record { empty = e.again.empty; depth = e.asked.depth; cached = e.again.cache; ready = e.again.ready }) c.read_values_in.ensures.advances
 
 pub returns-in-Proved-clause-meaning : goal.returns-in-Proved-clause-meaning
 returns-in-Proved-clause-meaning g c =
-    c.rest_laws.ensures.meaning c.ask_until_settled.new.cx c.read_values_in.new.cx c.ask_until_settled.ensures.again.ready c.read_values_in.ensures.advances ∙ c.ask_until_settled.ensures.asked.keeps.world
+    c.rest_laws.ensures.meaning c.ask_until_settled.new.search.cx c.read_values_in.new.cx c.ask_until_settled.ensures.again.ready c.read_values_in.ensures.advances ∙ c.ask_until_settled.ensures.asked.keeps.world
 
 pub returns-in-Proved-clause-keeps : goal.returns-in-Proved-clause-keeps
 returns-in-Proved-clause-keeps g c = λ i e h. c.read_values_in.ensures.advances.entries i e (c.ask_until_settled.ensures.asked.entries i e h)
@@ -61,8 +61,8 @@ returns-in-Proved-clause-answer g c =
     let done : c.ask_until_settled.result ≡ Ok outcome.Proved = search rules in
     let e = c.ask_until_settled.ensures in
     over-ok c.read_values_in.result
-    (read-goal g.H.GoalHandler.meaning (map arg_sort c.args.unknowns.now) c.args.cx.now c.args.table.now c.requires.table c.args.goal.now
-    c.requires.goal c.ask_until_settled.new.cx c.ask_until_settled.new.table e.again.table e.again.ready.lawful e.asked.entries (e.proved done) c.args.unknowns.now c.requires.unknowns c.args.graph.now.root_depth c.read_values_in.new.cx.interner.entries)
+    (read-goal g.H.GoalHandler.meaning (map arg_sort c.args.unknowns.now) c.args.search.now.cx c.args.table.now c.requires.table c.args.goal.now
+    c.requires.goal c.ask_until_settled.new.search.cx c.ask_until_settled.new.table e.again.table e.again.ready.lawful e.asked.entries (e.proved done) c.args.unknowns.now c.requires.unknowns c.args.search.now.graph.root_depth c.read_values_in.new.cx.interner.entries)
     c.read_values_in.ensures.read
 
 pub returns-in-Unproved-clause-rest : goal.returns-in-Unproved-clause-rest
@@ -79,8 +79,8 @@ returns-in-Unproved-clause-keeps g c = c.ask_until_settled.ensures.asked.entries
 pub returns-in-Unproved-clause-answer : goal.returns-in-Unproved-clause-answer
 returns-in-Unproved-clause-answer g c =
     let done : c.ask_until_settled.result ≡ Ok outcome.Unproved = search rules in
-    refused-goal g.H.GoalHandler.meaning (map arg_sort c.args.unknowns.now) c.args.cx.now c.args.table.now c.requires.table c.args.goal.now
-    c.args.graph.now (c.ask_until_settled.ensures.unproved done)
+    refused-goal g.H.GoalHandler.meaning (map arg_sort c.args.unknowns.now) c.args.search.now.cx c.args.table.now c.requires.table c.args.goal.now
+    c.args.search.now.graph (c.ask_until_settled.ensures.unproved done)
 
 pub returns-in-Maybe-clause-rest : goal.returns-in-Maybe-clause-rest
 returns-in-Maybe-clause-rest g c =
@@ -96,37 +96,37 @@ returns-in-Maybe-clause-keeps g c = c.ask_until_settled.ensures.asked.entries
 pub returns-in-Maybe-clause-answer : goal.returns-in-Maybe-clause-answer
 returns-in-Maybe-clause-answer g c =
     let done : c.ask_until_settled.result ≡ Ok outcome.Maybe = search rules in
-    unsettled-goal g.H.GoalHandler.meaning (map arg_sort c.args.unknowns.now) c.args.cx.now c.args.table.now c.requires.table c.args.goal.now
-    c.args.graph.now (c.ask_until_settled.ensures.maybe done)
+    unsettled-goal g.H.GoalHandler.meaning (map arg_sort c.args.unknowns.now) c.args.search.now.cx c.args.table.now c.requires.table c.args.goal.now
+    c.args.search.now.graph (c.ask_until_settled.ensures.maybe done)
 
 pub returns-in_err-ask_until_settled-clause-frames : goal.returns-in_err-ask_until_settled-clause-frames
 returns-in_err-ask_until_settled-clause-frames g c =
-    subst (λ (t : Table). AskingsOf g.H.GoalHandler.meaning MAX_ASKINGS c.args.cx.now c.args.graph.now t c.args.goal.now c.ask_until_settled.new.graph) c.requires.table c.ask_until_settled.ensures.frames
+    subst (λ (t : Table). AskingsOf g.H.GoalHandler.meaning MAX_ASKINGS c.args.search.now.cx c.args.search.now.graph t c.args.goal.now c.ask_until_settled.new.search.graph) c.requires.table c.ask_until_settled.ensures.frames
 
 pub returns-in-Proved-clause-frames : goal.returns-in-Proved-clause-frames
 returns-in-Proved-clause-frames g c =
-    subst (λ (t : Table). AskingsOf g.H.GoalHandler.meaning MAX_ASKINGS c.args.cx.now c.args.graph.now t c.args.goal.now c.ask_until_settled.new.graph) c.requires.table c.ask_until_settled.ensures.frames
+    subst (λ (t : Table). AskingsOf g.H.GoalHandler.meaning MAX_ASKINGS c.args.search.now.cx c.args.search.now.graph t c.args.goal.now c.ask_until_settled.new.search.graph) c.requires.table c.ask_until_settled.ensures.frames
 
 pub returns-in-Unproved-clause-frames : goal.returns-in-Unproved-clause-frames
 returns-in-Unproved-clause-frames g c =
-    subst (λ (t : Table). AskingsOf g.H.GoalHandler.meaning MAX_ASKINGS c.args.cx.now c.args.graph.now t c.args.goal.now c.ask_until_settled.new.graph) c.requires.table c.ask_until_settled.ensures.frames
+    subst (λ (t : Table). AskingsOf g.H.GoalHandler.meaning MAX_ASKINGS c.args.search.now.cx c.args.search.now.graph t c.args.goal.now c.ask_until_settled.new.search.graph) c.requires.table c.ask_until_settled.ensures.frames
 
 pub returns-in-Maybe-clause-frames : goal.returns-in-Maybe-clause-frames
 returns-in-Maybe-clause-frames g c =
-    subst (λ (t : Table). AskingsOf g.H.GoalHandler.meaning MAX_ASKINGS c.args.cx.now c.args.graph.now t c.args.goal.now c.ask_until_settled.new.graph) c.requires.table c.ask_until_settled.ensures.frames
+    subst (λ (t : Table). AskingsOf g.H.GoalHandler.meaning MAX_ASKINGS c.args.search.now.cx c.args.search.now.graph t c.args.goal.now c.ask_until_settled.new.search.graph) c.requires.table c.ask_until_settled.ensures.frames
 
 pub returns-in_err-ask_until_settled-clause-limits : goal.returns-in_err-ask_until_settled-clause-limits
-returns-in_err-ask_until_settled-clause-limits g c = limits-searched _ c.args.cx.now c.ask_until_settled.new.cx c.ask_until_settled.ensures.asked.keeps
+returns-in_err-ask_until_settled-clause-limits g c = limits-searched _ c.args.search.now.cx c.ask_until_settled.new.search.cx c.ask_until_settled.ensures.asked.keeps
 
 pub returns-in-Proved-clause-limits : goal.returns-in-Proved-clause-limits
 returns-in-Proved-clause-limits g c =
-    limits-further c.args.cx.now c.ask_until_settled.new.cx c.read_values_in.new.cx (limits-searched _ c.args.cx.now c.ask_until_settled.new.cx c.ask_until_settled.ensures.asked.keeps) c.read_values_in.ensures.advances.limits
+    limits-further c.args.search.now.cx c.ask_until_settled.new.search.cx c.read_values_in.new.cx (limits-searched _ c.args.search.now.cx c.ask_until_settled.new.search.cx c.ask_until_settled.ensures.asked.keeps) c.read_values_in.ensures.advances.limits
 
 pub returns-in-Unproved-clause-limits : goal.returns-in-Unproved-clause-limits
-returns-in-Unproved-clause-limits g c = limits-searched _ c.args.cx.now c.ask_until_settled.new.cx c.ask_until_settled.ensures.asked.keeps
+returns-in-Unproved-clause-limits g c = limits-searched _ c.args.search.now.cx c.ask_until_settled.new.search.cx c.ask_until_settled.ensures.asked.keeps
 
 pub returns-in-Maybe-clause-limits : goal.returns-in-Maybe-clause-limits
-returns-in-Maybe-clause-limits g c = limits-searched _ c.args.cx.now c.ask_until_settled.new.cx c.ask_until_settled.ensures.asked.keeps
+returns-in-Maybe-clause-limits g c = limits-searched _ c.args.search.now.cx c.ask_until_settled.new.search.cx c.ask_until_settled.ensures.asked.keeps
 
 pub returns-in-Proved-clause-full : goal.returns-in-Proved-clause-full
 returns-in-Proved-clause-full g c = IfErr-weaker c.read_values_in.result _ _ (full-of-terms c.read_values_in.new.cx) c.read_values_in.ensures.full

@@ -23,16 +23,16 @@ pub lower_in-requires-clause-question : goal.lower_in-requires-clause-question
 lower_in-requires-clause-question c = c.requires.question
 
 pub returns-in_err-lowered-clause-rest : goal.returns-in_err-lowered-clause-rest
-returns-in_err-lowered-clause-rest c = c.rest_laws.ensures.rest c.args.graph.now.root_depth c.args.cx.now c.lower_in.new.cx c.args.graph.now c.args.cache.now c.requires.rest c.lower_in.ensures.advances
+returns-in_err-lowered-clause-rest c = c.rest_laws.ensures.rest c.args.search.now.graph.root_depth c.args.search.now.cx c.lower_in.new.cx c.args.search.now.graph c.args.search.now.cache c.requires.rest c.lower_in.ensures.advances
 
 pub returns-in_err-lowered-clause-solving : goal.returns-in_err-lowered-clause-solving
-returns-in_err-lowered-clause-solving c = c.rest_laws.ensures.meaning c.args.cx.now c.lower_in.new.cx c.requires.rest.ready c.lower_in.ensures.advances
+returns-in_err-lowered-clause-solving c = c.rest_laws.ensures.meaning c.args.search.now.cx c.lower_in.new.cx c.requires.rest.ready c.lower_in.ensures.advances
 
 pub returns-in_err-lowered-clause-keeps : goal.returns-in_err-lowered-clause-keeps
 returns-in_err-lowered-clause-keeps c = c.lower_in.ensures.advances.entries
 
 pub prove_lowered-requires-clause-rest : goal.prove_lowered-requires-clause-rest
-prove_lowered-requires-clause-rest c = c.rest_laws.ensures.rest c.args.graph.now.root_depth c.args.cx.now c.lower_in.new.cx c.args.graph.now c.args.cache.now c.requires.rest c.lower_in.ensures.advances
+prove_lowered-requires-clause-rest c = c.rest_laws.ensures.rest c.args.search.now.graph.root_depth c.args.search.now.cx c.lower_in.new.cx c.args.search.now.graph c.args.search.now.cache c.requires.rest c.lower_in.ensures.advances
 
 pub prove_lowered-requires-clause-lowered : goal.prove_lowered-requires-clause-lowered
 prove_lowered-requires-clause-lowered c = (c.requires.question.0, c.in_ok-lowered.ensures.lowered c.requires.question.0 c.requires.question.1)
@@ -48,16 +48,16 @@ pub returns-clause-rest : goal.returns-clause-rest
 returns-clause-rest c = c.prove_lowered.ensures.rest
 
 pub returns-clause-solving : goal.returns-clause-solving
-returns-clause-solving c = c.prove_lowered.ensures.solving ∙ c.rest_laws.ensures.meaning c.args.cx.now c.lower_in.new.cx c.requires.rest.ready c.lower_in.ensures.advances
+returns-clause-solving c = c.prove_lowered.ensures.solving ∙ c.rest_laws.ensures.meaning c.args.search.now.cx c.lower_in.new.cx c.requires.rest.ready c.lower_in.ensures.advances
 
 pub returns-clause-keeps : goal.returns-clause-keeps
 returns-clause-keeps c = λ i e h. c.prove_lowered.ensures.keeps i e (c.lower_in.ensures.advances.entries i e h)
 
 pub returns-clause-held : goal.returns-clause-held
 returns-clause-held c =
-    let new = c.prove_lowered.new.cx.interner.entries in
+    let new = c.prove_lowered.new.search.cx.interner.entries in
     let l = c.in_ok-lowered.lowered in
-    own-held (solving_of new c.prove_lowered.new.cx.handler.declarations) c.args.graph.now.root_depth c.requires.question.0 new (written new c.prove_lowered.new.cx.handler.declarations)
+    own-held (solving_of new c.prove_lowered.new.search.cx.handler.declarations) c.args.search.now.graph.root_depth c.requires.question.0 new (written new c.prove_lowered.new.search.cx.handler.declarations)
     (reference_in new l.asked) (references_in new l.clauses.items) c.in_ok-answer.answer c.own_answer.result c.own_answer.ensures c.in_ok-answer.ensures.held
 
 pub own_answer-requires-clause-answer : goal.own_answer-requires-clause-answer
@@ -65,41 +65,41 @@ own_answer-requires-clause-answer c = c.in_ok-answer.ensures.held
 
 pub own_answer-requires-clause-reference : goal.own_answer-requires-clause-reference
 own_answer-requires-clause-reference c =
-    has-later c.lower_in.new.cx.interner.entries c.prove_lowered.new.cx.interner.entries c.prove_lowered.ensures.keeps args_lists c.in_ok-lowered.lowered.asked.args.0
+    has-later c.lower_in.new.cx.interner.entries c.prove_lowered.new.search.cx.interner.entries c.prove_lowered.ensures.keeps args_lists c.in_ok-lowered.lowered.asked.args.0
     (c.in_ok-lowered.ensures.lowered c.requires.question.0 c.requires.question.1).asked_held
 
 pub own_answer-requires-clause-clauses : goal.own_answer-requires-clause-clauses
 own_answer-requires-clause-clauses c =
-    references-later c.lower_in.new.cx.interner.entries c.prove_lowered.new.cx.interner.entries c.prove_lowered.ensures.keeps c.in_ok-lowered.lowered.clauses.items
+    references-later c.lower_in.new.cx.interner.entries c.prove_lowered.new.search.cx.interner.entries c.prove_lowered.ensures.keeps c.in_ok-lowered.lowered.clauses.items
     (c.in_ok-lowered.ensures.lowered c.requires.question.0 c.requires.question.1).clauses_held
 
 pub returns-in_err-answer-clause-rest : goal.returns-in_err-answer-clause-rest
 returns-in_err-answer-clause-rest c = c.prove_lowered.ensures.rest
 
 pub returns-in_err-answer-clause-solving : goal.returns-in_err-answer-clause-solving
-returns-in_err-answer-clause-solving c = c.prove_lowered.ensures.solving ∙ c.rest_laws.ensures.meaning c.args.cx.now c.lower_in.new.cx c.requires.rest.ready c.lower_in.ensures.advances
+returns-in_err-answer-clause-solving c = c.prove_lowered.ensures.solving ∙ c.rest_laws.ensures.meaning c.args.search.now.cx c.lower_in.new.cx c.requires.rest.ready c.lower_in.ensures.advances
 
 pub returns-in_err-answer-clause-keeps : goal.returns-in_err-answer-clause-keeps
 returns-in_err-answer-clause-keeps c = λ i e h. c.prove_lowered.ensures.keeps i e (c.lower_in.ensures.advances.entries i e h)
 
 pub returns-in_err-answer-clause-limits : goal.returns-in_err-answer-clause-limits
-returns-in_err-answer-clause-limits c = limits-further c.args.cx.now c.lower_in.new.cx c.prove_lowered.new.cx c.lower_in.ensures.advances.limits c.prove_lowered.ensures.limits
+returns-in_err-answer-clause-limits c = limits-further c.args.search.now.cx c.lower_in.new.cx c.prove_lowered.new.search.cx c.lower_in.ensures.advances.limits c.prove_lowered.ensures.limits
 
 pub returns-in_err-answer-clause-frames : goal.returns-in_err-answer-clause-frames
 returns-in_err-answer-clause-frames c = λ q is.
-    subst (λ (s : Solving). QuestionInFrames s c.args.graph.now.root_depth q c.args.graph.now c.prove_lowered.new.graph)
-    (c.rest_laws.ensures.meaning c.args.cx.now c.lower_in.new.cx c.requires.rest.ready c.lower_in.ensures.advances)
+    subst (λ (s : Solving). QuestionInFrames s c.args.search.now.graph.root_depth q c.args.search.now.graph c.prove_lowered.new.search.graph)
+    (c.rest_laws.ensures.meaning c.args.search.now.cx c.lower_in.new.cx c.requires.rest.ready c.lower_in.ensures.advances)
     (c.prove_lowered.ensures.frames q (c.in_ok-lowered.ensures.lowered q is))
 
 pub returns-clause-answer : goal.returns-clause-answer
 returns-clause-answer c = λ q is.
     let old = c.lower_in.new.cx.interner.entries in
-    let new = c.prove_lowered.new.cx.interner.entries in
+    let new = c.prove_lowered.new.search.cx.interner.entries in
     let l = c.in_ok-lowered.lowered in
     let low = c.in_ok-lowered.ensures.lowered q is in
-    subst (λ (s : Solving). IsAnsweredBySolver s c.args.graph.now.root_depth q new c.own_answer.result)
-    (c.rest_laws.ensures.meaning c.args.cx.now c.lower_in.new.cx c.requires.rest.ready c.lower_in.ensures.advances)
-    (handed-on (solving_of old c.lower_in.new.cx.handler.declarations) c.args.graph.now.root_depth q new (written new c.prove_lowered.new.cx.handler.declarations)
+    subst (λ (s : Solving). IsAnsweredBySolver s c.args.search.now.graph.root_depth q new c.own_answer.result)
+    (c.rest_laws.ensures.meaning c.args.search.now.cx c.lower_in.new.cx c.requires.rest.ready c.lower_in.ensures.advances)
+    (handed-on (solving_of old c.lower_in.new.cx.handler.declarations) c.args.search.now.graph.root_depth q new (written new c.prove_lowered.new.search.cx.handler.declarations)
     (reference_in new l.asked) (references_in new l.clauses.items) c.in_ok-answer.answer c.own_answer.result
     (ap (λ (s : Solving). s.view) c.prove_lowered.ensures.solving)
     (reference-later old new c.prove_lowered.ensures.keeps l.asked low.asked_held ∙ low.asked)
@@ -111,15 +111,15 @@ returns-in_err-lowered-clause-frames c = λ q is. asked-none solver_by_view _ _ 
 
 pub returns-clause-frames : goal.returns-clause-frames
 returns-clause-frames c = λ q is.
-    subst (λ (s : Solving). QuestionInFrames s c.args.graph.now.root_depth q c.args.graph.now c.prove_lowered.new.graph)
-    (c.rest_laws.ensures.meaning c.args.cx.now c.lower_in.new.cx c.requires.rest.ready c.lower_in.ensures.advances)
+    subst (λ (s : Solving). QuestionInFrames s c.args.search.now.graph.root_depth q c.args.search.now.graph c.prove_lowered.new.search.graph)
+    (c.rest_laws.ensures.meaning c.args.search.now.cx c.lower_in.new.cx c.requires.rest.ready c.lower_in.ensures.advances)
     (c.prove_lowered.ensures.frames q (c.in_ok-lowered.ensures.lowered q is))
 
 pub returns-in_err-lowered-clause-limits : goal.returns-in_err-lowered-clause-limits
 returns-in_err-lowered-clause-limits c = c.lower_in.ensures.advances.limits
 
 pub returns-clause-limits : goal.returns-clause-limits
-returns-clause-limits c = limits-further c.args.cx.now c.lower_in.new.cx c.prove_lowered.new.cx c.lower_in.ensures.advances.limits c.prove_lowered.ensures.limits
+returns-clause-limits c = limits-further c.args.search.now.cx c.lower_in.new.cx c.prove_lowered.new.search.cx c.lower_in.ensures.advances.limits c.prove_lowered.ensures.limits
 
 pub returns-in_err-lowered-clause-full : goal.returns-in_err-lowered-clause-full
 returns-in_err-lowered-clause-full c = handed-by-terms c.lower_in.new.cx c.from_residual.result c.from_residual.ensures.1 c.in_err-lowered.ensures.full

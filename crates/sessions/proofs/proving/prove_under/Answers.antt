@@ -24,17 +24,17 @@ question_table_in-requires c = c.requires.rest.ready
 
 pub returns-in_err-table-clause-rest : goal.returns-in_err-table-clause-rest
 returns-in_err-table-clause-rest c =
-    c.rest_laws.ensures.rest c.args.graph.now.root_depth c.args.cx.now c.question_table_in.new.cx c.args.graph.now c.args.cache.now c.requires.rest c.question_table_in.ensures.advances
+    c.rest_laws.ensures.rest c.args.search.now.graph.root_depth c.args.search.now.cx c.question_table_in.new.cx c.args.search.now.graph c.args.search.now.cache c.requires.rest c.question_table_in.ensures.advances
 
 pub returns-in_err-table-clause-solving : goal.returns-in_err-table-clause-solving
-returns-in_err-table-clause-solving c = c.rest_laws.ensures.meaning c.args.cx.now c.question_table_in.new.cx c.requires.rest.ready c.question_table_in.ensures.advances
+returns-in_err-table-clause-solving c = c.rest_laws.ensures.meaning c.args.search.now.cx c.question_table_in.new.cx c.requires.rest.ready c.question_table_in.ensures.advances
 
 pub returns-in_err-table-clause-keeps : goal.returns-in_err-table-clause-keeps
 returns-in_err-table-clause-keeps c = c.question_table_in.ensures.advances.entries
 
 pub ask_for-requires-clause-rest : goal.ask_for-requires-clause-rest
 ask_for-requires-clause-rest c =
-    c.rest_laws.ensures.rest c.args.graph.now.root_depth c.args.cx.now c.question_table_in.new.cx c.args.graph.now c.args.cache.now c.requires.rest c.question_table_in.ensures.advances
+    c.rest_laws.ensures.rest c.args.search.now.graph.root_depth c.args.search.now.cx c.question_table_in.new.cx c.args.search.now.graph c.args.search.now.cache c.requires.rest c.question_table_in.ensures.advances
 
 pub ask_for-requires-clause-ready : goal.ask_for-requires-clause-ready
 ask_for-requires-clause-ready c = c.in_ok-table.ensures.ready
@@ -44,7 +44,7 @@ ask_for-requires-clause-table c = c.in_ok-table.ensures.is
 
 pub ask_for-requires-clause-goal : goal.ask_for-requires-clause-goal
 ask_for-requires-clause-goal c =
-    let old = c.args.cx.now.interner.entries in
+    let old = c.args.search.now.cx.interner.entries in
     let new = c.question_table_in.new.cx.interner.entries in
     let k = c.question_table_in.ensures.advances.entries in
     goal-held new c.in_ok-goal.goal c.args.clauses.now (references-kept old new k c.args.clauses.now c.requires.clauses) c.in_ok-goal.ensures.clauses
@@ -52,13 +52,13 @@ ask_for-requires-clause-goal c =
 
 pub ask_for-requires-clause-unknowns : goal.ask_for-requires-clause-unknowns
 ask_for-requires-clause-unknowns c =
-    args-held-later c.args.cx.now.interner.entries c.question_table_in.new.cx.interner.entries c.question_table_in.ensures.advances.entries c.args.unknowns.now c.requires.unknowns
+    args-held-later c.args.search.now.cx.interner.entries c.question_table_in.new.cx.interner.entries c.question_table_in.ensures.advances.entries c.args.unknowns.now c.requires.unknowns
 
 pub returns-clause-rest : goal.returns-clause-rest
 returns-clause-rest c = c.ask_for.ensures.rest
 
 pub returns-clause-solving : goal.returns-clause-solving
-returns-clause-solving c = c.ask_for.ensures.meaning ∙ c.rest_laws.ensures.meaning c.args.cx.now c.question_table_in.new.cx c.requires.rest.ready c.question_table_in.ensures.advances
+returns-clause-solving c = c.ask_for.ensures.meaning ∙ c.rest_laws.ensures.meaning c.args.search.now.cx c.question_table_in.new.cx c.requires.rest.ready c.question_table_in.ensures.advances
 
 pub returns-clause-keeps : goal.returns-clause-keeps
 returns-clause-keeps c = λ i e h. c.ask_for.ensures.keeps i e (c.question_table_in.ensures.advances.entries i e h)
@@ -68,7 +68,7 @@ returns-clause-held c = c.ask_for.ensures.held
 
 pub returns-clause-answer : goal.returns-clause-answer
 returns-clause-answer c =
-    let old = c.args.cx.now.interner.entries in
+    let old = c.args.search.now.cx.interner.entries in
     let new = c.question_table_in.new.cx.interner.entries in
     let k = c.question_table_in.ensures.advances.entries in
     let rs = c.args.clauses.now in
@@ -76,9 +76,9 @@ returns-clause-answer c =
     let us = c.args.unknowns.now in
     over-ok c.ask_for.result
     (λ a h.
-    goal-answered (solving_of new c.question_table_in.new.cx.handler.declarations) (solving_of old c.args.cx.now.handler.declarations) c.args.graph.now.root_depth (map arg_sort us) (goal_trees new c.in_ok-goal.goal)
-    (goal_of (references_in old rs) (reference_in old r)) (map (arg_trees new) us) (map (arg_trees old) us) c.ask_for.new.cx.interner.entries a
-    (c.rest_laws.ensures.meaning c.args.cx.now c.question_table_in.new.cx c.requires.rest.ready c.question_table_in.ensures.advances)
+    goal-answered (solving_of new c.question_table_in.new.cx.handler.declarations) (solving_of old c.args.search.now.cx.handler.declarations) c.args.search.now.graph.root_depth (map arg_sort us) (goal_trees new c.in_ok-goal.goal)
+    (goal_of (references_in old rs) (reference_in old r)) (map (arg_trees new) us) (map (arg_trees old) us) c.ask_for.new.search.cx.interner.entries a
+    (c.rest_laws.ensures.meaning c.args.search.now.cx c.question_table_in.new.cx c.requires.rest.ready c.question_table_in.ensures.advances)
     (c.references_are_goals.ensures new c.in_ok-goal.goal rs r c.in_ok-goal.ensures.clauses c.in_ok-goal.ensures.asked
     ∙ same-asked (references_in new rs) (references_in old rs) (reference_in new r) (reference_in old r) (all-same old new k rs c.requires.clauses) (reference-same old new k r c.requires.asked))
     (args-later old new k us c.requires.unknowns) h)
@@ -92,15 +92,15 @@ returns-in_err-table-clause-frames c = asked-none solver_by_view _ _ _ _ _ _
 
 pub returns-clause-frames : goal.returns-clause-frames
 returns-clause-frames c =
-    let old = c.args.cx.now.interner.entries in
+    let old = c.args.search.now.cx.interner.entries in
     let new = c.question_table_in.new.cx.interner.entries in
     let k = c.question_table_in.ensures.advances.entries in
     let rs = c.args.clauses.now in
     let r = c.args.asked in
     let us = c.args.unknowns.now in
-    settles-same solver_by_view (solving_of new c.question_table_in.new.cx.handler.declarations) (solving_of old c.args.cx.now.handler.declarations) c.args.graph.now.root_depth (map arg_sort us) (map arg_sort us) (goal_trees new c.in_ok-goal.goal)
-    (goal_of (references_in old rs) (reference_in old r)) c.args.graph.now c.ask_for.new.graph
-    (c.rest_laws.ensures.meaning c.args.cx.now c.question_table_in.new.cx c.requires.rest.ready c.question_table_in.ensures.advances)
+    settles-same solver_by_view (solving_of new c.question_table_in.new.cx.handler.declarations) (solving_of old c.args.search.now.cx.handler.declarations) c.args.search.now.graph.root_depth (map arg_sort us) (map arg_sort us) (goal_trees new c.in_ok-goal.goal)
+    (goal_of (references_in old rs) (reference_in old r)) c.args.search.now.graph c.ask_for.new.search.graph
+    (c.rest_laws.ensures.meaning c.args.search.now.cx c.question_table_in.new.cx c.requires.rest.ready c.question_table_in.ensures.advances)
     refl
     (c.references_are_goals.ensures new c.in_ok-goal.goal rs r c.in_ok-goal.ensures.clauses c.in_ok-goal.ensures.asked
     ∙ same-asked (references_in new rs) (references_in old rs) (reference_in new r) (reference_in old r) (all-same old new k rs c.requires.clauses) (reference-same old new k r c.requires.asked))
@@ -110,7 +110,7 @@ pub returns-in_err-table-clause-limits : goal.returns-in_err-table-clause-limits
 returns-in_err-table-clause-limits c = c.question_table_in.ensures.advances.limits
 
 pub returns-clause-limits : goal.returns-clause-limits
-returns-clause-limits c = limits-further c.args.cx.now c.question_table_in.new.cx c.ask_for.new.cx c.question_table_in.ensures.advances.limits c.ask_for.ensures.limits
+returns-clause-limits c = limits-further c.args.search.now.cx c.question_table_in.new.cx c.ask_for.new.search.cx c.question_table_in.ensures.advances.limits c.ask_for.ensures.limits
 
 pub returns-in_err-table-clause-full : goal.returns-in_err-table-clause-full
 returns-in_err-table-clause-full c = handed-by-terms c.question_table_in.new.cx c.from_residual-in_err-table.result c.from_residual-in_err-table.ensures.1 c.in_err-table.ensures.full

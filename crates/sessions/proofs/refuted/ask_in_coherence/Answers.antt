@@ -17,30 +17,30 @@ use Rattle.sessions.proofs.refuted.ask_in_coherence.Goals as goal
 pub returns-clause-no : goal.returns-clause-no
 returns-clause-no g c =
     λ q a k.
-    let es = c.args.cx.now.interner.entries in
+    let es = c.args.search.now.cx.interner.entries in
     let asked : Goal = record { param_env = c.new.result; predicate = record { trait_ref = c.args.asked } } in
     no-proof es c.args.table.now asked (goal_alone (reference_in es c.args.asked)) c.requires.no_values (alone-is es asked c.args.asked c.new.ensures.items refl)
-    (g.H.GoalHandler.meaning.goals.handled (g.H.GoalHandler.meaning.world c.args.cx.now.handler es)) (c.evaluate_root_goal-evaluated.ensures.refusal.no_proof (c.answer_of.ensures.no q)) tt (a, tt) tt (k, tt)
+    (g.H.GoalHandler.meaning.goals.handled (g.H.GoalHandler.meaning.world c.args.search.now.cx.handler es)) (c.evaluate-evaluated.ensures.refusal.no_proof (c.answer_of.ensures.no q)) tt (a, tt) tt (k, tt)
 
 pub returns-clause-open : goal.returns-clause-open
 returns-clause-open g c = λ q.
-    let es = c.args.cx.now.interner.entries in
+    let es = c.args.search.now.cx.interner.entries in
     let asked : Goal = record { param_env = c.new.result; predicate = record { trait_ref = c.args.asked } } in
     let m = solver_meaning g.H.GoalHandler.meaning in
-    let w = g.H.GoalHandler.meaning.world c.args.cx.now.handler es in
-    let depth = c.args.graph.now.root_depth in
+    let w = g.H.GoalHandler.meaning.world c.args.search.now.cx.handler es in
+    let depth = c.args.search.now.graph.root_depth in
     asked-is es c.args.table.now asked (goal_alone (reference_in es c.args.asked)) c.requires.no_values (alone-is es asked c.args.asked c.new.ensures.items refl)
     (λ (z : Asked). ((a : AnswerTrees) × IsFoundBySearch m w depth z (Some a)) ⊎ IsNotPlain m w (depth + 1) z)
-    (left-open _ _ _ c.evaluate_root_goal-evaluated.result c.evaluate_root_goal-evaluated.ensures.says (λ e x. (x.answer.0, x.answer.1.found)) c.evaluate_root_goal-evaluated.ensures.faults.not_plain (c.answer_of.ensures.open q))
+    (left-open _ _ _ c.evaluate-evaluated.result c.evaluate-evaluated.ensures.says (λ e x. (x.answer.0, x.answer.1.found)) c.evaluate-evaluated.ensures.faults.not_plain (c.answer_of.ensures.open q))
 
 pub returns-clause-frames : goal.returns-clause-frames
 returns-clause-frames g c =
-    let es = c.args.cx.now.interner.entries in
+    let es = c.args.search.now.cx.interner.entries in
     let asked : Goal = record { param_env = c.new.result; predicate = record { trait_ref = c.args.asked } } in
-    let w = g.H.GoalHandler.meaning.world c.args.cx.now.handler es in
+    let w = g.H.GoalHandler.meaning.world c.args.search.now.cx.handler es in
     asked-is es c.args.table.now asked (goal_alone (reference_in es c.args.asked)) c.requires.no_values (alone-is es asked c.args.asked c.new.ensures.items refl)
-    (λ (z : Asked). c.evaluate_root_goal-evaluated.new.graph.frames ≤ c.args.graph.now.frames + frames_for g.H.GoalHandler.meaning w c.args.graph.now.root_depth z)
-    (c.evaluate_root_goal-evaluated.ensures.costs.frames _ (le_refl _))
+    (λ (z : Asked). c.evaluate-evaluated.new.self.graph.frames ≤ c.args.search.now.graph.frames + frames_for g.H.GoalHandler.meaning w c.args.search.now.graph.root_depth z)
+    (c.evaluate-evaluated.ensures.costs.frames _ (le_refl _))
 
 pub returns-clause-full : goal.returns-clause-full
-returns-clause-full g c = full-inside c.evaluate_root_goal-evaluated.new.cx c.evaluate_root_goal-evaluated.result c.answer_of.result c.evaluate_root_goal-evaluated.ensures.faults.full c.answer_of.ensures.fault
+returns-clause-full g c = full-inside c.evaluate-evaluated.new.self.cx c.evaluate-evaluated.result c.answer_of.result c.evaluate-evaluated.ensures.faults.full c.answer_of.ensures.fault

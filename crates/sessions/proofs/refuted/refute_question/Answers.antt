@@ -12,10 +12,10 @@ use Rattle.sessions.proofs.ShortCalls.{handed-by-terms}
 use Rattle.sessions.proofs.refuted.refute_question.Goals as goal
 
 pub returns-in_err-lowered-clause-rest : goal.returns-in_err-lowered-clause-rest
-returns-in_err-lowered-clause-rest g c = c.rest_laws.ensures.rest c.args.graph.now.root_depth c.args.cx.now c.lower_in.new.cx c.args.graph.now c.args.cache.now c.requires.rest c.lower_in.ensures.advances
+returns-in_err-lowered-clause-rest g c = c.rest_laws.ensures.rest c.args.search.now.graph.root_depth c.args.search.now.cx c.lower_in.new.cx c.args.search.now.graph c.args.search.now.cache c.requires.rest c.lower_in.ensures.advances
 
 pub refute_lowered-requires-clause-rest : goal.refute_lowered-requires-clause-rest
-refute_lowered-requires-clause-rest g c = c.rest_laws.ensures.rest c.args.graph.now.root_depth c.args.cx.now c.lower_in.new.cx c.args.graph.now c.args.cache.now c.requires.rest c.lower_in.ensures.advances
+refute_lowered-requires-clause-rest g c = c.rest_laws.ensures.rest c.args.search.now.graph.root_depth c.args.search.now.cx c.lower_in.new.cx c.args.search.now.graph c.args.search.now.cache c.requires.rest c.lower_in.ensures.advances
 
 pub refute_lowered-requires-clause-lowered : goal.refute_lowered-requires-clause-lowered
 refute_lowered-requires-clause-lowered g c = (c.requires.question.0, c.in_ok-lowered.ensures.lowered c.requires.question.0 c.requires.question.1)
@@ -24,21 +24,21 @@ pub returns-clause-no : goal.returns-clause-no
 returns-clause-no g c =
     λ r q is own.
     subst (λ z. HasNoProof z (goal_alone (unbound_reference q.asked)))
-    (ap g.H.GoalHandler.meaning.goals.handled (c.rest_laws.ensures.meaning c.args.cx.now c.lower_in.new.cx c.requires.rest.ready c.lower_in.ensures.advances))
+    (ap g.H.GoalHandler.meaning.goals.handled (c.rest_laws.ensures.meaning c.args.search.now.cx c.lower_in.new.cx c.requires.rest.ready c.lower_in.ensures.advances))
     (c.refute_lowered.ensures.no r q (c.in_ok-lowered.ensures.lowered q is) own)
 
 pub returns-clause-open : goal.returns-clause-open
 returns-clause-open g c =
     λ r q is.
-    subst (λ w. IsLeftOpen g.H.GoalHandler.meaning w c.args.graph.now.root_depth (unbound_reference q.asked))
-    (c.rest_laws.ensures.meaning c.args.cx.now c.lower_in.new.cx c.requires.rest.ready c.lower_in.ensures.advances)
+    subst (λ w. IsLeftOpen g.H.GoalHandler.meaning w c.args.search.now.graph.root_depth (unbound_reference q.asked))
+    (c.rest_laws.ensures.meaning c.args.search.now.cx c.lower_in.new.cx c.requires.rest.ready c.lower_in.ensures.advances)
     (c.refute_lowered.ensures.open r q (c.in_ok-lowered.ensures.lowered q is))
 
 pub returns-clause-refused : goal.returns-clause-refused
 returns-clause-refused g c =
     λ r q is.
-    subst (λ w. IsRefusedAlone g.H.GoalHandler.meaning w c.args.graph.now.root_depth (unbound_reference q.asked))
-    (c.rest_laws.ensures.meaning c.args.cx.now c.lower_in.new.cx c.requires.rest.ready c.lower_in.ensures.advances)
+    subst (λ w. IsRefusedAlone g.H.GoalHandler.meaning w c.args.search.now.graph.root_depth (unbound_reference q.asked))
+    (c.rest_laws.ensures.meaning c.args.search.now.cx c.lower_in.new.cx c.requires.rest.ready c.lower_in.ensures.advances)
     (c.refute_lowered.ensures.refused r q (c.in_ok-lowered.ensures.lowered q is))
 
 pub returns-clause-keeps : goal.returns-clause-keeps
@@ -58,12 +58,12 @@ returns-in_err-lowered-clause-frames g c = λ q is. le-add_right _ _
 pub returns-clause-frames : goal.returns-clause-frames
 returns-clause-frames g c =
     λ q is.
-    subst (λ w. StartsFramesOfOne g.H.GoalHandler.meaning w (unbound_reference q.asked) c.args.graph.now c.refute_lowered.new.graph)
-    (c.rest_laws.ensures.meaning c.args.cx.now c.lower_in.new.cx c.requires.rest.ready c.lower_in.ensures.advances)
+    subst (λ w. StartsFramesOfOne g.H.GoalHandler.meaning w (unbound_reference q.asked) c.args.search.now.graph c.refute_lowered.new.search.graph)
+    (c.rest_laws.ensures.meaning c.args.search.now.cx c.lower_in.new.cx c.requires.rest.ready c.lower_in.ensures.advances)
     (c.refute_lowered.ensures.frames q (c.in_ok-lowered.ensures.lowered q is))
 
 pub returns-clause-limits : goal.returns-clause-limits
-returns-clause-limits g c = limits-further c.args.cx.now c.lower_in.new.cx c.refute_lowered.new.cx c.lower_in.ensures.advances.limits c.refute_lowered.ensures.limits
+returns-clause-limits g c = limits-further c.args.search.now.cx c.lower_in.new.cx c.refute_lowered.new.search.cx c.lower_in.ensures.advances.limits c.refute_lowered.ensures.limits
 
 pub returns-in_err-lowered-clause-full : goal.returns-in_err-lowered-clause-full
 returns-in_err-lowered-clause-full g c = handed-by-terms c.lower_in.new.cx c.from_residual.result c.from_residual.ensures.1 c.in_err-lowered.ensures.full

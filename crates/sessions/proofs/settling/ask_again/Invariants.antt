@@ -2,12 +2,12 @@ use Rattle.std.proofs.Common.{◌-◌}
 use Rattle.search_graph.specs.SearchState.{SearchState}
 use Rattle.sessions.specs.Frames.{AskingsOf}
 use Rattle.sessions.specs.Settling.{IsAskable, HasAsked}
-use Rattle.sessions.specs.declared.settling.TheConstants.{MAX_ASKINGS}
+use Rattle.solver_graph.specs.declared.handle.TheConstants.{MAX_ASKINGS}
 use Rattle.sessions.proofs.settling.ask_again.Given as goal
 
 abbrev pub invariant-loop-asking : goal.invariant-loop-asking
 invariant-loop-asking g l = record {
-  again : IsAskable g.H.GoalHandler.meaning l.graph l.cache l.cx l.table l.goal;
-  asked : HasAsked g.H.GoalHandler.meaning l.fn.graph l.fn.cache l.fn.cx l.fn.table l.graph l.cache l.cx l.table;
-  frames : (s : SearchState) → AskingsOf g.H.GoalHandler.meaning (MAX_ASKINGS - l._asking) l.cx l.graph l.table l.goal s → AskingsOf g.H.GoalHandler.meaning (MAX_ASKINGS - 1) l.fn.cx l.fn.graph l.fn.table l.goal s;
+  again : IsAskable g.H.GoalHandler.meaning l.search.graph l.search.cache l.search.cx l.table l.goal;
+  asked : HasAsked g.H.GoalHandler.meaning l.fn.search.graph l.fn.search.cache l.fn.search.cx l.fn.table l.search.graph l.search.cache l.search.cx l.table;
+  frames : (s : SearchState) → AskingsOf g.H.GoalHandler.meaning (MAX_ASKINGS - l._asking) l.search.cx l.search.graph l.table l.goal s → AskingsOf g.H.GoalHandler.meaning (MAX_ASKINGS - 1) l.fn.search.cx l.fn.search.graph l.fn.table l.goal s;
 }

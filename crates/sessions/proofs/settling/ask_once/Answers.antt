@@ -12,18 +12,18 @@ use Rattle.sessions.proofs.settling.ask_once.Goals as goal
 
 pub returns-in-Ok-clause-again : goal.returns-in-Ok-clause-again
 returns-in-Ok-clause-again g c =
-    let e = c.evaluate_root_goal.ensures.rests in
+    let e = c.evaluate.ensures.rests in
     record {
       empty = e.empty;
       cache = e.cache;
       ready = e.ready;
       table = e.table;
-      goal = goal-held-later c.args.cx.now.interner.entries c.evaluate_root_goal.new.cx.interner.entries e.entries c.args.goal.now c.requires.goal;
+      goal = goal-held-later c.args.search.now.cx.interner.entries c.evaluate.new.self.cx.interner.entries e.entries c.args.goal.now c.requires.goal;
     }
 
 pub returns-in-Ok-clause-asked : goal.returns-in-Ok-clause-asked
 returns-in-Ok-clause-asked g c =
-    let e = c.evaluate_root_goal.ensures.rests in
+    let e = c.evaluate.ensures.rests in
     let a = c.in-Ok.ensures.says.answer in
     record {
       depth = e.depth;
@@ -33,23 +33,23 @@ returns-in-Ok-clause-asked g c =
       entries = e.entries;
       grows = e.grows;
       narrows = c.in-Ok.ensures.says.narrows;
-      clean = λ h. evaluations-keep-out (table_trees c.args.cx.now.interner.entries c.args.table.now) (table_trees c.evaluate_root_goal.new.cx.interner.entries c.evaluate_root_goal.new.table) (goal_in c.args.cx.now.interner.entries c.args.table.now c.args.goal.now) a.0 h a.3;
+      clean = λ h. evaluations-keep-out (table_trees c.args.search.now.cx.interner.entries c.args.table.now) (table_trees c.evaluate.new.self.cx.interner.entries c.evaluate.new.table) (goal_in c.args.search.now.cx.interner.entries c.args.table.now c.args.goal.now) a.0 h a.3;
     }
 
 pub returns-in-Err-clause-again : goal.returns-in-Err-clause-again
 returns-in-Err-clause-again g c =
-    let e = c.evaluate_root_goal.ensures.rests in
+    let e = c.evaluate.ensures.rests in
     record {
       empty = e.empty;
       cache = e.cache;
       ready = e.ready;
       table = e.table;
-      goal = goal-held-later c.args.cx.now.interner.entries c.evaluate_root_goal.new.cx.interner.entries e.entries c.args.goal.now c.requires.goal;
+      goal = goal-held-later c.args.search.now.cx.interner.entries c.evaluate.new.self.cx.interner.entries e.entries c.args.goal.now c.requires.goal;
     }
 
 pub returns-in-Err-clause-asked : goal.returns-in-Err-clause-asked
 returns-in-Err-clause-asked g c =
-    let e = c.evaluate_root_goal.ensures.rests in
+    let e = c.evaluate.ensures.rests in
     record {
       depth = e.depth;
       results = e.results;
@@ -57,14 +57,14 @@ returns-in-Err-clause-asked g c =
       keeps = e.keeps;
       entries = e.entries;
       grows = e.grows;
-      narrows = narrows-refused c.args.cx.now.interner.entries c.evaluate_root_goal.new.cx.interner.entries c.args.table.now c.evaluate_root_goal.new.table e.entries c.requires.table c.in-Err.ensures.refusal.unchanged;
-      clean = clean-refused c.args.cx.now.interner.entries c.evaluate_root_goal.new.cx.interner.entries c.args.table.now c.evaluate_root_goal.new.table e.entries c.requires.table c.in-Err.ensures.refusal.unchanged;
+      narrows = narrows-refused c.args.search.now.cx.interner.entries c.evaluate.new.self.cx.interner.entries c.args.table.now c.evaluate.new.table e.entries c.requires.table c.in-Err.ensures.refusal.unchanged;
+      clean = clean-refused c.args.search.now.cx.interner.entries c.evaluate.new.self.cx.interner.entries c.args.table.now c.evaluate.new.table e.entries c.requires.table c.in-Err.ensures.refusal.unchanged;
     }
 
 pub returns-in-Ok-clause-holds : goal.returns-in-Ok-clause-holds
 returns-in-Ok-clause-holds g c = λ e.
     let h = c.read.ensures.holds (ok-same e) in
-    proved-once g.H.GoalHandler.meaning (g.H.GoalHandler.meaning.world c.args.cx.now.handler c.args.cx.now.interner.entries) c.args.cx.now c.evaluate_root_goal.new.cx c.args.table.now c.evaluate_root_goal.new.table c.args.goal.now
+    proved-once g.H.GoalHandler.meaning (g.H.GoalHandler.meaning.world c.args.search.now.cx.handler c.args.search.now.cx.interner.entries) c.args.search.now.cx c.evaluate.new.self.cx c.args.table.now c.evaluate.new.table c.args.goal.now
     c.in-Ok.ensures.says.narrows (c.in-Ok.ensures.yes h.0 h.1)
 
 pub returns-in-Ok-clause-changes : goal.returns-in-Ok-clause-changes
@@ -78,15 +78,15 @@ returns-in-Ok-clause-unsure g c = λ e.
     inr (a.0, a.1.found, not-definite-unsure a.0 (λ q. c.read.ensures.unsure (ok-same e) (a.2.certainty ∙ q)))
 
 pub returns-in-Ok-clause-frames : goal.returns-in-Ok-clause-frames
-returns-in-Ok-clause-frames g c = c.evaluate_root_goal.ensures.costs.frames _ (le_refl _)
+returns-in-Ok-clause-frames g c = c.evaluate.ensures.costs.frames _ (le_refl _)
 
 pub returns-in-Err-clause-frames : goal.returns-in-Err-clause-frames
-returns-in-Err-clause-frames g c = c.evaluate_root_goal.ensures.costs.frames _ (le_refl _)
+returns-in-Err-clause-frames g c = c.evaluate.ensures.costs.frames _ (le_refl _)
 
 pub returns-in-Ok-clause-left : goal.returns-in-Ok-clause-left
 returns-in-Ok-clause-left g c = λ _.
     let a = c.in-Ok.ensures.says.answer in
-    (a.0, a.1.found, a.3, older-are-terms _ _ c.evaluate_root_goal.ensures.rests.table.older)
+    (a.0, a.1.found, a.3, older-are-terms _ _ c.evaluate.ensures.rests.table.older)
 
 pub returns-in-Err-clause-unsure : goal.returns-in-Err-clause-unsure
 returns-in-Err-clause-unsure g c = λ e. inl (c.in-Err.ensures.faults.not_plain (ap Err (c.read_error.ensures.unsure e)))
@@ -95,6 +95,11 @@ pub returns-in-Err-clause-refused : goal.returns-in-Err-clause-refused
 returns-in-Err-clause-refused g c = λ e.
     let a = c.in-Err.ensures.refusal.answer (ap Err (c.read_error.ensures.refused e)) in
     (a.0, a.1.found, a.2)
+
+pub returns-in-Err-clause-kept : goal.returns-in-Err-clause-kept
+returns-in-Err-clause-kept g c = λ e.
+    let a = c.in-Err.ensures.refusal.answer (ap Err (c.read_error.ensures.refused e)) in
+    (a.0, a.1.kept, a.2)
 
 pub returns-in-Err-clause-full : goal.returns-in-Err-clause-full
 returns-in-Err-clause-full g c =

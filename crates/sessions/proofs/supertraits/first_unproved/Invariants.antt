@@ -12,11 +12,11 @@ use Rattle.sessions.proofs.supertraits.first_unproved.Given as goal
 
 abbrev pub invariant-loop-supertrait : goal.invariant-loop-supertrait
 invariant-loop-supertrait l = record {
-  rest : SolverRests l.fn.graph.root_depth l.cx l.graph l.cache;
-  solving : SolvesTheSame l.fn.cx l.cx;
-  keeps : Keeps l.fn.cx.interner.entries l.cx.interner.entries;
-  limits : KeepsLimits l.fn.cx l.cx;
+  rest : SolverRests l.fn.search.graph.root_depth l.search.cx l.search.graph l.search.cache;
+  solving : SolvesTheSame l.fn.search.cx l.search.cx;
+  keeps : Keeps l.fn.search.cx.interner.entries l.search.cx.interner.entries;
+  limits : KeepsLimits l.fn.search.cx l.search.cx;
   place : l.place ≡ l.supertrait-index;
-  told : Every (λ r. SolverTells (solving_of l.fn.cx.interner.entries l.fn.cx.handler.declarations) l.fn.graph.root_depth (references_in l.fn.cx.interner.entries l.fn.goals.clauses.items) r Proved)
-      (take l.supertrait-index (references_in l.fn.cx.interner.entries l.supertrait-items));
+  told : Every (λ r. SolverTells (solving_of l.fn.search.cx.interner.entries l.fn.search.cx.handler.declarations) l.fn.search.graph.root_depth (references_in l.fn.search.cx.interner.entries l.fn.goals.clauses.items) r Proved)
+      (take l.supertrait-index (references_in l.fn.search.cx.interner.entries l.supertrait-items));
 }

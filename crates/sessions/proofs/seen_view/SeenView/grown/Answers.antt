@@ -14,7 +14,6 @@ lower_behind-requires c = record {
   earlier = c.requires.view.declared;
   there = c.requires.declared;
   begin = c.impls_begin_declared.ensures c.requires.text.0 c.args.workspace.now (text-given c.args.workspace.now c.requires.text);
-  begins = c.requires.begins;
   written = c.requires.view.seen.written;
   struct_sorts = c.requires.view.seen.structs;
   trait_sorts = c.requires.view.seen.traits;
@@ -28,7 +27,7 @@ returns-in_err-lower_behind-clause-full c = λ q.
     let is-full = at-err (FullAtLimit new) c.from_residual.result (handed (FullAtLimit new) c.from_residual.result c.from_residual.ensures.1 c.in_err-lower_behind.ensures.terms.full) q refl in
     let limit = c.lower_behind.ensures.terms.grew.limit ∙ c.requires.view.limit in
     let few = c.lower_behind.ensures.few in
-    let fewer = new-are-fewer c.args.workspace.now c.args.crate_id.index c.args.self.crate_id in
+    let fewer = new-are-fewer c.args.workspace.now c.args.crate_id.index c.args.self.crate_id.index in
     many-terms new.entries c.args.handles (length c.args.self.interner.entries + most_terms c.args.workspace.now c.args.crate_id.index) (subst (SomeKindIsFull new.entries) limit is-full) (omega (arith, few, fewer))
 
 pub returns-clause-view : goal.returns-clause-view

@@ -22,10 +22,10 @@ invariant_of-self c =
     let i = c.self.inside in
     let next = c.later_answer.new.cx in
     record {
-      session = session-kept i.workspace.now i.crate_id.index i.limits.depth i.cx i.graph i.cache c.self.invariant.session next i.graph i.cache
-          (c.rest_laws.ensures.meaning i.cx next c.self.invariant.session.rest.ready c.later_answer.ensures.advances)
-          (c.rest_laws.ensures.rest i.graph.root_depth i.cx next i.graph i.cache (session-rests i.workspace.now i.crate_id.index i.limits.depth i.cx i.graph i.cache c.self.invariant.session) c.later_answer.ensures.advances);
-      limits = limits-stay i.limits.handles i.cx c.later_answer.new.cx c.self.invariant.limits c.later_answer.ensures.advances.limits;
+      session = session-kept i.workspace.now i.crate_id.index i.limits.depth i.search.cx i.search.graph i.search.cache c.self.invariant.session next i.search.graph i.search.cache
+          (c.rest_laws.ensures.meaning i.search.cx next c.self.invariant.session.rest.ready c.later_answer.ensures.advances)
+          (c.rest_laws.ensures.rest i.search.graph.root_depth i.search.cx next i.search.graph i.search.cache (session-rests i.workspace.now i.crate_id.index i.limits.depth i.search.cx i.search.graph i.search.cache c.self.invariant.session) c.later_answer.ensures.advances);
+      limits = limits-stay i.limits.handles i.search.cx c.later_answer.new.cx c.self.invariant.limits c.later_answer.ensures.advances.limits;
     }
 
 pub returns-clause-users : goal.returns-clause-users
@@ -42,11 +42,11 @@ pub returns-clause-full : goal.returns-clause-full
 returns-clause-full c = λ q.
     let i = c.self.inside in
     let next = c.later_answer.new.cx in
-    subst (SomeKindIsFull next.interner.entries) (limits-stay i.limits.handles i.cx next c.self.invariant.limits c.later_answer.ensures.advances.limits).terms
+    subst (SomeKindIsFull next.interner.entries) (limits-stay i.limits.handles i.search.cx next c.self.invariant.limits c.later_answer.ensures.advances.limits).terms
     (at-err (FullAtLimit next.interner) c.later_answer.result c.later_answer.ensures.full q refl)
 
 pub returns-clause-stays : goal.returns-clause-stays
 returns-clause-stays c =
     let i = c.self.inside in
-    subst (λ (s : Subject). StaysOn s (record { declarations = i.workspace.now; of_crate = i.crate_id.index; depth = i.limits.depth; handles = i.limits.handles; terms = c.later_answer.new.cx.interner.entries; goals = length (kept_inputs c.later_answer.new.cx.store); answers = length (kept_responses c.later_answer.new.cx.store); frames = i.graph.frames })) c.self.view_is
+    subst (λ (s : Subject). StaysOn s (record { declarations = i.workspace.now; of_crate = i.crate_id.index; depth = i.limits.depth; handles = i.limits.handles; terms = c.later_answer.new.cx.interner.entries; goals = length (kept_inputs c.later_answer.new.cx.store); answers = length (kept_responses c.later_answer.new.cx.store); frames = i.search.graph.frames })) c.self.view_is
     (record { declarations = refl; of_crate = refl; depth = refl; handles = refl; terms = c.later_answer.ensures.advances.entries })

@@ -19,17 +19,17 @@ first_broken_header-requires-clause-numbered c =
     let i = c.self.inside in
     let own : IsNumbered i.workspace.now = subst (λ (s : Subject). IsNumbered s.declarations) (sym c.self.view_is) c.requires.numbered in
     let end : c.args.end ≡ length i.workspace.now.impls = subst (λ (s : Subject). c.args.end ≡ length s.declarations.impls) (sym c.self.view_is) c.requires.end in
-    subst (λ n. IsAbove n i.cx.handler.declarations) (sym end) (numbers-below i.workspace.now i.crate_id.index own i.cx.interner.entries i.cx.handler.declarations c.self.invariant.session.view.rules)
+    subst (λ n. IsAbove n i.search.cx.handler.declarations) (sym end) (numbers-below i.workspace.now i.crate_id.index own i.search.cx.interner.entries i.search.cx.handler.declarations c.self.invariant.session.view.rules)
 
 pub invariant_of-self : goal.invariant_of-self
 invariant_of-self c =
     let i = c.self.inside in
     let next = c.first_broken_header.new.cx in
     record {
-      session = session-kept i.workspace.now i.crate_id.index i.limits.depth i.cx i.graph i.cache c.self.invariant.session next i.graph i.cache
-          (c.rest_laws.ensures.meaning i.cx next c.self.invariant.session.rest.ready c.first_broken_header.ensures.advances)
-          (c.rest_laws.ensures.rest i.graph.root_depth i.cx next i.graph i.cache (session-rests i.workspace.now i.crate_id.index i.limits.depth i.cx i.graph i.cache c.self.invariant.session) c.first_broken_header.ensures.advances);
-      limits = limits-stay i.limits.handles i.cx c.first_broken_header.new.cx c.self.invariant.limits c.first_broken_header.ensures.advances.limits;
+      session = session-kept i.workspace.now i.crate_id.index i.limits.depth i.search.cx i.search.graph i.search.cache c.self.invariant.session next i.search.graph i.search.cache
+          (c.rest_laws.ensures.meaning i.search.cx next c.self.invariant.session.rest.ready c.first_broken_header.ensures.advances)
+          (c.rest_laws.ensures.rest i.search.graph.root_depth i.search.cx next i.search.graph i.search.cache (session-rests i.workspace.now i.crate_id.index i.limits.depth i.search.cx i.search.graph i.search.cache c.self.invariant.session) c.first_broken_header.ensures.advances);
+      limits = limits-stay i.limits.handles i.search.cx c.first_broken_header.new.cx c.self.invariant.limits c.first_broken_header.ensures.advances.limits;
     }
 
 pub returns-clause-first : goal.returns-clause-first
@@ -44,12 +44,12 @@ returns-clause-held c = c.first_broken_header.ensures.held
 pub returns-clause-stays : goal.returns-clause-stays
 returns-clause-stays c =
     let i = c.self.inside in
-    subst (λ (s : Subject). StaysOn s (record { declarations = i.workspace.now; of_crate = i.crate_id.index; depth = i.limits.depth; handles = i.limits.handles; terms = c.first_broken_header.new.cx.interner.entries; goals = length (kept_inputs c.first_broken_header.new.cx.store); answers = length (kept_responses c.first_broken_header.new.cx.store); frames = i.graph.frames })) c.self.view_is
+    subst (λ (s : Subject). StaysOn s (record { declarations = i.workspace.now; of_crate = i.crate_id.index; depth = i.limits.depth; handles = i.limits.handles; terms = c.first_broken_header.new.cx.interner.entries; goals = length (kept_inputs c.first_broken_header.new.cx.store); answers = length (kept_responses c.first_broken_header.new.cx.store); frames = i.search.graph.frames })) c.self.view_is
     (record { declarations = refl; of_crate = refl; depth = refl; handles = refl; terms = c.first_broken_header.ensures.advances.entries })
 
 pub returns-clause-full : goal.returns-clause-full
 returns-clause-full c =
     let i = c.self.inside in
     let x = c.first_broken_header.new.cx in
-    let new : Subject = record { declarations = i.workspace.now; of_crate = i.crate_id.index; depth = i.limits.depth; handles = i.limits.handles; terms = x.interner.entries; goals = length (kept_inputs x.store); answers = length (kept_responses x.store); frames = i.graph.frames } in
-    terms-at-limit new x (record { terms = refl; goals = refl; answers = refl; limits = limits-stay i.limits.handles i.cx c.first_broken_header.new.cx c.self.invariant.limits c.first_broken_header.ensures.advances.limits }) c.first_broken_header.result c.first_broken_header.ensures.full
+    let new : Subject = record { declarations = i.workspace.now; of_crate = i.crate_id.index; depth = i.limits.depth; handles = i.limits.handles; terms = x.interner.entries; goals = length (kept_inputs x.store); answers = length (kept_responses x.store); frames = i.search.graph.frames } in
+    terms-at-limit new x (record { terms = refl; goals = refl; answers = refl; limits = limits-stay i.limits.handles i.search.cx c.first_broken_header.new.cx c.self.invariant.limits c.first_broken_header.ensures.advances.limits }) c.first_broken_header.result c.first_broken_header.ensures.full

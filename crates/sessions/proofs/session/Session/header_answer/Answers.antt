@@ -10,20 +10,20 @@ use Rattle.sessions.proofs.session.Session.header_answer.Goals as goal
 pub header_answer_at-requires-clause-rest : goal.header_answer_at-requires-clause-rest
 header_answer_at-requires-clause-rest c =
     let i = c.self.inside in
-    session-rests i.workspace.now i.crate_id.index i.limits.depth i.cx i.graph i.cache c.self.invariant.session
+    session-rests i.workspace.now i.crate_id.index i.limits.depth i.search.cx i.search.graph i.search.cache c.self.invariant.session
 
 pub header_answer_at-requires-clause-applied : goal.header_answer_at-requires-clause-applied
 header_answer_at-requires-clause-applied c =
     let i = c.self.inside in
-    c.impls_apply.ensures i.workspace.now c.self.invariant.session.text i.crate_id.index i.cx.interner.entries i.cx.handler.declarations c.self.invariant.session.solving
+    c.impls_apply.ensures i.workspace.now c.self.invariant.session.text i.crate_id.index i.search.cx.interner.entries i.search.cx.handler.declarations c.self.invariant.session.solving
 
 pub invariant_of-self : goal.invariant_of-self
 invariant_of-self c =
     let i = c.self.inside in
     let x = c.header_answer_at.new in
     record {
-      session = session-kept i.workspace.now i.crate_id.index i.limits.depth i.cx i.graph i.cache c.self.invariant.session x.cx x.graph x.cache c.header_answer_at.ensures.solving c.header_answer_at.ensures.rest;
-      limits = limits-stay i.limits.handles i.cx c.header_answer_at.new.cx c.self.invariant.limits c.header_answer_at.ensures.limits;
+      session = session-kept i.workspace.now i.crate_id.index i.limits.depth i.search.cx i.search.graph i.search.cache c.self.invariant.session x.search.cx x.search.graph x.search.cache c.header_answer_at.ensures.solving c.header_answer_at.ensures.rest;
+      limits = limits-stay i.limits.handles i.search.cx c.header_answer_at.new.search.cx c.self.invariant.limits c.header_answer_at.ensures.limits;
     }
 
 pub returns-clause-checked : goal.returns-clause-checked
@@ -35,12 +35,12 @@ returns-clause-checked c =
 pub returns-clause-stays : goal.returns-clause-stays
 returns-clause-stays c =
     let i = c.self.inside in
-    subst (λ (s : Subject). StaysOn s (record { declarations = i.workspace.now; of_crate = i.crate_id.index; depth = i.limits.depth; handles = i.limits.handles; terms = c.header_answer_at.new.cx.interner.entries; goals = length (kept_inputs c.header_answer_at.new.cx.store); answers = length (kept_responses c.header_answer_at.new.cx.store); frames = c.header_answer_at.new.graph.frames })) c.self.view_is
+    subst (λ (s : Subject). StaysOn s (record { declarations = i.workspace.now; of_crate = i.crate_id.index; depth = i.limits.depth; handles = i.limits.handles; terms = c.header_answer_at.new.search.cx.interner.entries; goals = length (kept_inputs c.header_answer_at.new.search.cx.store); answers = length (kept_responses c.header_answer_at.new.search.cx.store); frames = c.header_answer_at.new.search.graph.frames })) c.self.view_is
     (record { declarations = refl; of_crate = refl; depth = refl; handles = refl; terms = c.header_answer_at.ensures.keeps })
 
 pub returns-clause-full : goal.returns-clause-full
 returns-clause-full c =
     let i = c.self.inside in
-    let x = c.header_answer_at.new.cx in
-    let new : Subject = record { declarations = i.workspace.now; of_crate = i.crate_id.index; depth = i.limits.depth; handles = i.limits.handles; terms = x.interner.entries; goals = length (kept_inputs x.store); answers = length (kept_responses x.store); frames = c.header_answer_at.new.graph.frames } in
-    at-limit new x (record { terms = refl; goals = refl; answers = refl; limits = limits-stay i.limits.handles i.cx c.header_answer_at.new.cx c.self.invariant.limits c.header_answer_at.ensures.limits }) c.header_answer_at.result c.header_answer_at.ensures.full
+    let x = c.header_answer_at.new.search.cx in
+    let new : Subject = record { declarations = i.workspace.now; of_crate = i.crate_id.index; depth = i.limits.depth; handles = i.limits.handles; terms = x.interner.entries; goals = length (kept_inputs x.store); answers = length (kept_responses x.store); frames = c.header_answer_at.new.search.graph.frames } in
+    at-limit new x (record { terms = refl; goals = refl; answers = refl; limits = limits-stay i.limits.handles i.search.cx c.header_answer_at.new.search.cx c.self.invariant.limits c.header_answer_at.ensures.limits }) c.header_answer_at.result c.header_answer_at.ensures.full

@@ -17,11 +17,11 @@ of_declarations-requires-clause-numbered c =
     let i = c.self.inside in
     let own : IsNumbered i.workspace.now = subst (λ (s : Subject). IsNumbered s.declarations) (sym c.self.view_is) c.requires.numbered in
     let end : c.args.end ≡ length i.workspace.now.impls = subst (λ (s : Subject). c.args.end ≡ length s.declarations.impls) (sym c.self.view_is) c.requires.end in
-    subst (λ n. IsAbove n i.cx.handler.declarations) (sym end) (numbers-below i.workspace.now i.crate_id.index own i.cx.interner.entries i.cx.handler.declarations c.self.invariant.session.view.rules)
+    subst (λ n. IsAbove n i.search.cx.handler.declarations) (sym end) (numbers-below i.workspace.now i.crate_id.index own i.search.cx.interner.entries i.search.cx.handler.declarations c.self.invariant.session.view.rules)
 
 pub returns : goal.returns
 returns c =
     let i = c.self.inside in
     subst (λ (s : Subject). IfOk c.of_declarations.result (ListsSeen s)) c.self.view_is
     (subst (λ n. IfOk c.of_declarations.result (ListsImpls (view_in i.workspace.now i.crate_id.index) n)) c.self.invariant.session.view.local
-    (subst (λ (V : World). IfOk c.of_declarations.result (ListsImpls V i.cx.handler.declarations.local)) c.self.invariant.session.view.rules c.of_declarations.ensures))
+    (subst (λ (V : World). IfOk c.of_declarations.result (ListsImpls V i.search.cx.handler.declarations.local)) c.self.invariant.session.view.rules c.of_declarations.ensures))

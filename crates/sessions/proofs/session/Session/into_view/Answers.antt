@@ -13,5 +13,5 @@ returns c =
     let view : SeenView = record { crate_id = i.crate_id; interner = terms.result; declarations = solver.result.declarations; frames = c.saturating_add.result } in
     record {
       view = subst (λ (x : Subject). IsViewOf x.declarations x.of_crate x.handles view) c.self.view_is
-          (view-left i.workspace.now i.crate_id i.limits.depth i.limits.handles i.cx i.graph i.cache c.self.invariant terms.result solver.result terms.ensures.value solver.ensures.value c.saturating_add.result);
+          (view-left i.workspace.now i.crate_id i.limits.depth i.limits.handles i.search.cx i.search.graph i.search.cache c.self.invariant terms.result solver.result terms.ensures.value solver.ensures.value c.saturating_add.result);
     }

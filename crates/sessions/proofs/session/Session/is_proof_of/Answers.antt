@@ -23,7 +23,7 @@ is_proof_of_question-requires-clause-ready c = c.self.invariant.session.rest.rea
 pub is_proof_of_question-requires-clause-question : goal.is_proof_of_question-requires-clause-question
 is_proof_of_question-requires-clause-question c =
     let i = c.self.inside in
-    is-asked i.workspace.now i.crate_id.index i.limits.depth i.cx i.graph i.cache c.self.invariant.session c.args.number
+    is-asked i.workspace.now i.crate_id.index i.limits.depth i.search.cx i.search.graph i.search.cache c.self.invariant.session c.args.number
     (subst (λ (s : Subject). (q : Question) × AsksProof s.declarations s.of_crate c.args.number q) (sym c.self.view_is) c.requires.question)
 
 pub is_proof_of_question-requires-clause-values : goal.is_proof_of_question-requires-clause-values
@@ -37,29 +37,29 @@ invariant_of-self c =
     let i = c.self.inside in
     let next = c.is_proof_of_question.new.cx in
     record {
-      session = session-kept i.workspace.now i.crate_id.index i.limits.depth i.cx i.graph i.cache c.self.invariant.session next i.graph i.cache
-          (c.rest_laws.ensures.meaning i.cx next c.self.invariant.session.rest.ready c.is_proof_of_question.ensures.advances)
-          (c.rest_laws.ensures.rest i.graph.root_depth i.cx next i.graph i.cache (session-rests i.workspace.now i.crate_id.index i.limits.depth i.cx i.graph i.cache c.self.invariant.session) c.is_proof_of_question.ensures.advances);
-      limits = limits-stay i.limits.handles i.cx c.is_proof_of_question.new.cx c.self.invariant.limits c.is_proof_of_question.ensures.advances.limits;
+      session = session-kept i.workspace.now i.crate_id.index i.limits.depth i.search.cx i.search.graph i.search.cache c.self.invariant.session next i.search.graph i.search.cache
+          (c.rest_laws.ensures.meaning i.search.cx next c.self.invariant.session.rest.ready c.is_proof_of_question.ensures.advances)
+          (c.rest_laws.ensures.rest i.search.graph.root_depth i.search.cx next i.search.graph i.search.cache (session-rests i.workspace.now i.crate_id.index i.limits.depth i.search.cx i.search.graph i.search.cache c.self.invariant.session) c.is_proof_of_question.ensures.advances);
+      limits = limits-stay i.limits.handles i.search.cx c.is_proof_of_question.new.cx c.self.invariant.limits c.is_proof_of_question.ensures.advances.limits;
     }
 
 pub returns-clause-proof : goal.returns-clause-proof
 returns-clause-proof c =
     let i = c.self.inside in
     let d = i.workspace.now in
-    let es = i.cx.interner.entries in
+    let es = i.search.cx.interner.entries in
     let ss = c.args.steps.now in
     subst (λ (s : Subject). (q : Question) → AsksProof s.declarations s.of_crate c.args.number q → IfOk c.is_proof_of_question.result (λ b. b ≡ true → AreProofOfQuestion s.declarations q s.terms ss)) c.self.view_is
     (λ q asks.
-    let of = subst (λ k. IsSolvingOf d k (solving_of es i.cx.handler.declarations)) (sym asks.asks.asker) c.self.invariant.session.solving in
+    let of = subst (λ k. IsSolvingOf d k (solving_of es i.search.cx.handler.declarations)) (sym asks.asks.asker) c.self.invariant.session.solving in
     mapped _ _ c.is_proof_of_question.result
     (λ b shown t.
-    shown-proof d c.self.invariant.session.text c.args.number q asks.asks.question (solving_of es i.cx.handler.declarations) of (rules_in i.cx)
+    shown-proof d c.self.invariant.session.text c.args.number q asks.asks.question (solving_of es i.search.cx.handler.declarations) of (rules_in i.search.cx)
     (c.self.invariant.session.view.rules ∙ ap (rules_seen_from d) (sym asks.asks.asker)) es ss (shown t))
     (c.is_proof_of_question.ensures.proof q asks.asks.question))
 
 pub returns-clause-stays : goal.returns-clause-stays
 returns-clause-stays c =
     let i = c.self.inside in
-    subst (λ (s : Subject). StaysOn s (record { declarations = i.workspace.now; of_crate = i.crate_id.index; depth = i.limits.depth; handles = i.limits.handles; terms = c.is_proof_of_question.new.cx.interner.entries; goals = length (kept_inputs c.is_proof_of_question.new.cx.store); answers = length (kept_responses c.is_proof_of_question.new.cx.store); frames = i.graph.frames })) c.self.view_is
+    subst (λ (s : Subject). StaysOn s (record { declarations = i.workspace.now; of_crate = i.crate_id.index; depth = i.limits.depth; handles = i.limits.handles; terms = c.is_proof_of_question.new.cx.interner.entries; goals = length (kept_inputs c.is_proof_of_question.new.cx.store); answers = length (kept_responses c.is_proof_of_question.new.cx.store); frames = i.search.graph.frames })) c.self.view_is
     (record { declarations = refl; of_crate = refl; depth = refl; handles = refl; terms = c.is_proof_of_question.ensures.advances.entries })

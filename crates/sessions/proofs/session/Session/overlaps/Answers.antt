@@ -12,7 +12,7 @@ use Rattle.sessions.proofs.session.Session.overlaps.Goals as goal
 pub overlap_at-requires-clause-rest : goal.overlap_at-requires-clause-rest
 overlap_at-requires-clause-rest c =
     let i = c.self.inside in
-    session-rests i.workspace.now i.crate_id.index i.limits.depth i.cx i.graph i.cache c.self.invariant.session
+    session-rests i.workspace.now i.crate_id.index i.limits.depth i.search.cx i.search.graph i.search.cache c.self.invariant.session
 
 pub overlap_at-requires-clause-numbers : goal.overlap_at-requires-clause-numbers
 overlap_at-requires-clause-numbers c =
@@ -29,12 +29,12 @@ returns-clause-judged c =
 pub returns-clause-stays : goal.returns-clause-stays
 returns-clause-stays c =
     let i = c.self.inside in
-    subst (λ (s : Subject). StaysOn s (record { declarations = i.workspace.now; of_crate = i.crate_id.index; depth = i.limits.depth; handles = i.limits.handles; terms = c.overlap_at.new.cx.interner.entries; goals = length (kept_inputs c.overlap_at.new.cx.store); answers = length (kept_responses c.overlap_at.new.cx.store); frames = c.overlap_at.new.graph.frames })) c.self.view_is
+    subst (λ (s : Subject). StaysOn s (record { declarations = i.workspace.now; of_crate = i.crate_id.index; depth = i.limits.depth; handles = i.limits.handles; terms = c.overlap_at.new.search.cx.interner.entries; goals = length (kept_inputs c.overlap_at.new.search.cx.store); answers = length (kept_responses c.overlap_at.new.search.cx.store); frames = c.overlap_at.new.search.graph.frames })) c.self.view_is
     (record { declarations = refl; of_crate = refl; depth = refl; handles = refl; terms = c.overlap_at.ensures.entries })
 
 pub returns-clause-full : goal.returns-clause-full
 returns-clause-full c =
     let i = c.self.inside in
-    let x = c.overlap_at.new.cx in
-    let new : Subject = record { declarations = i.workspace.now; of_crate = i.crate_id.index; depth = i.limits.depth; handles = i.limits.handles; terms = x.interner.entries; goals = length (kept_inputs x.store); answers = length (kept_responses x.store); frames = c.overlap_at.new.graph.frames } in
-    at-limit new x (record { terms = refl; goals = refl; answers = refl; limits = limits-stay i.limits.handles i.cx c.overlap_at.new.cx c.self.invariant.limits c.overlap_at.ensures.limits }) c.overlap_at.result c.overlap_at.ensures.full
+    let x = c.overlap_at.new.search.cx in
+    let new : Subject = record { declarations = i.workspace.now; of_crate = i.crate_id.index; depth = i.limits.depth; handles = i.limits.handles; terms = x.interner.entries; goals = length (kept_inputs x.store); answers = length (kept_responses x.store); frames = c.overlap_at.new.search.graph.frames } in
+    at-limit new x (record { terms = refl; goals = refl; answers = refl; limits = limits-stay i.limits.handles i.search.cx c.overlap_at.new.search.cx c.self.invariant.limits c.overlap_at.ensures.limits }) c.overlap_at.result c.overlap_at.ensures.full

@@ -15,7 +15,7 @@ pub partners_of-requires-clause-listed : goal.partners_of-requires-clause-listed
 partners_of-requires-clause-listed c =
     let i = c.self.inside in
     let m = c.args.impls.now in
-    subst (λ (V : World). ListsImpls V i.cx.handler.declarations.local m) (sym c.self.invariant.session.view.rules)
+    subst (λ (V : World). ListsImpls V i.search.cx.handler.declarations.local m) (sym c.self.invariant.session.view.rules)
     (subst (λ n. ListsImpls (view_in i.workspace.now i.crate_id.index) n m) (sym c.self.invariant.session.view.local) (subst (λ (s : Subject). ListsSeen s m) (sym c.self.view_is) c.requires))
 
 pub returns : goal.returns
@@ -24,4 +24,4 @@ returns c =
     let k = c.args.later.index in
     subst (λ (s : Subject). IfOk c.partners_of.result (λ ids. HavePartnersSeen s k ids.items)) c.self.view_is
     (over-ok c.partners_of.result
-    (λ ids have x y p e m. have x y (pair-here i.workspace.now i.crate_id.index i.limits.depth i.cx i.graph i.cache c.self.invariant.session k y.name x y (record { pair = p; later = e; earlier = refl })).pair e m) c.partners_of.ensures)
+    (λ ids have x y p e m. have x y (pair-here i.workspace.now i.crate_id.index i.limits.depth i.search.cx i.search.graph i.search.cache c.self.invariant.session k y.name x y (record { pair = p; later = e; earlier = refl })).pair e m) c.partners_of.ensures)

@@ -22,7 +22,7 @@ returns-clause-answer c =
     let i = c.self.inside in
     subst (λ (s : Subject). (q : Question) → AsksRefutation s.declarations s.of_crate c.args.number q → IfOk c.refute_question.result (λ a. IsRefutation s.depth s.declarations q (refutation_of a))) c.self.view_is
     (λ q asks.
-    answered-exactly i.workspace.now i.crate_id.index i.limits.depth i.cx i.graph i.cache c.self.invariant.session c.refutations_have_variables_alone.ensures c.args.number q asks c.refute_question.result
+    answered-exactly i.workspace.now i.crate_id.index i.limits.depth i.search.cx i.search.graph i.search.cache c.self.invariant.session c.refutations_have_variables_alone.ensures c.args.number q asks c.refute_question.result
     (record {
       made = on-map c.refute_question.result _ _ (λ f. f q asks.asks.question) c.refute_question.ensures.made;
       no = λ r own. c.refute_question.ensures.no r q asks.asks.question own;
@@ -33,17 +33,17 @@ returns-clause-answer c =
 pub returns-clause-frames : goal.returns-clause-frames
 returns-clause-frames c =
     let i = c.self.inside in
-    let new : Subject = record { declarations = i.workspace.now; of_crate = i.crate_id.index; depth = i.limits.depth; handles = i.limits.handles; terms = c.refute_question.new.cx.interner.entries; goals = length (kept_inputs c.refute_question.new.cx.store); answers = length (kept_responses c.refute_question.new.cx.store); frames = c.refute_question.new.graph.frames } in
-    let s = solving_of i.cx.interner.entries i.cx.handler.declarations in
+    let new : Subject = record { declarations = i.workspace.now; of_crate = i.crate_id.index; depth = i.limits.depth; handles = i.limits.handles; terms = c.refute_question.new.search.cx.interner.entries; goals = length (kept_inputs c.refute_question.new.search.cx.store); answers = length (kept_responses c.refute_question.new.search.cx.store); frames = c.refute_question.new.search.graph.frames } in
+    let s = solving_of i.search.cx.interner.entries i.search.cx.handler.declarations in
     subst (λ (old : Subject). (q : Question) → AsksRefutation old.declarations old.of_crate c.args.number q → RefutesInFrames old q new) c.self.view_is
     (λ q asks.
-    refutation-within s (view_in i.workspace.now i.crate_id.index) (seen-erased-world i.cx.interner.entries i.cx.handler.declarations i.workspace.now i.crate_id.index c.self.invariant.session.view.written) i.limits.depth q i.graph.frames new.frames
-    (subst (λ n. new.frames ≤ i.graph.frames + frames_for solver_by_view s n (asked_alone (unbound_reference q.asked))) c.self.invariant.session.rest.depth
+    refutation-within s (view_in i.workspace.now i.crate_id.index) (seen-erased-world i.search.cx.interner.entries i.search.cx.handler.declarations i.workspace.now i.crate_id.index c.self.invariant.session.view.written) i.limits.depth q i.search.graph.frames new.frames
+    (subst (λ n. new.frames ≤ i.search.graph.frames + frames_for solver_by_view s n (asked_alone (unbound_reference q.asked))) c.self.invariant.session.rest.depth
     (c.refute_question.ensures.frames q asks.asks.question)))
 
 pub returns-clause-full : goal.returns-clause-full
 returns-clause-full c =
     let i = c.self.inside in
     let x = c.refute_question.new in
-    let new : Subject = record { declarations = i.workspace.now; of_crate = i.crate_id.index; depth = i.limits.depth; handles = i.limits.handles; terms = x.cx.interner.entries; goals = length (kept_inputs x.cx.store); answers = length (kept_responses x.cx.store); frames = x.graph.frames } in
-    at-limit new x.cx (record { terms = refl; goals = refl; answers = refl; limits = limits-stay i.limits.handles i.cx c.refute_question.new.cx c.self.invariant.limits c.refute_question.ensures.limits }) c.refute_question.result c.refute_question.ensures.full
+    let new : Subject = record { declarations = i.workspace.now; of_crate = i.crate_id.index; depth = i.limits.depth; handles = i.limits.handles; terms = x.search.cx.interner.entries; goals = length (kept_inputs x.search.cx.store); answers = length (kept_responses x.search.cx.store); frames = x.search.graph.frames } in
+    at-limit new x.search.cx (record { terms = refl; goals = refl; answers = refl; limits = limits-stay i.limits.handles i.search.cx c.refute_question.new.search.cx c.self.invariant.limits c.refute_question.ensures.limits }) c.refute_question.result c.refute_question.ensures.full
