@@ -12,12 +12,7 @@ use Rattle.sessions.specs.Promised.Promises.{IsVerdictOf, view_in}
 use Rattle.sessions.specs.Promised.Releases.{StopsAt}
 use Rattle.sessions.specs.Verdicts.{Verdict, accepted, orphan, overlap}
 use Rattle.coherence.specs.KeptLines.{NamesImpls}
-
--- an element of a mapped list stands for one of the list
-mapped : {A B : Type 0} (f : A → B) (xs : List A) (k : ℕ) (y : B) → slice_get (map f xs) k ≡ Some y → (x : A) × (slice_get xs k ≡ Some x) × (f x ≡ y)
-mapped f [] k y h = absurd cc
-mapped f (x ∷ xs) zero y h = (x, refl, same_Some (f x) y h)
-mapped f (x ∷ xs) (suc k) y h = mapped f xs k y h
+use Rattle.coherence.proofs.ImplParams.{unmapped as mapped}
 
 -- an impl that a crate sees has its place for its number
 place : (d : Declarations) (c : ℕ) (i : ImplDecl) → IsNumbered d → In i (view_in d c).impls → i.name < length d.impls

@@ -7,9 +7,7 @@ use Rattle.sessions.proofs.CandidateModel.PlainRules.{is_wild}
 use Rattle.sessions.specs.ViewLowering.Promised.SeenWorlds.{plain, plain_label, all_kept, none_kept}
 use Rattle.coherence.specs.Promised.CheckAnswers.{asked_header}
 use Rattle.sessions.proofs.TypeTerms.BooleanBasics.{true-false as refuse}
-
-node : (l : Label) {c d o p : Trees} → c ≡ d → o ≡ p → tree l c o ≡ tree l d p
-node l e f = cc
+use Rattle.sessions.proofs.OpaqueTerms.{node}
 
 all-no : (a b c : Bool) → a || b || c ≡ false → (a ≡ false) × (b ≡ false) × (c ≡ false)
 all-no false false false h = (refl, refl, refl)

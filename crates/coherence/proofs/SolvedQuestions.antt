@@ -15,6 +15,7 @@ use Rattle.sessions.specs.Promised.CoherentTexts.{text_world}
 use Rattle.sessions.specs.Promised.OwnValues.{SpeakOfOwn}
 use Rattle.sessions.specs.Promised.Promises.{view_in}
 use Rattle.coherence.specs.Promised.ProvedAnswers.{with_values, reference_with, SolvedBy, YesTells, NoTells, TextHolds}
+use Rattle.sessions.proofs.ProvedQuestions.{inner as node}
 
 -- ---- values put in
 kind-same : (s : Sort) (ks : List Sort) (ts : List Trees) → of_kind s ks ts ≡ map (λ v. v.1) (filter (λ v. is_sort v.0 s) (zip ks ts))
@@ -26,9 +27,6 @@ kind-same s (k ∷ ks) (t ∷ ts) = by (is_sort k s) (kind-same s ks ts)
         → (if b then t ∷ of_kind s ks ts else of_kind s ks ts) ≡ map (λ v. v.1) (if b then (k, t) ∷ filter (λ v. is_sort v.0 s) (zip ks ts) else filter (λ v. is_sort v.0 s) (zip ks ts))
     by true e = ap (λ xs. t ∷ xs) e
     by false e = e
-
-node : {l : Label} {c d o p : Trees} → c ≡ d → o ≡ p → tree l c o ≡ tree l d p
-node e f = cc
 
 module _ (ks : List Sort) (ts : List Trees) where
   put-same : (t : Trees) → filled ks ts t ≡ with_values (zip ks ts) t

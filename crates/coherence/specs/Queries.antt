@@ -6,6 +6,7 @@ use Rattle.sessions.specs.TextLanguage.Output.{Answer, yes, maybe, unproved}
 use Rattle.sessions.specs.Promised.Promises.{IsProved}
 use Rattle.sessions.specs.Promised.Subjects.{AsksProof, AsksRefutation}
 use Rattle.sessions.specs.QuestionAnswers as answers
+use Rattle.sessions.specs.TextQuestions.{IsQuestion}
 use Rattle.coherence.specs.Lines.{prove_line}
 use Rattle.coherence.specs.declared.named_answer.NamedAnswer.{NamedAnswer}
 use Rattle.coherence.specs.declared.named_answer.NamedAnswer.TheVariants as named
@@ -28,6 +29,10 @@ pub record IsRefuteQuery (d : Declarations) (r : RefuteQuery) : Type 0 where
 abbrev pub IsQueryAt : Declarations → ℕ → Query → Type 0
 IsQueryAt d n (Prove p) = (p.number ≡ n) × IsProveQuery d p
 IsQueryAt d n (Refute r) = (r.number ≡ n) × IsRefuteQuery d r
+
+-- The text has no query with number n.
+abbrev pub HasNoQuery : Declarations → ℕ → Type 0
+HasNoQuery d n = (q : Question) → IsQuestion d n q → ⊥
 
 -- The line that an answer to query number n prints.
 abbrev pub named_line : ℕ → NamedAnswer → Answer

@@ -1,6 +1,6 @@
 //! A text that is read once, and asked at run time.
 
-ghost use Rattle.std.specs.Prelude.{◌≡◌, ◌<◌, ◌≤◌, ℕ, List, length, Ok, IfOk, IfErr, IfSome};
+ghost use Rattle.std.specs.Prelude.{◌≡◌, ◌<◌, ◌≤◌, ℕ, List, length, None, Ok, IfOk, IfErr, IfSome};
 ghost use Rattle.std.specs.Option.{option_map, option_and_then};
 ghost use Rattle.sessions.specs.TextLanguage.Promised.Declarations.{known};
 ghost use Rattle.sessions.specs.TextLanguage.Text.{TextGives};
@@ -19,7 +19,7 @@ ghost use Rattle.coherence.specs.Asking.{IsAnswerBehind, IsAskFault, IsLastLine,
 ghost use Rattle.coherence.specs.Groups.{IsAskedIn};
 ghost use Rattle.coherence.specs.KeptLines.{IsLineOf};
 ghost use Rattle.coherence.specs.LineByLine.{IsVerdictLine};
-ghost use Rattle.coherence.specs.Queries.{IsNamedAnswer, IsProveQuery, IsQueryAt, IsRefuteQuery};
+ghost use Rattle.coherence.specs.Queries.{HasNoQuery, IsNamedAnswer, IsProveQuery, IsQueryAt, IsRefuteQuery};
 
 use crate::ask_fault::AskFault;
 use crate::lines::{question_line, verdict_line};
@@ -274,7 +274,8 @@ impl Asker {
 
     /// The query of the text with this number, from 1. `None` if the text has no such query.
     pub fn query(&self, number: u32) -> Option<Query>
-        ensures { IfSome result (IsQueryAt self.now.declarations number) }
+        ensures is { IfSome result (IsQueryAt self.now.declarations number) }
+        ensures none { result ≡ None → HasNoQuery self.now.declarations number }
     {
         Query::of_text(&self.workspace, number)
     }

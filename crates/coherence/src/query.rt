@@ -1,9 +1,7 @@
 //! Queries of a text as values that say what they ask.
 
 ghost use Rattle.std.specs.Prelude.{◌≡◌, None, IfSome};
-ghost use Rattle.sessions.specs.TextLanguage.Promised.Declarations.{Question};
-ghost use Rattle.sessions.specs.TextQuestions.{IsQuestion};
-ghost use Rattle.coherence.specs.Queries.{IsQueryAt};
+ghost use Rattle.coherence.specs.Queries.{HasNoQuery, IsQueryAt};
 
 use sessions::type_terms::CrateId;
 use sessions::workspace::{Asked, Workspace};
@@ -39,7 +37,7 @@ impl Query {
     /// The query of a text with this number, from 1. `None` if the text has no such query.
     pub fn of_text(workspace: &Workspace, number: u32) -> Option<Query>
         ensures is { IfSome result (IsQueryAt workspace.now number) }
-        ensures none { result ≡ None → (q : Question) → IsQuestion workspace.now number q → ⊥ }
+        ensures none { result ≡ None → HasNoQuery workspace.now number }
     {
         let _crates = workspace.crates();
         let asked = workspace.questions();

@@ -3,7 +3,8 @@
 //! Its code names the crate `coherence` alone (its proof also `sessions`). docs/LIBRARY.md shows the same function.
 #![tactic(auto)]
 
-ghost use Rattle.std.specs.Prelude.{◌≡◌, IfOk, IfSome};
+ghost use Rattle.std.specs.Prelude.{◌≡◌, None, Ok, IfOk, IfSome};
+ghost use Rattle.coherence.specs.Queries.{HasNoQuery};
 ghost use Rattle.example_checker.specs.Findings.{IsFound};
 
 use coherence::{Asker, Fault, NamedAnswer, Query, RefuteAnswer};
@@ -22,6 +23,7 @@ pub enum Finding {
 /// What is found of the query with this number, from 1. `None` if the text has no such query.
 pub fn check_query(asker: &mut Asker, number: u32) -> Result<Option<Finding>, Fault>
     ensures found { IfOk result (λ found. IfSome found (IsFound asker.old.depth asker.old.declarations number)) }
+    ensures none { result ≡ Ok None → HasNoQuery asker.old.declarations number }
     ensures stays { asker.new ≡ asker.old }
 {
     let Some(query) = asker.query(number) else {
