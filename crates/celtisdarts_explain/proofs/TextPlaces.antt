@@ -3,15 +3,15 @@ use Rattle.std.proofs.Common.{◌≡◌, ℕ, ◌+◌, ◌-◌, ◌<◌, Bool, L
 use Rattle.std.specs.List.{slice_get}
 use Rattle.std.proofs.lemmas.List.{length-map}
 use Rattle.std.proofs.lemmas.Option.{slice_get-get_or, slice_get-map}
-use Rattle.explain_texts.proofs.TypeTerms.Lists as lists
-use Rattle.explain_texts.specs.TypeTerms.declared.CrateId.{CrateId}
-use Rattle.explain_texts.specs.TextLanguage.Promised.Declarations.{Declarations, NamedCrate, Question}
-use Rattle.explain_texts.specs.Workspace.Numbered.{IsNumbered}
-use Rattle.explain_texts.specs.Workspace.Views.{numbers_of, asked_of, asker_of, is_refute, check_of}
-use Rattle.explain_texts.specs.Workspace.declared.declared.Asked.{Asked}
-use Rattle.explain_texts.specs.Workspace.declared.declared.Check.{Check}
-use Rattle.explain_texts.specs.Sessions.Promised.Subjects.{Asks}
-use Rattle.explain_texts.proofs.TypeTerms.TypeBasics.{mapped-some}
+use Rattle.explain_faults.proofs.TypeTerms.Lists as lists
+use Rattle.explain_faults.specs.TypeTerms.declared.CrateId.{CrateId}
+use Rattle.explain_faults.specs.TextLanguage.Promised.Declarations.{Declarations, NamedCrate, Question}
+use Rattle.explain_faults.specs.Workspace.Numbered.{IsNumbered}
+use Rattle.explain_faults.specs.Workspace.Views.{numbers_of, asked_of, asker_of, is_refute, check_of}
+use Rattle.explain_faults.specs.Workspace.declared.declared.Asked.{Asked}
+use Rattle.explain_faults.specs.Workspace.declared.declared.Check.{Check}
+use Rattle.explain_faults.specs.Sessions.Promised.Subjects.{Asks}
+use Rattle.explain_faults.proofs.TypeTerms.TypeBasics.{mapped-some}
 
 -- what an element becomes, an element of the other list becomes too
 pub same-at : {A B C : Type 0} (f : A → C) (g : B → C) (xs : List A) (ys : List B) → map f xs ≡ map g ys → (k : ℕ) (x : A) → slice_get xs k ≡ Some x → (y : B) × (slice_get ys k ≡ Some y) × (g y ≡ f x)

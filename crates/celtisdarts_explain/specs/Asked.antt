@@ -1,12 +1,12 @@
 -- The checks and queries of a crate, as its session takes them.
 use Rattle.std.specs.Prelude.{ℕ}
-use Rattle.explain_texts.specs.TextLanguage.Promised.Declarations.{Declarations, Question}
-use Rattle.explain_texts.specs.Sessions.Promised.Releases.{IsSectionOf}
-use Rattle.explain_texts.specs.Sessions.Promised.Subjects.{AsksProof, AsksRefutation}
-use Rattle.explain_texts.specs.Workspace.declared.declared.Asked.{Asked}
-use Rattle.explain_texts.specs.Workspace.declared.declared.Asked.TheVariants.{Prove, Refute}
-use Rattle.explain_texts.specs.Workspace.declared.declared.Check.{Check}
-use Rattle.explain_texts.specs.Workspace.declared.declared.Check.TheVariants.{Later, Supers}
+use Rattle.explain_faults.specs.TextLanguage.Promised.Declarations.{Declarations, Question}
+use Rattle.explain_faults.specs.Sessions.Promised.Releases.{IsSectionOf}
+use Rattle.explain_faults.specs.Sessions.Promised.Subjects.{AsksProof, AsksRefutation}
+use Rattle.explain_faults.specs.Workspace.declared.declared.Asked.{Asked}
+use Rattle.explain_faults.specs.Workspace.declared.declared.Asked.TheVariants.{Prove, Refute}
+use Rattle.explain_faults.specs.Workspace.declared.declared.Check.{Check}
+use Rattle.explain_faults.specs.Workspace.declared.declared.Check.TheVariants.{Later, Supers}
 
 -- A check is of crate c: a section is one of c.
 abbrev pub IsCheckOf : Declarations → ℕ → Check → Type 0

@@ -2,20 +2,20 @@
 
 ghost use Rattle.std.specs.Prelude.{◌≡◌, true, IfOk};
 ghost use Rattle.celtisdarts_explain.specs.Told.{ShowsCommonOf, ShowsOverlap};
-ghost use Rattle.explain_texts.specs.ExplainSessions.Walked.{PairWalkHeld};
-ghost use Rattle.explain_texts.specs.Sessions.Promised.Subjects.{StaysOn};
+ghost use Rattle.explain_faults.specs.ExplainSessions.Walked.{PairWalkHeld};
+ghost use Rattle.explain_faults.specs.Sessions.Promised.Subjects.{StaysOn};
 
 use crate::spending::Spending;
-use explain_texts::explain_diagnostics::LIST_LIMIT;
-use explain_texts::explain_sessions::{PairWalk, explain_overlap, impls_overlap};
-use explain_texts::sessions::Session;
-use explain_texts::text_printer::ShownNames;
-use explain_texts::type_terms::{Fault, ImplId};
-use explain_texts::workspace::ImplEntry;
-use explain_texts::{
+use explain_faults::explain_diagnostics::LIST_LIMIT;
+use explain_faults::explain_sessions::{PairWalk, explain_overlap, impls_overlap};
+use explain_faults::explain_texts::{
     Piece, Sentence, Spoken, Telling, Texts, impl_line, plain, speak, with_four, with_three,
     with_two,
 };
+use explain_faults::sessions::Session;
+use explain_faults::text_printer::ShownNames;
+use explain_faults::type_terms::{Fault, ImplId};
+use explain_faults::workspace::ImplEntry;
 use std::alloc::{AllocError, Global};
 
 /// How many pairs of a crate are compared at most after the first that overlaps.
@@ -165,7 +165,12 @@ fn note_pair(
         params: &[],
         variables: &[],
     };
-    let common = speak(session.cx.alloc, session.interner(), &names, walk.common)?;
+    let common = speak(
+        session.search.cx.alloc,
+        session.interner(),
+        &names,
+        walk.common,
+    )?;
     telling.note(pair_said(texts, pair, &common, false));
     if let Some(line) = impl_line(texts, pair.later) {
         telling.mark_child(line.header());
@@ -243,7 +248,7 @@ pub(crate) fn tell_later_pairs(
 ) -> Result<(), Fault>
     ensures { StaysOn session.old session.new }
 {
-    let found = later_pairs(session.cx.alloc, texts, first)?;
+    let found = later_pairs(session.search.cx.alloc, texts, first)?;
     spending.add_explanation(0, found.pairs.len() as u64 / 16, 0);
     tell_pairs(texts, session, &found, spending, telling)
 }

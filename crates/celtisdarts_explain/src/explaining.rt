@@ -4,9 +4,9 @@
 //! One session for each crate explains all its lines. No contract says that a sentence is true.
 
 ghost use Rattle.std.specs.Prelude.{◌≡◌, ◌<◌, length, IfSome, OnOk};
-ghost use Rattle.explain_texts.specs.Sessions.SeenViews.{IsLeftView};
-ghost use Rattle.explain_texts.specs.Sessions.Promised.Subjects.{IsOfText, StaysOn};
-ghost use Rattle.explain_texts.specs.Workspace.Numbered.{IsFew};
+ghost use Rattle.explain_faults.specs.Sessions.SeenViews.{IsLeftView};
+ghost use Rattle.explain_faults.specs.Sessions.Promised.Subjects.{IsOfText, StaysOn};
+ghost use Rattle.explain_faults.specs.Workspace.Numbered.{IsFew};
 
 use crate::checks::explain_checked;
 use crate::conflicts::Pair;
@@ -16,13 +16,14 @@ use crate::places::{
 };
 use crate::questions::{Questioned, explain_asked};
 use crate::spending::Spending;
-use explain_texts::explain_diagnostics::{Diagnostic, SourceFile};
-use explain_texts::explain_sessions::impl_header;
-use explain_texts::sessions::{Limits, SeenView, Session, Verdict};
-use explain_texts::text_parser::{TextError, TextFault, parse};
-use explain_texts::type_terms::{CrateId, Fault, ImplId};
-use explain_texts::workspace::{ENTRY_LIMIT, Workspace};
-use explain_texts::{FurtherFault, Texts, fault_diagnostic, further_faults, item_lines, orphan};
+use explain_faults::explain_diagnostics::{Diagnostic, SourceFile};
+use explain_faults::explain_sessions::impl_header;
+use explain_faults::explain_texts::{Texts, item_lines, orphan};
+use explain_faults::sessions::{Limits, SeenView, Session, Verdict};
+use explain_faults::text_parser::{TextError, TextFault, parse};
+use explain_faults::type_terms::{CrateId, Fault, ImplId};
+use explain_faults::workspace::{ENTRY_LIMIT, Workspace};
+use explain_faults::{FurtherFault, fault_diagnostic, further_faults};
 use std::alloc::{AllocError, Global};
 
 /// Room for this many diagnostics, with none in it.
@@ -126,7 +127,7 @@ fn explain_questions(
     requires few { IsFew texts.workspace.now ENTRY_LIMIT }
     ensures { StaysOn session.old session.new }
 {
-    let alloc = session.cx.alloc;
+    let alloc = session.search.cx.alloc;
     let depth = session.limits.depth;
     let before = first_question(texts.workspace);
     for place in 0..question_count(texts.workspace) {

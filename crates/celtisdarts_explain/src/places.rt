@@ -3,8 +3,8 @@
 ghost use Rattle.std.specs.Prelude.{◌≡◌, ◌+◌, ◌<◌, length};
 ghost use Rattle.celtisdarts_explain.specs.Asked.{IsAskedOf, IsCheckOf};
 
-use explain_texts::type_terms::CrateId;
-use explain_texts::workspace::{Asked, Check, Workspace};
+use explain_faults::type_terms::CrateId;
+use explain_faults::workspace::{Asked, Check, Workspace};
 
 /// How many crates a text has, with `core`.
 pub(crate) fn crate_count(workspace: &Workspace) -> usize

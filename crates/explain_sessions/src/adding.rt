@@ -204,8 +204,8 @@ pub(crate) fn find_adder(
 {
     adder_in(
         session.workspace,
-        &session.cx.interner,
-        &session.cx.handler.declarations,
+        &session.search.cx.interner,
+        &session.search.cx.handler.declarations,
         reference,
         conflict,
     )

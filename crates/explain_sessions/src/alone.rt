@@ -22,8 +22,7 @@ use explain_traces::{GoalWalk, TracedGoal};
 use sessions::Session;
 use sessions::candidate_assembly::solver::Solver;
 use sessions::goal_evaluator::TypingMode;
-use sessions::search_graph::{GlobalCache, SearchGraph};
-use sessions::solver_graph::{SolverCx, SolverGraph};
+use sessions::solver_graph::Search;
 use sessions::term_folds::predicate::TraitRef;
 use sessions::type_terms::Fault;
 
@@ -32,52 +31,44 @@ use sessions::type_terms::Fault;
 ///
 /// All stays at rest, after a fault too. The fault is a refusal of memory, or `Full`.
 fn walk_reference(
-    graph: &mut SearchGraph<SolverGraph<Solver>>,
-    cache: &mut GlobalCache<SolverGraph<Solver>>,
-    cx: &mut SolverCx<Solver>,
+    search: &mut Search<Solver>,
     reference: TraitRef,
     depth: u32,
 ) -> Result<Option<ProofWalk>, Fault>
-    requires rest { SolverRests graph.old.root_depth cx.old graph.old cache.old }
-    requires held { ReferenceHeld cx.old.interner.entries reference }
-    ensures rests { RestsAfter graph.old.root_depth cx.old cx.new graph.new cache.new }
-    ensures held { IfOk result (λ o. IfSome o (ProofWalkHeld cx.new.interner.entries)) }
+    requires rest { SolverRests search.old.graph.root_depth search.old.cx search.old.graph search.old.cache }
+    requires held { ReferenceHeld search.old.cx.interner.entries reference }
+    ensures rests { RestsAfter search.old.graph.root_depth search.old.cx search.new.cx search.new.graph search.new.cache }
+    ensures held { IfOk result (λ o. IfSome o (ProofWalkHeld search.new.cx.interner.entries)) }
 {
-    let mut table = goal_table_in(cx)?;
-    if !is_of_table(&cx.interner, &table, reference.args) {
+    let mut table = goal_table_in(&mut search.cx)?;
+    if !is_of_table(&search.cx.interner, &table, reference.args) {
         return Ok(None);
     }
-    let goal = bare_goal(cx.alloc, reference);
+    let goal = bare_goal(search.cx.alloc, reference);
     let traced = TracedGoal {
         goal: &goal,
         mode: TypingMode::PostAnalysis,
         depth,
     };
-    let walk = walk_alone(graph, cache, cx, &mut table, traced)?;
-    let proof = with_steps(cx, &mut table, &[], walk)?;
+    let walk = walk_alone(search, &mut table, traced)?;
+    let proof = with_steps(&mut search.cx, &mut table, &[], walk)?;
     Ok(Some(proof))
 }
 
 /// Whether a reference has a proof, by steps that a walk finds and the checker lets through.
 ///
 /// All stays at rest, after a fault too. The fault is a refusal of memory, or `Full`.
-fn holds_alone(
-    graph: &mut SearchGraph<SolverGraph<Solver>>,
-    cache: &mut GlobalCache<SolverGraph<Solver>>,
-    cx: &mut SolverCx<Solver>,
-    reference: TraitRef,
-    depth: u32,
-) -> Result<bool, Fault>
-    requires rest { SolverRests graph.old.root_depth cx.old graph.old cache.old }
-    requires held { ReferenceHeld cx.old.interner.entries reference }
-    ensures rests { RestsAfter graph.old.root_depth cx.old cx.new graph.new cache.new }
-    ensures holds { IfOk result (λ b. b ≡ true → HasProof (rules_in cx.old) [] (term_of cx.old.interner.entries reference)) }
+fn holds_alone(search: &mut Search<Solver>, reference: TraitRef, depth: u32) -> Result<bool, Fault>
+    requires rest { SolverRests search.old.graph.root_depth search.old.cx search.old.graph search.old.cache }
+    requires held { ReferenceHeld search.old.cx.interner.entries reference }
+    ensures rests { RestsAfter search.old.graph.root_depth search.old.cx search.new.cx search.new.graph search.new.cache }
+    ensures holds { IfOk result (λ b. b ≡ true → HasProof (rules_in search.old.cx) [] (term_of search.old.cx.interner.entries reference)) }
 {
-    let found = walk_reference(graph, cache, cx, reference, depth)?;
+    let found = walk_reference(search, reference, depth)?;
     let Some(proof) = found else {
         return Ok(false);
     };
-    is_proved_by(cx, reference, &proof.steps)
+    is_proved_by(&mut search.cx, reference, &proof.steps)
 }
 
 /// Whether the goal at a place of a walk has a proof without where-clauses by what the session's crate sees: it is asked alone.
@@ -95,11 +86,5 @@ pub(crate) fn is_held_alone_at(
     let Some(reference) = reference_at(&walk.references, place) else {
         return Ok(false);
     };
-    holds_alone(
-        &mut session.graph,
-        &mut session.cache,
-        &mut session.cx,
-        reference,
-        session.limits.depth,
-    )
+    holds_alone(&mut session.search, reference, session.limits.depth)
 }

@@ -103,7 +103,7 @@ pub fn question_claims(session: &mut Session<'_>, walk: &GoalWalk) -> Result<Cla
     ensures stays { StaysOn session.old session.new }
 {
     let candidates = checked_candidates(session, walk)?;
-    Ok(of_candidates(session.cx.alloc, candidates))
+    Ok(of_candidates(session.search.cx.alloc, candidates))
 }
 
 /// Adds who may write an impl for the goal at a place, if it is known that someone may.

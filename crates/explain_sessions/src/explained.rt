@@ -38,9 +38,7 @@ pub fn explain_question(session: &mut Session<'_>, number: u32) -> Result<GoalWa
 {
     clauses_apply();
     walk_question(
-        &mut session.graph,
-        &mut session.cache,
-        &mut session.cx,
+        &mut session.search,
         session.workspace,
         number,
         session.limits.depth,
@@ -57,9 +55,7 @@ fn find_proof(session: &mut Session<'_>, number: u32) -> Result<ProofWalk, Fault
 {
     clauses_apply();
     walk_proof(
-        &mut session.graph,
-        &mut session.cache,
-        &mut session.cx,
+        &mut session.search,
         session.workspace,
         number,
         session.limits.depth,
@@ -100,9 +96,7 @@ pub fn explain_refutation(session: &mut Session<'_>, number: u32) -> Result<Goal
     ensures stays { StaysOn session.old session.new }
 {
     walk_refutation(
-        &mut session.graph,
-        &mut session.cache,
-        &mut session.cx,
+        &mut session.search,
         session.workspace,
         number,
         session.limits.depth,
@@ -122,14 +116,7 @@ pub fn explain_supertrait(
     ensures stays { StaysOn session.old session.new }
 {
     impls_apply();
-    walk_supertrait(
-        &mut session.graph,
-        &mut session.cache,
-        &mut session.cx,
-        id,
-        number,
-        session.limits.depth,
-    )
+    walk_supertrait(&mut session.search, id, number, session.limits.depth)
 }
 
 /// Whether the session's crate brings the impls with these numbers together and they overlap, as `check_crate` judges a pair.
@@ -144,13 +131,7 @@ pub fn impls_overlap(
     ensures stays { StaysOn session.old session.new }
 {
     let _ = session.workspace.crates();
-    overlap_at(
-        &mut session.graph,
-        &mut session.cache,
-        &mut session.cx,
-        later,
-        earlier,
-    )
+    overlap_at(&mut session.search, later, earlier)
 }
 
 /// Traces the where-clauses of two impls where their headers are equal, as the session's crate compares them. `None` if it does not compare
@@ -168,14 +149,7 @@ pub fn explain_overlap(
     ensures stays { StaysOn session.old session.new }
 {
     let _ = session.workspace.crates();
-    walk_pair(
-        &mut session.graph,
-        &mut session.cache,
-        &mut session.cx,
-        later,
-        earlier,
-        session.limits.depth,
-    )
+    walk_pair(&mut session.search, later, earlier, session.limits.depth)
 }
 
 /// Why a later version of the session's crate may not add the impl of a section with this number, counted from 1. `None` if it may, or if
@@ -192,5 +166,5 @@ pub fn explain_breaking(
         (IsCauseAt (view_in session.old.declarations session.old.of_crate) session.old.of_crate (section_headers session.old.declarations section) number) }
     ensures stays { StaysOn session.old session.new }
 {
-    breaking_cause(&mut session.cx, session.workspace, section, number)
+    breaking_cause(&mut session.search.cx, session.workspace, section, number)
 }

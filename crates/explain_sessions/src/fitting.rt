@@ -192,7 +192,7 @@ pub fn no_impl_fits(session: &mut Session<'_>, walk: &GoalWalk, place: usize) ->
     ensures held { WalkHeld session.new.terms walk.now }
     ensures stays { StaysOn session.old session.new }
 {
-    has_no_impl_at(&mut session.cx, walk, place)
+    has_no_impl_at(&mut session.search.cx, walk, place)
 }
 
 /// Whether no built-in rule concludes the goal at this index of a trace, by what the session's crate sees and whatever its variables stand
@@ -208,8 +208,8 @@ pub fn no_built_in_rule_fits(session: &Session<'_>, walk: &GoalWalk, place: usiz
     match reference_at(&walk.references, place) {
         Some(reference) => {
             has_no_row(
-                &session.cx.interner,
-                &session.cx.handler.declarations,
+                &session.search.cx.interner,
+                &session.search.cx.handler.declarations,
                 reference,
             )
         }

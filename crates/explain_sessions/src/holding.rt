@@ -116,7 +116,7 @@ fn is_held_at(session: &mut Session<'_>, walk: &GoalWalk, place: usize) -> Resul
     if !is_answered(walk, place, Answer::Yes) {
         return Ok(false);
     }
-    holds_at(&mut session.cx, walk, place)
+    holds_at(&mut session.search.cx, walk, place)
 }
 
 /// The same, where the walk is one in coherence too: a goal that is not settled there is asked alone.
@@ -146,7 +146,7 @@ pub fn held_goals(session: &mut Session<'_>, walk: &GoalWalk) -> Result<Vec<usiz
     ensures held { WalkHeld session.new.terms walk.now }
     ensures stays { StaysOn session.old session.new }
 {
-    let mut found = Vec::new(session.cx.alloc);
+    let mut found = Vec::new(session.search.cx.alloc);
     for place in 0..walk.nodes.len() {
         let holds = is_held(session, walk, place)?;
         push_if(&mut found, place, holds)?;

@@ -29,8 +29,7 @@ use sessions::overlap_check::header::fresh_impl_header;
 use sessions::overlap_check::intersection::ImplIntersection;
 use sessions::overlap_check::partners::pair_at;
 use sessions::proof_checker::links::follows_by_impl;
-use sessions::search_graph::{GlobalCache, SearchGraph};
-use sessions::solver_graph::{SolverCx, SolverGraph};
+use sessions::solver_graph::{Search, SolverCx};
 use sessions::term_folds::predicate::TraitRef;
 use sessions::type_terms::interner::Interner;
 use sessions::type_terms::kinds::GenericArgs;
@@ -167,28 +166,26 @@ struct TracedClause {
 
 /// Traces a where-clause in coherence, alone over the table, and returns its index.
 fn walk_clause(
-    graph: &mut SearchGraph<SolverGraph<Solver>>,
-    cache: &mut GlobalCache<SolverGraph<Solver>>,
-    cx: &mut SolverCx<Solver>,
+    search: &mut Search<Solver>,
     table: &mut InferCtxt,
     walk: &mut GoalWalk,
     traced: TracedClause,
 ) -> Result<usize, Fault>
-    requires rest { SolverRests graph.old.root_depth cx.old graph.old cache.old }
-    requires table { Ready cx.old.interner.entries table.old }
-    requires walked { ReferencesHeld cx.old.interner.entries walk.old.references.items }
-    requires clause { ReferenceHeld cx.old.interner.entries traced.clause }
-    ensures rests { RestsAfter graph.old.root_depth cx.old cx.new graph.new cache.new }
-    ensures table { Ready cx.new.interner.entries table.new }
-    ensures walked { ReferencesHeld cx.new.interner.entries walk.new.references.items }
+    requires rest { SolverRests search.old.graph.root_depth search.old.cx search.old.graph search.old.cache }
+    requires table { Ready search.old.cx.interner.entries table.old }
+    requires walked { ReferencesHeld search.old.cx.interner.entries walk.old.references.items }
+    requires clause { ReferenceHeld search.old.cx.interner.entries traced.clause }
+    ensures rests { RestsAfter search.old.graph.root_depth search.old.cx search.new.cx search.new.graph search.new.cache }
+    ensures table { Ready search.new.cx.interner.entries table.new }
+    ensures walked { ReferencesHeld search.new.cx.interner.entries walk.new.references.items }
 {
-    let goal = goal_under(cx.alloc, &[], traced.clause)?;
+    let goal = goal_under(search.cx.alloc, &[], traced.clause)?;
     let asked = TracedGoal {
         goal: &goal,
         mode: TypingMode::Coherence,
         depth: traced.depth,
     };
-    walk_goal(graph, cache, cx, table, walk, asked)
+    walk_goal(search, table, walk, asked)
 }
 
 /// Where-clauses that are traced, and how deep their nested goals are.
@@ -200,29 +197,27 @@ struct TracedClauses<'c> {
 
 /// Traces where-clauses in coherence, each alone over the table, and returns their indices.
 fn walk_clauses(
-    graph: &mut SearchGraph<SolverGraph<Solver>>,
-    cache: &mut GlobalCache<SolverGraph<Solver>>,
-    cx: &mut SolverCx<Solver>,
+    search: &mut Search<Solver>,
     table: &mut InferCtxt,
     walk: &mut GoalWalk,
     traced: TracedClauses<'_>,
 ) -> Result<Vec<usize>, Fault>
-    requires rest { SolverRests graph.old.root_depth cx.old graph.old cache.old }
-    requires table { Ready cx.old.interner.entries table.old }
-    requires walked { ReferencesHeld cx.old.interner.entries walk.old.references.items }
-    requires clauses { TraitRefsHeld cx.old.interner.entries traced.clauses.now }
-    ensures rests { RestsAfter graph.old.root_depth cx.old cx.new graph.new cache.new }
-    ensures table { Ready cx.new.interner.entries table.new }
-    ensures walked { ReferencesHeld cx.new.interner.entries walk.new.references.items }
+    requires rest { SolverRests search.old.graph.root_depth search.old.cx search.old.graph search.old.cache }
+    requires table { Ready search.old.cx.interner.entries table.old }
+    requires walked { ReferencesHeld search.old.cx.interner.entries walk.old.references.items }
+    requires clauses { TraitRefsHeld search.old.cx.interner.entries traced.clauses.now }
+    ensures rests { RestsAfter search.old.graph.root_depth search.old.cx search.new.cx search.new.graph search.new.cache }
+    ensures table { Ready search.new.cx.interner.entries table.new }
+    ensures walked { ReferencesHeld search.new.cx.interner.entries walk.new.references.items }
 {
-    let mut places = Vec::new(cx.alloc);
+    let mut places = Vec::new(search.cx.alloc);
     let mut left = traced.clauses;
     'clauses: while let Some((clause, others)) = left.split_first() {
         let next = TracedClause {
             clause: *clause,
             depth: traced.depth,
         };
-        let place = walk_clause(graph, cache, cx, table, walk, next)?;
+        let place = walk_clause(search, table, walk, next)?;
         places.push(place)?;
         left = others;
     }
@@ -231,34 +226,32 @@ fn walk_clauses(
 
 /// Traces the where-clauses of two impls over the table in which their headers are equal.
 fn walk_intersection(
-    graph: &mut SearchGraph<SolverGraph<Solver>>,
-    cache: &mut GlobalCache<SolverGraph<Solver>>,
-    cx: &mut SolverCx<Solver>,
+    search: &mut Search<Solver>,
     found: &mut ImplIntersection,
     common: (TraitRef, bool),
     depth: u32,
 ) -> Result<PairWalk, Fault>
-    requires rest { SolverRests graph.old.root_depth cx.old graph.old cache.old }
-    requires table { Ready cx.old.interner.entries found.old.table }
-    requires left { TraitRefsHeld cx.old.interner.entries found.old.left.items }
-    requires right { TraitRefsHeld cx.old.interner.entries found.old.right.items }
-    requires common { ReferenceHeld cx.old.interner.entries common.0 }
-    ensures rests { RestsAfter graph.old.root_depth cx.old cx.new graph.new cache.new }
-    ensures held { IfOk result (PairWalkHeld cx.new.interner.entries) }
+    requires rest { SolverRests search.old.graph.root_depth search.old.cx search.old.graph search.old.cache }
+    requires table { Ready search.old.cx.interner.entries found.old.table }
+    requires left { TraitRefsHeld search.old.cx.interner.entries found.old.left.items }
+    requires right { TraitRefsHeld search.old.cx.interner.entries found.old.right.items }
+    requires common { ReferenceHeld search.old.cx.interner.entries common.0 }
+    ensures rests { RestsAfter search.old.graph.root_depth search.old.cx search.new.cx search.new.graph search.new.cache }
+    ensures held { IfOk result (PairWalkHeld search.new.cx.interner.entries) }
     ensures common { IfOk result (λ p. (p.common ≡ common.0) × (p.is_checked ≡ common.1)) }
 {
-    let mut walk = GoalWalk::new(cx.alloc);
+    let mut walk = GoalWalk::new(search.cx.alloc);
     let table = &mut found.table;
     let of_left = TracedClauses {
         clauses: &found.left,
         depth,
     };
-    let left = walk_clauses(graph, cache, cx, table, &mut walk, of_left)?;
+    let left = walk_clauses(search, table, &mut walk, of_left)?;
     let of_right = TracedClauses {
         clauses: &found.right,
         depth,
     };
-    let right = walk_clauses(graph, cache, cx, table, &mut walk, of_right)?;
+    let right = walk_clauses(search, table, &mut walk, of_right)?;
     Ok(PairWalk {
         common: common.0,
         is_checked: common.1,
@@ -273,26 +266,24 @@ fn walk_intersection(
 ///
 /// Everything stays at rest, after a fault too. Fails with `Memory` if memory is refused, or with `Full` if a table is full.
 pub(crate) fn walk_pair(
-    graph: &mut SearchGraph<SolverGraph<Solver>>,
-    cache: &mut GlobalCache<SolverGraph<Solver>>,
-    cx: &mut SolverCx<Solver>,
+    search: &mut Search<Solver>,
     later: ImplId,
     earlier: ImplId,
     depth: u32,
 ) -> Result<Option<PairWalk>, Fault>
-    requires rest { SolverRests graph.old.root_depth cx.old graph.old cache.old }
-    requires numbers { HaveOwnNumbers (rules_in cx.old) }
-    ensures rests { RestsAfter graph.old.root_depth cx.old cx.new graph.new cache.new }
-    ensures held { IfOk result (λ o. IfSome o (PairWalkHeld cx.new.interner.entries)) }
+    requires rest { SolverRests search.old.graph.root_depth search.old.cx search.old.graph search.old.cache }
+    requires numbers { HaveOwnNumbers (rules_in search.old.cx) }
+    ensures rests { RestsAfter search.old.graph.root_depth search.old.cx search.new.cx search.new.graph search.new.cache }
+    ensures held { IfOk result (λ o. IfSome o (PairWalkHeld search.new.cx.interner.entries)) }
     ensures rules { IfOk result (λ o. IfSome o (λ p. p.is_checked ≡ true
-        → HasRulesByBoth (rules_in cx.old) (term_of cx.new.interner.entries p.common) later.index earlier.index)) }
+        → HasRulesByBoth (rules_in search.old.cx) (term_of search.new.cx.interner.entries p.common) later.index earlier.index)) }
 {
-    let Some(common) = common_header_at(cx, later, earlier)? else {
+    let Some(common) = common_header_at(&mut search.cx, later, earlier)? else {
         return Ok(None);
     };
-    let Some(mut found) = intersection_at(cx, later, earlier)? else {
+    let Some(mut found) = intersection_at(&mut search.cx, later, earlier)? else {
         return Ok(None);
     };
-    let pair = walk_intersection(graph, cache, cx, &mut found, common, depth)?;
+    let pair = walk_intersection(search, &mut found, common, depth)?;
     Ok(Some(pair))
 }

@@ -20,8 +20,7 @@ use explain_traces::{GoalWalk, TracedGoal};
 use sessions::candidate_assembly::solver::Solver;
 use sessions::goal_evaluator::{Goal, TypingMode};
 use sessions::infer_table::infer_ctxt::InferCtxt;
-use sessions::search_graph::{GlobalCache, SearchGraph};
-use sessions::solver_graph::{SolverCx, SolverGraph};
+use sessions::solver_graph::{Search, SolverCx};
 use sessions::type_terms::Fault;
 use sessions::view_lowering::LoweredQuestion;
 use sessions::workspace::Workspace;
@@ -45,76 +44,70 @@ fn pose(cx: &mut SolverCx<Solver>, lowered: &LoweredQuestion) -> Result<(Goal, I
 ///
 /// Everything stays at rest, after a fault too. Fails with `Memory` if memory is refused, or with `Full` if a table is full.
 pub(crate) fn walk_question(
-    graph: &mut SearchGraph<SolverGraph<Solver>>,
-    cache: &mut GlobalCache<SolverGraph<Solver>>,
-    cx: &mut SolverCx<Solver>,
+    search: &mut Search<Solver>,
     workspace: &Workspace,
     number: u32,
     depth: u32,
 ) -> Result<GoalWalk, Fault>
-    requires rest { SolverRests graph.old.root_depth cx.old graph.old cache.old }
+    requires rest { SolverRests search.old.graph.root_depth search.old.cx search.old.graph search.old.cache }
     requires question { (q : Question) × IsQuestion workspace.now number q }
-    requires applied { (q : Question) → IsQuestion workspace.now number q → ClausesApply cx.old.handler.declarations q }
-    ensures rests { RestsAfter graph.old.root_depth cx.old cx.new graph.new cache.new }
-    ensures held { IfOk result (λ w. ReferencesHeld cx.new.interner.entries w.references.items) }
+    requires applied { (q : Question) → IsQuestion workspace.now number q → ClausesApply search.old.cx.handler.declarations q }
+    ensures rests { RestsAfter search.old.graph.root_depth search.old.cx search.new.cx search.new.graph search.new.cache }
+    ensures held { IfOk result (λ w. ReferencesHeld search.new.cx.interner.entries w.references.items) }
 {
-    let lowered = lower_in(cx, workspace, number)?;
-    let (goal, mut table) = pose(cx, &lowered)?;
+    let lowered = lower_in(&mut search.cx, workspace, number)?;
+    let (goal, mut table) = pose(&mut search.cx, &lowered)?;
     let traced = TracedGoal {
         goal: &goal,
         mode: TypingMode::PostAnalysis,
         depth,
     };
-    walk_alone(graph, cache, cx, &mut table, traced)
+    walk_alone(search, &mut table, traced)
 }
 
 /// Traces the goal of a `prove` query that was proved, at most this deep, and finds the steps of its proof. They are not checked.
 ///
 /// Everything stays at rest, after a fault too. Fails with `Memory` if memory is refused, or with `Full` if a table is full.
 pub(crate) fn walk_proof(
-    graph: &mut SearchGraph<SolverGraph<Solver>>,
-    cache: &mut GlobalCache<SolverGraph<Solver>>,
-    cx: &mut SolverCx<Solver>,
+    search: &mut Search<Solver>,
     workspace: &Workspace,
     number: u32,
     depth: u32,
 ) -> Result<ProofWalk, Fault>
-    requires rest { SolverRests graph.old.root_depth cx.old graph.old cache.old }
+    requires rest { SolverRests search.old.graph.root_depth search.old.cx search.old.graph search.old.cache }
     requires question { (q : Question) × IsQuestion workspace.now number q }
-    requires applied { (q : Question) → IsQuestion workspace.now number q → ClausesApply cx.old.handler.declarations q }
-    ensures rests { RestsAfter graph.old.root_depth cx.old cx.new graph.new cache.new }
-    ensures held { IfOk result (ProofWalkHeld cx.new.interner.entries) }
+    requires applied { (q : Question) → IsQuestion workspace.now number q → ClausesApply search.old.cx.handler.declarations q }
+    ensures rests { RestsAfter search.old.graph.root_depth search.old.cx search.new.cx search.new.graph search.new.cache }
+    ensures held { IfOk result (ProofWalkHeld search.new.cx.interner.entries) }
     ensures shown { IfOk result ShowsItsSteps }
 {
-    let lowered = lower_in(cx, workspace, number)?;
-    let (goal, mut table) = pose(cx, &lowered)?;
-    let walk = walk_settled(graph, cache, cx, &mut table, &goal, depth)?;
-    with_steps(cx, &mut table, &lowered.clauses, walk)
+    let lowered = lower_in(&mut search.cx, workspace, number)?;
+    let (goal, mut table) = pose(&mut search.cx, &lowered)?;
+    let walk = walk_settled(search, &mut table, &goal, depth)?;
+    with_steps(&mut search.cx, &mut table, &lowered.clauses, walk)
 }
 
 /// Traces the goal of a `refute` query in coherence, at most this deep.
 ///
 /// Everything stays at rest, after a fault too. Fails with `Memory` if memory is refused, or with `Full` if a table is full.
 pub(crate) fn walk_refutation(
-    graph: &mut SearchGraph<SolverGraph<Solver>>,
-    cache: &mut GlobalCache<SolverGraph<Solver>>,
-    cx: &mut SolverCx<Solver>,
+    search: &mut Search<Solver>,
     workspace: &Workspace,
     number: u32,
     depth: u32,
 ) -> Result<GoalWalk, Fault>
-    requires rest { SolverRests graph.old.root_depth cx.old graph.old cache.old }
+    requires rest { SolverRests search.old.graph.root_depth search.old.cx search.old.graph search.old.cache }
     requires question { (q : Question) × IsQuestion workspace.now number q }
-    ensures rests { RestsAfter graph.old.root_depth cx.old cx.new graph.new cache.new }
-    ensures held { IfOk result (λ w. ReferencesHeld cx.new.interner.entries w.references.items) }
+    ensures rests { RestsAfter search.old.graph.root_depth search.old.cx search.new.cx search.new.graph search.new.cache }
+    ensures held { IfOk result (λ w. ReferencesHeld search.new.cx.interner.entries w.references.items) }
 {
-    let lowered = lower_in(cx, workspace, number)?;
-    let goal = bare_goal(cx.alloc, lowered.asked);
-    let mut table = question_table_in(cx, &lowered.unknowns)?;
+    let lowered = lower_in(&mut search.cx, workspace, number)?;
+    let goal = bare_goal(search.cx.alloc, lowered.asked);
+    let mut table = question_table_in(&mut search.cx, &lowered.unknowns)?;
     let traced = TracedGoal {
         goal: &goal,
         mode: TypingMode::Coherence,
         depth,
     };
-    walk_alone(graph, cache, cx, &mut table, traced)
+    walk_alone(search, &mut table, traced)
 }

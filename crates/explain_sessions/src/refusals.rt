@@ -19,8 +19,7 @@ use crate::unknowns::is_of_table;
 use explain_traces::{Answer, GoalWalk};
 use sessions::candidate_assembly::solver::Solver;
 use sessions::infer_table::infer_ctxt::InferCtxt;
-use sessions::search_graph::{GlobalCache, SearchGraph};
-use sessions::solver_graph::{SolverCx, SolverGraph};
+use sessions::solver_graph::{Search, SolverCx};
 use sessions::term_folds::predicate::TraitRef;
 use sessions::type_terms::Fault;
 use sessions::{Session, is_impossible};
@@ -41,23 +40,18 @@ pub(crate) fn goal_table_in(cx: &mut SolverCx<Solver>) -> Result<InferCtxt, Faul
 /// many variables.
 ///
 /// Everything stays at rest, after a fault too. Fails with `Memory` if memory is refused, or with `Full` if a table is full.
-fn is_refused(
-    graph: &mut SearchGraph<SolverGraph<Solver>>,
-    cache: &mut GlobalCache<SolverGraph<Solver>>,
-    cx: &mut SolverCx<Solver>,
-    reference: TraitRef,
-) -> Result<bool, Fault>
-    requires rest { SolverRests graph.old.root_depth cx.old graph.old cache.old }
-    requires held { ReferenceHeld cx.old.interner.entries reference }
-    ensures rests { RestsAfter graph.old.root_depth cx.old cx.new graph.new cache.new }
-    ensures refused { IfOk result (λ b. b ≡ true → (d : Declarations) (c : ℕ) → SolvesView d c cx.old
-        → IsRefusedGoal (view_in d c) c (term_of cx.old.interner.entries reference)) }
+fn is_refused(search: &mut Search<Solver>, reference: TraitRef) -> Result<bool, Fault>
+    requires rest { SolverRests search.old.graph.root_depth search.old.cx search.old.graph search.old.cache }
+    requires held { ReferenceHeld search.old.cx.interner.entries reference }
+    ensures rests { RestsAfter search.old.graph.root_depth search.old.cx search.new.cx search.new.graph search.new.cache }
+    ensures refused { IfOk result (λ b. b ≡ true → (d : Declarations) (c : ℕ) → SolvesView d c search.old.cx
+        → IsRefusedGoal (view_in d c) c (term_of search.old.cx.interner.entries reference)) }
 {
-    let mut table = goal_table_in(cx)?;
-    if !is_of_table(&cx.interner, &table, reference.args) {
+    let mut table = goal_table_in(&mut search.cx)?;
+    if !is_of_table(&search.cx.interner, &table, reference.args) {
         return Ok(false);
     }
-    is_impossible(graph, cache, cx, &mut table, reference)
+    is_impossible(search, &mut table, reference)
 }
 
 /// The same for the goal at this index of a trace, if the trace has it as refused.
@@ -74,12 +68,7 @@ fn is_refused_at(session: &mut Session<'_>, walk: &GoalWalk, place: usize) -> Re
     let Some(reference) = reference_at(&walk.references, place) else {
         return Ok(false);
     };
-    is_refused(
-        &mut session.graph,
-        &mut session.cache,
-        &mut session.cx,
-        reference,
-    )
+    is_refused(&mut session.search, reference)
 }
 
 /// The indices of goals of a trace that are refused like a `refute` query with the answer `No`: they have no proof in any linked set with
@@ -95,7 +84,7 @@ pub fn refused_goals(session: &mut Session<'_>, walk: &GoalWalk) -> Result<Vec<u
     ensures held { WalkHeld session.new.terms walk.now }
     ensures stays { StaysOn session.old session.new }
 {
-    let mut found = Vec::new(session.cx.alloc);
+    let mut found = Vec::new(session.search.cx.alloc);
     for place in 0..walk.nodes.len() {
         let is_refused = is_refused_at(session, walk, place)?;
         push_if(&mut found, place, is_refused)?;

@@ -288,5 +288,5 @@ pub fn checked_candidates(
     ensures held { WalkHeld session.new.terms walk.now }
     ensures stays { StaysOn session.old session.new }
 {
-    checked_in(&mut session.cx, walk)
+    checked_in(&mut session.search.cx, walk)
 }

@@ -14,51 +14,46 @@ use crate::walking::walk_alone;
 use explain_traces::{GoalWalk, TracedGoal};
 use sessions::candidate_assembly::solver::Solver;
 use sessions::goal_evaluator::TypingMode;
-use sessions::search_graph::{GlobalCache, SearchGraph};
-use sessions::solver_graph::{SolverCx, SolverGraph};
+use sessions::solver_graph::Search;
 use sessions::term_folds::predicate::TraitRef;
 use sessions::type_terms::{Fault, ImplId};
 use sessions::{SupertraitGoals, goal_under, own_goals_in, question_table_in};
 
 /// Traces the goal for a trait reference without variables outside coherence, under just these where-clauses.
 fn walk_under(
-    graph: &mut SearchGraph<SolverGraph<Solver>>,
-    cache: &mut GlobalCache<SolverGraph<Solver>>,
-    cx: &mut SolverCx<Solver>,
+    search: &mut Search<Solver>,
     clauses: &[TraitRef],
     asked: TraitRef,
     depth: u32,
 ) -> Result<GoalWalk, Fault>
-    requires rest { SolverRests graph.old.root_depth cx.old graph.old cache.old }
-    requires clauses { TraitRefsHeld cx.old.interner.entries clauses.now }
-    requires asked { ReferenceHeld cx.old.interner.entries asked }
-    ensures rests { RestsAfter graph.old.root_depth cx.old cx.new graph.new cache.new }
-    ensures held { IfOk result (λ w. ReferencesHeld cx.new.interner.entries w.references.items) }
+    requires rest { SolverRests search.old.graph.root_depth search.old.cx search.old.graph search.old.cache }
+    requires clauses { TraitRefsHeld search.old.cx.interner.entries clauses.now }
+    requires asked { ReferenceHeld search.old.cx.interner.entries asked }
+    ensures rests { RestsAfter search.old.graph.root_depth search.old.cx search.new.cx search.new.graph search.new.cache }
+    ensures held { IfOk result (λ w. ReferencesHeld search.new.cx.interner.entries w.references.items) }
 {
-    let goal = goal_under(cx.alloc, clauses, asked)?;
-    let mut table = question_table_in(cx, &[])?;
+    let goal = goal_under(search.cx.alloc, clauses, asked)?;
+    let mut table = question_table_in(&mut search.cx, &[])?;
     let traced = TracedGoal {
         goal: &goal,
         mode: TypingMode::PostAnalysis,
         depth,
     };
-    walk_alone(graph, cache, cx, &mut table, traced)
+    walk_alone(search, &mut table, traced)
 }
 
 /// Traces a supertrait, by its number from 1. `None` if there are fewer.
 fn walk_numbered(
-    graph: &mut SearchGraph<SolverGraph<Solver>>,
-    cache: &mut GlobalCache<SolverGraph<Solver>>,
-    cx: &mut SolverCx<Solver>,
+    search: &mut Search<Solver>,
     goals: &SupertraitGoals,
     number: u32,
     depth: u32,
 ) -> Result<Option<GoalWalk>, Fault>
-    requires rest { SolverRests graph.old.root_depth cx.old graph.old cache.old }
-    requires supertraits { TraitRefsHeld cx.old.interner.entries goals.now.supertraits.items }
-    requires clauses { TraitRefsHeld cx.old.interner.entries goals.now.clauses.items }
-    ensures rests { RestsAfter graph.old.root_depth cx.old cx.new graph.new cache.new }
-    ensures held { IfOk result (λ o. IfSome o (λ w. ReferencesHeld cx.new.interner.entries w.references.items)) }
+    requires rest { SolverRests search.old.graph.root_depth search.old.cx search.old.graph search.old.cache }
+    requires supertraits { TraitRefsHeld search.old.cx.interner.entries goals.now.supertraits.items }
+    requires clauses { TraitRefsHeld search.old.cx.interner.entries goals.now.clauses.items }
+    ensures rests { RestsAfter search.old.graph.root_depth search.old.cx search.new.cx search.new.graph search.new.cache }
+    ensures held { IfOk result (λ o. IfSome o (λ w. ReferencesHeld search.new.cx.interner.entries w.references.items)) }
 {
     let Some(place) = number.checked_sub(1) else {
         return Ok(None);
@@ -66,7 +61,7 @@ fn walk_numbered(
     let Some(asked) = reference_at(&goals.supertraits, place as usize) else {
         return Ok(None);
     };
-    let walk = walk_under(graph, cache, cx, &goals.clauses, asked, depth)?;
+    let walk = walk_under(search, &goals.clauses, asked, depth)?;
     Ok(Some(walk))
 }
 
@@ -74,20 +69,18 @@ fn walk_numbered(
 ///
 /// Everything stays at rest, after a fault too. Fails with `Memory` if memory is refused, or with `Full` if a table is full.
 pub(crate) fn walk_supertrait(
-    graph: &mut SearchGraph<SolverGraph<Solver>>,
-    cache: &mut GlobalCache<SolverGraph<Solver>>,
-    cx: &mut SolverCx<Solver>,
+    search: &mut Search<Solver>,
     id: ImplId,
     number: u32,
     depth: u32,
 ) -> Result<Option<GoalWalk>, Fault>
-    requires rest { SolverRests graph.old.root_depth cx.old graph.old cache.old }
-    requires applied { ImplsApply cx.old.handler.declarations (written cx.old.interner.entries cx.old.handler.declarations) }
-    ensures rests { RestsAfter graph.old.root_depth cx.old cx.new graph.new cache.new }
-    ensures held { IfOk result (λ o. IfSome o (λ w. ReferencesHeld cx.new.interner.entries w.references.items)) }
+    requires rest { SolverRests search.old.graph.root_depth search.old.cx search.old.graph search.old.cache }
+    requires applied { ImplsApply search.old.cx.handler.declarations (written search.old.cx.interner.entries search.old.cx.handler.declarations) }
+    ensures rests { RestsAfter search.old.graph.root_depth search.old.cx search.new.cx search.new.graph search.new.cache }
+    ensures held { IfOk result (λ o. IfSome o (λ w. ReferencesHeld search.new.cx.interner.entries w.references.items)) }
 {
-    let Some(goals) = own_goals_in(cx, id)? else {
+    let Some(goals) = own_goals_in(&mut search.cx, id)? else {
         return Ok(None);
     };
-    walk_numbered(graph, cache, cx, &goals, number, depth)
+    walk_numbered(search, &goals, number, depth)
 }

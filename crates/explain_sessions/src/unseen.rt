@@ -59,9 +59,9 @@ pub fn unseen_crates(session: &Session<'_>, reference: TraitRef) -> Result<Optio
     ensures { IfOk result (IsUnseen (view_in session.now.declarations session.now.of_crate) session.now.of_crate (reference_in session.now.terms reference)) }
 {
     conflict_of(
-        session.cx.alloc,
-        &session.cx.interner,
-        &session.cx.handler.declarations,
+        session.search.cx.alloc,
+        &session.search.cx.interner,
+        &session.search.cx.handler.declarations,
         reference,
     )
 }
@@ -72,8 +72,8 @@ pub fn breaks_orphan_rule(session: &Session<'_>, header: TraitRef) -> bool
     ensures { let s = session.now in result ≡ not (keeps_orphan_rule (view_in s.declarations s.of_crate) s.of_crate (reference_in s.terms header)) }
 {
     !keeps_orphan_rule(
-        &session.cx.interner,
-        &session.cx.handler.declarations,
+        &session.search.cx.interner,
+        &session.search.cx.handler.declarations,
         header,
     )
 }
@@ -82,7 +82,7 @@ pub fn breaks_orphan_rule(session: &Session<'_>, header: TraitRef) -> bool
 pub fn impl_header(session: &Session<'_>, id: ImplId) -> Option<TraitRef>
     ensures { IfSome result (ReferenceHeld session.now.terms) }
 {
-    match session.cx.handler.declarations.impl_def(id) {
+    match session.search.cx.handler.declarations.impl_def(id) {
         Some(def) => Some(def.header),
         None => None,
     }

@@ -14,8 +14,7 @@ use explain_traces::{GoalWalk, TracedGoal, settle, walk_goal};
 use sessions::candidate_assembly::solver::Solver;
 use sessions::goal_evaluator::{Goal, TypingMode};
 use sessions::infer_table::infer_ctxt::InferCtxt;
-use sessions::search_graph::{GlobalCache, SearchGraph};
-use sessions::solver_graph::{SolverCx, SolverGraph};
+use sessions::solver_graph::{Search, SolverCx};
 use sessions::term_folds::predicate::{TraitPredicate, TraitRef};
 use sessions::type_terms::Fault;
 use sessions::{elaborate_in, goal_under};
@@ -54,21 +53,19 @@ pub(crate) fn bare_goal(alloc: Global, asked: TraitRef) -> Goal
 ///
 /// Everything stays at rest, after a fault too. Fails with `Memory` if memory is refused, or with `Full` if a table is full.
 pub(crate) fn walk_alone(
-    graph: &mut SearchGraph<SolverGraph<Solver>>,
-    cache: &mut GlobalCache<SolverGraph<Solver>>,
-    cx: &mut SolverCx<Solver>,
+    search: &mut Search<Solver>,
     table: &mut InferCtxt,
     traced: TracedGoal<'_>,
 ) -> Result<GoalWalk, Fault>
-    requires rest { SolverRests graph.old.root_depth cx.old graph.old cache.old }
-    requires table { Ready cx.old.interner.entries table.old }
-    requires goal { GoalHeld cx.old.interner.entries traced.goal.now }
-    ensures rests { RestsAfter graph.old.root_depth cx.old cx.new graph.new cache.new }
-    ensures table { Ready cx.new.interner.entries table.new }
-    ensures held { IfOk result (λ w. ReferencesHeld cx.new.interner.entries w.references.items) }
+    requires rest { SolverRests search.old.graph.root_depth search.old.cx search.old.graph search.old.cache }
+    requires table { Ready search.old.cx.interner.entries table.old }
+    requires goal { GoalHeld search.old.cx.interner.entries traced.goal.now }
+    ensures rests { RestsAfter search.old.graph.root_depth search.old.cx search.new.cx search.new.graph search.new.cache }
+    ensures table { Ready search.new.cx.interner.entries table.new }
+    ensures held { IfOk result (λ w. ReferencesHeld search.new.cx.interner.entries w.references.items) }
 {
-    let mut walk = GoalWalk::new(cx.alloc);
-    let _root = walk_goal(graph, cache, cx, table, &mut walk, traced)?;
+    let mut walk = GoalWalk::new(search.cx.alloc);
+    let _root = walk_goal(search, table, &mut walk, traced)?;
     Ok(walk)
 }
 
@@ -76,25 +73,23 @@ pub(crate) fn walk_alone(
 ///
 /// Everything stays at rest, after a fault too. Fails with `Memory` if memory is refused, or with `Full` if a table is full.
 pub(crate) fn walk_settled(
-    graph: &mut SearchGraph<SolverGraph<Solver>>,
-    cache: &mut GlobalCache<SolverGraph<Solver>>,
-    cx: &mut SolverCx<Solver>,
+    search: &mut Search<Solver>,
     table: &mut InferCtxt,
     goal: &Goal,
     depth: u32,
 ) -> Result<GoalWalk, Fault>
-    requires rest { SolverRests graph.old.root_depth cx.old graph.old cache.old }
-    requires table { Ready cx.old.interner.entries table.old }
-    requires goal { GoalHeld cx.old.interner.entries goal.now }
-    ensures rests { RestsAfter graph.old.root_depth cx.old cx.new graph.new cache.new }
-    ensures table { Ready cx.new.interner.entries table.new }
-    ensures held { IfOk result (λ w. ReferencesHeld cx.new.interner.entries w.references.items) }
+    requires rest { SolverRests search.old.graph.root_depth search.old.cx search.old.graph search.old.cache }
+    requires table { Ready search.old.cx.interner.entries table.old }
+    requires goal { GoalHeld search.old.cx.interner.entries goal.now }
+    ensures rests { RestsAfter search.old.graph.root_depth search.old.cx search.new.cx search.new.graph search.new.cache }
+    ensures table { Ready search.new.cx.interner.entries table.new }
+    ensures held { IfOk result (λ w. ReferencesHeld search.new.cx.interner.entries w.references.items) }
 {
-    settle(graph, cache, cx, table, TypingMode::PostAnalysis, goal)?;
+    settle(search, table, TypingMode::PostAnalysis, goal)?;
     let traced = TracedGoal {
         goal,
         mode: TypingMode::PostAnalysis,
         depth,
     };
-    walk_alone(graph, cache, cx, table, traced)
+    walk_alone(search, table, traced)
 }

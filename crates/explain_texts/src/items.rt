@@ -50,11 +50,12 @@ pub fn impl_piece(texts: Texts<'_>, id: ImplId) -> Piece<'static> {
 /// A name. It is displayed as `cut_text` displays a text.
 #[derive(Clone, Copy)]
 pub struct Name<'w> {
-    pub(crate) bytes: &'w [u8],
+    /// The whole name, uncut.
+    pub bytes: &'w [u8],
 }
 
 /// A name of a text.
-pub(crate) fn name_of(bytes: &[u8]) -> Name<'_> {
+pub fn name_of(bytes: &[u8]) -> Name<'_> {
     Name { bytes }
 }
 
@@ -67,7 +68,7 @@ pub fn trait_name<'w>(texts: Texts<'w>, id: TraitId) -> Name<'w> {
 }
 
 /// The name of a crate of a workspace.
-pub(crate) fn name_in(workspace: &Workspace, id: CrateId) -> Name<'_> {
+pub fn name_in(workspace: &Workspace, id: CrateId) -> Name<'_> {
     if (id.index as usize) < workspace.crates().len() {
         name_of(workspace.crate_name(id))
     } else {

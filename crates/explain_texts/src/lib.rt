@@ -1,30 +1,21 @@
-//! The texts of explanations: for a fault, for a header that breaks the orphan rule, and for goals that were traced.
+//! The texts of explanations: for a header that breaks the orphan rule, and for goals that were traced.
 //!
-//! For a fault, the token that it is about is looked for in its line, by what the lines above declare. The text for a header is made from
-//! its orphan error, and the text for a goal from its trace (`explain_traces`). What is stated as checked is claimed of the trace
+//! The text for a header is made from its orphan error, and the text for a goal from its trace (`explain_traces`). What is stated as checked is claimed of the trace
 //! (`explain_sessions::Claims`). A trace is explained through `tell` alone, which takes claims that hold and no others. No contract says that
 //! a sentence says no more than its claim.
 #![tactic(auto)]
 
 mod doubts;
 mod failures;
-mod faults;
-mod further;
-mod grammar;
-mod hints;
 mod items;
 mod lines;
 mod links;
-mod offending;
 mod open_questions;
 mod orphans;
-mod passed;
 mod reasons;
 mod refused;
 mod refutations;
 mod sentences;
-mod similar;
-mod sorts;
 mod sources;
 mod spoken;
 mod story;
@@ -33,15 +24,17 @@ mod words;
 
 pub use doubts::unsettled;
 pub use failures::{Asking, unproved};
-pub use faults::fault_diagnostic;
-pub use further::{FurtherFault, further_faults};
-pub use items::{Name, Texts, crate_name, impl_line, impl_piece, is_fundamental, trait_name};
-pub use lines::{ImplLine, ItemLines, item_lines};
+pub use items::{
+    Name, Texts, crate_name, impl_line, impl_piece, is_fundamental, name_in, name_of, trait_name,
+};
+pub use lines::{ImplLine, ItemLines, item_lines, whole_line};
 pub use open_questions::left_open;
 pub use orphans::orphan;
 pub use reasons::tell_clause;
 pub use refutations::refuted;
-pub use sentences::{Piece, Sentence, plain, with_four, with_one, with_three, with_two};
+pub use sentences::{
+    Piece, Sentence, plain, sentence_text, with_four, with_one, with_three, with_two,
+};
 pub use sources::source_piece;
 pub use spoken::{Spoken, speak};
 pub use story::{Story, tell};

@@ -58,7 +58,7 @@ impl Drop for ItemLines {
 }
 
 /// The whole line.
-pub(crate) fn whole_line(line: &[u8]) -> Place {
+pub fn whole_line(line: &[u8]) -> Place {
     Place {
         start: 0,
         end: line.len(),

@@ -124,8 +124,8 @@ pub(crate) fn impl_line_in(sentence: Sentence<'_>) -> Option<u32> {
     }
 }
 
-/// A sentence as text.
-pub(crate) fn sentence_text(alloc: Global, sentence: Sentence<'_>) -> Result<String, AllocError> {
+/// A sentence as text. Fails only if memory is refused.
+pub fn sentence_text(alloc: Global, sentence: Sentence<'_>) -> Result<String, AllocError> {
     let mut out = TextWriter::new(alloc);
     push_sentence(&mut out, sentence);
     out.finish()

@@ -65,15 +65,15 @@ module _ {Handler : Type 0} (handler : HandlerMeaning Handler) where
   walked-further g h i c d e t u v x y = record { asked = asked-further g h i c d e x.asked y.asked; grows = grows-trans t u v x.grows y.grows }
 
   -- after a search
-  pub askable-after : (graph : SearchState) (ks : KnownAnswers) (c d : SolverCx Handler) → Search.Keeps (solver_meaning handler) c d → (i : InputId) → IsInput handler.IsReady c i
+  pub askable-after : (graph : SearchState) (ks : KnownAnswers) (c d : SolverCx Handler) → Search.KeepsContext (solver_meaning handler) c d → (i : InputId) → IsInput handler.IsReady c i
       → graph.current_depth ≡ 0 → AreJustified (solver_meaning handler) d ks → WalkIsAskable handler graph ks d
   askable-after graph ks c d k i h e j = record { empty = e; cache = j; ready = (k.inputs i h).0.0 }
 
-  pub asked-after : (graph left : SearchState) (c d : SolverCx Handler) → Search.Keeps (solver_meaning handler) c d → left.root_depth ≡ graph.root_depth → WalkHasAsked handler graph c left d
+  pub asked-after : (graph left : SearchState) (c d : SolverCx Handler) → Search.KeepsContext (solver_meaning handler) c d → left.root_depth ≡ graph.root_depth → WalkHasAsked handler graph c left d
   asked-after graph left c d k e = record { depth = e; keeps = k; entries = λ i x h. k.held (of_term i x) h }
 
   -- where the context has grown alone
-  pub askable-later : (graph : SearchState) (ks : KnownAnswers) (c d : SolverCx Handler) → Search.Keeps (solver_meaning handler) c d → IsReady handler.IsReady d
+  pub askable-later : (graph : SearchState) (ks : KnownAnswers) (c d : SolverCx Handler) → Search.KeepsContext (solver_meaning handler) c d → IsReady handler.IsReady d
       → AreJustified (solver_meaning handler) d ks → WalkIsAskable handler graph ks c → WalkIsAskable handler graph ks d
   askable-later graph ks c d k r j x = record { empty = x.empty; cache = j; ready = r }
 
@@ -82,7 +82,7 @@ module _ {Handler : Type 0} (handler : HandlerMeaning Handler) where
       → Keeps (entries_of c) (entries_of d) → Ready (entries_of d) u → IsWalkable handler h ls d u rs
   walkable-asked g h ks ls c d t u rs x a k r = record { askable = a; table = r; references = references-later (entries_of c) (entries_of d) k rs x.references }
 
-  pub walkable-later : (graph : SearchState) (ks : KnownAnswers) (c d : SolverCx Handler) (t : Table) (rs : List TraitRef) → Search.Keeps (solver_meaning handler) c d → IsReady handler.IsReady d
+  pub walkable-later : (graph : SearchState) (ks : KnownAnswers) (c d : SolverCx Handler) (t : Table) (rs : List TraitRef) → Search.KeepsContext (solver_meaning handler) c d → IsReady handler.IsReady d
       → IsWalkable handler graph ks c t rs → IsWalkable handler graph ks d t rs
   walkable-later graph ks c d t rs k r x =
       let same : Keeps (entries_of c) (entries_of d) = λ i e h. k.held (of_term i e) h in
@@ -96,7 +96,7 @@ module _ {Handler : Type 0} (handler : HandlerMeaning Handler) where
       → Has (entries_of c) args_lists r.args.0 → (more ≡ rs) ⊎ (more ≡ rs ++ r ∷ []) → IsWalkable handler g ks c t more
   walkable-met g ks c t rs more r x h m = record { askable = x.askable; table = x.table; references = references-met (entries_of c) rs more r x.references h m }
 
-  pub asked-grown : (g : SearchState) (c d : SolverCx Handler) → Search.Keeps (solver_meaning handler) c d → WalkHasAsked handler g c g d
+  pub asked-grown : (g : SearchState) (c d : SolverCx Handler) → Search.KeepsContext (solver_meaning handler) c d → WalkHasAsked handler g c g d
   asked-grown g c d k = asked-after g g c d k refl
 
   pub walked-asked : (g h : SearchState) (c d : SolverCx Handler) (t : Table) → WalkHasAsked handler g c h d → HasWalked handler g c t h d t
@@ -119,7 +119,7 @@ module _ {Handler : Type 0} (handler : HandlerMeaning Handler) where
   walkable-same g ks c t rs ss x e = record { askable = x.askable; table = x.table; references = subst (ReferencesHeld (entries_of c)) (sym e) x.references }
 
   -- and where the context grows after a walk
-  pub walked-grown : (g h : SearchState) (c d e : SolverCx Handler) (t u : Table) → HasWalked handler g c t h d u → Search.Keeps (solver_meaning handler) d e → HasWalked handler g c t h e u
+  pub walked-grown : (g h : SearchState) (c d e : SolverCx Handler) (t u : Table) → HasWalked handler g c t h d u → Search.KeepsContext (solver_meaning handler) d e → HasWalked handler g c t h e u
   walked-grown g h c d e t u x k = record { asked = asked-further g h h c d e x.asked (asked-grown h d e k); grows = x.grows }
 
 -- what an answer has, if there is one, becomes something else

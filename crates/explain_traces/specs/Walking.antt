@@ -38,7 +38,7 @@ module _ {Handler : Type 0} (handler : HandlerMeaning Handler) where
   -- What a search preserves: the depth of the graph, and all that the context had.
   pub record WalkHasAsked (graph : SearchState) (c : SolverCx Handler) (graph_left : SearchState) (d : SolverCx Handler) : Type 0 where
     pub depth : graph_left.root_depth ≡ graph.root_depth
-    pub keeps : Search.Keeps (solver_meaning handler) c d
+    pub keeps : Search.KeepsContext (solver_meaning handler) c d
     pub entries : Keeps (entries_of c) (entries_of d)
 
   -- Goals over a table can be traced.

@@ -11,8 +11,8 @@ use goal_evaluator::{Certainty, Goal, TypingMode};
 use goal_frames::GoalHandler;
 use goal_frames::store::{InputId, ResponseId};
 use infer_table::infer_ctxt::InferCtxt;
-use search_graph::{GlobalCache, GraphFault, PathKind, SearchGraph};
-use solver_graph::{Asked, SolverCx, SolverGraph, ask, context_laws};
+use search_graph::{GraphFault, PathKind};
+use solver_graph::{Asked, Search, SolverCx, ask, context_laws};
 use type_terms::Fault;
 use type_terms::kinds::GenericArgKind;
 
@@ -33,18 +33,21 @@ fn read_result(
 
 /// The result of the search for the goal with this number. `None` if the search gives none because of a conflict.
 pub(crate) fn result_of<H: GoalHandler>(
-    graph: &mut SearchGraph<SolverGraph<H>>,
-    cache: &mut GlobalCache<SolverGraph<H>>,
-    cx: &mut SolverCx<H>,
+    search: &mut Search<H>,
     input: InputId,
 ) -> Result<Option<Option<ResponseId>>, Fault>
-    requires askable { WalkIsAskable H.meaning graph.old cache.old cx.old }
-    requires input { IsInput H.meaning.IsReady cx.old input }
-    ensures again { WalkIsAskable H.meaning graph.new cache.new cx.new }
-    ensures asked { WalkHasAsked H.meaning graph.old cx.old graph.new cx.new }
-    ensures known { IfOk result (λ o. IfSome o (ResponseIsMade H.meaning.IsReady cx.new)) }
+    requires askable { WalkIsAskable H.meaning search.old.graph search.old.cache search.old.cx }
+    requires input { IsInput H.meaning.IsReady search.old.cx input }
+    ensures again { WalkIsAskable H.meaning search.new.graph search.new.cache search.new.cx }
+    ensures asked { WalkHasAsked H.meaning search.old.graph search.old.cx search.new.graph search.new.cx }
+    ensures known { IfOk result (λ o. IfSome o (ResponseIsMade H.meaning.IsReady search.new.cx)) }
 {
-    let found = graph.evaluate_goal(cache, cx, input, PathKind::Inductive);
+    let found = search.graph.evaluate_goal(
+        &mut search.cache,
+        &mut search.cx,
+        input,
+        PathKind::Inductive,
+    );
     read_result(found)
 }
 
@@ -68,37 +71,30 @@ pub(crate) fn answer_in<H: GoalHandler>(
 }
 
 /// How the search answers the goal with this number.
-fn answer_to<H: GoalHandler>(
-    graph: &mut SearchGraph<SolverGraph<H>>,
-    cache: &mut GlobalCache<SolverGraph<H>>,
-    cx: &mut SolverCx<H>,
-    input: InputId,
-) -> Result<Answer, Fault>
-    requires askable { WalkIsAskable H.meaning graph.old cache.old cx.old }
-    requires input { IsInput H.meaning.IsReady cx.old input }
-    ensures again { WalkIsAskable H.meaning graph.new cache.new cx.new }
-    ensures asked { WalkHasAsked H.meaning graph.old cx.old graph.new cx.new }
+fn answer_to<H: GoalHandler>(search: &mut Search<H>, input: InputId) -> Result<Answer, Fault>
+    requires askable { WalkIsAskable H.meaning search.old.graph search.old.cache search.old.cx }
+    requires input { IsInput H.meaning.IsReady search.old.cx input }
+    ensures again { WalkIsAskable H.meaning search.new.graph search.new.cache search.new.cx }
+    ensures asked { WalkHasAsked H.meaning search.old.graph search.old.cx search.new.graph search.new.cx }
 {
-    let found = result_of(graph, cache, cx, input)?;
-    answer_in(cx, found)
+    let found = result_of(search, input)?;
+    answer_in(&search.cx, found)
 }
 
 /// The same, where it was not asked in the course of the walk before.
 fn answer_once<H: GoalHandler>(
-    graph: &mut SearchGraph<SolverGraph<H>>,
-    cache: &mut GlobalCache<SolverGraph<H>>,
-    cx: &mut SolverCx<H>,
+    search: &mut Search<H>,
     walk: &GoalWalk,
     input: InputId,
 ) -> Result<Answer, Fault>
-    requires askable { WalkIsAskable H.meaning graph.old cache.old cx.old }
-    requires input { IsInput H.meaning.IsReady cx.old input }
-    ensures again { WalkIsAskable H.meaning graph.new cache.new cx.new }
-    ensures asked { WalkHasAsked H.meaning graph.old cx.old graph.new cx.new }
+    requires askable { WalkIsAskable H.meaning search.old.graph search.old.cache search.old.cx }
+    requires input { IsInput H.meaning.IsReady search.old.cx input }
+    ensures again { WalkIsAskable H.meaning search.new.graph search.new.cache search.new.cx }
+    ensures asked { WalkHasAsked H.meaning search.old.graph search.old.cx search.new.graph search.new.cx }
 {
     match walk.effort.answer(input) {
         Some(answer) => Ok(answer),
-        None => answer_to(graph, cache, cx, input),
+        None => answer_to(search, input),
     }
 }
 
@@ -124,33 +120,31 @@ pub struct TracedGoal<'g> {
 
 /// Adds a goal over a table to a trace, with the answer of the search.
 pub(crate) fn meet_goal<H: GoalHandler>(
-    graph: &mut SearchGraph<SolverGraph<H>>,
-    cache: &mut GlobalCache<SolverGraph<H>>,
-    cx: &mut SolverCx<H>,
+    search: &mut Search<H>,
     table: &InferCtxt,
     walk: &mut GoalWalk,
     traced: TracedGoal<'_>,
 ) -> Result<Met, Fault>
-    requires walkable { IsWalkable H.meaning graph.old cache.old cx.old table.now walk.old.references.items }
-    requires goal { GoalHeld cx.old.interner.entries traced.goal.now }
-    ensures again { IsWalkable H.meaning graph.new cache.new cx.new table.now walk.new.references.items }
-    ensures asked { WalkHasAsked H.meaning graph.old cx.old graph.new cx.new }
-    ensures input { IfOk result (λ m. IsInput H.meaning.IsReady cx.new m.input) }
-    ensures values { IfOk result (λ m. ArgsHeld cx.new.interner.entries m.values.items) }
+    requires walkable { IsWalkable H.meaning search.old.graph search.old.cache search.old.cx table.now walk.old.references.items }
+    requires goal { GoalHeld search.old.cx.interner.entries traced.goal.now }
+    ensures again { IsWalkable H.meaning search.new.graph search.new.cache search.new.cx table.now walk.new.references.items }
+    ensures asked { WalkHasAsked H.meaning search.old.graph search.old.cx search.new.graph search.new.cx }
+    ensures input { IfOk result (λ m. IsInput H.meaning.IsReady search.new.cx m.input) }
+    ensures values { IfOk result (λ m. ArgsHeld search.new.cx.interner.entries m.values.items) }
 {
     context_laws::<H>();
-    let asked = ask(cx, table, traced.mode, traced.goal)?;
+    let asked = ask(&mut search.cx, table, traced.mode, traced.goal)?;
     let Asked {
         goal: resolved,
         input,
         values,
     } = asked;
     let reference = resolved.predicate.trait_ref;
-    let levels = cx.interner.depth(reference.args);
-    walk.begin(graph.frames(), levels);
-    let answer = answer_once(graph, cache, cx, walk, input)?;
-    walk.count(graph.frames());
-    let is_coinductive = cx.handler.trait_is_coinductive(reference.def_id);
+    let levels = search.cx.interner.depth(reference.args);
+    walk.begin(search.graph.frames(), levels);
+    let answer = answer_once(search, walk, input)?;
+    walk.count(search.graph.frames());
+    let is_coinductive = search.cx.handler.trait_is_coinductive(reference.def_id);
     let place = walk.meet(input, reference, answer, is_coinductive, traced.depth)?;
     Ok(Met {
         place,

@@ -17,57 +17,52 @@ use goal_evaluator::{CandidateSource, Certainty, Goal, TypingMode};
 use goal_frames::GoalHandler;
 use goal_frames::store::InputId;
 use infer_table::infer_ctxt::InferCtxt;
-use search_graph::{GlobalCache, SearchGraph};
-use solver_graph::{SolverCx, SolverGraph, context_laws};
+use solver_graph::{Search, SolverCx, context_laws};
 use type_terms::Fault;
 use type_terms::kinds::GenericArgKind;
 
 /// Goes on with the open candidate of a frame, up to its end: each goal that it asks has the answer of the search. `None` where the
 /// search gives no answer, or more frames were started than may be.
 fn run_candidate<H: GoalHandler>(
-    graph: &mut SearchGraph<SolverGraph<H>>,
-    cache: &mut GlobalCache<SolverGraph<H>>,
-    cx: &mut SolverCx<H>,
+    search: &mut Search<H>,
     frame: FrameWalk,
     effort: &mut Effort,
 ) -> Result<Option<FrameWalk>, Fault>
-    requires askable { WalkIsAskable H.meaning graph.old cache.old cx.old }
-    requires walked { IsWalked H.meaning cx.old frame }
-    ensures again { WalkIsAskable H.meaning graph.new cache.new cx.new }
-    ensures asked { WalkHasAsked H.meaning graph.old cx.old graph.new cx.new }
-    ensures walked { IfOk result (λ o. IfSome o (IsWalked H.meaning cx.new)) }
+    requires askable { WalkIsAskable H.meaning search.old.graph search.old.cache search.old.cx }
+    requires walked { IsWalked H.meaning search.old.cx frame }
+    ensures again { WalkIsAskable H.meaning search.new.graph search.new.cache search.new.cx }
+    ensures asked { WalkHasAsked H.meaning search.old.graph search.old.cx search.new.graph search.new.cx }
+    ensures walked { IfOk result (λ o. IfSome o (IsWalked H.meaning search.new.cx)) }
 {
     let mut walk = frame;
     while let Turn::Ask(input) = walk.turn() {
-        if graph.frames() > effort.last_frame() {
+        if search.graph.frames() > effort.last_frame() {
             return Ok(None);
         }
-        let Some(answer) = result_of(graph, cache, cx, input)? else {
+        let Some(answer) = result_of(search, input)? else {
             return Ok(None);
         };
-        let told = answer_in(cx, Some(answer))?;
+        let told = answer_in(&search.cx, Some(answer))?;
         effort.note_answer(input, told)?;
-        walk = walk.hear(cx, input, answer)?;
+        walk = walk.hear(&mut search.cx, input, answer)?;
     }
     Ok(Some(walk))
 }
 
 /// Enters the next candidate of a frame, and goes on up to its end.
 fn try_candidate<H: GoalHandler>(
-    graph: &mut SearchGraph<SolverGraph<H>>,
-    cache: &mut GlobalCache<SolverGraph<H>>,
-    cx: &mut SolverCx<H>,
+    search: &mut Search<H>,
     frame: FrameWalk,
     effort: &mut Effort,
 ) -> Result<Option<FrameWalk>, Fault>
-    requires askable { WalkIsAskable H.meaning graph.old cache.old cx.old }
-    requires walked { IsWalked H.meaning cx.old frame }
-    ensures again { WalkIsAskable H.meaning graph.new cache.new cx.new }
-    ensures asked { WalkHasAsked H.meaning graph.old cx.old graph.new cx.new }
-    ensures walked { IfOk result (λ o. IfSome o (IsWalked H.meaning cx.new)) }
+    requires askable { WalkIsAskable H.meaning search.old.graph search.old.cache search.old.cx }
+    requires walked { IsWalked H.meaning search.old.cx frame }
+    ensures again { WalkIsAskable H.meaning search.new.graph search.new.cache search.new.cx }
+    ensures asked { WalkHasAsked H.meaning search.old.graph search.old.cx search.new.graph search.new.cx }
+    ensures walked { IfOk result (λ o. IfSome o (IsWalked H.meaning search.new.cx)) }
 {
-    match frame.enter(cx)? {
-        Some(entered) => run_candidate(graph, cache, cx, entered, effort),
+    match frame.enter(&mut search.cx)? {
+        Some(entered) => run_candidate(search, entered, effort),
         None => Ok(None),
     }
 }
@@ -129,28 +124,26 @@ pub(crate) struct Tried {
 /// Tries the next candidate of a frame, and opens it over the table of the one who asks. `None` where the search gives no answer, or more
 /// frames were started than may be.
 pub(crate) fn try_next<H: GoalHandler>(
-    graph: &mut SearchGraph<SolverGraph<H>>,
-    cache: &mut GlobalCache<SolverGraph<H>>,
-    cx: &mut SolverCx<H>,
+    search: &mut Search<H>,
     table: &mut InferCtxt,
     visit: Visit<'_>,
     effort: &mut Effort,
 ) -> Result<Option<Tried>, Fault>
-    requires askable { WalkIsAskable H.meaning graph.old cache.old cx.old }
-    requires walked { IsWalked H.meaning cx.old visit.frame }
-    requires table { Ready cx.old.interner.entries table.old }
-    requires values { ArgsHeld cx.old.interner.entries visit.goal.values.now }
-    ensures again { WalkIsAskable H.meaning graph.new cache.new cx.new }
-    ensures asked { WalkHasAsked H.meaning graph.old cx.old graph.new cx.new }
-    ensures table { Ready cx.new.interner.entries table.new }
+    requires askable { WalkIsAskable H.meaning search.old.graph search.old.cache search.old.cx }
+    requires walked { IsWalked H.meaning search.old.cx visit.frame }
+    requires table { Ready search.old.cx.interner.entries table.old }
+    requires values { ArgsHeld search.old.cx.interner.entries visit.goal.values.now }
+    ensures again { WalkIsAskable H.meaning search.new.graph search.new.cache search.new.cx }
+    ensures asked { WalkHasAsked H.meaning search.old.graph search.old.cx search.new.graph search.new.cx }
+    ensures table { Ready search.new.cx.interner.entries table.new }
     ensures grows { Grows table.old table.new }
-    ensures walked { IfOk result (λ o. IfSome o (λ t. IsWalked H.meaning cx.new t.frame)) }
-    ensures held { IfOk result (λ o. IfSome o (λ t. IfSome t.opened (λ gs. GoalsHeld cx.new.interner.entries gs.items))) }
+    ensures walked { IfOk result (λ o. IfSome o (λ t. IsWalked H.meaning search.new.cx t.frame)) }
+    ensures held { IfOk result (λ o. IfSome o (λ t. IfSome t.opened (λ gs. GoalsHeld search.new.cx.interner.entries gs.items))) }
 {
     context_laws::<H>();
     let Visit { goal, frame } = visit;
-    let opened = open_next(cx, table, goal.values, &frame)?;
-    let tried = try_candidate(graph, cache, cx, frame, effort)?;
+    let opened = open_next(&mut search.cx, table, goal.values, &frame)?;
+    let tried = try_candidate(search, frame, effort)?;
     match tried {
         Some(frame) => Ok(Some(Tried { frame, opened })),
         None => Ok(None),

@@ -3,23 +3,23 @@
 ghost use Rattle.std.specs.Prelude.{◌≡◌, ◌<◌, IfOk, IfSome};
 ghost use Rattle.goal_evaluator.specs.Readings.{SpecHeld};
 ghost use Rattle.goal_frames.specs.declared.store.InputId.{InputId};
-ghost use Rattle.search_graph.specs.Meaning as Search;
+ghost use Rattle.search_graph.specs.Meaning as Searches;
 ghost use Rattle.search_graph.specs.declared.delegate.Request.TheVariants as Requested;
-ghost use Rattle.search_graph.specs.declared.path_kind.PathKind.{PathKind};
+ghost use Rattle.search_graph.specs.SearchPaths.declared.path_kind.PathKind.{PathKind};
 ghost use Rattle.solver_graph.specs.Contexts.{IsInput, IsReady, ResponseIsMade};
 ghost use Rattle.solver_graph.specs.Searching.{solver_meaning, steps_left};
 ghost use Rattle.explain_traces.specs.Frames.{IsWalked};
 
 use goal_evaluator::{CandidateSource, CandidateSpec, Certainty};
+use goal_frames::GoalHandler;
 use goal_frames::store::{InputId, ResponseId};
-use goal_frames::{GoalFrame, GoalHandler};
 use search_graph::{Candidates, Delegate, GraphFault, Reply, Request};
-use solver_graph::{SolverCx, SolverGraph};
+use solver_graph::{SolverCx, SolverFrame, SolverGraph};
 use type_terms::Fault;
 
 /// The frame of a goal, with the request that it makes, and its candidates so far.
 pub(crate) struct FrameWalk {
-    frame: GoalFrame,
+    frame: SolverFrame,
     request: Request<InputId, Option<ResponseId>>,
     candidates: Candidates,
 }
@@ -55,7 +55,7 @@ impl FrameWalk {
         input: InputId,
     ) -> Result<FrameWalk, Fault>
         requires { IsInput H.meaning.IsReady cx.old input }
-        ensures keeps { Search.Keeps (solver_meaning H.meaning) cx.old cx.new }
+        ensures keeps { Searches.KeepsContext (solver_meaning H.meaning) cx.old cx.new }
         ensures ready { IsReady H.meaning.IsReady cx.new }
         ensures walked { IfOk result (IsWalked H.meaning cx.new) }
     {
@@ -90,12 +90,12 @@ impl FrameWalk {
         ensures { IfSome result (λ s. SpecHeld cx.now.interner.entries s.now) }
     {
         let _context = cx;
-        self.frame.candidate()
+        self.frame.frame().candidate()
     }
 
     /// The response of the candidate that is to be finished.
     pub(crate) fn outcome(&self) -> Option<(CandidateSource, Option<Certainty>)> {
-        self.frame.outcome()
+        self.frame.frame().outcome()
     }
 
     /// Goes on with the answer to the nested goal.
@@ -108,7 +108,7 @@ impl FrameWalk {
         requires walked { IsWalked H.meaning cx.old self }
         requires asks { (k : PathKind) × (self.request ≡ Requested.Evaluate input k) }
         requires answer { ResponseIsMade H.meaning.IsReady cx.old answer }
-        ensures keeps { Search.Keeps (solver_meaning H.meaning) cx.old cx.new }
+        ensures keeps { Searches.KeepsContext (solver_meaning H.meaning) cx.old cx.new }
         ensures ready { IsReady H.meaning.IsReady cx.new }
         ensures walked { IfOk result (IsWalked H.meaning cx.new) }
         ensures falls { IfOk result (λ w. steps_left H.meaning cx.new w.frame < steps_left H.meaning cx.old self.frame) }
@@ -133,7 +133,7 @@ impl FrameWalk {
         cx: &mut SolverCx<H>,
     ) -> Result<Option<FrameWalk>, Fault>
         requires { IsWalked H.meaning cx.old self }
-        ensures keeps { Search.Keeps (solver_meaning H.meaning) cx.old cx.new }
+        ensures keeps { Searches.KeepsContext (solver_meaning H.meaning) cx.old cx.new }
         ensures ready { IsReady H.meaning.IsReady cx.new }
         ensures walked { IfOk result (λ o. IfSome o (IsWalked H.meaning cx.new)) }
     {
@@ -163,7 +163,7 @@ impl FrameWalk {
         cx: &mut SolverCx<H>,
     ) -> Result<Option<FrameWalk>, Fault>
         requires { IsWalked H.meaning cx.old self }
-        ensures keeps { Search.Keeps (solver_meaning H.meaning) cx.old cx.new }
+        ensures keeps { Searches.KeepsContext (solver_meaning H.meaning) cx.old cx.new }
         ensures ready { IsReady H.meaning.IsReady cx.new }
         ensures walked { IfOk result (λ o. IfSome o (IsWalked H.meaning cx.new)) }
     {

@@ -17,8 +17,7 @@ use goal_evaluator::{Goal, TypingMode};
 use goal_frames::GoalHandler;
 use infer_table::infer_ctxt::InferCtxt;
 use infer_table::terms::Snapshot;
-use search_graph::{GlobalCache, SearchGraph};
-use solver_graph::{SolverCx, SolverGraph};
+use solver_graph::Search;
 use type_terms::Fault;
 
 /// Rolls the table back to the snapshot: no value of an opened candidate stays.
@@ -36,19 +35,17 @@ fn take_back(table: &mut InferCtxt, place: Snapshot)
 /// full.
 #[cycle(walk)]
 pub fn walk_goal<H: GoalHandler>(
-    graph: &mut SearchGraph<SolverGraph<H>>,
-    cache: &mut GlobalCache<SolverGraph<H>>,
-    cx: &mut SolverCx<H>,
+    search: &mut Search<H>,
     table: &mut InferCtxt,
     walk: &mut GoalWalk,
     traced: TracedGoal<'_>,
 ) -> Result<usize, Fault>
-    requires walkable { IsWalkable H.meaning graph.old cache.old cx.old table.old walk.old.references.items }
-    requires goal { GoalHeld cx.old.interner.entries traced.goal.now }
-    ensures again { IsWalkable H.meaning graph.new cache.new cx.new table.new walk.new.references.items }
-    ensures walked { HasWalked H.meaning graph.old cx.old table.old graph.new cx.new table.new }
+    requires walkable { IsWalkable H.meaning search.old.graph search.old.cache search.old.cx table.old walk.old.references.items }
+    requires goal { GoalHeld search.old.cx.interner.entries traced.goal.now }
+    ensures again { IsWalkable H.meaning search.new.graph search.new.cache search.new.cx table.new walk.new.references.items }
+    ensures walked { HasWalked H.meaning search.old.graph search.old.cx table.old search.new.graph search.new.cx table.new }
 {
-    let met = meet_goal(graph, cache, cx, table, walk, traced)?;
+    let met = meet_goal(search, table, walk, traced)?;
     let Met {
         place,
         input,
@@ -67,38 +64,36 @@ pub fn walk_goal<H: GoalHandler>(
         mode: traced.mode,
         depth: traced.depth - 1,
     };
-    walk_candidates(graph, cache, cx, table, walk, opened)?;
-    walk.close(place, graph.frames());
+    walk_candidates(search, table, walk, opened)?;
+    walk.close(place, search.graph.frames());
     Ok(place)
 }
 
 /// Traces the candidates of a goal, as many as are looked at.
 #[cycle(walk)]
 fn walk_candidates<H: GoalHandler>(
-    graph: &mut SearchGraph<SolverGraph<H>>,
-    cache: &mut GlobalCache<SolverGraph<H>>,
-    cx: &mut SolverCx<H>,
+    search: &mut Search<H>,
     table: &mut InferCtxt,
     walk: &mut GoalWalk,
     opened: OpenedGoal<'_>,
 ) -> Result<(), Fault>
-    requires walkable { IsWalkable H.meaning graph.old cache.old cx.old table.old walk.old.references.items }
-    requires input { IsInput H.meaning.IsReady cx.old opened.input }
-    requires values { ArgsHeld cx.old.interner.entries opened.values.now }
-    ensures again { IsWalkable H.meaning graph.new cache.new cx.new table.new walk.new.references.items }
-    ensures walked { HasWalked H.meaning graph.old cx.old table.old graph.new cx.new table.new }
+    requires walkable { IsWalkable H.meaning search.old.graph search.old.cache search.old.cx table.old walk.old.references.items }
+    requires input { IsInput H.meaning.IsReady search.old.cx opened.input }
+    requires values { ArgsHeld search.old.cx.interner.entries opened.values.now }
+    ensures again { IsWalkable H.meaning search.new.graph search.new.cache search.new.cx table.new walk.new.references.items }
+    ensures walked { HasWalked H.meaning search.old.graph search.old.cx table.old search.new.graph search.new.cx table.new }
 {
-    let mut frame = FrameWalk::begin(cx, opened.input)?;
+    let mut frame = FrameWalk::begin(&mut search.cx, opened.input)?;
     for _candidate in 0..CANDIDATE_LIMIT {
         let turn = frame.turn();
-        if is_over(walk, opened.place, turn, graph.frames()) {
+        if is_over(walk, opened.place, turn, search.graph.frames()) {
             return Ok(());
         }
         let visit = Visit {
             goal: opened,
             frame,
         };
-        let visited = visit_candidate(graph, cache, cx, table, walk, visit)?;
+        let visited = visit_candidate(search, table, walk, visit)?;
         let Some(next) = visited else {
             return Ok(());
         };
@@ -110,32 +105,30 @@ fn walk_candidates<H: GoalHandler>(
 /// Traces the next candidate of a goal, if it explains the goal's answer. `None` if the search gives no answer.
 #[cycle(walk)]
 fn visit_candidate<H: GoalHandler>(
-    graph: &mut SearchGraph<SolverGraph<H>>,
-    cache: &mut GlobalCache<SolverGraph<H>>,
-    cx: &mut SolverCx<H>,
+    search: &mut Search<H>,
     table: &mut InferCtxt,
     walk: &mut GoalWalk,
     visit: Visit<'_>,
 ) -> Result<Option<FrameWalk>, Fault>
-    requires walkable { IsWalkable H.meaning graph.old cache.old cx.old table.old walk.old.references.items }
-    requires values { ArgsHeld cx.old.interner.entries visit.goal.values.now }
-    requires frame { IsWalked H.meaning cx.old visit.frame }
-    ensures again { IsWalkable H.meaning graph.new cache.new cx.new table.new walk.new.references.items }
-    ensures walked { HasWalked H.meaning graph.old cx.old table.old graph.new cx.new table.new }
-    ensures frame { IfOk result (λ o. IfSome o (IsWalked H.meaning cx.new)) }
+    requires walkable { IsWalkable H.meaning search.old.graph search.old.cache search.old.cx table.old walk.old.references.items }
+    requires values { ArgsHeld search.old.cx.interner.entries visit.goal.values.now }
+    requires frame { IsWalked H.meaning search.old.cx visit.frame }
+    ensures again { IsWalkable H.meaning search.new.graph search.new.cache search.new.cx table.new walk.new.references.items }
+    ensures walked { HasWalked H.meaning search.old.graph search.old.cx table.old search.new.graph search.new.cx table.new }
+    ensures frame { IfOk result (λ o. IfSome o (IsWalked H.meaning search.new.cx)) }
 {
     let goal = visit.goal;
     let before = table.snapshot();
-    let tried = try_next(graph, cache, cx, table, visit, &mut walk.effort)?;
+    let tried = try_next(search, table, visit, &mut walk.effort)?;
     let Some(tried) = tried else {
         take_back(table, before);
         return Ok(None);
     };
     let Tried { frame, opened } = tried;
     let told = told_candidate(walk, &frame, opened, goal.place);
-    walk_telling(graph, cache, cx, table, walk, ToldCandidate { goal, told })?;
+    walk_telling(search, table, walk, ToldCandidate { goal, told })?;
     take_back(table, before);
-    frame.finish(cx)
+    frame.finish(&mut search.cx)
 }
 
 /// A candidate that was tried, told if it explains the answer of its goal.
@@ -147,17 +140,15 @@ struct ToldCandidate<'v> {
 /// Traces the nested goals of a candidate, and notes the candidate if it explains the goal's answer.
 #[cycle(walk)]
 fn walk_telling<H: GoalHandler>(
-    graph: &mut SearchGraph<SolverGraph<H>>,
-    cache: &mut GlobalCache<SolverGraph<H>>,
-    cx: &mut SolverCx<H>,
+    search: &mut Search<H>,
     table: &mut InferCtxt,
     walk: &mut GoalWalk,
     candidate: ToldCandidate<'_>,
 ) -> Result<(), Fault>
-    requires walkable { IsWalkable H.meaning graph.old cache.old cx.old table.old walk.old.references.items }
-    requires goals { IfSome candidate.told (λ t. GoalsHeld cx.old.interner.entries t.goals.items) }
-    ensures again { IsWalkable H.meaning graph.new cache.new cx.new table.new walk.new.references.items }
-    ensures walked { HasWalked H.meaning graph.old cx.old table.old graph.new cx.new table.new }
+    requires walkable { IsWalkable H.meaning search.old.graph search.old.cache search.old.cx table.old walk.old.references.items }
+    requires goals { IfSome candidate.told (λ t. GoalsHeld search.old.cx.interner.entries t.goals.items) }
+    ensures again { IsWalkable H.meaning search.new.graph search.new.cache search.new.cx table.new walk.new.references.items }
+    ensures walked { HasWalked H.meaning search.old.graph search.old.cx table.old search.new.graph search.new.cx table.new }
 {
     let ToldCandidate { goal, told } = candidate;
     let Some(told) = told else {
@@ -173,7 +164,7 @@ fn walk_telling<H: GoalHandler>(
         mode: goal.mode,
         depth: goal.depth,
     };
-    let premises = walk_premises(graph, cache, cx, table, walk, traced)?;
+    let premises = walk_premises(search, table, walk, traced)?;
     let Some(premises) = premises else {
         return Ok(());
     };
@@ -196,30 +187,28 @@ struct TracedGoals<'g> {
 /// Walks the goals that a candidate asks, up to the first that is refused. `None` where the walk took what it may before the last of them.
 #[cycle(walk)]
 fn walk_premises<H: GoalHandler>(
-    graph: &mut SearchGraph<SolverGraph<H>>,
-    cache: &mut GlobalCache<SolverGraph<H>>,
-    cx: &mut SolverCx<H>,
+    search: &mut Search<H>,
     table: &mut InferCtxt,
     walk: &mut GoalWalk,
     traced: TracedGoals<'_>,
 ) -> Result<Option<Vec<usize>>, Fault>
-    requires walkable { IsWalkable H.meaning graph.old cache.old cx.old table.old walk.old.references.items }
-    requires goals { GoalsHeld cx.old.interner.entries traced.goals.now }
-    ensures again { IsWalkable H.meaning graph.new cache.new cx.new table.new walk.new.references.items }
-    ensures walked { HasWalked H.meaning graph.old cx.old table.old graph.new cx.new table.new }
+    requires walkable { IsWalkable H.meaning search.old.graph search.old.cache search.old.cx table.old walk.old.references.items }
+    requires goals { GoalsHeld search.old.cx.interner.entries traced.goals.now }
+    ensures again { IsWalkable H.meaning search.new.graph search.new.cache search.new.cx table.new walk.new.references.items }
+    ensures walked { HasWalked H.meaning search.old.graph search.old.cx table.old search.new.graph search.new.cx table.new }
 {
-    let mut premises = Vec::new(cx.alloc);
+    let mut premises = Vec::new(search.cx.alloc);
     for goal in traced.goals {
-        if graph.frames() > walk.last_frame() {
+        if search.graph.frames() > walk.last_frame() {
             return Ok(None);
         }
-        settle(graph, cache, cx, table, traced.mode, goal)?;
+        settle(search, table, traced.mode, goal)?;
         let next = TracedGoal {
             goal,
             mode: traced.mode,
             depth: traced.depth,
         };
-        let premise = walk_goal(graph, cache, cx, table, walk, next)?;
+        let premise = walk_goal(search, table, walk, next)?;
         premises.push(premise)?;
         if walk.is_refused(premise) {
             return Ok(Some(premises));

@@ -1,4 +1,4 @@
-use Rattle.explain_texts.proofs.Sessions.GivenTexts.{given-text}
+use Rattle.explain_faults.proofs.Sessions.GivenTexts.{given-text}
 use Rattle.celtisdarts_explain.proofs.explaining.explain.Goals as goal
 
 pub explain_text-requires : goal.explain_text-requires

@@ -1,5 +1,5 @@
 use Rattle.std.proofs.Common.{◌∙◌}
-use Rattle.explain_texts.proofs.Sessions.LeftViews.{left-view}
+use Rattle.explain_faults.proofs.Sessions.LeftViews.{left-view}
 use Rattle.celtisdarts_explain.proofs.explaining.explain_crate.Goals as goal
 
 pub returns : goal.returns

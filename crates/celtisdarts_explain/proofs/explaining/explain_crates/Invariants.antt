@@ -1,5 +1,5 @@
 use Rattle.std.specs.Prelude.{IfSome}
-use Rattle.explain_texts.specs.Sessions.SeenViews.{IsLeftView}
+use Rattle.explain_faults.specs.Sessions.SeenViews.{IsLeftView}
 use Rattle.celtisdarts_explain.proofs.explaining.explain_crates.Given as goal
 
 abbrev pub invariant-loop-place : goal.invariant-loop-place

@@ -1,5 +1,5 @@
-use Rattle.explain_texts.specs.TextLanguage.Promised.Declarations.{of_later}
-use Rattle.explain_texts.specs.Workspace.declared.declared.Check.TheVariants.{Later}
+use Rattle.explain_faults.specs.TextLanguage.Promised.Declarations.{of_later}
+use Rattle.explain_faults.specs.Workspace.declared.declared.Check.TheVariants.{Later}
 use Rattle.celtisdarts_explain.proofs.TextPlaces.{check-at}
 use Rattle.celtisdarts_explain.proofs.places.check_at.Goals as goal
 

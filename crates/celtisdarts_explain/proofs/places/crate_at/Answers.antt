@@ -1,8 +1,8 @@
 use Rattle.std.proofs.Common.{sym, ◌∙◌, ap, Some, length, arith, ◌<◌}
 use Rattle.std.proofs.lemmas.List.{length-map}
 use Rattle.std.proofs.lemmas.Option.{slice_get-get_or}
-use Rattle.explain_texts.specs.TextLanguage.Promised.Declarations.{NamedCrate}
-use Rattle.explain_texts.specs.TypeTerms.declared.CrateId.{CrateId}
+use Rattle.explain_faults.specs.TextLanguage.Promised.Declarations.{NamedCrate}
+use Rattle.explain_faults.specs.TypeTerms.declared.CrateId.{CrateId}
 use Rattle.celtisdarts_explain.proofs.TextPlaces.{crate-number}
 use Rattle.celtisdarts_explain.proofs.places.crate_at.Goals as goal
 

@@ -1,7 +1,7 @@
 use Rattle.std.proofs.Common.{length, ap, arith}
 use Rattle.std.proofs.lemmas.List.{length-map}
-use Rattle.explain_texts.specs.TextLanguage.Promised.Declarations.{NamedCrate}
-use Rattle.explain_texts.specs.TypeTerms.declared.CrateId.{CrateId}
+use Rattle.explain_faults.specs.TextLanguage.Promised.Declarations.{NamedCrate}
+use Rattle.explain_faults.specs.TypeTerms.declared.CrateId.{CrateId}
 use Rattle.celtisdarts_explain.proofs.places.crate_count.Goals as goal
 
 pub returns : goal.returns

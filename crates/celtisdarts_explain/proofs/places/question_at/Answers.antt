@@ -1,4 +1,4 @@
-use Rattle.explain_texts.specs.Workspace.declared.declared.Asked.TheVariants.{Prove, Refute}
+use Rattle.explain_faults.specs.Workspace.declared.declared.Asked.TheVariants.{Prove, Refute}
 use Rattle.celtisdarts_explain.proofs.TextPlaces.{asks-at, question-at}
 use Rattle.celtisdarts_explain.proofs.places.question_at.Goals as goal
 

@@ -15,8 +15,8 @@ adder_in-requires c = subst (λ (s : Subject). ReferenceHeld s.terms c.args.refe
 pub returns : goal.returns
 returns c =
     let i = c.session.inside in
-    let es = i.cx.interner.entries in
-    let d = i.cx.handler.declarations in
+    let es = i.search.cx.interner.entries in
+    let d = i.search.cx.handler.declarations in
     let r = reference_in es c.args.reference in
     let unseen = subst (λ (k : ℕ). IsUnseen (declared es d) k r (Some c.args.conflict)) (sym c.session.invariant.session.view.local)
     (subst (λ (V : World). IsUnseen V i.crate_id.index r (Some c.args.conflict)) (sym c.session.invariant.session.view.rules)

@@ -14,26 +14,26 @@ pub is_proved_by-requires-clause-ready : goal.is_proved_by-requires-clause-ready
 is_proved_by-requires-clause-ready c = c.walk_reference.ensures.rests.rest.ready
 
 pub is_proved_by-requires-clause-held : goal.is_proved_by-requires-clause-held
-is_proved_by-requires-clause-held c = reference-kept c.args.cx.now.interner.entries c.walk_reference.new.cx.interner.entries c.walk_reference.ensures.rests.keeps c.args.reference c.requires.held
+is_proved_by-requires-clause-held c = reference-kept c.args.search.now.cx.interner.entries c.walk_reference.new.search.cx.interner.entries c.walk_reference.ensures.rests.keeps c.args.reference c.requires.held
 
 pub is_proved_by-requires-clause-steps : goal.is_proved_by-requires-clause-steps
 is_proved_by-requires-clause-steps c =
-    subst (AllStepsHeld c.walk_reference.new.cx.interner.entries) (sym c.deref.ensures.value)
-    (subst (λ o. IfSome o (ProofWalkHeld c.walk_reference.new.cx.interner.entries)) c.in-Some.is c.in_ok-found.ensures.held).steps
+    subst (AllStepsHeld c.walk_reference.new.search.cx.interner.entries) (sym c.deref.ensures.value)
+    (subst (λ o. IfSome o (ProofWalkHeld c.walk_reference.new.search.cx.interner.entries)) c.in-Some.is c.in_ok-found.ensures.held).steps
 
 pub returns-clause-rests : goal.returns-clause-rests
 returns-clause-rests c =
-    let n = c.args.graph.now.root_depth in
+    let n = c.args.search.now.graph.root_depth in
     let first = c.walk_reference.ensures.rests in
-    let mid = c.walk_reference.new.cx in
-    let g = c.walk_reference.new.graph in
-    let k = c.walk_reference.new.cache in
-    rests-further n c.args.cx.now mid c.is_proved_by.new.cx g g k k first (rests-advanced g.root_depth mid c.is_proved_by.new.cx g k (rests-here n mid g k first.rest) c.is_proved_by.ensures.advances)
+    let mid = c.walk_reference.new.search.cx in
+    let g = c.walk_reference.new.search.graph in
+    let k = c.walk_reference.new.search.cache in
+    rests-further n c.args.search.now.cx mid c.is_proved_by.new.cx g g k k first (rests-advanced g.root_depth mid c.is_proved_by.new.cx g k (rests-here n mid g k first.rest) c.is_proved_by.ensures.advances)
 
 pub returns-clause-holds : goal.returns-clause-holds
 returns-clause-holds c =
-    let old = c.args.cx.now in
-    let mid = c.walk_reference.new.cx in
+    let old = c.args.search.now.cx in
+    let mid = c.walk_reference.new.search.cx in
     let k = c.walk_reference.ensures.rests.keeps in
     mapped _ _ c.is_proved_by.result
     (λ b f e. proved-before (rules_in mid) (rules_in old) (ap (λ s. erased_world s.view) c.walk_reference.ensures.rests.solving) _ _

@@ -18,7 +18,7 @@ pub breaking_cause-requires-clause-text : goal.breaking_cause-requires-clause-te
 breaking_cause-requires-clause-text c = c.session.invariant.session.text
 
 pub invariant_of-session : goal.invariant_of-session
-invariant_of-session c = kept-within c.session.inside.workspace.now c.session.inside.crate_id.index c.session.inside.limits.depth c.session.inside.limits.handles c.session.inside.cx c.breaking_cause.new.cx c.session.inside.graph c.session.inside.graph c.session.inside.cache c.session.inside.cache c.session.invariant (rests-advanced c.session.inside.graph.root_depth c.session.inside.cx c.breaking_cause.new.cx c.session.inside.graph c.session.inside.cache (session-rests c.session.inside.workspace.now c.session.inside.crate_id.index c.session.inside.limits.depth c.session.inside.cx c.session.inside.graph c.session.inside.cache c.session.invariant.session) c.breaking_cause.ensures.advances)
+invariant_of-session c = kept-within c.session.inside.workspace.now c.session.inside.crate_id.index c.session.inside.limits.depth c.session.inside.limits.handles c.session.inside.search.cx c.breaking_cause.new.cx c.session.inside.search.graph c.session.inside.search.graph c.session.inside.search.cache c.session.inside.search.cache c.session.invariant (rests-advanced c.session.inside.search.graph.root_depth c.session.inside.search.cx c.breaking_cause.new.cx c.session.inside.search.graph c.session.inside.search.cache (session-rests c.session.inside.workspace.now c.session.inside.crate_id.index c.session.inside.limits.depth c.session.inside.search.cx c.session.inside.search.graph c.session.inside.search.cache c.session.invariant.session) c.breaking_cause.ensures.advances)
 
 pub returns-clause-cause : goal.returns-clause-cause
 returns-clause-cause c =
@@ -26,7 +26,7 @@ returns-clause-cause c =
     let hs = section_headers i.workspace.now c.args.section in
     subst (λ (s : Subject). IfOk c.breaking_cause.result (IsCauseAt (view_in s.declarations s.of_crate) s.of_crate (section_headers s.declarations c.args.section) c.args.number)) c.session.view_is
     (subst (λ (V : World). IfOk c.breaking_cause.result (IsCauseAt V i.crate_id.index hs c.args.number)) c.session.invariant.session.view.rules
-    (subst (λ (k : ℕ). IfOk c.breaking_cause.result (IsCauseAt (rules_in i.cx) k hs c.args.number)) c.session.invariant.session.view.local c.breaking_cause.ensures.cause))
+    (subst (λ (k : ℕ). IfOk c.breaking_cause.result (IsCauseAt (rules_in i.search.cx) k hs c.args.number)) c.session.invariant.session.view.local c.breaking_cause.ensures.cause))
 
 pub returns-clause-stays : goal.returns-clause-stays
-returns-clause-stays c = stays c.session.inside.workspace.now c.session.inside.crate_id.index c.session.inside.limits.depth c.session.inside.limits.handles c.session.inside.cx c.breaking_cause.new.cx c.session.inside.graph c.session.inside.graph _ c.session.view_is c.breaking_cause.ensures.advances.entries
+returns-clause-stays c = stays c.session.inside.workspace.now c.session.inside.crate_id.index c.session.inside.limits.depth c.session.inside.limits.handles c.session.inside.search.cx c.breaking_cause.new.cx c.session.inside.search.graph c.session.inside.search.graph _ c.session.view_is c.breaking_cause.ensures.advances.entries

@@ -7,16 +7,16 @@ use Rattle.explain_sessions.proofs.Staying.{kept-within, stays}
 use Rattle.explain_sessions.proofs.explained.find_proof.Goals as goal
 
 pub walk_proof-requires-clause-rest : goal.walk_proof-requires-clause-rest
-walk_proof-requires-clause-rest c = session-rests c.session.inside.workspace.now c.session.inside.crate_id.index c.session.inside.limits.depth c.session.inside.cx c.session.inside.graph c.session.inside.cache c.session.invariant.session
+walk_proof-requires-clause-rest c = session-rests c.session.inside.workspace.now c.session.inside.crate_id.index c.session.inside.limits.depth c.session.inside.search.cx c.session.inside.search.graph c.session.inside.search.cache c.session.invariant.session
 
 pub walk_proof-requires-clause-question : goal.walk_proof-requires-clause-question
-walk_proof-requires-clause-question c = is-asked c.session.inside.workspace.now c.session.inside.crate_id.index c.session.inside.limits.depth c.session.inside.cx c.session.inside.graph c.session.inside.cache c.session.invariant.session c.args.number (subst (λ (s : Subject). (q : Question) × AsksProof s.declarations s.of_crate c.args.number q) (sym c.session.view_is) c.requires)
+walk_proof-requires-clause-question c = is-asked c.session.inside.workspace.now c.session.inside.crate_id.index c.session.inside.limits.depth c.session.inside.search.cx c.session.inside.search.graph c.session.inside.search.cache c.session.invariant.session c.args.number (subst (λ (s : Subject). (q : Question) × AsksProof s.declarations s.of_crate c.args.number q) (sym c.session.view_is) c.requires)
 
 pub walk_proof-requires-clause-applied : goal.walk_proof-requires-clause-applied
-walk_proof-requires-clause-applied c = clauses-apply c.session.inside.workspace.now c.session.inside.crate_id.index c.session.inside.limits.depth c.session.inside.cx c.session.inside.graph c.session.inside.cache c.session.invariant.session c.args.number c.clauses_apply.ensures.solved (subst (λ (s : Subject). (q : Question) × AsksProof s.declarations s.of_crate c.args.number q) (sym c.session.view_is) c.requires)
+walk_proof-requires-clause-applied c = clauses-apply c.session.inside.workspace.now c.session.inside.crate_id.index c.session.inside.limits.depth c.session.inside.search.cx c.session.inside.search.graph c.session.inside.search.cache c.session.invariant.session c.args.number c.clauses_apply.ensures.solved (subst (λ (s : Subject). (q : Question) × AsksProof s.declarations s.of_crate c.args.number q) (sym c.session.view_is) c.requires)
 
 pub invariant_of-session : goal.invariant_of-session
-invariant_of-session c = kept-within c.session.inside.workspace.now c.session.inside.crate_id.index c.session.inside.limits.depth c.session.inside.limits.handles c.session.inside.cx c.walk_proof.new.cx c.session.inside.graph c.walk_proof.new.graph c.session.inside.cache c.walk_proof.new.cache c.session.invariant c.walk_proof.ensures.rests
+invariant_of-session c = kept-within c.session.inside.workspace.now c.session.inside.crate_id.index c.session.inside.limits.depth c.session.inside.limits.handles c.session.inside.search.cx c.walk_proof.new.search.cx c.session.inside.search.graph c.walk_proof.new.search.graph c.session.inside.search.cache c.walk_proof.new.search.cache c.session.invariant c.walk_proof.ensures.rests
 
 pub returns-clause-stays : goal.returns-clause-stays
-returns-clause-stays c = stays c.session.inside.workspace.now c.session.inside.crate_id.index c.session.inside.limits.depth c.session.inside.limits.handles c.session.inside.cx c.walk_proof.new.cx c.session.inside.graph c.walk_proof.new.graph _ c.session.view_is c.walk_proof.ensures.rests.keeps
+returns-clause-stays c = stays c.session.inside.workspace.now c.session.inside.crate_id.index c.session.inside.limits.depth c.session.inside.limits.handles c.session.inside.search.cx c.walk_proof.new.search.cx c.session.inside.search.graph c.walk_proof.new.search.graph _ c.session.view_is c.walk_proof.ensures.rests.keeps

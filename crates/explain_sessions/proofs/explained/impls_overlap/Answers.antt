@@ -8,13 +8,13 @@ use Rattle.explain_sessions.proofs.Staying.{kept-within, stays}
 use Rattle.explain_sessions.proofs.explained.impls_overlap.Goals as goal
 
 pub overlap_at-requires-clause-rest : goal.overlap_at-requires-clause-rest
-overlap_at-requires-clause-rest c = session-rests c.session.inside.workspace.now c.session.inside.crate_id.index c.session.inside.limits.depth c.session.inside.cx c.session.inside.graph c.session.inside.cache c.session.invariant.session
+overlap_at-requires-clause-rest c = session-rests c.session.inside.workspace.now c.session.inside.crate_id.index c.session.inside.limits.depth c.session.inside.search.cx c.session.inside.search.graph c.session.inside.search.cache c.session.invariant.session
 
 pub overlap_at-requires-clause-numbers : goal.overlap_at-requires-clause-numbers
 overlap_at-requires-clause-numbers c = subst HaveOwnNumbers (sym c.session.invariant.session.view.rules) (own-numbers c.session.inside.workspace.now c.session.inside.crate_id.index c.crates.ensures.numbered)
 
 pub invariant_of-session : goal.invariant_of-session
-invariant_of-session c = kept-within c.session.inside.workspace.now c.session.inside.crate_id.index c.session.inside.limits.depth c.session.inside.limits.handles c.session.inside.cx c.overlap_at.new.cx c.session.inside.graph c.overlap_at.new.graph c.session.inside.cache c.overlap_at.new.cache c.session.invariant
+invariant_of-session c = kept-within c.session.inside.workspace.now c.session.inside.crate_id.index c.session.inside.limits.depth c.session.inside.limits.handles c.session.inside.search.cx c.overlap_at.new.search.cx c.session.inside.search.graph c.overlap_at.new.search.graph c.session.inside.search.cache c.overlap_at.new.search.cache c.session.invariant
     (record { rest = c.overlap_at.ensures.rest; solving = c.overlap_at.ensures.solving; keeps = c.overlap_at.ensures.entries; limits = c.overlap_at.ensures.limits })
 
 pub returns-clause-judged : goal.returns-clause-judged
@@ -24,4 +24,4 @@ returns-clause-judged c =
     (c.overlap_at.ensures.judged i.workspace.now i.crate_id.index i.limits.depth c.session.invariant.session)
 
 pub returns-clause-stays : goal.returns-clause-stays
-returns-clause-stays c = stays c.session.inside.workspace.now c.session.inside.crate_id.index c.session.inside.limits.depth c.session.inside.limits.handles c.session.inside.cx c.overlap_at.new.cx c.session.inside.graph c.overlap_at.new.graph _ c.session.view_is c.overlap_at.ensures.entries
+returns-clause-stays c = stays c.session.inside.workspace.now c.session.inside.crate_id.index c.session.inside.limits.depth c.session.inside.limits.handles c.session.inside.search.cx c.overlap_at.new.search.cx c.session.inside.search.graph c.overlap_at.new.search.graph _ c.session.view_is c.overlap_at.ensures.entries

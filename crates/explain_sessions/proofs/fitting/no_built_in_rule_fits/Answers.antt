@@ -22,4 +22,4 @@ returns-in-Some c = λ q.
     let at = subst (λ l. slice_get l c.args.place ≡ Some r) c.deref.ensures.value c.in-Some.ensures in
     let cs = (view_in i.workspace.now i.crate_id.index).crates in
     subst (λ (s : Subject). HasNoRowAt s.terms (view_in s.declarations s.of_crate) rs c.args.place) c.session.view_is
-    (r, at, subst (λ (V : World). HasNoRow V (term_of i.cx.interner.entries r)) (ap (λ (V : World). record V { crates = cs }) c.session.invariant.session.view.rules) (c.has_no_row.ensures q cs))
+    (r, at, subst (λ (V : World). HasNoRow V (term_of i.search.cx.interner.entries r)) (ap (λ (V : World). record V { crates = cs }) c.session.invariant.session.view.rules) (c.has_no_row.ensures q cs))

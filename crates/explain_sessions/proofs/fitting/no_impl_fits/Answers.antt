@@ -22,13 +22,13 @@ pub invariant_of-session : goal.invariant_of-session
 invariant_of-session c =
     let i = c.session.inside in
     let new = c.has_no_impl_at.new.cx in
-    kept-within i.workspace.now i.crate_id.index i.limits.depth i.limits.handles i.cx new i.graph i.graph i.cache i.cache c.session.invariant
-    (rests-advanced i.graph.root_depth i.cx new i.graph i.cache (session-rests i.workspace.now i.crate_id.index i.limits.depth i.cx i.graph i.cache c.session.invariant.session) c.has_no_impl_at.ensures.advances)
+    kept-within i.workspace.now i.crate_id.index i.limits.depth i.limits.handles i.search.cx new i.search.graph i.search.graph i.search.cache i.search.cache c.session.invariant
+    (rests-advanced i.search.graph.root_depth i.search.cx new i.search.graph i.search.cache (session-rests i.workspace.now i.crate_id.index i.limits.depth i.search.cx i.search.graph i.search.cache c.session.invariant.session) c.has_no_impl_at.ensures.advances)
 
 pub returns-clause-none : goal.returns-clause-none
 returns-clause-none c =
     let i = c.session.inside in
-    let es = i.cx.interner.entries in
+    let es = i.search.cx.interner.entries in
     let rs = c.args.walk.now.references.items in
     let p = c.args.place in
     subst (λ (s : Subject). IfOk c.has_no_impl_at.result (λ b. b ≡ true → HasNoImplAt s.terms (view_in s.declarations s.of_crate) rs p)) c.session.view_is
@@ -36,10 +36,10 @@ returns-clause-none c =
 
 pub returns-clause-held : goal.returns-clause-held
 returns-clause-held c =
-    references-later c.session.inside.cx.interner.entries c.has_no_impl_at.new.cx.interner.entries c.has_no_impl_at.ensures.advances.entries c.args.walk.now.references.items
+    references-later c.session.inside.search.cx.interner.entries c.has_no_impl_at.new.cx.interner.entries c.has_no_impl_at.ensures.advances.entries c.args.walk.now.references.items
     (subst (λ (s : Subject). WalkHeld s.terms c.args.walk.now) (sym c.session.view_is) c.requires)
 
 pub returns-clause-stays : goal.returns-clause-stays
 returns-clause-stays c =
     let i = c.session.inside in
-    stays i.workspace.now i.crate_id.index i.limits.depth i.limits.handles i.cx c.has_no_impl_at.new.cx i.graph i.graph _ c.session.view_is c.has_no_impl_at.ensures.advances.entries
+    stays i.workspace.now i.crate_id.index i.limits.depth i.limits.handles i.search.cx c.has_no_impl_at.new.cx i.search.graph i.search.graph _ c.session.view_is c.has_no_impl_at.ensures.advances.entries

@@ -21,21 +21,21 @@ pub holds_at-requires-clause-walked : goal.holds_at-requires-clause-walked
 holds_at-requires-clause-walked c = subst (λ (s : Subject). ReferencesHeld s.terms c.args.walk.now.references.items) (sym c.session.view_is) c.requires
 
 pub invariant_of-session : goal.invariant_of-session
-invariant_of-session c = kept-within c.session.inside.workspace.now c.session.inside.crate_id.index c.session.inside.limits.depth c.session.inside.limits.handles c.session.inside.cx c.holds_at.new.cx c.session.inside.graph c.session.inside.graph c.session.inside.cache c.session.inside.cache c.session.invariant (rests-advanced c.session.inside.graph.root_depth c.session.inside.cx c.holds_at.new.cx c.session.inside.graph c.session.inside.cache (session-rests c.session.inside.workspace.now c.session.inside.crate_id.index c.session.inside.limits.depth c.session.inside.cx c.session.inside.graph c.session.inside.cache c.session.invariant.session) c.holds_at.ensures.advances)
+invariant_of-session c = kept-within c.session.inside.workspace.now c.session.inside.crate_id.index c.session.inside.limits.depth c.session.inside.limits.handles c.session.inside.search.cx c.holds_at.new.cx c.session.inside.search.graph c.session.inside.search.graph c.session.inside.search.cache c.session.inside.search.cache c.session.invariant (rests-advanced c.session.inside.search.graph.root_depth c.session.inside.search.cx c.holds_at.new.cx c.session.inside.search.graph c.session.inside.search.cache (session-rests c.session.inside.workspace.now c.session.inside.crate_id.index c.session.inside.limits.depth c.session.inside.search.cx c.session.inside.search.graph c.session.inside.search.cache c.session.invariant.session) c.holds_at.ensures.advances)
 
 pub returns-clause-stays : goal.returns-clause-stays
-returns-clause-stays c = stays c.session.inside.workspace.now c.session.inside.crate_id.index c.session.inside.limits.depth c.session.inside.limits.handles c.session.inside.cx c.holds_at.new.cx c.session.inside.graph c.session.inside.graph _ c.session.view_is c.holds_at.ensures.advances.entries
+returns-clause-stays c = stays c.session.inside.workspace.now c.session.inside.crate_id.index c.session.inside.limits.depth c.session.inside.limits.handles c.session.inside.search.cx c.holds_at.new.cx c.session.inside.search.graph c.session.inside.search.graph _ c.session.view_is c.holds_at.ensures.advances.entries
 
 pub returns-clause-holds : goal.returns-clause-holds
 returns-clause-holds c =
     let i = c.session.inside in
-    let es = i.cx.interner.entries in
+    let es = i.search.cx.interner.entries in
     let rs = c.args.walk.now.references.items in
     let cs = (view_in i.workspace.now i.crate_id.index).crates in
     subst (λ (s : Subject). IfOk c.holds_at.result (λ b. b ≡ true → HoldsAt s.terms (view_in s.declarations s.of_crate) rs c.args.place)) c.session.view_is
     (mapped _ _ c.holds_at.result
-    (λ b f e. subst (λ (V : World). HoldsAt es V rs c.args.place) (ap (λ (V : World). record V { crates = cs }) c.session.invariant.session.view.rules) (holds-aside (rules_in i.cx) cs es rs c.args.place (f e)))
+    (λ b f e. subst (λ (V : World). HoldsAt es V rs c.args.place) (ap (λ (V : World). record V { crates = cs }) c.session.invariant.session.view.rules) (holds-aside (rules_in i.search.cx) cs es rs c.args.place (f e)))
     c.holds_at.ensures.holds)
 
 pub returns-clause-held : goal.returns-clause-held
-returns-clause-held c = references-later c.session.inside.cx.interner.entries c.holds_at.new.cx.interner.entries c.holds_at.ensures.advances.entries c.args.walk.now.references.items (subst (λ (s : Subject). ReferencesHeld s.terms c.args.walk.now.references.items) (sym c.session.view_is) c.requires)
+returns-clause-held c = references-later c.session.inside.search.cx.interner.entries c.holds_at.new.cx.interner.entries c.holds_at.ensures.advances.entries c.args.walk.now.references.items (subst (λ (s : Subject). ReferencesHeld s.terms c.args.walk.now.references.items) (sym c.session.view_is) c.requires)

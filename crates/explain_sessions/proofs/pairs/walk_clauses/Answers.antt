@@ -5,27 +5,27 @@ use Rattle.explain_sessions.proofs.Rests.{rests-further, rests-here, rests-none}
 use Rattle.explain_sessions.proofs.pairs.walk_clauses.Goals as goal
 
 pub clauses-init : goal.clauses-init
-clauses-init c = record { rests = rests-none c.args.graph.now.root_depth c.args.cx.now c.args.graph.now c.args.cache.now c.requires.rest; table = c.requires.table; walked = c.requires.walked; left = c.requires.clauses }
+clauses-init c = record { rests = rests-none c.args.search.now.graph.root_depth c.args.search.now.cx c.args.search.now.graph c.args.search.now.cache c.requires.rest; table = c.requires.table; walked = c.requires.walked; left = c.requires.clauses }
 
 pub walk_clause-requires-clause-rest : goal.walk_clause-requires-clause-rest
-walk_clause-requires-clause-rest c = rests-here c.args.graph.now.root_depth c.clauses.cx c.clauses.graph c.clauses.cache c.clauses.invariant.rests.rest
+walk_clause-requires-clause-rest c = rests-here c.args.search.now.graph.root_depth c.clauses.search.cx c.clauses.search.graph c.clauses.search.cache c.clauses.invariant.rests.rest
 
 pub walk_clause-requires-clause-clause : goal.walk_clause-requires-clause-clause
 walk_clause-requires-clause-clause c =
-    let es = c.args.cx.now.interner.entries in
-    reference-kept es c.clauses.cx.interner.entries c.clauses.invariant.rests.keeps c.in-Some.clause.now (subst (TraitRefsHeld es) c.in-Some.ensures.cases.0 c.clauses.invariant.left).0
+    let es = c.args.search.now.cx.interner.entries in
+    reference-kept es c.clauses.search.cx.interner.entries c.clauses.invariant.rests.keeps c.in-Some.clause.now (subst (TraitRefsHeld es) c.in-Some.ensures.cases.0 c.clauses.invariant.left).0
 
 pub returns-in_err-place-clause-rests : goal.returns-in_err-place-clause-rests
-returns-in_err-place-clause-rests c = rests-further c.args.graph.now.root_depth c.args.cx.now c.clauses.cx c.walk_clause.new.cx c.clauses.graph c.walk_clause.new.graph c.clauses.cache c.walk_clause.new.cache (c.clauses.invariant.rests) (c.walk_clause.ensures.rests)
+returns-in_err-place-clause-rests c = rests-further c.args.search.now.graph.root_depth c.args.search.now.cx c.clauses.search.cx c.walk_clause.new.search.cx c.clauses.search.graph c.walk_clause.new.search.graph c.clauses.search.cache c.walk_clause.new.search.cache (c.clauses.invariant.rests) (c.walk_clause.ensures.rests)
 
 pub returns-in_err-push-clause-rests : goal.returns-in_err-push-clause-rests
-returns-in_err-push-clause-rests c = rests-further c.args.graph.now.root_depth c.args.cx.now c.clauses.cx c.walk_clause.new.cx c.clauses.graph c.walk_clause.new.graph c.clauses.cache c.walk_clause.new.cache (c.clauses.invariant.rests) (c.walk_clause.ensures.rests)
+returns-in_err-push-clause-rests c = rests-further c.args.search.now.graph.root_depth c.args.search.now.cx c.clauses.search.cx c.walk_clause.new.search.cx c.clauses.search.graph c.walk_clause.new.search.graph c.clauses.search.cache c.walk_clause.new.search.cache (c.clauses.invariant.rests) (c.walk_clause.ensures.rests)
 
 pub clauses-preserved : goal.clauses-preserved
 clauses-preserved c =
-    let es = c.args.cx.now.interner.entries in
+    let es = c.args.search.now.cx.interner.entries in
     record {
-      rests = rests-further c.args.graph.now.root_depth c.args.cx.now c.clauses.cx c.walk_clause.new.cx c.clauses.graph c.walk_clause.new.graph c.clauses.cache c.walk_clause.new.cache (c.clauses.invariant.rests) (c.walk_clause.ensures.rests);
+      rests = rests-further c.args.search.now.graph.root_depth c.args.search.now.cx c.clauses.search.cx c.walk_clause.new.search.cx c.clauses.search.graph c.walk_clause.new.search.graph c.clauses.search.cache c.walk_clause.new.search.cache (c.clauses.invariant.rests) (c.walk_clause.ensures.rests);
       table = c.walk_clause.ensures.table;
       walked = c.walk_clause.ensures.walked;
       left = (subst (TraitRefsHeld es) c.in-Some.ensures.cases.0 c.clauses.invariant.left).1;

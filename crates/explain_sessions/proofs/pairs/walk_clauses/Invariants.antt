@@ -7,10 +7,10 @@ use Rattle.explain_sessions.proofs.pairs.walk_clauses.Given as goal
 
 abbrev pub invariant-clauses : goal.invariant-clauses
 invariant-clauses l = record {
-  rests : RestsAfter l.fn.graph.root_depth l.fn.cx l.cx l.graph l.cache;
-  table : Ready l.cx.interner.entries l.table;
-  walked : ReferencesHeld l.cx.interner.entries l.walk.references.items;
-  left : TraitRefsHeld l.fn.cx.interner.entries l.left;
+  rests : RestsAfter l.fn.search.graph.root_depth l.fn.search.cx l.search.cx l.search.graph l.search.cache;
+  table : Ready l.search.cx.interner.entries l.table;
+  walked : ReferencesHeld l.search.cx.interner.entries l.walk.references.items;
+  left : TraitRefsHeld l.fn.search.cx.interner.entries l.left;
 }
 
 abbrev pub decreases-clauses : goal.decreases-clauses

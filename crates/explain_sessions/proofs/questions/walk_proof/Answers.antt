@@ -12,7 +12,7 @@ pub lower_in-requires-clause-question : goal.lower_in-requires-clause-question
 lower_in-requires-clause-question c = c.requires.question
 
 pub returns-in_err-lowered-clause-rests : goal.returns-in_err-lowered-clause-rests
-returns-in_err-lowered-clause-rests c = rests-advanced c.args.graph.now.root_depth c.args.cx.now c.lower_in.new.cx c.args.graph.now c.args.cache.now c.requires.rest c.lower_in.ensures.advances
+returns-in_err-lowered-clause-rests c = rests-advanced c.args.search.now.graph.root_depth c.args.search.now.cx c.lower_in.new.cx c.args.search.now.graph c.args.search.now.cache c.requires.rest c.lower_in.ensures.advances
 
 pub pose-requires-clause-ready : goal.pose-requires-clause-ready
 pose-requires-clause-ready c = c.lower_in.ensures.advances.ready
@@ -28,13 +28,13 @@ pose-requires-clause-applied c =
     (c.requires.applied q is c.lower_in.new.cx.interner.entries c.in_ok-lowered.lowered (c.in_ok-lowered.ensures.lowered q is))
 
 pub returns-in_err-goal-clause-rests : goal.returns-in_err-goal-clause-rests
-returns-in_err-goal-clause-rests c = rests-advanced c.args.graph.now.root_depth c.args.cx.now c.pose.new.cx c.args.graph.now c.args.cache.now c.requires.rest (advanced-further c.args.cx.now c.lower_in.new.cx c.pose.new.cx c.lower_in.ensures.advances c.pose.ensures.advances)
+returns-in_err-goal-clause-rests c = rests-advanced c.args.search.now.graph.root_depth c.args.search.now.cx c.pose.new.cx c.args.search.now.graph c.args.search.now.cache c.requires.rest (advanced-further c.args.search.now.cx c.lower_in.new.cx c.pose.new.cx c.lower_in.ensures.advances c.pose.ensures.advances)
 
 pub walk_settled-requires-clause-rest : goal.walk_settled-requires-clause-rest
-walk_settled-requires-clause-rest c = (rests-advanced c.args.graph.now.root_depth c.args.cx.now c.pose.new.cx c.args.graph.now c.args.cache.now c.requires.rest (advanced-further c.args.cx.now c.lower_in.new.cx c.pose.new.cx c.lower_in.ensures.advances c.pose.ensures.advances)).rest
+walk_settled-requires-clause-rest c = (rests-advanced c.args.search.now.graph.root_depth c.args.search.now.cx c.pose.new.cx c.args.search.now.graph c.args.search.now.cache c.requires.rest (advanced-further c.args.search.now.cx c.lower_in.new.cx c.pose.new.cx c.lower_in.ensures.advances c.pose.ensures.advances)).rest
 
 pub returns-in_err-walk-clause-rests : goal.returns-in_err-walk-clause-rests
-returns-in_err-walk-clause-rests c = rests-further c.args.graph.now.root_depth c.args.cx.now c.pose.new.cx c.walk_settled.new.cx c.args.graph.now c.walk_settled.new.graph c.args.cache.now c.walk_settled.new.cache (rests-advanced c.args.graph.now.root_depth c.args.cx.now c.pose.new.cx c.args.graph.now c.args.cache.now c.requires.rest (advanced-further c.args.cx.now c.lower_in.new.cx c.pose.new.cx c.lower_in.ensures.advances c.pose.ensures.advances)) c.walk_settled.ensures.rests
+returns-in_err-walk-clause-rests c = rests-further c.args.search.now.graph.root_depth c.args.search.now.cx c.pose.new.cx c.walk_settled.new.search.cx c.args.search.now.graph c.walk_settled.new.search.graph c.args.search.now.cache c.walk_settled.new.search.cache (rests-advanced c.args.search.now.graph.root_depth c.args.search.now.cx c.pose.new.cx c.args.search.now.graph c.args.search.now.cache c.requires.rest (advanced-further c.args.search.now.cx c.lower_in.new.cx c.pose.new.cx c.lower_in.ensures.advances c.pose.ensures.advances)) c.walk_settled.ensures.rests
 
 pub with_steps-requires-clause-ready : goal.with_steps-requires-clause-ready
 with_steps-requires-clause-ready c = c.walk_settled.ensures.rests.rest.ready
@@ -42,14 +42,14 @@ with_steps-requires-clause-ready c = c.walk_settled.ensures.rests.rest.ready
 pub with_steps-requires-clause-clauses : goal.with_steps-requires-clause-clauses
 with_steps-requires-clause-clauses c =
     let mid = c.lower_in.new.cx.interner.entries in
-    let now = c.walk_settled.new.cx.interner.entries in
+    let now = c.walk_settled.new.search.cx.interner.entries in
     subst (TraitRefsHeld now) (sym c.deref.ensures.value)
     (references-kept mid now (λ i e h. c.walk_settled.ensures.rests.keeps i e (c.pose.ensures.advances.entries i e h)) c.in_ok-lowered.lowered.clauses.items (c.in_ok-lowered.ensures.lowered c.requires.question.0 c.requires.question.1).clauses_held)
 
 pub returns-clause-rests : goal.returns-clause-rests
 returns-clause-rests c =
-    let mid = rests-further c.args.graph.now.root_depth c.args.cx.now c.pose.new.cx c.walk_settled.new.cx c.args.graph.now c.walk_settled.new.graph c.args.cache.now c.walk_settled.new.cache (rests-advanced c.args.graph.now.root_depth c.args.cx.now c.pose.new.cx c.args.graph.now c.args.cache.now c.requires.rest (advanced-further c.args.cx.now c.lower_in.new.cx c.pose.new.cx c.lower_in.ensures.advances c.pose.ensures.advances)) c.walk_settled.ensures.rests in
-    rests-further c.args.graph.now.root_depth c.args.cx.now c.walk_settled.new.cx c.with_steps.new.cx c.walk_settled.new.graph c.walk_settled.new.graph c.walk_settled.new.cache c.walk_settled.new.cache mid (rests-advanced c.walk_settled.new.graph.root_depth c.walk_settled.new.cx c.with_steps.new.cx c.walk_settled.new.graph c.walk_settled.new.cache (rests-here c.args.graph.now.root_depth c.walk_settled.new.cx c.walk_settled.new.graph c.walk_settled.new.cache mid.rest) c.with_steps.ensures.advances)
+    let mid = rests-further c.args.search.now.graph.root_depth c.args.search.now.cx c.pose.new.cx c.walk_settled.new.search.cx c.args.search.now.graph c.walk_settled.new.search.graph c.args.search.now.cache c.walk_settled.new.search.cache (rests-advanced c.args.search.now.graph.root_depth c.args.search.now.cx c.pose.new.cx c.args.search.now.graph c.args.search.now.cache c.requires.rest (advanced-further c.args.search.now.cx c.lower_in.new.cx c.pose.new.cx c.lower_in.ensures.advances c.pose.ensures.advances)) c.walk_settled.ensures.rests in
+    rests-further c.args.search.now.graph.root_depth c.args.search.now.cx c.walk_settled.new.search.cx c.with_steps.new.cx c.walk_settled.new.search.graph c.walk_settled.new.search.graph c.walk_settled.new.search.cache c.walk_settled.new.search.cache mid (rests-advanced c.walk_settled.new.search.graph.root_depth c.walk_settled.new.search.cx c.with_steps.new.cx c.walk_settled.new.search.graph c.walk_settled.new.search.cache (rests-here c.args.search.now.graph.root_depth c.walk_settled.new.search.cx c.walk_settled.new.search.graph c.walk_settled.new.search.cache mid.rest) c.with_steps.ensures.advances)
 
 pub walk_settled-requires-clause-table : goal.walk_settled-requires-clause-table
 walk_settled-requires-clause-table c = c.in_ok-goal.ensures.table

@@ -11,7 +11,7 @@ pub lower_in-requires-clause-question : goal.lower_in-requires-clause-question
 lower_in-requires-clause-question c = c.requires.question
 
 pub returns-in_err-lowered-clause-rests : goal.returns-in_err-lowered-clause-rests
-returns-in_err-lowered-clause-rests c = rests-advanced c.args.graph.now.root_depth c.args.cx.now c.lower_in.new.cx c.args.graph.now c.args.cache.now c.requires.rest c.lower_in.ensures.advances
+returns-in_err-lowered-clause-rests c = rests-advanced c.args.search.now.graph.root_depth c.args.search.now.cx c.lower_in.new.cx c.args.search.now.graph c.args.search.now.cache c.requires.rest c.lower_in.ensures.advances
 
 pub pose-requires-clause-ready : goal.pose-requires-clause-ready
 pose-requires-clause-ready c = c.lower_in.ensures.advances.ready
@@ -27,13 +27,13 @@ pose-requires-clause-applied c =
     (c.requires.applied q is c.lower_in.new.cx.interner.entries c.in_ok-lowered.lowered (c.in_ok-lowered.ensures.lowered q is))
 
 pub returns-in_err-goal-clause-rests : goal.returns-in_err-goal-clause-rests
-returns-in_err-goal-clause-rests c = rests-advanced c.args.graph.now.root_depth c.args.cx.now c.pose.new.cx c.args.graph.now c.args.cache.now c.requires.rest (advanced-further c.args.cx.now c.lower_in.new.cx c.pose.new.cx c.lower_in.ensures.advances c.pose.ensures.advances)
+returns-in_err-goal-clause-rests c = rests-advanced c.args.search.now.graph.root_depth c.args.search.now.cx c.pose.new.cx c.args.search.now.graph c.args.search.now.cache c.requires.rest (advanced-further c.args.search.now.cx c.lower_in.new.cx c.pose.new.cx c.lower_in.ensures.advances c.pose.ensures.advances)
 
 pub walk_alone-requires-clause-rest : goal.walk_alone-requires-clause-rest
-walk_alone-requires-clause-rest c = (rests-advanced c.args.graph.now.root_depth c.args.cx.now c.pose.new.cx c.args.graph.now c.args.cache.now c.requires.rest (advanced-further c.args.cx.now c.lower_in.new.cx c.pose.new.cx c.lower_in.ensures.advances c.pose.ensures.advances)).rest
+walk_alone-requires-clause-rest c = (rests-advanced c.args.search.now.graph.root_depth c.args.search.now.cx c.pose.new.cx c.args.search.now.graph c.args.search.now.cache c.requires.rest (advanced-further c.args.search.now.cx c.lower_in.new.cx c.pose.new.cx c.lower_in.ensures.advances c.pose.ensures.advances)).rest
 
 pub returns-clause-rests : goal.returns-clause-rests
-returns-clause-rests c = rests-further c.args.graph.now.root_depth c.args.cx.now c.pose.new.cx c.walk_alone.new.cx c.args.graph.now c.walk_alone.new.graph c.args.cache.now c.walk_alone.new.cache (rests-advanced c.args.graph.now.root_depth c.args.cx.now c.pose.new.cx c.args.graph.now c.args.cache.now c.requires.rest (advanced-further c.args.cx.now c.lower_in.new.cx c.pose.new.cx c.lower_in.ensures.advances c.pose.ensures.advances)) c.walk_alone.ensures.rests
+returns-clause-rests c = rests-further c.args.search.now.graph.root_depth c.args.search.now.cx c.pose.new.cx c.walk_alone.new.search.cx c.args.search.now.graph c.walk_alone.new.search.graph c.args.search.now.cache c.walk_alone.new.search.cache (rests-advanced c.args.search.now.graph.root_depth c.args.search.now.cx c.pose.new.cx c.args.search.now.graph c.args.search.now.cache c.requires.rest (advanced-further c.args.search.now.cx c.lower_in.new.cx c.pose.new.cx c.lower_in.ensures.advances c.pose.ensures.advances)) c.walk_alone.ensures.rests
 
 pub returns-clause-held : goal.returns-clause-held
 returns-clause-held c = c.walk_alone.ensures.held

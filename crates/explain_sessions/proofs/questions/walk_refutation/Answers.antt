@@ -14,16 +14,16 @@ pub lower_in-requires-clause-question : goal.lower_in-requires-clause-question
 lower_in-requires-clause-question c = c.requires.question
 
 pub returns-in_err-lowered-clause-rests : goal.returns-in_err-lowered-clause-rests
-returns-in_err-lowered-clause-rests c = rests-advanced c.args.graph.now.root_depth c.args.cx.now c.lower_in.new.cx c.args.graph.now c.args.cache.now c.requires.rest c.lower_in.ensures.advances
+returns-in_err-lowered-clause-rests c = rests-advanced c.args.search.now.graph.root_depth c.args.search.now.cx c.lower_in.new.cx c.args.search.now.graph c.args.search.now.cache c.requires.rest c.lower_in.ensures.advances
 
 pub question_table_in-requires : goal.question_table_in-requires
 question_table_in-requires c = c.lower_in.ensures.advances.ready
 
 pub returns-in_err-table-clause-rests : goal.returns-in_err-table-clause-rests
-returns-in_err-table-clause-rests c = rests-advanced c.args.graph.now.root_depth c.args.cx.now c.question_table_in.new.cx c.args.graph.now c.args.cache.now c.requires.rest (advanced-further c.args.cx.now c.lower_in.new.cx c.question_table_in.new.cx c.lower_in.ensures.advances c.question_table_in.ensures.advances)
+returns-in_err-table-clause-rests c = rests-advanced c.args.search.now.graph.root_depth c.args.search.now.cx c.question_table_in.new.cx c.args.search.now.graph c.args.search.now.cache c.requires.rest (advanced-further c.args.search.now.cx c.lower_in.new.cx c.question_table_in.new.cx c.lower_in.ensures.advances c.question_table_in.ensures.advances)
 
 pub walk_alone-requires-clause-rest : goal.walk_alone-requires-clause-rest
-walk_alone-requires-clause-rest c = (rests-advanced c.args.graph.now.root_depth c.args.cx.now c.question_table_in.new.cx c.args.graph.now c.args.cache.now c.requires.rest (advanced-further c.args.cx.now c.lower_in.new.cx c.question_table_in.new.cx c.lower_in.ensures.advances c.question_table_in.ensures.advances)).rest
+walk_alone-requires-clause-rest c = (rests-advanced c.args.search.now.graph.root_depth c.args.search.now.cx c.question_table_in.new.cx c.args.search.now.graph c.args.search.now.cache c.requires.rest (advanced-further c.args.search.now.cx c.lower_in.new.cx c.question_table_in.new.cx c.lower_in.ensures.advances c.question_table_in.ensures.advances)).rest
 
 pub walk_alone-requires-clause-goal : goal.walk_alone-requires-clause-goal
 walk_alone-requires-clause-goal c =
@@ -34,7 +34,7 @@ walk_alone-requires-clause-goal c =
     (subst (λ (r : TraitRef). Has new args_lists r.args.0) (sym c.bare_goal-goal.ensures.asked) (has-later old new c.question_table_in.ensures.advances.entries args_lists c.in_ok-lowered.lowered.asked.args.0 is.asked_held))
 
 pub returns-clause-rests : goal.returns-clause-rests
-returns-clause-rests c = rests-further c.args.graph.now.root_depth c.args.cx.now c.question_table_in.new.cx c.walk_alone.new.cx c.args.graph.now c.walk_alone.new.graph c.args.cache.now c.walk_alone.new.cache (rests-advanced c.args.graph.now.root_depth c.args.cx.now c.question_table_in.new.cx c.args.graph.now c.args.cache.now c.requires.rest (advanced-further c.args.cx.now c.lower_in.new.cx c.question_table_in.new.cx c.lower_in.ensures.advances c.question_table_in.ensures.advances)) c.walk_alone.ensures.rests
+returns-clause-rests c = rests-further c.args.search.now.graph.root_depth c.args.search.now.cx c.question_table_in.new.cx c.walk_alone.new.search.cx c.args.search.now.graph c.walk_alone.new.search.graph c.args.search.now.cache c.walk_alone.new.search.cache (rests-advanced c.args.search.now.graph.root_depth c.args.search.now.cx c.question_table_in.new.cx c.args.search.now.graph c.args.search.now.cache c.requires.rest (advanced-further c.args.search.now.cx c.lower_in.new.cx c.question_table_in.new.cx c.lower_in.ensures.advances c.question_table_in.ensures.advances)) c.walk_alone.ensures.rests
 
 pub returns-clause-held : goal.returns-clause-held
 returns-clause-held c = c.walk_alone.ensures.held

@@ -20,12 +20,12 @@ pub checked_in-requires-clause-walked : goal.checked_in-requires-clause-walked
 checked_in-requires-clause-walked c = subst (λ (s : Subject). WalkHeld s.terms c.args.walk.now) (sym c.session.view_is) c.requires
 
 pub invariant_of-session : goal.invariant_of-session
-invariant_of-session c = kept-within c.session.inside.workspace.now c.session.inside.crate_id.index c.session.inside.limits.depth c.session.inside.limits.handles c.session.inside.cx c.checked_in.new.cx c.session.inside.graph c.session.inside.graph c.session.inside.cache c.session.inside.cache c.session.invariant (rests-advanced c.session.inside.graph.root_depth c.session.inside.cx c.checked_in.new.cx c.session.inside.graph c.session.inside.cache (session-rests c.session.inside.workspace.now c.session.inside.crate_id.index c.session.inside.limits.depth c.session.inside.cx c.session.inside.graph c.session.inside.cache c.session.invariant.session) c.checked_in.ensures.advances)
+invariant_of-session c = kept-within c.session.inside.workspace.now c.session.inside.crate_id.index c.session.inside.limits.depth c.session.inside.limits.handles c.session.inside.search.cx c.checked_in.new.cx c.session.inside.search.graph c.session.inside.search.graph c.session.inside.search.cache c.session.inside.search.cache c.session.invariant (rests-advanced c.session.inside.search.graph.root_depth c.session.inside.search.cx c.checked_in.new.cx c.session.inside.search.graph c.session.inside.search.cache (session-rests c.session.inside.workspace.now c.session.inside.crate_id.index c.session.inside.limits.depth c.session.inside.search.cx c.session.inside.search.graph c.session.inside.search.cache c.session.invariant.session) c.checked_in.ensures.advances)
 
 pub returns-clause-checked : goal.returns-clause-checked
 returns-clause-checked c =
     let i = c.session.inside in
-    let es = i.cx.interner.entries in
+    let es = i.search.cx.interner.entries in
     let w = c.args.walk.now in
     let cs = (view_in i.workspace.now i.crate_id.index).crates in
     subst (λ (s : Subject). IfOk c.checked_in.result (AreChecked s.terms (view_in s.declarations s.of_crate) w)) c.session.view_is
@@ -34,7 +34,7 @@ returns-clause-checked c =
     c.checked_in.ensures.checked)
 
 pub returns-clause-held : goal.returns-clause-held
-returns-clause-held c = references-later c.session.inside.cx.interner.entries c.checked_in.new.cx.interner.entries c.checked_in.ensures.advances.entries c.args.walk.now.references.items (subst (λ (s : Subject). WalkHeld s.terms c.args.walk.now) (sym c.session.view_is) c.requires)
+returns-clause-held c = references-later c.session.inside.search.cx.interner.entries c.checked_in.new.cx.interner.entries c.checked_in.ensures.advances.entries c.args.walk.now.references.items (subst (λ (s : Subject). WalkHeld s.terms c.args.walk.now) (sym c.session.view_is) c.requires)
 
 pub returns-clause-stays : goal.returns-clause-stays
-returns-clause-stays c = stays c.session.inside.workspace.now c.session.inside.crate_id.index c.session.inside.limits.depth c.session.inside.limits.handles c.session.inside.cx c.checked_in.new.cx c.session.inside.graph c.session.inside.graph _ c.session.view_is c.checked_in.ensures.advances.entries
+returns-clause-stays c = stays c.session.inside.workspace.now c.session.inside.crate_id.index c.session.inside.limits.depth c.session.inside.limits.handles c.session.inside.search.cx c.checked_in.new.cx c.session.inside.search.graph c.session.inside.search.graph _ c.session.view_is c.checked_in.ensures.advances.entries

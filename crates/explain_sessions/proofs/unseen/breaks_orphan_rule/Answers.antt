@@ -16,6 +16,6 @@ returns c =
     let i = c.session.inside in
     let b = c.keeps_orphan_rule.result in
     subst (λ (s : Subject). not b ≡ not (keeps_orphan_rule (view_in s.declarations s.of_crate) s.of_crate (reference_in s.terms c.args.header))) c.session.view_is
-    (subst (λ (V : World). not b ≡ not (keeps_orphan_rule V i.crate_id.index (reference_in i.cx.interner.entries c.args.header))) c.session.invariant.session.view.rules
-    (subst (λ (k : ℕ). not b ≡ not (keeps_orphan_rule (declared i.cx.interner.entries i.cx.handler.declarations) k (reference_in i.cx.interner.entries c.args.header))) c.session.invariant.session.view.local
+    (subst (λ (V : World). not b ≡ not (keeps_orphan_rule V i.crate_id.index (reference_in i.search.cx.interner.entries c.args.header))) c.session.invariant.session.view.rules
+    (subst (λ (k : ℕ). not b ≡ not (keeps_orphan_rule (declared i.search.cx.interner.entries i.search.cx.handler.declarations) k (reference_in i.search.cx.interner.entries c.args.header))) c.session.invariant.session.view.local
     (ap not c.keeps_orphan_rule.ensures)))

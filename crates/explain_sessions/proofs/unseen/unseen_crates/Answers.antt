@@ -14,7 +14,7 @@ conflict_of-requires c = subst (λ (s : Subject). ReferenceHeld s.terms c.args.r
 pub returns : goal.returns
 returns c =
     let i = c.session.inside in
-    let r = reference_in i.cx.interner.entries c.args.reference in
+    let r = reference_in i.search.cx.interner.entries c.args.reference in
     subst (λ (s : Subject). IfOk c.conflict_of.result (IsUnseen (view_in s.declarations s.of_crate) s.of_crate (reference_in s.terms c.args.reference))) c.session.view_is
     (subst (λ (V : World). IfOk c.conflict_of.result (IsUnseen V i.crate_id.index r)) c.session.invariant.session.view.rules
-    (subst (λ (k : ℕ). IfOk c.conflict_of.result (IsUnseen (declared i.cx.interner.entries i.cx.handler.declarations) k r)) c.session.invariant.session.view.local c.conflict_of.ensures))
+    (subst (λ (k : ℕ). IfOk c.conflict_of.result (IsUnseen (declared i.search.cx.interner.entries i.search.cx.handler.declarations) k r)) c.session.invariant.session.view.local c.conflict_of.ensures))

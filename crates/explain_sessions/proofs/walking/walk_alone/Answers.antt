@@ -5,19 +5,19 @@ use Rattle.explain_sessions.proofs.walking.walk_alone.Goals as goal
 
 pub returns-in_err-_root-clause-rests : goal.returns-in_err-_root-clause-rests
 returns-in_err-_root-clause-rests c =
-    rests-asked c.args.graph.now.root_depth c.args.cx.now c.walk_goal.new.cx c.args.graph.now c.walk_goal.new.graph c.args.cache.now c.walk_goal.new.cache c.requires.rest c.walk_goal.ensures.again.askable
+    rests-asked c.args.search.now.graph.root_depth c.args.search.now.cx c.walk_goal.new.search.cx c.args.search.now.graph c.walk_goal.new.search.graph c.args.search.now.cache c.walk_goal.new.search.cache c.requires.rest c.walk_goal.ensures.again.askable
     c.walk_goal.ensures.walked.asked
 
 pub returns-clause-rests : goal.returns-clause-rests
 returns-clause-rests c =
-    rests-asked c.args.graph.now.root_depth c.args.cx.now c.walk_goal.new.cx c.args.graph.now c.walk_goal.new.graph c.args.cache.now c.walk_goal.new.cache c.requires.rest c.walk_goal.ensures.again.askable
+    rests-asked c.args.search.now.graph.root_depth c.args.search.now.cx c.walk_goal.new.search.cx c.args.search.now.graph c.walk_goal.new.search.graph c.args.search.now.cache c.walk_goal.new.search.cache c.requires.rest c.walk_goal.ensures.again.askable
     c.walk_goal.ensures.walked.asked
 
 pub walk_goal-requires-clause-walkable : goal.walk_goal-requires-clause-walkable
 walk_goal-requires-clause-walkable c = record {
-  askable = askable-at-rest c.args.graph.now.root_depth c.args.cx.now c.args.graph.now c.args.cache.now c.requires.rest;
+  askable = askable-at-rest c.args.search.now.graph.root_depth c.args.search.now.cx c.args.search.now.graph c.args.search.now.cache c.requires.rest;
   table = c.requires.table;
-  references = subst (ReferencesHeld c.args.cx.now.interner.entries) (sym c.new-walk.ensures.references) tt;
+  references = subst (ReferencesHeld c.args.search.now.cx.interner.entries) (sym c.new-walk.ensures.references) tt;
 }
 
 pub walk_goal-requires-clause-goal : goal.walk_goal-requires-clause-goal

@@ -7,27 +7,27 @@ pub returns-in_err-entered-clause-again : goal.returns-in_err-entered-clause-aga
 returns-in_err-entered-clause-again g c =
     let h = g.H.GoalHandler.meaning in
     let k = c.enter.ensures.keeps in
-    askable-later h c.args.graph.now c.args.cache.now c.args.cx.now c.enter.new.cx k c.enter.ensures.ready (justified-later (m h) c.args.cx.now c.enter.new.cx c.args.cache.now k c.requires.askable.cache) c.requires.askable
+    askable-later h c.args.search.now.graph c.args.search.now.cache c.args.search.now.cx c.enter.new.cx k c.enter.ensures.ready (justified-later (m h) c.args.search.now.cx c.enter.new.cx c.args.search.now.cache k c.requires.askable.cache) c.requires.askable
 
 pub returns-in_err-entered-clause-asked : goal.returns-in_err-entered-clause-asked
-returns-in_err-entered-clause-asked g c = asked-grown g.H.GoalHandler.meaning c.args.graph.now c.args.cx.now c.enter.new.cx c.enter.ensures.keeps
+returns-in_err-entered-clause-asked g c = asked-grown g.H.GoalHandler.meaning c.args.search.now.graph c.args.search.now.cx c.enter.new.cx c.enter.ensures.keeps
 
 pub run_candidate-requires-clause-askable : goal.run_candidate-requires-clause-askable
 run_candidate-requires-clause-askable g c =
     let h = g.H.GoalHandler.meaning in
     let k = c.enter.ensures.keeps in
-    askable-later h c.args.graph.now c.args.cache.now c.args.cx.now c.enter.new.cx k c.enter.ensures.ready (justified-later (m h) c.args.cx.now c.enter.new.cx c.args.cache.now k c.requires.askable.cache) c.requires.askable
+    askable-later h c.args.search.now.graph c.args.search.now.cache c.args.search.now.cx c.enter.new.cx k c.enter.ensures.ready (justified-later (m h) c.args.search.now.cx c.enter.new.cx c.args.search.now.cache k c.requires.askable.cache) c.requires.askable
 
 pub returns-in-Some-clause-asked : goal.returns-in-Some-clause-asked
 returns-in-Some-clause-asked g c =
     let h = g.H.GoalHandler.meaning in
-    asked-further h c.args.graph.now c.args.graph.now c.run_candidate.new.graph c.args.cx.now c.enter.new.cx c.run_candidate.new.cx (asked-grown h c.args.graph.now c.args.cx.now c.enter.new.cx c.enter.ensures.keeps) c.run_candidate.ensures.asked
+    asked-further h c.args.search.now.graph c.args.search.now.graph c.run_candidate.new.search.graph c.args.search.now.cx c.enter.new.cx c.run_candidate.new.search.cx (asked-grown h c.args.search.now.graph c.args.search.now.cx c.enter.new.cx c.enter.ensures.keeps) c.run_candidate.ensures.asked
 
 pub returns-in-None-clause-again : goal.returns-in-None-clause-again
 returns-in-None-clause-again g c =
     let h = g.H.GoalHandler.meaning in
     let k = c.enter.ensures.keeps in
-    askable-later h c.args.graph.now c.args.cache.now c.args.cx.now c.enter.new.cx k c.enter.ensures.ready (justified-later (m h) c.args.cx.now c.enter.new.cx c.args.cache.now k c.requires.askable.cache) c.requires.askable
+    askable-later h c.args.search.now.graph c.args.search.now.cache c.args.search.now.cx c.enter.new.cx k c.enter.ensures.ready (justified-later (m h) c.args.search.now.cx c.enter.new.cx c.args.search.now.cache k c.requires.askable.cache) c.requires.askable
 
 pub returns-in-None-clause-asked : goal.returns-in-None-clause-asked
-returns-in-None-clause-asked g c = asked-grown g.H.GoalHandler.meaning c.args.graph.now c.args.cx.now c.enter.new.cx c.enter.ensures.keeps
+returns-in-None-clause-asked g c = asked-grown g.H.GoalHandler.meaning c.args.search.now.graph c.args.search.now.cx c.enter.new.cx c.enter.ensures.keeps

@@ -6,7 +6,7 @@ use Rattle.explain_traces.proofs.settling.settle.Goals as goal
 pub loop-asking-init : goal.loop-asking-init
 loop-asking-init g c = record {
   again = c.requires.askable;
-  asked = asked-none g.H.GoalHandler.meaning c.args.graph.now c.args.cx.now;
+  asked = asked-none g.H.GoalHandler.meaning c.args.search.now.graph c.args.search.now.cx;
   table = c.requires.table;
   grows = grows-refl c.args.table.now;
   goal = c.requires.goal;
@@ -14,7 +14,7 @@ loop-asking-init g c = record {
 
 pub returns-in_err-ask_once-clause-asked : goal.returns-in_err-ask_once-clause-asked
 returns-in_err-ask_once-clause-asked g c =
-    asked-further g.H.GoalHandler.meaning c.args.graph.now c.loop-asking.graph c.ask_once.new.graph c.args.cx.now c.loop-asking.cx c.ask_once.new.cx c.loop-asking.invariant.asked c.ask_once.ensures.asked
+    asked-further g.H.GoalHandler.meaning c.args.search.now.graph c.loop-asking.search.graph c.ask_once.new.search.graph c.args.search.now.cx c.loop-asking.search.cx c.ask_once.new.search.cx c.loop-asking.invariant.asked c.ask_once.ensures.asked
 
 pub returns-in_err-ask_once-clause-grows : goal.returns-in_err-ask_once-clause-grows
 returns-in_err-ask_once-clause-grows g c = grows-trans _ _ _ c.loop-asking.invariant.grows c.ask_once.ensures.grows
@@ -22,18 +22,18 @@ returns-in_err-ask_once-clause-grows g c = grows-trans _ _ _ c.loop-asking.invar
 pub loop-asking-preserved : goal.loop-asking-preserved
 loop-asking-preserved g c = record {
   again = c.ask_once.ensures.again;
-  asked = asked-further g.H.GoalHandler.meaning c.args.graph.now c.loop-asking.graph c.ask_once.new.graph c.args.cx.now c.loop-asking.cx c.ask_once.new.cx c.loop-asking.invariant.asked c.ask_once.ensures.asked;
+  asked = asked-further g.H.GoalHandler.meaning c.args.search.now.graph c.loop-asking.search.graph c.ask_once.new.search.graph c.args.search.now.cx c.loop-asking.search.cx c.ask_once.new.search.cx c.loop-asking.invariant.asked c.ask_once.ensures.asked;
   table = c.ask_once.ensures.table;
   grows = grows-trans _ _ _ c.loop-asking.invariant.grows c.ask_once.ensures.grows;
-  goal = goal-held-later c.loop-asking.cx.interner.entries c.ask_once.new.cx.interner.entries c.ask_once.ensures.asked.entries c.args.goal.now c.loop-asking.invariant.goal;
+  goal = goal-held-later c.loop-asking.search.cx.interner.entries c.ask_once.new.search.cx.interner.entries c.ask_once.ensures.asked.entries c.args.goal.now c.loop-asking.invariant.goal;
 }
 
 pub returns-then-not-branch-clause-asked : goal.returns-then-not-branch-clause-asked
 returns-then-not-branch-clause-asked g c =
-    asked-further g.H.GoalHandler.meaning c.args.graph.now c.loop-asking.graph c.ask_once.new.graph c.args.cx.now c.loop-asking.cx c.ask_once.new.cx c.loop-asking.invariant.asked c.ask_once.ensures.asked
+    asked-further g.H.GoalHandler.meaning c.args.search.now.graph c.loop-asking.search.graph c.ask_once.new.search.graph c.args.search.now.cx c.loop-asking.search.cx c.ask_once.new.search.cx c.loop-asking.invariant.asked c.ask_once.ensures.asked
 
 pub returns-then-not-has_infer-clause-asked : goal.returns-then-not-has_infer-clause-asked
-returns-then-not-has_infer-clause-asked g c = asked-none g.H.GoalHandler.meaning c.args.graph.now c.args.cx.now
+returns-then-not-has_infer-clause-asked g c = asked-none g.H.GoalHandler.meaning c.args.search.now.graph c.args.search.now.cx
 
 pub returns-then-not-has_infer-clause-grows : goal.returns-then-not-has_infer-clause-grows
 returns-then-not-has_infer-clause-grows g c = grows-refl c.args.table.now

@@ -20,13 +20,13 @@ decreases-walk_candidates g l = 5 * l.opened.depth + 4
 
 abbrev pub invariant-walk_premises-loop-goal : goal.invariant-walk_premises-loop-goal
 invariant-walk_premises-loop-goal g l = record {
-  again : IsWalkable g.H.GoalHandler.meaning l.graph l.cache l.cx l.table l.walk.references.items;
-  walked : HasWalked g.H.GoalHandler.meaning l.fn.graph l.fn.cx l.fn.table l.graph l.cx l.table;
+  again : IsWalkable g.H.GoalHandler.meaning l.search.graph l.search.cache l.search.cx l.table l.walk.references.items;
+  walked : HasWalked g.H.GoalHandler.meaning l.fn.search.graph l.fn.search.cx l.fn.table l.search.graph l.search.cx l.table;
 }
 
 abbrev pub invariant-walk_candidates-loop-candidate : goal.invariant-walk_candidates-loop-candidate
 invariant-walk_candidates-loop-candidate g l = record {
-  again : IsWalkable g.H.GoalHandler.meaning l.graph l.cache l.cx l.table l.walk.references.items;
-  walked : HasWalked g.H.GoalHandler.meaning l.fn.graph l.fn.cx l.fn.table l.graph l.cx l.table;
-  frame : IsWalked g.H.GoalHandler.meaning l.cx l.frame;
+  again : IsWalkable g.H.GoalHandler.meaning l.search.graph l.search.cache l.search.cx l.table l.walk.references.items;
+  walked : HasWalked g.H.GoalHandler.meaning l.fn.search.graph l.fn.search.cx l.fn.table l.search.graph l.search.cx l.table;
+  frame : IsWalked g.H.GoalHandler.meaning l.search.cx l.frame;
 }

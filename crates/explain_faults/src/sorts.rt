@@ -1,13 +1,10 @@
 //! Names that stand for something else than their places need, and arguments that are others than what a name takes.
 
 use crate::grammar::Word;
-use crate::items::name_of;
-use crate::lines::whole_line;
 use crate::offending::{Faulty, kind_of, line_declaring};
-use crate::sentences::{Piece, plain, with_four, with_two};
-use crate::telling::Telling;
-use explain_diagnostics::on_line;
-use explain_sessions::workspace::{Known, ParamKind};
+use explain_texts::explain_diagnostics::on_line;
+use explain_texts::explain_sessions::workspace::{Known, ParamKind};
+use explain_texts::{Piece, Telling, name_of, plain, whole_line, with_four, with_two};
 use std::alloc::{AllocError, Global};
 
 /// What a place needs, by what is used there.

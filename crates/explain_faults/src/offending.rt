@@ -2,20 +2,19 @@
 
 use crate::grammar::{END, LineWords, Word, read_words};
 use crate::hints::hint_for;
-use crate::items::{name_in, name_of};
-use crate::lines::whole_line;
 use crate::passed::tell_passed;
-use crate::sentences::{Piece, plain, with_one, with_three, with_two};
 use crate::similar::{similar_name, similar_word};
 use crate::sorts::tell_other_sort;
-use crate::telling::Telling;
-use explain_diagnostics::{SourceFile, Span, TextWriter, on_line, parts_of_impl};
-use explain_sessions::text_lines::{LineRead, Statement};
-use explain_sessions::type_terms::CrateId;
-use explain_sessions::workspace::{Known, Workspace};
+use explain_texts::explain_diagnostics::{SourceFile, Span, TextWriter, on_line, parts_of_impl};
+use explain_texts::explain_sessions::text_lines::{LineRead, Statement};
+use explain_texts::explain_sessions::type_terms::CrateId;
+use explain_texts::explain_sessions::workspace::{Known, Workspace};
+use explain_texts::text_parser::text_names::FaultKind;
+use explain_texts::text_parser::{LineForm, TEXT_LIMIT, TextFault, line_form};
+use explain_texts::{
+    Piece, Telling, name_in, name_of, plain, whole_line, with_one, with_three, with_two,
+};
 use std::alloc::{AllocError, Global};
-use text_parser::text_names::FaultKind;
-use text_parser::{LineForm, TEXT_LIMIT, TextFault, line_form};
 
 /// What a line says, if the grammar has it.
 pub(crate) fn reading(alloc: Global, line: &[u8]) -> Result<Option<LineRead<'_>>, AllocError> {

@@ -1,8 +1,8 @@
 //! Names that are similar to one that is not declared.
 
-use crate::items::{Name, name_of};
-use explain_diagnostics::{TYPE_LIMIT, cut_text};
-use explain_sessions::workspace::Workspace;
+use explain_texts::explain_diagnostics::{TYPE_LIMIT, cut_text};
+use explain_texts::explain_sessions::workspace::Workspace;
+use explain_texts::{Name, name_of};
 use std::alloc::{AllocError, Global};
 use strsim::osa_distance;
 

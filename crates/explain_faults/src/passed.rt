@@ -1,12 +1,10 @@
 //! Limits that a line passes.
 
 use crate::grammar::Word;
-use crate::lines::whole_line;
 use crate::offending::{Faulty, reading};
-use crate::sentences::{Piece, plain, with_three};
 use crate::sorts::list_items;
-use crate::telling::Telling;
-use explain_diagnostics::{Span, on_line};
+use explain_texts::explain_diagnostics::{Span, on_line};
+use explain_texts::{Piece, Telling, plain, whole_line, with_three};
 use std::alloc::{AllocError, Global};
 
 /// How many of something there are, and how many there may be.

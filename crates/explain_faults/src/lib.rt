@@ -1,0 +1,22 @@
+//! What is said of a faulty text: for each faulty line the token that its fault is about, found by what the lines above declare, and what
+//! could stand there.
+#![tactic(auto)]
+
+mod faults;
+mod further;
+mod grammar;
+mod hints;
+mod offending;
+mod passed;
+mod similar;
+mod sorts;
+
+pub use faults::fault_diagnostic;
+pub use further::{FurtherFault, further_faults};
+
+// The crates below whose names the crates above need too: these list this crate alone.
+pub use explain_texts;
+pub use explain_texts::{
+    explain_diagnostics, explain_sessions, sessions, text_parser, text_printer, type_terms,
+    workspace,
+};
