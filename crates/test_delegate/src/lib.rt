@@ -135,7 +135,7 @@ pub struct Toy;
 
 impl Delegate for Toy {
     ghost use Rattle.std.specs.Prelude.{IfOk, OnOk, IsOk, Ok, ◌<◌, ◌≤◌, ◌+◌, ◌^◌, IsTrue, IsSome, ◌↔◌};
-    ghost use Rattle.search_graph.specs.Meaning.{Keeps, IsDue, Steps};
+    ghost use Rattle.search_graph.specs.Meaning.{KeepsContext, IsDue, Steps};
     ghost use Rattle.test_delegate.specs.Toy.{toy_meaning, toy_initial};
 
     type Cx = Scripts;
@@ -159,7 +159,7 @@ impl Delegate for Toy {
         kind: PathKind,
         _input: &usize,
     ) -> Result<u8, Fault>
-        ensures keeps { Keeps toy_meaning _cx.old _cx.new }
+        ensures keeps { KeepsContext toy_meaning _cx.old _cx.new }
         ensures full { result ≡ Err Fault.Full → ⊥ }
         ensures is { result ≡ Ok (toy_initial kind) }
     {
@@ -182,7 +182,7 @@ impl Delegate for Toy {
     }
 
     fn stack_overflow_result(_cx: &mut Scripts, _input: &usize) -> Result<u8, Fault>
-        ensures keeps { Keeps toy_meaning _cx.old _cx.new }
+        ensures keeps { KeepsContext toy_meaning _cx.old _cx.new }
         ensures full { result ≡ Err Fault.Full → ⊥ }
         ensures is { result ≡ Ok 1 }
     {
@@ -190,7 +190,7 @@ impl Delegate for Toy {
     }
 
     fn fixpoint_overflow_result(_cx: &mut Scripts, _input: &usize) -> Result<u8, Fault>
-        ensures keeps { Keeps toy_meaning _cx.old _cx.new }
+        ensures keeps { KeepsContext toy_meaning _cx.old _cx.new }
         ensures full { result ≡ Err Fault.Full → ⊥ }
         ensures is { result ≡ Ok 1 }
     {
@@ -208,7 +208,7 @@ impl Delegate for Toy {
         _for_input: &usize,
         _ambiguity_info: (),
     ) -> Result<u8, Fault>
-        ensures keeps { Keeps toy_meaning _cx.old _cx.new }
+        ensures keeps { KeepsContext toy_meaning _cx.old _cx.new }
         ensures full { result ≡ Err Fault.Full → ⊥ }
         ensures is { result ≡ Ok 3 }
     {
@@ -220,7 +220,7 @@ impl Delegate for Toy {
     }
 
     fn start(_cx: &mut Scripts, input: &usize) -> Result<ToyFrame, Fault>
-        ensures keeps { Keeps toy_meaning _cx.old _cx.new }
+        ensures keeps { KeepsContext toy_meaning _cx.old _cx.new }
         ensures full { result ≡ Err Fault.Full → ⊥ }
         ensures is { result ≡ Ok (record { goal = input.now; heard = 0; left = 100 }) }
     {
@@ -238,7 +238,7 @@ impl Delegate for Toy {
         reply: Reply<u8>,
     ) -> Result<Request<usize, u8>, Fault>
         requires due { IsDue toy_meaning cx.old frame.old reply }
-        ensures keeps { Keeps toy_meaning cx.old cx.new }
+        ensures keeps { KeepsContext toy_meaning cx.old cx.new }
         ensures full { result ≡ Err Fault.Full → ⊥ }
         ensures steps { IfOk result (λ q. Steps toy_meaning cx.old frame.old reply cx.new frame.new q) }
         ensures falls { IfOk result (λ q. frame.new.left < frame.old.left) }

@@ -10,13 +10,14 @@ ghost use Rattle.text_parser.specs.TextLanguage.Text.{TextGives};
 ghost use Rattle.candidate_assembly.specs.Ready as solver;
 
 use crate::handlers::HandsOn;
-use crate::solver::{Evaluated, Solving, begin, evaluate};
+use crate::solver::{Evaluated, begin, evaluate};
 use crate::texts::{add_question, goal_at, read, view};
 use candidate_assembly::solver::Solver;
 use goal_evaluator::TypingMode;
 use goal_frames::GoalHandler;
 use infer_table::goal::Goal;
 use infer_table::infer_ctxt::InferCtxt;
+use solver_graph::Search;
 use std::alloc::Global;
 use text_parser::type_terms::Fault;
 use text_parser::type_terms::interner::Interner;
@@ -128,7 +129,7 @@ fn is_as_wanted(cx: &mut Interner, posed: &Posed) -> Result<bool, Fault>
 }
 
 fn evaluate_twice<H: GoalHandler>(
-    solving: &mut Solving<H>,
+    solving: &mut Search<H>,
     mode: TypingMode,
     posed: &mut Posed,
 ) -> Result<Found, Fault>

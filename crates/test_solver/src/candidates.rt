@@ -16,6 +16,7 @@ use built_in_candidates::built_in::{
 };
 use built_in_candidates::built_in_rules::is_auto;
 use built_in_candidates::calls::consider_builtin_fn_trait_candidates;
+use built_in_candidates::dyn_type::no_notes;
 use built_in_candidates::object::consider_object_bound_candidate;
 use built_in_candidates::unsize::consider_builtin_unsize_candidate;
 use candidate_assembly::decided::is_decided;
@@ -133,7 +134,8 @@ fn by_bound_or_impl(
     requires { IsWellPosedGoal cx.old.entries decls.now goal.now }
     ensures { Keeps cx.old.entries cx.new.entries }
 {
-    match consider_object_bound_candidate(alloc, cx, decls, goal, 0)? {
+    let mut notes = no_notes(alloc);
+    match consider_object_bound_candidate(alloc, cx, decls, goal, 0, &mut notes)? {
         Some(bound) => Ok(Some(bound)),
         None => next_impl_candidate(alloc, cx, decls, goal, None),
     }
@@ -218,7 +220,8 @@ fn is_last(
     ensures { Keeps cx.old.entries cx.new.entries }
 {
     let done = refused(alloc, first)?;
-    let second = assemble_and_evaluate_candidates(alloc, cx, decls, goal, true, &done)?;
+    let mut notes = no_notes(alloc);
+    let second = assemble_and_evaluate_candidates(alloc, cx, decls, goal, true, &done, &mut notes)?;
     Ok(second.is_none())
 }
 
@@ -233,7 +236,8 @@ fn is_assembled(
     requires { IsWellPosedGoal cx.old.entries decls.now goal.now }
     ensures { Keeps cx.old.entries cx.new.entries }
 {
-    let first = assemble_and_evaluate_candidates(alloc, cx, decls, goal, true, &[])?;
+    let mut notes = no_notes(alloc);
+    let first = assemble_and_evaluate_candidates(alloc, cx, decls, goal, true, &[], &mut notes)?;
     if !is_told(&first, wanted) {
         return Ok(false);
     }

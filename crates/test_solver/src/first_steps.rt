@@ -9,6 +9,7 @@ ghost use Rattle.candidate_assembly.specs.Ready.{AreReadyDeclarations};
 
 use crate::candidates::question;
 use crate::texts::{read, view};
+use built_in_candidates::dyn_type::no_notes;
 use candidate_assembly::decided::is_decided;
 use candidate_assembly::merge::merge_trait_candidates;
 use candidate_assembly::trait_goals::{assemble_and_evaluate_candidates, compute_trait_goal};
@@ -48,15 +49,24 @@ fn first_certainty(
     requires ready { AreReadyDeclarations cx.old.entries decls.now }
     requires goal { GoalHeld cx.old.entries goal.now.goal }
 {
+    let mut notes = no_notes(alloc);
     match call {
         Call::Assemble => {
             let decided = is_decided(cx, decls, goal);
-            match assemble_and_evaluate_candidates(alloc, cx, decls, goal, decided, &[])? {
+            match assemble_and_evaluate_candidates(
+                alloc,
+                cx,
+                decls,
+                goal,
+                decided,
+                &[],
+                &mut notes,
+            )? {
                 Some(spec) => Ok(Some(spec.certainty)),
                 None => Ok(None),
             }
         }
-        Call::Compute => match compute_trait_goal(alloc, cx, decls, goal, &[])? {
+        Call::Compute => match compute_trait_goal(alloc, cx, decls, goal, &[], &mut notes)? {
             HandlerStep::Consider(spec) => Ok(Some(spec.certainty)),
             HandlerStep::Answer(_, _) => Ok(None),
             HandlerStep::NoSolution => Ok(None),

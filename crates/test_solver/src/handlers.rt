@@ -9,6 +9,7 @@ use goal_evaluator::{Considered, HandlerStep, TypingMode};
 use goal_frames::GoalHandler;
 use infer_table::input::CanonicalInput;
 use std::alloc::Global;
+use term_folds::predicate::TraitRef;
 use text_parser::type_terms::interner::Interner;
 use text_parser::type_terms::{Fault, TraitId};
 
@@ -21,6 +22,8 @@ pub(crate) struct HandsOn {
 impl GoalHandler for HandsOn {
     ghost use Rattle.text_parser.specs.TypeTerms.Promised.Handles.{Entry};
     ghost use Rattle.std.specs.Prelude.{List};
+    ghost use Rattle.term_folds.specs.declared.predicate.TraitRef.{TraitRef};
+    ghost use Rattle.built_in_candidates.specs.Noted.{IsElaborated};
     ghost use Rattle.candidate_assembly.specs.Fitting.{solving_of};
     ghost use Rattle.candidate_assembly.specs.Ready.{AreReadyDeclarations};
     ghost use Rattle.candidate_assembly.specs.SolverLaws.{solver-laws};
@@ -31,6 +34,7 @@ impl GoalHandler for HandsOn {
       goals = goals_by_view;
       IsReady = λ (h : HandsOn) (es : List Entry). AreReadyDeclarations es h.solver.declarations;
       world = λ (h : HandsOn) (es : List Entry). solving_of es h.solver.declarations;
+      AreNotes = λ (h : HandsOn) (es : List Entry) (rs : List TraitRef). IsElaborated es h.solver.declarations rs;
     } };
 
     fn step(
@@ -39,8 +43,9 @@ impl GoalHandler for HandsOn {
         cx: &mut Interner,
         goal: &CanonicalInput,
         done: &[Considered],
+        notes: &mut Vec<TraitRef>,
     ) -> Result<HandlerStep, Fault> {
-        self.solver.step(alloc, cx, goal, done)
+        self.solver.step(alloc, cx, goal, done, notes)
     }
 
     fn trait_is_coinductive(&self, def_id: TraitId) -> bool {
@@ -50,6 +55,7 @@ impl GoalHandler for HandsOn {
     ghost lawful = { record {
       ready_kept = λ (h : HandsOn) old new k r. solver-laws.ready_kept h.solver old new k r;
       world_kept = λ (h : HandsOn) old new k r. solver-laws.world_kept h.solver old new k r;
+      no_notes = λ (h : HandsOn) es. solver-laws.no_notes h.solver es;
       goals = solver-laws.goals;
     } };
 }

@@ -1,4 +1,4 @@
-//! Tests of searches, evaluations, the assembly of candidates and the whole solver, by public calls.
+//! Tests of evaluations, the assembly of candidates and the whole solver, by public calls.
 //!
 //! They are in a crate above those that they test, so that each of those is proved once and not a second time with its tests. They are in
 //! one crate, since each crate of tests loads, links and compiles everything that it reaches.
@@ -25,8 +25,6 @@ mod rules;
 #[cfg(test)]
 mod samples;
 #[cfg(test)]
-mod searches;
-#[cfg(test)]
 mod slice_candidates;
 #[cfg(test)]
 mod solver;
@@ -36,8 +34,6 @@ mod stores;
 mod texts;
 #[cfg(test)]
 mod unsizing;
-#[cfg(test)]
-mod usages;
 #[cfg(test)]
 mod views;
 #[cfg(test)]

@@ -13,7 +13,7 @@ use infer_table::certainty::{Certainty, MaybeCause, TypingMode};
 use infer_table::goal::Goal;
 use infer_table::infer_ctxt::InferCtxt;
 use search_graph::{GlobalCache, SearchGraph};
-use solver_graph::{GoalEvaluation, RootError, SolverCx, SolverGraph, evaluate_root_goal};
+use solver_graph::{GoalEvaluation, RootError, Search, SolverCx};
 use std::alloc::Global;
 use text_parser::type_terms::Fault;
 use text_parser::type_terms::interner::Interner;
@@ -57,30 +57,13 @@ fn reading(evaluation: Result<GoalEvaluation, RootError>) -> Result<Said, Fault>
     }
 }
 
-/// Everything that evaluations need.
-pub(crate) struct Solving<H: GoalHandler> {
-    pub(crate) cx: SolverCx<H>,
-    pub(crate) graph: SearchGraph<SolverGraph<H>>,
-    pub(crate) cache: GlobalCache<SolverGraph<H>>,
-}
-
-impl<H: GoalHandler + Drop> Drop for Solving<H> {
-    fn drop(self) {
-        let Solving {
-            cx: _,
-            graph: _,
-            cache: _,
-        } = self;
-    }
-}
-
 /// A new solver with this depth.
 pub(crate) fn begin<H: GoalHandler + Drop>(
     alloc: Global,
     interner: Interner,
     handler: H,
     depth: usize,
-) -> Result<Solving<H>, Fault>
+) -> Result<Search<H>, Fault>
     requires ready { H.meaning.IsReady handler interner.entries }
     requires depth { 1 ≤ depth }
     ensures ready { IfOk result (λ solving. IsReady H.meaning.IsReady solving.cx) }
@@ -88,7 +71,7 @@ pub(crate) fn begin<H: GoalHandler + Drop>(
     ensures cache { IfOk result (λ solving. AreJustified (solver_meaning H.meaning) solving.cx solving.cache) }
     ensures interner { IfOk result (λ solving. solving.cx.interner ≡ interner) }
 {
-    Ok(Solving {
+    Ok(Search {
         cx: SolverCx::new(alloc, interner, handler, 100),
         graph: SearchGraph::new(alloc, depth)?,
         cache: GlobalCache::new(alloc)?,
@@ -97,7 +80,7 @@ pub(crate) fn begin<H: GoalHandler + Drop>(
 
 /// Evaluates a goal of a table.
 pub(crate) fn evaluate<H: GoalHandler>(
-    solving: &mut Solving<H>,
+    solving: &mut Search<H>,
     mode: TypingMode,
     table: &mut InferCtxt,
     goal: &Goal,
@@ -113,14 +96,7 @@ pub(crate) fn evaluate<H: GoalHandler>(
     ensures table { Ready solving.new.cx.interner.entries table.new }
     ensures keeps { Keeps solving.old.cx.interner.entries solving.new.cx.interner.entries }
 {
-    let evaluation = evaluate_root_goal(
-        &mut solving.graph,
-        &mut solving.cache,
-        &mut solving.cx,
-        table,
-        mode,
-        goal,
-    );
+    let evaluation = solving.evaluate(table, mode, goal);
     let said = reading(evaluation)?;
     Ok((said, solving.graph.frames(), solving.graph.limits_met()))
 }

@@ -16,14 +16,14 @@ bool = 1
 abbrev pub show : Argument → Goal
 show a = record { predicate = 0; argument = a; coinductive = false }
 
-abbrev pub clone : Argument → Goal
-clone a = record { predicate = 1; argument = a; coinductive = false }
+abbrev pub clone_goal : Argument → Goal
+clone_goal a = record { predicate = 1; argument = a; coinductive = false }
 
-abbrev pub copy : Argument → Goal
-copy a = record { predicate = 2; argument = a; coinductive = false }
+abbrev pub copy_goal : Argument → Goal
+copy_goal a = record { predicate = 2; argument = a; coinductive = false }
 
-abbrev pub sized : Argument → Goal
-sized a = record { predicate = 3; argument = a; coinductive = false }
+abbrev pub sized_goal : Argument → Goal
+sized_goal a = record { predicate = 3; argument = a; coinductive = false }
 
 abbrev pub send : Argument → Goal
 send a = record { predicate = 4; argument = a; coinductive = true }
@@ -49,11 +49,11 @@ two_rules = book (holds_if (show (atom u8)) [] ∷ holds_if (show (atom bool)) [
 
 -- show(x) if clone(x), copy(x), sized(x)
 abbrev pub three_premises : AtomRuleBook
-three_premises = book (holds_if (show unknown) (clone unknown ∷ copy unknown ∷ sized unknown ∷ []) ∷ [])
+three_premises = book (holds_if (show unknown) (clone_goal unknown ∷ copy_goal unknown ∷ sized_goal unknown ∷ []) ∷ [])
 
 -- show(x) if clone(x); clone(u8)
 abbrev pub premise_binds : AtomRuleBook
-premise_binds = book (holds_if (show unknown) (clone unknown ∷ []) ∷ holds_if (clone (atom u8)) [] ∷ [])
+premise_binds = book (holds_if (show unknown) (clone_goal unknown ∷ []) ∷ holds_if (clone_goal (atom u8)) [] ∷ [])
 
 -- send(x) if send(x)
 abbrev pub coinductive_rule : AtomRuleBook

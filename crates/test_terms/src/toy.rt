@@ -9,7 +9,7 @@ ghost use Rattle.goal_evaluator.specs.History.{evaluate, enter_candidate, finish
 ghost use Rattle.test_terms.specs.Atoms.{Goal, Response, AtomRuleBook, atoms, atom, unknown, handled_by, system_of, AtomHasProofByBook};
 ghost use Rattle.goal_evaluator.specs.Correspondences.{RoundsCorrespond, CandidatesCorrespond, FramesCorrespond};
 ghost use Rattle.test_terms.specs.Counted.{counting, but_for_tables, but_for_counts};
-ghost use Rattle.test_terms.specs.Toys.{no_rule, one_rule, two_rules, three_premises, premise_binds, coinductive_rule, u8, bool, show, clone, copy, sized, send, yes, yes_with, maybe, overflow, rounds_with_values, ToyAsks};
+ghost use Rattle.test_terms.specs.Toys.{no_rule, one_rule, two_rules, three_premises, premise_binds, coinductive_rule, u8, bool, show, clone_goal, copy_goal, sized_goal, send, yes, yes_with, maybe, overflow, rounds_with_values, ToyAsks};
 
 use goal_evaluator::promises::{
     CorrespondingOperations, CorrespondingWorkings, Evaluation, GoalSystem, answer_covers_goal,
@@ -149,9 +149,9 @@ pub fn two_rules_are_ambiguous()
 
 /// Three premises are evaluated in order. If the second fails, the third is not evaluated.
 pub fn three_premises_are_asked_in_order()
-    ensures first { ToyAsks three_premises (show (atom u8)) (entered ∷ begin ∷ []) (evaluate (clone (atom u8))) }
-    ensures second { ToyAsks three_premises (show (atom u8)) (evaluated yes ∷ entered ∷ begin ∷ []) (evaluate (copy (atom u8))) }
-    ensures third { ToyAsks three_premises (show (atom u8)) (evaluated yes ∷ evaluated yes ∷ entered ∷ begin ∷ []) (evaluate (sized (atom u8))) }
+    ensures first { ToyAsks three_premises (show (atom u8)) (entered ∷ begin ∷ []) (evaluate (clone_goal (atom u8))) }
+    ensures second { ToyAsks three_premises (show (atom u8)) (evaluated yes ∷ entered ∷ begin ∷ []) (evaluate (copy_goal (atom u8))) }
+    ensures third { ToyAsks three_premises (show (atom u8)) (evaluated yes ∷ evaluated yes ∷ entered ∷ begin ∷ []) (evaluate (sized_goal (atom u8))) }
     ensures yes { ToyAsks three_premises (show (atom u8))
         (finished 0 ∷ evaluated yes ∷ evaluated yes ∷ evaluated yes ∷ entered ∷ begin ∷ []) (returns yes) }
     ensures refused { ToyAsks three_premises (show (atom u8)) (evaluated None ∷ evaluated yes ∷ entered ∷ begin ∷ []) finish_candidate }
@@ -166,11 +166,11 @@ pub fn three_premises_are_asked_in_order()
 /// A premise that gives the variable a value is evaluated again with it. After eight rounds with values the result is an
 /// overflow without values.
 pub fn premise_binds_unknown()
-    ensures asked { ToyAsks premise_binds (show unknown) (entered ∷ begin ∷ []) (evaluate (clone unknown)) }
-    ensures asked_again { ToyAsks premise_binds (show unknown) (evaluated (yes_with u8) ∷ entered ∷ begin ∷ []) (evaluate (clone (atom u8))) }
+    ensures asked { ToyAsks premise_binds (show unknown) (entered ∷ begin ∷ []) (evaluate (clone_goal unknown)) }
+    ensures asked_again { ToyAsks premise_binds (show unknown) (evaluated (yes_with u8) ∷ entered ∷ begin ∷ []) (evaluate (clone_goal (atom u8))) }
     ensures bound { ToyAsks premise_binds (show unknown)
         (finished 0 ∷ evaluated yes ∷ evaluated (yes_with u8) ∷ entered ∷ begin ∷ []) (returns (yes_with u8)) }
-    ensures eighth { ToyAsks premise_binds (show unknown) (rounds_with_values 7 (entered ∷ begin ∷ [])) (evaluate (clone (atom u8))) }
+    ensures eighth { ToyAsks premise_binds (show unknown) (rounds_with_values 7 (entered ∷ begin ∷ [])) (evaluate (clone_goal (atom u8))) }
     ensures no_ninth { ToyAsks premise_binds (show unknown) (finished 0 ∷ rounds_with_values 8 (entered ∷ begin ∷ [])) (returns overflow) }
 {}
 

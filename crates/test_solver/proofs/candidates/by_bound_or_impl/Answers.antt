@@ -19,6 +19,9 @@ consider_object_bound_candidate-requires-clause-applied c = c.requires.fits.appl
 pub consider_object_bound_candidate-requires-clause-object : goal.consider_object_bound_candidate-requires-clause-object
 consider_object_bound_candidate-requires-clause-object c = c.requires.fits.object
 
+pub consider_object_bound_candidate-requires-clause-notes : goal.consider_object_bound_candidate-requires-clause-notes
+consider_object_bound_candidate-requires-clause-notes c = c.no_notes-notes.ensures c.args.cx.now.entries c.args.decls.now
+
 pub next_impl_candidate-requires-clause-goal : goal.next_impl_candidate-requires-clause-goal
 next_impl_candidate-requires-clause-goal c = (decided-later c.args.cx.now.entries c.consider_object_bound_candidate.new.cx.entries c.consider_object_bound_candidate.ensures.terms.grew.keeps c.args.decls.now c.args.goal.now c.requires).goal
 
@@ -31,5 +34,5 @@ next_impl_candidate-requires-clause-declared c = (decided-later c.args.cx.now.en
 pub next_impl_candidate-requires-clause-impls : goal.next_impl_candidate-requires-clause-impls
 next_impl_candidate-requires-clause-impls c = (decided-later c.args.cx.now.entries c.consider_object_bound_candidate.new.cx.entries c.consider_object_bound_candidate.ensures.terms.grew.keeps c.args.decls.now c.args.goal.now c.requires).ready.impls
 
-pub returns-in-None : goal.returns-in-None
-returns-in-None c = λ i e h. c.next_impl_candidate.ensures.terms.grew.keeps i e (c.consider_object_bound_candidate.ensures.terms.grew.keeps i e h)
+pub returns : goal.returns
+returns c = λ i e h. c.next_impl_candidate.ensures.terms.grew.keeps i e (c.consider_object_bound_candidate.ensures.terms.grew.keeps i e h)

@@ -16,3 +16,6 @@ is_last-requires c = decided-later c.args.cx.now.entries c.assemble_and_evaluate
 
 pub returns : goal.returns
 returns c = λ i e h. c.is_last.ensures i e (c.assemble_and_evaluate_candidates.ensures.terms.grew.keeps i e h)
+
+pub assemble_and_evaluate_candidates-requires-clause-notes : goal.assemble_and_evaluate_candidates-requires-clause-notes
+assemble_and_evaluate_candidates-requires-clause-notes c = c.no_notes-notes.ensures c.args.cx.now.entries c.args.decls.now

@@ -21,3 +21,6 @@ assemble_and_evaluate_candidates-requires-clause-done c = subst (ConsideredHeld 
 
 pub assemble_and_evaluate_candidates-requires-clause-fits : goal.assemble_and_evaluate_candidates-requires-clause-fits
 assemble_and_evaluate_candidates-requires-clause-fits c = subst (ConsideredFits c.args.cx.now.entries) (sym c.deref.ensures.value) (c.in_ok-done.ensures c.args.cx.now.entries).1
+
+pub assemble_and_evaluate_candidates-requires-clause-notes : goal.assemble_and_evaluate_candidates-requires-clause-notes
+assemble_and_evaluate_candidates-requires-clause-notes c = c.no_notes-notes.ensures c.args.cx.now.entries c.args.decls.now

@@ -2,7 +2,7 @@
 
 use search_graph::{CandidateHeadUsages, PathKind, PathsToNested};
 use std::alloc::Global;
-use text_parser::type_terms::Fault;
+use type_terms::Fault;
 
 /// The number of usages of a head on an unknown path, for one usage and for two that are merged.
 fn merged_usages(alloc: Global) -> Result<u32, Fault> {
