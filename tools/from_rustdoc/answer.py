@@ -5,8 +5,9 @@ from dataclasses import replace
 from typing import Iterator, Optional
 
 from .build import Translation
-from .cone import Chosen, cone_of_questions
-from .questions import OWN, Asker, Question, QuestionWriter, Verdict, joined, terms_of
+from .cone import MOST, Chosen, cone_of_questions
+from .questions import OWN, Asker, Question, QuestionWriter, TooSmall, Verdict, joined, terms_of
+from .reach import Reference_
 from .render import Scope, names_of
 from .show import Show
 from .terms import Bound, BoundsOf, Lossy, Parameter, Projection, Type, Unknown, parts, rebuilt, rebuilt_bound
@@ -65,11 +66,19 @@ class Answerer:
         return self.show.bound(place.bound)
 
     def by_part(self, question: Question) -> Verdict:
-        """The answer by a text of what may matter for this question alone."""
+        """The answer by a text of what may matter for this question alone. What such a text leads to, and was not looked for since an
+        unknown stood for it, is looked for too."""
         question = replace(question, lines=[], names={})
-        translation = cone_of_questions(self.world, [question])
-        translation.build()
-        return Asker(translation, self.program).ask([question])[0]
+        further: list[Reference_] = []
+        while True:
+            translation = cone_of_questions(self.world, [question], further)
+            translation.build()
+            try:
+                return Asker(translation, self.program).ask([question])[0]
+            except TooSmall as error:
+                if set(error.references) <= set(further) or len(further) > MOST:
+                    raise
+                further += error.references
 
 
 class Values:

@@ -42,6 +42,7 @@ class Piece:
 
 @dataclass
 class CrateText:
+    """A crate as the text has it: what it uses, and its items and impls."""
     name: str
     uses: list[str]
     pieces: list[Piece] = field(default_factory=list)

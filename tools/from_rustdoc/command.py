@@ -9,25 +9,23 @@ import sqlite3
 import sys
 import time
 from dataclasses import replace
-from typing import Any, Callable, Iterator, Optional
+from typing import TYPE_CHECKING, Any, Callable, Iterator, Optional
 
 from . import cargo
-from .baseline import latest_tag
 from .answer import Answerer
 from .build import Translation
-from .crate_check import check_crate, texts_of
-from .html_docs import Pages
+from .html_docs import Pages, json_folder
 from .kept import Damaged, KeptPages, KeptStandard, remove_stores
 from .made_by import current, made_by, own_folders, remember, state_of
 from .messages import NO_ANSWER, Message, Output, Sources, worst
 from .program import binding, run
 from .questions import QuestionReader
-from .report import Report
-from .standard_json import JsonStandard, json_folder
-from .std_text import std_text
 from .terms import BadInput, Lossy
 from .verdicts import Checked, answer_message, check_verdicts, say_answer, say_checks
 from .world import World
+
+if TYPE_CHECKING:
+    from .report import Report
 
 USAGE = """from-rustdoc: a translator of crates to texts for this program, and of its answers back. It is not proved: docs/RUSTDOC.md.
 
@@ -61,6 +59,8 @@ def new_world(docs: Optional[str]) -> World:
     folder = cargo.docs_folder(docs)
     std = json_folder(folder)
     if std:
+        # (Imported here, as below what a question does not need: to load it takes long beside an answer.)
+        from .standard_json import JsonStandard
         return World(Pages(folder), JsonStandard(std))
     pages = KeptPages(folder)
     return World(pages, KeptStandard(pages))
@@ -95,6 +95,8 @@ def translated(world: World, arguments: argparse.Namespace) -> Translation:
 
 # ---- the commands
 def read(arguments: argparse.Namespace) -> int:
+    from .crate_check import texts_of
+    from .report import Report
     links = links_of(arguments.metadata)
     world = world_of(arguments.json, arguments.docs, links)
     inputs = inputs_of(world, arguments.json, links)
@@ -108,6 +110,7 @@ def read(arguments: argparse.Namespace) -> int:
 
 
 def std(arguments: argparse.Namespace) -> int:
+    from .std_text import std_text
     world = new_world(arguments.docs)
     text = std_text(world)
     keep(world)
@@ -282,7 +285,6 @@ def checked(world: World, arguments: argparse.Namespace) -> Iterator[Judged]:
     if arguments.jobs == 1 or len(world.crates) == 1:
         yield from map(check_shared, world.crates)
         return
-    # (Imported here, as further below, what one command needs: to load it takes as long as an answer.)
     import multiprocessing
     from concurrent.futures import ProcessPoolExecutor
     if not arguments.program:
@@ -294,6 +296,7 @@ def checked(world: World, arguments: argparse.Namespace) -> Iterator[Judged]:
 
 
 def check_shared(name: str) -> Judged:
+    from .crate_check import check_crate
     world, arguments = SHARED[0]
     return (*check_crate(world, name, arguments.program), set(world.missing))
 
@@ -343,7 +346,6 @@ def run_command(arguments: argparse.Namespace, extra: list[str]) -> int:
     if arguments.command == "project":
         return project(arguments.folder, extra, arguments)
     if arguments.command == "later":
-        # (Here, since the other commands need none of its modules, which take as long to load as an answer takes.)
         from .later_command import later
         return later(arguments, extra, world_of, links_of(arguments.metadata))
     if arguments.command == "ask":
@@ -386,6 +388,7 @@ def words_of_cargo(words: list[str], folder: str) -> list[str]:
         return ["ask", "--project", folder, *words[1:]]
     if "--baseline" in words:
         return [*words, folder]
+    from .baseline import latest_tag
     tag = latest_tag(folder)
     if tag and "--quiet" not in words:
         print(f"cargo celtisdarts: the older version is {tag}", file=sys.stderr)

@@ -30,9 +30,10 @@ than `DEEPEST` deep, and traits of which more than `MANY` references are asked, 
 """
 from __future__ import annotations
 
+import functools
 import re
 from dataclasses import dataclass, field
-from typing import Iterator, Optional
+from typing import Iterator, Optional, Sequence
 
 from .build import Translation
 from .declare import Declarer
@@ -43,7 +44,7 @@ from .project import APPLY, WRAP
 from .questions import Question, QuestionWriter
 from .reach import Reach, Reacher, Reference_, bind
 from .render import FIELD, THEN, Scope, as_arguments, is_packed, names_of, params_text
-from .terms import UNIT, Declaration, Dyn, Function, Impl, Lossy, Named, Param, Tuple, Type, Unknown, head_of, keys_of, put, rebuilt
+from .terms import UNIT, Declaration, Dyn, Function, Impl, Lossy, Named, Param, Tuple, Type, Unknown, head_of, keys_of, parts, put, rebuilt, walk
 from .text_form import Text, TextLine
 from .world import CORE_NAMES, World, crate_name
 
@@ -69,11 +70,38 @@ class Chosen:
     leaves: set[str] = field(default_factory=set)
     references: set[Reference_] = field(default_factory=set)
 
-    def covers(self, reference: Reference_) -> bool:
-        """Whether the closure holds the reference, as it is or as an unknown stands for parts of it."""
+    def covers(self, reference: Reference_, is_auto: bool = False) -> bool:
+        """Whether the closure holds the reference, as it is or as an unknown stands for parts of it. Of an auto trait the type has to have been
+        asked by its name: an unknown one brings neither its fields nor the impl by which one that is cut has them."""
         trait, arguments = reference
+        if is_auto and isinstance(arguments[0], Named) and (arguments[0].key, trait) not in self.asked:
+            return False
         places = (arguments, tuple(cut_off(a, DEEPEST) for a in arguments), widest(arguments))
-        return any((trait, place) in self.references for place in places)
+        return any((trait, place) in self.references for place in places) or any(
+            len(wide) == len(arguments) and all(map(is_instance, arguments, wide)) for wide in self.with_unknowns.get(trait, []))
+
+    @functools.cached_property
+    def with_unknowns(self) -> dict[str, list[tuple[Type, ...]]]:
+        """The references in which unknowns stand, by their traits: what comes of a term that was cut off is wider than what comes of
+        the whole term."""
+        found: dict[str, list[tuple[Type, ...]]] = {}
+        for trait, arguments in self.references:
+            if any(isinstance(part, Unknown) for term in arguments for part in walk(term)):
+                found.setdefault(trait, []).append(arguments)
+        return found
+
+
+def is_instance(term: Type, wide: Type) -> bool:
+    """Whether the term is the wide one with types for its unknowns, each by itself."""
+    if isinstance(wide, Unknown) or term == wide:
+        return True
+    left, right = parts(term), parts(wide)
+    return head_alone(term) == head_alone(wide) and len(left) == len(right) and all(map(is_instance, left, right))
+
+
+def head_alone(term: Type) -> Type:
+    """The term without what stands in it."""
+    return rebuilt(term, lambda part: ANY)
 
 
 def cut_off(term: Type, depth: int) -> Type:
@@ -260,7 +288,7 @@ class Cone(Reacher):
             if len(self.chosen.references) > MOST:
                 raise TooLarge("what it leads to is too large")
             if self.per_trait.get(place, 0) > MANY:
-                arguments = widest(arguments)
+                arguments = self.widened(trait, arguments)
             if (trait, arguments) in self.chosen.references:
                 continue
             self.chosen.references.add((trait, arguments))
@@ -268,6 +296,13 @@ class Cone(Reacher):
             for term in arguments:
                 self.mark(term)
             todo += self.children((trait, arguments), Reach())
+
+    def widened(self, trait: str, arguments: tuple[Type, ...]) -> tuple[Type, ...]:
+        """The arguments as unknowns; of an auto trait the type's name stays, since its fields and impls are found by that."""
+        line, subject = self.declared(trait), arguments[0]
+        if line is not None and line.is_auto and isinstance(subject, Named):
+            return (Named(subject.key, (ANY,) * len(subject.arguments)),)
+        return widest(arguments)
 
     def mark(self, term: Type) -> None:
         leaves = {key for key in keys_of(term) if key.startswith(("prim:", "tuple:", "fn:"))}
@@ -449,8 +484,8 @@ def view_of(world: World, crate: str) -> set[str]:
     return seen
 
 
-def cone_of_questions(world: World, questions: list[Question]) -> Translation:
-    """The part of the crates that answers the questions, not yet built."""
+def cone_of_questions(world: World, questions: list[Question], further: Sequence[Reference_] = ()) -> Translation:
+    """The part of the crates that answers the questions and the further references, not yet built."""
     scratch = Translation(world, cone=Chosen())
     scratch.roots = [root for question in questions for root in question.roots()]
     scratch.begin()
@@ -471,7 +506,7 @@ def cone_of_questions(world: World, questions: list[Question]) -> Translation:
                 continue
             view |= view_of(world, question.of_crate)
             seeds += [reference for asked in question.lines for reference in references_of(cone, asked.prove)]
-        cone.close(seeds)
+        cone.close([*seeds, *further])
         chosen = cone.chosen
         if not scratch.renderer.grew:
             break

@@ -65,13 +65,16 @@ class Reader:
 
     def need(self, text: str) -> None:
         if not self.eat(text):
-            rest = " ".join(value for _, value in self.tokens[self.at:self.at + 5])
-            raise NotUnderstood(f"`{text}` expected at `{rest}`")
+            raise self.expected(f"`{text}`", " ".join(value for _, value in self.tokens[self.at:self.at + 5]))
+
+    @staticmethod
+    def expected(what: str, place: str) -> NotUnderstood:
+        return NotUnderstood(f"{what} expected at " + (f"`{place}`" if place else "the end"))
 
     def word(self) -> str:
         kind, value = self.peek()
         if kind != "word":
-            raise NotUnderstood(f"a name expected at `{value}`")
+            raise self.expected("a name", value)
         self.at += 1
         return value
 
@@ -111,7 +114,7 @@ class Reader:
                     predicates += [(Parameter(value), b) for b in self.bounds()]
                 params.append(Param("type", value, self.type() if self.eat("=") else None))
             else:
-                raise NotUnderstood(f"a parameter expected at `{value}`")
+                raise self.expected("a parameter", value)
             self.eat(",")
         return params, predicates
 
@@ -188,7 +191,7 @@ class Reader:
             if kind == "mark":
                 return self.lookup([value])
             if kind != "word":
-                raise NotUnderstood(f"a path expected at `{value}`")
+                raise self.expected("a path", value)
             words.append(value.removeprefix("r#"))
             if not (self.peek()[1] == "::" and self.peek(1)[0] in ("word", "mark")):
                 return self.lookup(words)
@@ -225,7 +228,7 @@ class Reader:
                 else:
                     arguments.append(self.type())
                 if not self.eat(",") and self.peek()[1] != ">":
-                    raise NotUnderstood(f"`,` or `>` expected at `{self.peek()[1]}`")
+                    raise self.expected("`,` or `>`", self.peek()[1])
         elif self.eat("("):
             inputs: list[Type] = []
             while not self.eat(")"):
@@ -272,6 +275,8 @@ class Reader:
             if self.peek()[1] == "<":
                 raise NotUnderstood("a generic associated type")
             term = Projection(term, None, name)
+        if self.peek() == ("word", "is"):
+            raise NotUnderstood("a pattern type")
         return term
 
     def plain_type(self) -> Type:
@@ -298,7 +303,7 @@ class Reader:
                 items.append(self.type())
                 comma = self.eat(",")
                 if not comma and self.peek()[1] != ")":
-                    raise NotUnderstood(f"`)` expected at `{self.peek()[1]}`")
+                    raise self.expected("`)`", self.peek()[1])
             return items[0] if len(items) == 1 and not comma else Tuple(tuple(items))
         if self.eat("!"):
             return Never()
@@ -320,7 +325,7 @@ class Reader:
             return Projection(subject, bound, self.word())
         if kind in ("word", "mark"):
             return self.path_type()
-        raise NotUnderstood(f"a type expected at `{value}`")
+        raise self.expected("a type", value)
 
     def rest_of_slice_or_array(self) -> Type:
         element = self.type()

@@ -5,7 +5,7 @@ An item's key is its source file and first line with its kind and name: the page
 """
 from __future__ import annotations
 
-import html
+import functools
 import json
 import os
 import re
@@ -15,6 +15,14 @@ from .headers import Named_, NotUnderstood, Reader
 
 KINDS = {"struct": "struct", "enum": "enum", "union": "union", "trait": "trait", "type_alias": "type", "primitive": "primitive"}
 LINKED = ("struct", "enum", "union", "trait", "type")
+CRATES = ("core", "alloc", "std")
+# What rustdoc prints of a pattern type, `*const T is !null`: how the compiler holds the pattern.
+HELD_PATTERN = "is TyPat {"
+
+
+def unescaped(text: str) -> str:
+    import html
+    return html.unescape(text)
 
 
 def is_std_key(key: str) -> bool:
@@ -31,6 +39,26 @@ def kind_and_name(key: str) -> tuple[str, str]:
     return kind, name
 
 
+def with_patterns(header: str) -> str:
+    """The header with patterns as Rust writes them: `!null`, and `_` for all others."""
+    before, held, after = header.partition(HELD_PATTERN)
+    if not held:
+        return header
+    depth = 1
+    for end, letter in enumerate(after):
+        depth += (letter == "{") - (letter == "}")
+        if depth == 0:
+            pattern = "!null" if "kind: NotNull" in after[:end] else "_"
+            return f"{before}is {pattern}{with_patterns(after[end + 1:])}"
+    return header
+
+
+def json_folder(html_folder: str) -> Optional[str]:
+    """The folder of std's JSON beside that of its HTML documents, if the component is installed."""
+    folder = os.path.join(os.path.dirname(html_folder.rstrip("/")), "json")
+    return folder if all(os.path.exists(os.path.join(folder, c + ".json")) for c in CRATES) else None
+
+
 class Pages:
     """The pages below a folder, or those in one file of JSON that has the text of each."""
 
@@ -45,6 +73,7 @@ class Pages:
         self.first_page: dict[str, str] = {}
         self.all_items: dict[str, list[str]] = {}
 
+    @functools.cached_property
     def version(self) -> str:
         """The version of std that the documents are of, as `1.95.0` or `nightly`; empty where they do not say."""
         found = re.search(r'data-channel="([^"]*)"', self.read("core/index.html") or "")
@@ -58,6 +87,16 @@ class Pages:
                 return file.read()
         except OSError:
             return None
+
+    def data(self, path: str) -> bytes:
+        """The bytes of a page, none where there is no page."""
+        if self.archive is not None:
+            return self.archive.get(path, "").encode()
+        try:
+            with open(self.root + path, "rb") as file:
+                return file.read()
+        except OSError:
+            return b""
 
     @staticmethod
     def redirected(path: str, text: str) -> Optional[str]:
@@ -153,14 +192,14 @@ class Pages:
             target = re.search(r'href="([^"#]*)', attributes)
             if kind and target and kind.group(1) in LINKED and not target.group(1).startswith("http"):
                 page = os.path.normpath(os.path.join(os.path.dirname(path), target.group(1)))
-                links.append((kind.group(1), page, html.unescape(name)))
+                links.append((kind.group(1), page, unescaped(name)))
                 return f" \x01{len(links) - 1}\x02 "
             return name
 
         text = re.sub(r'<details.*?</details>|<div class="docblock">.*?</div>', " ", fragment, flags=re.S)
         text = re.sub(r"<a ([^>]*)>(.*?)</a>", mark, text, flags=re.S)
         text = re.sub(r'<br\s*/?>|<div class="where">|<span class="where[^>]*>', " ", text)
-        text = html.unescape(re.sub("<[^>]*>", "", text)).replace("\xa0", " ")
+        text = unescaped(re.sub("<[^>]*>", "", text)).replace("\xa0", " ")
 
         def lookup(words: list[str]) -> Named_:
             if words[-1].startswith("\x01"):
@@ -172,7 +211,7 @@ class Pages:
 
     @staticmethod
     def plain(fragment: str) -> str:
-        return " ".join(html.unescape(re.sub("<[^>]*>", "", re.sub(r"<br\s*/?>", " ", fragment))).split())
+        return " ".join(unescaped(re.sub("<[^>]*>", "", re.sub(r"<br\s*/?>", " ", fragment))).split())
 
     @staticmethod
     def impl_sections(text: str) -> Iterator[tuple[str, str]]:
@@ -180,7 +219,7 @@ class Pages:
         for found in re.finditer(r'<section id="(impl-[^"]*)" class="impl[^"]*">(.*?)</section>(.*?)(?=<section id="impl-|<h2 |$)', text, re.S):
             header = re.search(r'<h3 class="code-header">(.*?)</h3>', found.group(2), re.S)
             if header:
-                yield header.group(1), found.group(3)
+                yield with_patterns(header.group(1)), found.group(3)
 
     def foreign_headers(self, trait_page: str, page_text: str) -> Iterator[tuple[str, str]]:
         """The impls of a trait in other crates of std: crate and header. They stand in the script that the page names."""
@@ -196,4 +235,4 @@ class Pages:
         for crate, entries in json.loads(found.group(1)):
             for entry in entries:
                 if not (len(entry) > 1 and entry[1] == 1):
-                    yield crate, entry[0]
+                    yield crate, with_patterns(entry[0])

@@ -13,22 +13,20 @@ import os
 import pickle
 import sqlite3
 import sys
-import tempfile
 import time
 import zlib
 from collections.abc import Mapping, Sequence
 from dataclasses import replace
 from typing import Any, Iterator, Optional
 
-from . import terms
-from .html_docs import Pages
+from . import proved, terms
+from .html_docs import CRATES, Pages
 from .proved import SETTLED, cache_folder
 from .rustdoc_json import ItemName, JsonCrate
 from .standard import Header, Standard
 from .terms import ANY_HEAD, Declaration, Impl, Named, Type, head_of
 
 HERE = os.path.dirname(os.path.abspath(__file__))
-SAME = ("core", "alloc", "std")
 
 
 class Damaged(Exception):
@@ -71,11 +69,19 @@ def tool_sum() -> str:
 
 
 def docs_sum(pages: Pages) -> str:
-    """What tells std's documents from those of another version: their front pages, and the lists of all items."""
+    """What tells std's documents from those of another version: their front pages, and the lists of all items. They are read once while they
+    stay as they are."""
+    names = [f"{crate}/{page}" for crate in CRATES for page in ("index.html", "all.html")]
+    file = os.path.join(folder(), f"docs-{hashlib.sha256(pages.root.encode()).hexdigest()[:16]}.json")
+    state = proved.state_of([pages.root + name for name in names] if pages.archive is None else [pages.root.rstrip("/")])
+    known = proved.known(file, state)
+    if known is not None:
+        return known
     total = hashlib.sha256(pages.root.encode())
-    for crate in SAME:
-        for page in ("index.html", "all.html"):
-            total.update((pages.read(f"{crate}/{page}") or "").encode())
+    for name in names:
+        total.update(pages.data(name))
+    if state is not None:
+        proved.keep(file, {"state": state, "found": total.hexdigest()})
     return total.hexdigest()
 
 
@@ -87,6 +93,8 @@ def remove_stores() -> None:
 
 def written(path: str, data: bytes) -> None:
     """Writes the whole file or nothing."""
+    # (Imported here, as below and in other modules, what a question does not need: to load it takes long beside an answer.)
+    import tempfile
     os.makedirs(os.path.dirname(path), exist_ok=True)
     number, name = tempfile.mkstemp(dir=os.path.dirname(path))
     with os.fdopen(number, "wb") as handle:

@@ -11,7 +11,6 @@ import importlib.util
 import os
 import subprocess
 import sys
-import tempfile
 from types import ModuleType
 from typing import Any, Optional
 
@@ -62,6 +61,7 @@ def made_of(archive: str, folder: str) -> str:
     with open(archive, "rb") as handle:
         shared = os.path.join(folder, f"libceltisdarts-{hashlib.sha256(handle.read()).hexdigest()}.so")
     if not os.path.exists(shared):
+        import tempfile
         os.makedirs(folder, exist_ok=True)
         with tempfile.TemporaryDirectory(dir=folder) as room:
             part = os.path.join(room, "libceltisdarts.so")

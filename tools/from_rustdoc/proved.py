@@ -3,21 +3,18 @@ from __future__ import annotations
 
 import contextlib
 import functools
-import glob
 import hashlib
 import json
 import os
 import subprocess
-import tempfile
 import time
-from typing import Any, Optional
+from typing import Any, Iterator, Optional
 
 TOP = os.path.dirname(os.path.dirname(os.path.dirname(os.path.abspath(__file__))))
 LIBRARY = "celtisdarts_c"
 # Prints the path of the proved program, by the very conditions of the script `celtisdarts`.
 FIND = '. "$here/tools/program.sh" && of_program "$wanted" && if is_current; then echo "$built"; elif is_there "$released" && is_noted "$released" && is_of_these_sources; then echo "$released"; fi'
-# What these conditions look at.
-LOOKED_AT = ("crates.txt", "tools/program.sh", "crates/*/src/**/*.rt", "crates/*/out/celtisdarts*", "crates/*/out/libceltisdarts*", "release/*")
+BUILT = ("celtisdarts", "libceltisdarts")
 # Seconds after which a file has another time if it is written again.
 SETTLED = 2.0
 
@@ -27,10 +24,28 @@ def cache_folder() -> str:
     return os.path.join(os.environ.get("XDG_CACHE_HOME") or os.path.expanduser("~/.cache"), "celtisdarts")
 
 
+@functools.lru_cache(maxsize=None)
 def state() -> Optional[str]:
-    """The state of all that is looked at; None where something of it was written, or removed, just now."""
-    files = sorted(f for pattern in LOOKED_AT for f in glob.glob(os.path.join(TOP, pattern), recursive=True))
+    """The state of all that these conditions look at; None where something of it was written, or removed, just now."""
+    files = sorted(looked_at())
     return state_of(files) if all(map(os.path.exists, files)) else None
+
+
+def looked_at() -> Iterator[str]:
+    yield from filter(os.path.exists, (os.path.join(TOP, "crates.txt"), os.path.join(TOP, "tools", "program.sh")))
+    yield from (os.path.join(TOP, "release", name) for name in names_in(os.path.join(TOP, "release")))
+    for crate in names_in(os.path.join(TOP, "crates")):
+        folder = os.path.join(TOP, "crates", crate)
+        for place, _, names in os.walk(os.path.join(folder, "src")):
+            yield from (os.path.join(place, name) for name in names if name.endswith(".rt"))
+        out = os.path.join(folder, "out")
+        yield from (os.path.join(out, name) for name in names_in(out) if name.startswith(BUILT))
+
+
+def names_in(folder: str) -> list[str]:
+    with contextlib.suppress(OSError):
+        return os.listdir(folder)
+    return []
 
 
 def state_of(files: list[str]) -> Optional[str]:
@@ -65,8 +80,18 @@ def proved_program(name: str = "celtisdarts") -> Optional[str]:
     return path
 
 
+def known(file: str, state: Optional[str]) -> Optional[str]:
+    """What was found in this state and kept by `keep`."""
+    with contextlib.suppress(OSError, ValueError, KeyError, TypeError), open(file, encoding="utf-8") as handle:
+        found = json.load(handle)
+        if state is not None and found["state"] == state:
+            return str(found["found"])
+    return None
+
+
 def keep(file: str, data: dict[str, Any]) -> None:
     """Writes the whole file or nothing; where nothing can be kept, it is found again."""
+    import tempfile
     with contextlib.suppress(OSError):
         os.makedirs(os.path.dirname(file), exist_ok=True)
         number, part = tempfile.mkstemp(dir=os.path.dirname(file))

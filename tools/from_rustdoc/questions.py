@@ -12,8 +12,8 @@ from .headers import FLOATS, PRIMITIVES, Named_, NotUnderstood, Reader
 from .html_docs import is_std_key
 from .impls import ImplWriter
 from .negative import Negatives
-from .program import Answer, ask
-from .reach import BY_PARTS, Reach, Reacher
+from .program import DEPTH, Answer, ask
+from .reach import BY_PARTS, Reach, Reacher, Reference_
 from .render import CLAUSE, MAXIMAL_PARAMS, QUESTION, THEN, Scope, bracketed, is_sizedness, names_of
 from .rustdoc_json import ItemName
 from .show import Show
@@ -108,6 +108,14 @@ class Verdict:
 BY_LAW = "by law"
 
 
+class TooSmall(BadInput):
+    """The text is a part of the crates in which references that it leads to were not looked for."""
+
+    def __init__(self, told: str, references: list[Reference_]) -> None:
+        super().__init__(told)
+        self.references = references
+
+
 def joined(question: Question, verdicts: list[Verdict]) -> Verdict:
     """One verdict on a question that holds where all of these do: yes where all say so, else what the first says that makes it fail."""
     for word in ("no", "unproved", "not settled"):
@@ -166,7 +174,8 @@ class QuestionReader:
                     return keys.pop()
             return None
         if words[0] in ("std", "core", "alloc", "proc_macro") and len(words) > 1:
-            return self.world.pages.key_of_any_kind(words)
+            # (`alloc::collections::BTreeMap` has no page of its own, as `std::collections::BTreeMap` has.)
+            return self.world.pages.key_of_any_kind(words) or self.world.pages.key_of_any_kind(["std", *words[1:]])
         if len(words) == 1 and words[0] in self.prelude:
             return self.world.pages.key_of_any_kind(self.prelude[words[0]])
         if len(words) == 1:
@@ -245,8 +254,10 @@ class QuestionWriter:
 
     def asker(self, question: Question) -> str:
         """The crate that asks: that of the subject, else of the trait, if it sees all names; else the last one that does."""
-        keys = [key for root in question.roots() for term in terms_of(root) for key in keys_of(term)]
+        terms = [term for root in question.roots() for term in terms_of(root)]
+        keys = [key for term in terms for key in keys_of(term)]
         keys += [bound.key for bound in (question.bound, *(b for _, b in question.predicates))]
+        keys += [part.bound.key for term in terms for part in walk(term) if isinstance(part, Projection) and part.bound is not None]
         named = [self.world.get(key).crate for key in keys if not key.startswith(("?", "prim:", "tuple:", "fn:"))]
         ours = [c for c in named if c in self.world.crates]
         for crate in ours + list(reversed(self.world.crates)):
@@ -503,9 +514,13 @@ class Asker:
     def inside(self, question: Question, reach: Reach) -> None:
         """What the text leads to was looked for in all crates, where the text is a part of them."""
         cone = self.translation.cone
-        for trait, arguments in reach.references if cone is not None else ():
-            if trait not in BY_PARTS and cone is not None and not cone.covers((trait, arguments)):
-                raise BadInput(f"the part of the crates for `{question.written}` is too small, which is a mistake of the translator: {trait} of {arguments}")
+        if cone is None:
+            return
+        autos = {line.name for line in self.text.lines if line.is_auto} if self.text is not None else set()
+        missing = [r for r in reach.references if r[0] not in BY_PARTS and not cone.covers(r, r[0] in autos)]
+        if missing:
+            trait, arguments = missing[0]
+            raise TooSmall(f"the part of the crates for `{question.written}` is too small, which is a mistake of the translator: {trait} of {arguments}", missing)
 
     def verdict(self, question: Question, lower: str, upper: str, no: bool, reach: Reach) -> Verdict:
         lost = self.losses(reach)
@@ -548,7 +563,7 @@ class Asker:
     def basis_of_no(self, question: Question, reach: Reach) -> str:
         if question.has_unknowns():
             return "argued: the question has unknowns"
-        if reach.longest is None or reach.longest >= 64 or not reach.is_complete:
+        if reach.longest is None or reach.longest >= DEPTH or not reach.is_complete:
             return "argued: the question leads to chains without end"
         cut = self.cut_structs(reach)
         if cut:

@@ -20,7 +20,7 @@ from .questions import InText, Verdict
 from .reach import Reach
 from .render import FIELD, Scope
 from .show import Show
-from .terms import BadInput, Bound, Declaration, Impl, Lossy, Named, Parameter, Projection, Type, argument_values, put, rebuilt
+from .terms import BadInput, Bound, Declaration, Dyn, Impl, Lossy, Named, Parameter, Projection, Type, argument_values, put, rebuilt
 from .text_form import read_text
 from .unfold import Unfolder
 from .world import CORE_NAMES
@@ -30,7 +30,7 @@ ROW = re.compile(r"([|`\- ]*)(\S.*?)\s{2,}(\S.*)$")
 LINE = re.compile(r"impl at line (\d+)")
 STEP = re.compile(r"required for `(.*)` to implement `(.*)`(, by a built-in rule)?(, not checked)?$")
 CYCLE = "needs itself"
-NEVER, APPLY, WRAP = "Never_", "Apply_", "Wrap_"
+NEVER, APPLY, WRAP, OBJECT = "Never_", "Apply_", "Wrap_", "Object_"
 SPECIAL = (NEVER, APPLY, WRAP)
 SHOWN, DEEPEST = 4, 4
 
@@ -50,6 +50,11 @@ class Told:
     goals: list[Goal] = field(default_factory=list)
     helps: list[str] = field(default_factory=list)
     is_cycle: bool = False
+
+
+def is_of_text(subject: Type) -> bool:
+    """Whether it is the field `dyn Object_` by which the struct that stands for a `dyn` has no auto trait of its own."""
+    return isinstance(subject, Dyn) and any(bound.key == OBJECT for bound in subject.bounds)
 
 
 class Explainer:
@@ -211,7 +216,9 @@ class Explainer:
 
     # ---- as notes
     def notes(self, told: Told) -> list[Message]:
-        goals = [goal for goal in told.goals if goal.bound.key != APPLY]
+        goals = [goal for goal in told.goals if goal.bound.key != APPLY and not is_of_text(goal.subject)]
+        if not goals:
+            return []
         first, rest = goals[0], goals[1:]
         if first.bound.key == NEVER and rest:
             first, rest = rest[0], rest[1:]
@@ -277,8 +284,9 @@ class Explainer:
             return f"{self.show.type(Projection(self.rust(subject), Bound(key, others), name))} == {self.shown_type(bound.arguments[count])}"
         if bound.key in self.thens:
             unfolded = Unfolder(read_text(self.text), self.thens).unfold(subject, bound)
-            if unfolded.bound is not None:
-                return f"{self.shown_type(unfolded.subject)}: {self.shown_bound(unfolded.bound)}"
+            if unfolded.bound is None:
+                raise NotUnderstood("a pattern that is not all known")
+            return f"{self.shown_type(unfolded.subject)}: {self.shown_bound(unfolded.bound)}"
         return f"{self.shown_type(subject)}: {self.shown_bound(bound)}"
 
     # ---- a proof

@@ -20,6 +20,7 @@ FUNDAMENTAL = re.compile(r"#\[(fundamental|attr = Fundamental)\]")
 
 @dataclass(frozen=True)
 class ItemName:
+    """An item's key, its name, and its public path if it has one."""
     key: str
     name: str
     public_path: Optional[list[str]]

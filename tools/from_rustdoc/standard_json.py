@@ -8,18 +8,10 @@ from __future__ import annotations
 import os
 from typing import Any, Optional
 
-from .html_docs import KINDS, LINKED, Pages, rust_crate_of
+from .html_docs import CRATES, KINDS, LINKED, Pages, rust_crate_of
 from .rustdoc_json import JsonCrate, kind_and_body
 from .standard import TAILS, Header, Standard, home_of
 from .terms import BadInput, Declaration, Impl, Named, Parameter, Primitive, Tuple, Type
-
-CRATES = ("core", "alloc", "std")
-
-
-def json_folder(html_folder: str) -> Optional[str]:
-    """The folder of std's JSON beside that of its HTML documents, if the component is installed."""
-    folder = os.path.join(os.path.dirname(html_folder.rstrip("/")), "json")
-    return folder if all(os.path.exists(os.path.join(folder, c + ".json")) for c in CRATES) else None
 
 
 class StdJsonCrate(JsonCrate):

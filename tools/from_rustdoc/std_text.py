@@ -50,7 +50,7 @@ def std_text(world: World) -> str:
     if problems:
         raise BadInput(f"std's text breaks the rules of docs/RUSTDOC.md, which is a mistake of the translator: {problems[0]}")
     left_out = [f"// Left out: {w.impl.source}: {why}" for w in translation.of_std for why in (w.losses or w.unknown)[:1]]
-    version = world.pages.version()
+    version = world.pages.version
     head = HEAD.replace("{version}", f" of {version}" if version else "")
     return "\n".join([head, *map(ascii_of, left_out), *common_lines(translation)]) + "\n"
 

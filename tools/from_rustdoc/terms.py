@@ -18,16 +18,18 @@ class BadInput(Exception):
 
 @dataclass(frozen=True)
 class Primitive:
+    """A built-in type by its name, as `u8` and `str`."""
     name: str
 
 
 @dataclass(frozen=True)
 class Never:
-    pass
+    """`!`."""
 
 
 @dataclass(frozen=True)
 class Parameter:
+    """A type parameter."""
     name: str
 
 
@@ -39,29 +41,34 @@ class Unknown:
 
 @dataclass(frozen=True)
 class Reference:
+    """`&T`, `&mut T`."""
     mutable: bool
     target: Type
 
 
 @dataclass(frozen=True)
 class Pointer:
+    """`*const T`, `*mut T`."""
     mutable: bool
     target: Type
 
 
 @dataclass(frozen=True)
 class Slice:
+    """`[T]`."""
     element: Type
 
 
 @dataclass(frozen=True)
 class Array:
+    """`[T; N]`, with the length as source."""
     element: Type
     length: str
 
 
 @dataclass(frozen=True)
 class Tuple:
+    """`(A, B)`; without items the unit."""
     items: tuple[Type, ...]
 
 
@@ -75,6 +82,7 @@ class Function:
 
 @dataclass(frozen=True)
 class Dyn:
+    """`dyn A + B`."""
     bounds: tuple[Bound, ...]
 
 
@@ -129,6 +137,7 @@ class BoundsOf:
 
 @dataclass(frozen=True)
 class Unsayable:
+    """A type that no text can say, and why."""
     why: str
 
 

@@ -14,6 +14,7 @@ MAXIMAL = {"bytes": 1048576, "crates": 255, "items": 4096, "name": 64, "params":
 
 @dataclass
 class TextLine:
+    """A line of a text, read."""
     number: int
     text: str
     kind: str
@@ -31,6 +32,7 @@ class TextLine:
 
 @dataclass
 class Text:
+    """A text, read: its lines, which crate uses which, and the items by name."""
     lines: list[TextLine] = field(default_factory=list)
     uses: dict[str, list[str]] = field(default_factory=dict)
     names: dict[str, TextLine] = field(default_factory=dict)

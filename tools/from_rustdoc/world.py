@@ -94,7 +94,7 @@ class World:
 
     def same_std(self, crate: AnyCrate) -> None:
         """Answers would be of no crate that there is, if it was compiled with another std than the documents are of."""
-        known = self.pages.version()
+        known = self.pages.version
         if known and crate.std_version and known != crate.std_version:
             raise BadInput(f"{crate.file} was made by Rust {crate.std_version}, and std's documents in {self.pages.root} are of {known}: "
                            "name those of that version by --docs")

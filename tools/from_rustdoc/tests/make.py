@@ -23,7 +23,7 @@ from from_rustdoc.standard import COMPUTED  # noqa: E402
 from from_rustdoc.tests.pairs import all_pairs, library, rustdoc  # noqa: E402
 
 # Each with the crates that it uses.
-CRATES: dict[str, list[str]] = {"shapes": [], "before": [], "after": [], "ab": [], "user": ["ab"], "reasons": [],
+CRATES: dict[str, list[str]] = {"shapes": [], "before": [], "after": [], "ab": [], "user": ["ab"], "deep": ["ab"], "reasons": [],
                                 "formats": []}
 READ = ("struct", "enum", "union", "variant", "struct_field", "trait", "impl", "assoc_type", "module", "use", "type_alias")
 # Pages that no kept crate names, but the translator or a question does.

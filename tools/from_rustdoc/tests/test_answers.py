@@ -43,6 +43,11 @@ OTHERS = {
     "user::Mine<ab::Sb>: Clone": "yes", "for<'a> fn(&'a u8): Send": "yes",
     WIDE + "u16>: ab::Ta": "yes", WIDE + "u8>: ab::Ta": "no", WIDE + "u16>: Send": "not settled"}
 
+DEEP = {
+    "deep::Chunk<u8>: Send": "yes", "deep::Node<u8>: Send": "unproved", "<A> deep::Chunk<A>: Sync": "unproved", "<A> deep::Chunk<A>: Sync where A: Sync": "yes",
+    "deep::Pool<u8>: Sync": "no", "<A> deep::Pool<A>: Unpin": "yes", "<A> deep::Node<A>: Unpin": "unproved", "<A> deep::Node<A>: Unpin where A: Unpin": "yes",
+    "<ab::Sb as deep::Length<u8>>::Array: Copy": "yes", "<T> [<ab::Sb as deep::Length<T>>::Array; 2]: Send": "yes"}
+
 
 @unittest.skipUnless(proved_program(), "there is no proved program of these sources")
 class Answers(unittest.TestCase):
@@ -78,6 +83,13 @@ class Answers(unittest.TestCase):
     def test_names_aliases_and_many_parameters(self) -> None:
         self.answers(OTHERS)
 
+    def test_deep_types_and_traits_of_crates_that_use_the_subjects(self) -> None:
+        found = world("ab", "deep")
+        reader, answerer = QuestionReader(found), Answerer(found)
+        for written, word in DEEP.items():
+            verdict = answerer.answer(reader.read(written))
+            self.assertEqual(verdict.word, word, verdict.show())
+
     def test_values_are_told(self) -> None:
         for written, values in (("fn(u8) -> bool: FnOnce(u8) -> ?r", "?r = bool"), ("dyn Iterator<Item = u8>: Iterator<Item = ?x>", "?x = u8"),
                                 (f"ab::Wide<?x, {'u8, ' * 15}u16>: ab::Ta", "?x = u8")):
@@ -96,10 +108,16 @@ class NoAnswers(unittest.TestCase):
     def test_what_is_no_question_is_told_in_a_line(self) -> None:
         reader = QuestionReader(world("ab"))
         for written, why in (("ab::Sb: ?Sized", "asks nothing"), ("ab::Sb: Vec<u8>", "is no trait"), ("ab::Sb: 'static", "asks for no trait"),
-                             ("<T: Send", "is not understood"), ("<T as", "is not understood"), ("ab::Sb", "is not understood"), ("", "is not understood"),
+                             ("<T: Send", "is not understood"), ("<T as", "is not understood"), ("ab::Sb", "`:` expected at the end"), ("ab::Sb:", "a path expected at the end"), ("", "a type expected at the end"),
                              ("ab::Sx: Send", "is not known: write"), ("ab::Aroud: Send", "is it `ab::Around`?"), ("Vec<u8>::Item Send", "is not understood")):
             with self.assertRaisesRegex(BadInput, why, msg=written):
                 reader.read_all(written)
+
+    def test_items_that_core_and_alloc_document_elsewhere_are_found_in_std(self) -> None:
+        reader = QuestionReader(world("ab"))
+        with mock.patch.object(reader.world.pages, "key_of_any_kind", side_effect=lambda words: "a map" if words == ["std", "collections", "BTreeMap"] else None):
+            self.assertEqual([reader.key([crate, "collections", name]) for crate in ("std", "alloc") for name in ("BTreeMap", "None")],
+                             ["a map", None, "a map", None])
 
     @unittest.skipUnless(proved_program(), "there is no proved program of these sources")
     def test_an_alias_of_a_crate_that_is_not_given_is_a_loss(self) -> None:

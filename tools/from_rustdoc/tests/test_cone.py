@@ -8,11 +8,11 @@ from typing import Callable, Iterator
 from unittest import mock
 
 from ..build import Translation
-from ..cone import cone_of_crate, cone_of_questions
+from ..cone import Chosen, cone_of_crate, cone_of_questions
 from ..kept import Damaged, KeptPages, KeptStandard, packed, unpacked
 from ..questions import Question, QuestionReader, QuestionWriter
 from ..reach import BY_PARTS, Reacher
-from ..terms import Bound, Declaration, Param, Parameter, Predicate
+from ..terms import UNIT, Array, Bound, Declaration, Named, Param, Parameter, Predicate, Type, Unknown
 from ..text_form import read_text
 from ..world import World
 from .common import kept, texts, world
@@ -48,6 +48,22 @@ def of_type(declaration: Declaration, name: str, key: str) -> Iterator[Question]
     for more in choices:
         params = [Param(p.kind, p.name) for p in declaration.params]
         yield Question(f"{declaration.name}: {name}", declaration.itself(), Bound(key), params, declaration.predicates + more, crate="shapes")
+
+
+class Covers(unittest.TestCase):
+    def test_an_unknown_stands_for_any_type_in_its_place(self) -> None:
+        chosen = Chosen(references={("Send", (Named("Pair", (Unknown("_"), Array(Unknown("_"), "2"))),)), ("From", (UNIT, Parameter("T")))})
+        cases: list[tuple[Type, bool]] = [
+            (Named("Pair", (UNIT, Array(Named("Pair", (UNIT, UNIT)), "2"))), True), (Named("Pair", (UNIT, Array(UNIT, "3"))), False),
+            (Named("Pair", (UNIT, UNIT)), False), (Named("Peer", (UNIT, Array(UNIT, "2"))), False), (Unknown("_"), False)]
+        for term, is_covered in cases:
+            self.assertEqual(chosen.covers(("Send", (term,))), is_covered, term)
+        self.assertEqual([chosen.covers(("From", (UNIT, term))) for term in (Parameter("T"), Parameter("U"))], [True, False])
+
+    def test_an_unknown_is_no_type_of_which_an_auto_trait_was_asked(self) -> None:
+        chosen = Chosen(references={("Send", (Unknown("_"),))}, asked={("Pair", "Send")})
+        self.assertEqual([chosen.covers(("Send", (Named(name, ()),)), True) for name in ("Pair", "Peer")], [True, False])
+        self.assertTrue(chosen.covers(("Send", (UNIT,)), True))
 
 
 class SameReach(unittest.TestCase):

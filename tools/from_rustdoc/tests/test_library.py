@@ -1,7 +1,7 @@
 """Answers in this process, beside those of the program; and how the programs and the library are found."""
 from __future__ import annotations
 
-import glob
+import itertools
 import json
 import os
 import shutil
@@ -35,6 +35,20 @@ class Room(unittest.TestCase):
 class InProcess(Room):
     def without_programs(self) -> Any:
         return mock.patch.object(program, "printed", side_effect=AssertionError("a program was run"))
+
+    def setUp(self) -> None:
+        super().setUp()
+        few = mock.patch.object(program, "FEW", 0)
+        few.start()
+        self.addCleanup(few.stop)
+
+    def test_few_texts_are_answered_by_the_program(self) -> None:
+        with mock.patch.object(program, "FEW", 1), mock.patch.object(program, "ASKED", itertools.count()):
+            with mock.patch.object(program, "binding", side_effect=AssertionError("the library was loaded")):
+                first = ask(TEXT, LINES)
+            with self.without_programs():
+                second = ask(TEXT, LINES)
+        self.assertEqual((first.questions, first.values), (second.questions, second.values))
 
     def test_kept_texts_have_the_answers_of_the_program(self) -> None:
         for name in ("shapes", "before", "after"):
@@ -107,6 +121,7 @@ class Found(Room):
         for patch in patches:
             patch.start()
             self.addCleanup(patch.stop)
+        self.addCleanup(proved.state.cache_clear)
 
     def write(self, text: str) -> None:
         with open(self.source, "w", encoding="utf-8") as handle:
@@ -117,6 +132,7 @@ class Found(Room):
         return mock.Mock(stdout=f"/program/{more['env']['wanted']}/{self.calls}\n")
 
     def find(self, name: str = "celtisdarts") -> Any:
+        proved.state.cache_clear()
         return proved.proved_program.__wrapped__(name)
 
     def test_it_is_asked_once_while_nothing_changes(self) -> None:
@@ -131,7 +147,7 @@ class Found(Room):
             self.assertEqual([self.find(), self.find()], ["/program/celtisdarts/1", "/program/celtisdarts/2"])
 
     def test_what_is_removed_meanwhile_is_no_error(self) -> None:
-        with mock.patch.object(glob, "glob", return_value=[os.path.join(self.room, "gone")]):
+        with mock.patch.object(proved, "looked_at", return_value=[os.path.join(self.room, "gone")]):
             self.assertEqual([self.find(), self.find()], ["/program/celtisdarts/1", "/program/celtisdarts/2"])
 
     def test_what_is_damaged_is_found_again(self) -> None:

@@ -93,10 +93,10 @@ class Told(unittest.TestCase):
 
     def test_documents_of_another_version_are_refused(self) -> None:
         other = pages()
-        with mock.patch.object(type(other), "version", return_value="1.94.0"):
+        with mock.patch.dict(vars(other), version="1.94.0"):
             with self.assertRaisesRegex(BadInput, r"was made by Rust 1\.95\.0, and std's documents in .* are of 1\.94\.0"):
                 World(other).load([kept("ab")])
-        with mock.patch.object(type(other), "version", return_value="1.95.0"):
+        with mock.patch.dict(vars(other), version="1.95.0"):
             World(other).load([kept("ab")])
 
 

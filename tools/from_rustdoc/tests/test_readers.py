@@ -7,10 +7,10 @@ import tempfile
 import unittest
 
 from ..headers import Named_, NotUnderstood, Reader
-from ..html_docs import Pages
+from ..html_docs import Pages, json_folder, with_patterns
 from ..rustdoc_json import JsonCrate
 from ..standard import Standard
-from ..standard_json import JsonStandard, json_folder
+from ..standard_json import JsonStandard
 from ..terms import (Array, BadInput, Bound, Dyn, Function, Named, Parameter, Pointer, Primitive, Projection, Reference, Tuple, Unknown)
 from .common import kept
 
@@ -89,6 +89,15 @@ class StdPages(unittest.TestCase):
         homes = {impl.crate for _, impl in self.standard.impls_of_trait(key)}
         self.assertIn("alloc", homes)
         self.assertTrue(any("Vec" in header.text for header in self.standard.found))
+
+    def test_pattern_types_stand_as_rust_writes_them(self) -> None:
+        held = "is TyPat { hir_id: HirId(DefId(0:9 ~ core[64bb]::pat::{impl#3}).12), kind: NotNull, span: src/pat.rs:87:59: 87:64 (#0) }"
+        section = '<section id="impl-X" class="impl"><h3 class="code-header">impl&lt;T&gt; X for *const T ' + held + "</h3></section><h2 "
+        [(header, _)] = Pages.impl_sections(section)
+        self.assertEqual(header, "impl&lt;T&gt; X for *const T is !null")
+        impl = self.standard.impl(header, "core/marker/trait.Unpin.html", "", "core")
+        self.assertEqual((impl.source, impl.error), ("std: impl<T> X for *const T is !null", "a pattern type"))
+        self.assertEqual(with_patterns(f"impl X&lt;T {held}&gt; for U {held.replace('NotNull', 'Or([])')}"), "impl X&lt;T is !null&gt; for U is _")
 
     def test_boxed_slices_are_narrowed(self) -> None:
         page = "alloc/boxed/struct.Box.html"

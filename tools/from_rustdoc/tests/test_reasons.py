@@ -71,6 +71,11 @@ class Reasons(unittest.TestCase):
     def test_the_types_that_have_the_trait_are_the_nearest(self) -> None:
         self.assertIn("`ab::Ta` is implemented for `user::Mine<ab::Kept<u8>>`", self.told("user::Held<u8>: ab::Ta", of=world("ab", "user"))[-1])
 
+    def test_a_dyn_has_the_auto_traits_that_it_names(self) -> None:
+        self.assertEqual(self.told("dyn Iterator<Item = u8>: Send"), [])
+        self.assertEqual(self.told("Box<dyn Iterator<Item = u8>>: Send"), [
+            "`dyn Iterator<Item = u8>: Send` does not hold", "required for `Box<dyn Iterator<Item = u8>>: Send`, by `impl<T, A> Send for Box<T, A>` (std)"])
+
     def test_no_name_of_the_text_is_told(self) -> None:
         for written in ("reasons::Either<u8>: Sync", "Vec<reasons::NoClone>: Clone", "reasons::All<u8>: reasons::Show", "Option<reasons::Inner>: Clone",
                         "reasons::Fun<u8>: reasons::Show", "&reasons::Inner: Send", "reasons::Outer<*const u8>: Send"):
