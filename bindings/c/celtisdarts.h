@@ -8,7 +8,7 @@
  * the call can be made again.
  *
  * No pointer may be null, not even one to no bytes. A buffer may overlap nothing else that a call is given. Two calls may run at once where
- * they have no handle in common. A call takes up to 8 KiB of stack for each level of the depth, and 64 KiB more.
+ * they have no handle in common. A call takes up to 3 KiB of stack for each level of the depth, and 64 KiB more.
  */
 #ifndef CELTISDARTS_H
 #define CELTISDARTS_H

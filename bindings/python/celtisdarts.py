@@ -36,9 +36,9 @@ T = TypeVar("T")
 
 HERE = Path(__file__).resolve().parent
 
-# The depth up to which a call runs on the caller's thread: it takes 1.1 MiB of stack there.
+# The depth up to which a call runs on the caller's thread: it takes 0.4 MiB of stack there.
 DEFAULT_DEPTH = 128
-# The stack on which a deeper call runs, in bytes. At depth 255 it takes some 2 MiB.
+# The stack on which a deeper call runs, in bytes. At depth 255 it takes some 0.7 MiB.
 DEEP_STACK = 8 << 20
 # How long a buffer for an answer is at first. A longer answer is asked for once more, in a longer one.
 FIRST_ROOM = 1024

@@ -20,7 +20,7 @@ from .common import TOP, Tally, examples
 SIZES = {
     "README.md": 1000,
     "CONTRIBUTING.md": 1800,
-    "benches/FIGURES.md": 1500,
+    "benches/FIGURES.md": 2110,
     "docs/ARCHITECTURE.md": 1500,
     "docs/DECISIONS.md": 4000,
     "docs/DIFFERENCES.md": 1400,
@@ -28,7 +28,7 @@ SIZES = {
     "docs/FORMAT.md": 4320,
     "docs/GLOSSARY.md": 1100,
     "docs/LIBRARY.md": 1500,
-    "docs/PROMISES.md": 3905,
+    "docs/PROMISES.md": 3975,
     "docs/PROVING.md": 2600,
     "docs/RELEASES.md": 850,
     "docs/RUSTDOC.md": 3050,

@@ -5,12 +5,12 @@ use std::{io, panic, thread};
 /// The depth to which a thread of 2 MiB of stack is enough, as Rust's threads have.
 const DEFAULT_DEPTH: u8 = 128;
 
-/// The stack on which deeper searches are run, in bytes. At depth 255 a search takes some 2 MiB.
+/// The stack on which deeper searches are run, in bytes. At depth 255 a search takes some 0.7 MiB.
 const DEEP_STACK: usize = 8 << 20;
 
 /// How many levels a search may go down, as rustc's `recursion_limit`.
 ///
-/// A level takes some 8 KiB of stack. At depth 128 that is 1.1 MiB at most, and a call runs on the caller's thread: each thread that Rust
+/// A level takes some 3 KiB of stack. At depth 128 that is 0.4 MiB at most, and a call runs on the caller's thread: each thread that Rust
 /// starts has 2 MiB. A call at a greater depth, which only [`Depth::deep`] makes, runs on a thread of its own with 8 MiB, which is started
 /// for the call.
 #[derive(Clone, Copy, Debug, PartialEq, Eq, PartialOrd, Ord, Hash)]
