@@ -28,7 +28,7 @@ SIZES = {
     "docs/FORMAT.md": 4320,
     "docs/GLOSSARY.md": 1100,
     "docs/LIBRARY.md": 1500,
-    "docs/PROMISES.md": 3975,
+    "docs/PROMISES.md": 4005,
     "docs/PROVING.md": 2600,
     "docs/RELEASES.md": 850,
     "docs/RUSTDOC.md": 3050,
