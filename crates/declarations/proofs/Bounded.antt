@@ -1,8 +1,5 @@
 -- Supertraits with the arguments of a reference.
-use Rattle.std.proofs.Common.{◌≡◌, ℕ, List, [], ◌∷◌, ◌++◌, refl, ap, sym, ◌∙◌, Ok, Err}
-use Rattle.std.specs.Prelude.{Result, IfErr, IsErrAnd}
-use Rattle.type_terms.specs.declared.Fault.{Fault}
-use Rattle.type_terms.specs.declared.Fault.TheVariants.{Full}
+use Rattle.std.proofs.Common.{◌≡◌, ℕ, List, [], ◌∷◌, ◌++◌, refl, ap, ◌∙◌}
 use Rattle.type_terms.specs.Promised.Trees.{Trees, none, instantiate}
 use Rattle.type_terms.specs.Promised.Worlds.{Reference, with_args}
 use Rattle.type_terms.specs.Promised.Handles.{Entry, Keeps, trees_at}

@@ -25,7 +25,7 @@ use Rattle.declarations.proofs.Growth.{each-kept, references-kept, args-same, al
 use Rattle.declarations.proofs.Bounded.{all-same, all-put}
 use Rattle.declarations.proofs.Instances.{instance-closed, instance-sorts}
 use Rattle.declarations.proofs.Levels.{LeadDown, all-closed}
-use Rattle.declarations.proofs.Stacks.{missing, IsLeft, left-at-first, left-next, left-falls, pushed-append}
+use Rattle.declarations.proofs.Stacks.{missing, IsLeft, left-at-first, left-next, left-falls, left-nothing, pushed-append}
 use Rattle.declarations.proofs.Basics.{each-append, each-end, each-front}
 
 pub each-in : {A : Type 0} (P : A → Type 0) (xs : List A) → Each P xs → (x : A) → In x xs → P x
@@ -154,21 +154,21 @@ module _ (es0 : List Entry) (d : Items) (references : List TraitRef) where
   pub record Elaborates (es : List Entry) (e : Elaborator) (found : List TraitRef) : Type 0 where
     pub keeps : Keeps es0 es
     pub stack_held : TraitRefsHeld es e.stack.items
-    pub visited_held : TraitRefsHeld es e.visited.items
+    pub visited_held : TraitRefsHeld es e.visited.keys
     pub found_held : TraitRefsHeld es found
     pub stack_applied : AreApplied es d e.stack.items
     pub found_applied : AreApplied es d found
-    pub left : IsLeft V levels (references_in es e.visited.items) (pushed (references_in es e.stack.items) []) (references_in es found) (elaborate V (references_in es0 references))
+    pub left : IsLeft V levels (references_in es e.visited.keys) (pushed (references_in es e.stack.items) []) (references_in es found) (elaborate V (references_in es0 references))
 
   -- the number that falls
   abbrev pub to_come : List Entry → Elaborator → ℕ
-  to_come es e = length (pushed (references_in es e.stack.items) []) + missing levels (references_in es e.visited.items)
+  to_come es e = length (pushed (references_in es e.stack.items) []) + missing levels (references_in es e.visited.keys)
 
-  pub elaborates-first : (old new : Elaborator) → TraitRefsHeld es0 references → AreApplied es0 d references → old.stack.items ≡ [] → old.visited.items ≡ []
+  pub elaborates-first : (old new : Elaborator) → TraitRefsHeld es0 references → AreApplied es0 d references → old.stack.items ≡ [] → old.visited.keys ≡ []
       → StacksUnseen es0 references old new → Elaborates es0 new []
   elaborates-first old new held applied s v x =
       let stack_is : new.stack.items ≡ x.added = x.stack ∙ ap (λ l. l ++ x.added) s in
-      let visited_is : new.visited.items ≡ x.added = x.visited ∙ ap (λ l. l ++ x.added) v in
+      let visited_is : new.visited.keys ≡ x.added = x.visited ∙ ap (λ l. l ++ x.added) v in
       let new_is : references_in es0 x.added ≡ new_of [] (references_in es0 references) = x.are_new ∙ ap (λ l. new_of (references_in es0 l) (references_in es0 references)) v in
       let added_held = all-in (ReferenceHeld es0) x.added (λ r i. each-in (ReferenceHeld es0) references held r (x.among r i)) in
       let added_applied = all-in (IsApplied es0 d) x.added (λ r i. each-in (IsApplied es0 d) references applied r (x.among r i)) in
@@ -189,7 +189,7 @@ module _ (es0 : List Entry) (d : Items) (references : List TraitRef) where
 
   -- a step, in which next is taken off the stack, and its written supertraits ws are put there
   module _ (bounds : HaveBounds es0 d) (are_held : AreHeld es0 d) (es1 es2 : List Entry) (old mid new : Elaborator) (next : TraitRef) (found ws : List TraitRef)
-      (h : Elaborates es1 old found) (popped : old.stack.items ≡ mid.stack.items ++ next ∷ []) (visited_stays : mid.visited.items ≡ old.visited.items)
+      (h : Elaborates es1 old found) (popped : old.stack.items ≡ mid.stack.items ++ next ∷ []) (visited_stays : mid.visited.keys ≡ old.visited.keys)
       (k : Keeps es1 es2) (ws_held : TraitRefsHeld es2 ws) (ws_applied : AreApplied es2 d ws)
       (ws_are : references_in es2 ws ≡ written_supertraits (written es1 d) (reference_in es1 next)) (x : StacksUnseen es2 ws mid new) where
     closed : (s t : Reference) → In s levels → In t (written_supertraits V s) → In t levels
@@ -219,14 +219,14 @@ module _ (es0 : List Entry) (d : Items) (references : List TraitRef) where
     top = ap (λ l. pushed (references_in es1 l) []) popped ∙ ap (λ l. pushed l []) (references-append es1 mid.stack.items (next ∷ [])) ∙ pushed-append stack1 (reference_in es1 next ∷ []) []
 
     put1 : List Reference
-    put1 = references_in es1 old.visited.items
+    put1 = references_in es1 old.visited.keys
 
     added : List Reference
     added = references_in es2 x.added
 
-    visited2 : references_in es2 mid.visited.items ≡ put1
+    visited2 : references_in es2 mid.visited.keys ≡ put1
     unfolding put1
-    visited2 = ap (references_in es2) visited_stays ∙ all-same es1 es2 k old.visited.items h.visited_held
+    visited2 = ap (references_in es2) visited_stays ∙ all-same es1 es2 k old.visited.keys h.visited_held
 
     added_is : added ≡ new_of put1 (written_supertraits V (reference_in es1 next))
     unfolding put1 added
@@ -241,16 +241,16 @@ module _ (es0 : List Entry) (d : Items) (references : List TraitRef) where
         ∙ pushed-append (references_in es2 mid.stack.items) (references_in es2 x.added) []
         ∙ ap (λ l. pushed (references_in es2 x.added) (pushed l [])) (all-same es1 es2 k mid.stack.items mid_held)
 
-    new-visited : references_in es2 new.visited.items ≡ put1 ++ added
+    new-visited : references_in es2 new.visited.keys ≡ put1 ++ added
     unfolding put1 added
-    new-visited = ap (references_in es2) x.visited ∙ references-append es2 mid.visited.items x.added ∙ ap (λ l. l ++ references_in es2 x.added) visited2
+    new-visited = ap (references_in es2) x.visited ∙ references-append es2 mid.visited.keys x.added ∙ ap (λ l. l ++ references_in es2 x.added) visited2
 
     new-found : references_in es2 (found ++ next ∷ []) ≡ references_in es1 found ++ reference_in es1 next ∷ []
     new-found = all-same es1 es2 k (found ++ next ∷ []) (all-put es1 found next h.found_held next_held) ∙ references-append es1 found (next ∷ [])
 
     left1 : IsLeft V levels put1 (reference_in es1 next ∷ pushed stack1 []) (references_in es1 found) (elaborate V (references_in es0 references))
     unfolding put1
-    left1 = subst (λ l. IsLeft V levels (references_in es1 old.visited.items) l (references_in es1 found) (elaborate V (references_in es0 references))) top h.left
+    left1 = subst (λ l. IsLeft V levels (references_in es1 old.visited.keys) l (references_in es1 found) (elaborate V (references_in es0 references))) top h.left
 
     left2 : IsLeft V levels (put1 ++ added) (pushed added (pushed stack1 [])) (references_in es1 found ++ reference_in es1 next ∷ []) (elaborate V (references_in es0 references))
     left2 = left-next V levels put1 (pushed stack1 []) (references_in es1 found) (elaborate V (references_in es0 references)) (reference_in es1 next) added closed left1 added_is
@@ -266,7 +266,7 @@ module _ (es0 : List Entry) (d : Items) (references : List TraitRef) where
       keeps = λ i e g. k i e (h.keeps i e g);
       stack_held = subst (TraitRefsHeld es2) (sym x.stack) (each-append (ReferenceHeld es2) mid.stack.items x.added (references-kept es1 es2 k mid.stack.items mid_held) added_held);
       visited_held = subst (TraitRefsHeld es2) (sym x.visited)
-          (each-append (ReferenceHeld es2) mid.visited.items x.added (subst (TraitRefsHeld es2) (sym visited_stays) (references-kept es1 es2 k old.visited.items h.visited_held)) added_held);
+          (each-append (ReferenceHeld es2) mid.visited.keys x.added (subst (TraitRefsHeld es2) (sym visited_stays) (references-kept es1 es2 k old.visited.keys h.visited_held)) added_held);
       found_held = references-kept es1 es2 k (found ++ next ∷ []) (all-put es1 found next h.found_held next_held);
       stack_applied = subst (AreApplied es2 d) (sym x.stack)
           (each-append (IsApplied es2 d) mid.stack.items x.added (all-applied-later es1 es2 k d mid.stack.items mid_held (each-front (IsApplied es1 d) mid.stack.items next old_applied)) added_applied);
@@ -290,3 +290,9 @@ module _ (es0 : List Entry) (d : Items) (references : List TraitRef) where
 
   pub popped-applied : (es : List Entry) (e : Elaborator) (found rest : List TraitRef) (next : TraitRef) → Elaborates es e found → e.stack.items ≡ rest ++ next ∷ [] → IsApplied es d next
   popped-applied es e found rest next h p = each-end (IsApplied es d) rest next (subst (AreApplied es d) p h.stack_applied)
+
+  pub elaborates-last : (es : List Entry) (e : Elaborator) (found : List TraitRef) → Elaborates es e found → e.stack.items ≡ []
+      → references_in es found ≡ elaborate V (references_in es0 references)
+  elaborates-last es e found h s =
+      left-nothing V levels (references_in es e.visited.keys) (references_in es found) (elaborate V (references_in es0 references))
+      (subst (λ l. IsLeft V levels (references_in es e.visited.keys) (pushed (references_in es l) []) (references_in es found) (elaborate V (references_in es0 references))) s h.left)

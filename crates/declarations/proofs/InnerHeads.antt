@@ -15,7 +15,7 @@ use Rattle.term_folds.specs.Signatures.{StartsWithType}
 use Rattle.declarations.specs.declared.simplify.SimplifiedType.{SimplifiedType}
 use Rattle.declarations.specs.declared.heads.ImplHead.{ImplHead}
 use Rattle.declarations.specs.declared.heads.ImplKey.TheVariants.{Shallow, Inner}
-use Rattle.declarations.specs.Apart.{has_parts, tops_may_meet, may_meet, levels, is_fixed, are_apart}
+use Rattle.declarations.specs.Apart.{has_parts, tops_may_meet, may_meet, levels, are_apart}
 use Rattle.declarations.specs.Heads.{is_rigid, head_of, is_pointer, pointee, inner_head_of, is_shallow, label_of, same_self}
 use Rattle.declarations.specs.Held.{AreHeld, ImplHeld}
 use Rattle.declarations.specs.Index.{has_key, has_inner_key, ids_of}

@@ -9,6 +9,7 @@ use Rattle.type_terms.specs.Promised.Trees.{Trees, none, tree}
 use Rattle.type_terms.specs.Codes.{same, same_label, numbers, same_numbers}
 use Rattle.declarations.proofs.Basics.{length-pushed, put-move}
 use Rattle.type_terms.proofs.BooleanBasics.{true-false}
+use Rattle.type_terms.proofs.ListBasics.{append-none}
 
 pub same-numbers-self : (x : ℕ × (ℕ × (ℕ × ℕ))) → same_numbers x x ≡ true
 same-numbers-self (a, (b, (c, d))) = let p = self-number a in let q = self-number b in let r = self-number c in let s = self-number d in rw (p, q, r, s) refl
@@ -118,10 +119,6 @@ put-last x r (y ∷ b) = ap (λ z. same_reference x y || z) (put-last x r b) ∙
 -- and a list of them
 pub put-all-last : (x : Reference) (b rs : List Reference) → is_put x (b ++ rs) ≡ is_put x (rs ++ b)
 put-all-last x b [] = ap (is_put x) (append-none b)
-  where
-    append-none : (xs : List Reference) → xs ++ [] ≡ xs
-    append-none [] = refl
-    append-none (y ∷ xs) = ap (λ z. y ∷ z) (append-none xs)
 put-all-last x b (r ∷ rs) =
     ap (is_put x) (sym (append_assoc b (r ∷ []) rs)) ∙ put-all-last x (b ++ r ∷ []) rs ∙ ends rs
   where
@@ -235,3 +232,11 @@ left-falls V xs put stack r new closed i e =
     = missing-same xs (put ++ new) (new_of put (written_supertraits V r) ++ put) (λ x. put-all-last x put new ∙ ap (λ l. is_put x (l ++ put)) e) in
     let count : length new ≡ length (new_of put (written_supertraits V r)) = ap length e in
     omega (arith, fewer, long, same, count)
+
+-- where nothing is left on the stack, all was found
+pub left-nothing : (V : World) (xs put found all : List Reference) → IsLeft V xs put [] found all → found ≡ all
+left-nothing V xs put found all h = sym (append-none found) ∙ ap (λ l. found ++ l) (sym (none h.fuel)) ∙ h.joins
+  where
+    none : (n : ℕ) → off_stack n V h.before [] ≡ []
+    none zero = refl
+    none (suc n) = refl

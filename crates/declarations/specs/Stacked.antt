@@ -10,7 +10,7 @@ use Rattle.declarations.specs.Applied.{references_in}
 -- The trait references that were never on the stack are pushed, each once.
 pub record StacksUnseen (es : List Entry) (references : List TraitRef) (old new : Elaborator) : Type 0 where
   pub added : List TraitRef
-  pub are_new : references_in es added ≡ new_of (references_in es old.visited.items) (references_in es references)
+  pub are_new : references_in es added ≡ new_of (references_in es old.visited.keys) (references_in es references)
   pub among : (r : TraitRef) → In r added → In r references
-  pub visited : new.visited.items ≡ old.visited.items ++ added
+  pub visited : new.visited.keys ≡ old.visited.keys ++ added
   pub stack : new.stack.items ≡ old.stack.items ++ added

@@ -1,6 +1,5 @@
 //! Supertraits of trait references.
-ghost use Rattle.std.specs.Prelude.{◌≡◌, ◌&&◌, ◌==◌, ◌++◌, ◌∷◌, [], IfOk, IfErr, OnOk, None};
-ghost use Rattle.std.specs.List.{list_any};
+ghost use Rattle.std.specs.Prelude.{◌≡◌, ◌++◌, ◌∷◌, [], IfOk, IfErr, OnOk, None};
 ghost use Rattle.type_terms.specs.Trees.{outer_binder};
 ghost use Rattle.type_terms.specs.Promised.Worlds.{with_args, all_with_args};
 ghost use Rattle.type_terms.specs.Promised.Rules.{written_supertraits};
@@ -17,6 +16,7 @@ ghost use Rattle.declarations.specs.Stacked.{StacksUnseen};
 ghost use Rattle.declarations.specs.Promised.Elaboration.{Each};
 
 use crate::declarations::Declarations;
+use indexmap::IndexSet;
 use std::alloc::Global;
 use term_folds::binder::EarlyBinder;
 use term_folds::instantiate::InstantiateError;
@@ -86,34 +86,39 @@ fn instantiate_bounds(
     Ok(found)
 }
 
-fn is_among(references: &[TraitRef], trait_ref: TraitRef) -> bool
-    ensures { result ≡ list_any (λ s. (trait_ref.def_id.index == s.def_id.index) && (trait_ref.args.0 == s.args.0)) references.now }
-{
-    references.iter().any(|other| {
-        trait_ref.def_id.index == other.def_id.index && trait_ref.args.0 == other.args.0
-    })
-}
+/// A list of so many trait references is not made longer, since supertraits with arguments may double at each level: it would be larger
+/// than any memory. As many nested goals may a goal have whose results cannot be reused.
+const ELABORATED_LIMIT: usize = 65_536;
 
 /// The trait references that wait to be elaborated, and all that ever did (`Elaborator`).
-#[derive(Drop)]
 struct Elaborator {
     stack: Vec<TraitRef>,
-    visited: Vec<TraitRef>,
+    visited: IndexSet<TraitRef>,
+}
+
+// Hand-written so that the prover sees one drop call: docs/PROVING.md#drop.
+impl Drop for Elaborator {
+    fn drop(self) {
+        let Elaborator {
+            stack: _,
+            visited: _,
+        } = self;
+    }
 }
 
 impl Elaborator {
     /// Pushes those that were never pushed before (`extend_deduped`). The error is `Memory`.
     fn extend_deduped(&mut self, cx: &Interner, references: &[TraitRef]) -> Result<(), Fault>
         requires held { TraitRefsHeld cx.now.entries references.now }
-        requires visited { TraitRefsHeld cx.now.entries self.old.visited.items }
+        requires visited { TraitRefsHeld cx.now.entries self.old.visited.keys }
         ensures extends { OnOk result (StacksUnseen cx.now.entries references.now self.old self.new) }
         ensures memory { IfErr result (λ fault. fault ≡ Memory) }
     {
         cx.lawful();
         let mut left = references;
         'references: while let Some((next, others)) = left.split_first() {
-            if !is_among(&self.visited, *next) {
-                put(&mut self.visited, *next)?;
+            let is_new = self.visited.insert(*next)?;
+            if is_new {
                 put(&mut self.stack, *next)?;
             }
             left = others;
@@ -149,7 +154,8 @@ impl Declarations {
     /// The trait references with their supertraits through all levels, each once (`elaborate`). They are pushed on a stack in their
     /// order. Each step pops the last one and pushes its declared supertraits. For `S: A1 + B1` it is `S`, `B1`, `A1`.
     ///
-    /// Each reference has its trait's arguments, and no trait is its own supertrait. The error is `Memory` or `Full`.
+    /// Each reference has its trait's arguments, and no trait is its own supertrait. The error is `Memory` or `Full`. A list of more than
+    /// 65,536 is refused as if memory were.
     pub fn elaborate(
         &self,
         alloc: Global,
@@ -168,11 +174,14 @@ impl Declarations {
     {
         let mut elaborator = Elaborator {
             stack: Vec::new(alloc),
-            visited: Vec::new(alloc),
+            visited: IndexSet::new(alloc),
         };
         elaborator.extend_deduped(cx, references)?;
         let mut found = Vec::new(alloc);
         'stack: while let Some(next) = elaborator.stack.pop() {
+            if found.len() >= ELABORATED_LIMIT {
+                return Err(Fault::Memory);
+            }
             put(&mut found, next)?;
             let supertraits = self.written_supertraits(alloc, cx, next)?;
             elaborator.extend_deduped(cx, &supertraits)?;
