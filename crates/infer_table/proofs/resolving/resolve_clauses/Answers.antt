@@ -17,8 +17,8 @@ loop-clause-init c = record {
   resolved = rw c.new-resolved.ensures.items (resolved-nothing (content c.args.cx.now.entries c.args.table.now.values));
 }
 
-pub eager_resolve_vars-requires-clause-held : goal.eager_resolve_vars-requires-clause-held
-eager_resolve_vars-requires-clause-held c =
+pub resolve-requires-clause-held : goal.resolve-requires-clause-held
+resolve-requires-clause-held c =
     let es = c.args.cx.now.entries in
     let x = c.clause-item.result in
     let had : ClauseHeld es x = rw c.clause-item.is (clause-held-at es c.args.clauses.now c.loop-clause.clause-index x c.requires.held c.loop-clause-test.true) in
@@ -28,22 +28,22 @@ pub loop-clause-preserved : goal.loop-clause-preserved
 loop-clause-preserved c =
     let es = c.args.cx.now.entries in
     let now = c.loop-clause.cx.entries in
-    let next = c.eager_resolve_vars.new.cx.entries in
+    let next = c.resolve.new.cx.entries in
     let inv = c.loop-clause.invariant in
     let xs = c.args.clauses.now in
     let i = c.loop-clause.clause-index in
     let ys = c.loop-clause.resolved.items in
     let x = c.clause-item.result in
     let y = c.in_ok-next.next in
-    let k = c.eager_resolve_vars.ensures.terms.grew.keeps in
+    let k = c.resolve.ensures.terms.grew.keeps in
     let bs = content es c.args.table.now.values in
     let had : ClauseHeld es x = rw c.clause-item.is (clause-held-at es xs i x c.requires.held c.loop-clause-test.true) in
     let pieces : clause_pieces next y ≡ each_piece (λ d t. resolved bs t) (clause_pieces now x) =
     c.in_ok-next.ensures.resolved ∙ ap (λ z. each_piece (λ d t. resolved z t) (clause_pieces now x)) (content-kept es now c.args.table.now.values inv.keeps c.requires.ready.held) in
     record {
       keeps = λ j e h. k j e (inv.keeps j e h);
-      limit = c.eager_resolve_vars.ensures.terms.grew.limit ∙ inv.limit;
-      ready = c.eager_resolve_vars.ensures.ready;
+      limit = c.resolve.ensures.terms.grew.limit ∙ inv.limit;
+      ready = c.resolve.ensures.ready;
       held = rw c.in_ok-push.ensures.items (clauses-held-push next ys y (clauses-held-later now next k ys inv.held) c.in_ok-next.ensures.held);
       resolved = rw c.in_ok-push.ensures.items
           (one-more-resolved bs es now next inv.keeps k xs ys i x y c.loop-clause-test.true c.clause-item.is had inv.held inv.resolved c.in_ok-next.ensures.outline pieces);

@@ -15,12 +15,12 @@ use Rattle.type_terms.proofs.ListBasics.{head}
 pub resolve_clauses-requires-clause-held : goal.resolve_clauses-requires-clause-held
 resolve_clauses-requires-clause-held c = rw c.deref.ensures.value c.requires.held.environment
 
-pub eager_resolve_vars-requires-clause-held : goal.eager_resolve_vars-requires-clause-held
-eager_resolve_vars-requires-clause-held c = has-later c.args.cx.now.entries c.resolve_clauses.new.cx.entries c.resolve_clauses.ensures.terms.grew.keeps args_lists c.args.goal.now.predicate.trait_ref.args.0 c.requires.held.predicate
+pub resolve-requires-clause-held : goal.resolve-requires-clause-held
+resolve-requires-clause-held c = has-later c.args.cx.now.entries c.resolve_clauses.new.cx.entries c.resolve_clauses.ensures.terms.grew.keeps args_lists c.args.goal.now.predicate.trait_ref.args.0 c.requires.held.predicate
 
 pub returns-clause-held : goal.returns-clause-held
 returns-clause-held c = record {
-  environment = clauses-held-later c.resolve_clauses.new.cx.entries c.eager_resolve_vars.new.cx.entries c.eager_resolve_vars.ensures.terms.grew.keeps c.in_ok-param_env.param_env.items c.in_ok-param_env.ensures.held;
+  environment = clauses-held-later c.resolve_clauses.new.cx.entries c.resolve.new.cx.entries c.resolve.ensures.terms.grew.keeps c.in_ok-param_env.param_env.items c.in_ok-param_env.ensures.held;
   predicate = c.in_ok-predicate.ensures.held;
 }
 
@@ -28,14 +28,14 @@ pub returns-clause-resolved : goal.returns-clause-resolved
 returns-clause-resolved c =
     let es = c.args.cx.now.entries in
     let mid = c.resolve_clauses.new.cx.entries in
-    let end = c.eager_resolve_vars.new.cx.entries in
+    let end = c.resolve.new.cx.entries in
     let k = c.resolve_clauses.ensures.terms.grew.keeps in
     let vs = c.args.table.now.values in
     let bs = content es vs in
     let p = c.args.goal.now.predicate.trait_ref in
     let q = c.in_ok-predicate.predicate.trait_ref in
     let env =
-    environment-later mid end c.eager_resolve_vars.ensures.terms.grew.keeps c.in_ok-param_env.param_env.items c.in_ok-param_env.ensures.held
+    environment-later mid end c.resolve.ensures.terms.grew.keeps c.in_ok-param_env.param_env.items c.in_ok-param_env.ensures.held
     ∙ c.in_ok-param_env.ensures.resolved ∙ ap (λ z. resolved bs (environment_trees es z)) c.deref.ensures.value in
     let pieces : one_piece (trees_at end q.args.0) ≡ each_piece (λ d t. resolved bs t) (one_piece (trees_at es p.args.0)) =
     c.in_ok-predicate.ensures.resolved
