@@ -5,6 +5,8 @@ use Rattle.std.proofs.lemmas.Bool.{eq-eqb, eqb-true, ne_eqb}
 use Rattle.std.proofs.lemmas.List.Elements.{All-head, All-tail}
 use Rattle.std.proofs.lemmas.List.Quantifiers.{position-Some}
 use Rattle.std.proofs.lemmas.List.{length-append}
+use Rattle.std.proofs.lemmas.Option.{slice_get-get_or}
+use Rattle.std.specs.Prelude.{Option, None, IfSome}
 use Rattle.std.proofs.Math.ListN.{set}
 use Rattle.std.specs.Int.Bits.{or_zero_l, or_zero_r}
 use Rattle.std.specs.Int.RustNames.{bit_or}
@@ -26,6 +28,15 @@ paths_to-append (h ∷ hs) ks place =
       | true ↦ ap (bit_or h.paths.0) (paths_to-append hs ks place) ∙ or_assoc h.paths.0 (paths_to hs place) (paths_to ks place)
       | false ↦ paths_to-append hs ks place
     ]
+
+-- the first head of the goal is one of it
+pub head_found : (hs : List CycleHead) (index : ℕ) (place : Option ℕ) → place ≡ position (λ (head : CycleHead). eqb head.index index) hs
+    → IfSome place (λ at. (head : CycleHead) × (slice_get hs at ≡ Some head) × (head.index ≡ index))
+head_found hs index None is = tt
+head_found hs index (Some place) is =
+    let none : CycleHead = record { index = 0; paths = record { 0 = 0 } } in
+    let at = position-Some (λ (head : CycleHead). eqb head.index index) hs place none (sym is) in
+    (get_or hs place none, slice_get-get_or hs place none at.0, eqb-true _ index at.1)
 
 -- a known head gets further paths
 pub paths_to-set : (hs : List CycleHead) (i : ℕ) (k u : CycleHead) (q place : ℕ) → i < length hs → k ≡ get_or hs i k → u.index ≡ k.index → u.paths.0 ≡ bit_or k.paths.0 q

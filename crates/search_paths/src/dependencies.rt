@@ -1,6 +1,7 @@
 //! What the evaluation of a goal depends on.
 
-ghost use Rattle.std.specs.Prelude.{◌≡◌, ◌≢◌, ◌==◌, ◌+◌, ◌-◌, ◌^◌, ◌++◌, ◌∷◌, ◌↔◌, [], ℕ, min, max, position, ◌||◌, All, IfOk, IfSome, IfNone, IsPermutation, OnOk, None, false};
+ghost use Rattle.std.specs.Prelude.{◌≡◌, ◌≢◌, ◌==◌, ◌+◌, ◌-◌, ◌^◌, ◌++◌, ◌∷◌, ◌↔◌, [], ℕ, min, max, position, slice_get, ◌||◌, All, IfOk, IfSome, IfNone, IsPermutation, OnOk, Some, None, false};
+ghost use Rattle.search_paths.specs.declared.dependencies.CycleHead.{CycleHead};
 ghost use Rattle.std.specs.Int.RustNames.{bit_or};
 ghost use Rattle.search_paths.specs.Heads.{paths_to, RestsOn, IsFirstOf, AreHeadsOfBoth, AreReadThrough};
 ghost use Rattle.search_paths.specs.KeptPaths.{indices, AreBelow};
@@ -153,15 +154,18 @@ pub fn forget_paths(alloc: Global, heads: &mut Vec<CycleHead>) -> Result<(), All
     rest_on(heads, &places)
 }
 
-/// Adds the paths of a head, if the list has it.
-fn add_paths(heads: &mut Vec<CycleHead>, read: CycleHead)
+/// Adds the paths of a head, if the list has it. It is looked for from `start` on first. Returns where to begin with the next head.
+fn add_paths(heads: &mut Vec<CycleHead>, read: CycleHead, start: usize) -> usize
     ensures same { indices heads.new.items ≡ indices heads.old.items }
     ensures counted { (place : ℕ) → RestsOn heads.old.items place
         → paths_to heads.new.items place ≡ bit_or (paths_to heads.old.items place) (paths_to (read ∷ []) place) }
 {
-    match place_of(heads, read.index) {
-        Some(place) => heads[place].paths.insert(read.paths),
-        None => {}
+    match place_from(heads, read.index, start) {
+        Some(place) => {
+            heads[place].paths.insert(read.paths);
+            place
+        }
+        None => start,
     }
 }
 
@@ -171,8 +175,9 @@ pub fn add_all_paths(heads: &mut Vec<CycleHead>, more: &[CycleHead])
     ensures counted { (place : ℕ) → RestsOn heads.old.items place
         → paths_to heads.new.items place ≡ bit_or (paths_to heads.old.items place) (paths_to more.now place) }
 {
+    let mut start = 0;
     for head in more {
-        add_paths(heads, *head);
+        start = add_paths(heads, *head, start);
     }
 }
 
@@ -182,8 +187,9 @@ pub fn merge_heads(heads: &mut Vec<CycleHead>, more: &[CycleHead]) -> Result<(),
     ensures united { OnOk result ((place : ℕ) → paths_to heads.new.items place ≡ bit_or (paths_to heads.old.items place) (paths_to more.now place)) }
     ensures rests { OnOk result (AreHeadsOfBoth heads.old.items more.now heads.new.items) }
 {
+    let mut start = 0;
     for head in more {
-        add_head(heads, *head)?;
+        start = add_head(heads, *head, start)?;
     }
     Ok(())
 }
@@ -197,26 +203,46 @@ pub fn rest_through(
     ensures read { OnOk result (AreReadThrough paths.0 heads.old.items more.now heads.new.items) }
     ensures rests { OnOk result (AreHeadsOfBoth heads.old.items more.now heads.new.items) }
 {
+    let mut start = 0;
     for head in more {
         let read = CycleHead {
             index: head.index,
             paths: head.paths.extend_with_each(paths),
         };
-        add_head(heads, read)?;
+        start = add_head(heads, read, start)?;
     }
     Ok(())
 }
 
-/// Adds a head, or its paths if the list has it.
-fn add_head(heads: &mut Vec<CycleHead>, head: CycleHead) -> Result<(), AllocError>
+/// Adds a head, or its paths if the list has it. It is looked for from `start` on first. Returns where to begin with the next head.
+fn add_head(heads: &mut Vec<CycleHead>, head: CycleHead, start: usize) -> Result<usize, AllocError>
     ensures united { OnOk result ((place : ℕ) → paths_to heads.new.items place ≡ bit_or (paths_to heads.old.items place) (paths_to (head ∷ []) place)) }
     ensures rests { OnOk result (AreHeadsOfBoth heads.old.items (head ∷ []) heads.new.items) }
 {
-    match place_of(heads, head.index) {
-        Some(place) => heads[place].paths.insert(head.paths),
-        None => heads.push(head)?,
+    match place_from(heads, head.index, start) {
+        Some(place) => {
+            heads[place].paths.insert(head.paths);
+            Ok(place)
+        }
+        None => {
+            heads.push(head)?;
+            Ok(start)
+        }
     }
-    Ok(())
+}
+
+/// Returns a position in the list of the head that is the goal with this index in the stack. It looks from `start` on first: two lists
+/// mostly have their heads in one order, so that a merge of both takes time in proportion to their lengths.
+fn place_from(heads: &[CycleHead], index: usize, start: usize) -> Option<usize>
+    ensures found { IfSome result (λ place. (head : CycleHead) × (slice_get heads.now place ≡ Some head) × (head.index ≡ index)) }
+    ensures absent { IfNone result (All (λ head. head.index ≢ index) heads.now) }
+{
+    for place in start..heads.len() {
+        if heads[place].index == index {
+            return Some(place);
+        }
+    }
+    place_of(heads, index)
 }
 
 /// Returns the position in the list of the head that is the goal with this index in the stack.

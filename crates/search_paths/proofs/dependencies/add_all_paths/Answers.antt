@@ -21,9 +21,9 @@ loop-head-preserved c =
     let head : CycleHead = get_or more i record { index = 0; paths = record { 0 = 0 } } in
     let longer : take (i + 1) more ≡ take i more ++ head ∷ [] = rw add-one (take-suc more i record { index = 0; paths = record { 0 = 0 } } test) in
     record {
-      same = c.add_paths.ensures.same ∙ inv.same;
+      same = c.add_paths-start.ensures.same ∙ inv.same;
       counted = λ place there.
-          c.add_paths.ensures.counted place (subst (IsHead place) (sym inv.same) there)
+          c.add_paths-start.ensures.counted place (subst (IsHead place) (sym inv.same) there)
           ∙ ap (λ n. bit_or n (paths_to (head ∷ []) place)) (inv.counted place there)
           ∙ or-assoc (paths_to c.args.heads.now.items place) (paths_to (take i more) place) (paths_to (head ∷ []) place)
           ∙ ap (bit_or (paths_to c.args.heads.now.items place)) (sym (paths_to-append (take i more) (head ∷ []) place) ∙ ap (λ xs. paths_to xs place) (sym longer));

@@ -1,7 +1,6 @@
 use Rattle.std.proofs.Common.{◌≡◌, List, Some, cond, eqb, ◌∷◌, [], ap, sym, refl, ◌∙◌}
-use Rattle.std.proofs.lemmas.Bool.{eqb-true}
-use Rattle.std.proofs.lemmas.List.Quantifiers.{position-Some}
-use Rattle.std.specs.List.{position}
+use Rattle.std.proofs.lemmas.Option.{same_Some, slice_get_read, slice_get_within}
+use Rattle.std.specs.List.{slice_get}
 use Rattle.std.specs.Int.RustNames.{bit_or}
 use Rattle.search_paths.specs.declared.dependencies.CycleHead.{CycleHead}
 use Rattle.search_paths.specs.Heads.{paths_to}
@@ -12,12 +11,12 @@ pub returns-in-Some-clause-united : goal.returns-in-Some-clause-united
 returns-in-Some-clause-united c = λ place.
     let hs : List CycleHead = c.args.heads.now.items in
     let known : CycleHead = c.index_mut.result.now in
-    let test : CycleHead → _ = λ (head : CycleHead). eqb head.index c.args.head.index in
-    let found : position test hs ≡ Some c.in-Some.place = sym (c.in-Some.ensures.first ∙ (λ i. position test (c.deref.ensures.value i))) in
-    let at = position-Some test hs c.in-Some.place known found in
+    let found = rw c.deref.ensures.value at c.in-Some.ensures.found in
+    let inside = slice_get_within hs c.in-Some.place found.0 found.1 in
     let is : known ≡ _ = c.index_mut.ensures.value in
-    let same : known.index ≡ c.args.head.index = eqb-true known.index c.args.head.index ((λ i. eqb (is i).index c.args.head.index) ∙ at.1) in
-    paths_to-set hs c.in-Some.place known _ c.args.head.paths.0 place at.0 is refl (c.insert.ensures tt)
+    let read : slice_get hs c.in-Some.place ≡ Some known = slice_get_read _ _ _ _ refl inside is in
+    let same : known.index ≡ c.args.head.index = ap (λ (head : CycleHead). head.index) (same_Some known found.0 (sym read ∙ found.1)) ∙ found.2 in
+    paths_to-set hs c.in-Some.place known _ c.args.head.paths.0 place inside is refl (c.insert.ensures tt)
     ∙ ap (λ i. bit_or (paths_to hs place) (cond (eqb i place) (bit_or c.args.head.paths.0 0) 0)) same
 
 pub returns-in_ok-push-in-None-clause-united : goal.returns-in_ok-push-in-None-clause-united
@@ -28,12 +27,12 @@ pub returns-in-Some-clause-rests : goal.returns-in-Some-clause-rests
 returns-in-Some-clause-rests c =
     let hs : List CycleHead = c.args.heads.now.items in
     let known : CycleHead = c.index_mut.result.now in
-    let test : CycleHead → _ = λ (head : CycleHead). eqb head.index c.args.head.index in
-    let found : position test hs ≡ Some c.in-Some.place = sym (c.in-Some.ensures.first ∙ (λ i. position test (c.deref.ensures.value i))) in
-    let at = position-Some test hs c.in-Some.place known found in
+    let found = rw c.deref.ensures.value at c.in-Some.ensures.found in
+    let inside = slice_get_within hs c.in-Some.place found.0 found.1 in
     let is : known ≡ _ = c.index_mut.ensures.value in
-    let same : known.index ≡ c.args.head.index = eqb-true known.index c.args.head.index ((λ i. eqb (is i).index c.args.head.index) ∙ at.1) in
-    rests_set hs c.in-Some.place known _ c.args.head at.0 is refl same
+    let read : slice_get hs c.in-Some.place ≡ Some known = slice_get_read _ _ _ _ refl inside is in
+    let same : known.index ≡ c.args.head.index = ap (λ (head : CycleHead). head.index) (same_Some known found.0 (sym read ∙ found.1)) ∙ found.2 in
+    rests_set hs c.in-Some.place known _ c.args.head inside is refl same
 
 pub returns-in_ok-push-in-None-clause-rests : goal.returns-in_ok-push-in-None-clause-rests
 returns-in_ok-push-in-None-clause-rests c = rw c.in_ok-push-in-None.ensures.items (rests_append c.args.heads.now.items (c.args.head ∷ []))

@@ -24,11 +24,11 @@ loop-head-preserved c =
           let head : CycleHead = get_or more i record { index = 0; paths = record { 0 = 0 } } in
           let longer : take (i + 1) more ≡ take i more ++ head ∷ [] = rw add-one (take-suc more i record { index = 0; paths = record { 0 = 0 } } test) in
           subst (λ l. AreHeadsOfBoth c.args.heads.now.items l c.add_head.new.heads.items) (sym longer)
-          (rests_further c.args.heads.now.items (take i more) (head ∷ []) c.loop-head.heads.items c.add_head.new.heads.items inv.rests c.in_ok-add_head.ensures.rests);
+          (rests_further c.args.heads.now.items (take i more) (head ∷ []) c.loop-head.heads.items c.add_head.new.heads.items inv.rests c.in_ok-start.ensures.rests);
       united = λ place.
           let head : CycleHead = get_or more i record { index = 0; paths = record { 0 = 0 } } in
           let longer : take (i + 1) more ≡ take i more ++ head ∷ [] = rw add-one (take-suc more i record { index = 0; paths = record { 0 = 0 } } test) in
-          c.in_ok-add_head.ensures.united place
+          c.in_ok-start.ensures.united place
           ∙ ap (λ n. bit_or n (paths_to (head ∷ []) place)) (inv.united place)
           ∙ or-assoc (paths_to c.args.heads.now.items place) (paths_to (take i more) place) (paths_to (head ∷ []) place)
           ∙ ap (bit_or (paths_to c.args.heads.now.items place)) (sym (paths_to-append (take i more) (head ∷ []) place) ∙ ap (λ xs. paths_to xs place) (sym longer));

@@ -20,10 +20,10 @@ loop-head-preserved c =
     record {
       rests =
           subst (λ l. AreHeadsOfBoth c.args.heads.now.items l c.add_head.new.heads.items) (sym longer)
-          (rests_further c.args.heads.now.items (take i more) (head ∷ []) c.loop-head.heads.items c.add_head.new.heads.items c.loop-head.invariant.rests c.in_ok-add_head.ensures.rests);
+          (rests_further c.args.heads.now.items (take i more) (head ∷ []) c.loop-head.heads.items c.add_head.new.heads.items c.loop-head.invariant.rests c.in_ok-start.ensures.rests);
       read =
           subst (λ l. AreReadThrough c.args.paths.0 c.args.heads.now.items l c.add_head.new.heads.items) (sym longer)
-          (through_further c.args.paths.0 c.args.heads.now.items (take i more) c.loop-head.heads.items c.add_head.new.heads.items head _ c.loop-head.invariant.read c.in_ok-add_head.ensures.united refl c.extend_with_each.ensures);
+          (through_further c.args.paths.0 c.args.heads.now.items (take i more) c.loop-head.heads.items c.add_head.new.heads.items head _ c.loop-head.invariant.read c.in_ok-start.ensures.united refl c.extend_with_each.ensures);
     }
 
 pub returns-clause-read : goal.returns-clause-read
