@@ -80,13 +80,21 @@ abbrev pub IsAskedUnder : List Asked → ℕ → ℕ → Type 0
 IsAskedUnder asked place number = ((e : Asked) × (slice_get asked place ≡ Some e) × IsAsked e number)
     ⊎ ((below : ℕ) × (e : Asked) × IsUsedUnder asked place below × (slice_get asked below ≡ Some e) × ((e.number ≡ number) ⊎ IsAsked e number))
 
+-- no goal that was asked under that at the place is on the stack
+abbrev pub IsClear : List Asked → (ℕ → Type 0) → ℕ → Type 0
+IsClear asked IsOnStack place = (n : ℕ) → IsAskedUnder asked place n → IsOnStack n → ⊥
+
+-- each goal that is noted for a place was asked under the goal there
+abbrev pub AreBlockers : List (Option ℕ) → List Asked → Type 0
+AreBlockers blockers asked = (place number : ℕ) → get_or blockers place None ≡ Some number → (IsAskedUnder asked place number → ⊥) → ⊥
+
 module _ {I R : Type 0} where
   -- the goal with this number, input and depth may use the result: none of its nested goals is on the stack
   pub record IsUsable (asked : List Asked) (IsOnStack : ℕ → Type 0) (number : ℕ) (input : I) (depth : ℕ) (e : CacheEntry I R) : Type 0 where
     pub numbered : e.number ≡ number
     pub same : e.input ≡ input
     pub within : IsWithinDepth e.encountered_overflow e.depth depth
-    pub clear : (n : ℕ) → IsAskedUnder asked e.asked n → IsOnStack n → ⊥
+    pub clear : IsClear asked IsOnStack e.asked
 
   -- such a result is at the index
   abbrev pub IsUsableAt : List (CacheEntry I R) → List Asked → (ℕ → Type 0) → ℕ → I → ℕ → ℕ → Type 0

@@ -4,8 +4,9 @@ ghost use Rattle.std.specs.Prelude.{◌≡◌, ◌↔◌, ◌+◌, ◌<◌, ◌�
 ghost use Rattle.std.proofs.Props.{props};
 ghost use Rattle.indexmap.specs.IndexMap.{ContainsKey};
 ghost use Rattle.search_graph.specs.declared.newest.Chain.{Chain};
-ghost use Rattle.search_graph.specs.Chain.{newest_of, newest_in, number_of_chain, IsInChainAt, AreLinked, IsAskedUnder, IsWithinDepth, AllInRange, AreCovered, AreRecorded};
+ghost use Rattle.search_graph.specs.Chain.{newest_of, newest_in, number_of_chain, IsInChainAt, AreLinked, IsWithinDepth, AllInRange, AreCovered, AreRecorded};
 ghost use Rattle.search_graph.specs.Chain.{AreInRange, range_of, IsUsableAt, NoneIsUsable, NoneIsUsableAlong, IsReachedOrApart, IsNotedBy, KeepsNoted, AreNoted};
+ghost use Rattle.search_graph.specs.Chain.{IsAskedUnder, IsClear, AreBlockers};
 ghost use Rattle.search_paths.specs.Nested.{IsWithin};
 ghost use Rattle.indexmap.specs.IndexSet.{insert_key};
 ghost use Rattle.search_graph.specs.Meaning.{KeepsContext};
@@ -16,7 +17,7 @@ ghost use Rattle.search_graph.specs.Question.{IsKeptResult, IsNotPlainAt, IsWith
 
 use crate::delegate::{Cx, Delegate, InputOf, ResultOf};
 use crate::fault::GraphFault;
-use crate::newest::{Chain, Newest};
+use crate::newest::{Chain, Newest, make_room};
 use crate::stack::NestedGoal;
 use indexmap::{IndexMap, IndexSet};
 use search_paths::{NestedGoals, PathKind, Span};
@@ -95,12 +96,15 @@ pub struct CachedResults<D: Delegate> {
     pub asked: Vec<Asked>,
     /// The first index in `asked` at which each goal is listed, or `usize::MAX`, by the goal's number.
     first: Vec<usize>,
+    /// A nested goal of each goal of `asked` that was on the stack when its result was looked for last.
+    blockers: Vec<Option<usize>>,
     ghost listed: { (chain : Chain) → newest_in newest chain ≡ newest_of entries.items chain } by { Prim.hlevel props },
     ghost linked: { AreLinked entries.items } by { Prim.hlevel props },
     pub ghost numbered: { (place : ℕ) (e : _) → slice_get entries.items place ≡ Some e → IsNumberOf D.Cx.Input.eq goals.keys e.input e.number } by { Prim.hlevel props },
     pub ghost recorded: { AreRecorded entries.items asked.items } by { Prim.hlevel props },
     pub ghost covered: { AreCovered asked.items } by { Prim.hlevel props },
     ghost noted: { AreNoted first.items asked.items } by { Prim.hlevel props },
+    ghost blocked: { AreBlockers blockers.items asked.items } by { Prim.hlevel props },
     pub ghost consistent: { AreConsistent (known_results entries.items) } by { Prim.hlevel props },
 }
 
@@ -113,6 +117,7 @@ impl<D: Delegate> Drop for CachedResults<D> {
             entries: _,
             asked: _,
             first: _,
+            blockers: _,
         } = self;
     }
 }
@@ -131,6 +136,7 @@ impl<D: Delegate> CachedResults<D> {
             entries: Vec::new(alloc),
             asked: Vec::new(alloc),
             first: Vec::new(alloc),
+            blockers: Vec::new(alloc),
         }
     }
 
@@ -160,7 +166,7 @@ impl<D: Delegate> CachedResults<D> {
     ///
     /// It reads the successes of the goal and its overflows at this very depth. No other overflow may be used.
     pub(crate) fn find(
-        &self,
+        &mut self,
         positions: &IndexMap<usize, usize>,
         on_stack: Span,
         number: usize,
@@ -169,9 +175,12 @@ impl<D: Delegate> CachedResults<D> {
     ) -> Result<Option<usize>, AllocError>
         requires range { AllInRange (ContainsKey nat_eq positions.now) on_stack }
         ensures found { IfOk result
-            (λ found. IfSome found (IsUsableAt self.now.entries.items self.now.asked.items (ContainsKey nat_eq positions.now) number input.now depth)) }
+            (λ found. IfSome found (IsUsableAt self.old.entries.items self.old.asked.items (ContainsKey nat_eq positions.now) number input.now depth)) }
         ensures none { IfOk result
-            (λ found. IfNone found (NoneIsUsable self.now.entries.items self.now.asked.items (ContainsKey nat_eq positions.now) number input.now depth)) }
+            (λ found. IfNone found (NoneIsUsable self.old.entries.items self.old.asked.items (ContainsKey nat_eq positions.now) number input.now depth)) }
+        ensures entries { self.new.entries ≡ self.old.entries }
+        ensures asked { self.new.asked ≡ self.old.asked }
+        ensures goals { self.new.goals ≡ self.old.goals }
     {
         let successes = Chain::Successes(number);
         let found = self.find_along(positions, on_stack, successes, input, depth)?;
@@ -189,7 +198,7 @@ impl<D: Delegate> CachedResults<D> {
 
     /// The index of such a result in the chain.
     fn find_along(
-        &self,
+        &mut self,
         positions: &IndexMap<usize, usize>,
         on_stack: Span,
         chain: Chain,
@@ -198,9 +207,12 @@ impl<D: Delegate> CachedResults<D> {
     ) -> Result<Option<usize>, AllocError>
         requires range { AllInRange (ContainsKey nat_eq positions.now) on_stack }
         ensures found { IfOk result (λ found. IfSome found
-            (IsUsableAt self.now.entries.items self.now.asked.items (ContainsKey nat_eq positions.now) (number_of_chain chain) input.now depth)) }
+            (IsUsableAt self.old.entries.items self.old.asked.items (ContainsKey nat_eq positions.now) (number_of_chain chain) input.now depth)) }
         ensures none { IfOk result (λ found. IfNone found
-            (NoneIsUsableAlong chain self.now.entries.items self.now.asked.items (ContainsKey nat_eq positions.now) input.now depth)) }
+            (NoneIsUsableAlong chain self.old.entries.items self.old.asked.items (ContainsKey nat_eq positions.now) input.now depth)) }
+        ensures entries { self.new.entries ≡ self.old.entries }
+        ensures asked { self.new.asked ≡ self.old.asked }
+        ensures goals { self.new.goals ≡ self.old.goals }
     {
         let mut next = self.newest.get(chain);
         for _ in 0..self.entries.len() {
@@ -211,40 +223,89 @@ impl<D: Delegate> CachedResults<D> {
                 return Ok(None);
             }
             let entry = &self.entries[place];
+            let asked = entry.asked;
+            next = entry.previous;
             if entry.input == *input
                 && is_usable(entry.encountered_overflow, entry.depth, depth)
-                && self.is_clear_of(positions, on_stack, entry.asked)?
+                && self.is_clear_of(positions, on_stack, asked)?
             {
                 return Ok(Some(place));
             }
-            next = entry.previous;
         }
         Ok(None)
     }
 
-    /// Whether no nested goal of the goal at `asked[place]` is on the stack.
+    /// Whether no nested goal of the goal at `asked[place]` is on the stack. One that is there is noted. The next time it is looked for
+    /// first: the results of a goal in a cycle may be many, and are in the way of the same goals.
     fn is_clear_of(
-        &self,
+        &mut self,
         positions: &IndexMap<usize, usize>,
         on_stack: Span,
         place: usize,
     ) -> Result<bool, AllocError>
         requires range { AllInRange (ContainsKey nat_eq positions.now) on_stack }
-        ensures asked { IfOk result (λ clear. clear ≡ false
-            → (asked : ℕ) × IsAskedUnder self.now.asked.items place asked × ContainsKey nat_eq positions.now asked) }
-        ensures clear { IfOk result (λ clear. clear ≡ true → (asked : ℕ) → IsAskedUnder self.now.asked.items place asked
-            → ContainsKey nat_eq positions.now asked → ⊥) }
+        ensures clear { IfOk result (λ clear. clear ≡ true → IsClear self.old.asked.items (ContainsKey nat_eq positions.now) place) }
+        ensures blocked { IfOk result (λ clear. clear ≡ false → IsClear self.old.asked.items (ContainsKey nat_eq positions.now) place → ⊥) }
+        ensures entries { self.new.entries ≡ self.old.entries }
+        ensures asked { self.new.asked ≡ self.old.asked }
+        ensures goals { self.new.goals ≡ self.old.goals }
+    {
+        if self.is_blocked(positions, place) {
+            return Ok(false);
+        }
+        match self.find_blocker(positions, on_stack, place)? {
+            Some(number) => {
+                self.note_blocker(place, number)?;
+                Ok(false)
+            }
+            None => Ok(true),
+        }
+    }
+
+    /// Whether the nested goal that is noted for the goal at `asked[place]` is on the stack.
+    fn is_blocked(&self, positions: &IndexMap<usize, usize>, place: usize) -> bool
+        ensures { result ≡ true → IsClear self.now.asked.items (ContainsKey nat_eq positions.now) place → ⊥ }
+    {
+        match self.blockers.get(place) {
+            Some(Some(number)) => positions.contains_key(number),
+            _ => false,
+        }
+    }
+
+    /// Notes a nested goal of the goal at `asked[place]`.
+    fn note_blocker(&mut self, place: usize, number: usize) -> Result<(), AllocError>
+        requires { IsAskedUnder self.old.asked.items place number }
+        ensures entries { self.new.entries ≡ self.old.entries }
+        ensures asked { self.new.asked ≡ self.old.asked }
+        ensures goals { self.new.goals ≡ self.old.goals }
+    {
+        make_room(&mut self.blockers, place)?;
+        self.blockers[place] = Some(number);
+        Ok(())
+    }
+
+    /// A nested goal of the goal at `asked[place]` that is on the stack.
+    fn find_blocker(
+        &self,
+        positions: &IndexMap<usize, usize>,
+        on_stack: Span,
+        place: usize,
+    ) -> Result<Option<usize>, AllocError>
+        requires range { AllInRange (ContainsKey nat_eq positions.now) on_stack }
+        ensures asked { IfOk result (λ found. IfSome found
+            (λ number. IsAskedUnder self.now.asked.items place number × ContainsKey nat_eq positions.now number)) }
+        ensures clear { IfOk result (λ found. IfNone found (IsClear self.now.asked.items (ContainsKey nat_eq positions.now) place)) }
     {
         let Some(entry) = self.asked.get(place) else {
-            return Ok(true);
+            return Ok(None);
         };
         let range = entry.nested_goals.span;
         if !range.overlaps(on_stack) {
-            return Ok(true);
+            return Ok(None);
         }
         // A goal that is evaluated for the first time is a nested goal of none that is listed, so mostly this is all.
         if !is_any_noted(positions, range, &self.first, place) {
-            return Ok(true);
+            return Ok(None);
         }
         let mut reached: IndexSet<usize> = IndexSet::new(self.alloc);
         reached.insert(place)?;
@@ -253,15 +314,15 @@ impl<D: Delegate> CachedResults<D> {
             let below = reached[round];
             let entry = &self.asked[below];
             if round > 0 && positions.contains_key(&entry.number) {
-                return Ok(false);
+                return Ok(Some(entry.number));
             }
-            if is_any_on_stack(positions, &entry.nested_goals.goals) {
-                return Ok(false);
+            if let Some(number) = find_on_stack(positions, &entry.nested_goals.goals) {
+                return Ok(Some(number));
             }
             self.reach(&mut reached, &entry.nested_goals.cached, on_stack)?;
             round += 1;
         }
-        Ok(true)
+        Ok(None)
     }
 
     /// Adds those of the indices whose goals may have a nested goal in this range.
@@ -450,16 +511,17 @@ impl<D: Delegate> CachedResults<D> {
     }
 }
 
-fn is_any_on_stack(positions: &IndexMap<usize, usize>, goals: &[usize]) -> bool
-    ensures one { result ≡ true → (i : ℕ) × (asked : ℕ) × (slice_get goals.now i ≡ Some asked) × ContainsKey nat_eq positions.now asked }
-    ensures none { result ≡ false → All (λ asked. ContainsKey nat_eq positions.now asked → ⊥) goals.now }
+/// One of the goals that is on the stack.
+fn find_on_stack(positions: &IndexMap<usize, usize>, goals: &[usize]) -> Option<usize>
+    ensures one { IfSome result (λ asked. ((i : ℕ) × (slice_get goals.now i ≡ Some asked)) × ContainsKey nat_eq positions.now asked) }
+    ensures none { IfNone result (All (λ asked. ContainsKey nat_eq positions.now asked → ⊥) goals.now) }
 {
     for goal in goals {
         if positions.contains_key(goal) {
-            return true;
+            return Some(*goal);
         }
     }
-    false
+    None
 }
 
 /// Whether a goal of the stack is in the range and is listed at the index or before it.

@@ -80,7 +80,7 @@ impl Newest {
 }
 
 /// Adds `None` for each goal up to the one with the number.
-fn make_room(newest: &mut Vec<Option<usize>>, number: usize) -> Result<(), AllocError>
+pub(crate) fn make_room(newest: &mut Vec<Option<usize>>, number: usize) -> Result<(), AllocError>
     ensures room { OnOk result (number < length newest.new.items) }
     ensures same { (other : ℕ) → get_or newest.new.items other None ≡ get_or newest.old.items other None }
 {

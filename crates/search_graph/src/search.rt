@@ -231,15 +231,18 @@ impl<D: Delegate> Search<D> {
     /// depth. If it met one, it had exactly this depth.
     pub fn find_cached(
         &self,
-        cache: &CachedResults<D>,
+        cache: &mut CachedResults<D>,
         number: usize,
         input: &InputOf<D>,
         depth: usize,
     ) -> Result<Option<usize>, AllocError>
         ensures found { IfOk result
-            (λ found. IfSome found (IsUsableAt cache.now.entries.items cache.now.asked.items (IsOnStack self.now.stack.items) number input.now depth)) }
+            (λ found. IfSome found (IsUsableAt cache.old.entries.items cache.old.asked.items (IsOnStack self.now.stack.items) number input.now depth)) }
         ensures none { IfOk result
-            (λ found. IfNone found (NoneIsUsable cache.now.entries.items cache.now.asked.items (IsOnStack self.now.stack.items) number input.now depth)) }
+            (λ found. IfNone found (NoneIsUsable cache.old.entries.items cache.old.asked.items (IsOnStack self.now.stack.items) number input.now depth)) }
+        ensures entries { cache.new.entries ≡ cache.old.entries }
+        ensures asked { cache.new.asked ≡ cache.old.asked }
+        ensures goals { cache.new.goals ≡ cache.old.goals }
     {
         cache.find(&self.positions, self.span(), number, input, depth)
     }

@@ -7,25 +7,25 @@ use Rattle.search_graph.proofs.steps.look_up.Goals as goal
 pub use_cached-requires-clause-place : goal.use_cached-requires-clause-place
 use_cached-requires-clause-place g c =
     let found = rw c.in-Some-2.is at c.in_ok-place.ensures.found in
-    (found.0, found.1, found.2.same)
+    (found.0, rw c.find_cached.ensures.entries found.1, found.2.same)
 
 pub returns-in_ok-cached-in-Some-2-clause-range : goal.returns-in_ok-cached-in-Some-2-clause-range
-returns-in_ok-cached-in-Some-2-clause-range g c = rw c.number_of.ensures.asked at c.in_ok-cached-in-Some-2.ensures.range
+returns-in_ok-cached-in-Some-2-clause-range g c = rw (c.find_cached.ensures.asked, c.number_of.ensures.asked) at c.in_ok-cached-in-Some-2.ensures.range
 
 pub returns-in_ok-cached-in-Some-2-clause-depth : goal.returns-in_ok-cached-in-Some-2-clause-depth
 returns-in_ok-cached-in-Some-2-clause-depth g c = λ off.
     let found = rw c.in-Some-2.is at c.in_ok-place.ensures.found in
-    let same = c.in_ok-cached-in-Some-2.ensures.same found.0 found.1 in
+    let same = c.in_ok-cached-in-Some-2.ensures.same found.0 (rw c.find_cached.ensures.entries found.1) in
     rw (← same.1) at (found.2.within.1 (sym same.2 ∙ off))
 
 pub returns-in_ok-cached-in-Some-2-clause-kept : goal.returns-in_ok-cached-in-Some-2-clause-kept
 returns-in_ok-cached-in-Some-2-clause-kept g c = λ empty.
     let found = rw c.in-Some-2.is at c.in_ok-place.ensures.found in
     let items : c.number_of.new.self.entries.items ≡ c.args.cache.now.entries.items = ap (λ v. v.items) c.number_of.ensures.entries in
-    (c.in-Some-2.place, found.0, subst (λ es. slice_get es c.in-Some-2.place ≡ Some found.0) items found.1, found.2.same, sym (c.in_ok-cached-in-Some-2.ensures.same found.0 found.1).0, found.2.within)
+    (c.in-Some-2.place, found.0, subst (λ es. slice_get es c.in-Some-2.place ≡ Some found.0) items found.1, found.2.same, sym (c.in_ok-cached-in-Some-2.ensures.same found.0 (rw c.find_cached.ensures.entries found.1)).0, found.2.within)
 
 pub returns-in_ok-cached-in-Some-2-clause-within : goal.returns-in_ok-cached-in-Some-2-clause-within
-returns-in_ok-cached-in-Some-2-clause-within g c = λ before cached. c.in_ok-cached-in-Some-2.ensures.within before (rw c.number_of.ensures.entries cached.0)
+returns-in_ok-cached-in-Some-2-clause-within g c = λ before cached. c.in_ok-cached-in-Some-2.ensures.within before (rw (c.find_cached.ensures.entries, c.number_of.ensures.entries) cached.0)
 
 pub returns-in-None-clause-found : goal.returns-in-None-clause-found
 returns-in-None-clause-found g c = λ place e at same within clear.
@@ -43,10 +43,10 @@ returns-in-None-clause-found g c = λ place e at same within clear.
     }))
 
 pub use_cached-requires-clause-cache : goal.use_cached-requires-clause-cache
-use_cached-requires-clause-cache g c = rw c.number_of.ensures.entries c.requires.cache
+use_cached-requires-clause-cache g c = rw (c.find_cached.ensures.entries, c.number_of.ensures.entries) c.requires.cache
 
 pub returns-in_ok-cached-in-Some-2-clause-number : goal.returns-in_ok-cached-in-Some-2-clause-number
-returns-in_ok-cached-in-Some-2-clause-number g c = c.in_ok-number.ensures.place
+returns-in_ok-cached-in-Some-2-clause-number g c = rw c.find_cached.ensures.goals c.in_ok-number.ensures.place
 
 pub returns-in_ok-cached-in-Some-2-clause-answer : goal.returns-in_ok-cached-in-Some-2-clause-answer
 returns-in_ok-cached-in-Some-2-clause-answer g c = c.in_ok-cached-in-Some-2.ensures.answer c.args.step_kind
@@ -54,11 +54,11 @@ returns-in_ok-cached-in-Some-2-clause-answer g c = c.in_ok-cached-in-Some-2.ensu
 pub returns-in_ok-cached-in-Some-2-clause-faithful : goal.returns-in_ok-cached-in-Some-2-clause-faithful
 returns-in_ok-cached-in-Some-2-clause-faithful g c =
     let found = rw c.in-Some-2.is at c.in_ok-place.ensures.found in
-    let same = c.in_ok-cached-in-Some-2.ensures.same found.0 found.1 in
+    let same = c.in_ok-cached-in-Some-2.ensures.same found.0 (rw c.find_cached.ensures.entries found.1) in
     c.in_ok-cached-in-Some-2.ensures.faithful c.args.depth (λ on. same.1 ∙ found.2.within.0 (sym same.2 ∙ on))
 
 pub returns-in-None-clause-number : goal.returns-in-None-clause-number
-returns-in-None-clause-number g c = c.in_ok-number.ensures.place
+returns-in-None-clause-number g c = rw c.find_cached.ensures.goals c.in_ok-number.ensures.place
 
 pub use_entry-requires-clause-entries : goal.use_entry-requires-clause-entries
 use_entry-requires-clause-entries g c = rw c.number_of.ensures.asked c.requires.entries

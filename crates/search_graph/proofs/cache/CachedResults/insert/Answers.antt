@@ -4,6 +4,7 @@ use Rattle.search_graph.proofs.Caches.{HasConflict-at, KeepsResults-push, AreCon
 use Rattle.search_graph.proofs.Chains.{AreLinked-push, listed_push}
 use Rattle.search_graph.proofs.Graphs.{Keeps-refl, cached_insert, IsCached-at}
 use Rattle.search_graph.proofs.Limits.{AreCachedWithin-push}
+use Rattle.search_graph.proofs.Blockers.{blockers_keep}
 use Rattle.search_graph.proofs.Noted.{noted_push, noted_keeps}
 use Rattle.search_graph.proofs.Ranges.{covered_push, recorded_later, recorded_push}
 use Rattle.search_graph.proofs.cache.CachedResults.insert.Goals as goal
@@ -78,6 +79,7 @@ invariant_of-self-in-Break-branch-3 g c =
       recorded = rw c.reserve.ensures.items old.recorded;
       covered = old.covered;
       noted = noted_keeps old.first.items c.note_asked.new.first.items old.asked.items old.noted c.note_asked.ensures.others;
+      blocked = old.blocked;
       consistent = rw c.reserve.ensures.items old.consistent;
     }
 
@@ -91,6 +93,7 @@ invariant_of-self-in-Break-branch-4 g c =
       recorded = rw (c.reserve.ensures.items, c.in_err-push.ensures.items) old.recorded;
       covered = rw c.in_err-push.ensures.items old.covered;
       noted = rw c.in_err-push.ensures.items (noted_keeps old.first.items c.note_asked.new.first.items old.asked.items old.noted c.note_asked.ensures.others);
+      blocked = rw c.in_err-push.ensures.items old.blocked;
       consistent = rw c.reserve.ensures.items old.consistent;
     }
 
@@ -104,6 +107,7 @@ invariant_of-self-in-Break-branch-5 g c =
       recorded = rw (c.reserve.ensures.items, c.in_ok-push.ensures.items) (recorded_later old.entries.items old.asked.items (old.asked.items ++ record { number = c.args.goal.number; nested_goals = c.args.nested_goals } ∷ []) (KeepsResults-push old.asked.items (record { number = c.args.goal.number; nested_goals = c.args.nested_goals })) old.recorded);
       covered = rw c.in_ok-push.ensures.items (covered_push old.asked.items (record { number = c.args.goal.number; nested_goals = c.args.nested_goals }) old.covered c.requires.nested);
       noted = rw c.in_ok-push.ensures.items (let own = rw (c.len-asked.ensures ∙ c.args.self.now.asked.ok.0) at c.in_ok-note_asked.ensures.noted in noted_push c.args.self.now.first.items c.note_asked.new.first.items c.args.self.now.asked.items (record { number = c.args.goal.number; nested_goals = c.args.nested_goals }) c.args.self.now.noted c.note_asked.ensures.others own.0 own.1);
+      blocked = rw c.in_ok-push.ensures.items (blockers_keep old.blockers.items old.asked.items (old.asked.items ++ record { number = c.args.goal.number; nested_goals = c.args.nested_goals } ∷ []) (KeepsResults-push old.asked.items (record { number = c.args.goal.number; nested_goals = c.args.nested_goals })) old.blocked);
       consistent = rw c.reserve.ensures.items old.consistent;
     }
 
@@ -132,3 +136,7 @@ returns-clause-place g c = c.len-asked.ensures ∙ c.args.self.now.asked.ok.0
 pub invariant_of-self-2-clause-noted : goal.invariant_of-self-2-clause-noted
 invariant_of-self-2-clause-noted g c = rw c.in_ok-push.ensures.items
     (let own = rw (c.len-asked.ensures ∙ c.args.self.now.asked.ok.0) at c.in_ok-note_asked.ensures.noted in noted_push c.args.self.now.first.items c.note_asked.new.first.items c.args.self.now.asked.items (record { number = c.args.goal.number; nested_goals = c.args.nested_goals }) c.args.self.now.noted c.note_asked.ensures.others own.0 own.1)
+
+pub invariant_of-self-2-clause-blocked : goal.invariant_of-self-2-clause-blocked
+invariant_of-self-2-clause-blocked g c = rw c.in_ok-push.ensures.items
+    (blockers_keep c.args.self.now.blockers.items c.args.self.now.asked.items (c.args.self.now.asked.items ++ record { number = c.args.goal.number; nested_goals = c.args.nested_goals } ∷ []) (KeepsResults-push c.args.self.now.asked.items (record { number = c.args.goal.number; nested_goals = c.args.nested_goals })) c.args.self.now.blocked)

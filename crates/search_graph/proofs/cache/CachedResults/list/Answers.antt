@@ -3,6 +3,7 @@ use Rattle.search_graph.specs.declared.cache.Asked.{Asked}
 use Rattle.search_graph.specs.Chain.{AreCovered, AreInRange, AreNoted, IsNotedBy, KeepsNoted}
 use Rattle.search_graph.specs.Cache.{KeepsResults}
 use Rattle.search_graph.proofs.Caches.{KeepsResults-push}
+use Rattle.search_graph.proofs.Blockers.{blockers_keep}
 use Rattle.search_graph.proofs.Noted.{noted_push, noted_keeps}
 use Rattle.search_graph.proofs.Ranges.{covered_push, recorded_later}
 use Rattle.search_graph.proofs.cache.CachedResults.list.Goals as goal
@@ -31,6 +32,7 @@ invariant_of-self g c =
       recorded = old.recorded;
       covered = old.covered;
       noted = noted_keeps old.first.items c.note_asked.new.first.items old.asked.items old.noted c.note_asked.ensures.others;
+      blocked = old.blocked;
       consistent = old.consistent;
     }
 
@@ -46,6 +48,7 @@ invariant_of-self-2 g c =
       recorded = recorded_later old.entries.items old.asked.items c.push.new.self.items (keeps_pushed old.asked.items c.push.new.self.items listed pushed c.push.ensures.items) old.recorded;
       covered = covers_pushed old.asked.items c.push.new.self.items listed pushed c.push.ensures.items old.covered c.requires.nested;
       noted = notes_pushed old.first.items c.note_asked.new.first.items old.asked.items c.push.new.self.items listed pushed c.push.ensures.items old.noted c.note_asked.ensures.others (rw (c.len-asked.ensures ∙ old.asked.ok.0) at c.in_ok-note_asked.ensures.noted);
+      blocked = blockers_keep old.blockers.items old.asked.items c.push.new.self.items (keeps_pushed old.asked.items c.push.new.self.items listed pushed c.push.ensures.items) old.blocked;
       consistent = old.consistent;
     }
 

@@ -1,4 +1,4 @@
-use Rattle.std.proofs.Common.{◌≡◌, ◌∙◌, ◌++◌, ◌∷◌, sym, ap, [], true, slice_get, Some}
+use Rattle.std.proofs.Common.{◌≡◌, ◌∙◌, ◌++◌, ◌∷◌, sym, ap, [], slice_get, Some}
 use Rattle.std.proofs.lemmas.Option.{same_Some}
 use Rattle.search_paths.specs.Nested.{covered, no_goal}
 use Rattle.search_paths.specs.declared.path_kind.PathKind.TheVariants.{Inductive}

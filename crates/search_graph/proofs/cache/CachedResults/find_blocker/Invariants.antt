@@ -2,7 +2,7 @@ use Rattle.std.proofs.Common.{◌≡◌, ◌-◌, length, slice_get, Some, nat_e
 use Rattle.indexmap.specs.IndexMap.{ContainsKey}
 use Rattle.search_graph.proofs.Chains.{IsReached}
 use Rattle.search_graph.proofs.Ranges.{AreSeen}
-use Rattle.search_graph.proofs.cache.CachedResults.is_clear_of.Given as goal
+use Rattle.search_graph.proofs.cache.CachedResults.find_blocker.Given as goal
 
 abbrev pub invariant-loop-round : goal.invariant-loop-round
 invariant-loop-round g l = record {
