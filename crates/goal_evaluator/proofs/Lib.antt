@@ -30,6 +30,7 @@ pub mod RunRounds
 pub mod RoundEnds
 pub mod RoundsEnds
 pub mod OwnAnswers
+pub mod BareAnswers
 pub mod CallEnds
 pub mod Putting
 pub mod Beginning

@@ -38,7 +38,7 @@ pub use response::{
     copy_response, has_no_inference_or_external_constraints, is_identity_modulo_regions,
     is_same_response,
 };
-pub use resuming::{CandidateStep, OpenCandidate, resuming_replays};
+pub use resuming::{BoxedCandidate, CandidateStep, OpenCandidate, resuming_replays};
 pub use rounds::have_same_sorts;
 pub use trial::{begin_candidate, evaluate_candidate};
 

@@ -23,8 +23,9 @@ use infer_table::goal::Goal;
 use infer_table::infer_ctxt::InferCtxt;
 use infer_table::input::{CanonicalInput, Canonicalized};
 use infer_table::response::CanonicalResponse;
-use std::alloc::Global;
+use std::alloc::{AllocError, Global};
 use std::collections::VecDeque;
+use std::marker::Model;
 use type_terms::Fault;
 use type_terms::interner::Interner;
 use type_terms::kinds::GenericArgKind;
@@ -88,13 +89,53 @@ impl Drop for OpenCandidate {
     }
 }
 
+/// A candidate that waits for the response to a nested goal, on the heap.
+///
+/// Compiled code has a place on the stack for each move of a value, and clears it before. So a frame that has an open candidate by
+/// value takes its size many times with each reply, also for goals whose candidates are not open.
+pub struct BoxedCandidate {
+    candidate: Box<OpenCandidate>,
+}
+
+impl Model for BoxedCandidate {
+    ghost use Rattle.goal_evaluator.specs.declared.resuming.OpenCandidate.{OpenCandidate};
+
+    ghost Value = { OpenCandidate };
+
+    ghost view = { λ b. b.candidate.value };
+}
+
+// Hand-written so that the prover sees one drop call: docs/PROVING.md#drop. It is not inlined, since it has room for a whole
+// candidate.
+impl Drop for BoxedCandidate {
+    #[inline(never)]
+    fn drop(self) {
+        let BoxedCandidate { candidate: _ } = self;
+    }
+}
+
 /// The result of a call that evaluates a candidate.
 #[derive(Drop)]
 pub enum CandidateStep {
     /// The candidate's answer.
     Ready(CanonicalResponse),
-    /// The candidate waits for the response to this nested goal. `OpenCandidate::resume` continues with it.
-    Ask(OpenCandidate, CanonicalInput, GoalSource),
+    /// The candidate waits for the response to this nested goal. `BoxedCandidate::resume` continues with it.
+    Ask(BoxedCandidate, CanonicalInput, GoalSource),
+}
+
+/// The response with this certainty that has no variables, values and constraints.
+fn bare_response(alloc: Global, certainty: Certainty) -> CanonicalResponse
+    ensures variables { result.variables.items ≡ [] }
+    ensures certainty { result.certainty ≡ certainty }
+    ensures values { result.var_values.items ≡ [] }
+    ensures constraints { result.region_constraints.items ≡ [] }
+{
+    CanonicalResponse {
+        variables: Vec::new(alloc),
+        certainty,
+        var_values: Vec::new(alloc),
+        region_constraints: Vec::new(alloc),
+    }
 }
 
 impl OpenRound {
@@ -185,7 +226,20 @@ impl Evaluation {
             values,
             goals,
         };
-        Ok(CandidateStep::Ask(waiting, input, source))
+        let boxed = BoxedCandidate::new(cx.allocator(), waiting)?;
+        Ok(CandidateStep::Ask(boxed, input, source))
+    }
+
+    /// Whether the response to the goal can have no part but its certainty: the goal has no variables, and nothing is recorded of
+    /// lifetimes.
+    fn is_closed(&self) -> bool
+        ensures variables { result ≡ true → self.now.variables.items ≡ [] }
+        ensures own { result ≡ true → self.now.own.items ≡ [] }
+        ensures constraints { result ≡ true → self.now.table.constraints ≡ [] }
+    {
+        self.variables.is_empty()
+            && self.own.is_empty()
+            && self.table.region_constraints().is_empty()
     }
 
     /// The candidate's response. Its certainty joins that of the candidate with that of its goals.
@@ -196,6 +250,10 @@ impl Evaluation {
         ensures stands { StandsAt cx.new.entries (done (Some (answer_with cx.old.entries self of_goals))) result }
         ensures over { IfOk result CandidateIsOver }
     {
+        if self.is_closed() {
+            let certainty = self.certainty.and(of_goals);
+            return Ok(CandidateStep::Ready(bare_response(cx.allocator(), certainty)));
+        }
         let Evaluation {
             mode,
             table,
@@ -257,7 +315,15 @@ impl Evaluation {
     }
 }
 
-impl OpenCandidate {
+impl BoxedCandidate {
+    /// This candidate, on the heap.
+    fn new(alloc: Global, candidate: OpenCandidate) -> Result<BoxedCandidate, AllocError>
+        ensures { IfOk result (λ b. b ≡ candidate) }
+    {
+        let candidate = Box::new(alloc, candidate)?;
+        Ok(BoxedCandidate { candidate })
+    }
+
     /// Continues with the response to the nested goal for which the candidate waits. `None` means that the goal has no solution.
     ///
     /// The result is the same as evaluating the candidate anew with all replies so far (`resuming_replays`), but no reply is
@@ -276,6 +342,26 @@ impl OpenCandidate {
         ensures stands { StandsAt cx.new.entries (after_reply cx.old.entries self (option_map (answer_trees cx.old.entries) reply)) result }
 
         // The number of nested goals that may follow decreases.
+        ensures fewer { IfOk result (λ s. (n : ℕ) → n + 1 ≡ questions_left self → AsksAtMost n s) }
+    {
+        let BoxedCandidate { candidate } = self;
+        Box::into_inner(candidate).resume(alloc, cx, reply)
+    }
+}
+
+impl OpenCandidate {
+    /// `BoxedCandidate::resume`, of a candidate by value.
+    fn resume(
+        self,
+        alloc: Global,
+        cx: &mut Interner,
+        reply: Option<CanonicalResponse>,
+    ) -> Result<CandidateStep, EvalError>
+        requires held { OpenHeld cx.old.entries self }
+        requires reply { ResultHeld cx.old.entries reply }
+        ensures terms { EvalGrewOrFull cx.old cx.new result }
+        ensures held { IfOk result (λ s. CandidateHeld cx.new.entries s) }
+        ensures stands { StandsAt cx.new.entries (after_reply cx.old.entries self (option_map (answer_trees cx.old.entries) reply)) result }
         ensures fewer { IfOk result (λ s. (n : ℕ) → n + 1 ≡ questions_left self → AsksAtMost n s) }
     {
         let OpenCandidate {

@@ -1,6 +1,6 @@
 //! The rounds that evaluate the nested goals of a context, with the replies so far.
 ghost use Rattle.type_terms.specs.Growth.{GrewOrFull};
-ghost use Rattle.std.specs.Prelude.{◌≡◌, not, List, map, OnOk, IfOk, Ok, Err, Some, None};
+ghost use Rattle.std.specs.Prelude.{◌≡◌, not, true, List, [], map, OnOk, IfOk, Ok, Err, Some, None};
 ghost use Rattle.type_terms.specs.Promised.Trees.{is_sort};
 ghost use Rattle.type_terms.specs.Promised.Handles.{Entry, ArgsHeld};
 ghost use Rattle.infer_table.specs.Content.{Ready, Grows};
@@ -105,7 +105,20 @@ fn is_answer_to(values: &[GenericArgKind], response: &CanonicalResponse) -> bool
     have_same_sorts(values, &response.var_values)
 }
 
-/// Applies the response to a goal with these values.
+/// Whether the goal has no variables, and the response has no part but its certainty.
+fn is_bare(values: &[GenericArgKind], response: &CanonicalResponse) -> bool
+    ensures own { result ≡ true → values.now ≡ [] }
+    ensures variables { result ≡ true → response.now.variables.items ≡ [] }
+    ensures values { result ≡ true → response.now.var_values.items ≡ [] }
+    ensures constraints { result ≡ true → response.now.region_constraints.items ≡ [] }
+{
+    values.is_empty()
+        && response.variables.is_empty()
+        && response.var_values.is_empty()
+        && response.region_constraints.is_empty()
+}
+
+/// Applies the response to a goal with these values. That of a goal without variables mostly changes nothing.
 ///
 /// A response that does not fit the goal leaves the table unchanged. The search never gives such a response, but this is not
 /// proved at this level: of the search's responses only that they are well-formed is known here.
@@ -125,6 +138,9 @@ pub(crate) fn apply_response(
     ensures applied { OnOk result (with_response cx.old.entries table.old values.now response.now ≡ Some (table_trees cx.new.entries table.new)) }
     ensures refused { result ≡ Err EvalError.NoSolution → with_response cx.old.entries table.old values.now response.now ≡ None }
 {
+    if is_bare(values, response) {
+        return Ok(());
+    }
     if !is_answer_to(values, response) {
         return Ok(());
     }

@@ -4,8 +4,8 @@ ghost use Rattle.std.specs.Prelude.{◌≡◌, ◌*◌, length, map, List, [], �
 ghost use Rattle.type_terms.specs.Promised.Handles.{Entry, ArgHeld, ArgsHeld, arg_trees};
 ghost use Rattle.infer_table.specs.Content.{Ready, IsHeldConstraint, AllConstraintsHeld};
 ghost use Rattle.infer_table.specs.Unification.{table_trees, unified};
-ghost use Rattle.infer_table.specs.Goals.{GoalHeld};
-ghost use Rattle.infer_table.specs.Values.{value_of, values_of, filled_values};
+ghost use Rattle.infer_table.specs.Goals.{GoalHeld, goal_trees};
+ghost use Rattle.infer_table.specs.Values.{value_of, values_of, filled_values, goal_filled};
 ghost use Rattle.infer_table.specs.Applied.{with_constraints};
 ghost use Rattle.infer_table.specs.Applying.{next_unknown, with_unknown};
 ghost use Rattle.infer_table.specs.Responses.{answer_trees};
@@ -386,7 +386,7 @@ fn copy_of(
     }
 }
 
-/// Starts to evaluate a candidate of a goal, up to its first nested goal or its end. `OpenCandidate::resume` continues with each
+/// Starts to evaluate a candidate of a goal, up to its first nested goal or its end. `BoxedCandidate::resume` continues with each
 /// response.
 ///
 /// The steps and errors are those of `evaluate_candidate` without replies. At most `FIXPOINT_STEP_LIMIT` responses are requested
@@ -453,8 +453,27 @@ fn fill_goals(
 {
     let mut filled = VecDeque::new(alloc);
     for premise in goals {
-        let goal = instantiate_with_values(alloc, cx, &premise.1, values)?;
+        let goal = fill_goal(alloc, cx, values, &premise.1)?;
         filled.push_back((premise.0, goal))?;
     }
     Ok(filled)
+}
+
+/// Replaces the canonical variables of the goal by the values. Without values it is a copy of the goal.
+fn fill_goal(
+    alloc: Global,
+    cx: &mut Interner,
+    values: &[GenericArgKind],
+    goal: &Goal,
+) -> Result<Goal, Fault>
+    requires values { ArgsHeld cx.old.entries values.now }
+    requires goal { GoalHeld cx.old.entries goal.now }
+    ensures terms { GrewOrFull cx.old cx.new result }
+    ensures held { IfOk result (λ g. GoalHeld cx.new.entries g) }
+    ensures filled { IfOk result (λ g. goal_trees cx.new.entries g ≡ goal_filled (values_of cx.old.entries values.now) (goal_trees cx.old.entries goal.now)) }
+{
+    if values.is_empty() {
+        return Ok(goal.clone()?);
+    }
+    instantiate_with_values(alloc, cx, goal, values)
 }

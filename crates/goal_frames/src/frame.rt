@@ -16,8 +16,8 @@ ghost use Rattle.goal_frames.specs.Steps.{AsksFewer};
 
 use crate::handler::GoalHandler;
 use goal_evaluator::{
-    CandidateSource, CandidateSpec, CandidateStep, Certainty, Considered, EvalError, GoalSource,
-    HandlerStep, OpenCandidate, begin_candidate,
+    BoxedCandidate, CandidateSource, CandidateSpec, CandidateStep, Certainty, Considered,
+    EvalError, GoalSource, HandlerStep, begin_candidate,
 };
 use infer_table::input::CanonicalInput;
 use infer_table::response::CanonicalResponse;
@@ -36,7 +36,7 @@ enum Place {
     /// It has requested to enter this candidate.
     Entering(CandidateSpec),
     /// The open candidate, from this source, waits for the response to a nested goal.
-    Inside(CandidateSource, OpenCandidate),
+    Inside(CandidateSource, BoxedCandidate),
     /// The open candidate, from this source, has this result.
     Finishing(CandidateSource, Option<CanonicalResponse>),
     /// The result, the numbers of the candidates to ignore, and the index of the one that the frame has requested to ignore.

@@ -7,9 +7,16 @@ use Rattle.infer_table.specs.Responses.{answer_trees}
 use Rattle.goal_evaluator.specs.Errors.{eval_error}
 use Rattle.goal_evaluator.specs.declared.error.EvalError.{EvalError}
 use Rattle.goal_evaluator.specs.declared.error.EvalError.TheVariants.{NoSolution}
+use Rattle.goal_evaluator.proofs.BareAnswers.{put-bare}
 use Rattle.goal_evaluator.proofs.Putting.{put-applied, put-nothing}
 use Rattle.goal_evaluator.proofs.Shortages.{given-up}
 use Rattle.goal_evaluator.proofs.rounds.apply_response.Goals as goal
+
+pub returns-then-is_bare-clause-applied : goal.returns-then-is_bare-clause-applied
+returns-then-is_bare-clause-applied c =
+    let bare : c.is_bare.result ≡ true = search rules in
+    let e = c.is_bare.ensures in
+    put-bare c.args.cx.now.entries c.args.table.now c.args.values.now c.args.response.now (e.own bare) (e.variables bare) (e.values bare) (e.constraints bare)
 
 pub returns-then-not-is_answer_to-clause-applied : goal.returns-then-not-is_answer_to-clause-applied
 returns-then-not-is_answer_to-clause-applied c =

@@ -31,23 +31,23 @@ loop-premise-init c =
       left = ap (λ gs. premises_trees es gs ++ map (nested_filled (values_of es c.args.values.now)) (premises_trees es c.args.goals.now)) none-yet;
     }
 
-pub instantiate_with_values-requires-clause-goal : goal.instantiate_with_values-requires-clause-goal
-instantiate_with_values-requires-clause-goal c =
+pub fill_goal-requires-clause-goal : goal.fill_goal-requires-clause-goal
+fill_goal-requires-clause-goal c =
     let es = c.args.cx.now.entries in
     let n = c.premise-item.result in
     let had : IsHeld es n = subst (IsHeld es) (sym c.premise-item.is) (every-at (IsHeld es) c.args.goals.now c.loop-premise.premise-index n c.requires.goals c.loop-premise-test.true) in
     goal-held-later es c.loop-premise.cx.entries c.loop-premise.invariant.keeps n.1 had
 
-pub instantiate_with_values-requires-clause-values : goal.instantiate_with_values-requires-clause-values
-instantiate_with_values-requires-clause-values c = args-held-later c.args.cx.now.entries c.loop-premise.cx.entries c.loop-premise.invariant.keeps c.args.values.now c.requires.values
+pub fill_goal-requires-clause-values : goal.fill_goal-requires-clause-values
+fill_goal-requires-clause-values c = args-held-later c.args.cx.now.entries c.loop-premise.cx.entries c.loop-premise.invariant.keeps c.args.values.now c.requires.values
 
 pub loop-premise-preserved : goal.loop-premise-preserved
 loop-premise-preserved c =
     let es = c.args.cx.now.entries in
     let now = c.loop-premise.cx.entries in
-    let next = c.instantiate_with_values.new.cx.entries in
+    let next = c.fill_goal.new.cx.entries in
     let inv = c.loop-premise.invariant in
-    let k = c.instantiate_with_values.ensures.terms.grew.keeps in
+    let k = c.fill_goal.ensures.terms.grew.keeps in
     let xs = c.args.goals.now in
     let i = c.loop-premise.premise-index in
     let n = c.premise-item.result in
@@ -67,7 +67,7 @@ loop-premise-preserved c =
     let one : GoalIsHeld next m = record { clauses = c.in_ok-goal.ensures.held.environment; predicate = c.in_ok-goal.ensures.held.predicate } in
     record {
       keeps = λ j e h. k j e (inv.keeps j e h);
-      limit = c.instantiate_with_values.ensures.terms.grew.limit ∙ inv.limit;
+      limit = c.fill_goal.ensures.terms.grew.limit ∙ inv.limit;
       held = subst (NestedHeld next) (sym goals) (every-more (GoalIsHeld next) (map nested_goal before) m (nested-later now next k (map nested_goal before) inv.held) one);
       left = one-more-goal es (values_of es vs) (premises_trees now before) (premises_trees next after) _ (nested_trees next m) xs i n c.loop-premise-test.true c.premise-item.is more put inv.left;
     }
