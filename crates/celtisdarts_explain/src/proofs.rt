@@ -151,7 +151,7 @@ impl ToldProof<'_> {
             return Reason::NotShown;
         };
         match entry.way {
-            Way::Impl(id, _) => Reason::Impl(id),
+            Way::Impl(source) => Reason::Impl(source.impl_def_id),
             Way::BuiltIn => Reason::BuiltIn,
             Way::Clause(_) => Reason::Clause,
             Way::Supertrait(_) => Reason::Supertrait,

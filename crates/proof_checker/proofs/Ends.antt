@@ -1,18 +1,35 @@
 -- Steps that follow each are a proof.
-use Rattle.std.proofs.Common.{◌≡◌, ◌<◌, ℕ, zero, suc, ◌+◌, List, [], ◌∷◌, ◌++◌, length, map, refl, ap, sym, subst, Some, arith, ◌⊎◌, inl, inr}
+use Rattle.std.proofs.Common.{◌≡◌, ◌<◌, ℕ, zero, suc, ◌+◌, List, [], ◌∷◌, ◌++◌, length, map, take, refl, ap, sym, subst, Some, arith, get_or, if◌then◌else◌, ◌⊎◌, inl, inr}
+use Rattle.std.specs.Prelude.{IfSome}
 use Rattle.std.specs.List.{slice_get}
 use Rattle.type_terms.specs.Promised.Worlds.{World, Reference}
+use Rattle.type_terms.specs.Promised.Rules as rule
+use Rattle.type_terms.specs.Promised.Rules.{is_coinductive}
 use Rattle.type_terms.specs.Promised.Proofs as proofs
+use Rattle.type_terms.specs.Promised.Proofs.{In, Every}
 use Rattle.type_terms.specs.Promised.Handles.{Entry}
 use Rattle.proof_checker.specs.declared.steps.Step.{Step}
 use Rattle.proof_checker.specs.Checked.{StepHasRule, IsRuleByWay, PremisesStand}
-use Rattle.proof_checker.specs.Steps.{term_of, steps_say, at_places, assumed_in, AreEntriesOf, AreProof}
+use Rattle.proof_checker.specs.Steps.{term_of, steps_say, at_places, assumed_in, IsWayOf, AreEntriesOf, AreProof}
 use Rattle.proof_checker.proofs.Following.{FollowsAt, is-proof}
+use Rattle.proof_checker.proofs.Places.{said-at}
 
 -- the step follows by its place
 pub record StepFollows (W : World) (E : List Reference) (es : List Entry) (rs : List Reference) (i : ℕ) (s : Step) : Type 0 where
   pub rule : StepHasRule W E es rs s
   pub stand : PremisesStand W rs i s.reference.def_id.index (at_places rs s.premises.items)
+
+module _ (W : World) (es : List Entry) (ss : List Step) (k : ℕ) (s : Step) (l : k < length ss) (e : s ≡ get_or ss k s) (ps : List Reference) (q : at_places (steps_say es ss) s.premises.items ≡ ps) where
+  -- the step at the place has this rule instance
+  pub rule-at : (E : List Reference) (w : rule.Way) → IsWayOf s.way w → IsRuleByWay W E (term_of es s.reference) w ps → IfSome (slice_get ss k) (StepHasRule W E es (steps_say es ss))
+  rule-at E w y i = said-at (StepHasRule W E es (steps_say es ss)) ss k s l e (record { way = w; of_step = y; rule = subst (IsRuleByWay W E (term_of es s.reference) w) (sym q) i })
+
+  -- its premises stand
+  pub stand-at : Every (λ p. In p (if is_coinductive W s.reference.def_id.index then steps_say es ss else take k (steps_say es ss))) ps
+      → IfSome (slice_get ss k) (λ x. PremisesStand W (steps_say es ss) k x.reference.def_id.index (at_places (steps_say es ss) x.premises.items))
+  stand-at h =
+      said-at (λ (x : Step). PremisesStand W (steps_say es ss) k x.reference.def_id.index (at_places (steps_say es ss) x.premises.items)) ss k s l e
+      (subst (PremisesStand W (steps_say es ss) k s.reference.def_id.index) (sym q) h)
 
 pub get-below : (ss : List Step) (i : ℕ) (s : Step) → slice_get ss i ≡ Some s → i < length ss
 get-below [] i s e = absurd cc

@@ -24,7 +24,7 @@ together t u ts us q p = cc
 
 module _ (es fs : List Entry) (k : Keeps es fs) where
   way-kept : (w : Way) → WayHeld es w → WayHeld fs w
-  way-kept (Impl i args) h = has-later es fs k args_lists args.0 h
+  way-kept (Impl i) h = has-later es fs k args_lists i.args.0 h
   way-kept (Clause n) h = h
   way-kept (Supertrait n) h = h
   way-kept BuiltIn h = h
@@ -48,7 +48,7 @@ module _ (es fs : List Entry) (k : Keeps es fs) where
   say-same (s ∷ ss) h = joined (term_of fs s.reference) (term_of es s.reference) (steps_say fs ss) (steps_say es ss) (term-same s.reference h.0.0) (say-same ss h.1)
 
   one-assumed : (r : TraitRef) (w : Way) → ReferenceHeld es r → assumed_by fs r w ≡ assumed_by es r w
-  one-assumed r (Impl i args) h = refl
+  one-assumed r (Impl i) h = refl
   one-assumed r (Clause n) h = refl
   one-assumed r (Supertrait n) h = refl
   one-assumed r BuiltIn h = refl

@@ -1,5 +1,6 @@
 -- References at places.
-use Rattle.std.proofs.Common.{◌≡◌, ◌<◌, ℕ, zero, suc, List, [], ◌∷◌, ◌++◌, length, take, ap, sym, ◌∙◌, subst, Some, arith}
+use Rattle.std.proofs.Common.{◌≡◌, ◌<◌, ℕ, zero, suc, List, [], ◌∷◌, ◌++◌, length, take, ap, sym, ◌∙◌, subst, Some, arith, get_or}
+use Rattle.std.specs.Prelude.{IfSome}
 use Rattle.std.specs.List.{slice_get}
 use Rattle.type_terms.specs.Promised.Worlds.{Reference}
 use Rattle.declarations.specs.Promised.Elaboration.{Each}
@@ -9,6 +10,17 @@ pub each-at : {A : Type 0} (P : A → Type 0) (xs : List A) (k : ℕ) (x : A) �
 each-at P [] k x h e = absurd cc
 each-at {A = A} P (y ∷ xs) zero x h e = let q : y ≡ x = cc in subst P q h.0
 each-at P (y ∷ xs) (suc k) x h e = each-at P xs k x h.1 e
+
+pub each-below : {A : Type 0} (P : A → Type 0) (xs : List A) (k : ℕ) (x : A) → Each P xs → k < length xs → x ≡ get_or xs k x → P x
+each-below P [] k x h l e = absurd (omega (arith, l))
+each-below P (y ∷ xs) zero x h l e = subst P (sym e) h.0
+each-below P (y ∷ xs) (suc k) x h l e = each-below P xs k x h.1 (omega (arith, l)) e
+
+-- what is said of the element at a place
+pub said-at : {A : Type 0} (P : A → Type 0) (xs : List A) (k : ℕ) (x : A) → k < length xs → x ≡ get_or xs k x → P x → IfSome (slice_get xs k) P
+said-at P [] k x l e h = tt
+said-at P (y ∷ xs) zero x l e h = subst P e h
+said-at P (y ∷ xs) (suc k) x l e h = said-at P xs k x (omega (arith, l)) e h
 
 pub places-more : (rs : List Reference) (k : ℕ) (ks : List ℕ) (t u : Reference) (us : List Reference) → slice_get rs k ≡ Some t → t ≡ u → at_places rs ks ≡ us → at_places rs (k ∷ ks) ≡ u ∷ us
 places-more rs k ks t u us e q p = ap (λ o. as_list o ++ at_places rs ks) e ∙ joined t u (at_places rs ks) us q p

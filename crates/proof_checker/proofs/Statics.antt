@@ -8,9 +8,10 @@ use Rattle.term_folds.specs.Regions.{is_free_lifetime, region_replaced, regions_
 use Rattle.type_terms.specs.Promised.Worlds.{Reference}
 use Rattle.type_terms.specs.Promised.Erased.{erased_reference}
 use Rattle.type_terms.specs.Promised.Handles.{Entry, trees_at}
-use Rattle.type_terms.specs.Pieces.{Piece, one_piece, each_piece}
+use Rattle.type_terms.specs.Pieces.{one_piece, each_piece}
 use Rattle.term_folds.specs.declared.predicate.TraitRef.{TraitRef}
 use Rattle.declarations.specs.Items.{reference_in}
+use Rattle.proof_checker.proofs.Misfits.{one-reference}
 
 label-erased : (d : ℕ) (l : Label) → erase_label (region_replaced (λ _. static) d l) ≡ erase_label l
 label-erased d (param of_lifetime i) = refl
@@ -41,25 +42,13 @@ replaced-erased d (tree l c o) = same (label-erased d l) (replaced-erased (insid
     same : {a b : Label} {x y z w : Trees} → a ≡ b → x ≡ y → z ≡ w → tree a x z ≡ tree b y w
     same p q r = cc
 
-first-trees : List Piece → Trees
-first-trees [] = none
-first-trees (p ∷ ps) = p.trees
-
-first-number : List ℕ → ℕ
-first-number [] = 0
-first-number (n ∷ ns) = n
-
-same-refer : (t u : ℕ) (x y : Trees) → t ≡ u → x ≡ y → (let a : Reference = record { trait = t; args = x } in a) ≡ (let a : Reference = record { trait = u; args = y } in a)
-same-refer t u x y p q = cc
-
 -- a reference whose lifetimes were replaced is the same up to lifetimes
 one-static : (old new : List Entry) (b r : TraitRef) → r.def_id.index ∷ [] ≡ b.def_id.index ∷ []
     → one_piece (trees_at new r.args.0) ≡ each_piece (λ d t. regions_replaced (λ _. static) d t) (one_piece (trees_at old b.args.0))
     → erased_reference (reference_in new r) ≡ erased_reference (reference_in old b)
-unfolding first-number first-trees
 one-static old new b r o p =
-    same-refer r.def_id.index b.def_id.index (erase (trees_at new r.args.0)) (erase (trees_at old b.args.0)) (ap first-number o)
-    (ap erase (ap first-trees p) ∙ replaced-erased 0 (trees_at old b.args.0))
+    ap erased_reference (one-reference r.def_id.index b.def_id.index (trees_at new r.args.0) (regions_replaced (λ _. static) 0 (trees_at old b.args.0)) o p)
+    ∙ ap (λ t. let x : Reference = record { trait = b.def_id.index; args = t } in x) (replaced-erased 0 (trees_at old b.args.0))
 
 pub static-ok : (old new : List Entry) (b : TraitRef) (o : Result TraitRef Fault) → IfOk o (λ r. r.def_id.index ∷ [] ≡ b.def_id.index ∷ [])
     → IfOk o (λ r. one_piece (trees_at new r.args.0) ≡ each_piece (λ d t. regions_replaced (λ _. static) d t) (one_piece (trees_at old b.args.0)))

@@ -41,7 +41,7 @@ at_places rs (k ∷ ks) = as_list (slice_get rs k) ++ at_places rs ks
 -- The step has this rule instance. A step does not state which of a clause's supertraits its trait reference is, or which built-in
 -- rule concludes it. An assumption is a where-clause after the given ones.
 abbrev pub IsWayOf : Way → rule.Way → Type 0
-IsWayOf (Impl i args) w = w ≡ by_impl i.index
+IsWayOf (Impl i) w = w ≡ by_impl i.impl_def_id.index
 IsWayOf (Clause k) w = w ≡ by_clause k
 IsWayOf (Supertrait k) w = (n : ℕ) × (w ≡ by_super k n)
 IsWayOf ByBuiltIn w = (b : BuiltIn) × (w ≡ built_in b)
@@ -81,7 +81,7 @@ pub record AreProofOf (es : List terms.Entry) (W : World) (E : List Reference) (
 -- ---- what is required of them
 -- Each argument list and trait reference of a step is of this interner.
 abbrev pub WayHeld : List terms.Entry → Way → Type 0
-WayHeld es (Impl i args) = Has es args_lists args.0
+WayHeld es (Impl i) = Has es args_lists i.args.0
 WayHeld es w = Unit {0}
 
 abbrev pub StepHeld : List terms.Entry → Step → Type 0

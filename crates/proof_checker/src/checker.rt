@@ -1,5 +1,5 @@
 //! Whether steps are a proof.
-ghost use Rattle.std.specs.Prelude.{◌≡◌, true, take, ◌++◌, [], List, IfOk, Some};
+ghost use Rattle.std.specs.Prelude.{◌≡◌, ◌<◌, true, take, length, ◌++◌, [], List, IfOk, IfSome};
 ghost use Rattle.std.specs.List.{slice_get};
 ghost use Rattle.type_terms.specs.Promised.Proofs.{In, Every};
 ghost use Rattle.type_terms.specs.Promised.Rules.{is_coinductive};
@@ -79,7 +79,7 @@ fn is_leaf(step: &Step) -> bool
     step.premises.is_empty()
 }
 
-/// Whether a step follows by its rule instance from preceding steps, or from any steps if its trait is coinductive.
+/// Whether the step at this position follows by its rule instance from preceding steps, or from any steps if its trait is coinductive.
 fn is_step(
     alloc: Global,
     cx: &mut Interner,
@@ -87,20 +87,20 @@ fn is_step(
     clauses: &[TraitRef],
     steps: &[Step],
     place: usize,
-    step: &Step,
 ) -> Result<bool, Fault>
     requires declared { AreHeld cx.old.entries declarations.now }
     requires covered { ParametersAreCovered cx.old.entries declarations.now }
     requires bounds { HaveBounds cx.old.entries declarations.now }
     requires clauses { TraitRefsHeld cx.old.entries clauses.now }
     requires steps { Each (StepHeld cx.old.entries) steps.now }
-    requires step { slice_get steps.now place ≡ Some step.now }
+    requires place { place < length steps.now }
     ensures terms { GrewOrFull cx.old cx.new result }
-    ensures rule { IfOk result (λ b. b ≡ true → StepHasRule (declared cx.old.entries declarations.now)
-        (terms_of cx.old.entries clauses.now ++ assumed_in cx.old.entries steps.now) cx.old.entries (steps_say cx.old.entries steps.now) step.now) }
-    ensures stand { IfOk result (λ b. b ≡ true → PremisesStand (declared cx.old.entries declarations.now)
-        (steps_say cx.old.entries steps.now) place step.now.reference.def_id.index (at_places (steps_say cx.old.entries steps.now) step.now.premises.items)) }
+    ensures rule { IfOk result (λ b. b ≡ true → IfSome (slice_get steps.now place) (StepHasRule (declared cx.old.entries declarations.now)
+        (terms_of cx.old.entries clauses.now ++ assumed_in cx.old.entries steps.now) cx.old.entries (steps_say cx.old.entries steps.now))) }
+    ensures stand { IfOk result (λ b. b ≡ true → IfSome (slice_get steps.now place) (λ step. PremisesStand (declared cx.old.entries declarations.now)
+        (steps_say cx.old.entries steps.now) place step.reference.def_id.index (at_places (steps_say cx.old.entries steps.now) step.premises.items))) }
 {
+    let step = &steps[place];
     let allowed = if is_coinductive(declarations, step.reference.def_id) {
         steps.len()
     } else {
@@ -108,7 +108,7 @@ fn is_step(
     };
     let leaf = is_leaf(step);
     match step.way {
-        Way::Impl(id, args) => match by_impl(alloc, cx, declarations, step.reference, id, args)? {
+        Way::Impl(source) => match by_impl(alloc, cx, declarations, step.reference, source)? {
             Some(premises) => {
                 premises_stand(alloc, cx, steps, allowed, &step.premises, &premises)
             }
@@ -150,8 +150,8 @@ fn is_proof(
         → AreProof cx.old.entries (declared cx.old.entries declarations.now) (terms_of cx.old.entries clauses.now) steps.now) }
 {
     declarations_are_kept();
-    'steps: for (place, step) in steps.iter().enumerate() {
-        if !is_step(alloc, cx, declarations, clauses, steps, place, step)? {
+    'steps: for place in 0..steps.len() {
+        if !is_step(alloc, cx, declarations, clauses, steps, place)? {
             return Ok(false);
         }
     }

@@ -14,12 +14,12 @@ ghost use Rattle.proof_checker.specs.Steps.{term_of, terms_of, ParametersAreCove
 use crate::lifetimes::are_one;
 use crate::rows::by_built_in;
 use crate::rules::by_impl;
+use crate::steps::ImplSource;
 use declarations::declarations::Declarations;
 use std::alloc::Global;
 use term_folds::predicate::TraitRef;
+use type_terms::Fault;
 use type_terms::interner::Interner;
-use type_terms::kinds::GenericArgs;
-use type_terms::{Fault, ImplId};
 
 /// Whether the first of these trait references are the premises, one for one.
 fn are_first(
@@ -50,7 +50,7 @@ fn are_first(
     Ok(true)
 }
 
-/// Whether the trait reference follows by the impl with these arguments, from premises of which the first are these.
+/// Whether the trait reference follows by the impl, from premises of which the first are these.
 ///
 /// `false` means nothing: trait references that differ in the lifetimes of a `for` may be missed.
 /// The fault is `Memory` if memory is refused, or `Full` if a kind of term is full.
@@ -59,20 +59,19 @@ pub fn follows_by_impl(
     cx: &mut Interner,
     declarations: &Declarations,
     reference: TraitRef,
-    id: ImplId,
-    args: GenericArgs,
+    source: ImplSource,
     premises: &[TraitRef],
 ) -> Result<bool, Fault>
     requires declared { AreHeld cx.old.entries declarations.now }
     requires covered { ParametersAreCovered cx.old.entries declarations.now }
     requires reference { ReferenceHeld cx.old.entries reference }
-    requires args { Has cx.old.entries args_lists args.0 }
+    requires args { Has cx.old.entries args_lists source.args.0 }
     requires premises { TraitRefsHeld cx.old.entries premises.now }
     ensures terms { GrewOrFull cx.old cx.new result }
     ensures follows { IfOk result (λ b. b ≡ true → (E : List Reference) → IsConcludedFrom (declared cx.old.entries declarations.now) E
-        (term_of cx.old.entries reference) (by_impl id.index) (terms_of cx.old.entries premises.now)) }
+        (term_of cx.old.entries reference) (by_impl source.impl_def_id.index) (terms_of cx.old.entries premises.now)) }
 {
-    match by_impl(alloc, cx, declarations, reference, id, args)? {
+    match by_impl(alloc, cx, declarations, reference, source)? {
         Some(asked) => are_first(alloc, cx, &asked, premises),
         None => Ok(false),
     }

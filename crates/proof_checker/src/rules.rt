@@ -15,15 +15,16 @@ ghost use Rattle.proof_checker.specs.Checked.{IsRuleByWay};
 ghost use Rattle.proof_checker.specs.Steps.{term_of, terms_of, ParametersAreCovered};
 
 use crate::lifetimes::are_one;
+use crate::steps::ImplSource;
 use declarations::declarations::Declarations;
 use std::alloc::Global;
 use term_folds::binder::EarlyBinder;
 use term_folds::instantiate::InstantiateError;
 use term_folds::laws::closed_arguments_are_in_range;
 use term_folds::predicate::TraitRef;
+use type_terms::Fault;
 use type_terms::interner::Interner;
 use type_terms::kinds::GenericArgs;
-use type_terms::{Fault, ImplId};
 
 /// A trait reference with its parameters replaced by arguments, if these fit.
 fn with_arguments(
@@ -81,34 +82,33 @@ pub(crate) fn all_with_arguments(
     Ok(Some(found))
 }
 
-/// The premises by which an impl with these arguments concludes the trait reference, if its header with them is the reference up to
-/// lifetimes.
+/// The premises by which an impl concludes the trait reference, if its header with the arguments is the reference up to lifetimes.
 pub(crate) fn by_impl(
     alloc: Global,
     cx: &mut Interner,
     declarations: &Declarations,
     reference: TraitRef,
-    id: ImplId,
-    args: GenericArgs,
+    source: ImplSource,
 ) -> Result<Option<Vec<TraitRef>>, Fault>
     requires declared { AreHeld cx.old.entries declarations.now }
     requires covered { ParametersAreCovered cx.old.entries declarations.now }
     requires reference { ReferenceHeld cx.old.entries reference }
-    requires args { Has cx.old.entries args_lists args.0 }
+    requires args { Has cx.old.entries args_lists source.args.0 }
     ensures terms { GrewOrFull cx.old cx.new result }
     ensures held { IfOk result (λ o. IfSome o (λ v. TraitRefsHeld cx.new.entries v.items)) }
     ensures rule { IfOk result (λ o. IfSome o (λ v. (E : List Reference)
-        → IsRuleByWay (declared cx.old.entries declarations.now) E (term_of cx.old.entries reference) (by_impl id.index) (terms_of cx.new.entries v.items))) }
+        → IsRuleByWay (declared cx.old.entries declarations.now) E (term_of cx.old.entries reference)
+        (by_impl source.impl_def_id.index) (terms_of cx.new.entries v.items))) }
 {
     cx.lawful();
-    let def = match declarations.impl_def(id) {
+    let def = match declarations.impl_def(source.impl_def_id) {
         Some(def) => def,
         None => return Ok(None),
     };
-    if cx.outer_exclusive_binder(args).index != 0 {
+    if cx.outer_exclusive_binder(source.args).index != 0 {
         return Ok(None);
     }
-    let made = with_arguments(alloc, cx, def.header, args)?;
+    let made = with_arguments(alloc, cx, def.header, source.args)?;
     let header = match made {
         Some(header) => header,
         None => return Ok(None),
@@ -116,7 +116,7 @@ pub(crate) fn by_impl(
     if !are_one(alloc, cx, header, reference)? {
         return Ok(None);
     }
-    all_with_arguments(alloc, cx, &def.clauses, args)
+    all_with_arguments(alloc, cx, &def.clauses, source.args)
 }
 
 /// Whether the where-clause at this position concludes the trait reference.

@@ -4,11 +4,18 @@ use term_folds::predicate::TraitRef;
 use type_terms::ImplId;
 use type_terms::kinds::GenericArgs;
 
+/// An impl with an argument for each of its parameters (`ImplSourceUserDefinedData`). Arguments of lifetimes do not matter.
+#[derive(Clone, Copy)]
+pub struct ImplSource {
+    pub impl_def_id: ImplId,
+    pub args: GenericArgs,
+}
+
 /// A rule instance that concludes a trait reference (`CandidateSource`).
 #[derive(Clone, Copy)]
 pub enum Way {
-    /// An impl, with an argument for each of its parameters. Those of lifetimes do not matter.
-    Impl(ImplId, GenericArgs),
+    /// An impl with arguments.
+    Impl(ImplSource),
     /// The where-clause at this position.
     Clause(usize),
     /// A supertrait of the where-clause at this position, through any number of levels.

@@ -1,4 +1,5 @@
 use Rattle.std.proofs.Common.{◌≡◌, ◌<◌, ◌++◌, inl, inr, ap, sym, ◌∙◌, subst, Some, arith}
+use Rattle.std.specs.Prelude.{IfSome}
 use Rattle.std.specs.List.{slice_get}
 use Rattle.type_terms.specs.Promised.Proofs.{In}
 use Rattle.type_terms.proofs.Grown.{grew-on}
@@ -6,8 +7,8 @@ use Rattle.declarations.specs.Items.{declared}
 use Rattle.declarations.specs.Held.{ReferenceHeld}
 use Rattle.declarations.proofs.Growth.{reference-kept, each-kept}
 use Rattle.proof_checker.specs.declared.steps.Step.{Step}
-use Rattle.proof_checker.specs.Steps.{terms_of, steps_say, assumed_in, StepHeld}
-use Rattle.proof_checker.proofs.Ways.{get-at}
+use Rattle.proof_checker.specs.Checked.{StepHasRule, PremisesStand}
+use Rattle.proof_checker.specs.Steps.{terms_of, steps_say, at_places, assumed_in, StepHeld}
 use Rattle.proof_checker.proofs.Places.{each-at}
 use Rattle.proof_checker.proofs.Later.{steps-kept, say-same, term-same, terms-same, assumed-same}
 use Rattle.proof_checker.proofs.Ends.{StepFollows, get-below, are-proof, moved, one-more-place}
@@ -32,9 +33,6 @@ is_step-requires-clause-clauses c =
 pub is_step-requires-clause-steps : goal.is_step-requires-clause-steps
 is_step-requires-clause-steps c = steps-kept c.args.cx.now.entries c.steps.cx.entries c.steps.invariant.grew.keeps c.args.steps.now c.requires.steps
 
-pub is_step-requires-clause-step : goal.is_step-requires-clause-step
-is_step-requires-clause-step c = get-at c.args.steps.now c.steps.place c.index-steps-place.result c.steps-test.true c.index-steps-place.is
-
 pub steps-preserved : goal.steps-preserved
 steps-preserved c =
     let es = c.args.cx.now.entries in
@@ -44,26 +42,29 @@ steps-preserved c =
     let cl = c.args.clauses.now in
     let ss = c.args.steps.now in
     let n = c.steps.place in
-    let st = c.index-steps-place.result in
     let W = declared es d in
     let E = terms_of es cl ++ assumed_in es ss in
     let rs = steps_say es ss in
-    let got = get-at ss n st c.steps-test.true c.index-steps-place.is in
-    let held = each-at (StepHeld es) ss n st c.requires.steps got in
-    let say = say-same es now inv.grew.keeps ss c.requires.steps in
-    let both : terms_of now cl ++ assumed_in now ss ≡ E = ap (λ l. l ++ assumed_in now ss) (terms-same es now inv.grew.keeps cl c.requires.clauses) ∙ ap (λ l. terms_of es cl ++ l) (assumed-same es now inv.grew.keeps ss c.requires.steps) in
+    let now_say = steps_say now ss in
+    let now_all = terms_of now cl ++ assumed_in now ss in
+    let V = declared now d in
     let q = c.if-not-branch.false in
-    let at_now : StepFollows (declared now d) (terms_of now cl ++ assumed_in now ss) now (steps_say now ss) n st = record { rule = c.in_ok-is_step.ensures.rule q; stand = c.in_ok-is_step.ensures.stand q } in
-    let here : StepFollows W E es rs n st =
-    moved (declared now d) W (terms_of now cl ++ assumed_in now ss) E now es (steps_say now ss) rs n st
-    (c.declarations_are_kept.ensures.declares es now d inv.grew.keeps c.requires.declared) both (term-same es now inv.grew.keeps st.reference held.0) say at_now in
+    let both : now_all ≡ E = ap (λ l. l ++ assumed_in now ss) (terms-same es now inv.grew.keeps cl c.requires.clauses) ∙ ap (λ l. terms_of es cl ++ l) (assumed-same es now inv.grew.keeps ss c.requires.steps) in
+    let here : (s : Step) → slice_get ss n ≡ Some s → StepFollows W E es rs n s =
+    λ s e.
+    let held = each-at (StepHeld es) ss n s c.requires.steps e in
+    moved V W now_all E now es now_say rs n s
+    (c.declarations_are_kept.ensures.declares es now d inv.grew.keeps c.requires.declared) both (term-same es now inv.grew.keeps s.reference held.0)
+    (say-same es now inv.grew.keeps ss c.requires.steps)
+    (record {
+      rule = subst (λ o. IfSome o (StepHasRule V now_all now now_say)) e (c.in_ok-is_step.ensures.rule q);
+      stand = subst (λ o. IfSome o (λ (t : Step). PremisesStand V now_say n t.reference.def_id.index (at_places now_say t.premises.items))) e (c.in_ok-is_step.ensures.stand q);
+    }) in
     record {
       grew = grew-on inv.grew c.is_step.ensures.terms.grew;
       follow = λ i s h g. elim (one-more-place i n h) [
         | inl m ↦ inv.follow i s m g
-        | inr m ↦ (let e : slice_get ss n ≡ Some s = subst (λ k. slice_get ss k ≡ Some s) m g in
-            let z : st ≡ s = cc in
-            subst (λ k. StepFollows W E es rs k s) (sym m) (subst (λ (x : Step). StepFollows W E es rs n x) z here))
+        | inr m ↦ subst (λ k. StepFollows W E es rs k s) (sym m) (here s (subst (λ k. slice_get ss k ≡ Some s) m g))
       ];
     }
 

@@ -5,11 +5,12 @@ use Rattle.type_terms.specs.Promised.Rules as rule
 use Rattle.type_terms.specs.Promised.Rules.{is_coinductive}
 use Rattle.type_terms.specs.Promised.Proofs.{In, Every}
 use Rattle.declarations.specs.Items.{declared}
-use Rattle.proof_checker.specs.Checked.{IsRuleByWay, IsBuiltInRule, PremisesStand}
+use Rattle.proof_checker.specs.Checked.{IsRuleByWay, IsBuiltInRule}
 use Rattle.proof_checker.specs.Steps.{term_of, terms_of, steps_say, at_places, assumed_in, IsWayOf, StepHeld, WayHeld}
 use Rattle.proof_checker.proofs.Results.{mapped, both, not-ok, never}
-use Rattle.proof_checker.proofs.Places.{each-at}
-use Rattle.proof_checker.proofs.Ways.{rule-more, assumed-rule}
+use Rattle.proof_checker.proofs.Places.{each-below}
+use Rattle.proof_checker.proofs.Ends.{rule-at, stand-at}
+use Rattle.proof_checker.proofs.Ways.{rule-more, assumed-rule, get-at}
 use Rattle.proof_checker.proofs.Later.{steps-kept, say-same, say-length, stand-all, stand-before, assumed-in}
 use Rattle.type_terms.proofs.Grown.{grew-none, grew-on}
 use Rattle.type_terms.proofs.FailFacts.{at-limit}
@@ -21,10 +22,10 @@ pub premises_stand-requires-clause-steps : goal.premises_stand-requires-clause-s
 premises_stand-requires-clause-steps c = steps-kept c.args.cx.now.entries c.by_impl.new.cx.entries c.by_impl.ensures.terms.grew.keeps c.args.steps.now c.requires.steps
 
 pub by_clause-requires-clause-reference : goal.by_clause-requires-clause-reference
-by_clause-requires-clause-reference c = (each-at (StepHeld c.args.cx.now.entries) c.args.steps.now c.args.place c.args.step.now c.requires.steps c.requires.step).0
+by_clause-requires-clause-reference c = (each-below (StepHeld c.args.cx.now.entries) c.args.steps.now c.args.place c.index-steps-place.result c.requires.steps c.requires.place c.index-steps-place.is).0
 
 pub by_supertrait-requires-clause-reference : goal.by_supertrait-requires-clause-reference
-by_supertrait-requires-clause-reference c = (each-at (StepHeld c.args.cx.now.entries) c.args.steps.now c.args.place c.args.step.now c.requires.steps c.requires.step).0
+by_supertrait-requires-clause-reference c = (each-below (StepHeld c.args.cx.now.entries) c.args.steps.now c.args.place c.index-steps-place.result c.requires.steps c.requires.place c.index-steps-place.is).0
 
 -- ---- impls
 pub returns-in-Some-clause-rule : goal.returns-in-Some-clause-rule
@@ -32,19 +33,20 @@ returns-in-Some-clause-rule c =
     let es = c.args.cx.now.entries in
     let fs = c.by_impl.new.cx.entries in
     let ss = c.args.steps.now in
+    let st = c.index-steps-place.result in
     let W = declared es c.args.declarations.now in
     let E = terms_of es c.args.clauses.now ++ assumed_in es ss in
-    let r = term_of es c.args.step.now.reference in
+    let r = term_of es st.reference in
     let rs = steps_say es ss in
-    let ps = c.args.step.now.premises.items in
-    let way = rule.by_impl c.in-Impl.id.index in
+    let ps = st.premises.items in
+    let way = rule.by_impl c.in-Impl.source.impl_def_id.index in
     let same = say-same es fs c.by_impl.ensures.terms.grew.keeps ss c.requires.steps in
     let by = subst (λ o. IfSome o (λ v. (F : _) → IsRuleByWay W F r way (terms_of fs v.items))) c.in-Some.is c.in_ok-premises-in-Impl.ensures.rule in
     mapped _ _ c.premises_stand.result
     (λ b are q.
     let places : at_places rs ps ≡ terms_of fs c.in-Some.premises.items =
     ap (λ l. at_places l ps) (sym same) ∙ ap (at_places (steps_say fs ss)) (sym c.deref.ensures.value) ∙ are q ∙ ap (terms_of fs) c.deref-in-Some.ensures.value in
-    record { way = way; of_step = subst (λ w. IsWayOf w way) (sym c.in-Impl.is) refl; rule = subst (IsRuleByWay W E r way) (sym places) (by E) })
+    rule-at W es ss c.args.place st c.requires.place c.index-steps-place.is (terms_of fs c.in-Some.premises.items) places E way (subst (λ w. IsWayOf w way) (sym c.in-Impl.is) refl) (by E))
     c.premises_stand.ensures.are
 
 pub returns-in-Some-clause-stand : goal.returns-in-Some-clause-stand
@@ -52,23 +54,25 @@ returns-in-Some-clause-stand c =
     let es = c.args.cx.now.entries in
     let fs = c.by_impl.new.cx.entries in
     let ss = c.args.steps.now in
+    let st = c.index-steps-place.result in
     let W = declared es c.args.declarations.now in
-    let t = c.args.step.now.reference.def_id.index in
+    let t = st.reference.def_id.index in
     let rs = steps_say es ss in
-    let ps = at_places rs c.args.step.now.premises.items in
+    let ps = at_places rs st.premises.items in
     let same = say-same es fs c.by_impl.ensures.terms.grew.keeps ss c.requires.steps in
     let n = c.if-is_coinductive.allowed in
     let co = c.is_coinductive.ensures es in
     both _ _ _ c.premises_stand.result
     (λ b are stands q.
     let places : ps ≡ terms_of fs c.deref-in-Some.result.now =
-    ap (λ l. at_places l c.args.step.now.premises.items) (sym same) ∙ ap (at_places (steps_say fs ss)) (sym c.deref.ensures.value) ∙ are q in
+    ap (λ l. at_places l st.premises.items) (sym same) ∙ ap (at_places (steps_say fs ss)) (sym c.deref.ensures.value) ∙ are q in
     let stand : Every (λ (p : Reference). In p (take n rs)) ps =
     subst (λ l. Every (λ (p : Reference). In p (take n l)) ps) same (subst (λ l. Every (λ (p : Reference). In p (take n (steps_say fs ss))) l) (sym places) (stands q)) in
-    elim c.if-is_coinductive.branch [
+    stand-at W es ss c.args.place st c.requires.place c.index-steps-place.is ps refl
+    (elim c.if-is_coinductive.branch [
       | then-is_coinductive w ↦ stand-all (is_coinductive W t) (sym co ∙ w.if-is_coinductive.true) n c.args.place rs ps (w.allowed-is ∙ sym (say-length es ss)) stand
       | else-is_coinductive w ↦ stand-before (is_coinductive W t) (sym co ∙ w.if-is_coinductive.false) n c.args.place rs ps w.allowed-is stand
-    ])
+    ]))
     c.premises_stand.ensures.are c.premises_stand.ensures.stand
 
 -- ---- built-in rules
@@ -76,18 +80,19 @@ pub premises_stand-requires-in-Some-2-clause-steps : goal.premises_stand-require
 premises_stand-requires-in-Some-2-clause-steps c = steps-kept c.args.cx.now.entries c.by_built_in.new.cx.entries c.by_built_in.ensures.terms.grew.keeps c.args.steps.now c.requires.steps
 
 pub by_built_in-requires-clause-reference : goal.by_built_in-requires-clause-reference
-by_built_in-requires-clause-reference c = (each-at (StepHeld c.args.cx.now.entries) c.args.steps.now c.args.place c.args.step.now c.requires.steps c.requires.step).0
+by_built_in-requires-clause-reference c = (each-below (StepHeld c.args.cx.now.entries) c.args.steps.now c.args.place c.index-steps-place.result c.requires.steps c.requires.place c.index-steps-place.is).0
 
 pub returns-in-Some-2-clause-rule : goal.returns-in-Some-2-clause-rule
 returns-in-Some-2-clause-rule c =
     let es = c.args.cx.now.entries in
     let fs = c.by_built_in.new.cx.entries in
     let ss = c.args.steps.now in
+    let st = c.index-steps-place.result in
     let W = declared es c.args.declarations.now in
     let E = terms_of es c.args.clauses.now ++ assumed_in es ss in
-    let r = term_of es c.args.step.now.reference in
+    let r = term_of es st.reference in
     let rs = steps_say es ss in
-    let ps = c.args.step.now.premises.items in
+    let ps = st.premises.items in
     let same = say-same es fs c.by_built_in.ensures.terms.grew.keeps ss c.requires.steps in
     let found = subst (λ o. IfSome o (λ v. (F : List Reference) → IsBuiltInRule W F r (terms_of fs v.items))) c.in-Some-2.is c.in_ok-premises-in-BuiltIn.ensures.rule E in
     let way = rule.built_in found.0 in
@@ -95,7 +100,7 @@ returns-in-Some-2-clause-rule c =
     (λ b are q.
     let places : at_places rs ps ≡ terms_of fs c.in-Some-2.premises.items =
     ap (λ l. at_places l ps) (sym same) ∙ ap (at_places (steps_say fs ss)) (sym c.deref-in-Some-2.ensures.value) ∙ are q ∙ ap (terms_of fs) c.deref-in-Some-2-2.ensures.value in
-    record { way = way; of_step = subst (λ w. IsWayOf w way) (sym c.in-BuiltIn.is) (found.0, refl); rule = subst (IsRuleByWay W E r way) (sym places) found.1 })
+    rule-at W es ss c.args.place st c.requires.place c.index-steps-place.is (terms_of fs c.in-Some-2.premises.items) places E way (subst (λ w. IsWayOf w way) (sym c.in-BuiltIn.is) (found.0, refl)) found.1)
     c.premises_stand-in-Some-2.ensures.are
 
 pub returns-in-Some-2-clause-stand : goal.returns-in-Some-2-clause-stand
@@ -103,23 +108,25 @@ returns-in-Some-2-clause-stand c =
     let es = c.args.cx.now.entries in
     let fs = c.by_built_in.new.cx.entries in
     let ss = c.args.steps.now in
+    let st = c.index-steps-place.result in
     let W = declared es c.args.declarations.now in
-    let t = c.args.step.now.reference.def_id.index in
+    let t = st.reference.def_id.index in
     let rs = steps_say es ss in
-    let ps = at_places rs c.args.step.now.premises.items in
+    let ps = at_places rs st.premises.items in
     let same = say-same es fs c.by_built_in.ensures.terms.grew.keeps ss c.requires.steps in
     let n = c.if-is_coinductive.allowed in
     let co = c.is_coinductive.ensures es in
     both _ _ _ c.premises_stand-in-Some-2.result
     (λ b are stands q.
     let places : ps ≡ terms_of fs c.deref-in-Some-2-2.result.now =
-    ap (λ l. at_places l c.args.step.now.premises.items) (sym same) ∙ ap (at_places (steps_say fs ss)) (sym c.deref-in-Some-2.ensures.value) ∙ are q in
+    ap (λ l. at_places l st.premises.items) (sym same) ∙ ap (at_places (steps_say fs ss)) (sym c.deref-in-Some-2.ensures.value) ∙ are q in
     let stand : Every (λ (p : Reference). In p (take n rs)) ps =
     subst (λ l. Every (λ (p : Reference). In p (take n l)) ps) same (subst (λ l. Every (λ (p : Reference). In p (take n (steps_say fs ss))) l) (sym places) (stands q)) in
-    elim c.if-is_coinductive.branch [
+    stand-at W es ss c.args.place st c.requires.place c.index-steps-place.is ps refl
+    (elim c.if-is_coinductive.branch [
       | then-is_coinductive w ↦ stand-all (is_coinductive W t) (sym co ∙ w.if-is_coinductive.true) n c.args.place rs ps (w.allowed-is ∙ sym (say-length es ss)) stand
       | else-is_coinductive w ↦ stand-before (is_coinductive W t) (sym co ∙ w.if-is_coinductive.false) n c.args.place rs ps w.allowed-is stand
-    ])
+    ]))
     c.premises_stand-in-Some-2.ensures.are c.premises_stand-in-Some-2.ensures.stand
 
 -- ---- where-clauses
@@ -127,48 +134,40 @@ pub returns-then-found-clause-rule : goal.returns-then-found-clause-rule
 returns-then-found-clause-rule c = λ q.
     let es = c.args.cx.now.entries in
     let ss = c.args.steps.now in
+    let st = c.index-steps-place.result in
     let W = declared es c.args.declarations.now in
-    let r = term_of es c.args.step.now.reference in
+    let r = term_of es st.reference in
     let way = rule.by_clause c.in-Clause.place in
     let none = ap (at_places (steps_say es ss)) (c.is_leaf-leaf.ensures q) in
-    record {
-      way = way;
-      of_step = subst (λ w. IsWayOf w way) (sym c.in-Clause.is) refl;
-      rule = subst (IsRuleByWay W (terms_of es c.args.clauses.now ++ assumed_in es ss) r way) (sym none)
-          (rule-more W (terms_of es c.args.clauses.now) (assumed_in es ss) r way [] (c.in_ok-found-in-Clause.ensures.rule c.if-found.true W));
-    }
+    rule-at W es ss c.args.place st c.requires.place c.index-steps-place.is [] none (terms_of es c.args.clauses.now ++ assumed_in es ss) way (subst (λ w. IsWayOf w way) (sym c.in-Clause.is) refl)
+    (rule-more W (terms_of es c.args.clauses.now) (assumed_in es ss) r way [] (c.in_ok-found-in-Clause.ensures.rule c.if-found.true W))
 
 pub returns-then-found-2-clause-rule : goal.returns-then-found-2-clause-rule
 returns-then-found-2-clause-rule c = λ q.
     let es = c.args.cx.now.entries in
     let ss = c.args.steps.now in
+    let st = c.index-steps-place.result in
     let W = declared es c.args.declarations.now in
-    let r = term_of es c.args.step.now.reference in
+    let r = term_of es st.reference in
     let found = c.in_ok-found-in-Supertrait.ensures.rule c.if-found-2.true in
     let way = rule.by_super c.in-Supertrait.place found.0 in
     let none = ap (at_places (steps_say es ss)) (c.is_leaf-leaf.ensures q) in
-    record {
-      way = way;
-      of_step = subst (λ w. IsWayOf w way) (sym c.in-Supertrait.is) (found.0, refl);
-      rule = subst (IsRuleByWay W (terms_of es c.args.clauses.now ++ assumed_in es ss) r way) (sym none)
-          (rule-more W (terms_of es c.args.clauses.now) (assumed_in es ss) r way [] found.1);
-    }
+    rule-at W es ss c.args.place st c.requires.place c.index-steps-place.is [] none (terms_of es c.args.clauses.now ++ assumed_in es ss) way (subst (λ w. IsWayOf w way) (sym c.in-Supertrait.is) (found.0, refl))
+    (rule-more W (terms_of es c.args.clauses.now) (assumed_in es ss) r way [] found.1)
 
 -- ---- what is assumed
 pub returns-in-Assumed-clause-rule : goal.returns-in-Assumed-clause-rule
 returns-in-Assumed-clause-rule c = λ q.
     let es = c.args.cx.now.entries in
     let ss = c.args.steps.now in
+    let st = c.index-steps-place.result in
     let W = declared es c.args.declarations.now in
-    let r = term_of es c.args.step.now.reference in
-    let found = assumed-rule W (terms_of es c.args.clauses.now) (assumed_in es ss) r (assumed-in es ss c.args.place c.args.step.now c.requires.step c.in-Assumed.is) in
+    let r = term_of es st.reference in
+    let found = assumed-rule W (terms_of es c.args.clauses.now) (assumed_in es ss) r (assumed-in es ss c.args.place st (get-at ss c.args.place st c.requires.place c.index-steps-place.is) c.in-Assumed.is) in
     let way = rule.by_clause found.0 in
     let none = ap (at_places (steps_say es ss)) (c.is_leaf-leaf.ensures q) in
-    record {
-      way = way;
-      of_step = subst (λ w. IsWayOf w way) (sym c.in-Assumed.is) (found.0, refl);
-      rule = subst (IsRuleByWay W (terms_of es c.args.clauses.now ++ assumed_in es ss) r way) (sym none) found.1;
-    }
+    rule-at W es ss c.args.place st c.requires.place c.index-steps-place.is [] none (terms_of es c.args.clauses.now ++ assumed_in es ss) way (subst (λ w. IsWayOf w way) (sym c.in-Assumed.is) (found.0, refl))
+    found.1
 
 pub by_impl-requires-clause-declared : goal.by_impl-requires-clause-declared
 by_impl-requires-clause-declared c = c.requires.declared
@@ -177,11 +176,11 @@ pub by_impl-requires-clause-covered : goal.by_impl-requires-clause-covered
 by_impl-requires-clause-covered c = c.requires.covered
 
 pub by_impl-requires-clause-reference : goal.by_impl-requires-clause-reference
-by_impl-requires-clause-reference c = (each-at (StepHeld c.args.cx.now.entries) c.args.steps.now c.args.place c.args.step.now c.requires.steps c.requires.step).0
+by_impl-requires-clause-reference c = (each-below (StepHeld c.args.cx.now.entries) c.args.steps.now c.args.place c.index-steps-place.result c.requires.steps c.requires.place c.index-steps-place.is).0
 
 pub by_impl-requires-clause-args : goal.by_impl-requires-clause-args
 by_impl-requires-clause-args c =
-    subst (WayHeld c.args.cx.now.entries) c.in-Impl.is (each-at (StepHeld c.args.cx.now.entries) c.args.steps.now c.args.place c.args.step.now c.requires.steps c.requires.step).1
+    subst (WayHeld c.args.cx.now.entries) c.in-Impl.is (each-below (StepHeld c.args.cx.now.entries) c.args.steps.now c.args.place c.index-steps-place.result c.requires.steps c.requires.place c.index-steps-place.is).1
 
 pub returns-in_err-premises-in-Impl-clause-terms : goal.returns-in_err-premises-in-Impl-clause-terms
 returns-in_err-premises-in-Impl-clause-terms c = record {
@@ -240,8 +239,10 @@ returns-then-found-clause-terms c = record {
 }
 
 pub returns-then-found-clause-stand : goal.returns-then-found-clause-stand
-returns-then-found-clause-stand c = λ q. subst (λ l. PremisesStand (declared c.args.cx.now.entries c.args.declarations.now) (steps_say c.args.cx.now.entries c.args.steps.now) c.args.place c.args.step.now.reference.def_id.index (at_places (steps_say c.args.cx.now.entries c.args.steps.now) l))
-    (sym (c.is_leaf-leaf.ensures q)) tt
+returns-then-found-clause-stand c = λ q.
+    let es = c.args.cx.now.entries in
+    let ss = c.args.steps.now in
+    stand-at (declared es c.args.declarations.now) es ss c.args.place c.index-steps-place.result c.requires.place c.index-steps-place.is [] (ap (at_places (steps_say es ss)) (c.is_leaf-leaf.ensures q)) tt
 
 pub returns-else-found-clause-terms : goal.returns-else-found-clause-terms
 returns-else-found-clause-terms c = record {
@@ -283,8 +284,10 @@ returns-then-found-2-clause-terms c = record {
 }
 
 pub returns-then-found-2-clause-stand : goal.returns-then-found-2-clause-stand
-returns-then-found-2-clause-stand c = λ q. subst (λ l. PremisesStand (declared c.args.cx.now.entries c.args.declarations.now) (steps_say c.args.cx.now.entries c.args.steps.now) c.args.place c.args.step.now.reference.def_id.index (at_places (steps_say c.args.cx.now.entries c.args.steps.now) l))
-    (sym (c.is_leaf-leaf.ensures q)) tt
+returns-then-found-2-clause-stand c = λ q.
+    let es = c.args.cx.now.entries in
+    let ss = c.args.steps.now in
+    stand-at (declared es c.args.declarations.now) es ss c.args.place c.index-steps-place.result c.requires.place c.index-steps-place.is [] (ap (at_places (steps_say es ss)) (c.is_leaf-leaf.ensures q)) tt
 
 pub returns-else-found-2-clause-terms : goal.returns-else-found-2-clause-terms
 returns-else-found-2-clause-terms c = record {
@@ -343,5 +346,7 @@ returns-in-Assumed-clause-terms c = record {
 }
 
 pub returns-in-Assumed-clause-stand : goal.returns-in-Assumed-clause-stand
-returns-in-Assumed-clause-stand c = λ q. subst (λ l. PremisesStand (declared c.args.cx.now.entries c.args.declarations.now) (steps_say c.args.cx.now.entries c.args.steps.now) c.args.place c.args.step.now.reference.def_id.index (at_places (steps_say c.args.cx.now.entries c.args.steps.now) l))
-    (sym (c.is_leaf-leaf.ensures q)) tt
+returns-in-Assumed-clause-stand c = λ q.
+    let es = c.args.cx.now.entries in
+    let ss = c.args.steps.now in
+    stand-at (declared es c.args.declarations.now) es ss c.args.place c.index-steps-place.result c.requires.place c.index-steps-place.is [] (ap (at_places (steps_say es ss)) (c.is_leaf-leaf.ensures q)) tt

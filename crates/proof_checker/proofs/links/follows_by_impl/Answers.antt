@@ -25,7 +25,7 @@ returns-in-Some-clause-follows c =
     let ps = c.args.premises.now in
     let V = declared es c.args.declarations.now in
     let r = term_of es c.args.reference in
-    let way = rule.by_impl c.args.id.index in
+    let way = rule.by_impl c.args.source.impl_def_id.index in
     let by = subst (λ o. IfSome o (λ v. (F : _) → IsRuleByWay V F r way (terms_of now v.items))) c.in-Some.is c.in_ok-asked.ensures.rule in
     let same : terms_of now ps ≡ terms_of es ps =
     terms-map now ps ∙ ap (map erased_reference) (all-same es now c.by_impl.ensures.terms.grew.keeps ps c.requires.premises) ∙ sym (terms-map es ps) in

@@ -42,20 +42,20 @@ returns-clause-rule c =
     let k1 = c.with_arguments.ensures.terms.grew.keeps in
     let k2 = c.are_one.ensures.terms.grew.keeps in
     let law = c.lawful.ensures in
-    let A = trees_at es c.args.args.0 in
-    let B = trees_at es2 c.args.args.0 in
+    let A = trees_at es c.args.source.args.0 in
+    let B = trees_at es2 c.args.source.args.0 in
     let d = c.args.declarations.now in
     let def = c.in-Some.def.now in
     let V = written es d in
-    let i = impl_in es c.args.id def in
+    let i = impl_in es c.args.source.impl_def_id def in
     let ih = c.in-Some.ensures.held es c.requires.declared in
     let named = c.in-Some.ensures.written es in
-    let mem = (in-filter (λ (x : ImplDecl). x.name == c.args.id.index) V.impls i (subst (In i) (sym named) (here i []))).0 in
-    let made = args-made es law c.args.args.0 c.requires.args in
+    let mem = (in-filter (λ (x : ImplDecl). x.name == c.args.source.impl_def_id.index) V.impls i (subst (In i) (sym named) (here i []))).0 in
+    let made = args-made es law c.args.source.args.0 c.requires.args in
     let cl = c.deref.result.now in
     let dv = c.deref.ensures.value in
     let held_cl = subst (TraitRefsHeld es) (sym dv) ih.clauses in
-    let now_then = trees-later es es2 (λ j e g. k2 j e (k1 j e g)) args_lists c.args.args.0 c.requires.args in
+    let now_then = trees-later es es2 (λ j e g. k2 j e (k1 j e g)) args_lists c.args.source.args.0 c.requires.args in
     let hd = subst (λ o. IfSome o (λ (x : TraitRef). reference_in es1 x ≡ with_args A (reference_in es def.header))) c.in-Some-made.is c.in_ok-made.ensures.is in
     let hf = subst (λ o. IfSome o (λ (x : TraitRef). first_misfit A (trees_at es def.header.args.0) ≡ None)) c.in-Some-made.is c.in_ok-made.ensures.fits in
     let q = c.in_ok-are_one.ensures.one c.if-not-branch.false in
@@ -131,11 +131,11 @@ returns-then-not-branch-clause-terms c = record {
 
 pub all_with_arguments-requires-clause-args : goal.all_with_arguments-requires-clause-args
 all_with_arguments-requires-clause-args c =
-    has-later c.args.cx.now.entries c.are_one.new.cx.entries (λ i e h. c.are_one.ensures.terms.grew.keeps i e (c.with_arguments.ensures.terms.grew.keeps i e h)) args_lists c.args.args.0 c.requires.args
+    has-later c.args.cx.now.entries c.are_one.new.cx.entries (λ i e h. c.are_one.ensures.terms.grew.keeps i e (c.with_arguments.ensures.terms.grew.keeps i e h)) args_lists c.args.source.args.0 c.requires.args
 
 pub all_with_arguments-requires-clause-closed : goal.all_with_arguments-requires-clause-closed
 all_with_arguments-requires-clause-closed c =
-    ap outer_binder (trees-later c.args.cx.now.entries c.are_one.new.cx.entries (λ i e h. c.are_one.ensures.terms.grew.keeps i e (c.with_arguments.ensures.terms.grew.keeps i e h)) args_lists c.args.args.0 c.requires.args)
+    ap outer_binder (trees-later c.args.cx.now.entries c.are_one.new.cx.entries (λ i e h. c.are_one.ensures.terms.grew.keeps i e (c.with_arguments.ensures.terms.grew.keeps i e h)) args_lists c.args.source.args.0 c.requires.args)
     ∙ sym c.outer_exclusive_binder.ensures ∙ c.if-outer_exclusive_binder-ne0.false
 
 pub returns-clause-terms : goal.returns-clause-terms
