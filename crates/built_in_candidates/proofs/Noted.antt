@@ -5,7 +5,7 @@ use Rattle.type_terms.specs.Promised.Handles.{Entry, Keeps}
 use Rattle.type_terms.specs.Promised.Worlds.{World, Reference}
 use Rattle.term_folds.specs.declared.predicate.TraitRef.{TraitRef}
 use Rattle.infer_table.proofs.StepFacts.{keeps-trans}
-use Rattle.declarations.specs.Items.{Items, reference_in, written}
+use Rattle.declarations.specs.Items.{Items, written}
 use Rattle.declarations.specs.Held.{AreHeld}
 use Rattle.declarations.specs.Applied.{references_in, TraitRefsHeld}
 use Rattle.declarations.specs.Promised.Elaboration.{elaborate}

@@ -34,9 +34,10 @@ use Rattle.candidate_model.specs.Asking.{GoalOverKinds, with_plain_head}
 use Rattle.candidate_model.specs.Candidates.{Candidate, by_rule, misc, all_equal, if_so, bounds_from, written_source, object_source, upcasts_from, upcasts_to, upcasts_of, objects_of}
 use Rattle.candidate_model.proofs.Stack.{elaborated-all, elaborated-only}
 use Rattle.built_in_candidates.specs.Objects.{bounds_of, AreArgumentsOf, ObjectIsApplied, numbered_to, BoundRule, bound_in, bounds_to, written_and_elaborated, object_bounds, upcast_bounds, upcasts_between}
+use Rattle.built_in_candidates.specs.Unsizing.{traits_asked}
 
 -- ---- what is read off bounds
-lifetime-no-principal : (self : Trees) (l : Label) → sort_of l ≡ of_lifetime → principal_with self (leaf l) ≡ []
+pub lifetime-no-principal : (self : Trees) (l : Label) → sort_of l ≡ of_lifetime → principal_with self (leaf l) ≡ []
 lifetime-no-principal self (principal n t) h = absurd cc
 lifetime-no-principal self l h = refl
 
@@ -59,17 +60,14 @@ principal-read es self b l h = by b.principal
     by None = autos-no-principal self b.autos.items l h
     by (Some p) = refl
 
-abbrev pub autos_asked : Trees → List TraitId → List Reference
-autos_asked self autos = map (λ (x : TraitId). asked x.index self) autos
-
-autos-alone : (self : Trees) (autos : List TraitId) (l : Label) → sort_of l ≡ of_lifetime → autos_with self (autos_trees autos +++ leaf l) ≡ autos_asked self autos
+autos-alone : (self : Trees) (autos : List TraitId) (l : Label) → sort_of l ≡ of_lifetime → autos_with self (autos_trees autos +++ leaf l) ≡ traits_asked autos self
 autos-alone self [] l h = lifetime-no-auto self l h
 autos-alone self (a ∷ autos) l h = ap (λ rs. asked a.index self ∷ rs) (autos-alone self autos l h)
 
-autos-read : (es : List Entry) (self : Trees) (b : BoundsData) (l : Label) → sort_of l ≡ of_lifetime → autos_with self (bounds_trees es b +++ leaf l) ≡ autos_asked self b.autos.items
+autos-read : (es : List Entry) (self : Trees) (b : BoundsData) (l : Label) → sort_of l ≡ of_lifetime → autos_with self (bounds_trees es b +++ leaf l) ≡ traits_asked b.autos.items self
 autos-read es self b l h = by b.principal
   where
-    by : (o : Option Principal) → autos_with self ((principal_trees es o +++ autos_trees b.autos.items) +++ leaf l) ≡ autos_asked self b.autos.items
+    by : (o : Option Principal) → autos_with self ((principal_trees es o +++ autos_trees b.autos.items) +++ leaf l) ≡ traits_asked b.autos.items self
     by None = autos-alone self b.autos.items l h
     by (Some p) = autos-alone self b.autos.items l h
 
@@ -77,7 +75,7 @@ autos-read es self b l h = by b.principal
 pub principal-at : (es : List Entry) (self : Trees) (i : ℕ) (b : BoundsData) → Is es bounds_lists i (bounds_trees es b) → (l : Label) → sort_of l ≡ of_lifetime → principal_with self (trees_at es i +++ leaf l) ≡ principal_of es self b.principal
 principal-at es self i b e l h = ap (λ t. principal_with self (t +++ leaf l)) (trees-is es bounds_lists i (bounds_trees es b) e) ∙ principal-read es self b l h
 
-pub autos-at : (es : List Entry) (self : Trees) (i : ℕ) (b : BoundsData) → Is es bounds_lists i (bounds_trees es b) → (l : Label) → sort_of l ≡ of_lifetime → autos_with self (trees_at es i +++ leaf l) ≡ autos_asked self b.autos.items
+pub autos-at : (es : List Entry) (self : Trees) (i : ℕ) (b : BoundsData) → Is es bounds_lists i (bounds_trees es b) → (l : Label) → sort_of l ≡ of_lifetime → autos_with self (trees_at es i +++ leaf l) ≡ traits_asked b.autos.items self
 autos-at es self i b e l h = ap (λ t. autos_with self (t +++ leaf l)) (trees-is es bounds_lists i (bounds_trees es b) e) ∙ autos-read es self b l h
 
 -- the lifetime behind the bounds does not count
@@ -87,16 +85,16 @@ principal-any self (tree (principal n t) c o) l k h g = refl
 principal-any self (tree m c o) l k h g = refl
 
 -- so many of them are of the trait
-pub autos-counted : (self : Trees) (t : ℕ) (autos : List TraitId) → count_by (λ (x : TraitId). x.index == t) autos ≡ length (filter (λ (r : Reference). r.trait == t) (autos_asked self autos))
+pub autos-counted : (self : Trees) (t : ℕ) (autos : List TraitId) → count_by (λ (x : TraitId). x.index == t) autos ≡ length (filter (λ (r : Reference). r.trait == t) (traits_asked autos self))
 autos-counted self t autos = sym (length-filter (λ (x : TraitId). x.index == t) autos) ∙ alike autos
   where
-    alike : (xs : List TraitId) → length (filter (λ (x : TraitId). x.index == t) xs) ≡ length (filter (λ (r : Reference). r.trait == t) (autos_asked self xs))
+    alike : (xs : List TraitId) → length (filter (λ (x : TraitId). x.index == t) xs) ≡ length (filter (λ (r : Reference). r.trait == t) (traits_asked xs self))
     alike [] = refl
     alike (a ∷ xs) = by (a.index == t) (alike xs)
       where
-        by : (b : Bool) → length (filter (λ (x : TraitId). x.index == t) xs) ≡ length (filter (λ (r : Reference). r.trait == t) (autos_asked self xs))
+        by : (b : Bool) → length (filter (λ (x : TraitId). x.index == t) xs) ≡ length (filter (λ (r : Reference). r.trait == t) (traits_asked xs self))
             → length (if b then a ∷ filter (λ (x : TraitId). x.index == t) xs else filter (λ (x : TraitId). x.index == t) xs)
-            ≡ length (if b then asked a.index self ∷ filter (λ (r : Reference). r.trait == t) (autos_asked self xs) else filter (λ (r : Reference). r.trait == t) (autos_asked self xs))
+            ≡ length (if b then asked a.index self ∷ filter (λ (r : Reference). r.trait == t) (traits_asked xs self) else filter (λ (r : Reference). r.trait == t) (traits_asked xs self))
         by true e = ap suc e
         by false e = e
 
@@ -119,11 +117,11 @@ applied-in es d [] h = tt
 applied-in es d (r ∷ rs) h = (record { sorts = h.0.sorts; closed = h.0.closed }, applied-in es d rs h.1)
 
 -- ---- one of them is of the trait
-pub any-read : (es : List Entry) (t : ℕ) (rs : List TraitRef) → list_any (λ (r : TraitRef). r.def_id.index == t) rs ≡ list_any (λ (r : Reference). r.trait == t) (references_in es rs)
+any-read : (es : List Entry) (t : ℕ) (rs : List TraitRef) → list_any (λ (r : TraitRef). r.def_id.index == t) rs ≡ list_any (λ (r : Reference). r.trait == t) (references_in es rs)
 any-read es t [] = refl
 any-read es t (r ∷ rs) = ap (λ b. (r.def_id.index == t) || b) (any-read es t rs)
 
-any-asked : (self : Trees) (t : ℕ) (autos : List TraitId) → list_any (λ (x : TraitId). x.index == t) autos ≡ list_any (λ (r : Reference). r.trait == t) (autos_asked self autos)
+any-asked : (self : Trees) (t : ℕ) (autos : List TraitId) → list_any (λ (x : TraitId). x.index == t) autos ≡ list_any (λ (r : Reference). r.trait == t) (traits_asked autos self)
 any-asked self t [] = refl
 any-asked self t (a ∷ autos) = ap (λ b. (a.index == t) || b) (any-asked self t autos)
 
@@ -159,7 +157,7 @@ module _ (es : List Entry) (d : Items) (h : HaveBounds es d) where
   compatible-is now rs ps e = ap (λ b. are_declared (written es d) ps && not b) (any-level now rs ps sized e)
 
   pub autos-are : (now : List Entry) (rs : List TraitRef) (ps : List Reference) → references_in now rs ≡ elaborate (written es d) ps → (self : Trees) (autos bs : List TraitId)
-      → all_found autos rs bs ≡ upcasts_autos (written es d) ps (autos_asked self autos) (autos_asked self bs)
+      → all_found autos rs bs ≡ upcasts_autos (written es d) ps (traits_asked autos self) (traits_asked bs self)
   autos-are now rs ps e self autos [] = refl
   autos-are now rs ps e self autos (b ∷ bs) = both _ _ _ _ here-auto (autos-are now rs ps e self autos bs)
     where
@@ -167,11 +165,11 @@ module _ (es : List Entry) (d : Items) (h : HaveBounds es d) where
       both x y z w p q = cc
 
       here-auto : (list_any (λ (q : TraitId). q.index == b.index) autos || list_any (λ (r : TraitRef). r.def_id.index == b.index) rs)
-          ≡ list_any (λ (q : Reference). q.trait == b.index) (autos_asked self autos ++ elaborated (written es d) ps)
+          ≡ list_any (λ (q : Reference). q.trait == b.index) (traits_asked autos self ++ elaborated (written es d) ps)
       here-auto =
           ap (λ z. z || list_any (λ (r : TraitRef). r.def_id.index == b.index) rs) (any-asked self b.index autos)
-          ∙ ap (λ z. list_any (λ (q : Reference). q.trait == b.index) (autos_asked self autos) || z) (any-level now rs ps b.index e)
-          ∙ sym (list_any-append (λ (q : Reference). q.trait == b.index) (autos_asked self autos) (elaborated (written es d) ps))
+          ∙ ap (λ z. list_any (λ (q : Reference). q.trait == b.index) (traits_asked autos self) || z) (any-level now rs ps b.index e)
+          ∙ sym (list_any-append (λ (q : Reference). q.trait == b.index) (traits_asked autos self) (elaborated (written es d) ps))
 
 -- ---- one reference after the other
 pub numbered-held : (es : List Entry) (t i n : ℕ) (rs : List TraitRef) (k : ℕ) (r : TraitRef) → TraitRefsHeld es rs → Some (k, r) ≡ slice_get (numbered_to t i rs) n → ReferenceHeld es r
@@ -390,7 +388,7 @@ module _ (V : World) (a : GoalOverKinds) (q : Reference) where
   upcast-at ps qs n = ap (λ l. slice_get l n) (to-read ps qs) ∙ slice_get-map by_upcast (upcast_bounds V q.trait ps) n
 
 -- the principal is skipped where it is of another trait
-pub skips-principal : (V : World) (t : ℕ) (p : Reference) → (p.trait == t) ≡ false → (n : ℕ) → slice_get (bounds_to t TraitUpcasting 0 (elaborate V (p ∷ []))) n ≡ slice_get (upcast_bounds V t (p ∷ [])) n
+skips-principal : (V : World) (t : ℕ) (p : Reference) → (p.trait == t) ≡ false → (n : ℕ) → slice_get (bounds_to t TraitUpcasting 0 (elaborate V (p ∷ []))) n ≡ slice_get (upcast_bounds V t (p ∷ [])) n
 skips-principal V t p e n =
     ap (λ b. slice_get (if b then record { source = TraitUpcasting 0; reference = p } ∷ bounds_to t TraitUpcasting 1 (supertraits V p) else bounds_to t TraitUpcasting 1 (supertraits V p)) n) e
     ∙ sym (ap (λ b. slice_get (if b then record { source = Misc; reference = p } ∷ [] else bounds_to t TraitUpcasting 1 (supertraits V p)) n) e)

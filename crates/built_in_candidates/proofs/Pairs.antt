@@ -29,7 +29,7 @@ pub record IsOneTree (s : Sort) (t : Trees) : Type 0 where
   pub is : t ≡ tree label children none
   pub sort : sort_of label ≡ s
 
-type-tree : (t : Trees) → IsA of_type t → IsOneTree of_type t
+pub type-tree : (t : Trees) → IsA of_type t → IsOneTree of_type t
 type-tree none h = absurd h
 type-tree (tree l c o) h = record { label = l; children = c; is = ap (λ z. tree l c z) h.1; sort = h.0 }
 
@@ -51,7 +51,7 @@ value-is s t h = ap (λ x. as_value x (tree h.label h.children none)) h.sort ∙
 abbrev pub equate : Value → Value → Equation
 equate v w = record { left = v; right = w }
 
-pair-first : (s r : Sort) (t u x y : Trees) → IsOneTree s t → IsOneTree r u → all_equal (t +++ x) (u +++ y) ≡ equate (as_value s t) (as_value r u) ∷ all_equal x y
+pub pair-first : (s r : Sort) (t u x y : Trees) → IsOneTree s t → IsOneTree r u → all_equal (t +++ x) (u +++ y) ≡ equate (as_value s t) (as_value r u) ∷ all_equal x y
 pair-first s r t u x y h g =
     ap (λ z. all_equal (z +++ x) (u +++ y)) h.is ∙ ap (λ z. all_equal (tree h.label h.children x) (z +++ y)) g.is
     ∙ ap (λ v. equate v (first_value g.label g.children) ∷ all_equal x y) (value-is s t h)

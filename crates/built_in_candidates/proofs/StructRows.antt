@@ -6,7 +6,7 @@ use Rattle.type_terms.specs.Promised.Label.{Label, adt, of_type}
 use Rattle.type_terms.specs.Promised.Trees.{Trees, none, tree, ◌+++◌, IsA}
 use Rattle.type_terms.specs.Promised.Worlds.{World, Reference, StructDecl, structs_named}
 use Rattle.type_terms.specs.Promised.Rules.{is_unsizing, some_unsizing, with_unsizing, last_unsizes}
-use Rattle.type_terms.proofs.Members.{self-number, same-number}
+use Rattle.type_terms.proofs.Members.{self-number}
 use Rattle.type_terms.specs.Promised.Handles.{Entry, trees_at}
 use Rattle.type_terms.specs.Terms.{Lawful}
 use Rattle.type_terms.specs.Promised.Handles.{ArgHeld, ArgsHeld, arg_trees}
@@ -21,6 +21,7 @@ use Rattle.candidate_model.specs.Asking.{GoalOverKinds}
 use Rattle.candidate_model.specs.Candidates.{by_rule, misc, all_equal, if_so, unsize_by_struct, unsize_struct_of}
 use Rattle.built_in_candidates.specs.Constituents.{AreArguments}
 use Rattle.built_in_candidates.specs.Unsizing.{begins_struct, replaced, tail_asked, FitsStruct}
+use Rattle.built_in_candidates.proofs.Objects.{differ}
 use Rattle.built_in_candidates.proofs.Pairs.{arg-tree}
 use Rattle.type_terms.proofs.ListBasics.{append-none}
 
@@ -141,13 +142,9 @@ module _ (V : World) (a : GoalOverKinds) where
       ap (λ z. if_so z (flat_map (unsize_by_struct V a b d) (structs_named V s))) (sym (subst (λ v. (s == v) ≡ true) e (self-number s)))
       ∙ ap (λ t. unsize_struct_of V a (tree (adt s) b t)) (sym q) ∙ ap (λ t. unsize_struct_of V a (t +++ T)) (sym p)
 
-  not-same : (b : Bool) (s u : ℕ) → (s == u) ≡ b → (s ≡ u → ⊥) → b ≡ false
-  not-same true s u e n = absurd (n (same-number s u e))
-  not-same false s u e n = refl
-
   pub other-structs : (s u : ℕ) (b d S T : Trees) → S ≡ tree (adt s) b none → T ≡ tree (adt u) d none → (s ≡ u → ⊥) → [] ≡ unsize_struct_of V a (S +++ T)
   other-structs s u b d S T p q n =
-      ap (λ z. if_so z (flat_map (unsize_by_struct V a b d) (structs_named V s))) (sym (not-same (s == u) s u refl n))
+      ap (λ z. if_so z (flat_map (unsize_by_struct V a b d) (structs_named V s))) (sym (differ s u n))
       ∙ ap (λ t. unsize_struct_of V a (tree (adt s) b t)) (sym q) ∙ ap (λ t. unsize_struct_of V a (t +++ T)) (sym p)
 
   no-struct : (l : Label) (c o : Trees) → begins_struct (tree l c o) ≡ false → [] ≡ unsize_struct_of V a (tree l c o)

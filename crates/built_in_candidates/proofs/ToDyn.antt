@@ -1,14 +1,10 @@
 -- Types that unsize to a `dyn`: what is read off the two types, and what is asked.
-use Rattle.std.proofs.Common.{◌≡◌, Bool, true, false, not, ◌&&◌, if◌then◌else◌, List, [], ◌∷◌, ◌++◌, refl, sym, ap, ◌∙◌, subst, Option, Some, None}
-use Rattle.type_terms.specs.Promised.Label.{Label, of_type, of_lifetime, dynamic, param, placeholder, infer, canonical, bound, principal, auto_trait}
+use Rattle.std.proofs.Common.{◌≡◌, Bool, true, false, not, ◌&&◌, if◌then◌else◌, List, [], ◌∷◌, ◌++◌, refl, sym, ap, ◌∙◌, subst, None}
+use Rattle.type_terms.specs.Promised.Label.{Label, of_type, of_lifetime, dynamic, param, placeholder, infer, canonical, bound, principal}
 use Rattle.type_terms.specs.Promised.Trees.{Trees, none, tree, leaf, ◌+++◌, IsA, sort_of, erase_label}
 use Rattle.type_terms.specs.Promised.Worlds.{World, Reference}
 use Rattle.type_terms.specs.Promised.Rules.{asked, sized, is_dyn, row, unsize_to_dyn, unsize_to_dyn_rules, are_dyn_compatible, principal_with, autos_with}
-use Rattle.type_terms.specs.Kinds.{principal_trees, autos_trees, bounds_trees}
 use Rattle.type_terms.specs.Promised.Handles.{Entry}
-use Rattle.type_terms.specs.declared.TraitId.{TraitId}
-use Rattle.type_terms.specs.declared.kinds.Principal.{Principal}
-use Rattle.type_terms.specs.declared.kinds.BoundsData.{BoundsData}
 use Rattle.term_folds.specs.declared.predicate.TraitRef.{TraitRef}
 use Rattle.declarations.specs.Items.{Items, reference_in}
 use Rattle.declarations.specs.Promised.Elaboration.{Each}
@@ -16,7 +12,8 @@ use Rattle.declarations.specs.Applied.{references_in}
 use Rattle.candidate_model.specs.Asking.{GoalOverKinds, with_plain_head}
 use Rattle.candidate_model.specs.Candidates.{as_written, by_rule, misc, if_so}
 use Rattle.built_in_candidates.specs.Objects.{bounds_of, AreArgumentsOf}
-use Rattle.built_in_candidates.specs.Unsizing.{traits_asked, to_dyn, TargetIsApplied}
+use Rattle.built_in_candidates.specs.Unsizing.{to_dyn, TargetIsApplied}
+use Rattle.built_in_candidates.proofs.Objects.{lifetime-no-principal}
 
 -- ---- the head
 pub no-dyn : (l : Label) (c o : Trees) → bounds_of (tree l c o) ≡ None → is_dyn (erase_label l) ≡ false
@@ -33,32 +30,7 @@ no-dyn (bound of_lifetime k i) c o e = refl
 no-dyn (bound s k i) c o e = refl
 no-dyn l c o e = refl
 
--- ---- bounds
--- a lifetime is no bound
-lifetime-no-principal : (self : Trees) (l : Label) → sort_of l ≡ of_lifetime → [] ≡ principal_with self (leaf l)
-lifetime-no-principal self (principal n t) e = absurd cc
-lifetime-no-principal self l e = refl
-
-lifetime-no-auto : (self : Trees) (l : Label) → sort_of l ≡ of_lifetime → [] ≡ autos_with self (leaf l)
-lifetime-no-auto self (auto_trait t) e = absurd cc
-lifetime-no-auto self l e = refl
-
-autos-asked : (self : Trees) (ts : List TraitId) (l : Label) → sort_of l ≡ of_lifetime → traits_asked ts self ≡ autos_with self (autos_trees ts +++ leaf l)
-autos-asked self [] l e = lifetime-no-auto self l e
-autos-asked self (t ∷ ts) l e = ap (λ rs. asked t.index self ∷ rs) (autos-asked self ts l e)
-
--- the auto traits among bounds with a lifetime
-pub bounds-asked : (es : List Entry) (self : Trees) (b : BoundsData) (l : Label) → sort_of l ≡ of_lifetime → traits_asked b.autos.items self ≡ autos_with self (bounds_trees es b +++ leaf l)
-bounds-asked es self b l e = by b.principal
-  where
-    by : (p : Option Principal) → traits_asked b.autos.items self ≡ autos_with self ((principal_trees es p +++ autos_trees b.autos.items) +++ leaf l)
-    by None = autos-asked self b.autos.items l e
-    by (Some p) = autos-asked self b.autos.items l e
-
-pub append-more : {A : Type 0} (xs ys zs : List A) → (xs ++ ys) ++ zs ≡ xs ++ (ys ++ zs)
-append-more [] ys zs = refl
-append-more (x ∷ xs) ys zs = ap (λ l. x ∷ l) (append-more xs ys zs)
-
+-- ---- lists of references
 pub pushed-last : (es : List Entry) (rs : List TraitRef) (r : TraitRef) → references_in es (rs ++ r ∷ []) ≡ references_in es rs ++ reference_in es r ∷ []
 pushed-last es [] r = refl
 pushed-last es (s ∷ rs) r = ap (λ l. reference_in es s ∷ l) (pushed-last es rs r)
@@ -116,7 +88,7 @@ lifetime-alike : (d : Items) (self b : Trees) (l m : Label) → sort_of l ≡ of
     → Each (AreArgumentsOf d) (principal_with self (b +++ leaf m))
 lifetime-alike d self (tree (principal n t) c o) l m e f h = h
 lifetime-alike d self (tree k c o) l m e f h = tt
-lifetime-alike d self none l m e f h = subst (Each (AreArgumentsOf d)) (lifetime-no-principal self m f) tt
+lifetime-alike d self none l m e f h = subst (Each (AreArgumentsOf d)) (sym (lifetime-no-principal self m f)) tt
 
 pub principal-applied : (d : Items) (S T B : Trees) (l m : Label) → IsA of_type S → sort_of l ≡ of_lifetime → sort_of m ≡ of_lifetime → T ≡ tree dynamic (B +++ leaf l) none
     → TargetIsApplied d (with_plain_head S +++ T) → Each (AreArgumentsOf d) (principal_with (with_plain_head S) (B +++ leaf m))

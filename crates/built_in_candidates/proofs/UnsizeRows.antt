@@ -6,7 +6,6 @@ use Rattle.type_terms.specs.Promised.Label.{Label, Sort, of_type, of_lifetime, a
 use Rattle.type_terms.specs.Promised.Trees.{Trees, none, tree, nth, ◌+++◌, IsA, erase_label}
 use Rattle.type_terms.specs.Promised.Worlds.{World}
 use Rattle.type_terms.specs.Promised.Rules.{is_dyn, unsize, unsize_to_dyn_rules}
-use Rattle.type_terms.proofs.Members.{same-number}
 use Rattle.type_terms.specs.Promised.Handles.{Entry}
 use Rattle.term_folds.specs.Signatures.{StartsWithType}
 use Rattle.goal_evaluator.specs.declared.candidate.CandidateSpec.{CandidateSpec}
@@ -18,6 +17,7 @@ use Rattle.built_in_candidates.specs.Goals.{candidate_of}
 use Rattle.built_in_candidates.specs.Constituents.{StructIsApplied, candidates_of}
 use Rattle.built_in_candidates.specs.Objects.{bounds_of}
 use Rattle.built_in_candidates.specs.Unsizing.{BeginsWith, TargetIsApplied}
+use Rattle.built_in_candidates.proofs.Objects.{differ}
 use Rattle.built_in_candidates.proofs.Pairs.{IsOneTree}
 use Rattle.built_in_candidates.proofs.ToDyn.{no-dyn, to-other}
 use Rattle.type_terms.proofs.ListBasics.{append-none}
@@ -213,11 +213,7 @@ target-struct d (tree l c o) (tree m b p) h g t =
 module _ (V : World) (a : GoalOverKinds) where
   pub of-other-trait : (a.reference.trait ≡ unsize → ⊥) → [] ≡ by_unsize V a
   of-other-trait n =
-      ap (λ b. if_so b (if begins_unknown a.kinds (next_of (self_of a)) then unsure ∷ [] else unsize_recording V a)) (sym (not-same (a.reference.trait == unsize) refl))
-    where
-      not-same : (b : Bool) → (a.reference.trait == unsize) ≡ b → b ≡ false
-      not-same true e = absurd (n (same-number a.reference.trait unsize e))
-      not-same false e = refl
+      ap (λ b. if_so b (if begins_unknown a.kinds (next_of (self_of a)) then unsure ∷ [] else unsize_recording V a)) (sym (differ a.reference.trait unsize n))
 
   is-unsize : a.reference.trait ≡ unsize → (a.reference.trait == unsize) ≡ true
   is-unsize e = ap (λ t. t == unsize) e

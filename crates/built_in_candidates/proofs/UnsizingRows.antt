@@ -1,13 +1,13 @@
 -- Rows of `Unsize`, by what is read off the two types.
 use Rattle.std.proofs.Common.{◌≡◌, List, [], ◌∷◌, Option, Some, None, refl, sym, ap, subst, ◌∙◌}
-use Rattle.type_terms.specs.Promised.Label.{Label, Sort, of_type, array, slice}
+use Rattle.type_terms.specs.Promised.Label.{Label, of_type, array, slice}
 use Rattle.type_terms.specs.Promised.Trees.{Trees, none, tree, ◌+++◌, IsA}
 use Rattle.type_terms.specs.Promised.Worlds.{World}
-use Rattle.infer_table.specs.Values.{Value}
-use Rattle.goal_evaluator.specs.FrameTables.{Equation}
 use Rattle.candidate_model.specs.Asking.{GoalOverKinds}
-use Rattle.candidate_model.specs.Candidates.{Candidate, by_rule, misc, all_equal, first_value, unsize_array_of}
+use Rattle.candidate_model.specs.Candidates.{Candidate, by_rule, misc, all_equal, unsize_array_of}
 use Rattle.built_in_candidates.specs.Unsizing.{array_element_of, slice_element_of}
+use Rattle.built_in_candidates.proofs.Pairs.{as_value, equate, pair-first, type-tree}
+use Rattle.type_terms.proofs.TermBasics.{append-none}
 
 pub array-read : (x n : Trees) → IsA of_type x → Some x ≡ array_element_of (tree array (x +++ n) none)
 array-read none n h = absurd h
@@ -18,22 +18,9 @@ slice-read none h = absurd h
 slice-read (tree l c o) h = ap (λ z. Some (tree l c z)) h.1
 
 -- ---- an equation between two types
-abbrev as_value : Sort → Trees → Value
-as_value s t = record { sort = s; trees = t }
-
-abbrev equate : Value → Value → Equation
-equate v w = record { left = v; right = w }
-
 pub types-equal : (x y : Trees) → IsA of_type x → IsA of_type y → equate (as_value of_type x) (as_value of_type y) ∷ [] ≡ all_equal x y
-types-equal none y h g = absurd h
-types-equal (tree l c o) none h g = absurd g
-types-equal (tree l c o) (tree m d p) h g =
-    ap (λ z. equate (as_value of_type (tree l c z)) (as_value of_type (tree m d p)) ∷ []) h.1
-    ∙ ap (λ z. equate (as_value of_type (tree l c none)) (as_value of_type (tree m d z)) ∷ []) g.1
-    ∙ ap (λ s. equate (as_value s (tree l c none)) (as_value of_type (tree m d none)) ∷ []) (sym h.0)
-    ∙ ap (λ s. equate (first_value l c) (as_value s (tree m d none)) ∷ []) (sym g.0)
-    ∙ ap (λ z. equate (first_value l c) (first_value m d) ∷ all_equal z none) (sym h.1)
-    ∙ ap (λ z. equate (first_value l c) (first_value m d) ∷ all_equal o z) (sym g.1)
+types-equal x y h g =
+    sym (pair-first of_type of_type x y none none (type-tree x h) (type-tree y g)) ∙ ap (λ z. all_equal z (y +++ none)) (append-none x) ∙ ap (all_equal x) (append-none y)
 
 -- ---- arrays
 module _ (V : World) (a : GoalOverKinds) where

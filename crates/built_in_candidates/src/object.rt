@@ -31,20 +31,20 @@ use type_terms::interner::Interner;
 use type_terms::kinds::{Bounds, Ty};
 use type_terms::{Fault, TraitId};
 
-/// A `dyn` type with the bounds that it is written with.
+/// A `dyn` type with the bounds that it is written with, and the trait that it is asked for.
 #[derive(Clone, Copy)]
-struct Object {
+struct AskedObject {
+    asked: TraitId,
     self_ty: Ty,
     bounds: Bounds,
 }
 
-/// The bound with this index among those of the trait: the auto traits that the `dyn` is written with, then its principal with the
+/// The bound with this index among those of the asked trait: the auto traits that the `dyn` is written with, then its principal with the
 /// supertraits. No bound is of `Sized`.
 fn bound_of_trait(
     alloc: Global,
     cx: &mut Interner,
-    def_id: TraitId,
-    object: Object,
+    object: AskedObject,
     elaborated: &[TraitRef],
     place: usize,
 ) -> Result<Option<(BuiltinImplSource, TraitRef)>, Fault>
@@ -55,29 +55,28 @@ fn bound_of_trait(
     ensures held { IfOk result (λ o. IfSome o (λ x. ReferenceHeld cx.new.entries x.1)) }
     ensures is { let S = trees_at cx.old.entries object.self_ty.0 in
         IfOk result (λ o. WithLifetime cx.old.entries object.bounds (λ b. option_map (bound_in cx.new.entries) o
-        ≡ slice_get (written_and_elaborated def_id.index S b (references_in cx.old.entries elaborated.now)) place)) }
+        ≡ slice_get (written_and_elaborated object.asked.index S b (references_in cx.old.entries elaborated.now)) place)) }
 {
-    if def_id.index == SIZED {
+    if object.asked.index == SIZED {
         return Ok(None);
     }
-    let autos = count_autos(cx, object.bounds, def_id);
+    let autos = count_autos(cx, object.bounds, object.asked);
     if place < autos {
-        let bound = type_asked(alloc, cx, def_id, object.self_ty)?;
+        let bound = type_asked(alloc, cx, object.asked, object.self_ty)?;
         return Ok(Some((BuiltinImplSource::Misc, bound)));
     }
-    match reference_at(elaborated, def_id, place - autos) {
+    match reference_at(elaborated, object.asked, place - autos) {
         Some((number, bound)) => Ok(Some((BuiltinImplSource::Object(number), bound))),
         None => Ok(None),
     }
 }
 
-/// The bound of a `dyn` with this index among those of the trait, if the principal is dyn compatible.
+/// The bound of a `dyn` with this index among those of the asked trait, if the principal is dyn compatible.
 fn object_bound_at(
     alloc: Global,
     cx: &mut Interner,
     declarations: &Declarations,
-    def_id: TraitId,
-    object: Object,
+    object: AskedObject,
     place: usize,
     notes: &mut Vec<TraitRef>,
 ) -> Result<Option<(BuiltinImplSource, TraitRef)>, Fault>
@@ -93,7 +92,7 @@ fn object_bound_at(
     ensures held { IfOk result (λ o. IfSome o (λ x. ReferenceHeld cx.new.entries x.1)) }
     ensures is { let V = written cx.old.entries declarations.now in let S = trees_at cx.old.entries object.self_ty.0 in
         IfOk result (λ o. WithLifetime cx.old.entries object.bounds (λ b. option_map (bound_in cx.new.entries) o
-        ≡ slice_get (object_bounds V def_id.index S b) place)) }
+        ≡ slice_get (object_bounds V object.asked.index S b) place)) }
 {
     let principal = noted_principal(
         alloc,
@@ -104,7 +103,7 @@ fn object_bound_at(
         notes,
     )?;
     if is_dyn_compatible(declarations, principal, notes) {
-        bound_of_trait(alloc, cx, def_id, object, notes, place)
+        bound_of_trait(alloc, cx, object, notes, place)
     } else {
         Ok(None)
     }
@@ -168,8 +167,12 @@ pub fn consider_object_bound_candidate(
     let self_ty = asked.self_ty(cx);
     match dyn_bounds(cx, self_ty) {
         Some(bounds) => {
-            let object = Object { self_ty, bounds };
-            match object_bound_at(alloc, cx, declarations, asked.def_id, object, place, notes)? {
+            let object = AskedObject {
+                asked: asked.def_id,
+                self_ty,
+                bounds,
+            };
+            match object_bound_at(alloc, cx, declarations, object, place, notes)? {
                 Some((source, bound)) => {
                     let candidate = bound_candidate(alloc, cx, declarations, goal, source, bound)?;
                     Ok(Some(candidate))

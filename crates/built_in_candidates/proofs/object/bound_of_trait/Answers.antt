@@ -16,38 +16,38 @@ returns-then-place-autos-clause-is c = λ l h.
     let es = c.args.cx.now.entries in
     let S = trees_at es c.args.object.self_ty.0 in
     ap (λ (r : Reference). let b : BoundRule = record { source = Misc; reference = r } in Some b) c.in_ok-bound.ensures.is
-    ∙ auto-found c.args.def_id.index S (trees_at es c.args.object.bounds.0 +++ leaf l) (references_in es c.args.elaborated.now) c.args.place
-    (subst (λ m. c.args.place < m) (c.count_autos-autos.ensures S l h) c.if-place-autos.true) (differ c.args.def_id.index sized c.if-def_id-eq-SIZED.false)
+    ∙ auto-found c.args.object.asked.index S (trees_at es c.args.object.bounds.0 +++ leaf l) (references_in es c.args.elaborated.now) c.args.place
+    (subst (λ m. c.args.place < m) (c.count_autos-autos.ensures S l h) c.if-place-autos.true) (differ c.args.object.asked.index sized c.if-object-eq-SIZED.false)
 
-pub returns-then-def_id-eq-SIZED-clause-is : goal.returns-then-def_id-eq-SIZED-clause-is
-returns-then-def_id-eq-SIZED-clause-is c = λ l h.
+pub returns-then-object-eq-SIZED-clause-is : goal.returns-then-object-eq-SIZED-clause-is
+returns-then-object-eq-SIZED-clause-is c = λ l h.
     let es = c.args.cx.now.entries in
     let S = trees_at es c.args.object.self_ty.0 in
-    sized-left-out c.args.def_id.index S (trees_at es c.args.object.bounds.0 +++ leaf l) (references_in es c.args.elaborated.now) c.args.place
-    (ap (λ n. n == sized) c.if-def_id-eq-SIZED.true)
+    sized-left-out c.args.object.asked.index S (trees_at es c.args.object.bounds.0 +++ leaf l) (references_in es c.args.elaborated.now) c.args.place
+    (ap (λ n. n == sized) c.if-object-eq-SIZED.true)
 
 pub returns-in-Some-clause-held : goal.returns-in-Some-clause-held
 returns-in-Some-clause-held c =
-    numbered-held c.args.cx.now.entries c.args.def_id.index 0 (c.args.place - c.count_autos-autos.result) c.args.elaborated.now c.in-Some.number c.in-Some.bound c.requires.elaborated c.in-Some.ensures
+    numbered-held c.args.cx.now.entries c.args.object.asked.index 0 (c.args.place - c.count_autos-autos.result) c.args.elaborated.now c.in-Some.number c.in-Some.bound c.requires.elaborated c.in-Some.ensures
 
 pub returns-in-Some-clause-is : goal.returns-in-Some-clause-is
 returns-in-Some-clause-is c = λ l h.
     let es = c.args.cx.now.entries in
-    let t = c.args.def_id.index in
+    let t = c.args.object.asked.index in
     let S = trees_at es c.args.object.self_ty.0 in
     let rs = references_in es c.args.elaborated.now in
     let count = c.count_autos-autos.ensures S l h in
     bound-at Object es t 0 (c.args.place - c.count_autos-autos.result) c.args.elaborated.now _ c.in-Some.ensures
     ∙ ap (λ m. slice_get (bounds_to t Object 0 rs) (c.args.place - m)) count
-    ∙ level-found t S (trees_at es c.args.object.bounds.0 +++ leaf l) rs c.args.place (subst (λ m. m ≤ c.args.place) count c.if-place-autos.false) (differ t sized c.if-def_id-eq-SIZED.false)
+    ∙ level-found t S (trees_at es c.args.object.bounds.0 +++ leaf l) rs c.args.place (subst (λ m. m ≤ c.args.place) count c.if-place-autos.false) (differ t sized c.if-object-eq-SIZED.false)
 
 pub returns-in-None-clause-is : goal.returns-in-None-clause-is
 returns-in-None-clause-is c = λ l h.
     let es = c.args.cx.now.entries in
-    let t = c.args.def_id.index in
+    let t = c.args.object.asked.index in
     let S = trees_at es c.args.object.self_ty.0 in
     let rs = references_in es c.args.elaborated.now in
     let count = c.count_autos-autos.ensures S l h in
     bound-at Object es t 0 (c.args.place - c.count_autos-autos.result) c.args.elaborated.now _ c.in-None.ensures
     ∙ ap (λ m. slice_get (bounds_to t Object 0 rs) (c.args.place - m)) count
-    ∙ level-found t S (trees_at es c.args.object.bounds.0 +++ leaf l) rs c.args.place (subst (λ m. m ≤ c.args.place) count c.if-place-autos.false) (differ t sized c.if-def_id-eq-SIZED.false)
+    ∙ level-found t S (trees_at es c.args.object.bounds.0 +++ leaf l) rs c.args.place (subst (λ m. m ≤ c.args.place) count c.if-place-autos.false) (differ t sized c.if-object-eq-SIZED.false)

@@ -19,7 +19,7 @@ returns-then-is_dyn_compatible-clause-is c =
     let mid = c.noted_principal.new.cx.entries in
     let keeps = c.noted_principal.ensures.terms.grew.keeps in
     let V = written old c.args.declarations.now in
-    let t = c.args.def_id.index in
+    let t = c.args.object.asked.index in
     let n = c.args.place in
     let S = trees_at old c.args.object.self_ty.0 in
     let found = references_in mid c.deref-then-is_dyn_compatible.result.now in
@@ -46,7 +46,7 @@ returns-else-is_dyn_compatible-clause-is c = λ l h.
     let P = principal_with S B in
     let elab = ap (references_in mid) c.deref.ensures.value ∙ c.in_ok-principal.ensures.elaborated l h ∙ ap (elaborate V) (sym (c.in_ok-principal.ensures.principal l h)) in
     let ok = c.is_dyn_compatible.ensures old mid c.requires.traits elab ∙ ap (are_dyn_compatible V) (c.in_ok-principal.ensures.principal l h) in
-    sym (ap (λ b. slice_get (if_so b (written_and_elaborated c.args.def_id.index S B (elaborate V P))) c.args.place) (sym ok ∙ c.if-is_dyn_compatible.false))
+    sym (ap (λ b. slice_get (if_so b (written_and_elaborated c.args.object.asked.index S B (elaborate V P))) c.args.place) (sym ok ∙ c.if-is_dyn_compatible.false))
 
 pub bound_of_trait-requires-clause-elaborated : goal.bound_of_trait-requires-clause-elaborated
 bound_of_trait-requires-clause-elaborated c =

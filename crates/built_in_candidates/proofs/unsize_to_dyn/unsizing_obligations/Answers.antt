@@ -1,14 +1,15 @@
 use Rattle.std.proofs.Common.{[], ◌∷◌, ◌++◌, ap, sym, ◌∙◌, subst}
-use Rattle.type_terms.specs.Promised.Trees.{◌+++◌, leaf}
-use Rattle.type_terms.specs.Promised.Rules.{asked, sized, autos_with}
-use Rattle.type_terms.specs.Promised.Handles.{types, bounds_lists, trees_at}
-use Rattle.type_terms.specs.Kept.{trees-is, has-later, trees-later}
+use Rattle.type_terms.specs.Promised.Rules.{asked, sized}
+use Rattle.type_terms.specs.Promised.Handles.{types, trees_at}
+use Rattle.type_terms.specs.Kept.{has-later, trees-later}
 use Rattle.goal_evaluator.specs.Merge.{if_there}
 use Rattle.declarations.specs.Items.{reference_in}
 use Rattle.declarations.specs.Applied.{references_in, TraitRefsHeld}
 use Rattle.declarations.proofs.Bounded.{held-more, all-same}
 use Rattle.built_in_candidates.specs.Unsizing.{traits_asked}
-use Rattle.built_in_candidates.proofs.ToDyn.{bounds-asked, append-more, pushed-last}
+use Rattle.type_terms.proofs.ListBasics.{append-assoc}
+use Rattle.built_in_candidates.proofs.Objects.{autos-at}
+use Rattle.built_in_candidates.proofs.ToDyn.{pushed-last}
 use Rattle.built_in_candidates.proofs.unsize_to_dyn.unsizing_obligations.Goals as goal
 
 pub type_asked-requires : goal.type_asked-requires
@@ -27,14 +28,12 @@ returns-clause-are c = λ l lifetime.
     let mid = c.with_traits_asked.new.cx.entries in
     let new = c.type_asked.new.cx.entries in
     let S = trees_at old c.args.self_ty.0 in
-    let found = c.bounds.result.now in
     let first = references_in old (if_there c.args.principal) in
     let premises = c.in_ok-premises.premises.items in
-    let autos = ap (λ ts. traits_asked ts S) (c.deref-2.ensures.value ∙ c.in_ok-autos.ensures.items ∙ c.deref.ensures.value) ∙ bounds-asked old S found l lifetime
-    ∙ ap (λ t. autos_with S (t +++ leaf l)) (sym (trees-is old bounds_lists c.args.bounds.0 _ c.bounds.ensures.is)) in
+    let autos = ap (λ ts. traits_asked ts S) (c.deref-2.ensures.value ∙ c.in_ok-autos.ensures.items ∙ c.deref.ensures.value) ∙ sym (autos-at old S c.args.bounds.0 c.bounds.result.now c.bounds.ensures.is l lifetime) in
     let is_sized = c.in_ok-is_sized.ensures.is ∙ ap (asked sized) (trees-later old mid c.with_traits_asked.ensures.terms.grew.keeps types c.args.self_ty.0 c.requires.self_held) in
     ap (references_in new) c.in_ok-push.ensures.items ∙ pushed-last new premises c.in_ok-is_sized.is_sized
     ∙ ap (λ rs. rs ++ reference_in new c.in_ok-is_sized.is_sized ∷ []) (all-same mid new c.type_asked.ensures.terms.grew.keeps premises c.in_ok-premises.ensures.held ∙ c.in_ok-premises.ensures.are)
     ∙ ap (λ r. (first ++ traits_asked c.deref-2.result.now S) ++ r ∷ []) is_sized
-    ∙ append-more first (traits_asked c.deref-2.result.now S) (asked sized S ∷ [])
+    ∙ append-assoc first (traits_asked c.deref-2.result.now S) (asked sized S ∷ [])
     ∙ ap (λ rs. first ++ (rs ++ asked sized S ∷ [])) autos

@@ -5,7 +5,8 @@ use Rattle.type_terms.specs.Promised.Handles.{trees_at}
 use Rattle.goal_evaluator.specs.Merge.{if_there}
 use Rattle.declarations.specs.Items.{written}
 use Rattle.declarations.specs.Applied.{references_in}
-use Rattle.built_in_candidates.proofs.Objects.{all_found, autos_asked, autos-at, autos-are}
+use Rattle.built_in_candidates.specs.Unsizing.{traits_asked}
+use Rattle.built_in_candidates.proofs.Objects.{all_found, autos-at, autos-are}
 use Rattle.built_in_candidates.proofs.upcast.can_upcast.Goals as goal
 
 pub returns-then-is_declared : goal.returns-then-is_declared
@@ -25,7 +26,7 @@ returns-then-is_declared c = λ es now self h e l k m j.
     ∙ ap (λ x. all_found own x c.deref-then-is_declared-2.result.now) c.deref-then-is_declared.ensures.value
     ∙ ap (all_found own rs) c.deref-then-is_declared-2.ensures.value
     ∙ autos-are es d h now rs ps e self own other
-    ∙ ap (λ x. upcasts_autos V ps x (autos_asked self other)) (sym first)
+    ∙ ap (λ x. upcasts_autos V ps x (traits_asked other self)) (sym first)
     ∙ ap (upcasts_autos V ps (autos_with self (trees_at now' c.args.source.0 +++ leaf l))) (sym second)
     ∙ ap (λ b. b && found) (sym c.if-is_declared.true ∙ c.is_declared.ensures es now)
 
