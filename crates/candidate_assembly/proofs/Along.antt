@@ -7,16 +7,13 @@ use Rattle.goal_evaluator.specs.Merge.{or_else}
 use Rattle.goal_evaluator.specs.Table.{Tables, workings}
 use Rattle.goal_evaluator.specs.Candidate.{Spec, Considered, Next, consider, answer}
 use Rattle.goal_evaluator.specs.Plans.{Plan, answers, told, after, wanted, came, each_of, if_refused, first_alone}
-use Rattle.candidate_assembly.proofs.Taken.{count, rest_of, AreIn, AreOut, front, past, still-counted, or-none}
+use Rattle.candidate_assembly.proofs.Taken.{count, rest_of, AreIn, AreOut, front, past, still-counted, or-none, or-assoc}
 use Rattle.type_terms.proofs.ListBasics.{append-none}
+use Rattle.type_terms.proofs.BooleanBasics.{or-false}
 
 empty-back : {A : Type 0} (xs ys : List A) → xs ++ ys ≡ [] → ys ≡ []
 empty-back [] ys e = e
 empty-back (x ∷ xs) ys e = absurd cc
-
-or-assoc : {A : Type 0} (a b c : Option A) → or_else a (or_else b c) ≡ or_else (or_else a b) c
-or-assoc None b c = refl
-or-assoc (Some x) b c = refl
 
 -- ---- counts
 module _ {A : Type 0} where
@@ -445,11 +442,7 @@ module _ {Question Response : Type 0} (T : Tables Question Response) (pU pA pB p
             }
 
         held-first : (c : Considered (workings T)) → c.spec ≡ u → held (c ∷ []) ≡ is_some c.response
-        held-first c e = ap (λ b. (b && is_some c.response) || false) (ap pU e ∙ iu) ∙ plain (is_some c.response)
-          where
-            plain : (b : Bool) → (b || false) ≡ b
-            plain true = refl
-            plain false = refl
+        held-first c e = ap (λ b. (b && is_some c.response) || false) (ap pU e ∙ iu) ∙ or-false (is_some c.response)
 
         -- what was considered behind the first counts as if it were not there
         skips : (p : (Spec (workings T)) → Bool) → p u ≡ false → (c : Considered (workings T)) → c.spec ≡ u → (later : List (Considered (workings T))) → count p (specs_of T (later ++ c ∷ [])) ≡ count p (specs_of T later)

@@ -3,7 +3,7 @@ use Rattle.std.proofs.Math.Bridge.{le_prop}
 use Rattle.std.proofs.Common.{◌≡◌, ℕ, zero, suc, ◌+◌, ◌≤◌, subst, arith, Bool, true, false, List, [], ◌∷◌, map, refl, sym, ap, ◌∙◌, Some, None}
 use Rattle.std.specs.Prelude.{cond}
 use Rattle.type_terms.specs.Promised.Label.{Sort, canonical, param, inside}
-use Rattle.type_terms.specs.Promised.Trees.{Trees, none, tree, leaf, ◌+++◌, nth, shift, instantiate, is_sort}
+use Rattle.type_terms.specs.Promised.Trees.{Trees, none, tree, leaf, nth, shift, instantiate, is_sort}
 use Rattle.type_terms.specs.Trees.{outer_binder}
 use Rattle.type_terms.specs.Promised.Worlds.{Reference, with_args, all_with_args}
 use Rattle.type_terms.specs.Promised.Handles.{Entry, Is, Keeps, trees_at}
@@ -13,13 +13,12 @@ use Rattle.type_terms.specs.declared.TheConstants.{MAX_INDEX}
 use Rattle.type_terms.specs.Kept.{trees-is, trees-later}
 use Rattle.declarations.specs.Applied.{TraitRefsHeld, sort_of_param, sorts_of, SpeaksOf, references_in}
 use Rattle.type_terms.specs.Kinds.{args_trees}
-use Rattle.type_terms.specs.Promised.Handles.{arg_trees}
 use Rattle.type_terms.specs.declared.kinds.GenericArgKind.{GenericArgKind}
 use Rattle.term_folds.specs.Arguments.{sort_at, misfit, first_misfit}
 use Rattle.term_folds.specs.declared.instantiate.InstantiateError.TheVariants.{ParamKind}
 use Rattle.infer_table.specs.declared.canonical.CanonicalVarKind.{CanonicalVarKind}
 use Rattle.infer_table.specs.Raw.{sort_of_kind, variables_from}
-use Rattle.infer_table.specs.Values.{Value, values_of}
+use Rattle.infer_table.specs.Values.{values_of}
 use Rattle.infer_table.proofs.SolutionLaws.{is_sort-equal as is-sort}
 use Rattle.declarations.specs.declared.items.GenericParamKind.{GenericParamKind}
 use Rattle.declarations.specs.declared.items.GenericParamKind.TheVariants.{Lifetime, «Type» as TypeParam, Const}
@@ -29,24 +28,18 @@ use Rattle.term_folds.specs.declared.predicate.TraitRef.{TraitRef}
 use Rattle.goal_evaluator.specs.Instances.{put_in}
 use Rattle.candidate_model.specs.Candidates.{moved, rules_behind, impl_id}
 use Rattle.candidate_assembly.specs.Headers.{var_kind}
-use Rattle.type_terms.proofs.TermBasics.{below-node as tree-cong}
+use Rattle.type_terms.proofs.TermBasics.{below-node as tree-cong, two}
 use Rattle.term_folds.proofs.TypeBasics.{left-none, right-none}
-
--- the trees of values, one after the other
-abbrev joined : List Value → Trees
-joined [] = none
-joined (v ∷ vs) = v.trees +++ joined vs
-
-args-joined : (es : List Entry) (xs : List GenericArgKind) → args_trees es xs ≡ joined (values_of es xs)
-args-joined es [] = refl
-args-joined es (x ∷ xs) = ap (λ t. arg_trees es x +++ t) (args-joined es xs)
+use Rattle.type_terms.proofs.NumberBasics.{place-here}
+use Rattle.infer_table.specs.Applied.{trees_of}
+use Rattle.infer_table.proofs.InTurn.{row-of}
 
 -- the variables of these kinds as arguments
 abbrev pub variables : ℕ → List CanonicalVarKind → Trees
-variables n ks = joined (variables_from n ks)
+variables n ks = trees_of (variables_from n ks)
 
-pub args-variables : (es : List Entry) (xs : List GenericArgKind) (n : ℕ) (ks : List CanonicalVarKind) → values_of es xs ≡ variables_from n ks → args_trees es xs ≡ variables n ks
-args-variables es xs n ks e = args-joined es xs ∙ ap joined e
+args-variables : (es : List Entry) (xs : List GenericArgKind) (n : ℕ) (ks : List CanonicalVarKind) → values_of es xs ≡ variables_from n ks → args_trees es xs ≡ variables n ks
+args-variables es xs n ks e = sym (row-of es xs) ∙ ap trees_of e
 
 pub variables-closed : (n : ℕ) (ks : List CanonicalVarKind) → outer_binder (variables n ks) ≡ 0
 variables-closed n [] = refl
@@ -61,9 +54,6 @@ pub variables-sorts : (n : ℕ) (ps : List GenericParamKind) → sorts_of (varia
 variables-sorts n [] = refl
 variables-sorts n (p ∷ ps) = ap (λ s. s ∷ sorts_of (variables (n + 1) (map var_kind ps))) (same-sort p) ∙ ap (λ l. sort_of_param p ∷ l) (variables-sorts (n + 1) ps)
 
-plus-zero : (n : ℕ) → n ≡ n + zero
-plus-zero n = omega arith
-
 plus-next : (n i : ℕ) → (n + 1) + i ≡ n + suc i
 plus-next n i = omega arith
 
@@ -77,18 +67,15 @@ fits-sort s r h = by (is_sort s r) refl h
 -- the argument of a parameter is its variable
 variable-at : (d n i : ℕ) (ks : List CanonicalVarKind) (s : Sort) → misfit s (sort_at (variables n ks) i) ≡ None → shift zero d (nth (variables n ks) i) ≡ leaf (canonical s (n + i))
 variable-at d n i [] s h = absurd cc
-variable-at d n zero (k ∷ ks) s h = ap (λ z. leaf (canonical z n)) (fits-sort s (sort_of_kind k) h) ∙ ap (λ m. leaf (canonical s m)) (plus-zero n)
+variable-at d n zero (k ∷ ks) s h = ap (λ z. leaf (canonical z n)) (fits-sort s (sort_of_kind k) h) ∙ ap (λ m. leaf (canonical s m)) (place-here n)
 variable-at d n (suc i) (k ∷ ks) s h = variable-at d (n + 1) i ks s h ∙ ap (λ m. leaf (canonical s m)) (plus-next n i)
-
-same-joined : (x y p q : Trees) → x ≡ y → p ≡ q → x +++ p ≡ y +++ q
-same-joined x y p q e f = cc
 
 -- to put the variables in is to move the parameters behind the others
 pub put-behind : (d n : ℕ) (ks : List CanonicalVarKind) (t : Trees) → first_misfit (variables n ks) t ≡ None → instantiate d (variables n ks) t ≡ put_in (moved n) t
 put-behind d n ks none h = refl
 put-behind d n ks (tree (param s i) c o) h =
     let A = variables n ks in
-    same-joined (shift zero d (nth A i)) (leaf (canonical s (n + i))) (instantiate d A o) (put_in (moved n) o)
+    two (shift zero d (nth A i)) (leaf (canonical s (n + i))) (instantiate d A o) (put_in (moved n) o)
     (variable-at d n i ks s (left-none (misfit s (sort_at A i)) (first_misfit A o) h))
     (put-behind d n ks o (right-none (misfit s (sort_at A i)) (first_misfit A o) h))
 put-behind d n ks (tree l c o) h =

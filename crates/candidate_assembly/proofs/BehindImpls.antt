@@ -39,10 +39,11 @@ use Rattle.candidate_assembly.specs.Solving.{meaning_for}
 use Rattle.candidate_assembly.proofs.Along.{Answers}
 use Rattle.candidate_assembly.proofs.Counted.{ends-is}
 use Rattle.candidate_assembly.proofs.Deciding.{tests, asked-tests, decided-fits}
-use Rattle.candidate_assembly.proofs.GoingOn.{some-is, none-is, NoImpl, no-early, considered-is}
+use Rattle.candidate_assembly.proofs.GoingOn.{none-is, NoImpl, no-early, considered-is}
 use Rattle.candidate_assembly.proofs.Histories.{ends-answer, histories-tell}
 use Rattle.candidate_assembly.proofs.SourcesOf.{impl-clause, impl-built, impl-known, impl-quiet}
 use Rattle.candidate_assembly.proofs.TraitGoals.{was-asked}
+use Rattle.type_terms.proofs.TypeBasics.{some-is}
 
 -- ---- what is next behind an impl
 module _ (m : ViewMeaning) (a : GoalOverKinds) (tell : sources_tell a ≡ true) (c : Considered (workings frame_tables)) (seen : SolverPast) (t : is_impl c.spec.source ≡ true) where

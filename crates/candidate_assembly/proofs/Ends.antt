@@ -1,5 +1,5 @@
 -- How the merge of what is shown of candidates is the end of a goal's plan.
-use Rattle.std.proofs.Common.{◌≡◌, ℕ, ◌+◌, ◌<◌, Bool, true, false, ◌&&◌, ◌||◌, not, if◌then◌else◌, List, [], ◌∷◌, map, length, drop, get_or, reverse, refl, sym, ◌∙◌, ap, subst, Option, Some, None, option_map, Result, Ok, Err, IfOk}
+use Rattle.std.proofs.Common.{◌≡◌, ℕ, ◌+◌, ◌<◌, Bool, true, false, ◌&&◌, ◌||◌, not, if◌then◌else◌, List, [], ◌∷◌, map, length, drop, get_or, reverse, refl, sym, ◌∙◌, ap, subst, Option, Some, None, option_map}
 use Rattle.std.specs.Prelude.{is_some, filter}
 use Rattle.std.specs.List.{list_any}
 use Rattle.type_terms.specs.Promised.Handles.{Entry}
@@ -31,13 +31,10 @@ use Rattle.candidate_assembly.specs.declared.merge.Sources.{Sources}
 use Rattle.candidate_assembly.specs.declared.merge.Sources.TheVariants.{All, Trivial, NonGlobalClauses, Clauses, Remaining}
 use Rattle.candidate_assembly.specs.Merging.{is_source_among, from_sources, end_in, clause_taken, IsEnd, MergesFrom, AreRemaining}
 use Rattle.candidate_assembly.specs.Shown.{first_yes, other_clauses, first_bound_gives_none}
-use Rattle.candidate_assembly.proofs.Shown.{holds, answers, same-filter, all-kept, bound, as_taken, taken_of, clauses_of, yes-shown, others-shown}
-use Rattle.type_terms.proofs.TypeBasics.{some-is}
+use Rattle.candidate_assembly.proofs.Shown.{holds, answers, all-kept, bound, as_taken, taken_of, clauses_of, yes-shown, others-shown}
 use Rattle.type_terms.proofs.BooleanBasics.{twice}
-
-pub ok-map : {A E : Type 0} (P Q : A → Type 0) → ((a : A) → P a → Q a) → (x : Result A E) → IfOk x P → IfOk x Q
-ok-map P Q f (Ok a) h = f a h
-ok-map P Q f (Err e) h = tt
+use Rattle.std.proofs.lemmas.List.Elements.{filter_agree}
+use Rattle.std.proofs.lemmas.Option.{some_pair_parts}
 
 -- ---- merges
 abbrev ends : Option AnswerTrees → Next (workings frame_tables)
@@ -47,7 +44,7 @@ merge-kept : (sources : Sources) (es : List Entry) (ks : List CanonicalVarKind) 
     → merge_of es ks (responses_of (from_sources sources done)) ≡ merge_or_flounder frame_tables applies_always same_answer (begin ks) (responses frame_tables (filter (from Q) seen))
 merge-kept sources es ks done seen h Q same =
     ap (merge_or_flounder frame_tables applies_always same_answer (begin ks))
-    (answers (is_source_among sources) es done seen h ∙ ap (responses frame_tables) (same-filter (from (is_source_among sources)) (from Q) (λ c. same c.spec.source) seen))
+    (answers (is_source_among sources) es done seen h ∙ ap (responses frame_tables) (filter_agree (from (is_source_among sources)) (from Q) (λ c. same c.spec.source) seen))
 
 abbrev kept_end : List CanonicalVarKind → (SolverPast → CandidateSource → Bool) → SolverPast → Plan frame_tables
 kept_end ks Q seen = kept_merged frame_tables applies_always same_answer (begin ks) (from (Q seen)) seen
@@ -62,9 +59,6 @@ end-all es new ks done step m = λ seen h kind.
     ∙ ap (λ z. merge_or_flounder frame_tables applies_always same_answer (begin ks) (responses frame_tables z)) (all-kept seen))
 
 -- ---- where-clauses
-pair-parts : (a c : Option AnswerTrees) (b d : ℕ) → ◌≡◌ {A = Option (Option AnswerTrees × ℕ)} (Some (a, b)) (Some (c, d)) → (a ≡ c) × (b ≡ d)
-pair-parts a c b d e = let p = some-is {A = Option AnswerTrees × ℕ} (a, b) (c, d) e in (ap (λ (z : Option AnswerTrees × ℕ). z.0) p, ap (λ (z : Option AnswerTrees × ℕ). z.1) p)
-
 no-pair : (a : Option AnswerTrees) (b : ℕ) → ◌≡◌ {A = Option (Option AnswerTrees × ℕ)} (Some (a, b)) None → ⊥
 no-pair a b e = cc
 
@@ -82,7 +76,7 @@ clause-end es ks done seen h r n ns e f = by (first_passing frame_tables applies
         → ◌≡◌ {A = Next (workings frame_tables)} (answer (Some r) ns) (wanted frame_tables (taken_or_merged frame_tables applies_always same_answer (begin ks) (clauses_of seen) o))
     by None q = absurd (no-pair (Some r) n q)
     by (Some c) q =
-        let p = pair-parts (Some r) c.response n c.number q in
+        let p = some_pair_parts (Some r) c.response n c.number q in
         answer-cong (Some r) c.response ns (numbers_but frame_tables c.number (clauses_of seen)) p.0 (numbers ∙ ap (λ m. numbers_but frame_tables m (clauses_of seen)) p.1)
 
 pub no-clause-end : (es new : List Entry) (ks : List CanonicalVarKind) (done : List InCode.Considered) → None ≡ first_yes (map (shown_by es) done) → (step : HandlerStep) → MergesFrom Clauses ks es done new step → IsEnd (clause_taken ks) es done new step

@@ -26,7 +26,7 @@ use Rattle.infer_table.specs.declared.canonical.CanonicalVarKind.{CanonicalVarKi
 use Rattle.type_terms.proofs.Made.{false-true, left, right, no-tree, made-ordinary, last-bound, last-trait, never-dynamic, never-dynamic-bound, never-principal}
 use Rattle.goal_evaluator.specs.Variables.{is_variable_over}
 use Rattle.candidate_assembly.specs.Finding.{BreaksAt, at_root, some_root, is_foreign_tree, names_undeclared}
-use Rattle.type_terms.proofs.BooleanBasics.{behind-test, below-test, here-test, and-true, de-morgan}
+use Rattle.type_terms.proofs.BooleanBasics.{behind-test, below-test, here-test, and-true, de-morgan, or-false}
 
 -- ---- a visit that breaks at some trees
 says-pass : (B : Type 0) (m : Bool) → BreaksAt {B = B} m Pass → ⊥
@@ -133,12 +133,8 @@ module _ (kinds : List CanonicalVarKind) where
   own-terms t h = made-over terms t h ∙ ap not (sym (some-at-root foreign_label t))
 
 -- ---- terms of an interner
-abbrev trees-of : Option Entry → Trees
-trees-of None = none
-trees-of (Some e) = e.trees
-
 made-at : (es : List Entry) → Lawful es → (kind i : ℕ) → kind ≢ bounds_lists → Has es kind i → is_made is_in_range terms (trees_at es i) ≡ true
-made-at es law kind i other h = subst (λ t. is_made is_in_range terms t ≡ true) (sym (ap trees-of h.1)) ((law.made i (term kind h.0) h.1).as_terms other)
+made-at es law kind i other h = subst (λ t. is_made is_in_range terms t ≡ true) (sym (trees-is es kind i h.0 h.1)) ((law.made i (term kind h.0) h.1).as_terms other)
 
 pub args-made : (es : List Entry) → Lawful es → (i : ℕ) → Has es args_lists i → is_made is_in_range terms (trees_at es i) ≡ true
 args-made es law i h = made-at es law args_lists i (λ e. absurd (omega (arith, e))) h
@@ -245,10 +241,6 @@ module _ (V : World) where
   -- the lifetime of a `dyn` names nothing
   pub bounds-alone : (b : Trees) (r : Region) → among (b +++ region_trees r) ≡ among b
   bounds-alone b r = bounds-named b (region_trees r) ∙ ap (λ z. among b || z) (region-unnamed r.kind) ∙ or-false (among b)
-    where
-      or-false : (x : Bool) → (x || false) ≡ x
-      or-false true = refl
-      or-false false = refl
 
   -- the bounds, with a principal or without one
   pub bounds-with : (es : List Entry) (b : BoundsData) (p : Principal) → b.principal ≡ Some p

@@ -87,7 +87,7 @@ second-part false x e f = absurd (false-true e)
 rigid-type : (l : Label) → is_rigid l ≡ true → sort_of l ≡ of_type
 rigid-type l e = is_sort-equal (sort_of l) of_type (left (is_sort (sort_of l) of_type) _ e)
 
-pub type-first : (t : Trees) → begins_with_type t ≡ true → StartsWithType t
+type-first : (t : Trees) → begins_with_type t ≡ true → StartsWithType t
 type-first none e = absurd (false-true e)
 type-first (tree (canonical of_type i) c o) e = refl
 type-first (tree (canonical of_const i) c o) e = absurd (false-true e)
@@ -195,7 +195,7 @@ region-autos (ReBound KCanonical v) = refl
 region-autos (ReVar v) = refl
 
 -- the auto traits as they are listed
-pub listed-autos : (ids : List TraitId) (r : Region) → list_any (λ (x : TraitId). x.index == unsize) ids ≡ names_unsize (autos_trees ids +++ region_trees r)
+listed-autos : (ids : List TraitId) (r : Region) → list_any (λ (x : TraitId). x.index == unsize) ids ≡ names_unsize (autos_trees ids +++ region_trees r)
 listed-autos [] r = sym (region-autos r.kind)
 listed-autos (x ∷ ids) r = ap (λ b. (x.index == unsize) || b) (listed-autos ids r)
 

@@ -1,5 +1,5 @@
 -- Arguments that have the sorts of a struct's parameters give it the lifetimes that its fields name.
-use Rattle.std.proofs.Common.{◌≡◌, ◌≤◌, ℕ, zero, suc, ◌+◌, ◌==◌, arith, refl, ap, subst, Bool, true, false, ◌&&◌, ◌||◌, not, if◌then◌else◌, List, [], ◌∷◌, map, filter, length, Some, None}
+use Rattle.std.proofs.Common.{◌≡◌, ◌≤◌, ℕ, zero, suc, ◌+◌, ◌==◌, arith, refl, ap, subst, Bool, true, false, ◌&&◌, not, if◌then◌else◌, List, [], ◌∷◌, map, filter, length, Some, None}
 use Rattle.std.specs.Prelude.{IfSome}
 use Rattle.std.specs.List.{list_all}
 use Rattle.type_terms.specs.Promised.Label.{Label, Sort, of_type, of_const, of_lifetime, static, dynamic, adt, principal, auto_trait, predicate, param, placeholder, infer, canonical, bound}
@@ -25,11 +25,7 @@ use Rattle.candidate_assembly.proofs.Fitting.{second-part}
 use Rattle.built_in_candidates.specs.Constituents.{AreArguments, StructIsApplied, HaveFields}
 use Rattle.built_in_candidates.specs.Unsizing.{TargetIsApplied}
 use Rattle.term_folds.proofs.TypeBasics.{left-none, right-none}
-
-neither : (a b c : Bool) → a ≡ false → b ≡ false → c ≡ false → a || b || c ≡ false
-neither false false c x y z = z
-neither true b c x y z = absurd cc
-neither false true c x y z = absurd cc
+use Rattle.type_terms.proofs.BooleanBasics.{none-of}
 
 -- a label of a lifetime is a leaf's
 record IsLifetime (l : Label) : Type 0 where
@@ -70,7 +66,7 @@ module _ (good : Label → Bool) where
     pub none-lacks : (m : Standing) (t : Trees) → is_made is_declared_leaf m t ≡ true → first_misfit A t ≡ None → some_node lacks t ≡ false
     none-lacks m none h e = refl
     none-lacks terms (tree dynamic c o) h e =
-        neither false (some_node lacks c) (some_node lacks o) refl
+        none-of false (some_node lacks c) (some_node lacks o) refl
         (none-lacks bounds c (left (is_made is_declared_leaf bounds c) _ h) (left-none (first_misfit A c) (first_misfit A o) e))
         (none-lacks terms o (right (is_made is_declared_leaf bounds c) _ h) (right-none (first_misfit A c) (first_misfit A o) e))
     none-lacks terms (tree (principal n t) c o) h e = absurd (false-true h)
@@ -78,38 +74,38 @@ module _ (good : Label → Bool) where
     none-lacks terms (tree (predicate k) c o) h e = absurd (false-true h)
     none-lacks terms (tree (param s i) c o) h e =
         let x = made-ordinary is_declared_leaf (param s i) c o refl h in
-        neither (lacks (param s i)) (some_node lacks c) (some_node lacks o) (param-given s i (left-none (misfit s (sort_at A i)) (first_misfit A o) e))
+        none-of (lacks (param s i)) (some_node lacks c) (some_node lacks o) (param-given s i (left-none (misfit s (sort_at A i)) (first_misfit A o) e))
         (nothing-below c (no-tree c x.1)) (none-lacks terms o x.3 (right-none (misfit s (sort_at A i)) (first_misfit A o) e))
     none-lacks terms (tree l c o) h e =
         let x = made-ordinary is_declared_leaf l c o refl h in
-        neither (lacks l) (some_node lacks c) (some_node lacks o) refl
+        none-of (lacks l) (some_node lacks c) (some_node lacks o) refl
         (none-lacks terms c x.2 (left-none (first_misfit A c) (first_misfit A o) e))
         (none-lacks terms o x.3 (right-none (first_misfit A c) (first_misfit A o) e))
     none-lacks bounds (tree (principal n t) c o) h e =
-        neither false (some_node lacks c) (some_node lacks o) refl
+        none-of false (some_node lacks c) (some_node lacks o) refl
         (none-lacks terms c (left (is_made is_declared_leaf terms c) _ h) (left-none (first_misfit A c) (first_misfit A o) e))
         (none-lacks traits o (right (is_made is_declared_leaf terms c) _ h) (right-none (first_misfit A c) (first_misfit A o) e))
     none-lacks bounds (tree (auto_trait n) c o) h e =
-        neither false (some_node lacks c) (some_node lacks o) refl (nothing-below c (no-tree c (left (is_no_tree c) _ h)))
+        none-of false (some_node lacks c) (some_node lacks o) refl (nothing-below c (no-tree c (left (is_no_tree c) _ h)))
         (none-lacks traits o (right (is_no_tree c) _ h) (right-none (first_misfit A c) (first_misfit A o) e))
     none-lacks bounds (tree (predicate k) c o) h e = absurd (false-true h)
     none-lacks bounds (tree dynamic c o) h e = absurd (never-dynamic-bound is_declared_leaf c o h)
     none-lacks bounds (tree (param s i) c o) h e =
         let x = last-bound is_declared_leaf (param s i) c o refl h in
-        neither (lacks (param s i)) (some_node lacks c) (some_node lacks o) (param-given s i (left-none (misfit s (sort_at A i)) (first_misfit A o) e)) (nothing-below c x.children) (nothing-below o x.rest)
+        none-of (lacks (param s i)) (some_node lacks c) (some_node lacks o) (param-given s i (left-none (misfit s (sort_at A i)) (first_misfit A o) e)) (nothing-below c x.children) (nothing-below o x.rest)
     none-lacks bounds (tree l c o) h e =
-        let x = last-bound is_declared_leaf l c o refl h in neither (lacks l) (some_node lacks c) (some_node lacks o) refl (nothing-below c x.children) (nothing-below o x.rest)
+        let x = last-bound is_declared_leaf l c o refl h in none-of (lacks l) (some_node lacks c) (some_node lacks o) refl (nothing-below c x.children) (nothing-below o x.rest)
     none-lacks traits (tree (auto_trait n) c o) h e =
-        neither false (some_node lacks c) (some_node lacks o) refl (nothing-below c (no-tree c (left (is_no_tree c) _ h)))
+        none-of false (some_node lacks c) (some_node lacks o) refl (nothing-below c (no-tree c (left (is_no_tree c) _ h)))
         (none-lacks traits o (right (is_no_tree c) _ h) (right-none (first_misfit A c) (first_misfit A o) e))
     none-lacks traits (tree (predicate k) c o) h e = absurd (false-true h)
     none-lacks traits (tree (principal n t) c o) h e = absurd (never-principal is_declared_leaf n t c o h)
     none-lacks traits (tree dynamic c o) h e = absurd (never-dynamic is_declared_leaf c o h)
     none-lacks traits (tree (param s i) c o) h e =
         let x = last-trait is_declared_leaf (param s i) c o refl h in
-        neither (lacks (param s i)) (some_node lacks c) (some_node lacks o) (param-given s i (left-none (misfit s (sort_at A i)) (first_misfit A o) e)) (nothing-below c x.children) (nothing-below o x.rest)
+        none-of (lacks (param s i)) (some_node lacks c) (some_node lacks o) (param-given s i (left-none (misfit s (sort_at A i)) (first_misfit A o) e)) (nothing-below c x.children) (nothing-below o x.rest)
     none-lacks traits (tree l c o) h e =
-        let x = last-trait is_declared_leaf l c o refl h in neither (lacks l) (some_node lacks c) (some_node lacks o) refl (nothing-below c x.children) (nothing-below o x.rest)
+        let x = last-trait is_declared_leaf l c o refl h in none-of (lacks l) (some_node lacks c) (some_node lacks o) refl (nothing-below c x.children) (nothing-below o x.rest)
 
 -- ---- structs
 module _ (es : List Entry) (good : Label → Bool) (A : Trees) (made : is_made good terms A ≡ true) (s : ℕ) where

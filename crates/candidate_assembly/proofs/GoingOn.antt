@@ -31,9 +31,7 @@ use Rattle.candidate_assembly.proofs.Along.{Answers}
 use Rattle.candidate_assembly.proofs.SourcesOf.{clause-impl, built-impl, bound-impl, clauses-are, built-in-are, objects-are}
 use Rattle.candidate_assembly.proofs.Histories.{Plans, ends-answer, histories-tell}
 use Rattle.candidate_assembly.proofs.InOrder.{goes-on, begins}
-
-pub some-is : (x y : Candidate) → Some x ≡ Some y → x ≡ y
-some-is x y e = cc
+use Rattle.type_terms.proofs.TypeBasics.{some-is}
 
 pub none-is : (x : Candidate) → ◌≡◌ {A = Option Candidate} None (Some x) → ⊥
 none-is x e = cc

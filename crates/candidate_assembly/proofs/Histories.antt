@@ -24,6 +24,8 @@ use Rattle.candidate_assembly.specs.Merging.{end_in}
 use Rattle.candidate_assembly.specs.Sections.{misc_is_bound, is_unknowable, is_built_in, is_bound, sources_tell, early, late, is_first_step, next_outside, next_in, decided, next_candidate, end_of, or_end, HistoriesTell}
 use Rattle.candidate_assembly.proofs.Along.{Follows, Answers, same-considered, chosen, outside-next, known-next, unknown-next}
 use Rattle.candidate_assembly.proofs.SourcesOf.{built-clause, impl-clause, bound-clause, impl-built, bound-built, bound-impl, clause-impl, clause-bound, built-impl, built-bound, clause-known, built-known, impl-known, bound-known, impl-quiet, bound-quiet, clauses-are, impls-are, built-in-are, objects-are}
+use Rattle.std.proofs.lemmas.Bool.{not-true, not_from_false}
+use Rattle.candidate_assembly.specs.Nexts.{next_undecided}
 
 abbrev pub Plans : Type 0
 Plans = Plan frame_tables
@@ -50,7 +52,7 @@ module _ (kinds : List CanonicalVarKind) where
       by false false = merged-answers (from (remains seen)) seen
 
 -- ---- histories
-pub follows-of : (p : Plans) (seen : SolverPast) → IsHistory (workings frame_tables) (λ z. wanted frame_tables (after frame_tables p z)) seen → Follows frame_tables p seen
+follows-of : (p : Plans) (seen : SolverPast) → IsHistory (workings frame_tables) (λ z. wanted frame_tables (after frame_tables p z)) seen → Follows frame_tables p seen
 follows-of p [] h = tt
 follows-of p (c ∷ seen) h = (h.0, follows-of p seen h.2)
 
@@ -63,14 +65,11 @@ module _ (end : SolverPast → Plans) (ends : (seen : SolverPast) → Answers fr
   over c [] = ends (came frame_tables unsure c.response c.number ∷ [])
   over c (d ∷ seen) = let a = over d seen in record { response = a.response; ignored = a.ignored; is = ap (told frame_tables c) a.is }
 
-  abbrev next_alone : SolverPast → Option Candidate
-  next_alone seen = if is_first_step seen then Some unsure else None
-
   abbrev spec-in : Candidate → Next (workings frame_tables) → Candidate
   spec-in s (consider c) = c
   spec-in s n = s
 
-  pub alone-next : (seen : SolverPast) → Follows frame_tables alone seen → wanted frame_tables (after frame_tables alone seen) ≡ or_end (next_alone seen) (end seen)
+  pub alone-next : (seen : SolverPast) → Follows frame_tables alone seen → wanted frame_tables (after frame_tables alone seen) ≡ or_end (next_undecided seen) (end seen)
   alone-next [] f = refl
   alone-next (c ∷ []) f =
       let same : unsure ≡ c.spec = ap (spec-in unsure) f.0 in
@@ -85,14 +84,6 @@ or-chosen None end = refl
 or-chosen (Some s) end = refl
 
 -- ---- goals that are decided
-not-so : (b : Bool) → not b ≡ true → b ≡ false
-not-so true h = absurd cc
-not-so false h = refl
-
-so-not : (b : Bool) → b ≡ false → not b ≡ true
-so-not true h = absurd cc
-so-not false h = refl
-
 module _ (V : World) (crate : ℕ) (a : GoalOverKinds) (tell : sources_tell a ≡ true) (end : SolverPast → Plans) (ends : (seen : SolverPast) → Answers frame_tables (end seen)) where
   abbrev b : Bool
   b = misc_is_bound a
@@ -116,7 +107,7 @@ module _ (V : World) (crate : ℕ) (a : GoalOverKinds) (tell : sources_tell a �
   quiet c = not (is_non_global c.source)
 
   stays : (c : Considered (workings frame_tables)) (seen : SolverPast) → quiet c.spec ≡ true → is_settled (c ∷ seen) ≡ is_settled seen
-  stays c seen h = ap (λ x. (x && says_nothing c.response) || is_settled seen) (not-so (is_non_global c.spec.source) h)
+  stays c seen h = ap (λ x. (x && says_nothing c.response) || is_settled seen) (not-true (is_non_global c.spec.source) h)
 
   quiets : (p : Candidate → Bool) → ((c : Candidate) → p c ≡ true → quiet c ≡ true) → (xs : List Candidate) → Every (λ (c : Candidate). p c ≡ true) xs → Every (λ (c : Candidate). quiet c ≡ true) xs
   quiets p f [] h = tt
@@ -129,8 +120,8 @@ module _ (V : World) (crate : ℕ) (a : GoalOverKinds) (tell : sources_tell a �
   still : Every (λ (c : Candidate). quiet c ≡ true) (by_impls V a V.impls ++ by_objects V a)
   still =
       both-quiet (by_impls V a V.impls) (by_objects V a)
-      (quiets pC (λ c h. so-not (is_non_global c.source) (impl-quiet c.source h)) (by_impls V a V.impls) (impls-are V a V.impls))
-      (quiets pD (λ c h. so-not (is_non_global c.source) (bound-quiet b c.source h)) (by_objects V a) (objects-are V a b refl tell))
+      (quiets pC (λ c h. not_from_false (is_non_global c.source) (impl-quiet c.source h)) (by_impls V a V.impls) (impls-are V a V.impls))
+      (quiets pD (λ c h. not_from_false (is_non_global c.source) (bound-quiet b c.source h)) (by_objects V a) (objects-are V a b refl tell))
 
   abbrev out-plan : Plans
   out-plan = each_of frame_tables (by_clauses V a (clauses a) ++ built_in V a) (λ seen. if is_settled seen then end seen else each_of frame_tables (by_impls V a V.impls ++ by_objects V a) end seen) []

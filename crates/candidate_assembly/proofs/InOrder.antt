@@ -15,6 +15,7 @@ use Rattle.declarations.specs.Relevant.{is_above}
 use Rattle.candidate_model.specs.Asking.{GoalOverKinds}
 use Rattle.candidate_model.specs.Candidates.{Candidate, by_impls, by_the_impl, can_match, impl_id}
 use Rattle.candidate_assembly.proofs.Behind.{same-impl}
+use Rattle.type_terms.proofs.TypeBasics.{some-is}
 
 not-below : (m n : ℕ) → m ≡ n → nat_lt n m ≡ false
 not-below m n h = grind (arith, nat_tests)
@@ -44,9 +45,6 @@ module _ (es : List Entry) (V : World) (a : GoalOverKinds) where
   -- the source of an impl's candidate is the impl
   source-is : (i : HeldImpl) (c : Candidate) (last : ImplId) → by_the_impl V a (impl_in es i.id i.def) ≡ c → c.source ≡ Impl last → i.id ≡ last
   source-is i c last e h = sym (same-impl i.id) ∙ one-source (impl_id i.id.index) last (ap (λ (x : Candidate). x.source) e ∙ h)
-
-  some-is : (x y : Candidate) → Some x ≡ Some y → x ≡ y
-  some-is x y h = cc
 
   skipped : (d : ImplDecl) (ds : List ImplDecl) (b : Bool) → rel d ≡ b → candidates (d ∷ ds) ≡ cond b (by_the_impl V a d ∷ candidates ds) (candidates ds)
   skipped d ds b e = ap (λ b. if b then by_the_impl V a d ∷ candidates ds else candidates ds) e

@@ -23,6 +23,10 @@ use Rattle.orphan_check.specs.declared.errors.WalkError.TheVariants.{Deep}
 use Rattle.orphan_check.specs.Exact.{reference_read, WalkTellsKnown, IsKnownOf}
 use Rattle.orphan_check.specs.Knowing.{meets_open, is_knowable, is_written_in}
 use Rattle.orphan_check.proofs.Visiting.{erased-visits}
+use Rattle.type_terms.proofs.Walking.{each-append}
+use Rattle.std.proofs.lemmas.Bool.{not-true, not-false}
+use Rattle.type_terms.proofs.BooleanBasics.{both-true}
+use Rattle.candidate_assembly.proofs.OpenPlaces.{none-here}
 
 -- ---- the declarations without lifetimes
 structs-erased : (p : StructDecl → Bool) → ((x : StructDecl) → p (erased_struct x) ≡ p x) → (s : ℕ) (xs : List StructDecl)
@@ -149,31 +153,11 @@ module _ (W : World) where
         ∙ ap (λ ms. (trait_is (λ _. true) W r.trait && (list_all (item_in W) (open_walk W r) && (fundamental || ends_local (until_decisive ms)))) && not (meets_open W r)) (erased-visits W (Some c) r.args)
 
 -- ---- what a walk meets
-all-append : (p : Met → Bool) (xs ys : List Met) → list_all p xs ≡ true → list_all p ys ≡ true → list_all p (xs ++ ys) ≡ true
-all-append p [] ys h g = g
-all-append p (x ∷ xs) ys h g = both (p x) _ (left (p x) _ h) (all-append p xs ys (right (p x) _ h) g)
-  where
-    both : (a b : Bool) → a ≡ true → b ≡ true → (a && b) ≡ true
-    both a b e f = rw (e, f) refl
-
 all-front : (p : Met → Bool) (ms : List Met) → p local ≡ true → p open_place ≡ true → list_all p ms ≡ true → list_all p (until_decisive ms) ≡ true
 all-front p [] l o h = refl
 all-front p (local ∷ ms) l o h = ap (λ b. b && true) l
 all-front p (open_place ∷ ms) l o h = ap (λ b. b && true) o
-all-front p (m ∷ ms) l o h = both (p m) _ (left (p m) _ h) (all-front p ms l o (right (p m) _ h))
-  where
-    both : (a b : Bool) → a ≡ true → b ≡ true → (a && b) ≡ true
-    both a b e f = rw (e, f) refl
-
--- what a test of three parts leaves
-none-here : (a b c : Bool) → (a || b || c) ≡ false → (a ≡ false) × (b ≡ false) × (c ≡ false)
-none-here true b c e = absurd (cc)
-none-here false true c e = absurd (cc)
-none-here false false c e = (refl, refl, e)
-
-is-there : (b : Bool) → not b ≡ false → b ≡ true
-is-there true e = refl
-is-there false e = absurd (cc)
+all-front p (m ∷ ms) l o h = both-true (p m) _ (left (p m) _ h) (all-front p ms l o (right (p m) _ h))
 
 module _ (W : World) where
   abbrev stray : Trees → Bool
@@ -197,21 +181,21 @@ module _ (W : World) where
     where
       by : (b : Bool) → seen ((if b then local else dyn_leaf t) ∷ []) ≡ true
       by true = refl
-      by false = one-more (dyn_leaf t) [] (is-there (trait_is (λ _. true) W t) (none-here (is_undeclared W (principal n t)) (stray c) (stray o) h).0) refl
+      by false = one-more (dyn_leaf t) [] (not-false (trait_is (λ _. true) W t) (none-here (is_undeclared W (principal n t)) (stray c) (stray o) h).0) refl
   dyn-seen d (tree l c o) h = refl
 
   visited-seen : (d : Option ℕ) (t : Trees) → stray t ≡ false → seen (visited W d t) ≡ true
   visited-seen d none h = refl
   visited-seen d (tree (ref b) c o) h =
-      let x = none-here (is_undeclared W (ref b)) (stray c) (stray o) h in all-append (item_in W) (visited W d c) (visited W d o) (visited-seen d c x.1) (visited-seen d o x.2)
+      let x = none-here (is_undeclared W (ref b)) (stray c) (stray o) h in each-append (item_in W) (visited W d c) (visited W d o) (visited-seen d c x.1) (visited-seen d o x.2)
   visited-seen d (tree (adt s) c o) h =
       let x = none-here (is_undeclared W (adt s)) (stray c) (stray o) h in
       let own = struct_is (λ x. is_home d x.home) W s in
       let fundamental = struct_is (λ x. x.is_fundamental) W s in
-      all-append (item_in W) (if own then local ∷ [] else if fundamental then entered s ∷ visited W d c else struct_leaf s ∷ []) (visited W d o)
-      (struct-seen s (visited W d c) own fundamental (is-there (struct_is (λ _. true) W s) x.0) (visited-seen d c x.1)) (visited-seen d o x.2)
+      each-append (item_in W) (if own then local ∷ [] else if fundamental then entered s ∷ visited W d c else struct_leaf s ∷ []) (visited W d o)
+      (struct-seen s (visited W d c) own fundamental (not-false (struct_is (λ _. true) W s) x.0) (visited-seen d c x.1)) (visited-seen d o x.2)
   visited-seen d (tree dynamic c o) h =
-      let x = none-here (is_undeclared W dynamic) (stray c) (stray o) h in all-append (item_in W) (dyn_met W d c) (visited W d o) (dyn-seen d c x.1) (visited-seen d o x.2)
+      let x = none-here (is_undeclared W dynamic) (stray c) (stray o) h in each-append (item_in W) (dyn_met W d c) (visited W d o) (dyn-seen d c x.1) (visited-seen d o x.2)
   visited-seen d (tree (param of_type i) c o) h = visited-seen d o (none-here (is_undeclared W (param of_type i)) (stray c) (stray o) h).2
   visited-seen d (tree (placeholder of_type i) c o) h = visited-seen d o (none-here (is_undeclared W (placeholder of_type i)) (stray c) (stray o) h).2
   visited-seen d (tree (infer of_type i) c o) h = visited-seen d o (none-here (is_undeclared W (infer of_type i)) (stray c) (stray o) h).2
@@ -233,14 +217,8 @@ module _ (W : World) where
   pub written-walk : (r : Reference) → written_in W r ≡ true → is_written_in W r ≡ true
   written-walk r h =
       let names = right (trait_is (λ _. true) W r.trait) _ h in
-      both (left (trait_is (λ _. true) W r.trait) _ h) (all-front (item_in W) (visited W None r.args) refl refl (visited-seen None r.args (no (stray r.args) names)))
-    where
-      no : (b : Bool) → not b ≡ true → b ≡ false
-      no true e = absurd (cc)
-      no false e = refl
-
-      both : trait_is (λ _. true) W r.trait ≡ true → seen (open_walk W r) ≡ true → (trait_is (λ _. true) W r.trait && seen (open_walk W r)) ≡ true
-      both e f = ap (λ b. b && seen (open_walk W r)) e ∙ f
+      both-true (trait_is (λ _. true) W r.trait) (seen (open_walk W r)) (left (trait_is (λ _. true) W r.trait) _ h)
+      (all-front (item_in W) (visited W None r.args) refl refl (visited-seen None r.args (not-true (stray r.args) names)))
 
   -- where nothing is open, no open place is visited
   any-append : (xs ys : List Met) → list_any is_open_place xs ≡ false → list_any is_open_place ys ≡ false → list_any is_open_place (xs ++ ys) ≡ false
@@ -299,11 +277,7 @@ module _ (W : World) where
   closed-known c r h k =
       let own = trait_is (λ x. (x.home == c) || x.is_fundamental) W r.trait in
       all-of (trait_is (λ _. true) W r.trait) (seen (open_walk W r)) own (ends_local (walk W c r)) (meets_open W r) (written-walk r h) (left own _ k)
-      (visits-unopened None r.args (unopened (some_node is_open r.args) (right own _ k)))
-    where
-      unopened : (b : Bool) → not b ≡ true → b ≡ false
-      unopened true e = absurd (cc)
-      unopened false e = refl
+      (visits-unopened None r.args (not-true (some_node is_open r.args) (right own _ k)))
 
 -- ---- the answer of a walk with a table in which no variable has a value
 never-both : (a : Bool) → false ≡ (a && not true)

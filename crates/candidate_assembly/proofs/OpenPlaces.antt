@@ -43,11 +43,11 @@ pub flags-tell : (t : Trees) → not (bit_and (flags t) 4095 == 0) ≡ some_node
 flags-tell t = sym (scan-tree 4095 t) ∙ sym (open-nodes t)
 
 -- ---- where nothing is open, nothing is foreign
-false-of-three : (p q r : Bool) → (p || q || r) ≡ false → (p ≡ false) × ((q ≡ false) × (r ≡ false))
-false-of-three false false false h = (refl, (refl, refl))
-false-of-three true q r h = cc
-false-of-three false true r h = cc
-false-of-three false false true h = cc
+-- what a test of three parts leaves
+pub none-here : (p q r : Bool) → (p || q || r) ≡ false → (p ≡ false) × (q ≡ false) × (r ≡ false)
+none-here true q r h = absurd cc
+none-here false true r h = absurd cc
+none-here false false r h = (refl, refl, h)
 
 module _ (kinds : List CanonicalVarKind) where
   closed-label : (l : Label) → is_open l ≡ false → foreign_label kinds l ≡ false
@@ -60,8 +60,8 @@ module _ (kinds : List CanonicalVarKind) where
   none-foreign : (t : Trees) → some_node is_open t ≡ false → foreign kinds t ≡ false
   none-foreign none h = refl
   none-foreign (tree l c o) h =
-      let parts = false-of-three (is_open l) (some_node is_open c) (some_node is_open o) h in
-      join-tests _ _ _ _ _ _ (closed-label l parts.0) (none-foreign c parts.1.0) (none-foreign o parts.1.1)
+      let parts = none-here (is_open l) (some_node is_open c) (some_node is_open o) h in
+      join-tests _ _ _ _ _ _ (closed-label l parts.0) (none-foreign c parts.1) (none-foreign o parts.2)
 
   pub closed-over : (t : Trees) → is_made is_in_range terms t ≡ true → some_node is_open t ≡ false → is_made (is_variable_over kinds) terms t ≡ true
   closed-over t made h = made-over kinds terms t made ∙ ap not (none-foreign t h)

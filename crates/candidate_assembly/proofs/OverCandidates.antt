@@ -1,5 +1,5 @@
 -- The terms of the candidates of a goal that is decided are over the variables of the goal and of the candidate alone.
-use Rattle.std.proofs.Common.{◌≡◌, ℕ, zero, suc, ◌+◌, ◌<◌, arith, Bool, true, false, not, ◌&&◌, ◌||◌, ◌==◌, if◌then◌else◌, List, [], ◌∷◌, map, length, refl, sym, ◌∙◌, ap, Some}
+use Rattle.std.proofs.Common.{◌≡◌, ℕ, suc, ◌+◌, Bool, true, false, not, ◌&&◌, ◌||◌, ◌==◌, if◌then◌else◌, List, [], ◌∷◌, map, length, refl, sym, ◌∙◌, ap, Some}
 use Rattle.std.specs.Prelude.{nat_lt}
 use Rattle.std.specs.List.{flat_map, list_all, slice_get}
 use Rattle.type_terms.specs.Promised.Label.{Label, Sort, of_type, of_const, of_lifetime, tuple, dynamic, array, slice, adt, fn_ptr, predicate, of_trait}
@@ -47,6 +47,9 @@ use Rattle.candidate_assembly.proofs.Over.{ArePlain, declared-plain, goal-over, 
 use Rattle.candidate_assembly.proofs.OverRows.{AreOverAll, AskOver, last-over, last-unsizes-over, sized-over, copy-over, auto-over, tuple-over, fn-ptr-over, principal-over, autos-over, to-dyn-over, elaborated-over, supertraits-over, but-last-over, unsizing-over}
 use Rattle.candidate_assembly.proofs.WellDeclared.{found, kind_for, kind-is, kinds-at, label-of, is-less}
 use Rattle.goal_evaluator.proofs.Basics.{both-lists}
+use Rattle.std.proofs.lemmas.Bool.{not-true, not-false, or_parts}
+use Rattle.type_terms.proofs.NumberBasics.{zero-first}
+use Rattle.built_in_candidates.proofs.FoundKinds.{kind-found}
 
 -- ---- candidates
 -- the candidate's terms are over these variables
@@ -235,37 +238,17 @@ module _ (V : World) (fields : (x : StructDecl) → In x V.structs → Every Are
   unknowable-over = (tt, tt, premises-over [] false (supertraits V a.reference) supers_over)
 
 -- ---- impls
-kind-get : (ks : List CanonicalVarKind) (j : ℕ) → kind_at ks j ≡ slice_get ks j
-kind-get [] j = refl
-kind-get (k ∷ ks) zero = refl
-kind-get (k ∷ ks) (suc j) = kind-get ks j
-
 kind-for : (s : Sort) → is_kind_of s (Some (kind_for s)) ≡ true
 kind-for of_type = refl
 kind-for of_const = refl
 kind-for of_lifetime = refl
 
-is-false : (b : Bool) → not b ≡ true → b ≡ false
-is-false true h = absurd (false-true h)
-is-false false h = refl
-
-either : (b c : Bool) → (b || c) ≡ false → (b ≡ false) × (c ≡ false)
-either true c h = absurd (false-true (sym h))
-either false c h = (refl, h)
-
 -- a parameter of the header is one of the impl's, of its sort
 param-kind : (h : Trees) (n : ℕ) → some_node (is_unsorted n h) h ≡ false → (s : Sort) (j : ℕ) → some_node (is_this_param s j) h ≡ true → is_kind_of s (kind_at (kinds_of_params h 0 n) j) ≡ true
 param-kind h n sorted s j e =
     let x = found (is_this_param s j) (is_unsorted n h) h e sorted in
-    let own = either (not (nat_lt j n)) (some_node (is_otherwise s j) h) (sym (ap (is_unsorted n h) (label-of s j x.0 x.1)) ∙ x.2) in
-    ap (is_kind_of s) (kind-get (kinds_of_params h 0 n) j ∙ kinds-at h 0 n j (below (nat_lt j n) refl own.0) ∙ ap (λ k. Some (kind_of_param h k)) (zero-plus j) ∙ ap (λ z. Some z) (kind-is h s j e own.1)) ∙ kind-for s
-  where
-    zero-plus : (k : ℕ) → 0 + k ≡ k
-    zero-plus k = omega arith
-
-    below : (b : Bool) → nat_lt j n ≡ b → not b ≡ false → j < n
-    below true q g = is-less j n q
-    below false q g = absurd (false-true (sym g))
+    let own = or_parts (not (nat_lt j n)) (some_node (is_otherwise s j) h) (sym (ap (is_unsorted n h) (label-of s j x.0 x.1)) ∙ x.2) in
+    ap (is_kind_of s) (sym (kind-found (kinds_of_params h 0 n) j) ∙ kinds-at h 0 n j (is-less j n (not-false (nat_lt j n) own.0)) ∙ ap (λ k. Some (kind_of_param h k)) (zero-first j) ∙ ap (λ z. Some z) (kind-is h s j e own.1)) ∙ kind-for s
 
 every-all : {A : Type 0} (P : A → Type 0) (p : A → Bool) → ((x : A) → p x ≡ true → P x) → (xs : List A) → list_all p xs ≡ true → Every P xs
 every-all P p f [] h = tt
@@ -297,7 +280,7 @@ module _ (V : World) (well : IsDeclaredWell V) (a : GoalOverKinds) (over : is_ma
       at : (s : Sort) (j : ℕ) → some_node (is_this_param s j) i.header.args ≡ true → is_of_sort s (slice_get ls (length a.kinds + j)) ≡ true
       at s j e =
           rule-slots a.kinds own s j
-          (param-kind i.header.args i.params (is-false (some_node (is_unsorted i.params i.header.args) i.header.args) (member-each (λ (x : ImplDecl). not (some_node (is_unsorted x.params x.header.args) x.header.args)) V.impls i well.sorted m)) s j e)
+          (param-kind i.header.args i.params (not-true (some_node (is_unsorted i.params i.header.args) i.header.args) (member-each (λ (x : ImplDecl). not (some_node (is_unsorted x.params x.header.args) x.header.args)) V.impls i well.sorted m)) s j e)
 
 -- ---- equations of made terms
 default-good : (s : Sort) → (is_a s (leaf (default_label s)) && is_made is_open_label terms (leaf (default_label s))) ≡ true

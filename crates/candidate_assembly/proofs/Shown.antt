@@ -19,7 +19,7 @@ use Rattle.goal_frames.specs.Handlers.{same_answer, applies_always}
 use Rattle.goal_frames.specs.Merges.{responses_of}
 use Rattle.goal_evaluator.specs.StepReadings.{ShownCandidate, Shows, shown, shown_by, result_read}
 use Rattle.candidate_model.specs.Solver.{SolverPast, from, is_clause, is_object, gives_none, holds_from, oldest_gives_none}
-use Rattle.candidate_assembly.proofs.Taken.{or-none}
+use Rattle.candidate_assembly.proofs.Taken.{or-none, or-assoc}
 use Rattle.candidate_assembly.proofs.Counted.{shown-next}
 use Rattle.candidate_assembly.specs.Shown.{yes_of, clause_yes, first_yes, other_clauses, first_bound_gives_none}
 use Rattle.goal_evaluator.proofs.TypeBasics.{map-else}
@@ -88,10 +88,6 @@ module _ (P : CandidateSource → Bool) where
   answers es done seen h = answers-read es done ∙ ap answers_of h ∙ answers-shown seen
 
 -- the same from the same sources
-pub same-filter : {A : Type 0} (p q : A → Bool) → ((x : A) → p x ≡ q x) → (xs : List A) → filter p xs ≡ filter q xs
-same-filter p q h [] = refl
-same-filter p q h (x ∷ xs) = ap (λ b. if b then x ∷ filter p xs else filter p xs) (h x) ∙ ap (λ z. if q x then x ∷ z else z) (same-filter p q h xs)
-
 pub all-kept : {A : Type 0} (xs : List A) → filter (λ (x : A). true) xs ≡ xs
 all-kept [] = refl
 all-kept (x ∷ xs) = ap (λ z. x ∷ z) (all-kept xs)
@@ -111,13 +107,9 @@ pub bound : (es : List Entry) (done : List InCode.Considered) (seen : SolverPast
 bound es done seen h = ap (first_bound_gives_none false) h ∙ bound-shown false seen
 
 -- ---- the first where-clause that is a yes
-else-else : {A : Type 0} (a b c : Option A) → or_else (or_else a b) c ≡ or_else a (or_else b c)
-else-else None b c = refl
-else-else (Some x) b c = refl
-
 yes-append : (xs ys : List ShownCandidate) → first_yes (xs ++ ys) ≡ or_else (first_yes xs) (first_yes ys)
 yes-append [] ys = refl
-yes-append (x ∷ xs) ys = ap (or_else (clause_yes x)) (yes-append xs ys) ∙ sym (else-else (clause_yes x) (first_yes xs) (first_yes ys))
+yes-append (x ∷ xs) ys = ap (or_else (clause_yes x)) (yes-append xs ys) ∙ or-assoc (clause_yes x) (first_yes xs) (first_yes ys)
 
 abbrev pub as_taken : AnswerTrees × ℕ → Option AnswerTrees × ℕ
 as_taken x = (Some x.0, x.1)

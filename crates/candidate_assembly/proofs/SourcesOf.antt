@@ -17,6 +17,7 @@ use Rattle.type_terms.proofs.Members.{same-number}
 use Rattle.candidate_model.proofs.Recording.{every-recorded}
 use Rattle.candidate_assembly.specs.Sections.{begins_dyn, misc_is_bound, is_unknowable, is_built_in, is_bound, autos_of, sources_tell}
 use Rattle.goal_evaluator.proofs.Basics.{every-append}
+use Rattle.std.proofs.lemmas.Bool.{not-false}
 
 -- ---- sources of different sections
 pub built-clause : (b : Bool) (s : CandidateSource) → is_built_in b s ≡ true → is_clause s ≡ false
@@ -271,12 +272,8 @@ module _ (V : World) (a : GoalOverKinds) where
   written-bounds true bounds others e t = bounds-are (is_bound true) written_source (λ i. refl) 0 (autos_with (tree dynamic bounds none) bounds)
   written-bounds false bounds others e t = no-bounds (is_bound false) written_source is 0 (autos_with (tree dynamic bounds none) bounds) (apart (not (a.reference.trait == unsize)) (list_any (λ (r : Reference). r.trait == unsize) (autos_with (tree dynamic bounds none) bounds)) e t)
     where
-      back : (x : Bool) → not x ≡ false → x ≡ true
-      back true h = refl
-      back false h = absurd cc
-
       is : a.reference.trait ≡ unsize
-      is = same-number a.reference.trait unsize (back (a.reference.trait == unsize) e)
+      is = same-number a.reference.trait unsize (not-false (a.reference.trait == unsize) e)
 
       apart : (x y : Bool) → x ≡ false → (x || not y) ≡ true → y ≡ false
       apart true y f g = absurd cc

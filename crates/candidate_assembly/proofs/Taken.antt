@@ -4,10 +4,16 @@ use Rattle.std.specs.Prelude.{filter}
 use Rattle.std.specs.List.{slice_get}
 use Rattle.goal_evaluator.specs.Lists.{Every}
 use Rattle.goal_evaluator.specs.Merge.{or_else}
+use Rattle.type_terms.proofs.ListBasics.{first-same, rest-same}
+use Rattle.std.proofs.Math.Nat.{suc-add}
 
 pub or-none : {A : Type 0} (o : Option A) → or_else o None ≡ o
 or-none None = refl
 or-none (Some x) = refl
+
+pub or-assoc : {A : Type 0} (a b c : Option A) → or_else a (or_else b c) ≡ or_else (or_else a b) c
+or-assoc None b c = refl
+or-assoc (Some x) b c = refl
 
 module _ {A : Type 0} where
   abbrev pub count : (A → Bool) → List A → ℕ
@@ -21,12 +27,6 @@ module _ {A : Type 0} where
 
   abbrev pub AreOut : (A → Bool) → List A → Type 0
   AreOut p xs = Every (λ x. p x ≡ false) xs
-
-  same-first : (x y : A) (xs ys : List A) → x ∷ xs ≡ y ∷ ys → x ≡ y
-  same-first x y xs ys h = cc
-
-  same-rest : (x y : A) (xs ys : List A) → x ∷ xs ≡ y ∷ ys → xs ≡ ys
-  same-rest x y xs ys h = cc
 
   pub all-left : (p : A → Bool) (t : List A) → AreOut p t → rest_of p t ≡ t
   all-left p [] h = refl
@@ -48,8 +48,8 @@ module _ {A : Type 0} where
       record { left = rest; others = ap (λ l. l ++ rest) (all-left p t out) ∙ e; next = refl }
   past p (x ∷ xs) ys i o [] rest e = record { left = ys; others = refl; next = ap (λ l. slice_get l 0) e }
   past p (x ∷ xs) ys i o (u ∷ t) rest e =
-      let same : u ≡ x = same-first u x (t ++ rest) (xs ++ ys) e in
-      let h = past p xs ys i.1 o t rest (same-rest u x (t ++ rest) (xs ++ ys) e) in
+      let same : u ≡ x = first-same u x (t ++ rest) (xs ++ ys) e in
+      let h = past p xs ys i.1 o t rest (rest-same u x (t ++ rest) (xs ++ ys) e) in
       let is : p u ≡ true = ap p same ∙ i.0 in
       record {
         left = h.left;
@@ -74,20 +74,14 @@ module _ {A : Type 0} where
   -- a section that was passed has no candidate there
   pub none-behind : (xs : List A) (n : ℕ) → slice_get xs (length xs + n) ≡ None
   none-behind [] n = refl
-  none-behind (x ∷ xs) n = ap (slice_get (x ∷ xs)) (next (length xs) n) ∙ none-behind xs n
-    where
-      next : (k m : ℕ) → suc k + m ≡ suc (k + m)
-      next k m = omega arith
+  none-behind (x ∷ xs) n = ap (slice_get (x ∷ xs)) (suc-add (length xs) n) ∙ none-behind xs n
 
   pub counted-all : (p : A → Bool) (xs ys : List A) → AreIn p xs → count p (xs ++ ys) ≡ length xs + count p ys
   counted-all p [] ys i = nothing (count p ys)
     where
       nothing : (m : ℕ) → m ≡ length {A = A} [] + m
       nothing m = omega arith
-  counted-all p (x ∷ xs) ys i = ap (λ b. length (cond b (x ∷ filter p (xs ++ ys)) (filter p (xs ++ ys)))) i.0 ∙ ap suc (counted-all p xs ys i.1) ∙ next (length xs) (count p ys)
-    where
-      next : (k m : ℕ) → suc (k + m) ≡ suc k + m
-      next k m = omega arith
+  counted-all p (x ∷ xs) ys i = ap (λ b. length (cond b (x ∷ filter p (xs ++ ys)) (filter p (xs ++ ys)))) i.0 ∙ ap suc (counted-all p xs ys i.1) ∙ sym (suc-add (length xs) (count p ys))
 
   pub passed : (p : A → Bool) (xs ys : List A) → AreIn p xs → slice_get xs (count p (xs ++ ys)) ≡ None
   passed p xs ys i = ap (slice_get xs) (counted-all p xs ys i) ∙ none-behind xs (count p ys)

@@ -32,25 +32,13 @@ use Rattle.type_terms.proofs.Made.{left, right}
 use Rattle.candidate_model.proofs.Headers.{child-some, next-some}
 use Rattle.candidate_assembly.specs.Headers.{var_kind, StandInHeader, CanBeCandidate, WellDeclaredHaveCandidates}
 use Rattle.type_terms.proofs.TermBasics.{sort-self as one-sort}
-use Rattle.type_terms.proofs.NumberBasics.{number-self as same-itself}
+use Rattle.type_terms.proofs.NumberBasics.{number-self as same-itself, place-here, zero-first}
+use Rattle.std.proofs.lemmas.Bool.{not-true, not-false}
+use Rattle.type_terms.proofs.BooleanBasics.{left-false, right-false}
+use Rattle.type_terms.proofs.TypeBasics.{some-is}
+use Rattle.std.proofs.Math.Nat.{suc-add, add-suc}
 
 -- ---- tests
-was-false : (x : Bool) → not x ≡ true → x ≡ false
-was-false true h = absurd cc
-was-false false h = refl
-
-was-true : (x : Bool) → not x ≡ false → x ≡ true
-was-true true h = refl
-was-true false h = absurd cc
-
-left-false : (x y : Bool) → (x || y) ≡ false → x ≡ false
-left-false true y h = absurd cc
-left-false false y h = refl
-
-right-false : (x y : Bool) → (x || y) ≡ false → y ≡ false
-right-false true y h = absurd cc
-right-false false y h = h
-
 pub is-less : (m n : ℕ) → nat_lt m n ≡ true → m < n
 is-less m n h = grind (arith, nat_tests)
 
@@ -138,17 +126,8 @@ module _ (H : Trees) where
 
   pub kinds-at : (k n i : ℕ) → i < n → slice_get (kinds_of_params H k n) i ≡ Some (kind_of_param H (k + i))
   kinds-at k zero i h = absurd (omega (arith, h))
-  kinds-at k (suc n) zero h = ap (λ m. Some (kind_of_param H m)) (plain k)
-    where
-      plain : (k : ℕ) → k ≡ k + 0
-      plain k = omega arith
-  kinds-at k (suc n) (suc i) h = kinds-at (suc k) n i (omega (arith, h)) ∙ ap (λ m. Some (kind_of_param H m)) (next k i)
-    where
-      next : (k i : ℕ) → suc k + i ≡ k + suc i
-      next k i = omega arith
-
-  some-is : (x y : CanonicalVarKind) → Some x ≡ Some y → x ≡ y
-  some-is x y e = cc
+  kinds-at k (suc n) zero h = ap (λ m. Some (kind_of_param H m)) (place-here k)
+  kinds-at k (suc n) (suc i) h = kinds-at (suc k) n i (omega (arith, h)) ∙ ap (λ m. Some (kind_of_param H m)) (suc-add k i ∙ sym (add-suc k i))
 
   kind-back : (ps : List GenericParamKind) (i : ℕ) (s : Sort) → slice_get (map var_kind ps) i ≡ Some (kind_for s) → slice_get (map sort_of_param ps) i ≡ Some s
   kind-back [] i s h = absurd cc
@@ -166,12 +145,9 @@ module _ (H : Trees) where
     sort-of-param s i h =
         let m = found (is_this_param s i) (is_unsorted (length ps) H) H h sorted in
         let other : is_unsorted (length ps) H (param s i) ≡ false = sym (ap (is_unsorted (length ps) H) (label-of s i m.0 m.1)) ∙ m.2 in
-        let below : i < length ps = is-less i (length ps) (was-true (nat_lt i (length ps)) (left-false (not (nat_lt i (length ps))) (some_node (is_otherwise s i) H) other)) in
+        let below : i < length ps = is-less i (length ps) (not-false (nat_lt i (length ps)) (left-false (not (nat_lt i (length ps))) (some_node (is_otherwise s i) H) other)) in
         let one : some_node (is_otherwise s i) H ≡ false = right-false (not (nat_lt i (length ps))) (some_node (is_otherwise s i) H) other in
-        kind-back ps i s (ap (λ ks. slice_get ks i) stand ∙ kinds-at 0 (length ps) i below ∙ ap (λ n. Some (kind_of_param H n)) (plain i) ∙ ap (λ k. Some k) (kind-is s i h one))
-      where
-        plain : (i : ℕ) → 0 + i ≡ i
-        plain i = omega arith
+        kind-back ps i s (ap (λ ks. slice_get ks i) stand ∙ kinds-at 0 (length ps) i below ∙ ap (λ n. Some (kind_of_param H n)) (zero-first i) ∙ ap (λ k. Some k) (kind-is s i h one))
 
     -- trees whose parameters all stand in the header
     fits : (A : Trees) → sorts_of A ≡ map sort_of_param ps → (t : Trees) → ((s : Sort) (i : ℕ) → some_node (is_this_param s i) t ≡ true → some_node (is_this_param s i) H ≡ true) → first_misfit A t ≡ None
@@ -230,7 +206,7 @@ module _ (es : List Entry) (V : World) (determined : ImplsAreDetermined V) where
           header = speaks H ps stand sorted H (λ s j h. h);
           clauses = clauses-speak ps H stand sorted i.def.clauses.items (λ r m s j h. determined (impl_in es i.id i.def) r k m s j h);
         };
-        plain = plain-head H held.begins (was-false (some_node is_counted H) (right (is_made is_declared_leaf terms H) (not (some_node is_counted H)) made));
+        plain = plain-head H held.begins (not-true (some_node is_counted H) (right (is_made is_declared_leaf terms H) (not (some_node is_counted H)) made));
       }
 
   abbrev decls : List HeldImpl → List ImplDecl
@@ -245,7 +221,7 @@ module _ (es : List Entry) (V : World) (determined : ImplsAreDetermined V) where
       let x = impl_in es i.id i.def in
       let now = left (are_terms x.header.args && are_references x.clauses) (list_all (λ (y : ImplDecl). are_terms y.header.args && are_references y.clauses) (decls is)) made in
       let ordered = left (not (some_node (is_unsorted x.params x.header.args) x.header.args)) (list_all (λ (y : ImplDecl). not (some_node (is_unsorted y.params y.header.args) y.header.args)) (decls is)) sorted in (
-        one-can i (f x (here x (decls is))) held.0 stand.0 (left (are_terms x.header.args) (are_references x.clauses) now) (was-false (some_node (is_unsorted x.params x.header.args) x.header.args) ordered),
+        one-can i (f x (here x (decls is))) held.0 stand.0 (left (are_terms x.header.args) (are_references x.clauses) now) (not-true (some_node (is_unsorted x.params x.header.args) x.header.args) ordered),
         all-can is (λ y k. f y (there y x (decls is) k)) held.1 stand.1
             (right (are_terms x.header.args && are_references x.clauses) (list_all (λ (y : ImplDecl). are_terms y.header.args && are_references y.clauses) (decls is)) made)
             (right (not (some_node (is_unsorted x.params x.header.args) x.header.args)) (list_all (λ (y : ImplDecl). not (some_node (is_unsorted y.params y.header.args) y.header.args)) (decls is)) sorted),

@@ -41,12 +41,8 @@ early_in es d g seen = early (written es d) (asked_of es g) seen
 abbrev pub late_in : List Entry → Items → CanonicalInput → SolverPast → Option Candidate
 late_in es d g seen = late (written es d) (asked_of es g) seen
 
--- If the assembly stops there, none of these comes.
-abbrev pub late_unless : Bool → List Entry → Items → CanonicalInput → SolverPast → Option Candidate
-late_unless stops es d g seen = if stops then None else late_in es d g seen
-
-abbrev pub until : Bool → List Entry → Items → CanonicalInput → SolverPast → Option Candidate
-until stops es d g seen = or_else (early_in es d g seen) (late_unless stops es d g seen)
+abbrev pub early_or_late_in : List Entry → Items → CanonicalInput → SolverPast → Option Candidate
+early_or_late_in es d g seen = or_else (early_in es d g seen) (late_in es d g seen)
 
 abbrev pub next_inside_in : List Entry → Items → CanonicalInput → SolverPast → Option Candidate
 next_inside_in es d g seen = next_inside (written es d) d.local (asked_of es g) seen

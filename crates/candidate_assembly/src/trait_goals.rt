@@ -25,7 +25,7 @@ ghost use Rattle.candidate_model.specs.Solver.{says_nothing, is_non_global, is_s
 ghost use Rattle.candidate_assembly.specs.Counted.{ForEachPast};
 ghost use Rattle.built_in_candidates.specs.Goals.{asked_of, candidate_of};
 ghost use Rattle.built_in_candidates.specs.Noted.{StayElaborated};
-ghost use Rattle.candidate_assembly.specs.Nexts.{handled_in, IsNextBy, early_in, late_in, late_unless, until, next_inside_in, next_outside_in, next_decided, next_undecided, next_for, mode_at_end};
+ghost use Rattle.candidate_assembly.specs.Nexts.{handled_in, IsNextBy, early_in, late_in, early_or_late_in, next_inside_in, next_outside_in, next_decided, next_undecided, next_for, mode_at_end};
 ghost use Rattle.candidate_assembly.specs.Ready.{AreReadyDeclarations, Decides, IsWellPosedGoal};
 ghost use Rattle.candidate_assembly.specs.Sections.{is_unknowable, is_bound, is_first_step, misc_is_bound, considered_from};
 
@@ -196,14 +196,13 @@ fn late_candidate(
     }
 }
 
-/// The next candidate by an impl or a bound, unless none of these may come.
-fn late_candidate_unless(
+/// The next candidate by a where-clause or a built-in rule, or else by an impl or by a bound of the `dyn` that is the self type.
+fn early_or_late_candidate(
     alloc: Global,
     cx: &mut Interner,
     declarations: &Declarations,
     goal: &CanonicalInput,
     done: &[Considered],
-    stops: bool,
     notes: &mut Vec<TraitRef>,
 ) -> Result<Option<CandidateSpec>, Fault>
     requires decided { IsWellPosedGoal cx.old.entries declarations.now goal.now }
@@ -213,38 +212,11 @@ fn late_candidate_unless(
     ensures held { IfOk result (λ o. IfSome o (SpecHeld cx.new.entries)) }
     ensures notes { OnOk result (StayElaborated cx.new.entries declarations.now notes.new.items) }
     ensures is { IfOk result
-        (IsNextBy (late_unless stops cx.old.entries declarations.now goal.now) cx.old.entries declarations.now goal.now done.now cx.new.entries) }
-{
-    if stops {
-        Ok(None)
-    } else {
-        late_candidate(alloc, cx, declarations, goal, done, notes)
-    }
-}
-
-/// The next candidate by a where-clause or a built-in rule. If there is none, and the assembly does not stop there, the next one by an impl
-/// or a bound.
-fn candidate_until(
-    alloc: Global,
-    cx: &mut Interner,
-    declarations: &Declarations,
-    goal: &CanonicalInput,
-    done: &[Considered],
-    stops: bool,
-    notes: &mut Vec<TraitRef>,
-) -> Result<Option<CandidateSpec>, Fault>
-    requires decided { IsWellPosedGoal cx.old.entries declarations.now goal.now }
-    requires done { ConsideredHeld cx.old.entries done.now }
-    requires notes { StayElaborated cx.old.entries declarations.now notes.old.items }
-    ensures terms { GrewOrFull cx.old cx.new result }
-    ensures held { IfOk result (λ o. IfSome o (SpecHeld cx.new.entries)) }
-    ensures notes { OnOk result (StayElaborated cx.new.entries declarations.now notes.new.items) }
-    ensures is { IfOk result
-        (IsNextBy (until stops cx.old.entries declarations.now goal.now) cx.old.entries declarations.now goal.now done.now cx.new.entries) }
+        (IsNextBy (early_or_late_in cx.old.entries declarations.now goal.now) cx.old.entries declarations.now goal.now done.now cx.new.entries) }
 {
     match early_candidate(alloc, cx, declarations, goal, done)? {
         Some(candidate) => Ok(Some(candidate)),
-        None => late_candidate_unless(alloc, cx, declarations, goal, done, stops, notes),
+        None => late_candidate(alloc, cx, declarations, goal, done, notes),
     }
 }
 
@@ -273,7 +245,7 @@ fn candidate_in_coherence(
     if unknowable_holds(done) {
         return Ok(None);
     }
-    candidate_until(alloc, cx, declarations, goal, done, false, notes)
+    early_or_late_candidate(alloc, cx, declarations, goal, done, notes)
 }
 
 /// The next candidate outside coherence.
@@ -295,8 +267,11 @@ fn candidate_outside_coherence(
     ensures is { IfOk result
         (IsNextBy (next_outside_in cx.old.entries declarations.now goal.now) cx.old.entries declarations.now goal.now done.now cx.new.entries) }
 {
-    let settled = is_settled(cx, done);
-    candidate_until(alloc, cx, declarations, goal, done, settled, notes)
+    if is_settled(cx, done) {
+        early_candidate(alloc, cx, declarations, goal, done)
+    } else {
+        early_or_late_candidate(alloc, cx, declarations, goal, done, notes)
+    }
 }
 
 /// The next candidate of a goal that is decided, in the goal's mode. If the newest candidate is by an impl, then no where-clause and no

@@ -1,5 +1,6 @@
-use Rattle.std.proofs.Common.{◌≡◌, ℕ, suc, ◌+◌, arith, ap, ◌∙◌}
+use Rattle.std.proofs.Common.{ap, ◌∙◌}
 use Rattle.std.specs.List.{slice_get}
+use Rattle.type_terms.proofs.NumberBasics.{next-number}
 use Rattle.declarations.specs.Items.{written}
 use Rattle.candidate_model.specs.Candidates.{by_impls}
 use Rattle.candidate_assembly.proofs.InOrder.{goes-on, begins}
@@ -10,7 +11,4 @@ returns-clause-begins c = λ es d a. ap (λ ds. slice_get (by_impls (written es 
 
 pub returns-clause-goes_on : goal.returns-clause-goes_on
 returns-clause-goes_on c = λ es d a n x last r e s.
-    goes-on es (written es d) a d.impls n x last r e s ∙ ap (λ m. slice_get (by_impls (written es d) a (written es d).impls) m) (next n)
-  where
-    next : (n : ℕ) → suc n ≡ n + 1
-    next n = omega arith
+    goes-on es (written es d) a d.impls n x last r e s ∙ ap (λ m. slice_get (by_impls (written es d) a (written es d).impls) m) (next-number n)

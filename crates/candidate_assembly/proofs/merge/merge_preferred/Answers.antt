@@ -1,28 +1,26 @@
 use Rattle.std.proofs.Common.{sym, ◌∙◌}
-use Rattle.infer_table.specs.declared.certainty.TypingMode.TheVariants.{PostAnalysis}
-use Rattle.candidate_assembly.specs.Merging.{end_in, clause_taken, IsEnd, MergesFrom}
-use Rattle.candidate_assembly.specs.declared.merge.Sources.TheVariants.{Trivial}
-use Rattle.candidate_assembly.proofs.Ends.{ok-map, trivial-end, non-global-end, remaining-end}
+use Rattle.std.proofs.lemmas.Result.{IfOk-weaker}
+use Rattle.candidate_assembly.proofs.Ends.{trivial-end, non-global-end, remaining-end}
 use Rattle.candidate_assembly.proofs.merge.merge_preferred.Goals as goal
 
 pub returns-then-holds_from-clause-is : goal.returns-then-holds_from-clause-is
 returns-then-holds_from-clause-is c =
     let es = c.args.cx.now.entries in
     let new = c.merge_from.new.cx.entries in
-    ok-map (MergesFrom Trivial c.args.variables.now es c.args.done.now new) (IsEnd (end_in PostAnalysis c.args.variables.now) es c.args.done.now new)
-    (trivial-end es new c.args.variables.now c.args.done.now (sym c.holds_from.ensures ∙ c.if-holds_from.true)) c.merge_from.result c.merge_from.ensures.is
+    IfOk-weaker c.merge_from.result _ _
+    (trivial-end es new c.args.variables.now c.args.done.now (sym c.holds_from.ensures ∙ c.if-holds_from.true)) c.merge_from.ensures.is
 
 pub returns-then-holds_from-2-clause-is : goal.returns-then-holds_from-2-clause-is
 returns-then-holds_from-2-clause-is c =
     let es = c.args.cx.now.entries in
     let new = c.take_clause.new.cx.entries in
-    ok-map (IsEnd (clause_taken c.args.variables.now) es c.args.done.now new) (IsEnd (end_in PostAnalysis c.args.variables.now) es c.args.done.now new)
-    (non-global-end es new c.args.variables.now c.args.done.now (sym c.holds_from.ensures ∙ c.if-holds_from.false) (sym c.holds_from-2.ensures ∙ c.if-holds_from-2.true)) c.take_clause.result c.take_clause.ensures.is
+    IfOk-weaker c.take_clause.result _ _
+    (non-global-end es new c.args.variables.now c.args.done.now (sym c.holds_from.ensures ∙ c.if-holds_from.false) (sym c.holds_from-2.ensures ∙ c.if-holds_from-2.true)) c.take_clause.ensures.is
 
 pub returns-clause-is : goal.returns-clause-is
 returns-clause-is c =
     let es = c.args.cx.now.entries in
     let new = c.merge_from-2.new.cx.entries in
-    ok-map (MergesFrom c.remaining-sources.result c.args.variables.now es c.args.done.now new) (IsEnd (end_in PostAnalysis c.args.variables.now) es c.args.done.now new)
+    IfOk-weaker c.merge_from-2.result _ _
     (remaining-end es new c.args.variables.now c.args.done.now (sym c.holds_from.ensures ∙ c.if-holds_from.false) (sym c.holds_from-2.ensures ∙ c.if-holds_from-2.false) c.remaining-sources.result c.remaining-sources.ensures)
-    c.merge_from-2.result c.merge_from-2.ensures.is
+    c.merge_from-2.ensures.is

@@ -1,9 +1,8 @@
 use Rattle.std.proofs.Common.{Some, ◌∙◌, ap}
+use Rattle.std.proofs.lemmas.Result.{IfOk-weaker}
 use Rattle.infer_table.specs.Responses.{AnswerTrees, answer_trees}
 use Rattle.goal_frames.proofs.Responses.{content_trees}
-use Rattle.candidate_assembly.specs.Merging.{clause_taken, IsEnd, MergesFrom}
-use Rattle.candidate_assembly.specs.declared.merge.Sources.TheVariants.{Clauses}
-use Rattle.candidate_assembly.proofs.Ends.{ok-map, clause-end, no-clause-end}
+use Rattle.candidate_assembly.proofs.Ends.{clause-end, no-clause-end}
 use Rattle.candidate_assembly.proofs.merge.take_clause.Goals as goal
 
 pub returns-in_ok-ignored-in-Some-clause-is : goal.returns-in_ok-ignored-in-Some-clause-is
@@ -17,5 +16,5 @@ pub returns-in-None-clause-is : goal.returns-in-None-clause-is
 returns-in-None-clause-is c =
     let es = c.args.cx.now.entries in
     let new = c.merge_from.new.cx.entries in
-    ok-map (MergesFrom Clauses c.args.variables.now es c.args.done.now new) (IsEnd (clause_taken c.args.variables.now) es c.args.done.now new)
-    (no-clause-end es new c.args.variables.now c.args.done.now c.in-None.ensures.is) c.merge_from.result c.merge_from.ensures.is
+    IfOk-weaker c.merge_from.result _ _
+    (no-clause-end es new c.args.variables.now c.args.done.now c.in-None.ensures.is) c.merge_from.ensures.is
