@@ -10,7 +10,7 @@ use Rattle.explain_sessions.specs.declared.walks.ShownStep.{ShownStep}
 
 -- If the checker has premises of a step, they are those that are displayed.
 abbrev pub AreShownPremises : Way → List ℕ → List ℕ → Type 0
-AreShownPremises (Impl i args) ps shown = ps ≡ shown
+AreShownPremises (Impl i) ps shown = ps ≡ shown
 AreShownPremises BuiltIn ps shown = ps ≡ shown
 AreShownPremises (Clause k) ps shown = Unit {0}
 AreShownPremises (Supertrait k) ps shown = Unit {0}

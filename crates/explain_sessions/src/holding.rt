@@ -36,7 +36,7 @@ fn is_assumed(way: Way) -> bool
     ensures { result ≡ false → (es : List Entry) (r : TraitRef) → assumed_by es r way ≡ [] }
 {
     match way {
-        Way::Impl(_, _) => false,
+        Way::Impl(_) => false,
         Way::Clause(_) => false,
         Way::Supertrait(_) => false,
         Way::BuiltIn => false,

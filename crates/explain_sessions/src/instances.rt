@@ -14,6 +14,7 @@ use sessions::declarations::declarations::Declarations;
 use sessions::declarations::laws::declarations_are_kept;
 use sessions::infer_table::infer_ctxt::InferCtxt;
 use sessions::proof_checker::links::follows_by_impl;
+use sessions::proof_checker::steps::ImplSource;
 use sessions::ready_impls_are_written_well;
 use sessions::term_folds::predicate::TraitRef;
 use sessions::type_terms::interner::Interner;
@@ -80,7 +81,11 @@ fn has_instance_by(
         return Ok(false);
     };
     let instance = instance_in(cx, table, reference)?;
-    follows_by_impl(alloc, cx, declarations, instance, id, args, &[])
+    let source = ImplSource {
+        impl_def_id: id,
+        args,
+    };
+    follows_by_impl(alloc, cx, declarations, instance, source, &[])
 }
 
 /// Whether an instance of a trait reference follows by an impl, whatever its where-clauses are.

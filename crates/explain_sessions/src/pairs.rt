@@ -29,6 +29,7 @@ use sessions::overlap_check::header::fresh_impl_header;
 use sessions::overlap_check::intersection::ImplIntersection;
 use sessions::overlap_check::partners::pair_at;
 use sessions::proof_checker::links::follows_by_impl;
+use sessions::proof_checker::steps::ImplSource;
 use sessions::solver_graph::{Search, SolverCx};
 use sessions::term_folds::predicate::TraitRef;
 use sessions::type_terms::interner::Interner;
@@ -98,18 +99,18 @@ fn both_conclude(
     ready_impls_are_written_well();
     declarations_are_kept();
     let reference = common.reference;
-    if !follows_by_impl(alloc, cx, declarations, reference, later, common.left, &[])? {
+    let by_later = ImplSource {
+        impl_def_id: later,
+        args: common.left,
+    };
+    if !follows_by_impl(alloc, cx, declarations, reference, by_later, &[])? {
         return Ok(false);
     }
-    follows_by_impl(
-        alloc,
-        cx,
-        declarations,
-        reference,
-        earlier,
-        common.right,
-        &[],
-    )
+    let by_earlier = ImplSource {
+        impl_def_id: earlier,
+        args: common.right,
+    };
+    follows_by_impl(alloc, cx, declarations, reference, by_earlier, &[])
 }
 
 /// The common instance of the headers of the impls with these numbers, if the local crate has to compare them, and whether it was checked

@@ -35,6 +35,7 @@ use sessions::declarations::laws::declarations_are_kept;
 use sessions::goal_evaluator::CandidateSource;
 use sessions::infer_table::infer_ctxt::InferCtxt;
 use sessions::proof_checker::links::{follows_by_built_in, follows_by_impl};
+use sessions::proof_checker::steps::ImplSource;
 use sessions::solver_graph::SolverCx;
 use sessions::term_folds::predicate::TraitRef;
 use sessions::type_terms::interner::Interner;
@@ -87,7 +88,11 @@ fn follows_by(
     let Some(args) = impl_args(alloc, cx, table, def, reference)? else {
         return Ok(false);
     };
-    follows_by_impl(alloc, cx, declarations, reference, id, args, premises)
+    let source = ImplSource {
+        impl_def_id: id,
+        args,
+    };
+    follows_by_impl(alloc, cx, declarations, reference, source, premises)
 }
 
 /// Whether a trait reference follows by the source of a candidate, an impl or a built-in rule, from premises that begin with these.

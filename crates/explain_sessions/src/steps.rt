@@ -29,7 +29,7 @@ use sessions::infer_table::infer_ctxt::InferCtxt;
 use sessions::overlap_check::header::{ImplHeader, fresh_impl_header};
 use sessions::proof_checker::rows::by_built_in;
 use sessions::proof_checker::rules::by_clause;
-use sessions::proof_checker::steps::{Step, Way};
+use sessions::proof_checker::steps::{ImplSource, Step, Way};
 use sessions::proof_checker::supertraits::by_supertrait;
 use sessions::ready_impls_are_written_well;
 use sessions::solver_graph::SolverCx;
@@ -84,7 +84,10 @@ fn impl_way(
         return Ok(Way::Assumed);
     };
     match impl_args(alloc, cx, table, def, reference)? {
-        Some(args) => Ok(Way::Impl(id, args)),
+        Some(args) => Ok(Way::Impl(ImplSource {
+            impl_def_id: id,
+            args,
+        })),
         None => Ok(Way::Assumed),
     }
 }
@@ -220,7 +223,7 @@ fn premises_by(alloc: Global, way: Way, shown: &ShownStep) -> Result<Vec<usize>,
     ensures { IfOk result (λ ps. AreShownPremises way ps.items shown.now.premises.items) }
 {
     match way {
-        Way::Impl(_, _) => Vec::from_slice(alloc, &shown.premises),
+        Way::Impl(_) => Vec::from_slice(alloc, &shown.premises),
         Way::BuiltIn => Vec::from_slice(alloc, &shown.premises),
         Way::Clause(_) => Ok(Vec::new(alloc)),
         Way::Supertrait(_) => Ok(Vec::new(alloc)),

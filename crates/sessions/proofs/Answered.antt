@@ -13,6 +13,7 @@ use Rattle.infer_table.specs.Goals.{GoalHeld, goal_trees}
 use Rattle.infer_table.specs.Inputs.{IsWithoutCanonical}
 use Rattle.infer_table.specs.Solutions.{Binding, replace, resolved}
 use Rattle.infer_table.specs.WithoutCanonical.{HaveNoCanonical}
+use Rattle.infer_table.specs.declared.certainty.TypingMode.TheVariants.{PostAnalysis}
 use Rattle.infer_table.specs.declared.goal.Goal.{Goal}
 use Rattle.infer_table.proofs.Numbers.{goal-trees-later, goal-held-later}
 use Rattle.search_graph.specs.SearchState.{SearchState}
@@ -20,11 +21,11 @@ use Rattle.goal_evaluator.specs.Content.{Fact}
 use Rattle.goal_evaluator.specs.Proof as Lists
 use Rattle.solver_graph.specs.Contexts.{entries_of}
 use Rattle.solver_graph.specs.Roots.{fact_under}
+use Rattle.solver_graph.specs.Settling.{IsProvedBy, GoalIsRefused, IsUnsettled}
 use Rattle.solver_graph.specs.declared.context.SolverCx.{SolverCx}
 use Rattle.goal_frames.specs.Meanings.{HandlerMeaning}
 use Rattle.sessions.specs.Proved.{fact_with_values}
 use Rattle.sessions.specs.Proving.{AreReadOff, IsAnswered, IsRefusedGoal, IsUnsettledGoal, is_bound_term}
-use Rattle.sessions.specs.Settling.{IsProvedBy, GoalIsRefused, IsUnsettled}
 use Rattle.sessions.specs.Tables.{table_of}
 use Rattle.sessions.specs.declared.answers.ProveAnswer.{ProveAnswer}
 use Rattle.sessions.specs.declared.answers.ProveAnswer.TheVariants.{Yes, Maybe, Unproved}
@@ -48,15 +49,15 @@ module _ {Handler : Type 0} (handler : HandlerMeaning Handler) (ks : List Sort) 
   goal = goal_trees (entries_of c) g
 
   -- ---- what is refused, and what is not settled
-  pub refused-goal : (graph : SearchState) → GoalIsRefused handler c graph t g → IsRefusedGoal handler w graph.root_depth ks goal
-  refused-goal graph h = subst (λ (u : Table). GoalIsRefused handler c graph u g) table_is h
+  pub refused-goal : (graph : SearchState) → GoalIsRefused handler c graph t PostAnalysis g → IsRefusedGoal handler w graph.root_depth ks goal
+  refused-goal graph h = subst (λ (u : Table). GoalIsRefused handler c graph u PostAnalysis g) table_is h
 
-  unsettled-there : (graph : SearchState) → IsUnsettled handler c graph (table_of ks) g → IsUnsettledGoal handler w graph.root_depth goal
+  unsettled-there : (graph : SearchState) → IsUnsettled handler c graph (table_of ks) PostAnalysis g → IsUnsettledGoal handler w graph.root_depth goal
   unsettled-there graph (inl h) = inl h
   unsettled-there graph (inr h) = inr (inl h)
 
-  pub unsettled-goal : (graph : SearchState) → IsUnsettled handler c graph t g → IsUnsettledGoal handler w graph.root_depth goal
-  unsettled-goal graph h = unsettled-there graph (subst (λ (u : Table). IsUnsettled handler c graph u g) table_is h)
+  pub unsettled-goal : (graph : SearchState) → IsUnsettled handler c graph t PostAnalysis g → IsUnsettledGoal handler w graph.root_depth goal
+  unsettled-goal graph h = unsettled-there graph (subst (λ (u : Table). IsUnsettled handler c graph u PostAnalysis g) table_is h)
 
   -- ---- what is proved
   module _ (held : GoalHeld (entries_of c) g) (d : SolverCx Handler) (u : Table) (ready : Ready (entries_of d) u) (law : Lawful (entries_of d)) (k : Keeps (entries_of c) (entries_of d))

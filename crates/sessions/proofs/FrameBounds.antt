@@ -7,7 +7,7 @@ use Rattle.type_terms.specs.Promised.Worlds.{World, Reference, TraitDecl}
 use Rattle.type_terms.specs.Promised.Proofs.{In}
 use Rattle.type_terms.specs.Promised.Handles.{Entry}
 use Rattle.infer_table.specs.Canonical.{GoalTrees, canonical_form, canonical_label, goal_leaves, kind_in_clause, kind_of_leaf, relabeled}
-use Rattle.infer_table.specs.Content.{AreOlder}
+use Rattle.infer_table.specs.Goals.{goal_resolved}
 use Rattle.infer_table.specs.Responses.{AnswerTrees}
 use Rattle.infer_table.specs.Solutions.{Binding}
 use Rattle.infer_table.specs.Unification.{TableTrees, table_trees}
@@ -39,6 +39,7 @@ use Rattle.candidate_model.proofs.Elaborating.{elaborated-so, every-in}
 use Rattle.candidate_assembly.specs.Solving.{Solving}
 use Rattle.candidate_assembly.specs.SolverLaws.{goals-are-lawful}
 use Rattle.candidate_assembly.specs.SolverMeaning.{goals_by_view, solver_by_view}
+use Rattle.solver_graph.specs.Askings.{AreTermsOfSorts, AskingsStartFrames, frames_for}
 use Rattle.solver_graph.specs.Evaluations.{IsFoundBySearch}
 use Rattle.solver_graph.specs.Lawful.{solver-lawful}
 use Rattle.solver_graph.specs.Roots.{values_in}
@@ -49,12 +50,11 @@ use Rattle.view_lowering.specs.Plain.{unbound_references}
 use Rattle.view_lowering.specs.Promised.Questions.{variable_kinds}
 use Rattle.sessions.specs.Asking.{asked_alone, goal_alone}
 use Rattle.sessions.specs.Promised.FrameBounds.{most_frames}
-use Rattle.sessions.specs.Frames.{AreTermsOfSorts, AskingsStartFrames, frames_for, resolved_over}
 use Rattle.sessions.specs.Goals.{goal_of}
 use Rattle.sessions.specs.Promised.Promises.{view_in}
 use Rattle.sessions.specs.Proving.{asked_outside, goal_asking}
 use Rattle.sessions.specs.Tables.{table_of}
-use Rattle.solver_graph.specs.declared.handle.TheConstants.{MAX_ASKINGS}
+use Rattle.solver_graph.specs.declared.settling.TheConstants.{MAX_ASKINGS}
 use Rattle.sessions.proofs.SeenPlainly.{rules-are}
 use Rattle.sessions.proofs.ErasedWidths.{IsErasedWorld, clauses-in-erased, declared-erased, plain-width, supertraits-erased}
 use Rattle.goal_evaluator.proofs.ListLaws.{Every-map as every-map}
@@ -91,10 +91,6 @@ module _ {C I R F : Type 0} (m : Meaning C I R F) (law : IsLawful m) (w : m.Worl
   computed-fair g a x = elim x.how [ inl y ↦ given-fair g a y | inr y ↦ law.done_fair w g y.0 a (heard-fair y.1) y.2 ]
 
 -- ---- the values of a table
-pub older-are-terms : (counts : Sort → ℕ) (bs : List Binding) → AreOlder counts bs → AreTermsOfSorts bs
-older-are-terms counts [] h = tt
-older-are-terms counts (b ∷ bs) h = (h.1, older-are-terms counts bs h.3)
-
 none-counted : (t : Trees) → t ≡ none → suc (count t) ≡ 1
 none-counted t e = subst (λ z. suc (count z) ≡ 1) (sym e) refl
 
@@ -140,7 +136,7 @@ goal-alone-within : (n : ℕ) (r : Reference) → width_of r ≤ n → IsGoalWit
 goal-alone-within n r h = let x = args-within r n h in record { environment = tt; predicate = (x.0, x.1, tt) }
 
 -- nor is it once a table resolves it
-resolved-within : (n : ℕ) (t : TableTrees) (g : GoalTrees) → AllOne n t.bindings → IsGoalWithin n g → IsGoalWithin n (resolved_over solver_by_view t g)
+resolved-within : (n : ℕ) (t : TableTrees) (g : GoalTrees) → AllOne n t.bindings → IsGoalWithin n g → IsGoalWithin n (goal_resolved t.bindings g)
 resolved-within n t g one h = record {
   environment = predicates-resolved n t.bindings g.environment one h.environment;
   predicate = predicates-resolved n t.bindings g.predicate one h.predicate;
@@ -216,14 +212,14 @@ module _ (s : Solving) (depth n : ℕ) (declared : declared_width s.view ≤ n) 
 
   -- a goal that is asked again
   askings-within : (g : GoalTrees) → IsGoalWithin n g → (k : ℕ) (t : TableTrees) (before after : ℕ) → AreTermsOfSorts t.bindings → BindingsWithin n t.bindings
-      → AskingsStartFrames solver_by_view s depth g k t before after → after ≤ before + k * most
+      → AskingsStartFrames solver_by_view PostAnalysis s depth g k t before after → after ≤ before + k * most
   unfolding AskingsStartFrames
   askings-within g h zero t before after terms narrow x = omega (arith, x)
   askings-within g h (suc k) t before after terms narrow (inl x) =
       let now = resolved-within n t g (all-one n t.bindings terms narrow) h in
-      after-one after before _ most k x (once-within PostAnalysis (resolved_over solver_by_view t g) now)
+      after-one after before _ most k x (once-within PostAnalysis (goal_resolved t.bindings g) now)
   askings-within g h (suc k) t before after terms narrow (inr x) =
-      let resolved = resolved_over solver_by_view t g in
+      let resolved = goal_resolved t.bindings g in
       let now = resolved-within n t g (all-one n t.bindings terms narrow) h in
       let left = put-into-within n t (values_in resolved) x.0 x.2.0 narrow (leaf-values-one n (goal_leaves resolved)) (found-within PostAnalysis resolved x.0 now x.1) x.2.1 in
       after-others after before (frames_for solver_by_view s depth (asked_outside resolved)) most k
@@ -258,7 +254,7 @@ module _ (s : Solving) (W : World) (is : IsErasedWorld s.view W) (depth : ℕ) (
       (after-more after before _ _ x (once-within s depth n declared Coherence (goal_alone (unbound_reference q.asked)) (goal-alone-within n (unbound_reference q.asked) narrow.0)))
 
   -- a question's reference under its where-clauses
-  pub question-within : AskingsStartFrames solver_by_view s depth (goal_asking s.view q) MAX_ASKINGS (table_trees [] (table_of (variable_kinds q))) before after
+  pub question-within : AskingsStartFrames solver_by_view PostAnalysis s depth (goal_asking s.view q) MAX_ASKINGS (table_trees [] (table_of (variable_kinds q))) before after
       → after ≤ before + MAX_ASKINGS * most_frames W depth (q.asked ∷ q.clauses)
   question-within x =
       let n = max (greatest width_of (q.asked ∷ q.clauses)) (declared_width W) in

@@ -23,8 +23,8 @@ use Rattle.sessions.specs.Resting.{Cached}
 use Rattle.sessions.specs.Sessions.{IsSession}
 use Rattle.sessions.specs.Promised.Subjects.{Subject, StaysOn}
 use Rattle.sessions.specs.Supertraits.{AreOfOwn, IsCheckedAt, IsFirstTold, IsHeaderTold, IsHeldAt, SolverTells, SupertraitsAreTold}
-use Rattle.sessions.specs.declared.settling.Outcome.{Outcome}
-use Rattle.sessions.specs.declared.settling.Outcome.TheVariants.{Proved}
+use Rattle.solver_graph.specs.declared.settling.Outcome.{Outcome}
+use Rattle.solver_graph.specs.declared.settling.Outcome.TheVariants.{Proved}
 use Rattle.sessions.specs.declared.supertraits.HeaderAnswer.{HeaderAnswer}
 use Rattle.sessions.specs.declared.supertraits.HeaderAnswer.TheVariants.{Held}
 use Rattle.sessions.specs.declared.supertraits.SupertraitGoals.{SupertraitGoals}

@@ -1,5 +1,4 @@
 pub mod Basics
-pub mod Settled
 mod ClosedValues
 pub mod GivenTexts
 pub mod LeftViews

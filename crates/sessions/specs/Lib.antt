@@ -1,5 +1,4 @@
 pub mod Promised
-pub mod Settling
 pub mod Clauses
 pub mod Laws
 pub mod Proved

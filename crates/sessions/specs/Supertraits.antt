@@ -19,8 +19,8 @@ use Rattle.sessions.specs.Sessions.{IsSolvingOf}
 use Rattle.sessions.specs.Promised.Subjects.{IsOfText}
 use Rattle.sessions.specs.declared.answers.ProveAnswer.{ProveAnswer}
 use Rattle.sessions.specs.declared.answers.ProveAnswer.TheVariants.{Yes, Unproved as IsUnproved, Maybe as IsMaybe}
-use Rattle.sessions.specs.declared.settling.Outcome.{Outcome}
-use Rattle.sessions.specs.declared.settling.Outcome.TheVariants.{Proved, Unproved, Maybe}
+use Rattle.solver_graph.specs.declared.settling.Outcome.{Outcome}
+use Rattle.solver_graph.specs.declared.settling.Outcome.TheVariants.{Proved, Unproved, Maybe}
 use Rattle.sessions.specs.declared.supertraits.HeaderAnswer.{HeaderAnswer}
 use Rattle.sessions.specs.declared.supertraits.HeaderAnswer.TheVariants.{Held, Missing, Undecided}
 use Rattle.sessions.specs.declared.supertraits.SupertraitGoals.{SupertraitGoals}

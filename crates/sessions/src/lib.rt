@@ -25,7 +25,6 @@ mod proving;
 mod refuted;
 mod seen_view;
 mod session;
-pub mod settling;
 mod shown;
 mod supertraits;
 pub mod table;

@@ -34,14 +34,14 @@ use crate::answers::ProveAnswer;
 use crate::asked::{lower_in, rest_laws};
 use crate::laws::references_are_goals;
 use crate::own_values::own_answer;
-use crate::settling::{Outcome, ask_until_settled};
 use crate::table::question_table;
 use crate::values::values_of;
 use candidate_assembly::solver::Solver;
+use goal_evaluator::TypingMode;
 use goal_frames::GoalHandler;
 use infer_table::goal::Goal;
 use infer_table::infer_ctxt::InferCtxt;
-use solver_graph::{Search, SolverCx};
+use solver_graph::{Outcome, Search, SolverCx, ask_until_settled};
 use std::alloc::{AllocError, Global};
 use term_folds::predicate::{Clause, TraitPredicate, TraitRef};
 use type_terms::Fault;
@@ -167,7 +167,7 @@ fn ask_for<H: GoalHandler>(
     ensures full { IfErr result (ContextFullAtLimit search.new.cx) }
 {
     rest_laws::<H>();
-    match ask_until_settled(search, table, goal)? {
+    match ask_until_settled(search, table, TypingMode::PostAnalysis, goal)? {
         Outcome::Proved => read_values_in(
             &mut search.cx,
             table,

@@ -17,3 +17,5 @@ pub mod Searched
 pub mod Rooted
 pub mod WithoutCanonical
 pub mod Shortages
+pub mod Settled
+pub mod Askings

@@ -11,3 +11,5 @@ pub mod Evaluations
 pub mod Results
 pub mod WithoutCanonical
 pub mod RootEvaluations
+pub mod Settling
+pub mod Askings

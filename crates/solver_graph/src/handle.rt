@@ -18,9 +18,6 @@ use infer_table::goal::Goal;
 use infer_table::infer_ctxt::InferCtxt;
 use search_graph::{GlobalCache, SearchGraph};
 
-/// How often a goal is evaluated at most until its answer is definite. The values of one answer may make the next one definite.
-pub const MAX_ASKINGS: u32 = 8;
-
 /// What each evaluation of a goal works on: the graph of the goals that are open, the results so far, and the context of both.
 ///
 /// Between two evaluations no goal is open. The cache's results are justified in this context, and mean nothing in another one.

@@ -21,13 +21,15 @@ mod outcome;
 mod requests;
 mod root;
 mod searching;
+mod settling;
 mod silent;
 
 pub use asking::{Asked, ask};
 pub use context::SolverCx;
 pub use frame::SolverFrame;
 pub use graph::SolverGraph;
-pub use handle::{MAX_ASKINGS, Search};
+pub use handle::Search;
 pub use laws::{canonical_variable_laws, context_laws};
 pub use outcome::{GoalEvaluation, RootError};
 pub use root::evaluate_root_goal;
+pub use settling::{MAX_ASKINGS, Outcome, ask_until_settled};

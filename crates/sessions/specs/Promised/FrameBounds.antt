@@ -7,7 +7,7 @@ use Rattle.candidate_model.specs.Promised.Widths.{declared_width, greatest, numb
 use Rattle.text_language.specs.Promised.Declarations.{Question}
 use Rattle.sessions.specs.Promised.Promises.{view_in}
 use Rattle.sessions.specs.Promised.Subjects.{Subject}
-use Rattle.solver_graph.specs.declared.handle.TheConstants.{MAX_ASKINGS}
+use Rattle.solver_graph.specs.declared.settling.TheConstants.{MAX_ASKINGS}
 
 -- An upper bound for the frames of the first of these trait references, under the others as where-clauses, evaluated once at this depth
 -- where V is seen. Each goal is run at most eight times, and a run evaluates each nested goal of its candidates at most eight times.

@@ -1,12 +1,13 @@
 use Rattle.std.proofs.Common.{rules, ◌≡◌, ◌∙◌, map, Ok, subst}
 use Rattle.term_folds.specs.Arguments.{arg_sort}
 use Rattle.type_terms.specs.Kept.{args-held-later}
-use Rattle.sessions.specs.declared.settling.Outcome.TheVariants as outcome
+use Rattle.solver_graph.specs.declared.settling.Outcome.TheVariants as outcome
 use Rattle.sessions.proofs.Answered.{read-goal, refused-goal, unsettled-goal}
 use Rattle.sessions.proofs.Posing.{over-ok}
 use Rattle.infer_table.specs.Content.{Table}
-use Rattle.sessions.specs.Frames.{AskingsOf}
-use Rattle.solver_graph.specs.declared.handle.TheConstants.{MAX_ASKINGS}
+use Rattle.infer_table.specs.declared.certainty.TypingMode.TheVariants.{PostAnalysis}
+use Rattle.solver_graph.specs.Askings.{AskingsOf}
+use Rattle.solver_graph.specs.declared.settling.TheConstants.{MAX_ASKINGS}
 use Rattle.solver_graph.proofs.Growing.{limits-further}
 use Rattle.sessions.proofs.Keeping.{limits-searched}
 use Rattle.std.proofs.lemmas.Result.{IfErr-weaker}
@@ -101,19 +102,19 @@ returns-in-Maybe-clause-answer g c =
 
 pub returns-in_err-ask_until_settled-clause-frames : goal.returns-in_err-ask_until_settled-clause-frames
 returns-in_err-ask_until_settled-clause-frames g c =
-    subst (λ (t : Table). AskingsOf g.H.GoalHandler.meaning MAX_ASKINGS c.args.search.now.cx c.args.search.now.graph t c.args.goal.now c.ask_until_settled.new.search.graph) c.requires.table c.ask_until_settled.ensures.frames
+    subst (λ (t : Table). AskingsOf g.H.GoalHandler.meaning MAX_ASKINGS c.args.search.now.cx c.args.search.now.graph t PostAnalysis c.args.goal.now c.ask_until_settled.new.search.graph) c.requires.table c.ask_until_settled.ensures.frames
 
 pub returns-in-Proved-clause-frames : goal.returns-in-Proved-clause-frames
 returns-in-Proved-clause-frames g c =
-    subst (λ (t : Table). AskingsOf g.H.GoalHandler.meaning MAX_ASKINGS c.args.search.now.cx c.args.search.now.graph t c.args.goal.now c.ask_until_settled.new.search.graph) c.requires.table c.ask_until_settled.ensures.frames
+    subst (λ (t : Table). AskingsOf g.H.GoalHandler.meaning MAX_ASKINGS c.args.search.now.cx c.args.search.now.graph t PostAnalysis c.args.goal.now c.ask_until_settled.new.search.graph) c.requires.table c.ask_until_settled.ensures.frames
 
 pub returns-in-Unproved-clause-frames : goal.returns-in-Unproved-clause-frames
 returns-in-Unproved-clause-frames g c =
-    subst (λ (t : Table). AskingsOf g.H.GoalHandler.meaning MAX_ASKINGS c.args.search.now.cx c.args.search.now.graph t c.args.goal.now c.ask_until_settled.new.search.graph) c.requires.table c.ask_until_settled.ensures.frames
+    subst (λ (t : Table). AskingsOf g.H.GoalHandler.meaning MAX_ASKINGS c.args.search.now.cx c.args.search.now.graph t PostAnalysis c.args.goal.now c.ask_until_settled.new.search.graph) c.requires.table c.ask_until_settled.ensures.frames
 
 pub returns-in-Maybe-clause-frames : goal.returns-in-Maybe-clause-frames
 returns-in-Maybe-clause-frames g c =
-    subst (λ (t : Table). AskingsOf g.H.GoalHandler.meaning MAX_ASKINGS c.args.search.now.cx c.args.search.now.graph t c.args.goal.now c.ask_until_settled.new.search.graph) c.requires.table c.ask_until_settled.ensures.frames
+    subst (λ (t : Table). AskingsOf g.H.GoalHandler.meaning MAX_ASKINGS c.args.search.now.cx c.args.search.now.graph t PostAnalysis c.args.goal.now c.ask_until_settled.new.search.graph) c.requires.table c.ask_until_settled.ensures.frames
 
 pub returns-in_err-ask_until_settled-clause-limits : goal.returns-in_err-ask_until_settled-clause-limits
 returns-in_err-ask_until_settled-clause-limits g c = limits-searched _ c.args.search.now.cx c.ask_until_settled.new.search.cx c.ask_until_settled.ensures.asked.keeps

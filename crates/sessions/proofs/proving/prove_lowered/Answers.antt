@@ -13,7 +13,8 @@ use Rattle.sessions.proofs.Alone.{held-there, reference-is}
 use Rattle.sessions.proofs.Posing.{over-ok, args-later, answer-is, same-asked}
 use Rattle.sessions.proofs.VariableKinds.{kinds-are}
 use Rattle.candidate_assembly.specs.SolverMeaning.{solver_by_view}
-use Rattle.sessions.proofs.FramesStarted.{asked-none, settles-same}
+use Rattle.solver_graph.proofs.Askings.{asked-none}
+use Rattle.sessions.proofs.FramesStarted.{settles-same}
 use Rattle.solver_graph.proofs.Growing.{limits-further}
 use Rattle.sessions.proofs.ShortCalls.{handed-by-terms}
 use Rattle.sessions.proofs.proving.prove_lowered.Goals as goal
@@ -94,7 +95,7 @@ returns-clause-answer c =
     c.prove_under.ensures.answer
 
 pub returns-in_err-clauses-clause-frames : goal.returns-in_err-clauses-clause-frames
-returns-in_err-clauses-clause-frames c = λ q low. asked-none solver_by_view _ _ _ _ _ _
+returns-in_err-clauses-clause-frames c = λ q low. asked-none solver_by_view _ _ _ _ _ _ _
 
 pub returns-clause-frames : goal.returns-clause-frames
 returns-clause-frames c = λ q low.

@@ -11,7 +11,7 @@ use Rattle.declarations.proofs.Bounded.{all-same}
 use Rattle.sessions.proofs.HandedOn.{handed-on, own-held, reference-later, references-later}
 use Rattle.candidate_assembly.specs.SolverMeaning.{solver_by_view}
 use Rattle.sessions.specs.Frames.{QuestionInFrames}
-use Rattle.sessions.proofs.FramesStarted.{asked-none}
+use Rattle.solver_graph.proofs.Askings.{asked-none}
 use Rattle.solver_graph.proofs.Growing.{limits-further}
 use Rattle.sessions.proofs.ShortCalls.{handed-by-terms}
 use Rattle.sessions.proofs.proving.prove_question.Goals as goal
@@ -107,7 +107,7 @@ returns-clause-answer c = λ q is.
     (c.in_ok-answer.ensures.answer q low) c.own_answer.ensures)
 
 pub returns-in_err-lowered-clause-frames : goal.returns-in_err-lowered-clause-frames
-returns-in_err-lowered-clause-frames c = λ q is. asked-none solver_by_view _ _ _ _ _ _
+returns-in_err-lowered-clause-frames c = λ q is. asked-none solver_by_view _ _ _ _ _ _ _
 
 pub returns-clause-frames : goal.returns-clause-frames
 returns-clause-frames c = λ q is.

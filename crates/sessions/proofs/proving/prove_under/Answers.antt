@@ -14,7 +14,8 @@ use Rattle.candidate_assembly.specs.Fitting.{solving_of}
 use Rattle.sessions.specs.Goals.{goal_of}
 use Rattle.sessions.proofs.Posing.{over-ok, args-later, goal-answered, goal-held, same-asked}
 use Rattle.candidate_assembly.specs.SolverMeaning.{solver_by_view}
-use Rattle.sessions.proofs.FramesStarted.{asked-none, settles-same}
+use Rattle.solver_graph.proofs.Askings.{asked-none}
+use Rattle.sessions.proofs.FramesStarted.{settles-same}
 use Rattle.solver_graph.proofs.Growing.{limits-further}
 use Rattle.sessions.proofs.ShortCalls.{handed-by-terms}
 use Rattle.sessions.proofs.proving.prove_under.Goals as goal
@@ -85,10 +86,10 @@ returns-clause-answer c =
     c.ask_for.ensures.answer
 
 pub returns-in_err-goal-clause-frames : goal.returns-in_err-goal-clause-frames
-returns-in_err-goal-clause-frames c = asked-none solver_by_view _ _ _ _ _ _
+returns-in_err-goal-clause-frames c = asked-none solver_by_view _ _ _ _ _ _ _
 
 pub returns-in_err-table-clause-frames : goal.returns-in_err-table-clause-frames
-returns-in_err-table-clause-frames c = asked-none solver_by_view _ _ _ _ _ _
+returns-in_err-table-clause-frames c = asked-none solver_by_view _ _ _ _ _ _ _
 
 pub returns-clause-frames : goal.returns-clause-frames
 returns-clause-frames c =

@@ -7,7 +7,7 @@ use Rattle.solver_graph.specs.Contexts.{Asked}
 use Rattle.solver_graph.specs.Evaluations.{IsFoundBySearch}
 use Rattle.solver_graph.specs.Searching.{solver_meaning}
 use Rattle.sessions.specs.Asking.{goal_alone}
-use Rattle.sessions.specs.Frames.{frames_for}
+use Rattle.solver_graph.specs.Askings.{frames_for}
 use Rattle.sessions.proofs.Alone.{alone-is, asked-is, no-proof}
 use Rattle.sessions.proofs.ImpossibleAlone.{left-open}
 use Rattle.std.proofs.Math.Nat.{le_refl}

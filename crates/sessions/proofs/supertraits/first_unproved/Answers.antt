@@ -7,7 +7,7 @@ use Rattle.declarations.proofs.Growth.{reference-kept, reference-same, reference
 use Rattle.candidate_assembly.specs.Fitting.{solving_of}
 use Rattle.sessions.specs.Sessions.{SolverRests}
 use Rattle.sessions.specs.Supertraits.{IsFirstTold, SolverTells}
-use Rattle.sessions.specs.declared.settling.Outcome.TheVariants.{Proved, Unproved, Maybe}
+use Rattle.solver_graph.specs.declared.settling.Outcome.TheVariants.{Proved, Unproved, Maybe}
 use Rattle.sessions.proofs.HeaderChecks.{first-told, more-told, told-of}
 use Rattle.sessions.proofs.Lists.{each-here}
 use Rattle.solver_graph.proofs.Growing.{limits-further}

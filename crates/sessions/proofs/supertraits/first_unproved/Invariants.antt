@@ -7,7 +7,7 @@ use Rattle.solver_graph.specs.Contexts.{KeepsLimits}
 use Rattle.sessions.specs.Proving.{SolvesTheSame}
 use Rattle.sessions.specs.Sessions.{SolverRests}
 use Rattle.sessions.specs.Supertraits.{SolverTells}
-use Rattle.sessions.specs.declared.settling.Outcome.TheVariants.{Proved}
+use Rattle.solver_graph.specs.declared.settling.Outcome.TheVariants.{Proved}
 use Rattle.sessions.proofs.supertraits.first_unproved.Given as goal
 
 abbrev pub invariant-loop-supertrait : goal.invariant-loop-supertrait

@@ -11,12 +11,13 @@ use Rattle.candidate_assembly.specs.Fitting.{solving_of}
 use Rattle.candidate_assembly.specs.SolverMeaning.{solver_by_view}
 use Rattle.infer_table.specs.Unification.{table_trees}
 use Rattle.view_lowering.specs.Promised.Questions.{variable_kinds}
-use Rattle.sessions.specs.Frames.{AskingsStartFrames}
+use Rattle.infer_table.specs.declared.certainty.TypingMode.TheVariants.{PostAnalysis}
+use Rattle.solver_graph.specs.Askings.{AskingsStartFrames}
 use Rattle.sessions.specs.Promised.FrameBounds.{ProvesInFrames}
 use Rattle.sessions.proofs.FrameBounds.{seen-erased-world, question-within}
 use Rattle.sessions.specs.Proving.{goal_asking}
 use Rattle.sessions.specs.Tables.{table_of}
-use Rattle.solver_graph.specs.declared.handle.TheConstants.{MAX_ASKINGS}
+use Rattle.solver_graph.specs.declared.settling.TheConstants.{MAX_ASKINGS}
 use Rattle.sessions.proofs.ShortCalls.{at-limit}
 use Rattle.sessions.proofs.session.Session.prove.Goals as goal
 
@@ -72,7 +73,7 @@ returns-clause-frames c =
     subst (λ (old : Subject). (q : Question) → AsksProof old.declarations old.of_crate c.args.number q → ProvesInFrames old q new) c.self.view_is
     (λ q asks.
     question-within s (view_in i.workspace.now i.crate_id.index) (seen-erased-world i.search.cx.interner.entries i.search.cx.handler.declarations i.workspace.now i.crate_id.index c.self.invariant.session.view.written) i.limits.depth q i.search.graph.frames x.search.graph.frames
-    (subst (λ n. AskingsStartFrames solver_by_view s n (goal_asking s.view q) MAX_ASKINGS (table_trees [] (table_of (variable_kinds q))) i.search.graph.frames x.search.graph.frames) c.self.invariant.session.rest.depth
+    (subst (λ n. AskingsStartFrames solver_by_view PostAnalysis s n (goal_asking s.view q) MAX_ASKINGS (table_trees [] (table_of (variable_kinds q))) i.search.graph.frames x.search.graph.frames) c.self.invariant.session.rest.depth
     (c.prove_question.ensures.frames q asks.asks.question)))
 
 pub returns-clause-full : goal.returns-clause-full

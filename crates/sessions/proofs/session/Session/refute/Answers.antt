@@ -5,7 +5,7 @@ use Rattle.candidate_assembly.specs.SolverMeaning.{solver_by_view}
 use Rattle.candidate_assembly.specs.Fitting.{solving_of}
 use Rattle.view_lowering.specs.Promised.SeenWorlds.{unbound_reference}
 use Rattle.sessions.specs.Asking.{asked_alone}
-use Rattle.sessions.specs.Frames.{frames_for}
+use Rattle.solver_graph.specs.Askings.{frames_for}
 use Rattle.sessions.specs.Promised.FrameBounds.{RefutesInFrames}
 use Rattle.sessions.proofs.FrameBounds.{seen-erased-world, refutation-within}
 use Rattle.sessions.specs.Promised.Given.{refutation_of}

@@ -1,9 +1,9 @@
 use Rattle.std.proofs.Common.{rules, ◌≡◌, ◌+◌, ◌-◌, suc, Ok}
-use Rattle.sessions.specs.declared.settling.Asking.TheVariants as asking
-use Rattle.sessions.proofs.Settled.{asked-further, proved-further}
-use Rattle.solver_graph.specs.declared.handle.TheConstants.{MAX_ASKINGS}
-use Rattle.sessions.proofs.FramesStarted.{one-less, once, again, as-many, asked-none}
-use Rattle.sessions.proofs.settling.ask_again.Goals as goal
+use Rattle.solver_graph.specs.declared.settling.Asking.TheVariants as asking
+use Rattle.solver_graph.proofs.Settled.{asked-further, proved-further}
+use Rattle.solver_graph.specs.declared.settling.TheConstants.{MAX_ASKINGS}
+use Rattle.solver_graph.proofs.Askings.{one-less, once, again, as-many, asked-none}
+use Rattle.solver_graph.proofs.settling.ask_again.Goals as goal
 
 pub returns-in_err-ask_once-clause-asked : goal.returns-in_err-ask_once-clause-asked
 returns-in_err-ask_once-clause-asked g c =
@@ -33,8 +33,8 @@ loop-asking-preserved g c = record {
       let m = g.H.GoalHandler.meaning in
       let done : c.ask_once.result ≡ Ok asking.Changes = search rules in
       c.loop-asking.invariant.frames s
-      (as-many m (suc (MAX_ASKINGS - (i + 1))) (MAX_ASKINGS - i) c.loop-asking.search.cx c.loop-asking.search.graph s c.loop-asking.table c.args.goal.now (one-less i c.loop-asking-test.true)
-      (again m (MAX_ASKINGS - (i + 1)) c.loop-asking.search.cx c.ask_once.new.search.cx c.loop-asking.search.graph c.ask_once.new.search.graph s c.loop-asking.table c.ask_once.new.table c.args.goal.now c.loop-asking.invariant.again.goal
+      (as-many m c.args.mode (suc (MAX_ASKINGS - (i + 1))) (MAX_ASKINGS - i) c.loop-asking.search.cx c.loop-asking.search.graph s c.loop-asking.table c.args.goal.now (one-less i c.loop-asking-test.true)
+      (again m c.args.mode (MAX_ASKINGS - (i + 1)) c.loop-asking.search.cx c.ask_once.new.search.cx c.loop-asking.search.graph c.ask_once.new.search.graph s c.loop-asking.table c.ask_once.new.table c.args.goal.now c.loop-asking.invariant.again.goal
       c.ask_once.ensures.asked.entries c.ask_once.ensures.asked.keeps.world c.ask_once.ensures.asked.depth c.ask_once.ensures.frames (c.ask_once.ensures.left done) h));
 }
 
@@ -43,26 +43,26 @@ returns-in_err-ask_once-clause-frames g c =
     let i = c.loop-asking._asking in
     let m = g.H.GoalHandler.meaning in
     c.loop-asking.invariant.frames c.ask_once.new.search.graph
-    (as-many m (suc (MAX_ASKINGS - (i + 1))) (MAX_ASKINGS - i) c.loop-asking.search.cx c.loop-asking.search.graph c.ask_once.new.search.graph c.loop-asking.table c.args.goal.now (one-less i c.loop-asking-test.true)
-    (once m (MAX_ASKINGS - (i + 1)) c.loop-asking.search.cx c.loop-asking.search.graph c.ask_once.new.search.graph c.loop-asking.table c.args.goal.now c.ask_once.ensures.frames))
+    (as-many m c.args.mode (suc (MAX_ASKINGS - (i + 1))) (MAX_ASKINGS - i) c.loop-asking.search.cx c.loop-asking.search.graph c.ask_once.new.search.graph c.loop-asking.table c.args.goal.now (one-less i c.loop-asking-test.true)
+    (once m c.args.mode (MAX_ASKINGS - (i + 1)) c.loop-asking.search.cx c.loop-asking.search.graph c.ask_once.new.search.graph c.loop-asking.table c.args.goal.now c.ask_once.ensures.frames))
 
 pub returns-in-Holds-clause-frames : goal.returns-in-Holds-clause-frames
 returns-in-Holds-clause-frames g c =
     let i = c.loop-asking._asking in
     let m = g.H.GoalHandler.meaning in
     c.loop-asking.invariant.frames c.ask_once.new.search.graph
-    (as-many m (suc (MAX_ASKINGS - (i + 1))) (MAX_ASKINGS - i) c.loop-asking.search.cx c.loop-asking.search.graph c.ask_once.new.search.graph c.loop-asking.table c.args.goal.now (one-less i c.loop-asking-test.true)
-    (once m (MAX_ASKINGS - (i + 1)) c.loop-asking.search.cx c.loop-asking.search.graph c.ask_once.new.search.graph c.loop-asking.table c.args.goal.now c.ask_once.ensures.frames))
+    (as-many m c.args.mode (suc (MAX_ASKINGS - (i + 1))) (MAX_ASKINGS - i) c.loop-asking.search.cx c.loop-asking.search.graph c.ask_once.new.search.graph c.loop-asking.table c.args.goal.now (one-less i c.loop-asking-test.true)
+    (once m c.args.mode (MAX_ASKINGS - (i + 1)) c.loop-asking.search.cx c.loop-asking.search.graph c.ask_once.new.search.graph c.loop-asking.table c.args.goal.now c.ask_once.ensures.frames))
 
 pub returns-in-IsUnsure-clause-frames : goal.returns-in-IsUnsure-clause-frames
 returns-in-IsUnsure-clause-frames g c =
     let i = c.loop-asking._asking in
     let m = g.H.GoalHandler.meaning in
     c.loop-asking.invariant.frames c.ask_once.new.search.graph
-    (as-many m (suc (MAX_ASKINGS - (i + 1))) (MAX_ASKINGS - i) c.loop-asking.search.cx c.loop-asking.search.graph c.ask_once.new.search.graph c.loop-asking.table c.args.goal.now (one-less i c.loop-asking-test.true)
-    (once m (MAX_ASKINGS - (i + 1)) c.loop-asking.search.cx c.loop-asking.search.graph c.ask_once.new.search.graph c.loop-asking.table c.args.goal.now c.ask_once.ensures.frames))
+    (as-many m c.args.mode (suc (MAX_ASKINGS - (i + 1))) (MAX_ASKINGS - i) c.loop-asking.search.cx c.loop-asking.search.graph c.ask_once.new.search.graph c.loop-asking.table c.args.goal.now (one-less i c.loop-asking-test.true)
+    (once m c.args.mode (MAX_ASKINGS - (i + 1)) c.loop-asking.search.cx c.loop-asking.search.graph c.ask_once.new.search.graph c.loop-asking.table c.args.goal.now c.ask_once.ensures.frames))
 
 pub returns-clause-frames : goal.returns-clause-frames
 returns-clause-frames g c =
     let m = g.H.GoalHandler.meaning in
-    c.loop-asking.invariant.frames c.loop-asking.search.graph (asked-none m _ _ _ (MAX_ASKINGS - c.loop-asking._asking) _ c.loop-asking.search.graph.frames)
+    c.loop-asking.invariant.frames c.loop-asking.search.graph (asked-none m c.args.mode _ _ _ (MAX_ASKINGS - c.loop-asking._asking) _ c.loop-asking.search.graph.frames)

@@ -1,9 +1,9 @@
 use Rattle.std.proofs.Common.{rules, ◌≡◌, ◌-◌, suc, refl, Ok}
-use Rattle.sessions.proofs.Settled.{asked-further, proved-further}
-use Rattle.solver_graph.specs.declared.handle.TheConstants.{MAX_ASKINGS}
-use Rattle.sessions.specs.declared.settling.Asking.TheVariants as asking
-use Rattle.sessions.proofs.FramesStarted.{once, again, as-many}
-use Rattle.sessions.proofs.settling.ask_until_settled.Goals as goal
+use Rattle.solver_graph.proofs.Settled.{asked-further, proved-further}
+use Rattle.solver_graph.specs.declared.settling.TheConstants.{MAX_ASKINGS}
+use Rattle.solver_graph.specs.declared.settling.Asking.TheVariants as asking
+use Rattle.solver_graph.proofs.Askings.{once, again, as-many}
+use Rattle.solver_graph.proofs.settling.ask_until_settled.Goals as goal
 
 pub returns-in-Changes-clause-asked : goal.returns-in-Changes-clause-asked
 returns-in-Changes-clause-asked g c =
@@ -19,31 +19,31 @@ returns-in-Changes-clause-proved g c = λ e.
 pub returns-in_err-ask_once-clause-frames : goal.returns-in_err-ask_once-clause-frames
 returns-in_err-ask_once-clause-frames g c =
     let m = g.H.GoalHandler.meaning in
-    as-many m (suc (MAX_ASKINGS - 1)) MAX_ASKINGS c.args.search.now.cx c.args.search.now.graph c.ask_once.new.search.graph c.args.table.now c.args.goal.now refl
-    (once m (MAX_ASKINGS - 1) c.args.search.now.cx c.args.search.now.graph c.ask_once.new.search.graph c.args.table.now c.args.goal.now c.ask_once.ensures.frames)
+    as-many m c.args.mode (suc (MAX_ASKINGS - 1)) MAX_ASKINGS c.args.search.now.cx c.args.search.now.graph c.ask_once.new.search.graph c.args.table.now c.args.goal.now refl
+    (once m c.args.mode (MAX_ASKINGS - 1) c.args.search.now.cx c.args.search.now.graph c.ask_once.new.search.graph c.args.table.now c.args.goal.now c.ask_once.ensures.frames)
 
 pub returns-in-Holds-clause-frames : goal.returns-in-Holds-clause-frames
 returns-in-Holds-clause-frames g c =
     let m = g.H.GoalHandler.meaning in
-    as-many m (suc (MAX_ASKINGS - 1)) MAX_ASKINGS c.args.search.now.cx c.args.search.now.graph c.ask_once.new.search.graph c.args.table.now c.args.goal.now refl
-    (once m (MAX_ASKINGS - 1) c.args.search.now.cx c.args.search.now.graph c.ask_once.new.search.graph c.args.table.now c.args.goal.now c.ask_once.ensures.frames)
+    as-many m c.args.mode (suc (MAX_ASKINGS - 1)) MAX_ASKINGS c.args.search.now.cx c.args.search.now.graph c.ask_once.new.search.graph c.args.table.now c.args.goal.now refl
+    (once m c.args.mode (MAX_ASKINGS - 1) c.args.search.now.cx c.args.search.now.graph c.ask_once.new.search.graph c.args.table.now c.args.goal.now c.ask_once.ensures.frames)
 
 pub returns-in-IsRefused-clause-frames : goal.returns-in-IsRefused-clause-frames
 returns-in-IsRefused-clause-frames g c =
     let m = g.H.GoalHandler.meaning in
-    as-many m (suc (MAX_ASKINGS - 1)) MAX_ASKINGS c.args.search.now.cx c.args.search.now.graph c.ask_once.new.search.graph c.args.table.now c.args.goal.now refl
-    (once m (MAX_ASKINGS - 1) c.args.search.now.cx c.args.search.now.graph c.ask_once.new.search.graph c.args.table.now c.args.goal.now c.ask_once.ensures.frames)
+    as-many m c.args.mode (suc (MAX_ASKINGS - 1)) MAX_ASKINGS c.args.search.now.cx c.args.search.now.graph c.ask_once.new.search.graph c.args.table.now c.args.goal.now refl
+    (once m c.args.mode (MAX_ASKINGS - 1) c.args.search.now.cx c.args.search.now.graph c.ask_once.new.search.graph c.args.table.now c.args.goal.now c.ask_once.ensures.frames)
 
 pub returns-in-IsUnsure-clause-frames : goal.returns-in-IsUnsure-clause-frames
 returns-in-IsUnsure-clause-frames g c =
     let m = g.H.GoalHandler.meaning in
-    as-many m (suc (MAX_ASKINGS - 1)) MAX_ASKINGS c.args.search.now.cx c.args.search.now.graph c.ask_once.new.search.graph c.args.table.now c.args.goal.now refl
-    (once m (MAX_ASKINGS - 1) c.args.search.now.cx c.args.search.now.graph c.ask_once.new.search.graph c.args.table.now c.args.goal.now c.ask_once.ensures.frames)
+    as-many m c.args.mode (suc (MAX_ASKINGS - 1)) MAX_ASKINGS c.args.search.now.cx c.args.search.now.graph c.ask_once.new.search.graph c.args.table.now c.args.goal.now refl
+    (once m c.args.mode (MAX_ASKINGS - 1) c.args.search.now.cx c.args.search.now.graph c.ask_once.new.search.graph c.args.table.now c.args.goal.now c.ask_once.ensures.frames)
 
 pub returns-in-Changes-clause-frames : goal.returns-in-Changes-clause-frames
 returns-in-Changes-clause-frames g c =
     let m = g.H.GoalHandler.meaning in
     let done : c.ask_once.result ≡ Ok asking.Changes = search rules in
-    as-many m (suc (MAX_ASKINGS - 1)) MAX_ASKINGS c.args.search.now.cx c.args.search.now.graph c.ask_again.new.search.graph c.args.table.now c.args.goal.now refl
-    (again m (MAX_ASKINGS - 1) c.args.search.now.cx c.ask_once.new.search.cx c.args.search.now.graph c.ask_once.new.search.graph c.ask_again.new.search.graph c.args.table.now c.ask_once.new.table c.args.goal.now c.requires.goal
+    as-many m c.args.mode (suc (MAX_ASKINGS - 1)) MAX_ASKINGS c.args.search.now.cx c.args.search.now.graph c.ask_again.new.search.graph c.args.table.now c.args.goal.now refl
+    (again m c.args.mode (MAX_ASKINGS - 1) c.args.search.now.cx c.ask_once.new.search.cx c.args.search.now.graph c.ask_once.new.search.graph c.ask_again.new.search.graph c.args.table.now c.ask_once.new.table c.args.goal.now c.requires.goal
     c.ask_once.ensures.asked.entries c.ask_once.ensures.asked.keeps.world c.ask_once.ensures.asked.depth c.ask_once.ensures.frames (c.ask_once.ensures.left done) c.ask_again.ensures.frames)

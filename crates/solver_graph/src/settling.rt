@@ -2,19 +2,23 @@
 //! evaluated, and a yes without values ends it.
 
 ghost use Rattle.std.specs.Prelude.{◌≡◌, ◌-◌, Ok, IfErr};
+ghost use Rattle.solver_graph.specs.Askings.{AskingsOf, IsLeftByAnswer, StartsFramesOfAsking};
+ghost use Rattle.solver_graph.specs.Settling.{IsAskable, HasAsked, IsProvedBy, GoalIsRefused, RefusalIsKept, IsUnsettled};
 ghost use Rattle.solver_graph.specs.Shortages.{ContextFullAtLimit};
-ghost use Rattle.sessions.specs.Frames.{AskingsOf, IsLeftByAnswer, StartsFramesOfAsking};
-ghost use Rattle.solver_graph.specs.declared.handle.TheConstants.{MAX_ASKINGS};
-ghost use Rattle.sessions.specs.Settling.{IsAskable, HasAsked, IsProvedBy, GoalIsRefused, RefusalIsKept, IsUnsettled};
+ghost use Rattle.solver_graph.specs.declared.settling.TheConstants.{MAX_ASKINGS};
 
+use crate::handle::Search;
+use crate::outcome::RootError;
 use goal_evaluator::{Certainty, HasChanged, TypingMode};
 use goal_frames::GoalHandler;
 use infer_table::goal::Goal;
 use infer_table::infer_ctxt::InferCtxt;
-use solver_graph::{MAX_ASKINGS, RootError, Search};
 use type_terms::Fault;
 
-/// What is known of a query's goal at the end.
+/// How often a goal is evaluated at most until its answer is definite. The values of one answer may make the next one definite.
+pub const MAX_ASKINGS: u32 = 8;
+
+/// What is known of a goal at the end.
 #[derive(Clone, Copy)]
 pub enum Outcome {
     /// The goal has a proof, with the values that the table has.
@@ -67,10 +71,11 @@ fn read_error(error: RootError) -> Result<Asking, Fault>
     }
 }
 
-/// Evaluates the goal once, outside coherence. The answer's values stay in the table.
+/// Evaluates the goal once. The answer's values stay in the table.
 fn ask_once<H: GoalHandler>(
     search: &mut Search<H>,
     table: &mut InferCtxt,
+    mode: TypingMode,
     goal: &Goal,
 ) -> Result<Asking, Fault>
     requires { IsAskable H.meaning search.old.graph search.old.cache search.old.cx table.old goal.now }
@@ -78,15 +83,16 @@ fn ask_once<H: GoalHandler>(
     ensures asked { HasAsked H.meaning search.old.graph search.old.cache search.old.cx table.old search.new.graph search.new.cache search.new.cx table.new }
     ensures holds { result ≡ Ok Asking.Holds
         → IsProvedBy H.meaning (H.meaning.world search.old.cx.handler search.old.cx.interner.entries) search.old.cx table.old search.new.cx table.new goal.now }
-    ensures changes { result ≡ Ok Asking.Changes → IsUnsettled H.meaning search.old.cx search.old.graph table.old goal.now }
-    ensures unsure { result ≡ Ok Asking.IsUnsure → IsUnsettled H.meaning search.old.cx search.old.graph table.old goal.now }
-    ensures refused { result ≡ Ok Asking.IsRefused → GoalIsRefused H.meaning search.old.cx search.old.graph table.old goal.now }
-    ensures kept { result ≡ Ok Asking.IsRefused → RefusalIsKept H.meaning search.old.cx search.old.graph table.old goal.now search.new.cx search.new.cache }
+    ensures changes { result ≡ Ok Asking.Changes → IsUnsettled H.meaning search.old.cx search.old.graph table.old mode goal.now }
+    ensures unsure { result ≡ Ok Asking.IsUnsure → IsUnsettled H.meaning search.old.cx search.old.graph table.old mode goal.now }
+    ensures refused { result ≡ Ok Asking.IsRefused → GoalIsRefused H.meaning search.old.cx search.old.graph table.old mode goal.now }
+    ensures kept { result ≡ Ok Asking.IsRefused
+        → RefusalIsKept H.meaning search.old.cx search.old.graph table.old mode goal.now search.new.cx search.new.cache }
     ensures full { IfErr result (ContextFullAtLimit search.new.cx) }
-    ensures frames { StartsFramesOfAsking H.meaning search.old.cx search.old.graph table.old goal.now search.new.graph }
-    ensures left { result ≡ Ok Asking.Changes → IsLeftByAnswer H.meaning search.old.cx search.old.graph table.old goal.now search.new.cx table.new }
+    ensures frames { StartsFramesOfAsking H.meaning search.old.cx search.old.graph table.old mode goal.now search.new.graph }
+    ensures left { result ≡ Ok Asking.Changes → IsLeftByAnswer H.meaning search.old.cx search.old.graph table.old mode goal.now search.new.cx table.new }
 {
-    match search.evaluate(table, TypingMode::PostAnalysis, goal) {
+    match search.evaluate(table, mode, goal) {
         Ok(evaluation) => Ok(read(evaluation.certainty, evaluation.has_changed)),
         Err(error) => read_error(error),
     }
@@ -97,6 +103,7 @@ fn ask_once<H: GoalHandler>(
 fn ask_again<H: GoalHandler>(
     search: &mut Search<H>,
     table: &mut InferCtxt,
+    mode: TypingMode,
     goal: &Goal,
 ) -> Result<Outcome, Fault>
     requires { IsAskable H.meaning search.old.graph search.old.cache search.old.cx table.old goal.now }
@@ -106,10 +113,10 @@ fn ask_again<H: GoalHandler>(
         → IsProvedBy H.meaning (H.meaning.world search.old.cx.handler search.old.cx.interner.entries) search.old.cx table.old search.new.cx table.new goal.now }
     ensures not_unproved { result ≡ Ok Outcome.Unproved → ⊥ }
     ensures full { IfErr result (ContextFullAtLimit search.new.cx) }
-    ensures frames { AskingsOf H.meaning (MAX_ASKINGS - 1) search.old.cx search.old.graph table.old goal.now search.new.graph }
+    ensures frames { AskingsOf H.meaning (MAX_ASKINGS - 1) search.old.cx search.old.graph table.old mode goal.now search.new.graph }
 {
     for _asking in 1..MAX_ASKINGS {
-        match ask_once(search, table, goal)? {
+        match ask_once(search, table, mode, goal)? {
             Asking::Holds => return Ok(Outcome::Proved),
             Asking::Changes => {}
             Asking::IsUnsure | Asking::IsRefused => return Ok(Outcome::Maybe),
@@ -118,7 +125,7 @@ fn ask_again<H: GoalHandler>(
     Ok(Outcome::Maybe)
 }
 
-/// Evaluates a query's goal over one table until its answer is definite. After a yes with values it is evaluated again, at most eight times
+/// Evaluates a goal over one table until its answer is definite. After a yes with values it is evaluated again, at most eight times
 /// in all. The values stay in the table.
 ///
 /// - `Proved`: the last evaluation was a yes that changed nothing. Then the goal has a proof at each solution of the table, if neither it
@@ -135,6 +142,7 @@ fn ask_again<H: GoalHandler>(
 pub fn ask_until_settled<H: GoalHandler>(
     search: &mut Search<H>,
     table: &mut InferCtxt,
+    mode: TypingMode,
     goal: &Goal,
 ) -> Result<Outcome, Fault>
     requires { IsAskable H.meaning search.old.graph search.old.cache search.old.cx table.old goal.now }
@@ -142,18 +150,19 @@ pub fn ask_until_settled<H: GoalHandler>(
     ensures asked { HasAsked H.meaning search.old.graph search.old.cache search.old.cx table.old search.new.graph search.new.cache search.new.cx table.new }
     ensures proved { result ≡ Ok Outcome.Proved
         → IsProvedBy H.meaning (H.meaning.world search.old.cx.handler search.old.cx.interner.entries) search.old.cx table.old search.new.cx table.new goal.now }
-    ensures unproved { result ≡ Ok Outcome.Unproved → GoalIsRefused H.meaning search.old.cx search.old.graph table.old goal.now }
+    ensures unproved { result ≡ Ok Outcome.Unproved → GoalIsRefused H.meaning search.old.cx search.old.graph table.old mode goal.now }
 
     // The search found the refusal, and the cache has it. Of a goal that ends in a conflict nothing says so.
-    ensures kept { result ≡ Ok Outcome.Unproved → RefusalIsKept H.meaning search.old.cx search.old.graph table.old goal.now search.new.cx search.new.cache }
-    ensures maybe { result ≡ Ok Outcome.Maybe → IsUnsettled H.meaning search.old.cx search.old.graph table.old goal.now }
+    ensures kept { result ≡ Ok Outcome.Unproved
+        → RefusalIsKept H.meaning search.old.cx search.old.graph table.old mode goal.now search.new.cx search.new.cache }
+    ensures maybe { result ≡ Ok Outcome.Maybe → IsUnsettled H.meaning search.old.cx search.old.graph table.old mode goal.now }
     ensures full { IfErr result (ContextFullAtLimit search.new.cx) }
-    ensures frames { AskingsOf H.meaning MAX_ASKINGS search.old.cx search.old.graph table.old goal.now search.new.graph }
+    ensures frames { AskingsOf H.meaning MAX_ASKINGS search.old.cx search.old.graph table.old mode goal.now search.new.graph }
 {
-    match ask_once(search, table, goal)? {
+    match ask_once(search, table, mode, goal)? {
         Asking::Holds => Ok(Outcome::Proved),
         Asking::IsRefused => Ok(Outcome::Unproved),
         Asking::IsUnsure => Ok(Outcome::Maybe),
-        Asking::Changes => ask_again(search, table, goal),
+        Asking::Changes => ask_again(search, table, mode, goal),
     }
 }

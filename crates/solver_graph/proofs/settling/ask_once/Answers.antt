@@ -6,9 +6,9 @@ use Rattle.std.proofs.lemmas.Result.{IfErr-weaker}
 use Rattle.solver_graph.proofs.WithoutCanonical.{evaluations-keep-out}
 use Rattle.solver_graph.specs.Roots.{goal_in}
 use Rattle.solver_graph.specs.declared.outcome.RootError.TheVariants as Root
-use Rattle.sessions.proofs.Settled.{not-definite-changed, not-definite-unsure, ok-same, narrows-refused, clean-refused, proved-once}
-use Rattle.sessions.proofs.FrameBounds.{older-are-terms}
-use Rattle.sessions.proofs.settling.ask_once.Goals as goal
+use Rattle.solver_graph.proofs.Settled.{not-definite-changed, not-definite-unsure, ok-same, narrows-refused, clean-refused, proved-once}
+use Rattle.solver_graph.proofs.Askings.{older-are-terms}
+use Rattle.solver_graph.proofs.settling.ask_once.Goals as goal
 
 pub returns-in-Ok-clause-again : goal.returns-in-Ok-clause-again
 returns-in-Ok-clause-again g c =

@@ -1,7 +1,6 @@
 -- Askings, one after the other.
-use Rattle.std.proofs.Common.{◌≡◌, ◌∙◌, Bool, true, false, ◌&&◌, not, refl, sym, ap, subst, List, Option, Some, Result, Ok}
+use Rattle.std.proofs.Common.{◌≡◌, ◌∙◌, Bool, true, false, ◌&&◌, not, refl, sym, ap, subst, List, Some, Result, Ok}
 use Rattle.type_terms.specs.Promised.Handles.{Entry, Keeps}
-use Rattle.search_graph.specs.Cache.{KnownResult}
 use Rattle.search_graph.specs.SearchState.{SearchState}
 use Rattle.search_graph.proofs.Graphs.{Keeps-trans}
 use Rattle.infer_table.specs.Certainties.{is_certain}
@@ -24,14 +23,14 @@ use Rattle.goal_evaluator.specs.TableAnswers.{has_values}
 use Rattle.goal_evaluator.specs.Tables.{frame_tables}
 use Rattle.goal_evaluator.specs.declared.goal.HasChanged.TheVariants as Changed
 use Rattle.goal_frames.specs.Searches.{is_yes_answer}
-use Rattle.goal_frames.specs.declared.store.InputId.{InputId}
-use Rattle.goal_frames.specs.declared.store.ResponseId.{ResponseId}
 use Rattle.solver_graph.specs.Changes.{changed}
 use Rattle.solver_graph.specs.Contexts.{entries_of}
+use Rattle.solver_graph.specs.RootEvaluations.{KnownResults}
 use Rattle.solver_graph.specs.Roots.{fact_under, SolutionsAreProved}
+use Rattle.solver_graph.specs.Searching.{solver_meaning}
 use Rattle.solver_graph.specs.declared.context.SolverCx.{SolverCx}
 use Rattle.goal_frames.specs.Meanings.{HandlerMeaning}
-use Rattle.sessions.specs.Settling.{m, HasAsked, IsProvedBy}
+use Rattle.solver_graph.specs.Settling.{HasAsked, IsProvedBy}
 use Rattle.type_terms.proofs.BooleanBasics.{no-and as and-false}
 
 -- ---- answers that are no definite yes
@@ -63,17 +62,17 @@ pub clean-refused : (old new : List Entry) (t u : Table) → Keeps old new → R
 clean-refused old new t u k r e h = subst HaveNoCanonical (sym (same-content old new t u k r e)) h
 
 module _ {Handler : Type 0} (handler : HandlerMeaning Handler) where
-  abbrev Asked : SearchState → List (KnownResult InputId (Option ResponseId)) → SolverCx Handler → Table → SearchState → List (KnownResult InputId (Option ResponseId)) → SolverCx Handler → Table → Type 0
+  abbrev Asked : SearchState → KnownResults → SolverCx Handler → Table → SearchState → KnownResults → SolverCx Handler → Table → Type 0
   Asked = HasAsked handler
 
   -- ---- nothing asked, and one run after the other
-  pub asked-further : (f g h : SearchState) (ks ls ms : List (KnownResult InputId (Option ResponseId))) (c d e : SolverCx Handler) (t u v : Table)
+  pub asked-further : (f g h : SearchState) (ks ls ms : KnownResults) (c d e : SolverCx Handler) (t u v : Table)
       → Asked f ks c t g ls d u → Asked g ls d u h ms e v → Asked f ks c t h ms e v
   asked-further f g h ks ls ms c d e t u v a b = record {
     depth = b.depth ∙ a.depth;
     results = λ place x i. b.results place x (a.results place x i);
     consistent = λ i. b.consistent (a.consistent i);
-    keeps = Keeps-trans (m handler) c d e a.keeps b.keeps;
+    keeps = Keeps-trans (solver_meaning handler) c d e a.keeps b.keeps;
     entries = λ i x p. b.entries i x (a.entries i x p);
     grows = grows-trans t u v a.grows b.grows;
     narrows = λ s i. a.narrows s (b.narrows s i);
@@ -81,7 +80,7 @@ module _ {Handler : Type 0} (handler : HandlerMeaning Handler) where
   }
 
   -- ---- what is proved later is proved
-  pub proved-further : (w x : handler.goals.World) → x ≡ w → (f g : SearchState) (ks ls : List (KnownResult InputId (Option ResponseId))) (c d e : SolverCx Handler) (t u v : Table) (q : Goal) → GoalHeld (entries_of c) q
+  pub proved-further : (w x : handler.goals.World) → x ≡ w → (f g : SearchState) (ks ls : KnownResults) (c d e : SolverCx Handler) (t u v : Table) (q : Goal) → GoalHeld (entries_of c) q
       → Asked f ks c t g ls d u → IsProvedBy handler x d u e v q → IsProvedBy handler w c t e v q
   proved-further w x same f g ks ls c d e t u v q held a p = λ no clean s solves.
       let trees : goal_trees (entries_of d) q ≡ goal_trees (entries_of c) q = goal-trees-later (entries_of c) (entries_of d) a.entries q held in
