@@ -1,5 +1,5 @@
 -- Values of the code as values of the definitions: cells, and what is open.
-use Rattle.std.specs.Prelude.{List, [], ◌∷◌, map}
+use Rattle.std.specs.Prelude.{ℕ, List, [], ◌∷◌, map, reverse, take}
 use Rattle.std.specs.Option.{option_map}
 use Rattle.text_language.specs.Tokens.{number_from}
 use Rattle.text_language.specs.Promised.Syntax as syntax
@@ -42,6 +42,10 @@ cell_of (cells.Dyn start) = cell.dyn_cell start
 -- the cells in order
 abbrev pub cells_in : List Cell → List cell.Cell
 cells_in cs = map cell_of cs
+
+-- those before an index, from the last to the first
+abbrev pub cells_before : List Cell → ℕ → List cell.Cell
+cells_before cs at = reverse (take at (cells_in cs))
 
 -- ---- what is open
 abbrev pub open_of : Open → machine.Open

@@ -1,8 +1,9 @@
 //! Lines: their tokens, the types in them, and whole lines. Bytes go in, and a statement comes out.
 //!
 //! A cursor reads the tokens of a line. The reader of types has a stack of its own, so types may be nested to any depth. It produces a
-//! flat list of cells, and the types of a line are spans of this list. The laws of the grammar are here too: bytes spell at most one
-//! line, a text has exactly one outcome, and what is true of a line without a fault.
+//! flat list of cells, and the types of a line are spans of this list. Another cursor visits these cells from the last to the first.
+//! The laws of the grammar are here too: bytes spell at most one line, a text has exactly one outcome, and what is true of a line
+//! without a fault.
 #![tactic(auto)]
 
 ghost use Rattle.text_lines.specs.Laws.{OneType, MachineFinds, MachineReads, MachineReadsBound, MachineRefuses};
@@ -13,6 +14,7 @@ ghost use Rattle.text_lines.specs.Faultless.{BelongsToCrate, DeclaresNew, Faultl
 ghost use Rattle.text_lines.specs.Grammar.{OneLine, OneOutcome, SyntaxFaults, UnwrittenLines};
 
 mod cell;
+mod cell_cursor;
 mod clauses;
 mod crate_line;
 mod cursor;
@@ -31,6 +33,7 @@ mod trait_line;
 mod type_machine;
 
 pub use cell::{Cell, Length};
+pub use cell_cursor::CellCursor;
 pub use cursor::Cursor;
 pub use line::{is_ascii, is_blank, read_line};
 pub use line_error::LineError;

@@ -1,12 +1,13 @@
 -- Variables once each, by their first place.
 use Rattle.std.proofs.Common.{◌≡◌, ℕ, suc, Bool, true, false, List, [], ◌∷◌, ◌++◌, map, filter, length, drop, get_or, refl, sym, ap, ◌∙◌, cond, arith, append_assoc, drop-cons}
-use Rattle.std.specs.Prelude.{if◌then◌else◌, not, ◌||◌, ◌&&◌, ◌<◌, ◌+◌}
+use Rattle.std.specs.Prelude.{if◌then◌else◌, not, ◌&&◌, ◌<◌, ◌+◌}
 use Rattle.std.specs.Str.{bytes_eq}
 use Rattle.std.proofs.lemmas.List.{map-append}
 use Rattle.std.proofs.lemmas.Cmp.{nat_list_eq_equiv}
 use Rattle.type_terms.specs.Promised.Label.{Sort}
 use Rattle.text_language.specs.Promised.Faults.{is_among}
 use Rattle.text_language.specs.Faults.{once}
+use Rattle.text_language.proofs.SameFaultsLimits.{filter-both, filter-all, seen-stays}
 use Rattle.text_names.specs.Views.{variable_in}
 use Rattle.text_names.specs.UsedNames.{Holds}
 use Rattle.text_names.specs.declared.name_set.NameSet.{NameSet}
@@ -21,33 +22,7 @@ abbrev pub unseen : List (List ℕ) → List Named → List Named
 unseen seen [] = []
 unseen seen (v ∷ vs) = if is_among v.0 seen then unseen seen vs else v ∷ unseen (v.0 ∷ seen) vs
 
--- ---- filters
-filter-both : (p q r : Named → Bool) → ((x : Named) → r x ≡ q x && p x) → (xs : List Named) → filter p (filter q xs) ≡ filter r xs
-filter-both p q r h [] = refl
-filter-both p q r h (x ∷ xs) = by (q x) (h x) (filter-both p q r h xs)
-  where
-    by : (a : Bool) → r x ≡ a && p x → filter p (filter q xs) ≡ filter r xs → filter p (cond a (x ∷ filter q xs) (filter q xs)) ≡ cond (r x) (x ∷ filter r xs) (filter r xs)
-    by true e f = ap (λ c. cond c (x ∷ filter p (filter q xs)) (filter p (filter q xs))) (sym e) ∙ ap (λ z. cond (r x) (x ∷ z) z) f
-    by false e f = f ∙ ap (λ c. cond c (x ∷ filter r xs) (filter r xs)) (sym e)
-
-filter-all : (xs : List Named) → filter (λ w. true) xs ≡ xs
-filter-all [] = refl
-filter-all (x ∷ xs) = ap (λ z. x ∷ z) (filter-all xs)
-
--- ---- names
-among-same : (n m : List ℕ) (ns : List (List ℕ)) → bytes_eq n m ≡ true → is_among n ns ≡ is_among m ns
-among-same n m [] e = refl
-among-same n m (x ∷ ns) e =
-    let same : bytes_eq x n ≡ bytes_eq x m = nat_list_eq_equiv.symm x n ∙ nat_list_eq_equiv.congr n m x e ∙ nat_list_eq_equiv.symm m x in
-    ap (λ b. b || is_among n ns) same ∙ ap (λ b. bytes_eq x m || b) (among-same n m ns e)
-
-seen-stays : (n m : List ℕ) (seen : List (List ℕ)) → is_among m seen ≡ true → not (is_among n seen) ≡ not (bytes_eq n m) && not (is_among n seen)
-seen-stays n m seen h = by (bytes_eq n m) (λ e. among-same n m seen e ∙ h)
-  where
-    by : (b : Bool) → (b ≡ true → is_among n seen ≡ true) → not (is_among n seen) ≡ not b && not (is_among n seen)
-    by true f = ap not (f refl)
-    by false f = refl
-
+-- ---- as `once`
 abbrev is-unseen : List (List ℕ) → Named → Bool
 is-unseen seen w = not (is_among w.0 seen)
 

@@ -12,11 +12,11 @@ use Rattle.text_language.specs.Lowering.{trait_number, with_auto, autos, inserte
 use Rattle.text_lines.specs.Cells.{Cell}
 use Rattle.text_names.specs.Resolved as resolved
 use Rattle.text_names.specs.Resolved.{ResolvedCell, optional_region, region_of, length_cell, dyn_before, last_region, principals, principals_count, type_before, types_before, args_before, arg_before, item_before, items_before}
-use Rattle.text_names.specs.Back.{binder_back, type_back, types_back, args_back, arg_back, item_back, items_back, count_above, down_to}
+use Rattle.text_lines.specs.Back.{binder_back, type_back, types_back, args_back, arg_back, item_back, items_back, count_above, down_to}
 use Rattle.text_names.specs.Machine.{Sight, seen_items, params, Found, using, keeping, deepening, deeper, Place, type_place, arg_place, types_inside, items_inside, args_inside, WalkFrame, WalkState, visiting, going, sort_misfits, name_misfits, is_const_place, name_cells, fn_frame, shape_autos, shape_principals, last_item_region, inside_step, outer_scope, step, run, WalkReaches}
 use Rattle.text_names.specs.Machine.{sinking, finished}
 use Rattle.text_names.specs.Laws.{with_arg, with_arguments_found, MachineResolves, ArgsResolved}
-use Rattle.text_names.proofs.Counting.{if-true, if-false, is-eq, not-eq, same, longer, further, down, binder-extends, types-extends, type-extends, args-extends, count-types, count-output, count-args, shapes-above, names-of, arg-longer, type-longer, item-longer}
+use Rattle.text_lines.proofs.Counting.{if-true, if-false, is-eq, not-eq, same, longer, further, down, binder-extends, types-extends, type-extends, args-extends, count-types, count-output, count-args, shapes-above, names-of, arg-longer, type-longer, item-longer}
 use Rattle.text_names.proofs.Uses.{using-append, using-none, using-swap, using-first, sink-suc, sink-one, sink-max, sink-none, sink-at}
 use Rattle.text_names.proofs.Walking.{name-variables, no-variables-with as sort-misfits}
 use Rattle.text_language.proofs.TypeBasics.{optional-variables}

@@ -1,12 +1,10 @@
 pub mod StandingLaws
-pub mod Counting
 pub mod Uses
 pub mod Going
 pub mod Stacks
 pub mod Places
 pub mod Turned
 pub mod Scopes
-pub mod PartsOfCells
 pub mod Judged
 pub mod Walking
 pub mod Numbers

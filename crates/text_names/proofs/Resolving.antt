@@ -7,7 +7,7 @@ use Rattle.text_language.specs.Promised.Declarations.{known}
 use Rattle.text_language.specs.Faults.{variables_in}
 use Rattle.text_language.specs.Uses.{type_uses, trait_use, args_uses, args_count, kinds_of_trait}
 use Rattle.text_lines.specs.Cells.{Cell, type_onto, named_cell}
-use Rattle.text_names.specs.Back.{type_back, args_back}
+use Rattle.text_lines.specs.Back.{type_back, args_back}
 use Rattle.text_names.specs.Laws.{with_arg, with_arguments_found, bound_args}
 use Rattle.text_names.specs.Machine.{Sight, seen_items, findings, either, noting, Found, WalkFrame, visiting, going, finished, type_place, WalkReaches}
 use Rattle.text_names.specs.Resolving.{nothing_found, type_found, bound_found}

@@ -71,7 +71,7 @@ types_list : Meanings → List (List (List ℕ)) → Types → List Trees
 types_list e s no_types = []
 types_list e s (and_type t ts) = type_tree e s of_type t ∷ types_list e s ts
 
-pub args_list : Meanings → List (List (List ℕ)) → List Sort → Args → List Trees
+abbrev pub args_list : Meanings → List (List (List ℕ)) → List Sort → Args → List Trees
 args_list e s ks no_args = []
 args_list e s ks (and_arg a args) = arg_tree e s (next_kind ks) a ∷ args_list e s (other_kinds ks) args
 
@@ -101,12 +101,11 @@ types-length e s no_types = refl
 types-length e s (and_type t ts) = ap suc (types-length e s ts)
 
 args-joined : (e : Meanings) (s : List (List (List ℕ))) (ks : List Sort) (args : Args) → joined (args_list e s ks args) ≡ args_trees e s ks args
-unfolding joined args_list
+unfolding joined
 args-joined e s ks no_args = refl
 args-joined e s ks (and_arg a args) = ap (λ o. arg_tree e s (next_kind ks) a +++ o) (args-joined e s (other_kinds ks) args)
 
 args-length : (e : Meanings) (s : List (List (List ℕ))) (ks : List Sort) (args : Args) → length (args_list e s ks args) ≡ args_count args
-unfolding args_list
 args-length e s ks no_args = refl
 args-length e s ks (and_arg a args) = ap suc (args-length e s (other_kinds ks) args)
 
@@ -243,7 +242,7 @@ at-head e s n args cs S =
     ∙ over-push (type_label e n) (args_list e s ks args) S (args_count args) (args_trees e s ks args) (args-length e s ks args) (args-joined e s ks args))
 
 mutual
-  unfolding push_all types_list args_list item_list items_list principal_tree
+  unfolding push_all types_list item_list items_list principal_tree
 
   pub at-type : (e : Meanings) (s : List (List (List ℕ))) (p : Sort) (t : TypeTree) (cs : List ResolvedCell) (S : List Trees)
       → standing e (type_before e.items e.params s p t cs) S ≡ standing e cs (type_tree e s p t ∷ S)
@@ -293,7 +292,7 @@ mutual
   at-args e s ks (and_arg a args) cs S =
       at-arg e s (next_kind ks) a (args_before e.items e.params s (other_kinds ks) args cs) S ∙ at-args e s (other_kinds ks) args cs (arg_tree e s (next_kind ks) a ∷ S)
 
-  at-arg : (e : Meanings) (s : List (List (List ℕ))) (p : Sort) (a : Arg) (cs : List ResolvedCell) (S : List Trees)
+  pub at-arg : (e : Meanings) (s : List (List (List ℕ))) (p : Sort) (a : Arg) (cs : List ResolvedCell) (S : List Trees)
       → standing e (arg_before e.items e.params s p a cs) S ≡ standing e cs (arg_tree e s p a ∷ S)
   at-arg e s p (lifetime_arg n) cs S = ap (λ l. standing e cs (leaf l ∷ S)) (at-region e s n)
   at-arg e s p (number_arg n) cs S = refl

@@ -13,10 +13,10 @@ use Rattle.text_language.specs.Lowering.{inserted, trait_number}
 use Rattle.text_language.specs.Uses.{ItemShape, bound_shape, lifetime_shape, dyn_use}
 use Rattle.text_names.specs.Machine.{Sight, seen_items, findings, shape_autos, shape_principals}
 use Rattle.text_names.specs.Shapes.{Summary, is_bad, no_items, with_shape, with_auto_trait, with_principal, summary}
-use Rattle.text_names.specs.Back.{parts, parts_above, count_above, shape_of}
-use Rattle.text_names.specs.Steps.{TakesPart}
-use Rattle.text_names.proofs.Counting.{not-eq, parts-none}
-use Rattle.text_names.proofs.PartsOfCells.{later-more}
+use Rattle.text_lines.specs.Back.{parts, parts_above, count_above, shape_of}
+use Rattle.text_lines.specs.CellSteps.{TakesPart}
+use Rattle.text_lines.proofs.Counting.{not-eq, parts-none}
+use Rattle.text_lines.proofs.PartsOfCells.{later-more}
 use Rattle.text_names.proofs.Walking.{count-within}
 use Rattle.text_names.proofs.Judged.{made, one-use, no-look, no-own}
 

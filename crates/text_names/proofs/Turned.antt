@@ -3,7 +3,7 @@ use Rattle.std.proofs.Common.{◌≡◌, ℕ, List, [], ◌∷◌, ◌++◌, len
 use Rattle.std.proofs.lemmas.List.{reverse-append, length-reverse}
 use Rattle.text_language.specs.Promised.Syntax.{TypeTree, of_primitive, never_type, variable_type, named, reference_to, pointer_to, slice_of, array_of, tuple_of, fn_of, fn_to, dyn_of, Types, no_types, and_type, Args, no_args, and_arg, Arg, lifetime_arg, number_arg, type_arg, Item, bound_item, lifetime_item, DynBounds, no_items, and_item}
 use Rattle.text_lines.specs.Cells.{Cell, primitive_cell, never_cell, slice_cell, variable_cell, lifetime_cell, binder_cell, number_cell, named_cell, reference_cell, pointer_cell, array_cell, tuple_cell, dyn_cell, fn_cell, fn_to_cell, bound_cell, binder_onto, type_onto, types_onto, args_onto, arg_onto, item_onto, items_onto}
-use Rattle.text_names.specs.Back.{binder_back, type_back, types_back, args_back, arg_back, item_back, items_back}
+use Rattle.text_lines.specs.Back.{binder_back, type_back, types_back, args_back, arg_back, item_back, items_back}
 
 -- one cell more
 put : (xs ys : List Cell) (c : Cell) → reverse xs ≡ ys → reverse (xs ++ c ∷ []) ≡ c ∷ ys

@@ -14,7 +14,7 @@ use Rattle.text_language.specs.Uses.{Use, name_use, trait_use, items_use, dyn_us
 use Rattle.text_lines.specs.Cells.{Cell, primitive_cell, never_cell, slice_cell, variable_cell, lifetime_cell, binder_cell, number_cell, named_cell, reference_cell, pointer_cell, array_cell, tuple_cell, dyn_cell, fn_cell, fn_to_cell, bound_cell, binder_onto, type_onto, types_onto, args_onto, arg_onto, item_onto, items_onto}
 use Rattle.text_lines.specs.TypeViews.{cell_of, cells_in}
 use Rattle.text_lines.specs.declared.cell.Cell as code
-use Rattle.text_names.proofs.Stacks.{get-map, length-cells}
+use Rattle.text_lines.proofs.PartsOfCells.{get-map, length-cells}
 use Rattle.text_names.specs.UsedNames.{name_of, names_with, TypesUseNames, ArgsUseNames}
 use Rattle.type_terms.proofs.BooleanBasics.{either-deep as or-turn}
 

@@ -10,7 +10,7 @@ use Rattle.text_names.specs.declared.findings.Findings.{Findings}
 use Rattle.text_names.specs.Machine as machine
 use Rattle.text_names.specs.Machine.{Sight, Found, findings, either, using, keeping, noting, sort_misfits, name_misfits, lifetime_misfits}
 use Rattle.text_names.specs.Resolved as resolved
-use Rattle.text_names.specs.Back.{begins, parts, count_above}
+use Rattle.text_lines.specs.Back.{begins, parts, count_above}
 use Rattle.text_names.specs.declared.walk.Frame.{Frame}
 use Rattle.text_names.specs.WalkViews.{frame_of, frames_onto, frames_in}
 use Rattle.text_names.proofs.Uses.{findings-append}

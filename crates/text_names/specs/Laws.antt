@@ -5,7 +5,7 @@ use Rattle.text_language.specs.Promised.Syntax.{TypeTree, Args, Arg}
 use Rattle.text_language.specs.Uses.{args_count, arg_uses, args_uses, arg_depth, args_depth}
 use Rattle.text_lines.specs.Cells.{Cell, type_onto, args_onto}
 use Rattle.text_names.specs.Resolved.{arg_before, args_before}
-use Rattle.text_names.specs.Back.{type_back, args_back, arg_back}
+use Rattle.text_lines.specs.Back.{type_back, args_back, arg_back}
 use Rattle.text_names.specs.Machine.{Sight, seen_items, params, Found, using, sinking, keeping, Place, args_inside, WalkFrame, visiting, going, finished, WalkReaches}
 
 -- What was found, with an argument before it, under the binders s: its uses, how deep it is, and its resolved cells. A type is an argument.

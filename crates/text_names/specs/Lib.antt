@@ -1,11 +1,9 @@
 pub mod Resolved
 pub mod Standing
-pub mod Back
 pub mod Machine
 pub mod LookUps
 pub mod Views
 pub mod Laws
-pub mod Steps
 pub mod Shapes
 pub mod Resolving
 pub mod UsedNames

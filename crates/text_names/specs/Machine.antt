@@ -14,7 +14,7 @@ use Rattle.text_lines.specs.Cells.{Cell, primitive_cell, never_cell, slice_cell,
 use Rattle.text_names.specs.Resolved as resolved
 use Rattle.text_names.specs.declared.findings.Findings.{Findings}
 use Rattle.text_names.specs.Resolved.{ResolvedCell, Region, static_region, region_of, optional_region, const_cell, length_cell, dyn_before}
-use Rattle.text_names.specs.Back.{parts_above, count_above, names_between, down_to, shape_of}
+use Rattle.text_lines.specs.Back.{parts_above, count_above, names_between, down_to, shape_of}
 
 -- What the line's names are looked up in: what is declared before it, and the line itself.
 pub record Sight : Type 0 where

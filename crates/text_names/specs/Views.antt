@@ -1,13 +1,10 @@
 -- What the values of the code stand for among the definitions.
-use Rattle.std.specs.Prelude.{ℕ, List, [], ◌∷◌, map, reverse, take}
+use Rattle.std.specs.Prelude.{ℕ, List, [], ◌∷◌, map}
 use Rattle.std.specs.Borrow.{Bor}
 use Rattle.std.specs.declared.vec.Vec.{Vec}
 use Rattle.type_terms.specs.Promised.Label as label
 use Rattle.text_language.specs.Tokens.{number_from}
 use Rattle.text_lines.specs.TokenViews.{primitive_label, text_of}
-use Rattle.text_lines.specs.TypeViews.{cells_in}
-use Rattle.text_lines.specs.Cells as cell
-use Rattle.text_lines.specs.declared.cell.Cell.{Cell}
 use Rattle.workspace.specs.Views.{sort_of_kind}
 use Rattle.text_names.specs.Resolved as resolved
 use Rattle.text_names.specs.declared.resolved.Region.{Region}
@@ -55,10 +52,6 @@ resolved_onto (x ∷ xs) cs = resolved_onto xs (resolved_in x ∷ cs)
 abbrev pub variables_onto : List Variable → List (List ℕ × label.Sort) → List (List ℕ × label.Sort)
 variables_onto [] vs = vs
 variables_onto (x ∷ xs) vs = variables_onto xs (variable_in x ∷ vs)
-
--- The cells before this index, the last of them first.
-abbrev pub cells_before : List Cell → ℕ → List cell.Cell
-cells_before cs at = reverse (take at (cells_in cs))
 
 -- the binders of a stack, the last in the vector innermost
 abbrev pub scope_onto : {A : Type 0} → List (Vec (Bor (List ℕ)) A) → List (List (List ℕ)) → List (List (List ℕ))

@@ -28,7 +28,6 @@ mod params;
 mod parts;
 mod resolve;
 mod resolved;
-mod rest;
 mod shapes;
 mod turn;
 mod variables;

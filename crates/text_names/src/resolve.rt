@@ -5,7 +5,7 @@ ghost use Rattle.text_language.specs.Promised.Declarations.{known};
 ghost use Rattle.text_language.specs.Lowering.{trait_number};
 ghost use Rattle.text_lines.specs.Cells as cell;
 ghost use Rattle.text_lines.specs.TypeViews.{cells_in};
-ghost use Rattle.text_names.specs.Back.{args_back};
+ghost use Rattle.text_lines.specs.Back.{args_back};
 ghost use Rattle.text_names.specs.Machine.{seen_items};
 ghost use Rattle.text_names.specs.WalkViews.{frames_in};
 ghost use Rattle.text_names.specs.Resolving.{ResolvesType, ResolvesBound, nothing_found, bound_found};

@@ -3,7 +3,7 @@ ghost use Rattle.std.specs.Prelude.{◌≡◌, ◌+◌, ◌<◌, ◌^◌, List, 
 ghost use Rattle.text_language.specs.Lowering.{inserted};
 ghost use Rattle.text_language.specs.Uses.{dyn_use, ItemShape};
 ghost use Rattle.text_lines.specs.TypeViews.{cell_of};
-ghost use Rattle.text_names.specs.Back.{parts_above, shape_of};
+ghost use Rattle.text_lines.specs.Back.{parts_above, shape_of};
 ghost use Rattle.text_names.specs.Machine.{Sight, dyn_step, findings, seen_items, keeping, last_item_region, params};
 ghost use Rattle.text_names.specs.Resolved.{autos_before};
 ghost use Rattle.text_names.specs.Shapes.{dyn_cells, summary, with_shape};

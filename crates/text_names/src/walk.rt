@@ -6,7 +6,7 @@ ghost use Rattle.workspace.specs.Views.{sort_of_kind};
 ghost use Rattle.text_names.specs.Views.{resolved_in, label_in};
 ghost use Rattle.text_names.specs.WalkViews.{place_of, frame_of, frames_in, WalkSteps};
 ghost use Rattle.text_names.specs.Machine.{Sight, reference_step, lifetime_step, leaf_step, variable_step, number_step, named_step, wrapped_step, array_step, tuple_step, fn_step, fn_to_step, bound_step, fn_frame, params, is_const_place, deeper, type_place, outer_scope, going, using};
-ghost use Rattle.text_names.specs.Back.{down_to};
+ghost use Rattle.text_lines.specs.Back.{down_to};
 ghost use Rattle.text_names.specs.Resolved.{node_cell, length_cell};
 ghost use Rattle.type_terms.specs.Promised.Label as label;
 ghost use Rattle.text_language.specs.Tokens.{number_from};
@@ -19,10 +19,9 @@ use crate::findings::Findings;
 use crate::found::Found;
 use crate::looked_up::Names;
 use crate::resolved::{NodeLabel, ResolvedCell};
-use crate::rest::Rest;
 use crate::{heads, judge_use};
 use std::alloc::{AllocError, Global};
-use text_lines::{Cell, Length};
+use text_lines::{Cell, CellCursor, Length};
 use workspace::ParamKind;
 
 /// The position of an argument or a type.
@@ -77,7 +76,7 @@ pub(crate) enum Next<'n> {
 
 /// The state of the machine.
 pub(crate) struct Walk<'n, 'c, 'a> {
-    pub rest: Rest<'c, 'a>,
+    pub rest: CellCursor<'c, 'a>,
     pub frames: Vec<Frame<'n>>,
     pub binders: Binders<'a>,
     pub found: Found<'a>,
@@ -114,7 +113,7 @@ impl<'n, 'c, 'a> Walk<'n, 'c, 'a> {
         ensures found { result.found ≡ nothing_found }
     {
         Walk {
-            rest: Rest::new(cells),
+            rest: CellCursor::new(cells),
             frames: Vec::new(alloc),
             binders: Binders::new(alloc),
             found: Found::new(alloc),

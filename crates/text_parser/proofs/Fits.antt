@@ -17,7 +17,7 @@ use Rattle.text_language.specs.Lowering.{Meanings}
 use Rattle.text_lines.specs.Faultless.{UseFits, UsesFit}
 use Rattle.text_lines.proofs.FittingUses.{faultless-uses}
 use Rattle.workspace.specs.Numbered.{IsNumbered, IsFew}
-use Rattle.text_parser.proofs.Each.{Every, Every-from_Each}
+use Rattle.workspace.proofs.Each.{Every, Every-from_Each}
 use Rattle.text_parser.specs.Laws.{AllOf, BoundFits, ClauseFits, LineFits}
 use Rattle.text_parser.specs.Meant.{KnownFits, NumbersFit, IsKnownStruct, NameMeans, UseMeans, UsesMean}
 

@@ -14,7 +14,7 @@ use Rattle.workspace.specs.TermCells.{behind_cells, behind_cell, trees_of}
 use Rattle.workspace.specs.Made.{StackPart, parts_of, parts_behind, CellHeld, CellsHeld, AreMade}
 use Rattle.workspace.specs.Views.{cell_of, cells_of}
 use Rattle.workspace.specs.declared.cell.TermCell.{TermCell}
-use Rattle.text_parser.proofs.Each.{Every}
+use Rattle.workspace.proofs.Each.{Every}
 use Rattle.text_parser.specs.Making.{Makes, label_autos, next_autos, term_of}
 use Rattle.text_parser.specs.Keeping.{pushed_on, PutsTrees, AddsCells}
 use Rattle.text_parser.specs.Numbering.{CellStands}

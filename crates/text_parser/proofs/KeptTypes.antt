@@ -33,14 +33,14 @@ use Rattle.text_names.specs.Machine.{Sight, params}
 use Rattle.text_names.specs.Resolved.{type_before, args_before}
 use Rattle.text_names.specs.Views.{resolved_in, variable_in}
 use Rattle.text_names.specs.declared.parts.ResolvedPart.{ResolvedPart}
-use Rattle.text_names.proofs.StandingLaws.{at-type}
+use Rattle.text_names.proofs.StandingLaws.{at-type, args_list}
 use Rattle.workspace.specs.TermCells.{trees_of, joined}
 use Rattle.workspace.specs.Made.{StackPart, type_part, is_arg, is_type, AreMade, ReferenceMade, ReferencesMade}
 use Rattle.workspace.specs.Views.{cells_of, reference_of}
 use Rattle.workspace.specs.declared.cell.TermCell.{TermCell}
 use Rattle.workspace.specs.declared.cell.TermCell.TheVariants as term
 use Rattle.workspace.specs.declared.declared.ReferenceCells.{ReferenceCells}
-use Rattle.text_parser.proofs.Each.{Every}
+use Rattle.workspace.proofs.Each.{Every}
 use Rattle.text_parser.specs.Keeping.{pushed_on, PutsTrees, AddsCells}
 use Rattle.text_parser.specs.Kept.{IsSightOf, HasSmallNumbers, NumberingFits, HasSmallPlaces, IsReadAs, IsOfLine, KeepsType, MeansBound, MeansReference}
 use Rattle.text_parser.specs.Laws.{AllOf, ClauseFits}
@@ -52,7 +52,7 @@ use Rattle.text_parser.proofs.Fits.{uses-mean, first-fit, last-fit}
 use Rattle.text_parser.proofs.KeptCells.{kept-more, kept-trees, kept-made, keeps-none}
 use Rattle.text_parser.proofs.Plain.{PlainCell, PlainCells, PlainType, IsPrimitive, type-plain}
 use Rattle.text_parser.proofs.Sizes.{type_size, args_size, type-length}
-use Rattle.text_parser.proofs.Standing.{args_list, args-stand, args-joined, arg_kinds, kinds-pushed, kinds-args}
+use Rattle.text_parser.proofs.Standing.{args-stand, args-joined, arg_kinds, kinds-pushed, kinds-args}
 use Rattle.text_parser.proofs.TypesMade.{Around, type-makes, args-make, number-small}
 
 -- ---- the cells of a line

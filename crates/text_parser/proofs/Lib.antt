@@ -3,7 +3,6 @@ pub mod Stacks
 pub mod Plain
 pub mod TypesMade
 pub mod Standing
-pub mod Each
 pub mod Fits
 pub mod KeptCells
 pub mod KeptTypes

@@ -3,20 +3,20 @@ use Rattle.std.proofs.Common.{◌≡◌, ℕ, zero, suc, ◌+◌, true, List, []
 use Rattle.std.proofs.lemmas.List.{reverse-reverse}
 use Rattle.std.specs.Prelude.{reverse}
 use Rattle.type_terms.specs.Promised.Label.{Sort}
-use Rattle.type_terms.specs.Promised.Trees.{Trees, none, tree, leaf, ◌+++◌}
-use Rattle.text_language.specs.Promised.Syntax.{Args, no_args, and_arg, Arg, lifetime_arg, number_arg, type_arg}
+use Rattle.type_terms.specs.Promised.Trees.{Trees, none, tree, ◌+++◌}
+use Rattle.text_language.specs.Promised.Syntax.{Args, no_args, and_arg}
 use Rattle.text_language.specs.Uses.{next_kind, other_kinds}
 use Rattle.text_language.specs.Lowering.{Meanings, arg_tree, args_trees}
-use Rattle.text_names.specs.Resolved.{ResolvedCell, node_cell, param_cell, variable_cell, lifetime_cell, reference_cell, args_before, arg_before}
+use Rattle.text_names.specs.Resolved.{ResolvedCell, node_cell, param_cell, variable_cell, lifetime_cell, reference_cell, args_before}
 use Rattle.text_names.specs.Standing as standing
 use Rattle.text_names.specs.Standing.{trees_behind, standing}
-use Rattle.text_names.proofs.StandingLaws.{at-type, at-region}
+use Rattle.text_names.proofs.StandingLaws.{args_list, at-arg}
 use Rattle.workspace.specs.TermCells as term
 use Rattle.workspace.specs.TermCells.{behind_cell, behind_cells, joined}
 use Rattle.workspace.specs.Made.{StackPart, is_arg}
 use Rattle.text_parser.specs.Making.{term_of}
 use Rattle.text_parser.specs.Keeping.{pushed_on}
-use Rattle.text_parser.proofs.Each.{Every}
+use Rattle.workspace.proofs.Each.{Every}
 use Rattle.text_parser.proofs.Stacks.{arg_part, args_parts, arg-is}
 use Rattle.type_terms.proofs.ListBasics.{rev-cons}
 
@@ -46,24 +46,13 @@ cells-same e [] S = refl
 cells-same e (c ∷ cs) S = ap (behind_cells (map (term_of e) cs)) (cell-same e c S) ∙ cells-same e cs (trees_behind e c S)
 
 -- ---- arguments
-pub args_list : Meanings → List (List (List ℕ)) → List Sort → Args → List Trees
-args_list e s ks no_args = []
-args_list e s ks (and_arg a args) = arg_tree e s (next_kind ks) a ∷ args_list e s (other_kinds ks) args
-
-arg-stands : (e : Meanings) (s : List (List (List ℕ))) (p : Sort) (a : Arg) (cs : List ResolvedCell) (S : List Trees) → standing e (arg_before e.items e.params s p a cs) S ≡ standing e cs (arg_tree e s p a ∷ S)
-arg-stands e s p (lifetime_arg n) cs S = ap (λ l. standing e cs (leaf l ∷ S)) (at-region e s n)
-arg-stands e s p (number_arg n) cs S = refl
-arg-stands e s p (type_arg t) cs S = at-type e s p t cs S
-
 pub args-stand : (e : Meanings) (s : List (List (List ℕ))) (ks : List Sort) (args : Args) (cs : List ResolvedCell) (S : List Trees)
     → standing e (args_before e.items e.params s ks args cs) S ≡ standing e cs (pushed_on (args_list e s ks args) S)
-unfolding args_list
 args-stand e s ks no_args cs S = refl
 args-stand e s ks (and_arg a args) cs S =
-    arg-stands e s (next_kind ks) a (args_before e.items e.params s (other_kinds ks) args cs) S ∙ args-stand e s (other_kinds ks) args cs (arg_tree e s (next_kind ks) a ∷ S)
+    at-arg e s (next_kind ks) a (args_before e.items e.params s (other_kinds ks) args cs) S ∙ args-stand e s (other_kinds ks) args cs (arg_tree e s (next_kind ks) a ∷ S)
 
 pub args-joined : (e : Meanings) (s : List (List (List ℕ))) (ks : List Sort) (args : Args) → joined (args_list e s ks args) ≡ args_trees e s ks args
-unfolding args_list
 args-joined e s ks no_args = refl
 args-joined e s ks (and_arg a args) = ap (λ o. arg_tree e s (next_kind ks) a +++ o) (args-joined e s (other_kinds ks) args)
 

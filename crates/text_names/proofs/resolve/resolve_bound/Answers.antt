@@ -3,7 +3,7 @@ use Rattle.text_language.specs.Promised.Syntax.{named}
 use Rattle.text_language.specs.Promised.Declarations.{known}
 use Rattle.text_language.specs.Lowering.{trait_number}
 use Rattle.text_lines.specs.TypeViews.{cells_in}
-use Rattle.text_names.specs.Back.{args_back}
+use Rattle.text_lines.specs.Back.{args_back}
 use Rattle.text_names.specs.Machine.{seen_items}
 use Rattle.text_names.proofs.Resolving.{bound-begins}
 use Rattle.text_names.proofs.Turned.{type-turned}

@@ -2,11 +2,11 @@ use Rattle.std.proofs.Common.{◌≡◌, ℕ, List, ◌∷◌, [], length, Some,
 use Rattle.type_terms.specs.Promised.Label.{Sort}
 use Rattle.text_language.specs.Promised.Declarations.{known}
 use Rattle.text_language.specs.Uses.{trait_use, args_count, kinds_of_trait}
-use Rattle.text_names.specs.Back.{count_above}
+use Rattle.text_lines.specs.Back.{count_above}
 use Rattle.text_names.specs.Machine.{WalkFrame, seen_items, findings, noting, args_inside}
 use Rattle.workspace.specs.Views.{sorts_of}
 use Rattle.text_names.specs.WalkViews.{frames_in}
-use Rattle.text_names.proofs.Counting.{count-args}
+use Rattle.text_lines.proofs.Counting.{count-args}
 use Rattle.text_names.proofs.Resolving.{bound-resolved}
 use Rattle.text_names.proofs.resolve.run_bound.Goals as goal
 

@@ -8,7 +8,7 @@ use Rattle.text_language.specs.Promised.Faults.{is_auto_name}
 use Rattle.text_language.specs.Lowering.{trait_number}
 use Rattle.text_language.specs.Uses.{trait_use, binder_uses, kinds_of_trait}
 use Rattle.text_names.specs.Resolved as resolved
-use Rattle.text_names.specs.Back.{count_above}
+use Rattle.text_lines.specs.Back.{count_above}
 use Rattle.text_names.specs.Machine.{WalkFrame, Found, WalkState, seen_items, findings, going, keeping, using, noting, args_inside}
 use Rattle.text_names.specs.WalkViews.{frame_of, frames_in}
 use Rattle.text_names.proofs.Walking.{noted, bound-variables, together, going-same}

@@ -1,6 +1,6 @@
 use Rattle.std.proofs.Common.{◌≡◌, ℕ, ◌+◌, ◌<◌, List, ◌∷◌, [], ◌++◌, map, length, Option, refl, sym, ap, ◌∙◌, false, arith}
 use Rattle.text_language.specs.Uses.{dyn_use}
-use Rattle.text_names.specs.Back.{parts_above, shape_of}
+use Rattle.text_lines.specs.Back.{parts_above, shape_of}
 use Rattle.text_names.specs.Resolved.{Region}
 use Rattle.text_names.specs.Machine.{WalkFrame, Found, seen_items, params, going, using, noting, keeping, deepening, deeper, sort_misfits, items_inside, shape_autos, shape_principals, last_item_region}
 use Rattle.text_names.specs.Shapes.{dyn_cells, summary}

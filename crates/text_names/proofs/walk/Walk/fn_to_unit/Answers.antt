@@ -5,7 +5,7 @@ use Rattle.text_lines.specs.TokenViews.{text_of}
 use Rattle.text_language.specs.Uses.{items_use, binder_uses}
 use Rattle.workspace.specs.Views.{sort_of_kind}
 use Rattle.text_names.specs.Resolved as resolved
-use Rattle.text_names.specs.Back.{count_above}
+use Rattle.text_lines.specs.Back.{count_above}
 use Rattle.text_names.specs.Machine.{Found, WalkState, findings, going, keeping, deepening, using, sort_misfits, fn_frame}
 use Rattle.text_names.specs.WalkViews.{place_of, frames_in}
 use Rattle.text_names.proofs.Walking.{count-within, kept-twice, noted, fn-variables, together, going-same}

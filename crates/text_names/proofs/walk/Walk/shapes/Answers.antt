@@ -1,6 +1,6 @@
 use Rattle.std.proofs.Common.{◌<◌, ◌≤◌, length, arith}
 use Rattle.text_names.specs.Machine.{seen_items}
-use Rattle.text_names.proofs.PartsOfCells.{taken-shorter}
+use Rattle.text_lines.proofs.PartsOfCells.{taken-shorter}
 use Rattle.text_names.proofs.Summed.{gathered-more, gathered-all, bounds-room, principals-room}
 use Rattle.text_names.proofs.walk.Walk.shapes.Goals as goal
 

@@ -1,10 +1,10 @@
--- What the methods do.
+-- The effect of the methods of the cursor over cells.
 use Rattle.std.specs.Prelude.{◌≡◌, ℕ, List, [], ◌∷◌, Option, Some, None}
 use Rattle.std.specs.Borrow.{Bor}
 use Rattle.text_lines.specs.Cells as cell
 use Rattle.text_lines.specs.TypeViews.{cell_of}
 use Rattle.text_lines.specs.declared.cell.Cell.{Cell}
-use Rattle.text_names.specs.Back.{begins, down_to}
+use Rattle.text_lines.specs.Back.{begins, down_to}
 
 -- The last cell was taken, with what is inside it.
 abbrev pub TakesPart : Option Cell → List cell.Cell → List cell.Cell → Type 0

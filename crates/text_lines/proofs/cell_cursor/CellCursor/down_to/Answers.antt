@@ -1,7 +1,7 @@
 use Rattle.std.proofs.Common.{◌≤◌, ◌∙◌, ap, arith}
-use Rattle.text_names.specs.Back.{down_to}
-use Rattle.text_names.proofs.Stacks.{cells-down}
-use Rattle.text_names.proofs.rest.Rest.down_to.Goals as goal
+use Rattle.text_lines.specs.Back.{down_to}
+use Rattle.text_lines.proofs.PartsOfCells.{cells-down}
+use Rattle.text_lines.proofs.cell_cursor.CellCursor.down_to.Goals as goal
 
 pub returns-then-start-self : goal.returns-then-start-self
 returns-then-start-self c =

@@ -1,25 +1,25 @@
-//! The cells that are not visited yet.
+//! A cursor that visits the cells of a line from the last to the first.
 ghost use Rattle.std.specs.Prelude.{◌≡◌, ◌+◌, ◌^◌, ◌<◌, ◌≤◌, List, [], ◌∷◌, length, map, min, reverse, MatchOption, IfOk};
 ghost use Rattle.text_lines.specs.Cells as cell;
 ghost use Rattle.text_lines.specs.TokenViews.{text_of};
 ghost use Rattle.text_lines.specs.TypeViews.{cell_of};
-ghost use Rattle.text_names.specs.Back.{begins};
+ghost use Rattle.text_lines.specs.Back.{begins};
 
+use crate::cell::Cell;
 use std::alloc::{AllocError, Global};
 use std::marker::Model;
-use text_lines::Cell;
 
-/// The cells of a line that are not visited yet. In contracts they go from the last to the first.
+/// Visits the cells of a line from the last to the first. In contracts it is the list of those that are not visited yet, in this order.
 #[derive(Drop)]
-pub(crate) struct Rest<'c, 'a> {
+pub struct CellCursor<'c, 'a> {
     cells: &'c [Cell<'a>],
     at: usize,
 }
 
-impl<'c, 'a> Model for Rest<'c, 'a> {
+impl<'c, 'a> Model for CellCursor<'c, 'a> {
     ghost use Rattle.std.specs.Prelude.{List, ◌≤◌, length};
     ghost use Rattle.text_lines.specs.Cells.{Cell};
-    ghost use Rattle.text_names.specs.Views.{cells_before};
+    ghost use Rattle.text_lines.specs.TypeViews.{cells_before};
 
     ghost Value = { List Cell };
 
@@ -48,16 +48,16 @@ fn inside_from(last: Cell<'_>, before: usize) -> Option<usize>
     }
 }
 
-impl<'c, 'a> Rest<'c, 'a> {
+impl<'c, 'a> CellCursor<'c, 'a> {
     ghost use Rattle.text_lines.specs.TypeViews.{cells_in};
-    ghost use Rattle.text_names.specs.Back.{down_to, count_above, names_between};
-    ghost use Rattle.text_names.specs.Steps.{TakesPart, TakesNamed};
+    ghost use Rattle.text_lines.specs.Back.{down_to, count_above, names_between};
+    ghost use Rattle.text_lines.specs.CellSteps.{TakesPart, TakesNamed};
 
     /// All cells of the line.
     pub fn new(cells: &'c [Cell<'a>]) -> Self
         ensures { result ≡ reverse (cells_in cells.now) }
     {
-        Rest {
+        CellCursor {
             cells,
             at: cells.len(),
         }
@@ -104,10 +104,10 @@ impl<'c, 'a> Rest<'c, 'a> {
     }
 
     /// The same cells, to look ahead.
-    pub fn fork(&self) -> Rest<'c, 'a>
+    pub fn fork(&self) -> CellCursor<'c, 'a>
         ensures { result ≡ self.now }
     {
-        Rest {
+        CellCursor {
             cells: self.cells,
             at: self.at,
         }

@@ -1,6 +1,6 @@
 use Rattle.std.proofs.Common.{◌+◌, ◌≤◌, length}
-use Rattle.text_names.proofs.PartsOfCells.{Counted}
-use Rattle.text_names.proofs.rest.Rest.count_above.Given as goal
+use Rattle.text_lines.proofs.PartsOfCells.{Counted}
+use Rattle.text_lines.proofs.cell_cursor.CellCursor.count_above.Given as goal
 
 abbrev pub invariant-loop-rest : goal.invariant-loop-rest
 invariant-loop-rest l = record {

@@ -1,6 +1,6 @@
 use Rattle.std.proofs.Common.{◌<◌, ◌≤◌, length, arith}
-use Rattle.text_names.proofs.PartsOfCells.{counted-more, counted-all, taken-shorter}
-use Rattle.text_names.proofs.rest.Rest.count_above.Goals as goal
+use Rattle.text_lines.proofs.PartsOfCells.{counted-more, counted-all, taken-shorter}
+use Rattle.text_lines.proofs.cell_cursor.CellCursor.count_above.Goals as goal
 
 pub loop-rest-preserved : goal.loop-rest-preserved
 loop-rest-preserved c =

@@ -1,13 +1,70 @@
--- Parts that are taken one after the other, from the last on.
-use Rattle.std.proofs.Common.{◌≡◌, ℕ, suc, ◌+◌, ◌-◌, ◌<◌, ◌≤◌, List, [], ◌∷◌, ◌++◌, length, take, Option, Some, None, sym, ap, ◌∙◌, arith}
-use Rattle.std.proofs.lemmas.List.{take-append-drop, length-drop}
+-- The cells before an index, and parts that are taken one after the other from the last on.
+use Rattle.std.proofs.Common.{◌≡◌, ℕ, zero, suc, ◌+◌, ◌-◌, ◌<◌, ◌≤◌, List, [], ◌∷◌, ◌++◌, map, length, get_or, take, drop, reverse, Option, Some, None, refl, sym, ap, ◌∙◌, arith, length-append}
+use Rattle.std.proofs.lemmas.List.{take-append-drop, length-drop, reverse-append, length-reverse}
+use Rattle.std.proofs.Math.Seq.{drop-append_seam, take-suc}
 use Rattle.text_lines.specs.Cells.{Cell, slice_cell, named_cell, reference_cell, pointer_cell, array_cell, tuple_cell, dyn_cell, fn_cell, fn_to_cell, bound_cell}
-use Rattle.text_lines.specs.TypeViews.{cell_of}
+use Rattle.text_lines.specs.TypeViews.{cell_of, cells_in, cells_before}
 use Rattle.text_lines.specs.declared.cell.Cell as code
-use Rattle.text_names.specs.Back.{begins, parts, parts_above, count_above, down_to}
-use Rattle.text_names.specs.Steps.{TakesPart}
-use Rattle.text_names.proofs.Counting.{parts-one, parts-skip, parts-none}
+use Rattle.text_lines.specs.Back.{begins, parts, parts_above, count_above, down_to}
+use Rattle.text_lines.specs.CellSteps.{TakesPart}
+use Rattle.text_lines.proofs.Counting.{parts-one, parts-skip, parts-none}
 
+-- ---- the cells before an index
+pub get-map : (cs : List code.Cell) (k : ℕ) (d : code.Cell) → get_or (map cell_of cs) k (cell_of d) ≡ cell_of (get_or cs k d)
+get-map [] k d = refl
+get-map (c ∷ cs) zero d = refl
+get-map (c ∷ cs) (suc k) d = get-map cs k d
+
+pub length-cells : (cs : List code.Cell) → length (cells_in cs) ≡ length cs
+length-cells [] = refl
+length-cells (c ∷ cs) = ap suc (length-cells cs)
+
+one-back : (cs : List code.Cell) (k : ℕ) (d : code.Cell) → k < length cs → cells_before cs (suc k) ≡ cell_of (get_or cs k d) ∷ cells_before cs k
+one-back cs k d h =
+    let m : length (cells_in cs) ≡ length cs = length-cells cs in
+    let l : k < length (cells_in cs) = omega arith in
+    ap reverse (take-suc (cells_in cs) k (cell_of d) l) ∙ reverse-append (take k (cells_in cs)) (get_or (cells_in cs) k (cell_of d) ∷ []) ∙ ap (λ c. c ∷ cells_before cs k) (get-map cs k d)
+
+pub cells-next : (cs : List code.Cell) (at : ℕ) (d : code.Cell) → 0 < at → at ≤ length cs → cells_before cs at ≡ cell_of (get_or cs (at - 1) d) ∷ cells_before cs (at - 1)
+cells-next cs at d h k =
+    let e : at ≡ suc (at - 1) = omega arith in
+    let l : at - 1 < length cs = omega arith in
+    ap (cells_before cs) e ∙ one-back cs (at - 1) d l
+
+pub length-before : (cs : List code.Cell) (at : ℕ) → at ≤ length cs → length (cells_before cs at) ≡ at
+length-before cs at h =
+    let m : length (cells_in cs) ≡ length cs = length-cells cs in
+    let l : at ≤ length (cells_in cs) = omega arith in
+    length-reverse (take at (cells_in cs)) ∙ length-take at (cells_in cs) l
+  where
+    length-take : {A : Type 0} (n : ℕ) (l : List A) → n ≤ length l → length (take n l) ≡ n
+    length-take zero l h = refl
+    length-take (suc n) [] h = absurd (omega arith)
+    length-take (suc n) (x ∷ l) h = let k : n ≤ length l = omega arith in ap suc (length-take n l k)
+
+take-less : {A : Type 0} (m n : ℕ) (l : List A) → m ≤ n → take m (take n l) ≡ take m l
+take-less zero n l h = refl
+take-less (suc m) zero l h = absurd (omega arith)
+take-less (suc m) (suc n) [] h = refl
+take-less (suc m) (suc n) (x ∷ l) h = let k : m ≤ n = omega arith in ap (λ t. x ∷ t) (take-less m n l k)
+
+pub cells-down : (cs : List code.Cell) (start at : ℕ) → start ≤ at → at ≤ length cs → cells_before cs start ≡ down_to start (cells_before cs at)
+cells-down cs start at h k =
+    let x = take at (cells_in cs) in
+    let first : take start x ++ drop start x ≡ x = take-append-drop start x in
+    let rest : reverse x ≡ reverse (drop start x) ++ reverse (take start x) = ap reverse (sym first) ∙ reverse-append (take start x) (drop start x) in
+    let same : reverse (take start x) ≡ cells_before cs start = ap reverse (take-less start at (cells_in cs) h) in
+    let l : length (cells_before cs at) ≡ at = length-before cs at k in
+    let m : length (cells_before cs start) ≡ start = length-before cs start (le start at (length cs) h k) in
+    let n : length (reverse x) ≡ length (reverse (drop start x)) + length (reverse (take start x)) = ap length rest ∙ length-append (reverse (drop start x)) (reverse (take start x)) in
+    let o : length (reverse (take start x)) ≡ start = ap length same ∙ m in
+    let p : length (reverse x) - start ≡ length (reverse (drop start x)) = omega arith in
+    sym (ap (λ q. drop q (reverse x)) p ∙ ap (drop (length (reverse (drop start x)))) rest ∙ drop-append_seam (reverse (drop start x)) (reverse (take start x)) ∙ same)
+  where
+    le : (a b c : ℕ) → a ≤ b → b ≤ c → a ≤ c
+    le a b c h k = omega arith
+
+-- ---- parts
 begins-before : (xs : List Cell) → begins xs ≤ length xs - 1
 begins-before [] = omega arith
 begins-before (named_cell n start ∷ r) = omega arith

@@ -1,8 +1,8 @@
 use Rattle.std.proofs.Common.{◌≤◌, length, map, reverse, [], sym, ap, ◌∙◌, arith}
 use Rattle.text_lines.specs.TokenViews.{text_of}
-use Rattle.text_names.specs.Back.{down_to, names_before}
-use Rattle.text_names.proofs.Counting.{names-jump, names-none, length-down-to}
-use Rattle.text_names.proofs.rest.Rest.names_between.Goals as goal
+use Rattle.text_lines.specs.Back.{down_to, names_before}
+use Rattle.text_lines.proofs.Counting.{names-jump, names-none, length-down-to}
+use Rattle.text_lines.proofs.cell_cursor.CellCursor.names_between.Goals as goal
 
 pub loop-rest-init : goal.loop-rest-init
 loop-rest-init c =

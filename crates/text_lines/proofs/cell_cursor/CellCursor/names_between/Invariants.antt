@@ -1,7 +1,7 @@
 use Rattle.std.proofs.Common.{◌≤◌, ◌≡◌, length, map, reverse}
 use Rattle.text_lines.specs.TokenViews.{text_of}
-use Rattle.text_names.specs.Back.{names_before, names_between}
-use Rattle.text_names.proofs.rest.Rest.names_between.Given as goal
+use Rattle.text_lines.specs.Back.{names_before, names_between}
+use Rattle.text_lines.proofs.cell_cursor.CellCursor.names_between.Given as goal
 
 abbrev pub invariant-loop-rest : goal.invariant-loop-rest
 invariant-loop-rest l = record {
