@@ -153,7 +153,7 @@ module _ (limit : ℕ) (d : Declarations) (n : ℕ) (q : Question) where
   question-told _ (of_prove (answers.yes ts) e h) =
       subst (λ t. QuestionAnswer limit d n q (t ++ values_text (answer_values d q ts))) (sym (append_assoc (codes "prove " ++ decimal n) (codes ": ") (codes "yes")))
       (subst (λ v. QuestionAnswer limit d n q (codes "prove " ++ decimal n ++ codes ": yes" ++ v)) (yes-values-text-is d q ts)
-      (says_yes ts (to-yes limit d q.asker (map (λ v. v.kind) q.variables) (map erased_reference q.clauses) (erased_reference q.asked) ts h.0 h.1) e))
+      (says_yes ts (to-yes limit d q.asker (map (λ v. v.kind) q.variables) (map erased_reference q.clauses) (erased_reference q.asked) ts h.0 h.1 h.2) e))
   question-told _ (of_prove answers.unproved e h) =
       subst (QuestionAnswer limit d n q) (sym (append_assoc (codes "prove " ++ decimal n) (codes ": ") (codes "unproved"))) (says_unproved (λ x. h.0 x.0 x.1) e)
   question-told _ (of_prove answers.maybe e h) =

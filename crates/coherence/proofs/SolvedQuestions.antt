@@ -13,7 +13,7 @@ use Rattle.sessions.specs.QuestionAnswers.{FitKinds, of_kind, filled, filled_ref
 use Rattle.sessions.specs.Promised.CoherentTexts.{TextIsCoherent}
 use Rattle.sessions.specs.Promised.CoherentTexts.{text_world}
 use Rattle.sessions.specs.Promised.OwnValues.{SpeakOfOwn}
-use Rattle.sessions.specs.Promised.Promises.{view_in}
+use Rattle.sessions.specs.Promised.Promises.{AreForced, view_in}
 use Rattle.coherence.specs.Promised.ProvedAnswers.{with_values, reference_with, SolvedBy, YesTells, NoTells, TextHolds}
 use Rattle.sessions.proofs.ProvedQuestions.{inner as node}
 
@@ -61,8 +61,16 @@ module _ (H : Reference → Type 0) (ks : List Sort) (r : Reference) where
 
 -- ---- answers
 module _ (limit : ℕ) (d : Declarations) (c : ℕ) (ks : List Sort) where
-  pub to-yes : (E : List Reference) (r : Reference) (ts : List Trees) → IsProveAnswer limit (view_in d c) ks E r (yes ts) → SpeakOfOwn (view_in d c) E r ts → YesTells d c ks E r ts
-  to-yes E r ts h own = (to-zip ks ts h.0, subst (HasProof (view_in d c) E) (reference-same ks ts r) h.1, λ x. to-solved (HasProof (view_in d c) E) ks r (h.2 x), own)
+  pub to-yes : (E : List Reference) (r : Reference) (ts : List Trees) → IsProveAnswer limit (view_in d c) ks E r (yes ts) → SpeakOfOwn (view_in d c) E r ts
+      → AreForced (view_in d c) ks E r (yes ts) → YesTells d c ks E r ts
+  unfolding of-solved to-solved
+  to-yes E r ts h own forced = (
+    to-zip ks ts h.0,
+    subst (HasProof (view_in d c) E) (reference-same ks ts r) h.1,
+    λ x. to-solved (HasProof (view_in d c) E) ks r (h.2 x),
+    own,
+    λ alone s only. forced alone (of-solved (HasProof (view_in d c) E) ks r s) (λ x. only (to-solved (HasProof (view_in d c) E) ks r x)),
+  )
 
   of-yes : (E : List Reference) (r : Reference) (ts : List Trees) → YesTells d c ks E r ts → IsProveAnswer limit (view_in d c) ks E r (yes ts)
   of-yes E r ts h = (of-zip ks ts h.0, subst (HasProof (view_in d c) E) (sym (reference-same ks ts r)) h.1, λ x. of-solved (HasProof (view_in d c) E) ks r (h.2 x))

@@ -32,13 +32,17 @@ reference_with ks ts r = record { trait = r.trait; args = with_values (zip ks ts
 abbrev pub SolvedBy : (Reference → Type 0) → List Sort → Reference → Type 0
 SolvedBy H ks r = (ts : List Trees) × AllZip IsA ks ts × Every (λ t. IsTrue (is_closed t)) ts × H (reference_with ks ts r)
 
+-- Where there is no choice: if H holds for the trait reference with one list of concrete values alone, the values ts are that list.
+abbrev pub ForcedBy : (Reference → Type 0) → List Sort → Reference → List Trees → Type 0
+ForcedBy H ks r ts = HoldUnknownsAlone ts → (s : SolvedBy H ks r) → ((x : SolvedBy H ks r) → x.0 ≡ s.0) → ts ≡ s.0
+
 -- What `yes` with values tells in crate c: with them the reference has a proof by what the crate sees and the where-clauses E; unknowns that are
 -- left, and parameters, stand for themselves. Where the values hold unknowns alone, there are closed ones with which it has a proof. They name
--- what the crate sees, and their open places are unknowns and parameters that the question names.
+-- what the crate sees, and their open places are unknowns and parameters that the question names. Where it has one solution alone, they are it.
 abbrev pub YesTells : Declarations → ℕ → List Sort → List Reference → Reference → List Trees → Type 0
 YesTells d c ks E r ts =
     AllZip IsA ks ts × HasProof (view_in d c) E (reference_with ks ts r) × (HoldUnknownsAlone ts → SolvedBy (HasProof (view_in d c) E) ks r)
-    × SpeakOfOwn (view_in d c) E r ts
+    × SpeakOfOwn (view_in d c) E r ts × ForcedBy (HasProof (view_in d c) E) ks r ts
 
 -- What `no` says in crate c. No concrete values give the trait reference a proof by what the crate sees alone, with the supertraits of all
 -- that the proof concludes, nor in a linked set with the crate. A bounded trait reference gets this answer exactly if it is not possible.
