@@ -31,6 +31,8 @@ FILES = [str(it.folder / "input.txt") for it in (TEXT, FAULTY)]
 BAD_WORDS = ("0", "000", "256", "999", "0008", "", "-1")
 LONG = b"crate base\ntrait Show\nimpl Show for u8\n" + b"prove in base u8: Show\n" * 200
 TOO_LONG = b"a" * 3000000
+# A trait with a million supertraits.
+ENDLESS = b"crate a\ntrait A<t>\n" + b"".join(b"trait %c<t>: %c<[t]> + %c<(t,)>\n" % (it + 1, it, it) for it in range(65, 84)) + b"prove in a dyn T<u8>: T<u8>\n"
 # The commands that the script takes where it has a program.
 COMMANDS = "awk cat cmp dirname find grep head mktemp mv readlink rm sed sha256sum sort tr uname wc".split()
 FORGED = '#!/bin/sh\necho "$@" >> "$CALLS.forged"\nexec "$PROGRAM" "$@"\n'
@@ -104,6 +106,8 @@ def try_statuses(cases: Cases) -> None:
     for name, it in (("a text", TEXT), ("a text with a fault", FAULTY)):
         cases.run("8", text=it.text)
         cases.gave(name, it.status, it.expected())
+    cases.run("8", text=ENDLESS)
+    cases.expect("supertraits without end", cases.last.status == 3 and cases.last.seconds < 10)
     for name, how in (("an input that is a folder", "< ."), ("no input at all", "<&-"), ("no output at all", ">&-"), ("a full device", "> /dev/full")):
         cases.shell(f'"$@" 8 {how}', TEXT.text)
         cases.gave(name, 3)
