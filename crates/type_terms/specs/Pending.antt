@@ -1,7 +1,8 @@
 -- What is still to be visited of a deep term.
 use Rattle.std.specs.ControlFlow.{break_value}
 use Rattle.std.proofs.Common.{ControlFlow}
-use Rattle.std.specs.Prelude.{ℕ, List, [], ◌∷◌, drop, reverse, Option, Some, None}
+use Rattle.std.specs.Prelude.{◌≡◌, ℕ, List, [], ◌∷◌, ◌++◌, drop, reverse, Option, Some, None, MatchResult}
+use Rattle.std.specs.declared.result.Result.{Result}
 use Rattle.type_terms.specs.Promised.Trees.{Trees, none, tree, ◌+++◌}
 use Rattle.type_terms.specs.Promised.Handles.{Entry, Has, bounds_lists, trees_at}
 use Rattle.type_terms.specs.Promised.Handles.{ArgHeld, ArgsHeld, arg_trees}
@@ -12,6 +13,8 @@ use Rattle.type_terms.specs.declared.deep_visit.Pending.{Pending}
 use Rattle.type_terms.specs.declared.deep_visit.Pending.TheVariants.{Visit, Leave}
 use Rattle.type_terms.specs.declared.deep_visit.Path.{Path}
 use Rattle.type_terms.specs.declared.visit.Seen.{Seen}
+use Rattle.type_terms.specs.declared.binders.Binders.{Binders}
+use Rattle.type_terms.specs.Binders.{counts_of}
 use Rattle.type_terms.specs.Visits.{around, VisitsEach}
 use Rattle.type_terms.specs.Pieces.{Piece}
 
@@ -40,6 +43,10 @@ ahead p = reverse p.todo.items
 abbrev pub crossed : Path → List ℕ
 crossed p = reverse p.counts.items
 
+-- These come next, before what was ahead. If memory is refused, nothing changed.
+abbrev pub PutsAhead : {A B : Type 0} → List Pending → Path → Path → Result A B → Type 0
+PutsAhead ps old new r = MatchResult r (λ _. ahead new ≡ ps ++ ahead old) (λ _. ahead new ≡ ahead old)
+
 -- The terms below these binders.
 abbrev pub piece : List ℕ → Trees → Piece
 piece cs t = record { counts = cs; trees = t }
@@ -49,9 +56,22 @@ abbrev pub piece_below : List ℕ → Trees → Piece
 piece_below cs none = piece cs none
 piece_below cs (tree l c o) = piece (around l cs) c
 
--- Two parts, one after the other, below the binders around what comes next.
-abbrev pub piece_of_both : List Entry → Path → Part → Part → Piece
-piece_of_both es w p q = piece (crossed w) (part_trees es p +++ part_trees es q)
+-- Below the binders around what comes next: a part, two parts, a part below one more binder, the term of a handle, and
+-- its children.
+abbrev pub part_here : Part → List Entry → Path → Piece
+part_here p es w = piece (crossed w) (part_trees es p)
+
+abbrev pub both_here : Part → Part → List Entry → Path → Piece
+both_here p q es w = piece (crossed w) (part_trees es p +++ part_trees es q)
+
+abbrev pub bound_here : ℕ → Part → List Entry → Path → Piece
+bound_here n p es w = piece (n ∷ crossed w) (part_trees es p)
+
+abbrev pub term_here : ℕ → List Entry → Path → Piece
+term_here i es w = piece (crossed w) (trees_at es i)
+
+abbrev pub children_here : ℕ → List Entry → Path → Piece
+children_here i es w = piece_below (crossed w) (trees_at es i)
 
 -- What is ahead, starting below these binders, each part with the binders that are around it.
 abbrev pub pieces_ahead : List Entry → List ℕ → List Pending → List Piece
@@ -69,5 +89,5 @@ VisitsFollow {V} {B} sees bs before v after w None = (x : V) (r : Option B) → 
 VisitsFollow sees bs before v after w (Some b) = VisitsEach sees bs before v w (Some b)
 
 -- The same for a visit that is at the first path, with a piece before what is ahead there, and then at the second.
-abbrev pub GoesOn : {V B : Type 0} → (List Entry → List ℕ → Trees → V → V → Seen B → Type 0) → List Entry → List ℕ → Piece → Path → V → Path → V → ControlFlow B (Unit {0}) → Type 0
-GoesOn sees es bs first p v q w r = VisitsFollow (sees es) bs (first ∷ path_pieces es p) v (path_pieces es q) w (break_value r)
+abbrev pub GoesOn : {V B : Type 0} → (List Entry → List ℕ → Trees → V → V → Seen B → Type 0) → List Entry → Binders → (List Entry → Path → Piece) → Path → V → Path → V → ControlFlow B (Unit {0}) → Type 0
+GoesOn sees es bs first p v q w r = VisitsFollow (sees es) (counts_of bs) (first es p ∷ path_pieces es p) v (path_pieces es q) w (break_value r)

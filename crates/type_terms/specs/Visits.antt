@@ -1,8 +1,13 @@
 -- What a visitor does at a node, and what a visit is.
+use Rattle.std.specs.ControlFlow.{break_value}
+use Rattle.std.proofs.Common.{ControlFlow}
 use Rattle.std.specs.Prelude.{ℕ, List, [], ◌∷◌, ◌++◌, Option, Some, None}
 use Rattle.type_terms.specs.Promised.Label.{Label, fn_ptr, principal, auto_trait}
 use Rattle.type_terms.specs.Promised.Trees.{Trees, none, tree}
+use Rattle.type_terms.specs.Promised.Handles.{Entry}
+use Rattle.type_terms.specs.Binders.{counts_of}
 use Rattle.type_terms.specs.Pieces.{Piece}
+use Rattle.type_terms.specs.declared.binders.Binders.{Binders}
 use Rattle.type_terms.specs.declared.visit.Seen.{Seen}
 use Rattle.type_terms.specs.declared.visit.Seen.TheVariants.{Break, Enter, Pass}
 
@@ -31,6 +36,13 @@ pub data VisitsEach {V B : Type 0} (sees : List ℕ → Trees → V → V → Se
   ended_each : {v : V} → VisitsEach sees bs [] v v None
   next_each : {p : Piece} {ps : List Piece} {v w x : V} {r : Option B} → Visits sees (p.counts ++ bs) p.trees v w None → VisitsEach sees bs ps w x r → VisitsEach sees bs (p ∷ ps) v x r
   broken_each : {p : Piece} {ps : List Piece} {v w : V} {b : B} → Visits sees (p.counts ++ bs) p.trees v w (Some b) → VisitsEach sees bs (p ∷ ps) v w (Some b)
+
+-- What a call did that ends with this result: a visit of these terms, or of these pieces, below these binders.
+abbrev pub VisitsTerms : {V B : Type 0} → (List Entry → List ℕ → Trees → V → V → Seen B → Type 0) → List Entry → Binders → Trees → V → V → ControlFlow B (Unit {0}) → Type 0
+VisitsTerms sees es bs t v w r = Visits (sees es) (counts_of bs) t v w (break_value r)
+
+abbrev pub VisitsPieces : {V B : Type 0} → (List Entry → List ℕ → Trees → V → V → Seen B → Type 0) → List Entry → Binders → List Piece → V → V → ControlFlow B (Unit {0}) → Type 0
+VisitsPieces sees es bs ps v w r = VisitsEach (sees es) (counts_of bs) ps v w (break_value r)
 
 -- A bound of a `dyn`. No folder and no visitor is called there.
 abbrev pub IsBound : Trees → Type 0

@@ -9,8 +9,8 @@ ghost use Rattle.type_terms.specs.Promised.Handles.{Has, types, trees_at};
 ghost use Rattle.type_terms.specs.Kinds.{TysHeld, tys_trees, args_trees};
 ghost use Rattle.type_terms.specs.Promised.Handles.{ArgsHeld};
 ghost use Rattle.type_terms.specs.Binders.{counts_of};
-ghost use Rattle.type_terms.specs.Visits.{Visits, VisitsBelow, VisitsEach};
-ghost use Rattle.type_terms.specs.Pending.{part_trees, PartHeld, AllHeld, ahead, crossed, piece, piece_below, path_pieces, piece_of_both, GoesOn};
+ghost use Rattle.type_terms.specs.Visits.{VisitsBelow, VisitsPieces, VisitsTerms};
+ghost use Rattle.type_terms.specs.Pending.{part_trees, PartHeld, AllHeld, ahead, crossed, PutsAhead, path_pieces, part_here, both_here, bound_here, term_here, children_here, GoesOn};
 
 use crate::binders::Binders;
 use crate::interner::Interner;
@@ -61,7 +61,7 @@ impl<'a> Path<'a> {
     /// Adds the part, which is visited next.
     fn push(&mut self, part: Part<'a>) -> Result<(), AllocError>
         ensures inside { crossed self.new ≡ crossed self.old }
-        ensures ahead { MatchResult result (λ _. ahead self.new ≡ Pending.Visit part.entry ∷ ahead self.old) (λ _. ahead self.new ≡ ahead self.old) }
+        ensures ahead { PutsAhead (Pending.Visit part.entry ∷ []) self.old self.new result }
     {
         self.todo.extend_from_slice(&[Pending::Visit(part)])
     }
@@ -69,7 +69,7 @@ impl<'a> Path<'a> {
     /// Adds the two parts, which are visited next, in this order.
     fn push_both(&mut self, first: Part<'a>, second: Part<'a>) -> Result<(), AllocError>
         ensures inside { crossed self.new ≡ crossed self.old }
-        ensures ahead { MatchResult result (λ _. ahead self.new ≡ Pending.Visit first.entry ∷ Pending.Visit second.entry ∷ ahead self.old) (λ _. ahead self.new ≡ ahead self.old) }
+        ensures ahead { PutsAhead (Pending.Visit first.entry ∷ Pending.Visit second.entry ∷ []) self.old self.new result }
     {
         self.todo
             .extend_from_slice(&[Pending::Visit(second), Pending::Visit(first)])
@@ -78,7 +78,7 @@ impl<'a> Path<'a> {
     /// Adds the part, which is visited next, below one more binder.
     fn push_bound(&mut self, count: u32, part: Part<'a>) -> Result<(), AllocError>
         ensures inside { MatchResult result (λ _. crossed self.new ≡ count ∷ crossed self.old) (λ _. crossed self.new ≡ crossed self.old) }
-        ensures ahead { MatchResult result (λ _. ahead self.new ≡ Pending.Visit part.entry ∷ Pending.Leave ∷ ahead self.old) (λ _. ahead self.new ≡ ahead self.old) }
+        ensures ahead { PutsAhead (Pending.Visit part.entry ∷ Pending.Leave ∷ []) self.old self.new result }
     {
         self.counts.extend_from_slice(&[count])?;
         match self
@@ -104,7 +104,7 @@ fn see_each_ty<V: TypeVisitor>(
     requires ready { V.ready visitor.old cx.now.entries }
     requires held { TysHeld cx.now.entries tys.now }
     ensures ready { V.ready visitor.new cx.now.entries }
-    ensures visited { Visits (V.sees cx.now.entries) (counts_of binders.now) (tys_trees cx.now.entries tys.now) visitor.old visitor.new (break_value result) }
+    ensures visited { VisitsTerms V.sees cx.now.entries binders.now (tys_trees cx.now.entries tys.now) visitor.old visitor.new result }
 {
     for ty in tys {
         match see_ty(cx, visitor, *ty, binders) {
@@ -125,7 +125,7 @@ fn see_each_arg<V: TypeVisitor>(
     requires ready { V.ready visitor.old cx.now.entries }
     requires held { ArgsHeld cx.now.entries args.now }
     ensures ready { V.ready visitor.new cx.now.entries }
-    ensures visited { Visits (V.sees cx.now.entries) (counts_of binders.now) (args_trees cx.now.entries args.now) visitor.old visitor.new (break_value result) }
+    ensures visited { VisitsTerms V.sees cx.now.entries binders.now (args_trees cx.now.entries args.now) visitor.old visitor.new result }
 {
     for arg in args {
         match see_arg(cx, visitor, *arg, binders) {
@@ -146,7 +146,7 @@ fn see_part<V: TypeVisitor>(
     requires ready { V.ready visitor.old cx.now.entries }
     requires held { PartHeld cx.now.entries part }
     ensures ready { V.ready visitor.new cx.now.entries }
-    ensures visited { Visits (V.sees cx.now.entries) (counts_of binders.now) (part_trees cx.now.entries part.entry) visitor.old visitor.new (break_value result) }
+    ensures visited { VisitsTerms V.sees cx.now.entries binders.now (part_trees cx.now.entries part.entry) visitor.old visitor.new result }
 {
     match part {
         Part::Arg(arg) => see_arg(cx, visitor, arg, binders),
@@ -169,7 +169,7 @@ fn add<'a, V: TypeVisitor>(
     requires path { AllHeld cx.now.entries (ahead path.old) }
     ensures ready { V.ready visitor.new cx.now.entries }
     ensures path { AllHeld cx.now.entries (ahead path.new) }
-    ensures follows { GoesOn V.sees cx.now.entries (counts_of binders.now) (piece (crossed path.old) (part_trees cx.now.entries part.entry)) path.old visitor.old path.new visitor.new result }
+    ensures follows { GoesOn V.sees cx.now.entries binders.now (part_here part.entry) path.old visitor.old path.new visitor.new result }
 {
     match path.push(part) {
         Ok(()) => ControlFlow::Continue(()),
@@ -192,7 +192,7 @@ fn add_both<'a, V: TypeVisitor>(
     requires path { AllHeld cx.now.entries (ahead path.old) }
     ensures ready { V.ready visitor.new cx.now.entries }
     ensures path { AllHeld cx.now.entries (ahead path.new) }
-    ensures follows { GoesOn V.sees cx.now.entries (counts_of binders.now) (piece_of_both cx.now.entries path.old first.entry second.entry) path.old visitor.old path.new visitor.new result }
+    ensures follows { GoesOn V.sees cx.now.entries binders.now (both_here first.entry second.entry) path.old visitor.old path.new visitor.new result }
 {
     match path.push_both(first, second) {
         Ok(()) => ControlFlow::Continue(()),
@@ -220,7 +220,7 @@ fn add_bound<'a, V: TypeVisitor>(
     requires path { AllHeld cx.now.entries (ahead path.old) }
     ensures ready { V.ready visitor.new cx.now.entries }
     ensures path { AllHeld cx.now.entries (ahead path.new) }
-    ensures follows { GoesOn V.sees cx.now.entries (counts_of binders.now) (piece (count ∷ crossed path.old) (part_trees cx.now.entries part.entry)) path.old visitor.old path.new visitor.new result }
+    ensures follows { GoesOn V.sees cx.now.entries binders.now (bound_here count part.entry) path.old visitor.old path.new visitor.new result }
 {
     match path.push_bound(count, part) {
         Ok(()) => ControlFlow::Continue(()),
@@ -244,7 +244,7 @@ fn enter<'a, V: TypeVisitor>(
     requires path { AllHeld cx.now.entries (ahead path.old) }
     ensures ready { V.ready visitor.new cx.now.entries }
     ensures path { AllHeld cx.now.entries (ahead path.new) }
-    ensures follows { GoesOn V.sees cx.now.entries (counts_of binders.now) (piece_below (crossed path.old) (trees_at cx.now.entries ty.0)) path.old visitor.old path.new visitor.new result }
+    ensures follows { GoesOn V.sees cx.now.entries binders.now (children_here ty.0) path.old visitor.old path.new visitor.new result }
 {
     match cx.kind(ty) {
         TyKind::Adt(_, args) => add(cx, visitor, Part::Args(cx.args(args)), path, binders),
@@ -301,7 +301,7 @@ fn turn_ty<'a, V: TypeVisitor>(
     requires path { AllHeld cx.now.entries (ahead path.old) }
     ensures ready { V.ready visitor.new cx.now.entries }
     ensures path { AllHeld cx.now.entries (ahead path.new) }
-    ensures follows { GoesOn V.sees cx.now.entries (counts_of binders.now) (piece (crossed path.old) (trees_at cx.now.entries ty.0)) path.old visitor.old path.new visitor.new result }
+    ensures follows { GoesOn V.sees cx.now.entries binders.now (term_here ty.0) path.old visitor.old path.new visitor.new result }
 {
     cx.lawful();
     match visitor.visit_ty(cx, ty, &Binders::Listed(&path.counts, &*binders)) {
@@ -324,7 +324,7 @@ fn turn_bounds<'a, V: TypeVisitor>(
     requires path { AllHeld cx.now.entries (ahead path.old) }
     ensures ready { V.ready visitor.new cx.now.entries }
     ensures path { AllHeld cx.now.entries (ahead path.new) }
-    ensures follows { GoesOn V.sees cx.now.entries (counts_of binders.now) (piece (crossed path.old) (trees_at cx.now.entries bounds.0)) path.old visitor.old path.new visitor.new result }
+    ensures follows { GoesOn V.sees cx.now.entries binders.now (term_here bounds.0) path.old visitor.old path.new visitor.new result }
 {
     match cx.bounds(bounds).principal {
         Some(principal) => {
@@ -348,7 +348,7 @@ fn turn_tys<'a, V: TypeVisitor>(
     requires path { AllHeld cx.now.entries (ahead path.old) }
     ensures ready { V.ready visitor.new cx.now.entries }
     ensures path { AllHeld cx.now.entries (ahead path.new) }
-    ensures follows { GoesOn V.sees cx.now.entries (counts_of binders.now) (piece (crossed path.old) (tys_trees cx.now.entries tys.now)) path.old visitor.old path.new visitor.new result }
+    ensures follows { GoesOn V.sees cx.now.entries binders.now (part_here (Part.Tys tys.entry)) path.old visitor.old path.new visitor.new result }
 {
     match tys {
         [] => ControlFlow::Continue(()),
@@ -372,7 +372,7 @@ fn turn_args<'a, V: TypeVisitor>(
     requires path { AllHeld cx.now.entries (ahead path.old) }
     ensures ready { V.ready visitor.new cx.now.entries }
     ensures path { AllHeld cx.now.entries (ahead path.new) }
-    ensures follows { GoesOn V.sees cx.now.entries (counts_of binders.now) (piece (crossed path.old) (args_trees cx.now.entries args.now)) path.old visitor.old path.new visitor.new result }
+    ensures follows { GoesOn V.sees cx.now.entries binders.now (part_here (Part.Args args.entry)) path.old visitor.old path.new visitor.new result }
 {
     match args {
         [] => ControlFlow::Continue(()),
@@ -402,7 +402,7 @@ fn turn<'a, V: TypeVisitor>(
     requires path { AllHeld cx.now.entries (ahead path.old) }
     ensures ready { V.ready visitor.new cx.now.entries }
     ensures path { AllHeld cx.now.entries (ahead path.new) }
-    ensures follows { GoesOn V.sees cx.now.entries (counts_of binders.now) (piece (crossed path.old) (part_trees cx.now.entries part.entry)) path.old visitor.old path.new visitor.new result }
+    ensures follows { GoesOn V.sees cx.now.entries binders.now (part_here part.entry) path.old visitor.old path.new visitor.new result }
 {
     match part {
         Part::Arg(GenericArgKind::Ty(ty)) => turn_ty(cx, visitor, ty, path, binders),
@@ -423,7 +423,7 @@ fn run<'a, V: TypeVisitor>(
     requires ready { V.ready visitor.old cx.now.entries }
     requires path { AllHeld cx.now.entries (ahead path) }
     ensures ready { V.ready visitor.new cx.now.entries }
-    ensures visited { VisitsEach (V.sees cx.now.entries) (counts_of binders.now) (path_pieces cx.now.entries path.entry) visitor.old visitor.new (break_value result) }
+    ensures visited { VisitsPieces V.sees cx.now.entries binders.now (path_pieces cx.now.entries path.entry) visitor.old visitor.new result }
 {
     for _ in 0..u64::MAX {
         match path.todo.pop() {
@@ -450,7 +450,7 @@ fn see_rest<V: TypeVisitor>(
     requires ready { V.ready visitor.old cx.now.entries }
     requires path { AllHeld cx.now.entries (ahead path) }
     ensures ready { V.ready visitor.new cx.now.entries }
-    ensures visited { VisitsEach (V.sees cx.now.entries) (counts_of binders.now) (path_pieces cx.now.entries path.entry) visitor.old visitor.new (break_value result) }
+    ensures visited { VisitsPieces V.sees cx.now.entries binders.now (path_pieces cx.now.entries path.entry) visitor.old visitor.new result }
 {
     while let Some(next) = path.todo.pop() {
         match next {
@@ -479,7 +479,7 @@ pub(crate) fn visit_part<V: TypeVisitor>(
     requires ready { V.ready visitor.old cx.now.entries }
     requires held { PartHeld cx.now.entries part }
     ensures ready { V.ready visitor.new cx.now.entries }
-    ensures visited { Visits (V.sees cx.now.entries) (counts_of binders.now) (part_trees cx.now.entries part.entry) visitor.old visitor.new (break_value result) }
+    ensures visited { VisitsTerms V.sees cx.now.entries binders.now (part_trees cx.now.entries part.entry) visitor.old visitor.new result }
 {
     if depth <= SHALLOW {
         return see_part(cx, visitor, part, binders);

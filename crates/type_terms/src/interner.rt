@@ -19,7 +19,7 @@
 ghost use Rattle.std.specs.Prelude.{◌≡◌, ℕ, ◌+◌, ◌*◌, ◌≤◌, ◌<◌, ◌^◌, length, OnOk, OnErr, IfOk, Some, [], Err};
 ghost use Rattle.std.specs.List.{slice_get};
 ghost use Rattle.type_terms.specs.Trees.{flags, outer_binder, depth};
-ghost use Rattle.type_terms.specs.Growth.{Grew};
+ghost use Rattle.type_terms.specs.Growth.{Grew, RefusedIfFull};
 ghost use Rattle.type_terms.specs.Promised.Handles.{term, held, Is, Has, trees_at, types, consts, bounds_lists};
 ghost use Rattle.type_terms.specs.Terms.{AddsAtMost, Absent, Lawful, type_lists, args_lists};
 ghost use Rattle.type_terms.specs.Promised.Handles.{region_trees, arg_trees, RegionHeld, ArgHeld, ArgsHeld};
@@ -175,7 +175,7 @@ impl Interner {
         ensures full { result ≡ Err Fault.Full → held (kind_of node) self.old.entries ≡ self.old.limit }
         ensures memory { result ≡ Err Fault.Memory → self.old.room ≡ 0 }
         ensures absent { OnErr result (Absent (node_entry self.old.entries node) self.old.entries) }
-        ensures refuses { held (kind_of node) self.old.entries ≡ self.old.limit → Absent (node_entry self.old.entries node) self.old.entries → result ≡ Err Fault.Full }
+        ensures refuses { RefusedIfFull self.old (node_entry self.old.entries node) result }
     {
         if let Some(index) = self.nodes.get_index_of(&node) {
             return Ok(index as u32);
@@ -208,7 +208,7 @@ impl Interner {
         ensures full { result ≡ Err Fault.Full → held types self.old.entries ≡ self.old.limit }
         ensures memory { result ≡ Err Fault.Memory → self.old.room ≡ 0 }
         ensures absent { OnErr result (Absent (term types (kind_trees self.old.entries kind)) self.old.entries) }
-        ensures refuses { held types self.old.entries ≡ self.old.limit → Absent (term types (kind_trees self.old.entries kind)) self.old.entries → result ≡ Err Fault.Full }
+        ensures refuses { RefusedIfFull self.old (term types (kind_trees self.old.entries kind)) result }
     {
         let info = self.kind_info(kind);
         match self.intern(Node::Ty(kind), info) {
@@ -227,7 +227,7 @@ impl Interner {
         ensures full { result ≡ Err Fault.Full → held consts self.old.entries ≡ self.old.limit }
         ensures memory { result ≡ Err Fault.Memory → self.old.room ≡ 0 }
         ensures absent { OnErr result (Absent (term consts (const_trees kind)) self.old.entries) }
-        ensures refuses { held consts self.old.entries ≡ self.old.limit → Absent (term consts (const_trees kind)) self.old.entries → result ≡ Err Fault.Full }
+        ensures refuses { RefusedIfFull self.old (term consts (const_trees kind)) result }
     {
         let info = const_info(kind);
         match self.intern(Node::Const(kind), info) {
@@ -246,7 +246,7 @@ impl Interner {
         ensures full { result ≡ Err Fault.Full → held args_lists self.old.entries ≡ self.old.limit }
         ensures memory { result ≡ Err Fault.Memory → self.old.room ≡ 0 }
         ensures absent { OnErr result (Absent (term args_lists (args_trees self.old.entries list.items)) self.old.entries) }
-        ensures refuses { held args_lists self.old.entries ≡ self.old.limit → Absent (term args_lists (args_trees self.old.entries list.items)) self.old.entries → result ≡ Err Fault.Full }
+        ensures refuses { RefusedIfFull self.old (term args_lists (args_trees self.old.entries list.items)) result }
     {
         let info = self.args_info(&list);
         match self.intern(Node::Args(list), info) {
@@ -265,7 +265,7 @@ impl Interner {
         ensures full { result ≡ Err Fault.Full → held type_lists self.old.entries ≡ self.old.limit }
         ensures memory { result ≡ Err Fault.Memory → self.old.room ≡ 0 }
         ensures absent { OnErr result (Absent (term type_lists (tys_trees self.old.entries list.items)) self.old.entries) }
-        ensures refuses { held type_lists self.old.entries ≡ self.old.limit → Absent (term type_lists (tys_trees self.old.entries list.items)) self.old.entries → result ≡ Err Fault.Full }
+        ensures refuses { RefusedIfFull self.old (term type_lists (tys_trees self.old.entries list.items)) result }
     {
         let info = self.tys_info(&list);
         match self.intern(Node::Tys(list), info) {
@@ -284,7 +284,7 @@ impl Interner {
         ensures full { result ≡ Err Fault.Full → held bounds_lists self.old.entries ≡ self.old.limit }
         ensures memory { result ≡ Err Fault.Memory → self.old.room ≡ 0 }
         ensures absent { OnErr result (Absent (term bounds_lists (bounds_trees self.old.entries bounds)) self.old.entries) }
-        ensures refuses { held bounds_lists self.old.entries ≡ self.old.limit → Absent (term bounds_lists (bounds_trees self.old.entries bounds)) self.old.entries → result ≡ Err Fault.Full }
+        ensures refuses { RefusedIfFull self.old (term bounds_lists (bounds_trees self.old.entries bounds)) result }
     {
         let info = self.bounds_info(&bounds);
         match self.intern(Node::Bounds(bounds), info) {

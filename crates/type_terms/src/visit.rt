@@ -6,7 +6,7 @@ ghost use Rattle.type_terms.specs.Promised.Handles.{Entry, Has, types, consts, b
 ghost use Rattle.type_terms.specs.Terms.{args_lists, type_lists};
 ghost use Rattle.type_terms.specs.Promised.Handles.{region_trees, RegionHeld, ArgHeld, arg_trees};
 ghost use Rattle.type_terms.specs.Binders.{counts_of};
-ghost use Rattle.type_terms.specs.Visits.{IsBound, Visits, VisitsBelow};
+ghost use Rattle.type_terms.specs.Visits.{IsBound, VisitsBelow, VisitsTerms};
 
 use crate::binders::Binders;
 use crate::deep_visit::{Part, visit_below, visit_part};
@@ -86,7 +86,7 @@ pub fn visit_region<V: TypeVisitor>(
     requires ready { V.ready visitor.old cx.now.entries }
     requires held { RegionHeld region.kind }
     ensures ready { V.ready visitor.new cx.now.entries }
-    ensures visited { Visits (V.sees cx.now.entries) (counts_of binders.now) (region_trees region) visitor.old visitor.new (break_value result) }
+    ensures visited { VisitsTerms V.sees cx.now.entries binders.now (region_trees region) visitor.old visitor.new result }
 {
     match visitor.visit_region(cx, region, binders) {
         Seen::Break(value) => ControlFlow::Break(value),
@@ -105,7 +105,7 @@ pub(crate) fn visit_const<V: TypeVisitor>(
     requires ready { V.ready visitor.old cx.now.entries }
     requires held { Has cx.now.entries consts ct.0 }
     ensures ready { V.ready visitor.new cx.now.entries }
-    ensures visited { Visits (V.sees cx.now.entries) (counts_of binders.now) (trees_at cx.now.entries ct.0) visitor.old visitor.new (break_value result) }
+    ensures visited { VisitsTerms V.sees cx.now.entries binders.now (trees_at cx.now.entries ct.0) visitor.old visitor.new result }
 {
     let kind = cx.const_kind(ct);
     let _ = kind;
@@ -127,7 +127,7 @@ pub fn visit_ty<V: TypeVisitor>(
     requires ready { V.ready visitor.old cx.now.entries }
     requires held { Has cx.now.entries types ty.0 }
     ensures ready { V.ready visitor.new cx.now.entries }
-    ensures visited { Visits (V.sees cx.now.entries) (counts_of binders.now) (trees_at cx.now.entries ty.0) visitor.old visitor.new (break_value result) }
+    ensures visited { VisitsTerms V.sees cx.now.entries binders.now (trees_at cx.now.entries ty.0) visitor.old visitor.new result }
 {
     visit_part(
         cx,
@@ -163,7 +163,7 @@ pub(crate) fn visit_tys<V: TypeVisitor>(
     requires ready { V.ready visitor.old cx.now.entries }
     requires held { Has cx.now.entries type_lists tys.0 }
     ensures ready { V.ready visitor.new cx.now.entries }
-    ensures visited { Visits (V.sees cx.now.entries) (counts_of binders.now) (trees_at cx.now.entries tys.0) visitor.old visitor.new (break_value result) }
+    ensures visited { VisitsTerms V.sees cx.now.entries binders.now (trees_at cx.now.entries tys.0) visitor.old visitor.new result }
 {
     visit_part(cx, visitor, Part::Tys(cx.tys(tys)), cx.depth(tys), binders)
 }
@@ -178,7 +178,7 @@ pub fn visit_args<V: TypeVisitor>(
     requires ready { V.ready visitor.old cx.now.entries }
     requires held { Has cx.now.entries args_lists args.0 }
     ensures ready { V.ready visitor.new cx.now.entries }
-    ensures visited { Visits (V.sees cx.now.entries) (counts_of binders.now) (trees_at cx.now.entries args.0) visitor.old visitor.new (break_value result) }
+    ensures visited { VisitsTerms V.sees cx.now.entries binders.now (trees_at cx.now.entries args.0) visitor.old visitor.new result }
 {
     visit_part(
         cx,
@@ -199,7 +199,7 @@ pub(crate) fn visit_arg<V: TypeVisitor>(
     requires ready { V.ready visitor.old cx.now.entries }
     requires held { ArgHeld cx.now.entries arg }
     ensures ready { V.ready visitor.new cx.now.entries }
-    ensures visited { Visits (V.sees cx.now.entries) (counts_of binders.now) (arg_trees cx.now.entries arg) visitor.old visitor.new (break_value result) }
+    ensures visited { VisitsTerms V.sees cx.now.entries binders.now (arg_trees cx.now.entries arg) visitor.old visitor.new result }
 {
     match arg {
         GenericArgKind::Lifetime(region) => visit_region(cx, visitor, region, binders),
@@ -218,7 +218,7 @@ pub(crate) fn visit_bounds<V: TypeVisitor>(
     requires ready { V.ready visitor.old cx.now.entries }
     requires held { Has cx.now.entries bounds_lists bounds.0 }
     ensures ready { V.ready visitor.new cx.now.entries }
-    ensures visited { Visits (V.sees cx.now.entries) (counts_of binders.now) (trees_at cx.now.entries bounds.0) visitor.old visitor.new (break_value result) }
+    ensures visited { VisitsTerms V.sees cx.now.entries binders.now (trees_at cx.now.entries bounds.0) visitor.old visitor.new result }
 {
     visit_part(cx, visitor, Part::Bounds(bounds), cx.depth(bounds), binders)
 }

@@ -4,7 +4,7 @@ ghost use Rattle.type_terms.specs.Promised.Handles.{Has, types, bounds_lists, tr
 ghost use Rattle.type_terms.specs.Terms.{args_lists, type_lists};
 ghost use Rattle.type_terms.specs.Promised.Handles.{ArgHeld, arg_trees};
 ghost use Rattle.type_terms.specs.Binders.{counts_of};
-ghost use Rattle.type_terms.specs.Visits.{Visits, VisitsBelow};
+ghost use Rattle.type_terms.specs.Visits.{VisitsBelow, VisitsTerms};
 
 use crate::binders::Binders;
 use crate::interner::Interner;
@@ -23,7 +23,7 @@ pub(crate) fn see_ty<V: TypeVisitor>(
     requires ready { V.ready visitor.old cx.now.entries }
     requires held { Has cx.now.entries types ty.0 }
     ensures ready { V.ready visitor.new cx.now.entries }
-    ensures visited { Visits (V.sees cx.now.entries) (counts_of binders.now) (trees_at cx.now.entries ty.0) visitor.old visitor.new (break_value result) }
+    ensures visited { VisitsTerms V.sees cx.now.entries binders.now (trees_at cx.now.entries ty.0) visitor.old visitor.new result }
 {
     cx.lawful();
     match visitor.visit_ty(cx, ty, binders) {
@@ -82,7 +82,7 @@ pub(crate) fn see_tys<V: TypeVisitor>(
     requires ready { V.ready visitor.old cx.now.entries }
     requires held { Has cx.now.entries type_lists tys.0 }
     ensures ready { V.ready visitor.new cx.now.entries }
-    ensures visited { Visits (V.sees cx.now.entries) (counts_of binders.now) (trees_at cx.now.entries tys.0) visitor.old visitor.new (break_value result) }
+    ensures visited { VisitsTerms V.sees cx.now.entries binders.now (trees_at cx.now.entries tys.0) visitor.old visitor.new result }
 {
     for ty in cx.tys(tys) {
         match see_ty(cx, visitor, *ty, binders) {
@@ -104,7 +104,7 @@ pub(crate) fn see_args<V: TypeVisitor>(
     requires ready { V.ready visitor.old cx.now.entries }
     requires held { Has cx.now.entries args_lists args.0 }
     ensures ready { V.ready visitor.new cx.now.entries }
-    ensures visited { Visits (V.sees cx.now.entries) (counts_of binders.now) (trees_at cx.now.entries args.0) visitor.old visitor.new (break_value result) }
+    ensures visited { VisitsTerms V.sees cx.now.entries binders.now (trees_at cx.now.entries args.0) visitor.old visitor.new result }
 {
     for arg in cx.args(args) {
         match see_arg(cx, visitor, *arg, binders) {
@@ -126,7 +126,7 @@ pub(crate) fn see_arg<V: TypeVisitor>(
     requires ready { V.ready visitor.old cx.now.entries }
     requires held { ArgHeld cx.now.entries arg }
     ensures ready { V.ready visitor.new cx.now.entries }
-    ensures visited { Visits (V.sees cx.now.entries) (counts_of binders.now) (arg_trees cx.now.entries arg) visitor.old visitor.new (break_value result) }
+    ensures visited { VisitsTerms V.sees cx.now.entries binders.now (arg_trees cx.now.entries arg) visitor.old visitor.new result }
 {
     match arg {
         GenericArgKind::Lifetime(region) => visit_region(cx, visitor, region, binders),
@@ -146,7 +146,7 @@ pub(crate) fn see_bounds<V: TypeVisitor>(
     requires ready { V.ready visitor.old cx.now.entries }
     requires held { Has cx.now.entries bounds_lists bounds.0 }
     ensures ready { V.ready visitor.new cx.now.entries }
-    ensures visited { Visits (V.sees cx.now.entries) (counts_of binders.now) (trees_at cx.now.entries bounds.0) visitor.old visitor.new (break_value result) }
+    ensures visited { VisitsTerms V.sees cx.now.entries binders.now (trees_at cx.now.entries bounds.0) visitor.old visitor.new result }
 {
     match cx.bounds(bounds).principal {
         Some(principal) => {

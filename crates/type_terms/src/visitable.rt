@@ -2,9 +2,8 @@
 ghost use Rattle.std.specs.Prelude.{◌≡◌, ℕ, List, []};
 ghost use Rattle.std.specs.ControlFlow.{break_value};
 ghost use Rattle.type_terms.specs.Promised.Handles.{Entry, Keeps};
-ghost use Rattle.type_terms.specs.Binders.{counts_of};
 ghost use Rattle.type_terms.specs.Pieces.{Piece};
-ghost use Rattle.type_terms.specs.Visits.{VisitsEach};
+ghost use Rattle.type_terms.specs.Visits.{VisitsEach, VisitsPieces};
 
 use crate::binders::Binders;
 use crate::interner::Interner;
@@ -37,7 +36,7 @@ pub trait TypeVisitable: Copy {
         requires ready { V.ready visitor.old cx.now.entries }
         requires held { held self cx.now.entries }
         ensures ready { V.ready visitor.new cx.now.entries }
-        ensures visited { VisitsEach (V.sees cx.now.entries) (counts_of binders.now) (pieces self cx.now.entries) visitor.old visitor.new (break_value result) };
+        ensures visited { VisitsPieces V.sees cx.now.entries binders.now (pieces self cx.now.entries) visitor.old visitor.new result };
 
     /// Visits the value: each node in order, the children of those that the visitor enters, and nothing after a break.
     final fn visit_with<V: TypeVisitor>(
