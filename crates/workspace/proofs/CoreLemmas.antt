@@ -12,6 +12,7 @@ use Rattle.text_language.specs.Declarations.{nothing_declared, bare_impl, copied
 use Rattle.workspace.specs.declared.cell.TermCell.{TermCell}
 use Rattle.workspace.specs.declared.cell.TermCell.TheVariants as cells
 use Rattle.type_terms.specs.declared.kinds.IntTy.TheVariants as ints
+use Rattle.type_terms.specs.declared.kinds.Mutability.TheVariants.{Not, Mut}
 use Rattle.type_terms.specs.declared.kinds.UintTy.TheVariants as uints
 use Rattle.workspace.specs.Tables.{with_impl}
 use Rattle.workspace.specs.Parts.{new_impl}
@@ -72,7 +73,7 @@ scalar-added d e t xs c home before =
 
 -- what stands behind the impls for scalars
 pub copied-built : (d d1 d2 d3 d4 d5 : Declarations) (t : ℕ) → last_crate d ≡ core → d1 ≡ record d { impls = d.impls ++ map bare_impl (impls_for (length d.impls) t scalars) }
-    → d2 ≡ with_impl d1 (ref_impl d1 t) → d3 ≡ with_impl d2 (pointer_impl d2 t false) → d4 ≡ with_impl d3 (pointer_impl d3 t true) → d5 ≡ with_impl d4 (array_impl d4 t)
+    → d2 ≡ with_impl d1 (ref_impl d1 t) → d3 ≡ with_impl d2 (pointer_impl d2 t Not) → d4 ≡ with_impl d3 (pointer_impl d3 t Mut) → d5 ≡ with_impl d4 (array_impl d4 t)
     → d5 ≡ record d { impls = d.impls ++ copied (length d.impls) t }
 copied-built d d1 d2 d3 d4 d5 t home e1 e2 e3 e4 e5 =
     let s2 = e2 ∙ put-behind d d1 _ 15 _ _ _ home refl e1 in
@@ -127,11 +128,11 @@ room-1 d d1 t i e1 = room-behind d d1 (map bare_impl (impls_for (length d.impls)
 pub room-2 : (d d1 d2 : Declarations) (t : ℕ) → IsInCore d → Scalars d d1 t → d2 ≡ with_impl d1 (ref_impl d1 t) → HasRoom d2
 room-2 d d1 d2 t i e1 e2 = room-behind d d2 _ 16 i refl (omega arith) (e2 ∙ put-behind d d1 _ 15 _ _ _ i.home refl e1)
 
-pub room-3 : (d d1 d2 d3 : Declarations) (t : ℕ) → IsInCore d → Scalars d d1 t → d2 ≡ with_impl d1 (ref_impl d1 t) → d3 ≡ with_impl d2 (pointer_impl d2 t false) → HasRoom d3
+pub room-3 : (d d1 d2 d3 : Declarations) (t : ℕ) → IsInCore d → Scalars d d1 t → d2 ≡ with_impl d1 (ref_impl d1 t) → d3 ≡ with_impl d2 (pointer_impl d2 t Not) → HasRoom d3
 room-3 d d1 d2 d3 t i e1 e2 e3 = room-behind d d3 _ 17 i refl (omega arith) (e3 ∙ put-behind d d2 _ 16 _ _ _ i.home refl (e2 ∙ put-behind d d1 _ 15 _ _ _ i.home refl e1))
 
-pub room-4 : (d d1 d2 d3 d4 : Declarations) (t : ℕ) → IsInCore d → Scalars d d1 t → d2 ≡ with_impl d1 (ref_impl d1 t) → d3 ≡ with_impl d2 (pointer_impl d2 t false)
-    → d4 ≡ with_impl d3 (pointer_impl d3 t true) → HasRoom d4
+pub room-4 : (d d1 d2 d3 d4 : Declarations) (t : ℕ) → IsInCore d → Scalars d d1 t → d2 ≡ with_impl d1 (ref_impl d1 t) → d3 ≡ with_impl d2 (pointer_impl d2 t Not)
+    → d4 ≡ with_impl d3 (pointer_impl d3 t Mut) → HasRoom d4
 room-4 d d1 d2 d3 d4 t i e1 e2 e3 e4 =
     room-behind d d4 _ 18 i refl (omega arith)
     (e4 ∙ put-behind d d3 _ 17 _ _ _ i.home refl (e3 ∙ put-behind d d2 _ 16 _ _ _ i.home refl (e2 ∙ put-behind d d1 _ 15 _ _ _ i.home refl e1)))

@@ -5,12 +5,14 @@ use Rattle.type_terms.specs.Promised.Trees.{Trees, none, tree, leaf}
 use Rattle.type_terms.specs.Promised.Worlds.{Reference, core}
 use Rattle.type_terms.specs.Promised.Core.{type_param, box, box_impl, impls_for, scalars}
 use Rattle.type_terms.specs.Promised.Rules.{asked, clone}
-use Rattle.text_language.specs.Promised.Declarations.{Declarations, NamedTrait, NamedImpl, last_crate}
+use Rattle.text_language.specs.Promised.Declarations.{Declarations, NamedImpl, last_crate}
 use Rattle.text_language.specs.Declarations.{bare_impl, nothing_declared, copied, lifetime_a, type_T, const_N}
+use Rattle.type_terms.specs.Kinds.{is_mut}
 use Rattle.type_terms.specs.declared.TraitId.{TraitId}
+use Rattle.type_terms.specs.declared.kinds.Mutability.{Mutability}
 use Rattle.workspace.specs.declared.cell.TermCell.{TermCell}
 use Rattle.workspace.specs.TermCells.{trees_of, joined}
-use Rattle.workspace.specs.Tables.{core_alone}
+use Rattle.workspace.specs.Tables.{core_alone, with_trait}
 use Rattle.workspace.specs.Parts.{new_trait, new_impl}
 use Rattle.workspace.specs.Views.{cell_of}
 
@@ -46,17 +48,17 @@ abbrev pub core_bounds : Bool → Option TraitId → List Reference
 core_bounds takes_type None = []
 core_bounds takes_type (Some t) = record { trait = t.index; args = core_args takes_type } ∷ []
 
--- a trait of `core`
-abbrev pub core_trait_entry : Declarations → List ℕ → Bool → Bool → Option TraitId → NamedTrait
-core_trait_entry d n is_fundamental takes_type bound = new_trait d n is_fundamental false (core_kinds takes_type) (core_bounds takes_type bound)
+-- with a further trait of `core`
+abbrev pub with_core_trait : Declarations → List ℕ → Bool → Bool → Option TraitId → Declarations
+with_core_trait d n is_fundamental takes_type bound = with_trait d (new_trait d n is_fundamental false (core_kinds takes_type) (core_bounds takes_type bound))
 
 -- more impls after the others
 abbrev pub with_core_impls : Declarations → List NamedImpl → Declarations
 with_core_impls d is = record d { impls = d.impls ++ is }
 
--- the impls of a trait for scalars, numbered from n on
-abbrev pub scalar_impls : ℕ → ℕ → List NamedImpl
-scalar_impls n t = map bare_impl (impls_for n t scalars)
+-- with the impls of a trait for scalars
+abbrev pub with_scalar_impls : Declarations → ℕ → Declarations
+with_scalar_impls d t = with_core_impls d (map bare_impl (impls_for (length d.impls) t scalars))
 
 -- `core` with its struct.
 abbrev pub core_structs : Declarations
@@ -81,8 +83,8 @@ impl_for d t c = new_impl d [] (asked t (joined (trees_of (cell_of c ∷ [])))) 
 abbrev pub ref_impl : Declarations → ℕ → NamedImpl
 ref_impl d t = new_impl d (lifetime_a ∷ type_T ∷ []) (asked t (tree (ref false) (tree (param of_lifetime 0) none (type_param 1)) none)) []
 
-abbrev pub pointer_impl : Declarations → ℕ → Bool → NamedImpl
-pointer_impl d t m = new_impl d (type_T ∷ []) (asked t (tree (raw_pointer m) (type_param 0) none)) []
+abbrev pub pointer_impl : Declarations → ℕ → Mutability → NamedImpl
+pointer_impl d t m = new_impl d (type_T ∷ []) (asked t (tree (raw_pointer (is_mut m)) (type_param 0) none)) []
 
 abbrev pub array_impl : Declarations → ℕ → NamedImpl
 array_impl d t = new_impl d (type_T ∷ const_N ∷ []) (asked t (tree array (tree (param of_type 0) none (leaf (param of_const 1))) none)) (asked t (type_param 0) ∷ [])

@@ -1,6 +1,9 @@
 -- How a cell is lowered: the terms on the stack that are its parts are taken off, and its term is made of them.
-use Rattle.std.specs.Prelude.{◌≡◌, List, ◌∷◌, map, Some, IsSome}
+use Rattle.std.specs.Prelude.{◌≡◌, List, ◌∷◌, map, Some, IsSome, IfOk}
+use Rattle.std.specs.declared.result.Result.{Result}
 use Rattle.type_terms.specs.Promised.Handles.{Entry, Keeps}
+use Rattle.type_terms.specs.Terms.{Terms}
+use Rattle.type_terms.specs.declared.Fault.{Fault}
 use Rattle.type_terms.specs.declared.kinds.TyKind.{TyKind}
 use Rattle.type_terms.specs.declared.kinds.TyKind.TheVariants as kinds
 use Rattle.workspace.specs.declared.cell.TermCell.{TermCell}
@@ -24,6 +27,10 @@ pub record Lowers (cell : TermCell) (old new : List Entry) (S : List Lowered) (x
   pub term_held : LoweredHeld new x
   pub stack_held : StackHeld new R
   pub keeps : Keeps old new
+
+-- A call made the term from the first list, whose last is on top, and left the second, or it failed.
+abbrev pub LowersOrFails : TermCell → Terms → Terms → List Lowered → List Lowered → Result Lowered Fault → Type 0
+LowersOrFails cell old new S R result = IfOk result (λ x. Lowers cell old.entries new.entries (stack_of S) x (stack_of R))
 
 -- the kind of a type of one cell
 abbrev pub IsLeafOf : TermCell → TyKind → Type 0

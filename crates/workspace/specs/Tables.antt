@@ -1,5 +1,5 @@
 -- The tables of a text: what they declare, and when they agree with one another.
-use Rattle.std.specs.Prelude.{◌≡◌, ℕ, suc, Bool, false, ◌||◌, List, [], ◌∷◌, ◌++◌, map, take, count_by, Option, Some, None, slice_get, unwrap_or, find, codes, ◌==◌}
+use Rattle.std.specs.Prelude.{◌≡◌, ℕ, suc, Bool, false, ◌||◌, List, [], ◌∷◌, ◌++◌, length, map, take, count_by, Option, Some, None, slice_get, unwrap_or, find, codes, ◌==◌}
 use Rattle.std.specs.List.{list_any}
 use Rattle.std.specs.List.Sorted.{IsNonDecreasingBy}
 use Rattle.std.specs.Option.{option_map, option_or}
@@ -57,6 +57,10 @@ core_alone = record { crates = record { text = codes "core"; item = record { nam
 -- a crate's number, its name, and the crates that it uses
 abbrev pub new_crate : ℕ → List ℕ → List CrateId → NamedCrate
 new_crate c n us = record { text = n; item = record { name = c; uses = numbers_of us } }
+
+-- what the tables declare, with a crate of this name that uses these
+abbrev pub with_new_crate : Tables → List ℕ → List CrateId → Declarations
+with_new_crate t n us = with_crate (declared t) (new_crate (length t.crates.items) n us)
 
 -- ---- the item of a name, by its number
 pub data NamedItem : Type 0 where

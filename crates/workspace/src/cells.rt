@@ -1,8 +1,7 @@
 //! Cells are made into terms, one after another.
 ghost use Rattle.type_terms.specs.Growth.{GrewOrFull};
-ghost use Rattle.std.specs.Prelude.{◌≡◌, ◌+◌, ◌≤◌, length, IfOk};
-ghost use Rattle.workspace.specs.Stack.{stack_of};
-ghost use Rattle.workspace.specs.Lowers.{CellIsReady, Lowers, IsLeafOf};
+ghost use Rattle.std.specs.Prelude.{◌≡◌, ◌+◌, ◌≤◌, length};
+ghost use Rattle.workspace.specs.Lowers.{CellIsReady, LowersOrFails, IsLeafOf};
 
 use crate::cell::TermCell;
 use crate::stack::{
@@ -22,7 +21,7 @@ fn lower_leaf(
 ) -> Result<Lowered, Fault>
     requires leaf { IsLeafOf cell kind }
     requires ready { CellIsReady cell cx.old.entries stack.now.items }
-    ensures lowers { IfOk result (λ x. Lowers cell cx.old.entries cx.new.entries (stack_of stack.now.items) x (stack_of stack.now.items)) }
+    ensures lowers { LowersOrFails cell cx.old cx.new stack.now.items stack.now.items result }
     ensures terms { GrewOrFull cx.old cx.new result }
     ensures few { length cx.new.entries ≤ length cx.old.entries + 2 }
 {
@@ -34,7 +33,7 @@ fn lower_leaf(
 
 fn lower_const(cx: &mut Interner, stack: &Vec<Lowered>, kind: ConstKind) -> Result<Lowered, Fault>
     requires { CellIsReady (TermCell.Const kind) cx.old.entries stack.now.items }
-    ensures lowers { IfOk result (λ x. Lowers (TermCell.Const kind) cx.old.entries cx.new.entries (stack_of stack.now.items) x (stack_of stack.now.items)) }
+    ensures lowers { LowersOrFails (TermCell.Const kind) cx.old cx.new stack.now.items stack.now.items result }
     ensures terms { GrewOrFull cx.old cx.new result }
     ensures few { length cx.new.entries ≤ length cx.old.entries + 2 }
 {
@@ -51,7 +50,7 @@ fn lower_adt(
     args: u32,
 ) -> Result<Lowered, Fault>
     requires { CellIsReady (TermCell.Adt id args) cx.old.entries stack.old.items }
-    ensures lowers { IfOk result (λ x. Lowers (TermCell.Adt id args) cx.old.entries cx.new.entries (stack_of stack.old.items) x (stack_of stack.new.items)) }
+    ensures lowers { LowersOrFails (TermCell.Adt id args) cx.old cx.new stack.old.items stack.new.items result }
     ensures terms { GrewOrFull cx.old cx.new result }
     ensures few { length cx.new.entries ≤ length cx.old.entries + 2 }
 {
@@ -68,7 +67,7 @@ fn lower_ref(
     mutability: Mutability,
 ) -> Result<Lowered, Fault>
     requires { CellIsReady (TermCell.Ref region mutability) cx.old.entries stack.old.items }
-    ensures lowers { IfOk result (λ x. Lowers (TermCell.Ref region mutability) cx.old.entries cx.new.entries (stack_of stack.old.items) x (stack_of stack.new.items)) }
+    ensures lowers { LowersOrFails (TermCell.Ref region mutability) cx.old cx.new stack.old.items stack.new.items result }
     ensures terms { GrewOrFull cx.old cx.new result }
     ensures few { length cx.new.entries ≤ length cx.old.entries + 2 }
 {
@@ -83,7 +82,7 @@ fn lower_raw_ptr(
     mutability: Mutability,
 ) -> Result<Lowered, Fault>
     requires { CellIsReady (TermCell.RawPtr mutability) cx.old.entries stack.old.items }
-    ensures lowers { IfOk result (λ x. Lowers (TermCell.RawPtr mutability) cx.old.entries cx.new.entries (stack_of stack.old.items) x (stack_of stack.new.items)) }
+    ensures lowers { LowersOrFails (TermCell.RawPtr mutability) cx.old cx.new stack.old.items stack.new.items result }
     ensures terms { GrewOrFull cx.old cx.new result }
     ensures few { length cx.new.entries ≤ length cx.old.entries + 2 }
 {
@@ -94,7 +93,7 @@ fn lower_raw_ptr(
 
 fn lower_slice(cx: &mut Interner, stack: &mut Vec<Lowered>) -> Result<Lowered, Fault>
     requires { CellIsReady TermCell.Slice cx.old.entries stack.old.items }
-    ensures lowers { IfOk result (λ x. Lowers TermCell.Slice cx.old.entries cx.new.entries (stack_of stack.old.items) x (stack_of stack.new.items)) }
+    ensures lowers { LowersOrFails TermCell.Slice cx.old cx.new stack.old.items stack.new.items result }
     ensures terms { GrewOrFull cx.old cx.new result }
     ensures few { length cx.new.entries ≤ length cx.old.entries + 2 }
 {
@@ -105,7 +104,7 @@ fn lower_slice(cx: &mut Interner, stack: &mut Vec<Lowered>) -> Result<Lowered, F
 
 fn lower_array(cx: &mut Interner, stack: &mut Vec<Lowered>) -> Result<Lowered, Fault>
     requires { CellIsReady TermCell.Array cx.old.entries stack.old.items }
-    ensures lowers { IfOk result (λ x. Lowers TermCell.Array cx.old.entries cx.new.entries (stack_of stack.old.items) x (stack_of stack.new.items)) }
+    ensures lowers { LowersOrFails TermCell.Array cx.old cx.new stack.old.items stack.new.items result }
     ensures terms { GrewOrFull cx.old cx.new result }
     ensures few { length cx.new.entries ≤ length cx.old.entries + 2 }
 {
@@ -122,7 +121,7 @@ fn lower_tuple(
     items: u32,
 ) -> Result<Lowered, Fault>
     requires { CellIsReady (TermCell.Tuple items) cx.old.entries stack.old.items }
-    ensures lowers { IfOk result (λ x. Lowers (TermCell.Tuple items) cx.old.entries cx.new.entries (stack_of stack.old.items) x (stack_of stack.new.items)) }
+    ensures lowers { LowersOrFails (TermCell.Tuple items) cx.old cx.new stack.old.items stack.new.items result }
     ensures terms { GrewOrFull cx.old cx.new result }
     ensures few { length cx.new.entries ≤ length cx.old.entries + 2 }
 {
@@ -140,7 +139,7 @@ fn lower_fn_ptr(
     types: u32,
 ) -> Result<Lowered, Fault>
     requires { CellIsReady (TermCell.FnPtr bound_vars types) cx.old.entries stack.old.items }
-    ensures lowers { IfOk result (λ x. Lowers (TermCell.FnPtr bound_vars types) cx.old.entries cx.new.entries (stack_of stack.old.items) x (stack_of stack.new.items)) }
+    ensures lowers { LowersOrFails (TermCell.FnPtr bound_vars types) cx.old cx.new stack.old.items stack.new.items result }
     ensures terms { GrewOrFull cx.old cx.new result }
     ensures few { length cx.new.entries ≤ length cx.old.entries + 2 }
 {
@@ -160,7 +159,7 @@ fn lower_principal(
     args: u32,
 ) -> Result<Lowered, Fault>
     requires { CellIsReady (TermCell.Principal bound_vars def_id args) cx.old.entries stack.old.items }
-    ensures lowers { IfOk result (λ x. Lowers (TermCell.Principal bound_vars def_id args) cx.old.entries cx.new.entries (stack_of stack.old.items) x (stack_of stack.new.items)) }
+    ensures lowers { LowersOrFails (TermCell.Principal bound_vars def_id args) cx.old cx.new stack.old.items stack.new.items result }
     ensures terms { GrewOrFull cx.old cx.new result }
     ensures few { length cx.new.entries ≤ length cx.old.entries + 2 }
 {
@@ -181,7 +180,7 @@ fn lower_dynamic(
     autos: u32,
 ) -> Result<Lowered, Fault>
     requires { CellIsReady (TermCell.Dynamic has_principal autos) cx.old.entries stack.old.items }
-    ensures lowers { IfOk result (λ x. Lowers (TermCell.Dynamic has_principal autos) cx.old.entries cx.new.entries (stack_of stack.old.items) x (stack_of stack.new.items)) }
+    ensures lowers { LowersOrFails (TermCell.Dynamic has_principal autos) cx.old cx.new stack.old.items stack.new.items result }
     ensures terms { GrewOrFull cx.old cx.new result }
     ensures few { length cx.new.entries ≤ length cx.old.entries + 2 }
 {
@@ -201,7 +200,7 @@ pub(crate) fn lower_cell(
     cell: TermCell,
 ) -> Result<Lowered, Fault>
     requires { CellIsReady cell cx.old.entries stack.old.items }
-    ensures lowers { IfOk result (λ x. Lowers cell cx.old.entries cx.new.entries (stack_of stack.old.items) x (stack_of stack.new.items)) }
+    ensures lowers { LowersOrFails cell cx.old cx.new stack.old.items stack.new.items result }
     ensures terms { GrewOrFull cx.old cx.new result }
     ensures few { length cx.new.entries ≤ length cx.old.entries + 2 }
 {

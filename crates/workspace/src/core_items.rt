@@ -2,16 +2,14 @@
 ghost use Rattle.std.specs.Prelude.{◌≡◌, ◌∷◌, [], ◌++◌, None, false, map, length, OnOk, IfOk};
 ghost use Rattle.type_terms.specs.Promised.Worlds.{core};
 ghost use Rattle.text_language.specs.Promised.Declarations.{known, last_crate};
-ghost use Rattle.text_language.specs.Declarations.{nothing_declared, bare_impl, copied};
-ghost use Rattle.type_terms.specs.Promised.Core.{impls_for, scalars};
+ghost use Rattle.text_language.specs.Declarations.{nothing_declared, copied};
 ghost use Rattle.workspace.specs.Numbered.{IsFew};
-ghost use Rattle.workspace.specs.Tables.{declared, core_alone, with_struct, with_trait, with_impl, IsConsistent};
+ghost use Rattle.workspace.specs.Tables.{declared, core_alone, with_struct, with_impl, IsConsistent};
 ghost use Rattle.workspace.specs.Made.{AreMade, ReferenceMade, ReferencesMade, is_arg};
 ghost use Rattle.workspace.specs.Parts.{new_trait};
 ghost use Rattle.workspace.specs.Views.{sort_of_kind, reference_of, cells_of};
 ghost use Rattle.workspace.specs.TermCells.{trees_of, joined};
-ghost use Rattle.workspace.specs.CoreItems.{core_kinds, core_bounds, core_trait_entry, core_structs, core_traits_to, HasRoom, IsInCore, with_core_impls, scalar_impls, impl_for, ref_impl, pointer_impl, array_impl, boxed_impl};
-ghost use Rattle.type_terms.specs.Kinds.{is_mut};
+ghost use Rattle.workspace.specs.CoreItems.{core_kinds, core_bounds, with_core_trait, core_structs, core_traits_to, HasRoom, IsInCore, with_core_impls, with_scalar_impls, impl_for, ref_impl, pointer_impl, array_impl, boxed_impl};
 
 use crate::cell::{ParamKind, TermCell};
 use crate::declared::{Param, ReferenceCells};
@@ -124,7 +122,7 @@ impl Tables {
         requires consistent { IsConsistent self.old }
         requires new { known (declared self.old) name.now ≡ None }
         requires room { HasRoom (declared self.old) }
-        ensures declared { OnOk result (declared self.new ≡ with_trait (declared self.old) (core_trait_entry (declared self.old) name.now is_fundamental takes_type bound)) }
+        ensures declared { OnOk result (declared self.new ≡ with_core_trait (declared self.old) name.now is_fundamental takes_type bound) }
         ensures consistent { OnOk result (IsConsistent self.new) }
     {
         let params = core_params(self.alloc, takes_type)?;
@@ -206,7 +204,7 @@ impl Tables {
     fn add_scalar_impls(&mut self, trait_id: TraitId) -> Result<(), AllocError>
         requires consistent { IsConsistent self.old }
         requires core { IsInCore (declared self.old) }
-        ensures declared { OnOk result (declared self.new ≡ with_core_impls (declared self.old) (scalar_impls (length (declared self.old).impls) trait_id.index)) }
+        ensures declared { OnOk result (declared self.new ≡ with_scalar_impls (declared self.old) trait_id.index) }
         ensures consistent { OnOk result (IsConsistent self.new) }
     {
         for scalar in &SCALARS {
@@ -245,7 +243,7 @@ impl Tables {
     ) -> Result<(), AllocError>
         requires consistent { IsConsistent self.old }
         requires room { HasRoom (declared self.old) }
-        ensures declared { OnOk result (declared self.new ≡ with_impl (declared self.old) (pointer_impl (declared self.old) trait_id.index (is_mut mutability))) }
+        ensures declared { OnOk result (declared self.new ≡ with_impl (declared self.old) (pointer_impl (declared self.old) trait_id.index mutability)) }
         ensures consistent { OnOk result (IsConsistent self.new) }
     {
         let params = vec![in self.alloc; param(self.alloc, b"T", ParamKind::Type)?]?;

@@ -9,7 +9,7 @@ ghost use Rattle.text_language.specs.Promised.Faults.{last_items};
 ghost use Rattle.text_language.specs.Lowering.{crate_number};
 ghost use Rattle.text_language.specs.Adding.{added};
 ghost use Rattle.workspace.specs.Numbered.{IsFew};
-ghost use Rattle.workspace.specs.Tables.{declared, with_crate, with_question, new_crate, will_see, named_item, item_named, core_alone, number_of_crate, IsConsistent, MarksSeen};
+ghost use Rattle.workspace.specs.Tables.{declared, with_question, with_new_crate, will_see, named_item, item_named, core_alone, number_of_crate, IsConsistent, MarksSeen};
 ghost use Rattle.workspace.specs.Unasked.{without_last_question};
 ghost use Rattle.workspace.specs.Made.{AreMade, ReferenceMade, ReferencesMade, is_type};
 ghost use Rattle.workspace.specs.Parts.{AddsStruct, AddsStructLine, AddsTrait, AddsTraitLine, AddsImpl, AddsLaterImpl, AddsImplLine, AddsQuestionLine};
@@ -348,8 +348,8 @@ impl Tables {
         requires new { known (declared self.old) name.now ≡ None }
         requires few { IsFew (declared self.old) ENTRY_LIMIT }
         requires uses { All (λ u. u.index < length self.old.crates.items) uses.items }
-        requires row { MarksSeen (world_of (with_crate (declared self.old) (new_crate (length self.old.crates.items) name.now uses.items))) (length self.old.crates.items) row.items }
-        ensures declared { OnOk result (declared self.new ≡ with_crate (declared self.old) (new_crate (length self.old.crates.items) name.now uses.items)) }
+        requires row { MarksSeen (world_of (with_new_crate self.old name.now uses.items)) (length self.old.crates.items) row.items }
+        ensures declared { OnOk result (declared self.new ≡ with_new_crate self.old name.now uses.items) }
         ensures consistent { OnOk result (IsConsistent self.new) }
     {
         let id = CrateId {
