@@ -1,11 +1,11 @@
 //! The traversal of a fold, with a cache of the folds of types.
-ghost use Rattle.type_terms.specs.Growth.{Grew};
+ghost use Rattle.type_terms.specs.Growth.{Grew, GrewOrFull};
 ghost use Rattle.std.specs.Prelude.{◌≡◌, ◌++◌, ◌∷◌, [], IfOk, IfErr};
 ghost use Rattle.type_terms.specs.Trees.{is_no_tree};
-ghost use Rattle.type_terms.specs.Promised.Handles.{Has, types, bounds_lists, trees_at};
+ghost use Rattle.type_terms.specs.Promised.Handles.{Is, Has, types, bounds_lists, trees_at};
 ghost use Rattle.type_terms.specs.Terms.{args_lists, type_lists};
 ghost use Rattle.type_terms.specs.Promised.Handles.{ArgHeld, arg_trees};
-ghost use Rattle.type_terms.specs.Kinds.{KindHeld, PrincipalHeld, principal_trees};
+ghost use Rattle.type_terms.specs.Kinds.{KindHeld, PrincipalHeld, args_trees, principal_trees};
 ghost use Rattle.type_terms.specs.Failures.{FailsBy};
 ghost use Rattle.term_folds.specs.Folds.{IsHandleFold, IsHandleFoldBelow, IsFoldUnder, IsKindFold};
 ghost use Rattle.term_folds.specs.Memos.{Remembers};
@@ -164,9 +164,38 @@ pub(crate) fn walk_tys<F: FallibleTypeFolder>(
     Ok(cx.mk_tys(new)?)
 }
 
-/// The fold of a list of arguments.
+/// The fold of a list of arguments. Most lists have one argument. Such a list is interned only if its argument changes.
 #[cycle(walks)]
 pub(crate) fn walk_args<F: FallibleTypeFolder>(
+    alloc: Global,
+    cx: &mut Interner,
+    folder: &F,
+    args: GenericArgs,
+    binders: &Binders,
+    memo: &mut Memo,
+) -> Result<GenericArgs, F::Error>
+    requires ready { F.ready folder.now cx.old.entries }
+    requires known { Remembers (F.action folder.now cx.old.entries) cx.old.entries memo.old }
+    requires held { Has cx.old.entries args_lists args.0 }
+    ensures grew { Grew cx.old cx.new }
+    ensures folded { IfOk result (λ r. IsHandleFold (F.action folder.now) binders.now cx.old cx.new args_lists args.0 r.0) }
+    ensures known { IfOk result (λ _. Remembers (F.action folder.now cx.new.entries) cx.new.entries memo.new) }
+    ensures failed { IfErr result (λ e. FailsBy (F.fails folder.now) F.Error.from_gives cx.new.entries cx.new.limit e) }
+{
+    let [arg] = cx.args(args) else {
+        return walk_each_arg(alloc, cx, folder, args, binders, memo);
+    };
+    let arg = *arg;
+    let folded = walk_arg(alloc, cx, folder, arg, binders, memo)?;
+    if folded == arg {
+        return Ok(args);
+    }
+    Ok(one_arg(alloc, cx, folded)?)
+}
+
+/// The fold of a list of arguments, item by item.
+#[cycle(walks)]
+fn walk_each_arg<F: FallibleTypeFolder>(
     alloc: Global,
     cx: &mut Interner,
     folder: &F,
@@ -295,4 +324,14 @@ fn append<T: Drop>(list: &mut Vec<T>, item: T) -> Result<(), Fault>
     ensures memory { IfErr result (λ e. e ≡ Fault.Memory) }
 {
     Ok(list.push(item)?)
+}
+
+/// The list of this argument alone.
+fn one_arg(alloc: Global, cx: &mut Interner, arg: GenericArgKind) -> Result<GenericArgs, Fault>
+    requires { ArgHeld cx.old.entries arg }
+    ensures is { IfOk result (λ r. Is cx.new.entries args_lists r.0 (args_trees cx.old.entries (arg ∷ []))) }
+    ensures grew { GrewOrFull cx.old cx.new result }
+{
+    let list = vec![in alloc; arg]?;
+    Ok(cx.mk_args(list)?)
 }

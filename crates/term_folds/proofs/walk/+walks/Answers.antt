@@ -1,4 +1,4 @@
-use Rattle.std.proofs.Common.{◌≡◌, ℕ, ◌<◌, ◌≤◌, List, [], ◌∷◌, arith, subst, ◌∙◌, get_or, length, ap, refl, Option, Some, None, Err}
+use Rattle.std.proofs.Common.{◌≡◌, ℕ, ◌<◌, ◌≤◌, List, [], ◌∷◌, arith, sym, subst, ◌∙◌, get_or, length, ap, refl, Option, Some, None, Err}
 use Rattle.std.proofs.lemmas.Grind.{common_steps}
 use Rattle.type_terms.specs.Promised.Trees.{Trees, ◌+++◌}
 use Rattle.type_terms.specs.Trees.{Single}
@@ -19,7 +19,8 @@ use Rattle.type_terms.specs.Visits.{IsBound}
 use Rattle.type_terms.specs.Kept.{trees-is, has-later, trees-later, arg-held-later, arg-trees-later, args-held-later, tys-held-later}
 use Rattle.term_folds.proofs.FoldFacts.{TyIs, says-enters, says-puts, says-again, put-handle, turn-handle, enter-later, folds-append, by-action, two-folds, ok-map}
 use Rattle.type_terms.proofs.Items.{type-is-one, ty-held-at, ty-older-at, tys-held-push, fuel-of-ty, no-tys, arg-held-at, arg-older-at, args-held-push, fuel-of-arg}
-use Rattle.term_folds.proofs.Items.{one-more-ty, one-more-arg}
+use Rattle.type_terms.proofs.Equal.{arg-eq}
+use Rattle.term_folds.proofs.Items.{one-more-ty, one-more-arg, one-arg-list, one-arg-folds, one-arg-stays}
 use Rattle.term_folds.proofs.KindFacts.{leaf-below}
 use Rattle.term_folds.proofs.MemoFacts.{remembers-later, fold-known}
 use Rattle.type_terms.proofs.FailFacts.{fault-error, memory-error, refused-term}
@@ -125,8 +126,8 @@ number-older n (Lifetime r) h = omega arith
 number-older n (Ty t) h = omega arith
 number-older n (Const t) h = omega arith
 
-pub walk_args-loop-arg-init : goal.walk_args-loop-arg-init
-walk_args-loop-arg-init g t c =
+pub walk_each_arg-loop-arg-init : goal.walk_each_arg-loop-arg-init
+walk_each_arg-loop-arg-init g t c =
     let same = c.deref-arg-items.ensures.value ∙ c.in_ok-old.ensures.copied in (
       λ i e h. h,
       c.requires.ready,
@@ -139,8 +140,8 @@ walk_args-loop-arg-init g t c =
       c.requires.known,
     )
 
-pub walk_args-walk_arg-requires : goal.walk_args-walk_arg-requires
-walk_args-walk_arg-requires g t c κs within =
+pub walk_each_arg-walk_arg-requires : goal.walk_each_arg-walk_arg-requires
+walk_each_arg-walk_arg-requires g t c κs within =
     let inv = c.loop-arg.invariant in
     let xs = c.deref-arg-items.result.now in
     let es = c.args.cx.now.entries in
@@ -158,8 +159,8 @@ walk_args-walk_arg-requires g t c κs within =
     let fuel-now : g.F.FallibleTypeFolder.fuel c.args.folder.now now (arg_trees now x) ≤ fuel (trees_at es c.args.args.0) = rw (law, same, whole) part in
     (omega (arith, lt, c.decreases, fuel-now), (within.0, (within.1, (inv.1, (inv.8, arg-held-later es now inv.0 x old)))))
 
-pub walk_args-loop-arg-preserved : goal.walk_args-loop-arg-preserved
-walk_args-loop-arg-preserved g t c =
+pub walk_each_arg-loop-arg-preserved : goal.walk_each_arg-loop-arg-preserved
+walk_each_arg-loop-arg-preserved g t c =
     let inv = c.loop-arg.invariant in
     let xs = c.deref-arg-items.result.now in
     let es = c.args.cx.now.entries in
@@ -185,6 +186,46 @@ walk_args-loop-arg-preserved g t c =
       c.walk_arg.ensures.grew.limit ∙ inv.7,
       c.in_ok-folded.ensures.known,
     )
+
+-- ---- lists of one argument
+pub walk_args-returns-then-eq-clause-folded : goal.walk_args-returns-then-eq-clause-folded
+walk_args-returns-then-eq-clause-folded g t c =
+    let es = c.args.cx.now.entries in
+    let next = c.walk_arg.new.cx.entries in
+    let xs = c.args-2.result.now in
+    let x = c.arg-item.result in
+    let y = c.in_ok-folded.folded in
+    let keeps = c.walk_arg.ensures.grew.keeps in
+    let only = one-arg-list xs x _ c.in-len1.len_at_least c.in-len1.len_below c.arg-item.is in
+    let same : y ≡ x = (arg-eq y x).0 (sym c.eq.ensures ∙ c.if-eq.true) in
+    record {
+      has = has-later es next keeps args_lists c.args.args.0 c.requires.held;
+      folded = rw (trees-later es next keeps args_lists c.args.args.0 c.requires.held, trees-is es args_lists c.args.args.0 _ c.args-2.ensures.is)
+          (one-arg-stays (g.F.FallibleTypeFolder.action c.args.folder.now es) (counts_of c.args.binders.now) es next keeps xs x y only c.args-2.ensures.held same c.in_ok-folded.ensures.folded);
+    }
+
+pub walk_args-returns-in_err-one_arg-clause-failed : goal.walk_args-returns-in_err-one_arg-clause-failed
+walk_args-returns-in_err-one_arg-clause-failed g t c = fault-error _ _ c.from_residual-in_err-one_arg.result c.from_residual-in_err-one_arg.ensures.1 c.in_err-one_arg.ensures.grew.full
+
+pub walk_args-returns-clause-folded : goal.walk_args-returns-clause-folded
+walk_args-returns-clause-folded g t c =
+    let es = c.args.cx.now.entries in
+    let is = c.in_ok-one_arg.ensures.is in
+    let only = one-arg-list c.args-2.result.now c.arg-item.result _ c.in-len1.len_at_least c.in-len1.len_below c.arg-item.is in
+    record {
+      has = (_, is);
+      folded = rw (trees-is c.one_arg.new.cx.entries args_lists c.in_ok-one_arg.field-0.0 _ is, trees-is es args_lists c.args.args.0 _ c.args-2.ensures.is)
+          (one-arg-folds (g.F.FallibleTypeFolder.action c.args.folder.now es) (counts_of c.args.binders.now) es c.walk_arg.new.cx.entries _ _ _ only c.in_ok-folded.ensures.folded);
+    }
+
+pub walk_args-returns-clause-known : goal.walk_args-returns-clause-known
+walk_args-returns-clause-known g t c =
+    let now = c.walk_arg.new.cx.entries in
+    let next = c.one_arg.new.cx.entries in
+    let keeps = c.one_arg.ensures.grew.grew.keeps in
+    let ready = g.met.F.FallibleTypeFolder.ready_kept c.args.folder.now c.args.cx.now.entries now c.walk_arg.ensures.grew.keeps c.requires.ready in
+    let law = g.met.F.FallibleTypeFolder.action_kept c.args.folder.now now next keeps ready in
+    remembers-later _ (g.F.FallibleTypeFolder.action c.args.folder.now next) now next c.walk_arg.new.memo keeps law c.in_ok-folded.ensures.known
 
 -- ---- kinds
 pub walk_kind-walk_ty-requires : goal.walk_kind-walk_ty-requires
@@ -238,8 +279,8 @@ walk_tys-returns-clause-known g t c =
     let law = g.met.F.FallibleTypeFolder.action_kept c.args.folder.now now next c.mk_tys.ensures.grew.keeps inv.1 in
     remembers-later _ (g.F.FallibleTypeFolder.action c.args.folder.now next) now next c.loop-ty.memo c.mk_tys.ensures.grew.keeps law inv.9
 
-pub walk_args-returns-clause-known : goal.walk_args-returns-clause-known
-walk_args-returns-clause-known g t c =
+pub walk_each_arg-returns-clause-known : goal.walk_each_arg-returns-clause-known
+walk_each_arg-returns-clause-known g t c =
     let inv = c.loop-arg.invariant in
     let now = c.loop-arg.cx.entries in
     let next = c.mk_args.new.self.entries in
@@ -483,8 +524,8 @@ walk_tys-returns-in_err-mk_tys g t c =
           (λ q. refused-term type_lists (omega arith) (c.in_err-mk_tys.ensures.full (ap Err q)) c.mk_tys.ensures.grew.limit c.in_err-mk_tys.ensures.refused);
     }
 
-pub walk_args-returns-in_err-old : goal.walk_args-returns-in_err-old
-walk_args-returns-in_err-old g t c =
+pub walk_each_arg-returns-in_err-old : goal.walk_each_arg-returns-in_err-old
+walk_each_arg-returns-in_err-old g t c =
     record {
       grew = grew-none;
       folded = no-value _ _ c.from_residual.result c.from_residual.ensures.1;
@@ -492,8 +533,8 @@ walk_args-returns-in_err-old g t c =
       failed = memory-error _ _ _ _ c.from_residual.result c.from_residual.ensures.1 c.in_err-old.ensures.memory;
     }
 
-pub walk_args-returns-in_err-append : goal.walk_args-returns-in_err-append
-walk_args-returns-in_err-append g t c =
+pub walk_each_arg-returns-in_err-append : goal.walk_each_arg-returns-in_err-append
+walk_each_arg-returns-in_err-append g t c =
     record {
       grew = grew-on (record { keeps = c.loop-arg.invariant.0; limit = c.loop-arg.invariant.7 }) c.walk_arg.ensures.grew;
       folded = no-value _ _ c.from_residual-in_err-append.result c.from_residual-in_err-append.ensures.1;
@@ -501,8 +542,8 @@ walk_args-returns-in_err-append g t c =
       failed = memory-error _ _ _ _ c.from_residual-in_err-append.result c.from_residual-in_err-append.ensures.1 c.in_err-append.ensures.memory;
     }
 
-pub walk_args-returns-in_err-mk_args : goal.walk_args-returns-in_err-mk_args
-walk_args-returns-in_err-mk_args g t c =
+pub walk_each_arg-returns-in_err-mk_args : goal.walk_each_arg-returns-in_err-mk_args
+walk_each_arg-returns-in_err-mk_args g t c =
     record {
       grew = grew-on (record { keeps = c.loop-arg.invariant.0; limit = c.loop-arg.invariant.7 }) c.mk_args.ensures.grew;
       folded = no-value _ _ c.from_residual-in_err-mk_args.result c.from_residual-in_err-mk_args.ensures.1;
@@ -740,8 +781,8 @@ walk_tys-returns-in_err-folded g t c =
       failed = same-error _ _ c.from_residual-in_err-folded.result c.from_residual-in_err-folded.ensures.1 c.in_err-folded.ensures.failed;
     }
 
-pub walk_args-returns-in_err-folded : goal.walk_args-returns-in_err-folded
-walk_args-returns-in_err-folded g t c =
+pub walk_each_arg-returns-in_err-folded : goal.walk_each_arg-returns-in_err-folded
+walk_each_arg-returns-in_err-folded g t c =
     record {
       grew = grew-on (record { keeps = c.loop-arg.invariant.0; limit = c.loop-arg.invariant.7 }) c.walk_arg.ensures.grew;
       folded = no-value _ _ c.from_residual-in_err-folded.result c.from_residual-in_err-folded.ensures.1;

@@ -37,7 +37,10 @@ abbrev pub decreases-walk_tys : goal.decreases-walk_tys
 decreases-walk_tys g l = measure (g.F.FallibleTypeFolder.fuel l.folder.now l.cx.now.entries (trees_at l.cx.now.entries l.tys.0)) (l.tys.0 + 1) 0
 
 abbrev pub decreases-walk_args : goal.decreases-walk_args
-decreases-walk_args g l = measure (g.F.FallibleTypeFolder.fuel l.folder.now l.cx.now.entries (trees_at l.cx.now.entries l.args.0)) (l.args.0 + 1) 0
+decreases-walk_args g l = measure (g.F.FallibleTypeFolder.fuel l.folder.now l.cx.now.entries (trees_at l.cx.now.entries l.args.0)) (l.args.0 + 1) 1
+
+abbrev pub decreases-walk_each_arg : goal.decreases-walk_each_arg
+decreases-walk_each_arg g l = measure (g.F.FallibleTypeFolder.fuel l.folder.now l.cx.now.entries (trees_at l.cx.now.entries l.args.0)) (l.args.0 + 1) 0
 
 abbrev pub decreases-walk_arg : goal.decreases-walk_arg
 decreases-walk_arg g l = measure (g.F.FallibleTypeFolder.fuel l.folder.now l.cx.now.entries (arg_trees l.cx.now.entries l.arg)) (number_of l.arg) 3
@@ -46,7 +49,7 @@ abbrev pub decreases-walk_bounds : goal.decreases-walk_bounds
 decreases-walk_bounds g l = measure (g.F.FallibleTypeFolder.fuel l.folder.now l.cx.now.entries (trees_at l.cx.now.entries l.bounds.0)) (l.bounds.0 + 1) 1
 
 abbrev pub decreases-walk_principal : goal.decreases-walk_principal
-decreases-walk_principal g l = measure (g.F.FallibleTypeFolder.fuel l.folder.now l.cx.now.entries (principal_trees l.cx.now.entries l.principal)) (number_of_principal l.principal) 1
+decreases-walk_principal g l = measure (g.F.FallibleTypeFolder.fuel l.folder.now l.cx.now.entries (principal_trees l.cx.now.entries l.principal)) (number_of_principal l.principal) 2
 
 abbrev pub invariant-walk_tys-loop-ty : goal.invariant-walk_tys-loop-ty
 invariant-walk_tys-loop-ty g l =
@@ -61,8 +64,8 @@ invariant-walk_tys-loop-ty g l =
     × (l.cx.limit ≡ l.fn.cx.limit)
     × Remembers (g.F.FallibleTypeFolder.action l.folder l.cx.entries) l.cx.entries l.memo
 
-abbrev pub invariant-walk_args-loop-arg : goal.invariant-walk_args-loop-arg
-invariant-walk_args-loop-arg g l =
+abbrev pub invariant-walk_each_arg-loop-arg : goal.invariant-walk_each_arg-loop-arg
+invariant-walk_each_arg-loop-arg g l =
     Keeps l.fn.cx.entries l.cx.entries
     × g.F.FallibleTypeFolder.ready l.folder l.cx.entries
     × ArgsHeld l.cx.entries l.new.items
