@@ -29,6 +29,10 @@ paths_to-append (h ∷ hs) ks place =
       | false ↦ paths_to-append hs ks place
     ]
 
+-- a head by itself
+pub read_alone : (head : CycleHead) (place : ℕ) → paths_to (head ∷ []) place ≡ cond (eqb head.index place) head.paths.0 0
+read_alone head place = ap (λ paths. cond (eqb head.index place) paths 0) (or_zero_r head.paths.0)
+
 -- the first head of the goal is one of it
 pub head_found : (hs : List CycleHead) (index : ℕ) (place : Option ℕ) → place ≡ position (λ (head : CycleHead). eqb head.index index) hs
     → IfSome place (λ at. (head : CycleHead) × (slice_get hs at ≡ Some head) × (head.index ≡ index))

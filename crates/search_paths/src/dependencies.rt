@@ -1,6 +1,6 @@
 //! What the evaluation of a goal depends on.
 
-ghost use Rattle.std.specs.Prelude.{◌≡◌, ◌≢◌, ◌==◌, ◌+◌, ◌-◌, ◌^◌, ◌++◌, ◌∷◌, ◌↔◌, [], ℕ, min, max, position, slice_get, ◌||◌, All, IfOk, IfSome, IfNone, IsPermutation, OnOk, Some, None, false};
+ghost use Rattle.std.specs.Prelude.{◌≡◌, ◌≢◌, ◌==◌, ◌+◌, ◌-◌, ◌^◌, ◌++◌, ◌∷◌, ◌↔◌, [], ℕ, min, max, position, slice_get, ◌||◌, if◌then◌else◌, All, IfOk, IfSome, IfNone, IsPermutation, OnOk, Some, None, false};
 ghost use Rattle.search_paths.specs.declared.dependencies.CycleHead.{CycleHead};
 ghost use Rattle.std.specs.Int.RustNames.{bit_or};
 ghost use Rattle.search_paths.specs.Heads.{paths_to, RestsOn, IsFirstOf, AreHeadsOfBoth, AreReadThrough};
@@ -42,6 +42,7 @@ impl Dependencies {
         ensures unread { result.heads.items ≡ [] }
         ensures within { result.encountered_overflow ≡ false }
         ensures depth { result.required_depth ≡ 0 }
+        ensures uncounted { result.questions ≡ 0 }
         ensures unasked { (result.nested_goals.goals.items ≡ []) × (result.nested_goals.cached.items ≡ []) × (result.nested_goals.span ≡ no_goal) }
     {
         Dependencies {
@@ -63,6 +64,8 @@ impl Dependencies {
     ) -> Result<(), AllocError>
         requires { self.old.heads.items ≡ [] }
         ensures heads { OnOk result (indices self.new.heads.items ≡ index ∷ below.now) }
+        ensures read { OnOk result ((place : ℕ) → paths_to self.new.heads.items place ≡ (if index == place then paths.0 else 0)) }
+        ensures questions { self.new.questions ≡ self.old.questions }
         ensures overflow { self.new.encountered_overflow ≡ self.old.encountered_overflow }
         ensures depth { self.new.required_depth ≡ self.old.required_depth }
         ensures goals { self.new.nested_goals ≡ self.old.nested_goals }
