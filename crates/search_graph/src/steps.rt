@@ -1,6 +1,6 @@
 //! The parts of an evaluation that evaluate no nested goal. Each has the clauses that the evaluation needs of it.
 
-ghost use Rattle.std.specs.Prelude.{◌≡◌, [], ◌∷◌, ◌++◌, ◌+◌, ◌-◌, ◌^◌, ◌<◌, ◌≤◌, ◌||◌, ◌⊎◌, ℕ, min, max, IfOk, OnOk, IfSome, IsSome, IsPermutation, true, false, length};
+ghost use Rattle.std.specs.Prelude.{◌≡◌, [], ◌∷◌, ◌++◌, ◌+◌, ◌-◌, ◌^◌, ◌<◌, ◌≤◌, ◌||◌, ◌⊎◌, ℕ, min, max, slice_get, Some, IfOk, OnOk, IfSome, IsSome, IsPermutation, true, false, length};
 ghost use Rattle.search_paths.specs.Heads.{AreReadByBoth, AreHeadsOfBoth};
 ghost use Rattle.search_graph.specs.Turn.{IsInTurn, IsTurn};
 ghost use Rattle.search_paths.specs.KeptPaths.{AreBelow, indices};
@@ -98,7 +98,33 @@ pub(crate) fn reply_in_cycle<D: Delegate>(
     })
 }
 
-/// Returns the result of a nested goal of a goal of depth 0, and gives the nested goal a number.
+/// Returns the number of the goal that asks, the newest of the stack, or else of the goal that is asked.
+fn number_of_asking<D: Delegate>(
+    search: &Search<D>,
+    cache: &mut CachedResults<D>,
+    cx: &D::Cx,
+    input: &InputOf<D>,
+) -> Result<usize, GraphFault>
+    ensures asking { IfOk result (λ number. (asking : _)
+        → slice_get search.now.stack.items (length search.now.stack.items - 1) ≡ Some asking → number ≡ asking.number) }
+    ensures goals { KeepsNumbers D.Cx.Input.eq cache.old.goals.keys cache.new.goals.keys }
+    ensures entries { cache.new.entries ≡ cache.old.entries }
+    ensures asked { cache.new.asked ≡ cache.old.asked }
+    ensures no_conflict { result ≡ Err GraphFault.Conflict → ⊥ }
+    ensures in_order { result ≡ Err GraphFault.Protocol → ⊥ }
+    ensures room { result ≡ Err GraphFault.Full → ⊥ }
+{
+    match search.stack.last() {
+        Some(asking) => Ok(asking.number),
+        None => cache.number_of(cx, input),
+    }
+}
+
+/// Returns the result of a nested goal of a goal of depth 0.
+///
+/// The goal that asks is listed as a nested goal in place of the one that it asks, as `handle_overflow` of `rustc_type_ir::search_graph`
+/// does. At depth 0 all answers are the same whatever is on the stack. Only where the goal that asks is there itself would it close a
+/// cycle instead. So its result can be used again wherever it is not.
 pub(crate) fn reply_with_overflow<D: Delegate>(
     search: &mut Search<D>,
     cache: &mut CachedResults<D>,
@@ -119,6 +145,8 @@ pub(crate) fn reply_with_overflow<D: Delegate>(
     ensures range { IfOk result (λ o. AreInRange cache.new.asked.items o.dependencies.nested_goals) }
     ensures answer { IfOk result (λ o. IsReplyOver D.meaning cx.old search.old.stack.items input step_kind o.dependencies.heads.items cx.new o.result) }
     ensures told { IfOk result (λ o. o.dependencies.encountered_overflow ≡ true) }
+    ensures listed { IfOk result (λ o. (asking : _) → slice_get search.old.stack.items (length search.old.stack.items - 1) ≡ Some asking
+        → AsksAlone asking.number o.dependencies.nested_goals) }
     ensures frames { search.new.frames ≡ search.old.frames }
     ensures limits { search.old.limits_met ≡ true → search.new.limits_met ≡ true }
     ensures noted { OnOk result (search.new.limits_met ≡ true) }
@@ -127,7 +155,7 @@ pub(crate) fn reply_with_overflow<D: Delegate>(
     ensures in_order { result ≡ Err (Stop.Fault GraphFault.Protocol) → ⊥ }
     ensures full { result ≡ Err (Stop.Fault GraphFault.Full) → D.meaning.IsFull cx.new }
 {
-    let number = cache.number_of(cx, &input)?;
+    let number = number_of_asking(search, cache, cx, &input)?;
     Ok(search.overflow(cx, number, &input, step_kind)?)
 }
 

@@ -218,8 +218,8 @@ const ALONE: [(usize, usize, Found); 36] = [
     (8, 49, (Ok(NO), 6, false)),
     (8, 52, (Ok(YES), 5, false)),
     (5, 54, (Ok(YES), 5, false)),
-    // 55 and 56 are evaluated again, with less depth than they need, and all three once more after that overflow.
-    (4, 54, (Ok(OVERFLOW), 10, true)),
+    // 55 and 56 are evaluated again, with less depth than they need, and 54 once more after that overflow: there 55 has a result.
+    (4, 54, (Ok(OVERFLOW), 8, true)),
     // A goal that is read by an ignored candidate alone needs no second run.
     (8, 59, (Ok(YES), 3, false)),
     (8, 61, (Ok(YES), 5, false)),
