@@ -11,9 +11,9 @@ use Rattle.std.specs.Prelude.{bit_and}
 use Rattle.type_terms.specs.Trees.{flags}
 use Rattle.type_terms.specs.Pieces.{Piece, each_piece, one_piece, piece_flags}
 use Rattle.type_terms.proofs.Items.{take-push}
-use Rattle.infer_table.specs.Solutions.{Binding, resolved, is_rigid}
+use Rattle.infer_table.specs.Solutions.{Binding, AllValued, resolved, is_rigid}
 use Rattle.infer_table.proofs.ClosedFacts.{or-left, or-right}
-use Rattle.infer_table.proofs.ResolveFacts.{unknown-free-resolved}
+use Rattle.infer_table.proofs.ResolveFacts.{value-free-resolved}
 use Rattle.infer_table.proofs.SolutionLaws.{resolved-append, resolved-none, resolved-rigid}
 use Rattle.infer_table.specs.Goals.{clause_label, clause_terms, environment_trees, ClausesHeld}
 use Rattle.infer_table.proofs.Numbers.{environment-later}
@@ -82,12 +82,12 @@ module _ (bs : List Binding) where
 pub resolved-nothing : (bs : List Binding) → none ≡ resolved bs none
 resolved-nothing bs = sym (resolved-none bs)
 
--- ---- without inference variables nothing changes
+-- ---- without variables that can have values nothing changes
 same-piece : (n : List ℕ) (t u : Trees) (ps qs : List Piece) → t ≡ u → ps ≡ qs → ◌≡◌ {A = List Piece} (record { counts = n; trees = t } ∷ ps) (record { counts = n; trees = u } ∷ qs)
 same-piece n t u ps qs e f = cc
 
-pub unknown-free-pieces : (bs : List Binding) (ps : List Piece) → bit_and (piece_flags ps) 546 ≡ 0 → ps ≡ each_piece (λ d t. resolved bs t) ps
-unknown-free-pieces bs [] h = refl
-unknown-free-pieces bs (p ∷ ps) h =
-    same-piece p.counts p.trees (resolved bs p.trees) ps (each_piece (λ d t. resolved bs t) ps) (sym (unknown-free-resolved bs p.trees (or-left (flags p.trees) (piece_flags ps) 546 h)))
-    (unknown-free-pieces bs ps (or-right (flags p.trees) (piece_flags ps) 546 h))
+pub value-free-pieces : (bs : List Binding) → AllValued bs → (ps : List Piece) → bit_and (piece_flags ps) 514 ≡ 0 → ps ≡ each_piece (λ d t. resolved bs t) ps
+value-free-pieces bs a [] h = refl
+value-free-pieces bs a (p ∷ ps) h =
+    same-piece p.counts p.trees (resolved bs p.trees) ps (each_piece (λ d t. resolved bs t) ps) (sym (value-free-resolved bs a p.trees (or-left (flags p.trees) (piece_flags ps) 514 h)))
+    (value-free-pieces bs a ps (or-right (flags p.trees) (piece_flags ps) 514 h))

@@ -26,11 +26,12 @@ abbrev pub is_open_leaf : Trees → Bool
 is_open_leaf (tree (infer k v) c o) = true
 is_open_leaf t = false
 
--- no variable occurs in the term: none of its flags is in `HAS_INFER`
+-- no variable that can have a value occurs in the term: none of its flags is in `VALUE_FLAGS`
 abbrev pub has_no_unknown : Trees → Bool
-has_no_unknown t = bit_and (flags t) 546 == 0
+has_no_unknown t = bit_and (flags t) 514 == 0
 
--- what the folder of resolution does at a node. It replaces a variable by the fold of its value, and a type without variables by itself
+-- what the folder of resolution does at a node. It replaces a variable by the fold of its value, and a type without variables that can have
+-- values by itself
 abbrev pub resolves : List Binding → List ℕ → Trees → Does
 resolves bs ds none = enters
 resolves bs ds (tree (principal n i) c o) = enters

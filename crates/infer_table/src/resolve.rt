@@ -16,9 +16,12 @@ use type_terms::interner::Interner;
 use type_terms::kinds::{Const, ConstKind, Ty, TyKind};
 use type_terms::region::{Region, RegionKind};
 
+/// The flags of terms with variables that can have values. A variable for a lifetime never has one.
+pub(crate) const VALUE_FLAGS: u32 = TypeFlags::HAS_TY_INFER.0 | TypeFlags::HAS_CT_INFER.0;
+
 /// A folder that replaces the variables of a table by their values.
 ///
-/// rustc's `EagerResolver`. It does not enter a type without inference variables.
+/// rustc's `EagerResolver`. It does not enter a type without variables that can have values.
 #[derive(Clone, Copy)]
 struct EagerResolver<'a> {
     table: &'a InferCtxt,
@@ -68,7 +71,7 @@ impl TypeFolder for EagerResolver<'_> {
                 }
             }
             _ => {
-                if cx.flags(ty).0 & TypeFlags::HAS_INFER.0 == 0 {
+                if cx.flags(ty).0 & VALUE_FLAGS == 0 {
                     Ok(Answer::Replace(ty))
                 } else {
                     Ok(Answer::Enter)

@@ -8,11 +8,11 @@ ghost use Rattle.infer_table.specs.Solutions.{resolved};
 
 use crate::goal::Goal;
 use crate::infer_ctxt::InferCtxt;
+use crate::resolve::VALUE_FLAGS;
 use std::alloc::Global;
 use term_folds::foldable::TypeFoldable;
 use term_folds::predicate::Clause;
 use type_terms::Fault;
-use type_terms::flags::TypeFlags;
 use type_terms::interner::Interner;
 use type_terms::visitable_ext::TypeVisitableExt;
 
@@ -62,7 +62,7 @@ fn resolve_clauses(
     Ok(resolved)
 }
 
-/// The value with each variable replaced by its resolved value, if it has one. A value without inference variables is not folded.
+/// The value with each variable replaced by its resolved value, if it has one. A value without variables that can have one is not folded.
 fn resolve<T: TypeFoldable + TypeVisitableExt>(
     cx: &mut Interner,
     table: &InferCtxt,
@@ -77,7 +77,7 @@ fn resolve<T: TypeFoldable + TypeVisitableExt>(
     ensures resolved { IfOk result (λ r. T.pieces r cx.new.entries
         ≡ each_piece (λ d t. resolved (content cx.old.entries table.now.values) t) (T.pieces value cx.old.entries)) }
 {
-    if value.flags(cx).0 & TypeFlags::HAS_INFER.0 == 0 {
+    if value.flags(cx).0 & VALUE_FLAGS == 0 {
         return Ok(value);
     }
     table.eager_resolve_vars(cx, value)
