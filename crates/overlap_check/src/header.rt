@@ -1,7 +1,8 @@
 //! Headers and where-clauses of impls, with fresh inference variables for the parameters.
 ghost use Rattle.std.specs.Prelude.{◌≡◌, zero, IfOk, IfSome, OnOk, None};
 ghost use Rattle.type_terms.specs.Trees.{outer_binder};
-ghost use Rattle.type_terms.specs.Promised.Trees.{instantiate};
+ghost use Rattle.type_terms.specs.Promised.Label.{adt};
+ghost use Rattle.type_terms.specs.Promised.Trees.{instantiate, none, tree};
 ghost use Rattle.type_terms.specs.Promised.Worlds.{with_args, all_with_args};
 ghost use Rattle.type_terms.specs.Promised.Handles.{Has, ArgHeld, ArgsHeld, arg_trees, trees_at};
 ghost use Rattle.type_terms.specs.Kinds.{args_trees};
@@ -19,15 +20,15 @@ ghost use Rattle.overlap_check.specs.Written.{IsWrittenWell};
 use crate::fresh::fresh_args_for_item;
 use declarations::items::ImplDef;
 use infer_table::infer_ctxt::InferCtxt;
-use std::alloc::Global;
+use std::alloc::{AllocError, Global};
 use term_folds::binder::EarlyBinder;
 use term_folds::instantiate::InstantiateError;
 use term_folds::laws::closed_arguments_are_in_range;
 use term_folds::predicate::TraitRef;
-use type_terms::Fault;
 use type_terms::flags::TypeFlags;
 use type_terms::interner::Interner;
 use type_terms::kinds::{GenericArgKind, GenericArgs, TyKind};
+use type_terms::{AdtId, Fault};
 
 /// The header of an impl with inference variables for its parameters: `?0` and `V<?0>: Show` for `impl<T> Show for V<T>`. rustc:
 /// `ImplHeader`.
@@ -68,6 +69,98 @@ fn plain_instance(
     }
 }
 
+/// Each argument of a list with arguments in place of its parameters, in order, if nothing is to be folded for that. `None` otherwise.
+fn plain_instances(
+    alloc: Global,
+    cx: &Interner,
+    written: GenericArgs,
+    args: GenericArgs,
+) -> Result<Option<Vec<GenericArgKind>>, AllocError>
+    requires held { Has cx.now.entries args_lists written.0 }
+    requires args { Has cx.now.entries args_lists args.0 }
+    ensures held { IfOk result (λ found. IfSome found (λ v. ArgsHeld cx.now.entries v.items)) }
+    ensures are { IfOk result (λ found. IfSome found (λ v. args_trees cx.now.entries v.items
+        ≡ instantiate zero (trees_at cx.now.entries args.0) (trees_at cx.now.entries written.0))) }
+{
+    let mut found = Vec::new(alloc);
+    let mut left = cx.args(written);
+    'each: while let Some((arg, others)) = left.split_first() {
+        let Some(instance) = plain_instance(cx, *arg, args) else {
+            return Ok(None);
+        };
+        found.push(instance)?;
+        left = others;
+    }
+    Ok(Some(found))
+}
+
+/// The struct and the instantiated arguments of a struct type, if nothing is to be folded for that, as in `V<T>`. `None` otherwise, as in
+/// `V<&T>`.
+fn plain_struct(
+    alloc: Global,
+    cx: &Interner,
+    written: GenericArgKind,
+    args: GenericArgs,
+) -> Result<Option<(AdtId, Vec<GenericArgKind>)>, AllocError>
+    requires held { ArgHeld cx.now.entries written }
+    requires args { Has cx.now.entries args_lists args.0 }
+    ensures held { IfOk result (λ found. IfSome found (λ s. ArgsHeld cx.now.entries s.1.items)) }
+    ensures is { IfOk result (λ found. IfSome found (λ s. tree (adt s.0.index) (args_trees cx.now.entries s.1.items) none
+        ≡ instantiate zero (trees_at cx.now.entries args.0) (arg_trees cx.now.entries written))) }
+{
+    let GenericArgKind::Ty(ty) = written else {
+        return Ok(None);
+    };
+    let TyKind::Adt(id, inner) = cx.kind(ty) else {
+        return Ok(None);
+    };
+    match plain_instances(alloc, cx, inner, args)? {
+        Some(list) => Ok(Some((id, list))),
+        None => Ok(None),
+    }
+}
+
+/// The type of this struct with these arguments.
+fn struct_of(
+    cx: &mut Interner,
+    id: AdtId,
+    list: Vec<GenericArgKind>,
+) -> Result<GenericArgKind, Fault>
+    requires held { ArgsHeld cx.old.entries list.items }
+    ensures terms { GrewOrFull cx.old cx.new result }
+    ensures held { IfOk result (λ a. ArgHeld cx.new.entries a) }
+    ensures is { IfOk result (λ a. arg_trees cx.new.entries a ≡ tree (adt id.index) (args_trees cx.old.entries list.items) none) }
+{
+    let args = cx.mk_args(list)?;
+    let ty = cx.mk_ty(TyKind::Adt(id, args))?;
+    Ok(GenericArgKind::Ty(ty))
+}
+
+/// Instantiates an argument by a fold. Fails with `Memory` or `Full`.
+fn folded_instance(
+    alloc: Global,
+    cx: &mut Interner,
+    written: GenericArgKind,
+    args: GenericArgs,
+) -> Result<GenericArgKind, Fault>
+    requires held { ArgHeld cx.old.entries written }
+    requires args { Has cx.old.entries args_lists args.0 }
+    requires closed { outer_binder (trees_at cx.old.entries args.0) ≡ 0 }
+    requires fits { first_misfit (trees_at cx.old.entries args.0) (arg_trees cx.old.entries written) ≡ None }
+    ensures terms { GrewOrFull cx.old cx.new result }
+    ensures held { IfOk result (λ a. ArgHeld cx.new.entries a) }
+    ensures is { IfOk result (λ a. arg_trees cx.new.entries a
+        ≡ instantiate zero (trees_at cx.old.entries args.0) (arg_trees cx.old.entries written)) }
+{
+    closed_arguments_are_in_range();
+    match EarlyBinder::bind(written).instantiate(alloc, cx, args) {
+        Ok(instance) => Ok(instance),
+        Err(InstantiateError::Fault(fault)) => Err(fault),
+        Err(InstantiateError::ParamOutOfRange) => unreachable!(),
+        Err(InstantiateError::ParamKind) => unreachable!(),
+    }
+}
+
 /// Instantiates an argument. Fails with `Memory` or `Full`.
 fn instantiate_arg(
     alloc: Global,
@@ -87,12 +180,9 @@ fn instantiate_arg(
     if let Some(found) = plain_instance(cx, written, args) {
         return Ok(found);
     }
-    closed_arguments_are_in_range();
-    match EarlyBinder::bind(written).instantiate(alloc, cx, args) {
-        Ok(instance) => Ok(instance),
-        Err(InstantiateError::Fault(fault)) => Err(fault),
-        Err(InstantiateError::ParamOutOfRange) => unreachable!(),
-        Err(InstantiateError::ParamKind) => unreachable!(),
+    match plain_struct(alloc, cx, written, args)? {
+        Some((id, list)) => struct_of(cx, id, list),
+        None => folded_instance(alloc, cx, written, args),
     }
 }
 

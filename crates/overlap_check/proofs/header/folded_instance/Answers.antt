@@ -1,6 +1,6 @@
 use Rattle.std.proofs.Common.{ap, ◌∙◌, Err}
 use Rattle.term_folds.specs.declared.instantiate.InstantiateError.TheVariants as error
-use Rattle.overlap_check.proofs.header.instantiate_arg.Goals as goal
+use Rattle.overlap_check.proofs.header.folded_instance.Goals as goal
 
 pub returns-in-Err-Fault-clause-terms : goal.returns-in-Err-Fault-clause-terms
 returns-in-Err-Fault-clause-terms c = record {
