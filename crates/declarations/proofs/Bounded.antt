@@ -1,8 +1,17 @@
 -- Supertraits with the arguments of a reference.
-use Rattle.std.proofs.Common.{◌≡◌, ℕ, List, [], ◌∷◌, ◌++◌, refl, ap, ◌∙◌}
-use Rattle.type_terms.specs.Promised.Trees.{Trees, none, instantiate}
+use Rattle.std.proofs.Common.{◌≡◌, ℕ, zero, suc, List, [], ◌∷◌, ◌++◌, refl, ap, ◌∙◌, sym, subst, None}
+use Rattle.std.specs.Option.{option_or}
+use Rattle.type_terms.specs.Promised.Label.{of_type, param}
+use Rattle.type_terms.specs.Promised.Trees.{Trees, none, tree, leaf, ◌+++◌, shift, instantiate}
+use Rattle.type_terms.specs.Trees.{Single}
 use Rattle.type_terms.specs.Promised.Worlds.{Reference, with_args}
-use Rattle.type_terms.specs.Promised.Handles.{Entry, Keeps, trees_at}
+use Rattle.type_terms.specs.Promised.Handles.{Entry, Is, Keeps, types, trees_at, ArgHeld, arg_trees}
+use Rattle.type_terms.specs.Terms.{Lawful}
+use Rattle.type_terms.specs.declared.kinds.GenericArgKind.{GenericArgKind}
+use Rattle.type_terms.specs.Kept.{trees-is}
+use Rattle.type_terms.proofs.TreeLaws.{append-none, shift-zero}
+use Rattle.term_folds.specs.Arguments.{first_misfit, misfit, sort_at}
+use Rattle.term_folds.proofs.ParamFacts.{arg-single}
 use Rattle.term_folds.specs.declared.predicate.TraitRef.{TraitRef}
 use Rattle.type_terms.specs.Pieces.{Piece, one_piece, each_piece}
 use Rattle.declarations.specs.Items.{reference_in}
@@ -30,6 +39,25 @@ pub one-instantiated : (old new : List Entry) (A : Trees) (b r : TraitRef) → r
 unfolding first-number first-trees
 one-instantiated old new A b r o p =
     same-refer r.def_id.index b.def_id.index (trees_at new r.args.0) (instantiate 0 A (trees_at old b.args.0)) (ap first-number o) (ap first-trees p)
+
+-- one argument is put for a parameter that stands alone
+only-argument : (A : Trees) (i : ℕ) → Single A → first_misfit (A +++ none) (leaf (param of_type i)) ≡ None → instantiate 0 (A +++ none) (leaf (param of_type i)) ≡ A +++ none
+only-argument none i s h = absurd s
+only-argument (tree l c o) zero s h =
+    append-none (shift zero zero (tree l c none)) ∙ shift-zero zero (tree l c none) ∙ ap (tree l c) (sym s ∙ sym (append-none o))
+only-argument (tree l c o) (suc i) s h = absurd (no-other i (subst (λ (z : Trees). first_misfit (tree l c (z +++ none)) (leaf (param of_type (suc i))) ≡ None) s h))
+  where
+    no-other : (j : ℕ) → option_or (misfit of_type (sort_at none j)) None ≡ None → ⊥
+    no-other j e = cc
+
+pub put-for-itself : (es : List Entry) → Lawful es → (a : GenericArgKind) → ArgHeld es a → (ty args bound i : ℕ) → Is es types ty (leaf (param of_type i))
+    → trees_at es bound ≡ trees_at es ty +++ none → trees_at es args ≡ arg_trees es a +++ none
+    → first_misfit (trees_at es args) (trees_at es bound) ≡ None → instantiate 0 (trees_at es args) (trees_at es bound) ≡ trees_at es args
+put-for-itself es law a held ty args bound i kind list A fits =
+    let B : trees_at es bound ≡ leaf (param of_type i) = list ∙ append-none (trees_at es ty) ∙ trees-is es types ty (leaf (param of_type i)) kind in
+    ap (instantiate 0 (trees_at es args)) B ∙ ap (λ z. instantiate 0 z (leaf (param of_type i))) A
+    ∙ only-argument (arg_trees es a) i (arg-single es law a held) (sym (ap (λ z. first_misfit z (leaf (param of_type i))) A) ∙ sym (ap (first_misfit (trees_at es args)) B) ∙ fits)
+    ∙ sym A
 
 pub all-same : (old new : List Entry) → Keeps old new → (rs : List TraitRef) → TraitRefsHeld old rs → references_in new rs ≡ references_in old rs
 all-same old new k [] h = refl

@@ -1,9 +1,10 @@
 //! Supertraits of trait references.
-ghost use Rattle.std.specs.Prelude.{◌≡◌, ◌++◌, ◌∷◌, [], IfOk, IfErr, OnOk, None};
+ghost use Rattle.std.specs.Prelude.{◌≡◌, ◌++◌, ◌∷◌, [], IfOk, IfErr, IfSome, OnOk, None, true};
+ghost use Rattle.type_terms.specs.Promised.Trees.{none, ◌+++◌, instantiate};
 ghost use Rattle.type_terms.specs.Trees.{outer_binder};
 ghost use Rattle.type_terms.specs.Promised.Worlds.{with_args, all_with_args};
 ghost use Rattle.type_terms.specs.Promised.Rules.{written_supertraits};
-ghost use Rattle.type_terms.specs.Promised.Handles.{Has, trees_at};
+ghost use Rattle.type_terms.specs.Promised.Handles.{Has, ArgHeld, arg_trees, trees_at, types};
 ghost use Rattle.type_terms.specs.Terms.{args_lists};
 ghost use Rattle.type_terms.specs.declared.Fault.TheVariants.{Memory};
 ghost use Rattle.term_folds.specs.Arguments.{first_misfit};
@@ -24,9 +25,46 @@ use term_folds::laws::closed_arguments_are_in_range;
 use term_folds::predicate::TraitRef;
 use type_terms::Fault;
 use type_terms::interner::Interner;
-use type_terms::kinds::GenericArgs;
+use type_terms::kinds::{GenericArgKind, GenericArgs, Ty, TyKind};
 
-/// A trait reference with its parameters replaced by arguments.
+/// The argument of a list that has no other.
+fn only_argument(cx: &Interner, args: GenericArgs) -> Option<GenericArgKind>
+    requires { Has cx.now.entries args_lists args.0 }
+    ensures { IfSome result (λ a. ArgHeld cx.now.entries a × (trees_at cx.now.entries args.0 ≡ arg_trees cx.now.entries a +++ none)) }
+{
+    match cx.args(args) {
+        [only] => Some(*only),
+        _ => None,
+    }
+}
+
+/// The type of a list that has no other argument.
+fn only_type(cx: &Interner, args: GenericArgs) -> Option<Ty>
+    requires { Has cx.now.entries args_lists args.0 }
+    ensures { IfSome result (λ t. Has cx.now.entries types t.0 × (trees_at cx.now.entries args.0 ≡ trees_at cx.now.entries t.0 +++ none)) }
+{
+    match cx.args(args) {
+        [GenericArgKind::Ty(ty)] => Some(*ty),
+        _ => None,
+    }
+}
+
+/// Whether a list is one parameter, and there is one argument for it. Then that argument is what the list becomes.
+fn is_only_parameter(cx: &Interner, bound: GenericArgs, args: GenericArgs) -> bool
+    requires bound { Has cx.now.entries args_lists bound.0 }
+    requires args { Has cx.now.entries args_lists args.0 }
+    requires fits { first_misfit (trees_at cx.now.entries args.0) (trees_at cx.now.entries bound.0) ≡ None }
+    ensures { result ≡ true → instantiate 0 (trees_at cx.now.entries args.0) (trees_at cx.now.entries bound.0) ≡ trees_at cx.now.entries args.0 }
+{
+    cx.lawful();
+    match (only_type(cx, bound), only_argument(cx, args)) {
+        (Some(ty), Some(_)) => matches!(cx.kind(ty), TyKind::Param(_)),
+        _ => false,
+    }
+}
+
+/// A trait reference with its parameters replaced by arguments. Of a trait without further parameters the arguments are the same, and
+/// no term is looked up.
 fn with_arguments(
     alloc: Global,
     cx: &mut Interner,
@@ -41,6 +79,10 @@ fn with_arguments(
     ensures held { IfOk result (ReferenceHeld cx.new.entries) }
     ensures is { IfOk result (λ r. reference_in cx.new.entries r ≡ with_args (trees_at cx.old.entries args.0) (reference_in cx.old.entries bound)) }
 {
+    if is_only_parameter(cx, bound.args, args) {
+        let def_id = bound.def_id;
+        return Ok(TraitRef { def_id, args });
+    }
     closed_arguments_are_in_range();
     match EarlyBinder::bind(bound).instantiate(alloc, cx, args) {
         Ok(instance) => Ok(instance),
