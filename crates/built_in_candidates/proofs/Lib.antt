@@ -13,6 +13,7 @@ pub mod ToDyn
 pub mod UnsizeRows
 pub mod Lifetimes
 pub mod Objects
+pub mod NextBounds
 pub mod RuleAfterRule
 pub mod Relevant
 pub mod FoundKinds

@@ -1,5 +1,6 @@
 -- `dyn` types: their bounds with a self type, and the bounds of one trait among them.
-use Rattle.std.specs.Prelude.{◌≡◌, ℕ, suc, ◌==◌, ◌&&◌, not, if◌then◌else◌, List, [], ◌∷◌, ◌++◌, Option, Some, None, IfSome}
+use Rattle.std.specs.Prelude.{◌≡◌, ℕ, suc, ◌==◌, ◌&&◌, not, if◌then◌else◌, List, [], ◌∷◌, ◌++◌, Option, Some, None, IfSome, option_map}
+use Rattle.std.specs.List.{slice_get}
 use Rattle.type_terms.specs.Promised.Label.{Label, of_lifetime, dynamic}
 use Rattle.type_terms.specs.Promised.Trees.{Trees, none, tree, leaf, ◌+++◌, sort_of}
 use Rattle.type_terms.specs.Trees.{outer_binder}
@@ -8,6 +9,7 @@ use Rattle.type_terms.specs.Promised.Rules.{sized, principal_with, autos_with, a
 use Rattle.type_terms.specs.Promised.Handles.{Entry, Has, bounds_lists, trees_at}
 use Rattle.type_terms.specs.declared.kinds.Bounds.{Bounds}
 use Rattle.term_folds.specs.declared.predicate.TraitRef.{TraitRef}
+use Rattle.goal_evaluator.specs.declared.candidate.CandidateSource.TheVariants.{BuiltinImpl}
 use Rattle.goal_evaluator.specs.declared.candidate.BuiltinImplSource.{BuiltinImplSource}
 use Rattle.goal_evaluator.specs.declared.candidate.BuiltinImplSource.TheVariants.{Misc, Object, TraitUpcasting}
 use Rattle.declarations.specs.Items.{Items, reference_in, trait_at}
@@ -15,7 +17,7 @@ use Rattle.declarations.specs.Promised.Elaboration.{Each}
 use Rattle.declarations.specs.Applied.{sorts_of, sorts_of_params}
 use Rattle.declarations.specs.Promised.Elaboration.{elaborate, supertraits}
 use Rattle.candidate_model.specs.Asking.{GoalOverKinds}
-use Rattle.candidate_model.specs.Candidates.{Candidate, if_so, upcasts_to}
+use Rattle.candidate_model.specs.Candidates.{Candidate, if_so, upcasts_to, by_objects}
 
 -- ---- parts of a type
 -- The bounds of a `dyn`, followed by its lifetime, if the first type is one.
@@ -71,6 +73,14 @@ written_and_elaborated t self b rs = if_so (not (t == sized)) (bounds_to t (λ i
 -- supertraits of `Sub`.
 abbrev pub object_bounds : World → ℕ → Trees → Trees → List BoundRule
 object_bounds V t self b = if_so (are_dyn_compatible V (principal_with self b)) (written_and_elaborated t self b (elaborate V (principal_with self b)))
+
+-- The rule with this index is of the bound with this number among the principal and its supertraits.
+abbrev pub IsOfBound : List BoundRule → ℕ → ℕ → Type 0
+IsOfBound rules number place = option_map (λ (x : BoundRule). x.source) (slice_get rules place) ≡ Some (Object number)
+
+-- So is the candidate with this index.
+abbrev pub IsByBound : World → GoalOverKinds → ℕ → ℕ → Type 0
+IsByBound V a number place = option_map (λ (c : Candidate). c.source) (slice_get (by_objects V a) place) ≡ Some (BuiltinImpl (Object number))
 
 -- The bounds of the trait t to which a `dyn` with this principal is upcast: the principal if it is of that trait, and else its supertraits.
 abbrev pub upcast_bounds : World → ℕ → List Reference → List BoundRule

@@ -1,6 +1,6 @@
 //! `dyn` types: their bounds, the principal with a self type, and its supertraits.
 ghost use Rattle.type_terms.specs.Growth.{GrewOrFull};
-ghost use Rattle.std.specs.Prelude.{◌≡◌, ◌==◌, List, [], ◌∷◌, length, filter, count_by, true, IfOk, OnOk};
+ghost use Rattle.std.specs.Prelude.{◌≡◌, ◌==◌, List, [], ◌∷◌, length, filter, count_by, true, IfOk, OnOk, suc, drop};
 ghost use Rattle.std.specs.List.{list_any, slice_get};
 ghost use Rattle.type_terms.specs.Promised.Trees.{Trees, ◌+++◌};
 ghost use Rattle.type_terms.specs.Promised.Rules.{principal_with, autos_with, are_declared, are_dyn_compatible};
@@ -298,6 +298,27 @@ pub(crate) fn reference_at(
                 return Some((number, *trait_ref));
             }
             before -= 1;
+        }
+    }
+    None
+}
+
+/// The first trait reference of the trait after the index `after` of the list, with its own index.
+pub(crate) fn reference_after(
+    references: &[TraitRef],
+    def_id: TraitId,
+    after: usize,
+) -> Option<(usize, TraitRef)>
+    ensures { result ≡ slice_get (numbered_to def_id.index (suc after) (drop (suc after) references.now)) 0 }
+{
+    if after >= references.len() {
+        return None;
+    }
+    let first = after + 1;
+    let (_, rest) = references.split_at(first);
+    'rest: for (place, trait_ref) in rest.iter().enumerate() {
+        if trait_ref.def_id.index == def_id.index {
+            return Some((first + place, *trait_ref));
         }
     }
     None

@@ -1,6 +1,6 @@
 //! Candidates by the bounds of a `dyn`, if the self type is one.
 ghost use Rattle.type_terms.specs.Growth.{GrewOrFull};
-ghost use Rattle.std.specs.Prelude.{◌≡◌, IfOk, IfSome, option_map, OnOk};
+ghost use Rattle.std.specs.Prelude.{◌≡◌, ℕ, suc, IfOk, IfSome, option_map, OnOk};
 ghost use Rattle.std.specs.List.{slice_get};
 ghost use Rattle.type_terms.specs.Promised.Rules.{principal_with};
 ghost use Rattle.type_terms.specs.Promised.Handles.{Has, types, bounds_lists, trees_at};
@@ -16,10 +16,12 @@ ghost use Rattle.declarations.specs.Promised.Elaboration.{supertraits};
 ghost use Rattle.candidate_model.specs.Candidates.{all_equal, by_rule, by_objects};
 ghost use Rattle.built_in_candidates.specs.Goals.{asked_of, candidate_of};
 ghost use Rattle.built_in_candidates.specs.Noted.{StayElaborated};
-ghost use Rattle.built_in_candidates.specs.Objects.{ObjectIsApplied, AreArgumentsOf, WithLifetime, bound_in, object_bounds, written_and_elaborated};
+ghost use Rattle.built_in_candidates.specs.Objects.{ObjectIsApplied, AreArgumentsOf, IsByBound, IsOfBound, WithLifetime, bound_in, object_bounds, written_and_elaborated};
 
 use crate::built_in::{SIZED, type_asked};
-use crate::dyn_type::{count_autos, dyn_bounds, is_dyn_compatible, noted_principal, reference_at};
+use crate::dyn_type::{
+    count_autos, dyn_bounds, is_dyn_compatible, noted_principal, reference_after, reference_at,
+};
 use crate::parts::by_rule;
 use crate::relate::relate_args;
 use declarations::declarations::Declarations;
@@ -109,6 +111,38 @@ fn object_bound_at(
     }
 }
 
+/// The bound of a `dyn` that comes next, among those of the asked trait, after the one with this number in the elaborated list. That one
+/// is a bound, so the principal is dyn compatible.
+fn object_bound_after(
+    alloc: Global,
+    cx: &mut Interner,
+    declarations: &Declarations,
+    object: AskedObject,
+    number: usize,
+    notes: &mut Vec<TraitRef>,
+) -> Result<Option<(BuiltinImplSource, TraitRef)>, Fault>
+    requires declared { AreHeld cx.old.entries declarations.now }
+    requires traits { HaveBounds cx.old.entries declarations.now }
+    requires self_held { Has cx.old.entries types object.self_ty.0 }
+    requires bounds { Has cx.old.entries bounds_lists object.bounds.0 }
+    requires applied { let S = trees_at cx.old.entries object.self_ty.0 in
+        WithLifetime cx.old.entries object.bounds (λ b. Each (AreArgumentsOf declarations.now) (principal_with S b)) }
+    requires notes { StayElaborated cx.old.entries declarations.now notes.old.items }
+    ensures terms { GrewOrFull cx.old cx.new result }
+    ensures notes { OnOk result (StayElaborated cx.new.entries declarations.now notes.new.items) }
+    ensures held { IfOk result (λ o. IfSome o (λ x. ReferenceHeld cx.new.entries x.1)) }
+    ensures is { let V = written cx.old.entries declarations.now in let S = trees_at cx.old.entries object.self_ty.0 in
+        IfOk result (λ o. WithLifetime cx.old.entries object.bounds (λ b. (place : ℕ) → IsOfBound (object_bounds V object.asked.index S b) number place
+        → option_map (bound_in cx.new.entries) o ≡ slice_get (object_bounds V object.asked.index S b) (suc place))) }
+{
+    let self_ty = object.self_ty;
+    noted_principal(alloc, cx, declarations, self_ty, object.bounds, notes)?;
+    match reference_after(notes, object.asked, number) {
+        Some((next, bound)) => Ok(Some((BuiltinImplSource::Object(next), bound))),
+        None => Ok(None),
+    }
+}
+
 /// The candidate by a bound of a `dyn`. It equates the goal's arguments with those of the bound. Its premises are the goal's
 /// supertraits. rustc: `probe_and_consider_object_bound_candidate`.
 fn bound_candidate(
@@ -173,6 +207,51 @@ pub fn consider_object_bound_candidate(
                 bounds,
             };
             match object_bound_at(alloc, cx, declarations, object, place, notes)? {
+                Some((source, bound)) => {
+                    let candidate = bound_candidate(alloc, cx, declarations, goal, source, bound)?;
+                    Ok(Some(candidate))
+                }
+                None => Ok(None),
+            }
+        }
+        None => Ok(None),
+    }
+}
+
+/// The candidate by the bound that comes next, after one of the principal or of its supertraits: that has this number in the elaborated
+/// list, and is the source of the candidate that was considered last. Nothing before it is looked at again.
+pub fn consider_next_object_bound_candidate(
+    alloc: Global,
+    cx: &mut Interner,
+    declarations: &Declarations,
+    goal: &CanonicalInput,
+    number: usize,
+    notes: &mut Vec<TraitRef>,
+) -> Result<Option<CandidateSpec>, Fault>
+    requires goal { GoalHeld cx.old.entries goal.now.goal }
+    requires first { StartsWithType (trees_at cx.old.entries goal.now.goal.predicate.trait_ref.args.0) }
+    requires declared { AreHeld cx.old.entries declarations.now }
+    requires bounds { HaveBounds cx.old.entries declarations.now }
+    requires applied { IsApplied cx.old.entries declarations.now goal.now.goal.predicate.trait_ref }
+    requires object { ObjectIsApplied declarations.now (trees_at cx.old.entries goal.now.goal.predicate.trait_ref.args.0) }
+    requires notes { StayElaborated cx.old.entries declarations.now notes.old.items }
+    ensures terms { GrewOrFull cx.old cx.new result }
+    ensures notes { OnOk result (StayElaborated cx.new.entries declarations.now notes.new.items) }
+    ensures held { IfOk result (λ o. IfSome o (SpecHeld cx.new.entries)) }
+    ensures is { let V = written cx.old.entries declarations.now in let a = asked_of cx.old.entries goal.now in
+        IfOk result (λ o. (place : ℕ) → IsByBound V a number place
+        → option_map (candidate_of V a.reference.trait cx.new.entries) o ≡ slice_get (by_objects V a) (suc place)) }
+{
+    let asked = goal.goal.predicate.trait_ref;
+    let self_ty = asked.self_ty(cx);
+    match dyn_bounds(cx, self_ty) {
+        Some(bounds) => {
+            let object = AskedObject {
+                asked: asked.def_id,
+                self_ty,
+                bounds,
+            };
+            match object_bound_after(alloc, cx, declarations, object, number, notes)? {
                 Some((source, bound)) => {
                     let candidate = bound_candidate(alloc, cx, declarations, goal, source, bound)?;
                     Ok(Some(candidate))
