@@ -36,7 +36,7 @@ use Rattle.type_terms.proofs.TypeBasics.{some-is}
 pub none-is : (x : Candidate) → ◌≡◌ {A = Option Candidate} None (Some x) → ⊥
 none-is x e = cc
 
-at-every : (P : Candidate → Type 0) (xs : List Candidate) (n : ℕ) (x : Candidate) → Every P xs → slice_get xs n ≡ Some x → P x
+pub at-every : (P : Candidate → Type 0) (xs : List Candidate) (n : ℕ) (x : Candidate) → Every P xs → slice_get xs n ≡ Some x → P x
 at-every P [] n x h e = absurd (none-is x e)
 at-every P (y ∷ xs) zero x h e = subst P (some-is y x e) h.0
 at-every P (y ∷ xs) (suc n) x h e = at-every P xs n x h.1 e

@@ -1,8 +1,10 @@
 -- What the candidates that were considered determine, the oldest first.
-use Rattle.std.specs.Prelude.{ℕ, Bool, List, [], ◌∷◌, map, length, filter, Option}
+use Rattle.std.specs.Prelude.{ℕ, ◌==◌, Bool, false, List, [], ◌∷◌, map, length, filter, Option}
 use Rattle.type_terms.specs.Promised.Handles.{Entry}
 use Rattle.type_terms.specs.declared.ImplId.{ImplId}
 use Rattle.goal_evaluator.specs.declared.candidate.CandidateSource.{CandidateSource}
+use Rattle.goal_evaluator.specs.declared.candidate.CandidateSource.TheVariants.{BuiltinImpl}
+use Rattle.goal_evaluator.specs.declared.candidate.BuiltinImplSource.TheVariants.{Object}
 use Rattle.goal_evaluator.specs.declared.candidate.Considered.{Considered}
 use Rattle.goal_evaluator.specs.StepReadings.{Shows, shown_by}
 use Rattle.candidate_model.specs.Solver.{SolverPast, is_clause, is_impl}
@@ -16,6 +18,11 @@ is_of b WhereClauses s = is_clause s
 is_of b BuiltInRules s = is_built_in b s
 is_of b Impls s = is_impl s
 is_of b ObjectBounds s = is_bound b s
+
+-- The source is the bound with this number among the principal and its supertraits.
+abbrev pub is_numbered_bound : ℕ → CandidateSource → Bool
+is_numbered_bound n (BuiltinImpl (Object i)) = i == n
+is_numbered_bound n s = false
 
 -- How many of the candidates have such a source.
 abbrev pub count_from : (CandidateSource → Bool) → List Considered → ℕ

@@ -18,7 +18,7 @@ ghost use Rattle.candidate_model.specs.Asking.{clauses, self_of};
 ghost use Rattle.candidate_model.specs.Candidates.{by_clauses, built_in, by_impls};
 ghost use Rattle.candidate_model.specs.Solver.{is_clause};
 ghost use Rattle.built_in_candidates.specs.Constituents.{CanBeConsidered};
-ghost use Rattle.candidate_assembly.specs.Counted.{is_of, count_from, last_from, ends_by, ForEachPast};
+ghost use Rattle.candidate_assembly.specs.Counted.{is_numbered_bound, is_of, count_from, last_from, ends_by, ForEachPast};
 ghost use Rattle.built_in_candidates.specs.Goals.{asked_of, candidate_of};
 ghost use Rattle.candidate_assembly.specs.Headers.{HaveCandidates, impls_above};
 ghost use Rattle.built_in_candidates.specs.Objects.{ObjectIsApplied};
@@ -104,13 +104,31 @@ fn last_impl(done: &[Considered]) -> Option<ImplId>
     None
 }
 
-/// Whether the candidate that was considered last of all is of the section: of where-clauses or of impls. It looks at no other.
+/// Whether the candidate that was considered last of all is of the section: of where-clauses, of impls, or of the bounds of the principal.
+/// It looks at no other.
 pub(crate) fn ends_by(done: &[Considered], section: Section) -> bool
     ensures { result ≡ ends_by (is_of false section) false done.now }
 {
     match done.split_last() {
         Some((newest, _)) => section.has(newest.source, false),
         None => false,
+    }
+}
+
+/// The number of the bound that was considered last of all, if that is one of the principal or of its supertraits. It looks at no other
+/// candidate.
+pub(crate) fn last_bound(done: &[Considered]) -> Option<usize>
+    ensures { IfSome result (λ number. ends_by (is_numbered_bound number) false done.now ≡ true) }
+{
+    match done.split_last() {
+        Some((newest, _)) => match newest.source {
+            CandidateSource::BuiltinImpl(rule) => match rule {
+                BuiltinImplSource::Object(number) => Some(number),
+                _ => None,
+            },
+            _ => None,
+        },
+        None => None,
     }
 }
 

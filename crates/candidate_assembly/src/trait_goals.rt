@@ -31,13 +31,15 @@ ghost use Rattle.candidate_assembly.specs.Sections.{is_unknowable, is_bound, is_
 
 use crate::assembly::{
     Section, assemble_builtin_impl_candidates, assemble_impl_candidates,
-    assemble_param_env_candidates, considered_from, ends_by, misc_is_bound,
+    assemble_param_env_candidates, considered_from, ends_by, last_bound, misc_is_bound,
 };
 use crate::decided::is_decided;
 use crate::knowable::is_knowable;
 use crate::merge::merge_trait_candidates;
 use crate::unknowable::consider_coherence_unknowable_candidate;
-use built_in_candidates::object::consider_object_bound_candidate;
+use built_in_candidates::object::{
+    consider_next_object_bound_candidate, consider_object_bound_candidate,
+};
 use built_in_candidates::parts::unsure;
 use declarations::declarations::Declarations;
 use goal_evaluator::{
@@ -275,7 +277,8 @@ fn candidate_outside_coherence(
 }
 
 /// The next candidate of a goal that is decided, in the goal's mode. If the newest candidate is by an impl, then no where-clause and no
-/// built-in rule is left, and nothing has settled the goal. So nothing before that impl is looked at again.
+/// built-in rule is left, and nothing has settled the goal. So nothing before that impl is looked at again. If it is by a bound of the
+/// principal, no impl is left either.
 fn decided_candidate(
     alloc: Global,
     cx: &mut Interner,
@@ -296,6 +299,9 @@ fn decided_candidate(
 {
     if ends_by(done, Section::Impls) {
         return late_candidate(alloc, cx, declarations, goal, done, notes);
+    }
+    if let Some(number) = last_bound(done) {
+        return consider_next_object_bound_candidate(alloc, cx, declarations, goal, number, notes);
     }
     match goal.mode {
         TypingMode::Coherence => candidate_in_coherence(alloc, cx, declarations, goal, done, notes),
@@ -356,8 +362,8 @@ fn mode_at_end(mode: TypingMode, decided: bool) -> TypingMode
     if decided { mode } else { TypingMode::Coherence }
 }
 
-/// Whether the goal is decided, after these candidates were considered. A goal of which an impl or a where-clause was considered is: its
-/// terms and its where-clauses are not walked again for each of these.
+/// Whether the goal is decided, after these candidates were considered. A goal of which an impl, a where-clause or a bound of the principal
+/// was considered is: its terms and its where-clauses are not walked again for each of these.
 fn stays_decided(
     cx: &Interner,
     declarations: &Declarations,
@@ -373,6 +379,9 @@ fn stays_decided(
         return true;
     }
     if ends_by(done, Section::WhereClauses) {
+        return true;
+    }
+    if ends_by(done, Section::ObjectBounds) {
         return true;
     }
     is_decided(cx, declarations, goal)

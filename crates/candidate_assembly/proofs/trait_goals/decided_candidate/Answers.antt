@@ -5,7 +5,8 @@ use Rattle.candidate_assembly.specs.Fitting.{solving_of}
 use Rattle.built_in_candidates.specs.Goals.{asked_of}
 use Rattle.candidate_assembly.specs.Sections.{next_in}
 use Rattle.candidate_assembly.specs.Solving.{meaning_for}
-use Rattle.candidate_assembly.proofs.BehindImpls.{behind-impl}
+use Rattle.candidate_assembly.proofs.DecidedGoals.{object}
+use Rattle.candidate_assembly.proofs.BehindImpls.{behind-impl, behind-bound}
 use Rattle.candidate_assembly.proofs.trait_goals.decided_candidate.Goals as goal
 
 pub returns-then-ends_by-clause-is : goal.returns-then-ends_by-clause-is
@@ -13,6 +14,17 @@ returns-then-ends_by-clause-is c =
     IfOk-weaker c.late_candidate.result _ _
     (λ o p seen s t. p seen s t ∙ behind-impl c.args.cx.now.entries c.args.declarations.now c.args.goal.now c.args.done.now (sym c.ends_by.ensures ∙ c.if-ends_by.true) c.requires.decided seen s t)
     c.late_candidate.ensures.is
+
+pub consider_next_object_bound_candidate-requires-clause-object : goal.consider_next_object_bound_candidate-requires-clause-object
+consider_next_object_bound_candidate-requires-clause-object c = object c.args.cx.now.entries c.args.declarations.now c.args.goal.now c.requires.decided
+
+pub returns-in-Some-clause-is : goal.returns-in-Some-clause-is
+returns-in-Some-clause-is c =
+    IfOk-weaker c.consider_next_object_bound_candidate.result _ _
+    (λ o p seen s t.
+    let x = behind-bound c.args.cx.now.entries c.args.declarations.now c.args.goal.now c.args.done.now c.in-Some.number c.in-Some.ensures c.requires.decided seen s t in
+    p x.place x.was ∙ x.is)
+    c.consider_next_object_bound_candidate.ensures.is
 
 pub returns-in-Coherence-clause-is : goal.returns-in-Coherence-clause-is
 returns-in-Coherence-clause-is c =
