@@ -55,7 +55,7 @@ pub fn ask<H: GoalHandler>(
     let resolved = resolve_goal(cx.alloc, &mut cx.interner, table, goal);
     cx.interner.lawful();
     let resolved = resolved?;
-    let canonicalized = canonicalize_goal(cx.alloc, &mut cx.interner, table, mode, goal);
+    let canonicalized = canonicalize_goal(cx.alloc, &mut cx.interner, table, mode, &resolved);
     cx.interner.lawful();
     let Canonicalized { input, values } = canonicalized?;
     let input = cx.keep_goal(input)?;

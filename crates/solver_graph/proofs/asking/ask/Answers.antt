@@ -6,7 +6,7 @@ use Rattle.infer_table.proofs.Numbers.{goal-held-later, goal-trees-later}
 use Rattle.solver_graph.specs.Shortages.{ContextFullAtLimit, interner}
 use Rattle.solver_graph.proofs.Growing.{later}
 use Rattle.solver_graph.proofs.Shortages.{handed}
-use Rattle.solver_graph.proofs.Later.{keeps-further, goal-in-later}
+use Rattle.solver_graph.proofs.Later.{keeps-further, goal-in-twice}
 use Rattle.solver_graph.proofs.asking.ask.Goals as goal
 
 pair : {A B : Type 0} → (m n : A) (f h : B) → m ≡ n → f ≡ h → ◌≡◌ {A = A × B} (m, f) (n, h)
@@ -17,11 +17,6 @@ returns-in_err-resolved-clause-advances g c =
     later g.H.GoalHandler.meaning.IsReady g.met.H.GoalHandler.lawful.ready_kept c.args.cx.now
     (record { alloc = c.args.cx.now.alloc; interner = c.resolve_goal-resolved.new.cx; handler = c.args.cx.now.handler; store = c.args.cx.now.store }) c.requires.ready refl refl
     c.resolve_goal-resolved.ensures.terms.grew.keeps c.lawful.ensures c.resolve_goal-resolved.ensures.terms.grew.limit
-
-pub canonicalize_goal-canonicalized-requires-clause-held :
-    goal.canonicalize_goal-canonicalized-requires-clause-held
-canonicalize_goal-canonicalized-requires-clause-held g c =
-    goal-held-later c.args.cx.now.interner.entries c.resolve_goal-resolved.new.cx.entries c.resolve_goal-resolved.ensures.terms.grew.keeps c.args.goal.now c.requires.goal
 
 pub returns-in_err-input-clause-advances : goal.returns-in_err-input-clause-advances
 returns-in_err-input-clause-advances g c =
@@ -55,7 +50,8 @@ returns-clause-input g c = (
       ∙ pair _ _ _ _ c.in_ok-input.ensures.mode
       (c.in_ok-input.ensures.form.form
       ∙ ap canonical_form
-      (goal-in-later c.args.cx.now.interner.entries c.resolve_goal-resolved.new.cx.entries c.resolve_goal-resolved.ensures.terms.grew.keeps c.args.table.now c.requires.table c.args.goal.now c.requires.goal)),
+      (goal-in-twice c.args.cx.now.interner.entries c.resolve_goal-resolved.new.cx.entries c.resolve_goal-resolved.ensures.terms.grew.keeps c.args.table.now c.requires.table c.args.goal.now c.in_ok-resolved.resolved
+      c.in_ok-resolved.ensures.resolved)),
 )
 
 pub returns-clause-values : goal.returns-clause-values
@@ -63,7 +59,8 @@ returns-clause-values g c =
     ap (λ z. labels z.entries c.in_ok-input.field-0.values.items) c.keep_goal.ensures.interner
     ∙ c.in_ok-input.ensures.values
     ∙ ap goal_leaves
-    (goal-in-later c.args.cx.now.interner.entries c.resolve_goal-resolved.new.cx.entries c.resolve_goal-resolved.ensures.terms.grew.keeps c.args.table.now c.requires.table c.args.goal.now c.requires.goal)
+    (goal-in-twice c.args.cx.now.interner.entries c.resolve_goal-resolved.new.cx.entries c.resolve_goal-resolved.ensures.terms.grew.keeps c.args.table.now c.requires.table c.args.goal.now c.in_ok-resolved.resolved
+    c.in_ok-resolved.ensures.resolved)
 
 pub returns-in_err-resolved-clause-full : goal.returns-in_err-resolved-clause-full
 returns-in_err-resolved-clause-full g c = handed (ContextFullAtLimit _) c.from_residual.result c.from_residual.ensures.1 (λ q. interner (c.in_err-resolved.ensures.terms.full q))
