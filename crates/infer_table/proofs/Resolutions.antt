@@ -3,14 +3,18 @@ use Rattle.std.proofs.Common.{◌≡◌, ℕ, true, refl, ap, sym, ◌∙◌, Li
 use Rattle.type_terms.specs.Promised.Label.{Label, of_trait, predicate}
 use Rattle.type_terms.specs.Promised.Trees.{Trees, none, tree, ◌+++◌}
 use Rattle.type_terms.specs.Promised.Handles.{Entry, Keeps, trees_at}
-use Rattle.type_terms.specs.Promised.Handles.{region_trees}
+use Rattle.type_terms.specs.Promised.Handles.{ArgsHeld, arg_trees, region_trees}
+use Rattle.type_terms.specs.Kinds.{args_trees}
+use Rattle.type_terms.specs.Kept.{args-trees-later}
+use Rattle.type_terms.specs.declared.kinds.GenericArgKind.{GenericArgKind}
 use Rattle.term_folds.specs.declared.predicate.Clause.{Clause}
 use Rattle.term_folds.specs.declared.predicate.Clause.TheVariants.{Trait, RegionOutlives, TypeOutlives}
 use Rattle.term_folds.specs.Clauses.{ClauseHeld, clause_outline, clause_pieces, clause-pieces-later}
 use Rattle.std.specs.Prelude.{bit_and}
 use Rattle.type_terms.specs.Trees.{flags}
 use Rattle.type_terms.specs.Pieces.{Piece, each_piece, one_piece, piece_flags}
-use Rattle.type_terms.proofs.Items.{take-push}
+use Rattle.type_terms.proofs.Items.{args-push, take-push}
+use Rattle.type_terms.proofs.TreeLaws.{append-assoc}
 use Rattle.infer_table.specs.Solutions.{Binding, AllValued, resolved, is_rigid}
 use Rattle.infer_table.proofs.ClosedFacts.{or-left, or-right}
 use Rattle.infer_table.proofs.ResolveFacts.{value-free-resolved}
@@ -76,8 +80,21 @@ module _ (bs : List Binding) where
       ∙ sym (resolved-append bs (environment_trees old (take i xs)) (environment_trees old (x ∷ [])))
       ∙ ap (resolved bs) (sym (environment-append old (take i xs) (x ∷ []))) ∙ ap (λ z. resolved bs (environment_trees old z)) (sym from)
 
-  pub predicate-resolved : (i j : ℕ) (t u : Trees) → j ≡ i → one_piece u ≡ each_piece (λ d t. resolved bs t) (one_piece t) → tree (predicate (of_trait j)) u none ≡ resolved bs (tree (predicate (of_trait i)) t none)
-  predicate-resolved i j t u e h = node _ _ _ _ _ _ (ap (λ n. predicate (of_trait n)) e) (ap first_trees h) (sym (resolved-none bs)) ∙ sym (resolved-rigid bs (predicate (of_trait i)) t none refl)
+  pub predicate-resolved : (i : ℕ) (t u : Trees) → u ≡ resolved bs t → tree (predicate (of_trait i)) u none ≡ resolved bs (tree (predicate (of_trait i)) t none)
+  predicate-resolved i t u h = node _ _ _ _ _ _ refl h (sym (resolved-none bs)) ∙ sym (resolved-rigid bs (predicate (of_trait i)) t none refl)
+
+  pub only-piece : (t u : Trees) → one_piece u ≡ each_piece (λ d t. resolved bs t) (one_piece t) → u ≡ resolved bs t
+  only-piece t u h = ap first_trees h
+
+  -- one more argument is resolved
+  pub one-more-argument : (es now new : List Entry) → Keeps now new → (xs : List GenericArgKind) (a x : GenericArgKind) (rest : List GenericArgKind) (all : Trees) → ArgsHeld now xs
+      → arg_trees new a ≡ resolved bs (arg_trees es x) → args_trees now xs +++ resolved bs (args_trees es (x ∷ rest)) ≡ all → args_trees new (xs ++ a ∷ []) +++ resolved bs (args_trees es rest) ≡ all
+  one-more-argument es now new kept xs a x rest all h e f =
+      ap (λ z. z +++ resolved bs (args_trees es rest)) (args-push new xs a)
+      ∙ append-assoc (args_trees new xs) (arg_trees new a) (resolved bs (args_trees es rest))
+      ∙ ap (λ z. z +++ (arg_trees new a +++ resolved bs (args_trees es rest))) (args-trees-later now new kept xs h)
+      ∙ ap (λ z. args_trees now xs +++ (z +++ resolved bs (args_trees es rest))) e
+      ∙ ap (λ z. args_trees now xs +++ z) (sym (resolved-append bs (arg_trees es x) (args_trees es rest))) ∙ f
 
 pub resolved-nothing : (bs : List Binding) → none ≡ resolved bs none
 resolved-nothing bs = sym (resolved-none bs)

@@ -30,6 +30,10 @@ impl InferCtxt {
             ≡ occurs of_type variable.index (resolved (content cx.now.entries self.now.values) (trees_at cx.now.entries ty.0))) }
         ensures proper { IfOk result (λ b. b ≡ false → IsProper (trees_at cx.now.entries ty.0)) }
     {
+        let flags = cx.flags(ty).0;
+        if flags & TypeFlags::HAS_INFER.0 == 0 {
+            return Ok(false);
+        }
         let mut entered = Entered::new(self.alloc);
         let mut todo = Vec::new(self.alloc);
         todo.push(ty)?;
