@@ -1,9 +1,7 @@
-use Rattle.std.proofs.Common.{◌≡◌, zero, refl, ap, sym, ◌∙◌, subst}
+use Rattle.std.proofs.Common.{◌≡◌, zero, ap, sym, ◌∙◌, subst}
 use Rattle.type_terms.specs.Promised.Trees.{◌+++◌, instantiate}
 use Rattle.type_terms.specs.Promised.Handles.{ArgsHeld, trees_at}
 use Rattle.type_terms.specs.Kinds.{args_trees}
-use Rattle.type_terms.specs.Terms.{args_lists}
-use Rattle.type_terms.specs.Kept.{trees-is}
 use Rattle.type_terms.proofs.Items.{args-held-push}
 use Rattle.type_terms.proofs.ListBasics.{nothing}
 use Rattle.type_terms.proofs.TreeLaws.{append-none}
