@@ -29,7 +29,7 @@ use Rattle.goal_evaluator.specs.Variables.{is_variable_over}
 use Rattle.goal_frames.specs.RuleFitting.{slots_of, IsOverSlots}
 use Rattle.declarations.specs.Promised.Elaboration.{elaborate, supertraits}
 use Rattle.candidate_model.specs.Asking.{GoalOverKinds, clauses, self_of, next_of, begins_unknown, all_known, are_clauses, goal_over_kinds}
-use Rattle.candidate_model.specs.Candidates.{Candidate, all_equal, premise, by_rule, unsure, unknowable, clause_source, by_clauses, rules_behind, is_this_param, kind_of_param, kinds_of_params, by_the_impl, can_match, by_impls, as_written, misc, if_so, by_sized, by_copy, by_auto, by_tuple, by_fn_ptr, call_of, by_call, unsize_array_of, upcast_source, upcasts_from, upcasts_to, upcasts_of, unsize_by_struct, unsize_struct_of, unsize_known, recording, unsizing_outlives, unsize_recording, by_unsize, built_in, bounds_from, object_source, written_source, objects_of, by_objects}
+use Rattle.candidate_model.specs.Candidates.{Candidate, all_equal, premise, by_rule, unsure, unknowable, clause_source, can_be, by_clauses, rules_behind, is_this_param, kind_of_param, kinds_of_params, by_the_impl, can_match, by_impls, as_written, misc, if_so, by_sized, by_copy, by_auto, by_tuple, by_fn_ptr, call_of, by_call, unsize_array_of, upcast_source, upcasts_from, upcasts_to, upcasts_of, unsize_by_struct, unsize_struct_of, unsize_known, recording, unsizing_outlives, unsize_recording, by_unsize, built_in, bounds_from, object_source, written_source, objects_of, by_objects}
 use Rattle.candidate_model.specs.Cover.{AreTermsOf, all_candidates}
 use Rattle.candidate_model.specs.Declared.{are_terms, is_unsorted, is_otherwise}
 use Rattle.candidate_model.specs.DeclaredWell.{IsDeclaredWell}
@@ -88,7 +88,7 @@ module _ (V : World) (fields : (x : StructDecl) → In x V.structs → Every Are
   -- ---- where-clauses
   clauses-over : (rs : List Reference) → Every (λ (r : Reference). AreOver ls r.args) rs → Every Fit (by_clauses V a rs)
   clauses-over [] h = tt
-  clauses-over (r ∷ rs) h = by (r.trait == a.reference.trait) (clauses-over rs h.1)
+  clauses-over (r ∷ rs) h = by (can_be a.reference r) (clauses-over rs h.1)
     where
       by : (b : Bool) → Every Fit (by_clauses V a rs) → Every Fit (if b then by_rule V a (ParamEnv (clause_source r)) (all_equal a.reference.args r.args) [] ∷ by_clauses V a rs else by_clauses V a rs)
       by true k = (rule-over (ParamEnv (clause_source r)) (all_equal a.reference.args r.args) [] (over-equal ls a.reference.args r.args (goal []) h.0) tt, k)

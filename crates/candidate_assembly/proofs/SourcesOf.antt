@@ -12,7 +12,7 @@ use Rattle.goal_evaluator.specs.declared.candidate.BuiltinImplSource.TheVariants
 use Rattle.declarations.specs.Promised.Elaboration.{elaborate, supertraits}
 use Rattle.candidate_model.specs.Asking.{GoalOverKinds, self_of, next_of, begins_unknown}
 use Rattle.candidate_model.specs.Solver.{is_clause, is_non_global, is_impl}
-use Rattle.candidate_model.specs.Candidates.{Candidate, unsure, all_equal, by_rule, clause_source, by_clauses, by_the_impl, can_match, by_impls, as_written, misc, if_so, by_sized, by_copy, by_auto, by_tuple, by_fn_ptr, call_of, by_call, unsize_array_of, upcast_source, upcasts_from, upcasts_to, upcasts_of, unsize_by_struct, unsize_struct_of, unsize_known, unsizing_outlives, unsize_recording, built_in, bounds_from, object_source, written_source, objects_of, by_objects}
+use Rattle.candidate_model.specs.Candidates.{Candidate, unsure, all_equal, by_rule, clause_source, can_be, by_clauses, by_the_impl, can_match, by_impls, as_written, misc, if_so, by_sized, by_copy, by_auto, by_tuple, by_fn_ptr, call_of, by_call, unsize_array_of, upcast_source, upcasts_from, upcasts_to, upcasts_of, unsize_by_struct, unsize_struct_of, unsize_known, unsizing_outlives, unsize_recording, built_in, bounds_from, object_source, written_source, objects_of, by_objects}
 use Rattle.type_terms.proofs.Members.{same-number}
 use Rattle.candidate_model.proofs.Recording.{every-recorded}
 use Rattle.candidate_assembly.specs.Sections.{begins_dyn, misc_is_bound, is_unknowable, is_built_in, is_bound, autos_of, sources_tell}
@@ -110,7 +110,7 @@ module _ (V : World) (a : GoalOverKinds) where
 
   pub clauses-are : (rs : List Reference) → Are is_clause (by_clauses V a rs)
   clauses-are [] = tt
-  clauses-are (r ∷ rs) = if-first is_clause (r.trait == a.reference.trait) (by_rule V a (ParamEnv (clause_source r)) (all_equal a.reference.args r.args) []) (by_clauses V a rs) refl (clauses-are rs)
+  clauses-are (r ∷ rs) = if-first is_clause (can_be a.reference r) (by_rule V a (ParamEnv (clause_source r)) (all_equal a.reference.args r.args) []) (by_clauses V a rs) refl (clauses-are rs)
 
   pub impls-are : (is : List ImplDecl) → Are is_impl (by_impls V a is)
   impls-are [] = tt

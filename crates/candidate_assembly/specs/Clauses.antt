@@ -1,19 +1,23 @@
--- The where-clauses of a goal that are for its trait.
-use Rattle.std.specs.Prelude.{ℕ, ◌==◌, if◌then◌else◌, List, [], ◌∷◌, Option, Some, None}
+-- The where-clauses of a goal that can be the goal itself.
+use Rattle.std.specs.Prelude.{if◌then◌else◌, List, [], ◌∷◌, Option, Some, None}
 use Rattle.term_folds.specs.declared.predicate.Clause.{Clause}
 use Rattle.term_folds.specs.declared.predicate.Clause.TheVariants.{Trait}
 use Rattle.term_folds.specs.declared.predicate.TraitRef.{TraitRef}
+use Rattle.type_terms.specs.Promised.Worlds.{Reference}
+use Rattle.type_terms.specs.Promised.Handles.{Entry}
+use Rattle.declarations.specs.Items.{reference_in}
+use Rattle.candidate_model.specs.Candidates.{can_be}
 
--- The trait reference of a where-clause, if it is one of the trait t.
-abbrev pub reference_of : ℕ → Clause → Option TraitRef
-reference_of t (Trait p) = if p.trait_ref.def_id.index == t then Some p.trait_ref else None
-reference_of t c = None
+-- The trait reference of a where-clause, if it can be q.
+abbrev pub reference_of : List Entry → Reference → Clause → Option TraitRef
+reference_of es q (Trait p) = if can_be q (reference_in es p.trait_ref) then Some p.trait_ref else None
+reference_of es q c = None
 
 abbrev pub with_reference : Option TraitRef → List TraitRef → List TraitRef
 with_reference None rs = rs
 with_reference (Some r) rs = r ∷ rs
 
--- The trait references of the trait t among where-clauses.
-abbrev pub references_to : ℕ → List Clause → List TraitRef
-references_to t [] = []
-references_to t (c ∷ cs) = with_reference (reference_of t c) (references_to t cs)
+-- The trait references among where-clauses that can be q.
+abbrev pub references_to : List Entry → Reference → List Clause → List TraitRef
+references_to es q [] = []
+references_to es q (c ∷ cs) = with_reference (reference_of es q c) (references_to es q cs)

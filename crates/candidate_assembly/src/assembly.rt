@@ -132,7 +132,7 @@ pub(crate) fn last_bound(done: &[Considered]) -> Option<usize>
     }
 }
 
-/// The next candidate by a where-clause of the goal's trait after these candidates were considered, if one is left.
+/// The next candidate by a where-clause that can be the goal after these candidates were considered, if one is left.
 ///
 /// Fails with `Memory`, or with `Full` if a table of the interner is full. rustc: `assemble_param_env_candidates`.
 pub fn assemble_param_env_candidates(

@@ -3,24 +3,26 @@ ghost use Rattle.type_terms.specs.Growth.{GrewOrFull};
 ghost use Rattle.std.specs.Prelude.{◌≡◌, IfOk, IfSome, option_map};
 ghost use Rattle.std.specs.List.{slice_get};
 ghost use Rattle.type_terms.specs.Promised.Worlds.{World};
-ghost use Rattle.infer_table.specs.Goals.{GoalHeld};
+ghost use Rattle.term_folds.specs.Clauses.{ClauseHeld};
+ghost use Rattle.infer_table.specs.Goals.{GoalHeld, ClausesHeld};
 ghost use Rattle.goal_evaluator.specs.Readings.{SpecHeld};
 ghost use Rattle.declarations.specs.Items.{reference_in};
 ghost use Rattle.declarations.specs.Held.{ReferenceHeld};
 ghost use Rattle.candidate_model.specs.Asking.{clauses};
-ghost use Rattle.candidate_model.specs.Candidates.{clause_source, by_clauses};
+ghost use Rattle.candidate_model.specs.Candidates.{clause_source, can_be, by_clauses};
 ghost use Rattle.built_in_candidates.specs.Goals.{asked_of, candidate_of};
 ghost use Rattle.candidate_assembly.specs.Clauses.{reference_of, references_to};
 
 use crate::visitors::has_open_places;
 use built_in_candidates::parts::by_rule;
 use built_in_candidates::relate::relate_args;
+use declarations::apart::are_apart;
 use goal_evaluator::{CandidateSource, CandidateSpec, ParamEnvSource};
 use infer_table::input::CanonicalInput;
 use std::alloc::Global;
 use term_folds::predicate::{Clause, TraitRef};
+use type_terms::Fault;
 use type_terms::interner::Interner;
-use type_terms::{Fault, TraitId};
 
 /// Whether a where-clause is global: it holds no parameter, variable or bound variable, and no lifetime but `'static`. Its flags say so.
 ///
@@ -36,12 +38,25 @@ fn clause_source(cx: &Interner, trait_ref: TraitRef) -> ParamEnvSource
     }
 }
 
-fn reference_of(clause: &Clause, def_id: TraitId) -> Option<TraitRef>
-    ensures { result ≡ reference_of def_id.index clause.now }
+/// Whether a where-clause can be what is asked: it is of the same trait, and its arguments are not disjoint from those that are asked.
+///
+/// rustc: `fast_reject_assumption`, by `DeepRejectCtxt`.
+fn can_be(cx: &Interner, asked: TraitRef, trait_ref: TraitRef) -> bool
+    requires asked { ReferenceHeld cx.now.entries asked }
+    requires held { ReferenceHeld cx.now.entries trait_ref }
+    ensures { result ≡ can_be (reference_in cx.now.entries asked) (reference_in cx.now.entries trait_ref) }
+{
+    trait_ref.def_id.index == asked.def_id.index && !are_apart(cx, asked.args, trait_ref.args)
+}
+
+fn reference_of(cx: &Interner, asked: TraitRef, clause: &Clause) -> Option<TraitRef>
+    requires asked { ReferenceHeld cx.now.entries asked }
+    requires held { ClauseHeld cx.now.entries clause.now }
+    ensures { result ≡ reference_of cx.now.entries (reference_in cx.now.entries asked) clause.now }
 {
     match clause {
         Clause::Trait(predicate) => {
-            if predicate.trait_ref.def_id.index == def_id.index {
+            if can_be(cx, asked, predicate.trait_ref) {
                 Some(predicate.trait_ref)
             } else {
                 None
@@ -52,15 +67,22 @@ fn reference_of(clause: &Clause, def_id: TraitId) -> Option<TraitRef>
     }
 }
 
-/// The trait reference at this index among those of the trait.
-fn reference_at(clauses: &[Clause], def_id: TraitId, place: usize) -> Option<TraitRef>
-    ensures { result ≡ slice_get (references_to def_id.index clauses.now) place }
+/// The trait reference at this index among those that can be the one that is asked.
+fn reference_at(
+    cx: &Interner,
+    clauses: &[Clause],
+    asked: TraitRef,
+    place: usize,
+) -> Option<TraitRef>
+    requires asked { ReferenceHeld cx.now.entries asked }
+    requires held { ClausesHeld cx.now.entries clauses.now }
+    ensures { result ≡ slice_get (references_to cx.now.entries (reference_in cx.now.entries asked) clauses.now) place }
 {
     let mut before = place;
     let mut left = clauses;
     'clauses: while let Some((clause, others)) = left.split_first() {
         left = others;
-        match reference_of(clause, def_id) {
+        match reference_of(cx, asked, clause) {
             Some(trait_ref) => {
                 if before == 0 {
                     return Some(trait_ref);
@@ -73,7 +95,7 @@ fn reference_at(clauses: &[Clause], def_id: TraitId, place: usize) -> Option<Tra
     None
 }
 
-/// The candidate by the where-clause at this index among those of the goal's trait, if there is one. It holds if the arguments are equal.
+/// The candidate by the where-clause at this index among those that can be the goal, if there is one. It holds if the arguments are equal.
 ///
 /// Fails with `Memory`, or with `Full` if a table of the interner is full. rustc: `consider_param_env_candidate`.
 pub fn consider_param_env_candidate(
@@ -89,7 +111,7 @@ pub fn consider_param_env_candidate(
         ≡ slice_get (by_clauses V (asked_of cx.old.entries goal.now) (clauses (asked_of cx.old.entries goal.now))) place) }
 {
     let asked = goal.goal.predicate.trait_ref;
-    match reference_at(&goal.goal.param_env, asked.def_id, place) {
+    match reference_at(cx, &goal.goal.param_env, asked, place) {
         Some(trait_ref) => {
             let source = CandidateSource::ParamEnv(clause_source(cx, trait_ref));
             let equations = relate_args(alloc, cx, asked.args, trait_ref.args)?;

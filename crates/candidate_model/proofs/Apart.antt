@@ -106,6 +106,15 @@ instances-meet ts A t h e =
       levels_meet = meet (λ d. read_with (given ts)) (λ d. instantiate d A) (read-reads ts) (instantiate-reads A) levels zero zero t h (sym e);
     })
 
+-- so is what is read as one
+pub reads-meet : (ts : List Trees) (x y : Trees) → read_with (given ts) x ≡ read_with (given ts) y → not (are_apart x y) ≡ true
+reads-meet ts x y e =
+    ap not
+    (not-apart x y record {
+      one = λ f g. same-complete x y (sym (fixed-read ts x (no-flags x f)) ∙ e ∙ fixed-read ts y (no-flags y g));
+      levels_meet = meet (λ d. read_with (given ts)) (λ d. read_with (given ts)) (read-reads ts) (read-reads ts) levels zero zero x y e;
+    })
+
 -- lifetimes tell nothing apart
 pub erased-apart : (t h : Trees) → not (are_apart t (erase h)) ≡ true → not (are_apart t h) ≡ true
 erased-apart t h e =

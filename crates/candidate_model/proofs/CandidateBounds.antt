@@ -20,7 +20,7 @@ use Rattle.candidate_model.specs.Asking.{GoalOverKinds, goal_over_kinds, all_kno
 use Rattle.declarations.specs.Promised.Elaboration.{elaborate, supertraits}
 use Rattle.candidate_model.specs.Meaning.{ViewMeaning}
 use Rattle.candidate_model.specs.Declared.{StructsAreOne, LeadDown}
-use Rattle.candidate_model.specs.Candidates.{Candidate, premise, by_rule, by_the_impl, rules_behind, misc, all_equal, unsure, unknowable, by_clauses, by_impls, can_match, by_sized, by_copy, by_auto, by_tuple, by_fn_ptr, call_of, by_call, unsize_array_of, upcasts_of, unsize_struct_of, unsize_known, unsizing_outlives, unsize_recording, by_unsize, built_in, object_source, written_source, bounds_from, objects_of, by_objects, as_written, clause_source}
+use Rattle.candidate_model.specs.Candidates.{Candidate, premise, by_rule, by_the_impl, rules_behind, misc, all_equal, unsure, unknowable, can_be, by_clauses, by_impls, can_match, by_sized, by_copy, by_auto, by_tuple, by_fn_ptr, call_of, by_call, unsize_array_of, upcasts_of, unsize_struct_of, unsize_known, unsizing_outlives, unsize_recording, by_unsize, built_in, object_source, written_source, bounds_from, objects_of, by_objects, as_written, clause_source}
 use Rattle.candidate_model.specs.Cover.{all_candidates}
 use Rattle.candidate_model.specs.Promised.Widths.{greatest, width_of, supers_of, supertraits_in, declared_width, clauses_in, built_in_rows, dyn_bounds, number_at}
 use Rattle.candidate_model.specs.Solver.{widest_of, most_candidates}
@@ -37,7 +37,7 @@ use Rattle.type_terms.proofs.NumberBasics.{in-goal}
 -- ---- where-clauses and impls
 clauses-few : (V : World) (a : GoalOverKinds) (rs : List Reference) → (length (by_clauses V a rs) ≤ length rs) × (nested_in frame_tables (by_clauses V a rs) ≡ 0)
 clauses-few V a [] = (omega arith, refl)
-clauses-few V a (r ∷ rs) = by (r.trait == a.reference.trait) (clauses-few V a rs)
+clauses-few V a (r ∷ rs) = by (can_be a.reference r) (clauses-few V a rs)
   where
     by : (b : Bool) → (length (by_clauses V a rs) ≤ length rs) × (nested_in frame_tables (by_clauses V a rs) ≡ 0)
         → (length (if b then by_rule V a (ParamEnv (clause_source r)) (all_equal a.reference.args r.args) [] ∷ by_clauses V a rs else by_clauses V a rs) ≤ suc (length rs))

@@ -14,7 +14,7 @@ use Rattle.goal_evaluator.specs.declared.candidate.BuiltinImplSource.TheVariants
 use Rattle.goal_evaluator.specs.FrameTables.{Equation}
 use Rattle.declarations.specs.Promised.Elaboration.{elaborate, supertraits}
 use Rattle.candidate_model.specs.Asking.{GoalOverKinds, clauses, self_of, next_of, begins_unknown}
-use Rattle.candidate_model.specs.Candidates.{Candidate, all_equal, clause_source, by_rule, by_the_impl, unsure, by_clauses, as_written, if_so, misc, by_sized, by_copy, by_auto, by_tuple, by_fn_ptr, call_of, by_call, unsize_array_of, upcast_source, upcasts_from, upcasts_to, upcasts_of, unsize_by_struct, unsize_struct_of, unsize_known, recording, unsizing_outlives, unsize_recording, built_in, by_impls, can_match, bounds_from, object_source, written_source, objects_of}
+use Rattle.candidate_model.specs.Candidates.{Candidate, all_equal, clause_source, by_rule, by_the_impl, unsure, can_be, by_clauses, as_written, if_so, misc, by_sized, by_copy, by_auto, by_tuple, by_fn_ptr, call_of, by_call, unsize_array_of, upcast_source, upcasts_from, upcasts_to, upcasts_of, unsize_by_struct, unsize_struct_of, unsize_known, recording, unsizing_outlives, unsize_recording, built_in, by_impls, can_match, bounds_from, object_source, written_source, objects_of}
 use Rattle.candidate_model.specs.Cover.{all_candidates}
 use Rattle.candidate_model.proofs.Recording.{every-recorded}
 use Rattle.goal_evaluator.proofs.Basics.{every-append}
@@ -44,7 +44,7 @@ module _ (V : World) (a : GoalOverKinds) where
   clauses-made : (rs : List Reference) → Every IsMadeAs (by_clauses V a rs)
   clauses-made [] = tt
   clauses-made (r ∷ rs) =
-      if-first (r.trait == a.reference.trait) (by_rule V a (ParamEnv (clause_source r)) (all_equal a.reference.args r.args) []) (by_clauses V a rs) (rule-made (ParamEnv (clause_source r)) (all_equal a.reference.args r.args) []) (clauses-made rs)
+      if-first (can_be a.reference r) (by_rule V a (ParamEnv (clause_source r)) (all_equal a.reference.args r.args) []) (by_clauses V a rs) (rule-made (ParamEnv (clause_source r)) (all_equal a.reference.args r.args) []) (clauses-made rs)
 
   written-made : (source : CandidateSource) (us : List Rule) → Every IsMadeAs (as_written V a source us)
   written-made source [] = tt

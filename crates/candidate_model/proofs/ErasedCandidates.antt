@@ -19,7 +19,7 @@ use Rattle.goal_evaluator.specs.FrameTables.{Equation}
 use Rattle.candidate_model.specs.Facts.{tree_of_reference}
 use Rattle.candidate_model.specs.Lifetimes.{lacks_lifetime, are_given}
 use Rattle.candidate_model.specs.Asking.{GoalOverKinds}
-use Rattle.candidate_model.specs.Candidates.{Candidate, premise, clause_source, by_rule, by_clauses, as_written, misc, if_so, all_equal, kinds_of_params, kind_of_param, is_this_param, call_of, unsize_array_of, upcasts_of, upcasts_to, upcasts_from, upcast_source, unsize_by_struct, bounds_from, object_source, written_source, objects_of, unknowable}
+use Rattle.candidate_model.specs.Candidates.{Candidate, premise, clause_source, by_rule, can_be, by_clauses, as_written, misc, if_so, all_equal, kinds_of_params, kind_of_param, is_this_param, call_of, unsize_array_of, upcasts_of, upcasts_to, upcasts_from, upcast_source, unsize_by_struct, bounds_from, object_source, written_source, objects_of, unknowable}
 use Rattle.candidate_model.specs.Solver.{IsSolution}
 use Rattle.candidate_model.specs.Cover.{slots, nested_at, SolvesEquations}
 use Rattle.candidate_model.proofs.Reading.{read_reference, read-append}
@@ -200,7 +200,7 @@ module _ (H : Reference → Type 0) (V : World) (cs : List CrateDecl) (a : GoalO
 
   pub clauses-same : (rs : List Reference) → by_clauses U a rs ≡ by_clauses V a rs
   clauses-same [] = refl
-  clauses-same (r ∷ rs) = by (r.trait == a.reference.trait) (clauses-same rs)
+  clauses-same (r ∷ rs) = by (can_be a.reference r) (clauses-same rs)
     where
       by : (b : Bool) → by_clauses U a rs ≡ by_clauses V a rs
           → (if b then by_rule U a (ParamEnv (clause_source r)) (all_equal a.reference.args r.args) [] ∷ by_clauses U a rs else by_clauses U a rs)

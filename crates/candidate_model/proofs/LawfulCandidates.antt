@@ -33,7 +33,8 @@ use Rattle.candidate_model.specs.Facts.{is_coinductive_trait, clauses_of}
 use Rattle.candidate_model.specs.Meaning.{ViewMeaning}
 use Rattle.candidate_model.specs.Asking.{GoalOverKinds, goal_over_kinds, asked_with, all_known, are_clauses, begins_with_type, next_of, clauses}
 use Rattle.goal_evaluator.specs.Variables.{is_variable_over}
-use Rattle.candidate_model.specs.Candidates.{Candidate, premise, by_rule, by_the_impl, unknowable, by_clauses, rules_behind, clause_source, all_equal}
+use Rattle.declarations.specs.Apart.{are_apart}
+use Rattle.candidate_model.specs.Candidates.{Candidate, premise, by_rule, by_the_impl, unknowable, can_be, by_clauses, rules_behind, clause_source, all_equal}
 use Rattle.candidate_model.specs.Declared.{are_terms, are_references, is_declared_view, is_declared_leaf, is_counted}
 use Rattle.candidate_model.specs.Determined.{ImplsAreDetermined}
 use Rattle.candidate_model.specs.Solver.{solver_handled}
@@ -178,11 +179,11 @@ module _ (applicable : AnswerTrees → Bool) (same : AnswerTrees → AnswerTrees
 
   each-clause : (rs : List Reference) → ((r : Reference) → In r rs → In r (clauses_of a.environment)) → Every (λ c. IsSoundFor m f a c × IsNarrow h.widest c) (by_clauses V a rs)
   each-clause [] g = tt
-  each-clause (r ∷ rs) g = by (r.trait == a.reference.trait) refl (each-clause rs (λ q k. g q (there q r rs k)))
+  each-clause (r ∷ rs) g = by (can_be a.reference r) refl (each-clause rs (λ q k. g q (there q r rs k)))
     where
-      by : (b : Bool) → (r.trait == a.reference.trait) ≡ b → Every (λ c. IsSoundFor m f a c × IsNarrow h.widest c) (by_clauses V a rs)
+      by : (b : Bool) → can_be a.reference r ≡ b → Every (λ c. IsSoundFor m f a c × IsNarrow h.widest c) (by_clauses V a rs)
           → Every (λ c. IsSoundFor m f a c × IsNarrow h.widest c) (if b then of_clause r ∷ by_clauses V a rs else by_clauses V a rs)
-      by true q e = ((clause-is-sound r (g r (here r rs)) q, (equal-within h.widest a.reference.args r.args goal-width (clause-width r (g r (here r rs))), tt)), e)
+      by true q e = ((clause-is-sound r (g r (here r rs)) (left (r.trait == a.reference.trait) (not (are_apart a.reference.args r.args)) q), (equal-within h.widest a.reference.args r.args goal-width (clause-width r (g r (here r rs))), tt)), e)
       by false q e = e
 
   pub each-lawful : Every (IsSoundFor m f a) (other_candidates m a) → Every (IsNarrow h.widest) (unknowable V a ∷ other_candidates m a) → Every (CandidateIsLawful frame_tables h) (unknowable V a ∷ all_candidates V a)

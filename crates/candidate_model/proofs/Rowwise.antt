@@ -13,7 +13,7 @@ use Rattle.goal_evaluator.specs.Lists.{Every}
 use Rattle.goal_evaluator.specs.FrameTables.{Equation}
 use Rattle.declarations.specs.Promised.Elaboration.{elaborate, supertraits}
 use Rattle.candidate_model.specs.Asking.{GoalOverKinds, clauses, self_of, next_of, begins_unknown}
-use Rattle.candidate_model.specs.Candidates.{Candidate, all_equal, by_rule, unsure, clause_source, by_clauses, by_the_impl, can_match, by_impls, as_written, misc, if_so, by_sized, by_copy, by_auto, by_tuple, by_fn_ptr, call_of, by_call, unsize_array_of, upcast_source, upcasts_from, upcasts_to, upcasts_of, unsize_by_struct, unsize_struct_of, unsize_known, recording, unsizing_outlives, unsize_recording, by_unsize, built_in, bounds_from, object_source, written_source, objects_of, by_objects}
+use Rattle.candidate_model.specs.Candidates.{Candidate, all_equal, by_rule, unsure, clause_source, can_be, by_clauses, by_the_impl, can_match, by_impls, as_written, misc, if_so, by_sized, by_copy, by_auto, by_tuple, by_fn_ptr, call_of, by_call, unsize_array_of, upcast_source, upcasts_from, upcasts_to, upcasts_of, unsize_by_struct, unsize_struct_of, unsize_known, recording, unsizing_outlives, unsize_recording, by_unsize, built_in, bounds_from, object_source, written_source, objects_of, by_objects}
 use Rattle.candidate_model.specs.Cover.{all_candidates}
 use Rattle.candidate_model.proofs.Recording.{every-recorded}
 use Rattle.goal_evaluator.proofs.Basics.{both-lists}
@@ -123,7 +123,7 @@ module _ (V : World) (a : GoalOverKinds) (P : Candidate → Type 0) (E : List Eq
 
     clauses-so : (rs : List Reference) → Every (λ (r : Reference). E (all_equal a.reference.args r.args)) rs → Every P (by_clauses V a rs)
     clauses-so [] h = tt
-    clauses-so (r ∷ rs) h = by (r.trait == a.reference.trait) (clauses-so rs h.1)
+    clauses-so (r ∷ rs) h = by (can_be a.reference r) (clauses-so rs h.1)
       where
         by : (b : Bool) → Every P (by_clauses V a rs) → Every P (if b then by_rule V a (ParamEnv (clause_source r)) (all_equal a.reference.args r.args) [] ∷ by_clauses V a rs else by_clauses V a rs)
         by true k = (rows.rule _ _ [] h.0, k)

@@ -91,10 +91,14 @@ unknowable V a = record {
 abbrev pub clause_source : Reference → ParamEnvSource
 clause_source r = if some_node is_open r.args then NonGlobal else Global
 
+-- The where-clause r can be the goal's reference q: they are of one trait, and their arguments are not disjoint. rustc:
+-- `fast_reject_assumption`, by `DeepRejectCtxt`.
+abbrev pub can_be : Reference → Reference → Bool
+can_be q r = (r.trait == q.trait) && not (are_apart q.args r.args)
+
 abbrev pub by_clauses : World → GoalOverKinds → List Reference → List Candidate
 by_clauses V a [] = []
-by_clauses V a (r ∷ rs) =
-    if r.trait == a.reference.trait then by_rule V a (ParamEnv (clause_source r)) (all_equal a.reference.args r.args) [] ∷ by_clauses V a rs else by_clauses V a rs
+by_clauses V a (r ∷ rs) = if can_be a.reference r then by_rule V a (ParamEnv (clause_source r)) (all_equal a.reference.args r.args) [] ∷ by_clauses V a rs else by_clauses V a rs
 
 -- ---- impls
 -- The kind of an impl's parameter is that of its occurrences in the header. A parameter that does not occur there is a lifetime.

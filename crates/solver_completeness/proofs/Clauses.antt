@@ -26,7 +26,9 @@ use Rattle.solver_completeness.specs.ClosedTables.{AreClosed, ArePlaces}
 use Rattle.candidate_model.specs.Facts.{clauses_of, reference_in}
 use Rattle.candidate_model.specs.Meaning.{ViewMeaning}
 use Rattle.candidate_model.specs.Asking.{GoalOverKinds, goal_over_kinds, clauses, are_clauses}
-use Rattle.candidate_model.specs.Candidates.{first_value, all_equal, by_rule, by_clauses, clause_source}
+use Rattle.candidate_model.specs.Candidates.{first_value, all_equal, by_rule, can_be, by_clauses, clause_source}
+use Rattle.declarations.specs.Apart.{are_apart}
+use Rattle.candidate_model.proofs.Apart.{reads-meet}
 use Rattle.candidate_model.specs.Cover.{goal_fact}
 use Rattle.candidate_model.proofs.EquationTerms.{IsOpenTerms, first-made, made-open, rests, rest-made, leaf-is, one-is, term-is}
 use Rattle.candidate_model.proofs.Facts.{same-self}
@@ -79,20 +81,22 @@ module _ (m : ViewMeaning) (f : CanonicalForm) (a : GoalOverKinds) (is_asked : g
 
   -- the where-clause, and then others
   one-clause : (r : Reference) → is_made (is_variable_over a.kinds) terms r.args ≡ true → (rs others : List Reference) → AreWaysOf a v its_instance (by_clauses m.view a rs) (clause_ways (reference_in its_instance) others)
-      → (b : Bool) → (r.trait == a.reference.trait) ≡ b → (d : Bool) → same (read r.args) (read a.reference.args) ≡ d
-      → AreWaysOf a v its_instance (if b then by_rule m.view a (ParamEnv (clause_source r)) (all_equal a.reference.args r.args) [] ∷ by_clauses m.view a rs else by_clauses m.view a rs)
+      → (b n : Bool) → not (are_apart a.reference.args r.args) ≡ n → (d : Bool) → same (read r.args) (read a.reference.args) ≡ d
+      → AreWaysOf a v its_instance (if b && n then by_rule m.view a (ParamEnv (clause_source r)) (all_equal a.reference.args r.args) [] ∷ by_clauses m.view a rs else by_clauses m.view a rs)
       (if b && d then [] ∷ clause_ways (reference_in its_instance) others else clause_ways (reference_in its_instance) others)
-  one-clause r h rs others u true e true g =
+  one-clause r h rs others u true true e true g =
       applied (rule-applies m f a is_asked closed v places (ParamEnv (clause_source r)) (all_equal a.reference.args r.args) []
       (equal-meets its_terms a.reference.args r.args open-args (made-open a.kinds terms r.args h) (sym (same-sound (read r.args) (read a.reference.args) g)))) u
-  one-clause r h rs others u true e false g = refused (clause-refuses r h g) u
-  one-clause r h rs others u false e d g = u
+  one-clause r h rs others u true true e false g = refused (clause-refuses r h g) u
+  one-clause r h rs others u true false e true g = absurd (false-true (sym e ∙ reads-meet its_terms.slots a.reference.args r.args (sym (same-sound (read r.args) (read a.reference.args) g))))
+  one-clause r h rs others u true false e false g = u
+  one-clause r h rs others u false n e d g = u
 
   all-clauses : (E : Trees) → are_clauses a.kinds E ≡ true → AreWaysOf a v its_instance (by_clauses m.view a (clauses_of E)) (clause_ways (reference_in its_instance) (clauses_of (read E)))
   all-clauses none h = no_more
   all-clauses (tree (predicate (of_trait t)) c o) h =
       one-clause (record { trait = t; args = c }) (left (is_made (is_variable_over a.kinds) terms c) (are_clauses a.kinds o) h) (clauses_of o) (clauses_of (read o))
-      (all-clauses o (right (is_made (is_variable_over a.kinds) terms c) (are_clauses a.kinds o) h)) (t == a.reference.trait) refl (same (read c) (read a.reference.args)) refl
+      (all-clauses o (right (is_made (is_variable_over a.kinds) terms c) (are_clauses a.kinds o) h)) (t == a.reference.trait) (not (are_apart a.reference.args c)) refl (same (read c) (read a.reference.args)) refl
   all-clauses (tree (param s i) c o) h = absurd (false-true h)
   all-clauses (tree (placeholder s i) c o) h = absurd (false-true h)
   all-clauses (tree (infer s i) c o) h = absurd (false-true h)

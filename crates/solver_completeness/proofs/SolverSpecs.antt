@@ -22,7 +22,7 @@ use Rattle.candidate_model.specs.Meaning.{ViewMeaning}
 use Rattle.candidate_model.specs.Knowing.{is_knowable}
 use Rattle.candidate_model.specs.DeclaredWell.{IsDeclaredWell}
 use Rattle.candidate_model.specs.Asking.{GoalOverKinds, goal_over_kinds, all_known, clauses, self_of, next_of, begins_unknown}
-use Rattle.candidate_model.specs.Candidates.{Candidate, unsure, unknowable, by_clauses, can_match, by_impls, as_written, misc, if_so, by_sized, by_copy, by_auto, by_tuple, by_fn_ptr, call_of, by_call, unsize_array_of, upcasts_from, upcasts_to, upcasts_of, unsize_by_struct, unsize_struct_of, unsize_known, unsizing_outlives, unsize_recording, by_unsize, built_in, bounds_from, object_source, written_source, objects_of, by_objects, upcast_source, all_equal, by_rule}
+use Rattle.candidate_model.specs.Candidates.{Candidate, unsure, unknowable, can_be, by_clauses, can_match, by_impls, as_written, misc, if_so, by_sized, by_copy, by_auto, by_tuple, by_fn_ptr, call_of, by_call, unsize_array_of, upcasts_from, upcasts_to, upcasts_of, unsize_by_struct, unsize_struct_of, unsize_known, unsizing_outlives, unsize_recording, by_unsize, built_in, bounds_from, object_source, written_source, objects_of, by_objects, upcast_source, all_equal, by_rule}
 use Rattle.candidate_model.specs.Cover.{all_candidates}
 use Rattle.candidate_model.specs.Solver.{most_candidates}
 use Rattle.candidate_model.proofs.CandidateKinds.{all-made}
@@ -177,7 +177,7 @@ module _ (V : World) (a : GoalOverKinds) where
 
   clauses-sure : (rs : List Reference) → Every Sure (by_clauses V a rs)
   clauses-sure [] = tt
-  clauses-sure (r ∷ rs) = by (r.trait == a.reference.trait) _ refl (clauses-sure rs)
+  clauses-sure (r ∷ rs) = by (can_be a.reference r) _ refl (clauses-sure rs)
     where
       by : (b : Bool) (c : Candidate) → Sure c → Every Sure (by_clauses V a rs) → Every Sure (if b then c ∷ by_clauses V a rs else by_clauses V a rs)
       by true c e h = (e, h)

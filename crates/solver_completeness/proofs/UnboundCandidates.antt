@@ -25,7 +25,7 @@ use Rattle.declarations.specs.Promised.Elaboration.{elaborate, supertraits}
 use Rattle.candidate_model.specs.Declared.{is_declared_leaf, are_terms, are_references}
 use Rattle.candidate_model.specs.DeclaredWell.{IsDeclaredWell}
 use Rattle.candidate_model.specs.Asking.{GoalOverKinds, clauses, self_of, next_of, begins_unknown, with_plain_head}
-use Rattle.candidate_model.specs.Candidates.{Candidate, premise, first_value, all_equal, clause_source, by_rule, moved, rules_behind, by_the_impl, unsure, unknowable, by_clauses, as_written, if_so, misc, by_sized, by_copy, by_auto, by_tuple, by_fn_ptr, call_of, by_call, unsize_array_of, upcast_source, upcasts_from, upcasts_to, upcasts_of, unsize_by_struct, unsize_struct_of, unsize_known, unsizing_outlives, unsize_recording, built_in, by_impls, can_match, bounds_from, object_source, written_source, objects_of}
+use Rattle.candidate_model.specs.Candidates.{Candidate, premise, first_value, all_equal, clause_source, by_rule, moved, rules_behind, by_the_impl, unsure, unknowable, can_be, by_clauses, as_written, if_so, misc, by_sized, by_copy, by_auto, by_tuple, by_fn_ptr, call_of, by_call, unsize_array_of, upcast_source, upcasts_from, upcasts_to, upcasts_of, unsize_by_struct, unsize_struct_of, unsize_known, unsizing_outlives, unsize_recording, built_in, by_impls, can_match, bounds_from, object_source, written_source, objects_of}
 use Rattle.candidate_model.specs.Cover.{all_candidates}
 use Rattle.candidate_model.proofs.Instances.{is_bound, Unbound}
 use Rattle.candidate_model.proofs.PlainRules.{every-flat}
@@ -276,7 +276,7 @@ module _ (V : World) (well : IsDeclaredWell V) where
 
     clauses-fine : (rs : List Reference) → Every IsFine (by_clauses V a rs)
     clauses-fine [] = tt
-    clauses-fine (r ∷ rs) = if-first (r.trait == a.reference.trait) _ (by_clauses V a rs) (rule-fine (ParamEnv (clause_source r)) (all_equal a.reference.args r.args) [] tt) (clauses-fine rs)
+    clauses-fine (r ∷ rs) = if-first (can_be a.reference r) _ (by_clauses V a rs) (rule-fine (ParamEnv (clause_source r)) (all_equal a.reference.args r.args) [] tt) (clauses-fine rs)
 
     written-fine : (source : CandidateSource) (us : List Rule) → HaveShut us → Every IsFine (as_written V a source us)
     written-fine source [] h = tt
