@@ -5,7 +5,7 @@ ghost use Rattle.text_language.specs.Promised.Declarations.{known};
 ghost use Rattle.text_lines.specs.TokenViews.{text_of};
 ghost use Rattle.text_lines.specs.Views.{param_of, params_in};
 ghost use Rattle.text_names.specs.Machine.{seen_items};
-ghost use Rattle.text_names.specs.Params.{lifetimes_said, others_said, lifetime_name, other_name, names_taken, are_taken};
+ghost use Rattle.text_names.specs.Params.{lifetimes_said, others_said, lifetime_name, other_name, collected_taken, are_taken};
 
 use crate::judge_use::{has_static, repeats};
 use crate::looked_up::Names;
@@ -65,7 +65,7 @@ fn any_known<N: Names>(names: &N, params: &[&[u8]]) -> bool
 
 impl<'a> ParamNames<'a> {
     fn are_taken<N: Names>(&self, names: &N, alloc: Global) -> Result<bool, AllocError>
-        ensures { IfOk result (λ b. b ≡ names_taken (seen_items (N.sight names.now)) (map text_of self.now.lifetimes.items) (map text_of self.now.others.items)) }
+        ensures { IfOk result (λ b. b ≡ collected_taken (seen_items (N.sight names.now)) self.now) }
     {
         if repeats(alloc, &self.lifetimes)? {
             return Ok(true);
