@@ -23,6 +23,7 @@ ghost use Rattle.coherence.specs.Queries.{HasNoQuery, IsNamedAnswer, IsProveQuer
 
 use crate::ask_fault::AskFault;
 use crate::lines::{question_line, verdict_line};
+use crate::listener::Nobody;
 use crate::named_answer::{NamedAnswer, named_answer};
 use crate::query::{ProveQuery, Query, RefuteQuery};
 use sessions::type_terms::{CrateId, Fault};
@@ -93,7 +94,7 @@ fn question_answer(
     ensures view { IfSome view.new (IsLeftView workspace.now limits.handles) }
 {
     let mut session = Session::on_crate(alloc, workspace, id, limits, view.take())?;
-    let answer = question_line(alloc, &mut session, workspace, place);
+    let answer = question_line(alloc, &mut session, workspace, place, &mut Nobody {});
     *view = Some(session.into_view());
     answer
 }
@@ -114,7 +115,7 @@ fn prove_answer(
     ensures view { IfSome view.new (IsLeftView workspace.now limits.handles) }
 {
     let mut session = Session::on_crate(alloc, workspace, query.crate_id, limits, view.take())?;
-    let answer = named_answer(alloc, &mut session, workspace, query.number);
+    let answer = named_answer(alloc, &mut session, workspace, query.number, &mut Nobody {});
     *view = Some(session.into_view());
     answer
 }

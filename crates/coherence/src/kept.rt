@@ -11,6 +11,7 @@ ghost use Rattle.coherence.specs.KeptLines.{KeepsChecks, KeepsQuestions, KeepsLi
 
 use crate::groups::Group;
 use crate::lines::{check_line, question_line};
+use crate::listener::Listener;
 use sessions::Session;
 use sessions::type_terms::Fault;
 use sessions::workspace::{Check, ENTRY_LIMIT, Workspace};
@@ -113,12 +114,13 @@ fn check_line_once(
 }
 
 /// Makes the checks of the session's crate, and stores their lines.
-fn keep_checks(
+fn keep_checks<L: Listener>(
     alloc: Global,
     session: &mut Session<'_>,
     workspace: &Workspace,
     places: &[usize],
     lines: &mut Vec<KeptLine>,
+    listener: &mut L,
 ) -> Result<(), Fault>
     requires on { session.old.declarations ≡ workspace.now }
     requires numbered { IsNumbered workspace.now }
@@ -132,17 +134,19 @@ fn keep_checks(
     for place in places {
         let text = check_line_once(alloc, session, workspace, *place, &mut supers)?;
         lines[*place] = KeptLine { text };
+        listener.checked(session, workspace, *place);
     }
     Ok(())
 }
 
 /// Answers the queries of the session's crate, and stores their lines.
-fn keep_questions(
+fn keep_questions<L: Listener>(
     alloc: Global,
     session: &mut Session<'_>,
     workspace: &Workspace,
     places: &[u32],
     lines: &mut Vec<KeptLine>,
+    listener: &mut L,
 ) -> Result<(), Fault>
     requires on { session.old.declarations ≡ workspace.now }
     requires parsed { IsOfText workspace.now }
@@ -154,7 +158,7 @@ fn keep_questions(
     ensures full { IfErr result (SessionFullAtLimit session.new) }
 {
     for place in places {
-        let text = question_line(alloc, session, workspace, *place)?;
+        let text = question_line(alloc, session, workspace, *place, listener)?;
         lines[*place as usize] = KeptLine { text };
     }
     Ok(())
@@ -162,12 +166,13 @@ fn keep_questions(
 
 /// Makes the checks of the session's crate, answers its queries, and stores their lines. Fails with `Memory`, or with `Full` only if the
 /// session is at a limit.
-pub fn keep_answers(
+pub fn keep_answers<L: Listener>(
     alloc: Global,
     session: &mut Session<'_>,
     workspace: &Workspace,
     group: &Group,
     lines: &mut KeptLines,
+    listener: &mut L,
 ) -> Result<(), Fault>
     requires on { session.old.declarations ≡ workspace.now }
     requires parsed { IsOfText workspace.now }
@@ -179,12 +184,20 @@ pub fn keep_answers(
     ensures stays { StaysOn session.old session.new }
     ensures full { IfErr result (SessionFullAtLimit session.new) }
 {
-    keep_checks(alloc, session, workspace, &group.checks, &mut lines.checks)?;
+    keep_checks(
+        alloc,
+        session,
+        workspace,
+        &group.checks,
+        &mut lines.checks,
+        listener,
+    )?;
     keep_questions(
         alloc,
         session,
         workspace,
         &group.questions,
         &mut lines.questions,
+        listener,
     )
 }

@@ -18,6 +18,7 @@ ghost use Rattle.coherence.specs.Promised.CrateAnswers.{crate_text, impl_home, n
 ghost use Rattle.coherence.specs.Lines.{header_text, orphan_line, verdict_line};
 ghost use Rattle.coherence.specs.KeptLines.{NamesImpls, HasCheckLine, IsCheckLineOf, HasLine, IsLineOf};
 
+use crate::listener::Listener;
 use crate::named_answer::{named_answer, print_named};
 use sessions::type_terms::interner::Interner;
 use sessions::type_terms::kinds::Ty;
@@ -271,11 +272,12 @@ pub fn check_line(
 }
 
 /// The line of a `prove` query of the session's crate. Queries count from 1.
-fn prove_line(
+fn prove_line<L: Listener>(
     alloc: Global,
     session: &mut Session<'_>,
     workspace: &Workspace,
     number: u32,
+    listener: &mut L,
 ) -> Result<Vec<u8>, Fault>
     requires on { session.old.declarations ≡ workspace.now }
     requires parsed { IsOfText workspace.now }
@@ -285,17 +287,18 @@ fn prove_line(
     ensures stays { StaysOn session.old session.new }
     ensures full { IfErr result (SessionFullAtLimit session.new) }
 {
-    let answer = named_answer(alloc, session, workspace, number)?;
+    let answer = named_answer(alloc, session, workspace, number, listener)?;
     let line = print_named(alloc, number, &answer)?;
     Ok(line)
 }
 
 /// The line of a `refute` query of the session's crate. Queries count from 1.
-fn refute_line(
+fn refute_line<L: Listener>(
     alloc: Global,
     session: &mut Session<'_>,
     workspace: &Workspace,
     number: u32,
+    listener: &mut L,
 ) -> Result<Vec<u8>, Fault>
     requires on { session.old.declarations ≡ workspace.now }
     requires asked { (q : Question) × AsksRefutation workspace.now session.old.of_crate number q }
@@ -309,16 +312,18 @@ fn refute_line(
         RefuteAnswer::No => print_line(alloc, &Answer::No { question: number })?,
         RefuteAnswer::Open => print_line(alloc, &Answer::Open { question: number })?,
     };
+    listener.refuted(session, workspace, number, answer);
     Ok(line)
 }
 
 /// The line of a query of the session's crate, by its index in the text. Fails with `Memory`, or with `Full` only if the session is at a
 /// limit.
-pub fn question_line(
+pub fn question_line<L: Listener>(
     alloc: Global,
     session: &mut Session<'_>,
     workspace: &Workspace,
     place: u32,
+    listener: &mut L,
 ) -> Result<Vec<u8>, Fault>
     requires on { session.old.declarations ≡ workspace.now }
     requires parsed { IsOfText workspace.now }
@@ -330,8 +335,8 @@ pub fn question_line(
 {
     let number = place + 1;
     let line = match workspace.questions()[place as usize] {
-        Asked::Prove(_) => prove_line(alloc, session, workspace, number)?,
-        Asked::Refute(_) => refute_line(alloc, session, workspace, number)?,
+        Asked::Prove(_) => prove_line(alloc, session, workspace, number, listener)?,
+        Asked::Refute(_) => refute_line(alloc, session, workspace, number, listener)?,
     };
     Ok(line)
 }

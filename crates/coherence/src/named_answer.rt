@@ -12,6 +12,7 @@ ghost use Rattle.sessions.specs.Promised.Subjects.{IsOfText, AsksProof, StaysOn}
 ghost use Rattle.sessions.specs.TextQuestions.{IsQuestion};
 ghost use Rattle.coherence.specs.Queries.{IsNamedAnswer, named_line};
 
+use crate::listener::Listener;
 use sessions::type_terms::Fault;
 use sessions::type_terms::interner::Interner;
 use sessions::type_terms::kinds::GenericArgKind;
@@ -53,11 +54,12 @@ fn named_values(
 
 /// The answer of a `prove` query of the session's crate, with values by name. Queries count from 1. Fails with `Memory`, or with `Full` only
 /// if the session is at a limit.
-pub(crate) fn named_answer(
+pub(crate) fn named_answer<L: Listener>(
     alloc: Global,
     session: &mut Session<'_>,
     workspace: &Workspace,
     number: u32,
+    listener: &mut L,
 ) -> Result<NamedAnswer, Fault>
     requires on { session.old.declarations ≡ workspace.now }
     requires parsed { IsOfText workspace.now }
@@ -68,14 +70,15 @@ pub(crate) fn named_answer(
     ensures full { IfErr result (SessionFullAtLimit session.new) }
 {
     let answer = session.prove(number)?;
-    let named = match answer {
+    let named = match &answer {
         ProveAnswer::Yes(values) => {
-            let texts = named_values(alloc, session.interner(), workspace, number, &values)?;
+            let texts = named_values(alloc, session.interner(), workspace, number, values)?;
             NamedAnswer::Yes(texts)
         }
         ProveAnswer::Maybe => NamedAnswer::Maybe,
         ProveAnswer::Unproved => NamedAnswer::Unproved,
     };
+    listener.proved(session, workspace, number, &answer);
     Ok(named)
 }
 

@@ -18,6 +18,7 @@ ghost use Rattle.coherence.specs.declared.output_lines.LineCounts.{LineCounts};
 use crate::groups::{Group, groups_by_crate};
 use crate::kept::{KeptLines, keep_answers, next_line, no_lines};
 use crate::lines::verdict_line;
+use crate::listener::{Listener, Nobody};
 use crate::status::Status;
 use sessions::type_terms::{CrateId, Fault};
 use sessions::workspace::{ENTRY_LIMIT, Workspace};
@@ -44,13 +45,13 @@ fn crates_with_lines(workspace: &Workspace) -> usize
 }
 
 /// Judges the session's crate, and stores the lines of its checks and queries.
-fn judge_by(
-    alloc: Global,
+fn judge_by<L: Listener>(
     session: &mut Session<'_>,
     workspace: &Workspace,
     id: CrateId,
     group: &Group,
     lines: &mut KeptLines,
+    listener: &mut L,
 ) -> Result<Vec<u8>, Fault>
     requires parsed { IsOfText workspace.now }
     requires on { session.old.declarations ≡ workspace.now }
@@ -65,21 +66,24 @@ fn judge_by(
     ensures stays { OnOk result (StaysOn session.old session.new) }
     ensures full { IfErr result (SessionFullAtLimit session.new) }
 {
+    let alloc = *lines.checks.allocator();
     let verdict = session.check_crate()?;
     let line = verdict_line(alloc, session.interner(), workspace, id, &verdict)?;
-    keep_answers(alloc, session, workspace, group, lines)?;
+    listener.judged(session, workspace, &verdict);
+    keep_answers(alloc, session, workspace, group, lines, listener)?;
     Ok(line)
 }
 
 /// Makes the line of a crate, and stores the lines of its checks and queries. One session makes them all. It begins with the view that is
 /// stored, and leaves its own.
-fn judge_crate(
+fn judge_crate<L: Listener>(
     workspace: &Workspace,
     id: CrateId,
     limits: Limits,
     group: &Group,
     lines: &mut KeptLines,
     view: &mut Option<SeenView>,
+    listener: &mut L,
 ) -> Result<Vec<u8>, Fault>
     requires parsed { IsOfText workspace.now }
     requires numbered { IsNumbered workspace.now }
@@ -94,18 +98,19 @@ fn judge_crate(
 {
     let alloc = *lines.checks.allocator();
     let mut session = Session::on_crate(alloc, workspace, id, limits, view.take())?;
-    let line = judge_by(alloc, &mut session, workspace, id, group, lines)?;
+    let line = judge_by(&mut session, workspace, id, group, lines, listener)?;
     *view = Some(session.into_view());
     Ok(line)
 }
 
 /// Stores the lines of the checks and queries of `core`, which has no line of its own.
-fn answer_core(
+fn answer_core<L: Listener>(
     alloc: Global,
     workspace: &Workspace,
     limits: Limits,
     group: &Group,
     lines: &mut KeptLines,
+    listener: &mut L,
 ) -> Result<(), Fault>
     requires parsed { IsOfText workspace.now }
     requires numbered { IsNumbered workspace.now }
@@ -118,7 +123,7 @@ fn answer_core(
         return Ok(());
     }
     let mut session = Session::new(alloc, workspace, crate_at(workspace, 0), limits)?;
-    keep_answers(alloc, &mut session, workspace, group, lines)
+    keep_answers(alloc, &mut session, workspace, group, lines, listener)
 }
 
 /// What a text without a fault declares and queries, with the checks and queries of each crate, the lines stored so far, and what the last
@@ -148,7 +153,12 @@ struct LineCounts {
 }
 
 /// What is needed for the lines of a text without a fault. The checks and queries of `core` are answered.
-fn text_answers(alloc: Global, workspace: Workspace, limits: Limits) -> Result<TextAnswers, Fault>
+fn text_answers<L: Listener>(
+    alloc: Global,
+    workspace: Workspace,
+    limits: Limits,
+    listener: &mut L,
+) -> Result<TextAnswers, Fault>
     requires { IsOfText workspace }
     ensures keeps { IfOk result (λ answers. KeepsAnswers limits.depth limits.handles 0 answers) }
     ensures same { IfOk result (λ answers. answers.workspace ≡ workspace) }
@@ -156,7 +166,7 @@ fn text_answers(alloc: Global, workspace: Workspace, limits: Limits) -> Result<T
     let _crates = workspace.crates();
     let mut kept = no_lines(alloc, &workspace)?;
     let groups = groups_by_crate(alloc, &workspace)?;
-    answer_core(alloc, &workspace, limits, &groups[0], &mut kept)?;
+    answer_core(alloc, &workspace, limits, &groups[0], &mut kept, listener)?;
     Ok(TextAnswers {
         workspace,
         groups,
@@ -166,7 +176,12 @@ fn text_answers(alloc: Global, workspace: Workspace, limits: Limits) -> Result<T
 }
 
 /// The line of the crate after this many others with lines of their own.
-fn crate_line(limits: Limits, answers: &mut TextAnswers, place: usize) -> Result<Vec<u8>, Fault>
+fn crate_line<L: Listener>(
+    limits: Limits,
+    answers: &mut TextAnswers,
+    place: usize,
+    listener: &mut L,
+) -> Result<Vec<u8>, Fault>
     requires keeps { KeepsAnswers limits.depth limits.handles place answers.old }
     requires there { place < length answers.old.workspace.crates - 1 }
     ensures line { IfOk result (λ text. IsVerdictLine limits.depth answers.old.workspace (place + 1) text.items) }
@@ -181,6 +196,7 @@ fn crate_line(limits: Limits, answers: &mut TextAnswers, place: usize) -> Result
         &answers.groups[place + 1],
         &mut answers.kept,
         &mut answers.view,
+        listener,
     )
 }
 
@@ -194,10 +210,11 @@ fn fault_line(alloc: Global, found: &TextFault) -> Result<Vec<u8>, AllocError>
 }
 
 /// The next line of a text with a fault: that of the fault, once.
-fn next_of_fault(
+fn next_of_fault<L: Listener>(
     alloc: Global,
     found: &TextFault,
     given: &mut LineCounts,
+    listener: &mut L,
 ) -> Result<Option<Vec<u8>>, AllocError>
     requires { IsGivenOfFault given.old }
     ensures line { IfOk result (λ next. IfSome next (λ line. line.items ≡ output_text (fault found.now.line (fault_number found.now.kind)))) }
@@ -208,6 +225,7 @@ fn next_of_fault(
         return Ok(None);
     }
     let line = fault_line(alloc, found)?;
+    listener.faulty(*found);
     given.faults = 1;
     Ok(Some(line))
 }
@@ -235,11 +253,12 @@ fn next_kept(
 }
 
 /// The next line of a text without a fault.
-fn next_of_answers(
+fn next_of_answers<L: Listener>(
     alloc: Global,
     limits: Limits,
     answers: &mut TextAnswers,
     given: &mut LineCounts,
+    listener: &mut L,
 ) -> Result<Option<Vec<u8>>, Fault>
     requires order { IsGivenInOrder answers.old.workspace given.old }
     requires keeps { KeepsAnswers limits.depth limits.handles given.old.crates answers.old }
@@ -250,7 +269,7 @@ fn next_of_answers(
     ensures same { answers.new.workspace ≡ answers.old.workspace }
 {
     if given.crates < crates_with_lines(&answers.workspace) {
-        let line = crate_line(limits, answers, given.crates)?;
+        let line = crate_line(limits, answers, given.crates, listener)?;
         given.crates += 1;
         return Ok(Some(line));
     }
@@ -259,11 +278,12 @@ fn next_of_answers(
 }
 
 /// The next line of a text.
-fn next_of(
+fn next_of<L: Listener>(
     alloc: Global,
     limits: Limits,
     source: &mut LineSource,
     given: &mut LineCounts,
+    listener: &mut L,
 ) -> Result<Option<Vec<u8>>, Fault>
     requires { HoldsLines limits.depth limits.handles false given.old source.old }
     ensures line { IfOk result (λ next. IfSome next (λ line. IsLineAt limits.depth (text_of source.old) (lines_given given.old) line.items)) }
@@ -273,20 +293,25 @@ fn next_of(
     ensures same { text_of source.new ≡ text_of source.old }
 {
     match source {
-        LineSource::Fault(found) => Ok(next_of_fault(alloc, found, given)?),
-        LineSource::Answers(answers) => next_of_answers(alloc, limits, answers, given),
+        LineSource::Fault(found) => Ok(next_of_fault(alloc, found, given, listener)?),
+        LineSource::Answers(answers) => next_of_answers(alloc, limits, answers, given, listener),
     }
 }
 
 /// What the lines of a text are made of. The text is read whole.
-fn line_source(alloc: Global, text: &[u8], limits: Limits) -> Result<LineSource, Fault>
+fn line_source<L: Listener>(
+    alloc: Global,
+    text: &[u8],
+    limits: Limits,
+    listener: &mut L,
+) -> Result<LineSource, Fault>
     ensures text { IfOk result (λ source. TextGives text.now (text_of source)) }
     ensures holds { (given : LineCounts) → IsNoneGiven given → IfOk result (HoldsLines limits.depth limits.handles false given) }
 {
     match parse(alloc, text) {
         Err(TextError::Memory) => Err(Fault::Memory),
         Err(TextError::Text(found)) => Ok(LineSource::Fault(found)),
-        Ok(workspace) => Ok(LineSource::Answers(text_answers(alloc, workspace, limits)?)),
+        Ok(workspace) => Ok(LineSource::Answers(text_answers(alloc, workspace, limits, listener)?)),
     }
 }
 
@@ -325,7 +350,22 @@ impl OutputLines {
         ensures given { IfOk result (λ lines. lines.given ≡ 0) }
         ensures has_failed { IfOk result (λ lines. lines.has_failed ≡ false) }
     {
-        let source = line_source(alloc, text, limits)?;
+        OutputLines::heard(alloc, text, limits, &mut Nobody {})
+    }
+
+    /// The same, where a listener hears of the answers of `core`.
+    pub fn heard<L: Listener>(
+        alloc: Global,
+        text: &[u8],
+        limits: Limits,
+        listener: &mut L,
+    ) -> Result<Self, Fault>
+        ensures text { IfOk result (λ lines. TextGives text.now lines.text) }
+        ensures depth { IfOk result (λ lines. lines.depth ≡ limits.depth) }
+        ensures given { IfOk result (λ lines. lines.given ≡ 0) }
+        ensures has_failed { IfOk result (λ lines. lines.has_failed ≡ false) }
+    {
+        let source = line_source(alloc, text, limits, listener)?;
         let given = LineCounts {
             faults: 0,
             crates: 0,
@@ -360,10 +400,27 @@ impl OutputLines {
         ensures end { result ≡ None → (self.new ≡ self.old) × HasNoMore self.old }
         ensures over { self.old.has_failed ≡ true → result ≡ None }
     {
+        self.next_heard(&mut Nobody {})
+    }
+
+    /// The same, where a listener hears of the fault, or of the answers that are given for the line.
+    pub fn next_heard<L: Listener>(&mut self, listener: &mut L) -> Option<Result<Vec<u8>, Fault>>
+        ensures line { IfSome result (λ next. IfOk next (λ line. IsLineAt self.old.depth self.old.text self.old.given line.items)) }
+        ensures given { IfSome result (λ next. OnOk next (IsAfterLine self.old self.new)) }
+        ensures failed { IfSome result (λ next. OnErr next (IsAfterFault self.old self.new)) }
+        ensures end { result ≡ None → (self.new ≡ self.old) × HasNoMore self.old }
+        ensures over { self.old.has_failed ≡ true → result ≡ None }
+    {
         if self.has_failed {
             return None;
         }
-        match next_of(self.alloc, self.limits, &mut self.source, &mut self.given) {
+        match next_of(
+            self.alloc,
+            self.limits,
+            &mut self.source,
+            &mut self.given,
+            listener,
+        ) {
             Ok(None) => None,
             Ok(Some(line)) => Some(Ok(line)),
             Err(fault) => {

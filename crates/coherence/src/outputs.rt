@@ -3,6 +3,7 @@
 ghost use Rattle.std.specs.Prelude.{◌≡◌, ◌⊎◌, IfOk, IfErr};
 ghost use Rattle.coherence.specs.Promised.Told.{IsToldText};
 
+use crate::listener::Nobody;
 use crate::status::{RunFault, Status};
 use crate::text_run::answer_text;
 use sessions::Limits;
@@ -26,7 +27,7 @@ pub fn answer(alloc: Global, text: &[u8], limits: Limits) -> Result<Output, RunF
     ensures fault { IfErr result (λ fault. (fault ≡ RunFault.Memory) ⊎ (fault ≡ RunFault.Full)) }
 {
     let mut lines = Vec::new(alloc);
-    match answer_text(alloc, text, limits, &mut lines) {
+    match answer_text(alloc, text, limits, &mut lines, &mut Nobody {}) {
         Ok(status) => Ok(Output {
             text: lines,
             status,

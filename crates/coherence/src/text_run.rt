@@ -6,6 +6,7 @@ ghost use Rattle.coherence.specs.Promised.Streams.{ConsumesAtMost};
 ghost use Rattle.coherence.specs.Promised.Told.{AcceptedTextsHold, AllSayHeld, SupertraitsStand, TellsAll, TellsSome};
 
 use crate::coherent::{accepted_lines_tell, held_lines_tell};
+use crate::listener::{Listener, Nobody};
 use crate::output_lines::OutputLines;
 use crate::status::{RunFault, Status};
 use crate::streams::{READ_LIMIT, read_text, write_text};
@@ -14,19 +15,20 @@ use std::alloc::Global;
 use std::io::{Read, Write};
 use text_parser::first_bytes;
 
-/// Writes the output for a text.
-pub fn answer_text<W: Write>(
+/// Writes the output for a text in memory, as `run` does, while a listener hears of the answers.
+pub fn answer_text<W: Write, L: Listener>(
     alloc: Global,
     text: &[u8],
     limits: Limits,
     writer: &mut W,
+    listener: &mut L,
 ) -> Result<Status, RunFault>
     ensures whole { IfOk result (λ status. TellsAll limits.depth text.now status (W.contents writer.old) (W.contents writer.new)) }
     ensures prefix { OnErr result (TellsSome limits.depth text.now (W.contents writer.old) (W.contents writer.new)) }
     ensures written { IfErr result (λ fault. fault ≢ RunFault.Read) }
 {
-    let mut lines = OutputLines::new(alloc, text, limits)?;
-    while let Some(line) = lines.next() {
+    let mut lines = OutputLines::heard(alloc, text, limits, listener)?;
+    while let Some(line) = lines.next_heard(listener) {
         write_text(writer, &line?)?;
     }
     Ok(lines.status())
@@ -60,6 +62,6 @@ pub fn run<R: Read, W: Write>(
     held_lines_tell();
     first_bytes();
     let text = read_text(alloc, reader)?;
-    let status = answer_text(alloc, &text, limits, writer)?;
+    let status = answer_text(alloc, &text, limits, writer, &mut Nobody {})?;
     Ok(status)
 }

@@ -10,7 +10,7 @@ use Rattle.coherence.proofs.KeptLines.{stays-on, still-kept, one-crate-more, che
 use Rattle.coherence.proofs.kept.keep_checks.Goals as goal
 
 pub loop-place-preserved : goal.loop-place-preserved
-loop-place-preserved c =
+loop-place-preserved g c =
     let inv = c.loop-place.invariant in
     let d = c.args.workspace.now in
     let ls = c.loop-place.lines.items in
@@ -24,7 +24,7 @@ loop-place-preserved c =
     let is = subst (λ n. IsCheckLineOf n d p c.in_ok-text.text.items) inv.stays.depth c.in_ok-text.ensures.line in
     let step = still-kept (IsCheckLineOf c.args.session.now.depth d) ls p line within is in
     record {
-      stays = stays-on _ _ _ inv.stays c.in_ok-text.ensures.stays;
+      stays = stays-on _ _ _ (stays-on _ _ _ inv.stays c.in_ok-text.ensures.stays) c.checked.ensures;
       for_each = length-set ls p line ∙ inv.for_each;
       before = λ b n h a. step n (inl (inv.before b n h a));
       supers = subst (λ m. IsSupersLine c.args.session.now.depth d m c.check_line_once.new.supers) inv.stays.of_crate
@@ -36,14 +36,14 @@ loop-place-preserved c =
     }
 
 pub check_line_once-requires-clause-supers : goal.check_line_once-requires-clause-supers
-check_line_once-requires-clause-supers c =
+check_line_once-requires-clause-supers g c =
     let inv = c.loop-place.invariant in
     let d = c.args.workspace.now in
     subst (λ n. IsSupersLine n d c.loop-place.session.of_crate c.loop-place.supers) (sym inv.stays.depth)
     (subst (λ m. IsSupersLine c.args.session.now.depth d m c.loop-place.supers) (sym inv.stays.of_crate) inv.supers)
 
 pub index_mut-requires : goal.index_mut-requires
-index_mut-requires c =
+index_mut-requires g c =
     let places = c.args.places.now in
     let i = c.loop-place.place-index in
     let p = get_or places i 0 in
@@ -52,7 +52,7 @@ index_mut-requires c =
     omega (arith, slice_get_within c.args.workspace.now.checks p asked.0 asked.1, c.loop-place.invariant.for_each)
 
 pub returns-clause-kept : goal.returns-clause-kept
-returns-clause-kept c =
+returns-clause-kept g c =
     let inv = c.loop-place.invariant in
     let d = c.args.workspace.now in
     one-crate-more (length d.checks) (IsCheckedIn d) (IsCheckLineOf c.args.session.now.depth d) c.args.session.now.of_crate c.args.places.now c.loop-place.lines.items c.requires.places (check-there d) inv.for_each inv.before

@@ -6,7 +6,7 @@ use Rattle.coherence.specs.KeptLines.{IsCheckLineOf, IsKeptLine, IsSupersLine}
 use Rattle.coherence.proofs.kept.keep_checks.Given as goal
 
 abbrev pub invariant-loop-place : goal.invariant-loop-place
-invariant-loop-place l = record {
+invariant-loop-place g l = record {
   stays : StaysOn l.fn.session l.session;
   for_each : length l.lines.items ≡ length l.workspace.checks;
   before : (b n : ℕ) → b < l.fn.session.of_crate → IsCheckedIn l.workspace b n → IsKeptLine (IsCheckLineOf l.fn.session.depth l.workspace) l.lines.items n;

@@ -10,7 +10,7 @@ use Rattle.coherence.proofs.KeptLines.{stays-on, still-kept, one-crate-more, que
 use Rattle.coherence.proofs.kept.keep_questions.Goals as goal
 
 pub loop-place-preserved : goal.loop-place-preserved
-loop-place-preserved c =
+loop-place-preserved g c =
     let inv = c.loop-place.invariant in
     let d = c.args.workspace.now in
     let ls = c.loop-place.lines.items in
@@ -34,7 +34,7 @@ loop-place-preserved c =
     }
 
 pub returns-clause-kept : goal.returns-clause-kept
-returns-clause-kept c =
+returns-clause-kept g c =
     let inv = c.loop-place.invariant in
     let d = c.args.workspace.now in
     one-crate-more (length d.questions) (IsAskedIn d) (IsLineOf c.args.session.now.depth d) c.args.session.now.of_crate c.args.places.now c.loop-place.lines.items c.requires.places (question-there d) inv.for_each inv.before

@@ -6,7 +6,7 @@ use Rattle.coherence.specs.KeptLines.{IsLineOf, IsKeptLine}
 use Rattle.coherence.proofs.kept.keep_questions.Given as goal
 
 abbrev pub invariant-loop-place : goal.invariant-loop-place
-invariant-loop-place l = record {
+invariant-loop-place g l = record {
   stays : StaysOn l.fn.session l.session;
   for_each : length l.lines.items ≡ length l.workspace.questions;
   before : (b n : ℕ) → b < l.fn.session.of_crate → IsAskedIn l.workspace b n → IsKeptLine (IsLineOf l.fn.session.depth l.workspace) l.lines.items n;

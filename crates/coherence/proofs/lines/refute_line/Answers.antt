@@ -5,9 +5,10 @@ use Rattle.coherence.proofs.Answered.{refuted-of}
 use Rattle.coherence.proofs.lines.refute_line.Goals as goal
 use Rattle.coherence.proofs.lines.refute_line.Goals.{in-No+in_ok-line-in-No, in-Open+in_ok-line-in-Open}
 use Rattle.coherence.proofs.FullTables.{handed-on}
+use Rattle.coherence.proofs.KeptLines.{stays-on}
 
 pub returns-clause-line : goal.returns-clause-line
-returns-clause-line c q asks =
+returns-clause-line g c q asks =
     let s = c.args.session.now in
     let d = c.args.workspace.now in
     let refuted = refuted-of s d c.args.number (refutation_of c.in_ok-answer.answer) c.requires.on c.in_ok-answer.ensures.answer q asks in
@@ -17,4 +18,7 @@ returns-clause-line c q asks =
     ]
 
 pub returns-in_err-answer-clause-full : goal.returns-in_err-answer-clause-full
-returns-in_err-answer-clause-full c = handed-on c.refute.new.self c.from_residual.result c.in_err-answer.field-0.0 c.from_residual.ensures.1 c.in_err-answer.ensures.full
+returns-in_err-answer-clause-full g c = handed-on c.refute.new.self c.from_residual.result c.in_err-answer.field-0.0 c.from_residual.ensures.1 c.in_err-answer.ensures.full
+
+pub returns-clause-stays : goal.returns-clause-stays
+returns-clause-stays g c = stays-on _ _ _ c.in_ok-answer.ensures.stays c.refuted.ensures

@@ -4,11 +4,12 @@ use Rattle.sessions.specs.declared.answers.ProveAnswer.TheVariants.{Yes, Maybe, 
 use Rattle.sessions.specs.TextLanguage.Output as output
 use Rattle.coherence.proofs.Answered.{proved-of, named-values}
 use Rattle.coherence.proofs.FullTables.{handed-on}
+use Rattle.coherence.proofs.KeptLines.{stays-on}
 use Rattle.coherence.proofs.named_answer.named_answer.Goals as goal
 use Rattle.coherence.proofs.named_answer.named_answer.Goals.{in-Yes+in_ok-texts-in-Yes, in-Maybe, in-Unproved}
 
 pub returns-clause-answer : goal.returns-clause-answer
-returns-clause-answer c q asks =
+returns-clause-answer g c q asks =
     let s = c.args.session.now in
     let d = c.args.workspace.now in
     let n = c.args.number in
@@ -26,4 +27,7 @@ returns-clause-answer c q asks =
     ]
 
 pub returns-in_err-answer-clause-full : goal.returns-in_err-answer-clause-full
-returns-in_err-answer-clause-full c = handed-on c.prove.new.self c.from_residual.result c.in_err-answer.field-0.0 c.from_residual.ensures.1 c.in_err-answer.ensures.full
+returns-in_err-answer-clause-full g c = handed-on c.prove.new.self c.from_residual.result c.in_err-answer.field-0.0 c.from_residual.ensures.1 c.in_err-answer.ensures.full
+
+pub returns-clause-stays : goal.returns-clause-stays
+returns-clause-stays g c = stays-on _ _ _ c.in_ok-answer.ensures.stays c.proved.ensures

@@ -7,7 +7,7 @@ use Rattle.coherence.proofs.KeptLines.{one-crate-more, check-there, question-the
 use Rattle.coherence.proofs.output_lines.answer_core.Goals as goal
 
 pub returns-then-is_empty : goal.returns-then-is_empty
-returns-then-is_empty c =
+returns-then-is_empty g c =
     let d = c.args.workspace.now in
     let g = c.args.group.now in
     let limit = c.args.limits.depth in
@@ -26,7 +26,7 @@ returns-then-is_empty c =
     }
 
 pub returns : goal.returns
-returns c =
+returns g c =
     let s = c.in_ok-session.session in
     let kept : (n k : ℕ) → Type 0 = λ n k. OnOk c.keep_answers.result (KeepsLines n c.args.workspace.now (k + 1) c.keep_answers.new.lines) in
     record {

@@ -59,7 +59,7 @@ pub loop-line-preserved : goal.loop-line-preserved
 loop-line-preserved g c =
     let inv = c.loop-line.invariant in
     let at = c.loop-line.lines in
-    let next = c.next.new.self in
+    let next = c.next_heard.new.self in
     let so_far = inv.written in
     let limit = c.args.limits.depth in
     let text = c.in_ok-line.field-0.items in
@@ -81,7 +81,7 @@ returns-clause-whole g c =
     let inv = c.loop-line.invariant in
     let at = c.loop-line.lines in
     let so_far = inv.written in
-    let end = c.next.ensures.end c.in_default.is in
+    let end = c.next_heard.ensures.end c.in_default.is in
     let all = all-lines c.args.limits.depth c.args.text.now at.text inv.text at.given so_far.0 so_far.1 (all-given at inv.has_failed end.1) in
     let status = c.status.ensures ∙ ap (λ (p : OutputProgress). status_of p.text) end.0 in
     let text = flat_map output_text so_far.0 in
