@@ -5,7 +5,6 @@ ghost use Rattle.text_parser.specs.TextNames.FaultNumbers.{fault_number};
 ghost use Rattle.sessions.specs.TextLanguage.Output.{fault, output_text};
 ghost use Rattle.sessions.specs.TextLanguage.Text.{TextGives};
 ghost use Rattle.sessions.specs.Workspace.Numbered.{IsNumbered, IsFew};
-ghost use Rattle.sessions.specs.SeenViews.{IsLeftView};
 ghost use Rattle.sessions.specs.Promised.Shortages.{SessionFullAtLimit};
 ghost use Rattle.sessions.specs.Promised.Subjects.{IsOfText, StaysOn};
 ghost use Rattle.coherence.specs.Groups.{IsGroup};
@@ -71,35 +70,6 @@ fn judge_by<L: Listener>(
     let line = verdict_line(alloc, session.interner(), workspace, id, &verdict)?;
     listener.judged(session, workspace, &verdict);
     keep_answers(alloc, session, workspace, group, lines, listener)?;
-    Ok(line)
-}
-
-/// Makes the line of a crate, and stores the lines of its checks and queries. One session makes them all. It begins with the view that is
-/// stored, and leaves its own.
-fn judge_crate<L: Listener>(
-    workspace: &Workspace,
-    id: CrateId,
-    limits: Limits,
-    group: &Group,
-    lines: &mut KeptLines,
-    view: &mut Option<SeenView>,
-    listener: &mut L,
-) -> Result<Vec<u8>, Fault>
-    requires parsed { IsOfText workspace.now }
-    requires numbered { IsNumbered workspace.now }
-    requires few { IsFew workspace.now ENTRY_LIMIT }
-    requires declared { id.index < length workspace.now.crates }
-    requires group { IsGroup (length workspace.now.checks) (length workspace.now.questions) workspace.now id.index group.now }
-    requires kept { KeepsLines limits.depth workspace.now id.index lines.old }
-    requires view { IfSome view.old (IsLeftView workspace.now limits.handles) }
-    ensures line { IfOk result (λ text. IsVerdictLine limits.depth workspace.now id.index text.items) }
-    ensures kept { OnOk result (KeepsLines limits.depth workspace.now (id.index + 1) lines.new) }
-    ensures view { OnOk result (IfSome view.new (IsLeftView workspace.now limits.handles)) }
-{
-    let alloc = *lines.checks.allocator();
-    let mut session = Session::on_crate(alloc, workspace, id, limits, view.take())?;
-    let line = judge_by(&mut session, workspace, id, group, lines, listener)?;
-    *view = Some(session.into_view());
     Ok(line)
 }
 
@@ -175,7 +145,8 @@ fn text_answers<L: Listener>(
     })
 }
 
-/// The line of the crate after this many others with lines of their own.
+/// The line of the crate after this many others with lines of their own. One session makes it, and the stored lines of its checks and
+/// queries. It begins with the view that is stored, and leaves its own.
 fn crate_line<L: Listener>(
     limits: Limits,
     answers: &mut TextAnswers,
@@ -188,16 +159,21 @@ fn crate_line<L: Listener>(
     ensures keeps { OnOk result (KeepsAnswers limits.depth limits.handles (place + 1) answers.new) }
     ensures same { answers.new.workspace ≡ answers.old.workspace }
 {
+    let alloc = *answers.kept.checks.allocator();
     let id = crate_at(&answers.workspace, place + 1);
-    judge_crate(
-        &answers.workspace,
+    let workspace = &answers.workspace;
+    let mut session = Session::on_crate(alloc, workspace, id, limits, answers.view.take())?;
+    let group = &answers.groups[place + 1];
+    let line = judge_by(
+        &mut session,
+        workspace,
         id,
-        limits,
-        &answers.groups[place + 1],
+        group,
         &mut answers.kept,
-        &mut answers.view,
         listener,
-    )
+    )?;
+    answers.view = Some(session.into_view());
+    Ok(line)
 }
 
 /// The line of a text's fault.
