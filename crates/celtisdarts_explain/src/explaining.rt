@@ -1,28 +1,28 @@
-//! Explanations of all lines of an output.
+//! Explanations of the lines of an output, made while the lines are made.
 //!
-//! The text for a crate is made from its verdict, and the text for a query from a trace of its goal (`explain_traces`), which a session makes.
-//! One session for each crate explains all its lines. No contract says that a sentence is true.
+//! The text for a crate is made from its verdict, and the text for a query from a trace of its goal (`explain_traces`), by the session that
+//! answered. No contract says that a sentence is true.
 
-ghost use Rattle.std.specs.Prelude.{◌≡◌, ◌<◌, length, IfSome, OnOk};
-ghost use Rattle.explain_faults.specs.Sessions.SeenViews.{IsLeftView};
-ghost use Rattle.explain_faults.specs.Sessions.Promised.Subjects.{IsOfText, StaysOn};
-ghost use Rattle.explain_faults.specs.Workspace.Numbered.{IsFew};
+ghost use Rattle.std.specs.Prelude.{◌≡◌};
+ghost use Rattle.coherence.specs.Groups.{IsCheckedIn};
+ghost use Rattle.explain_faults.specs.Sessions.Promised.Given.{AnswerValuesHeld, VerdictHeld};
+ghost use Rattle.explain_faults.specs.Sessions.Promised.Subjects.{AsksProof, AsksRefutation, StaysOn};
+ghost use Rattle.explain_faults.specs.TextLanguage.Promised.Declarations.{Question};
 
 use crate::checks::explain_checked;
 use crate::conflicts::Pair;
 use crate::overlaps::overlap;
-use crate::places::{
-    check_at, check_count, crate_at, crate_count, is_asked, question_at, question_count,
-};
-use crate::questions::{Questioned, explain_asked};
-use crate::spending::Spending;
+use crate::places::check_at;
+use crate::printed::Lack;
+use crate::questions::{Questioned, explain_proved, explain_refuted};
+use crate::spending::{Next, Spending, too_long};
+use coherence::{Listener, TextFault};
 use explain_faults::explain_diagnostics::{Diagnostic, SourceFile};
 use explain_faults::explain_sessions::impl_header;
-use explain_faults::explain_texts::{Texts, item_lines, orphan};
-use explain_faults::sessions::{Limits, SeenView, Session, Verdict};
-use explain_faults::text_parser::{TextError, TextFault, parse};
+use explain_faults::explain_texts::{ItemLines, Texts, item_lines, orphan};
+use explain_faults::sessions::{ProveAnswer, RefuteAnswer, Session, Verdict};
 use explain_faults::type_terms::{CrateId, Fault, ImplId};
-use explain_faults::workspace::{ENTRY_LIMIT, Workspace};
+use explain_faults::workspace::Workspace;
 use explain_faults::{FurtherFault, fault_diagnostic, further_faults};
 use std::alloc::{AllocError, Global};
 
@@ -34,10 +34,30 @@ fn reserve(count: usize, found: &mut Vec<Option<Diagnostic>>) -> Result<(), Allo
     Ok(())
 }
 
-/// Stores the diagnostic of a line.
-fn put(found: &mut Vec<Option<Diagnostic>>, line: usize, told: Option<Diagnostic>) {
-    if let Some(place) = found.get_mut(line) {
-        *place = told;
+/// Explains why a crate is refused. `None` if it is accepted.
+fn explain_verdict(
+    alloc: Global,
+    texts: Texts<'_>,
+    session: &mut Session<'_>,
+    verdict: &Verdict,
+    spending: &mut Spending,
+) -> Result<Option<Diagnostic>, Fault>
+    requires { VerdictHeld session.old.terms verdict.now }
+    ensures { StaysOn session.old session.new }
+{
+    match verdict {
+        Verdict::Accepted => Ok(None),
+        Verdict::Orphan(number, error) => {
+            let told = orphan(alloc, texts, session, session.crate_id, *number, error)?;
+            Ok(told)
+        }
+        Verdict::Overlap(later, earlier) => {
+            let pair = Pair {
+                later: *later,
+                earlier: *earlier,
+            };
+            overlap(alloc, texts, session, pair, spending)
+        }
     }
 }
 
@@ -46,32 +66,12 @@ fn crate_lines(workspace: &Workspace) -> usize {
     workspace.crates().len().saturating_sub(1)
 }
 
-/// The index of the line of the first query.
-fn first_question(workspace: &Workspace) -> usize {
-    crate_lines(workspace).saturating_add(workspace.checks().len())
-}
-
-/// Explains why a crate is refused. `None` if it is accepted.
-fn explain_verdict(
-    alloc: Global,
-    texts: Texts<'_>,
-    session: &mut Session<'_>,
-    id: CrateId,
-    spending: &mut Spending,
-) -> Result<Option<Diagnostic>, Fault>
-    ensures { StaysOn session.old session.new }
-{
-    let verdict = session.check_crate()?;
-    match verdict {
-        Verdict::Accepted => Ok(None),
-        Verdict::Orphan(number, error) => {
-            let told = orphan(alloc, texts, session, id, number, &error)?;
-            Ok(told)
-        }
-        Verdict::Overlap(later, earlier) => {
-            overlap(alloc, texts, session, Pair { later, earlier }, spending)
-        }
-    }
+/// The index of the line of the query at this index.
+fn question_line(workspace: &Workspace, place: usize) -> usize {
+    let checks = workspace.checks().len();
+    crate_lines(workspace)
+        .saturating_add(checks)
+        .saturating_add(place)
 }
 
 /// The impls that the session's crate sees.
@@ -89,217 +89,292 @@ pub(crate) fn seen_impls(
     Ok(seen)
 }
 
-/// Explains the checks of the session's crate.
-fn explain_checks(
-    alloc: Global,
-    texts: Texts<'_>,
-    session: &mut Session<'_>,
-    id: CrateId,
-    seen: &[ImplId],
-    found: &mut Vec<Option<Diagnostic>>,
-) -> Result<(), Fault>
-    requires on { session.old.declarations ≡ texts.workspace.now }
-    requires of_crate { session.old.of_crate ≡ id.index }
-    ensures { StaysOn session.old session.new }
-{
-    let before = crate_lines(texts.workspace);
-    for place in 0..check_count(texts.workspace) {
-        let (checked, check) = check_at(texts.workspace, place);
-        if checked.index == id.index {
-            let told = explain_checked(alloc, texts, session, check, seen)?;
-            put(found, before.saturating_add(place), told);
+/// A text with its items, and the impls that a crate sees.
+#[derive(Drop)]
+struct Known<'f> {
+    file: &'f SourceFile<'f>,
+    items: ItemLines,
+    seen: Vec<ImplId>,
+    seen_by: Option<CrateId>,
+}
+
+impl Known<'_> {
+    /// The text with what it declares.
+    fn texts<'s>(&'s self, workspace: &'s Workspace) -> Texts<'s> {
+        Texts {
+            workspace,
+            file: self.file,
+            lines: &self.items,
         }
     }
-    Ok(())
-}
 
-/// Explains the queries of the session's crate.
-fn explain_questions(
-    texts: Texts<'_>,
-    session: &mut Session<'_>,
-    id: CrateId,
-    seen: &[ImplId],
-    spending: &mut Spending,
-    found: &mut Vec<Option<Diagnostic>>,
-) -> Result<(), Fault>
-    requires on { session.old.declarations ≡ texts.workspace.now }
-    requires of_crate { session.old.of_crate ≡ id.index }
-    requires few { IsFew texts.workspace.now ENTRY_LIMIT }
-    ensures { StaysOn session.old session.new }
-{
-    let alloc = session.search.cx.alloc;
-    let depth = session.limits.depth;
-    let before = first_question(texts.workspace);
-    for place in 0..question_count(texts.workspace) {
-        let (asker, asked) = question_at(texts.workspace, place);
-        if asker.index == id.index {
-            let question = Questioned {
-                texts,
-                place,
-                depth,
-                seen,
-            };
-            let number = place as u32 + 1;
-            let told = explain_asked(alloc, question, session, number, asked, spending)?;
-            put(found, before.saturating_add(place), told);
+    /// The query at this index.
+    fn question<'s>(
+        &'s self,
+        workspace: &'s Workspace,
+        place: usize,
+        depth: u32,
+    ) -> Questioned<'s> {
+        Questioned {
+            texts: self.texts(workspace),
+            place,
+            depth,
+            seen: &self.seen,
         }
     }
-    Ok(())
-}
 
-/// Explains the checks and the queries of the session's crate.
-fn explain_below(
-    alloc: Global,
-    texts: Texts<'_>,
-    session: &mut Session<'_>,
-    id: CrateId,
-    spending: &mut Spending,
-    found: &mut Vec<Option<Diagnostic>>,
-) -> Result<(), Fault>
-    requires on { session.old.declarations ≡ texts.workspace.now }
-    requires of_crate { session.old.of_crate ≡ id.index }
-    requires few { IsFew texts.workspace.now ENTRY_LIMIT }
-    ensures { StaysOn session.old session.new }
-{
-    if !is_asked(texts.workspace, id) {
-        return Ok(());
-    }
-    let seen = seen_impls(alloc, texts.workspace, session)?;
-    explain_checks(alloc, texts, session, id, &seen, found)?;
-    explain_questions(texts, session, id, &seen, spending, found)
-}
-
-/// Explains the lines of the session's crate. `core` has no line of its own.
-fn explain_lines(
-    alloc: Global,
-    texts: Texts<'_>,
-    session: &mut Session<'_>,
-    id: CrateId,
-    spending: &mut Spending,
-    found: &mut Vec<Option<Diagnostic>>,
-) -> Result<(), Fault>
-    requires on { session.old.declarations ≡ texts.workspace.now }
-    requires of_crate { session.old.of_crate ≡ id.index }
-    requires few { IsFew texts.workspace.now ENTRY_LIMIT }
-    ensures { StaysOn session.old session.new }
-{
-    if let Some(line) = (id.index as usize).checked_sub(1) {
-        let told = explain_verdict(alloc, texts, session, id, spending)?;
-        put(found, line, told);
-    }
-    explain_below(alloc, texts, session, id, spending, found)
-}
-
-/// Explains the lines of a crate with one session. It begins with the view that is stored, and leaves its own.
-fn explain_crate(
-    texts: Texts<'_>,
-    id: CrateId,
-    limits: Limits,
-    spending: &mut Spending,
-    found: &mut Vec<Option<Diagnostic>>,
-    view: &mut Option<SeenView>,
-) -> Result<(), Fault>
-    requires parsed { IsOfText texts.workspace.now }
-    requires few { IsFew texts.workspace.now ENTRY_LIMIT }
-    requires declared { id.index < length texts.workspace.now.crates }
-    requires view { IfSome view.old (IsLeftView texts.workspace.now limits.handles) }
-    ensures { OnOk result (IfSome view.new (IsLeftView texts.entry.workspace.now limits.handles)) }
-{
-    let alloc = *found.allocator();
-    let mut session = Session::on_crate(alloc, texts.workspace, id, limits, view.take())?;
-    explain_lines(alloc, texts, &mut session, id, spending, found)?;
-    *view = Some(session.into_view());
-    Ok(())
-}
-
-/// Explains the lines of all crates.
-fn explain_crates(
-    texts: Texts<'_>,
-    limits: Limits,
-    found: &mut Vec<Option<Diagnostic>>,
-) -> Result<(), Fault>
-    requires parsed { IsOfText texts.workspace.now }
-    requires few { IsFew texts.workspace.now ENTRY_LIMIT }
-{
-    let mut spending = Spending::new();
-    let mut view = None;
-    for place in 0..crate_count(texts.workspace) {
-        let id = crate_at(texts.workspace, place);
-        if place > 0 || is_asked(texts.workspace, id) {
-            explain_crate(texts, id, limits, &mut spending, found, &mut view)?;
+    /// Finds the impls that the session's crate sees, if they are not known.
+    fn see(
+        &mut self,
+        alloc: Global,
+        session: &Session<'_>,
+        workspace: &Workspace,
+    ) -> Result<(), AllocError> {
+        let of_crate = session.crate_id;
+        let is_seen = match self.seen_by {
+            None => false,
+            Some(id) => id.index == of_crate.index,
+        };
+        if !is_seen {
+            self.seen = seen_impls(alloc, workspace, session)?;
+            self.seen_by = Some(of_crate);
         }
+        Ok(())
     }
-    Ok(())
 }
 
-/// Explains the lines of a text without a fault.
-fn explain_text(
+/// Explains each answer of a text when it is given. If memory is refused, or a table of a session is full, what was found stays, and no more
+/// is explained.
+#[derive(Drop)]
+pub struct Explaining<'f> {
     alloc: Global,
-    file: &SourceFile<'_>,
-    workspace: &Workspace,
-    limits: Limits,
-    found: &mut Vec<Option<Diagnostic>>,
-) -> Result<(), Fault>
-    requires { IsOfText workspace.now }
-{
-    let lines = item_lines(alloc, file)?;
-    let texts = Texts {
-        workspace,
-        file,
-        lines: &lines,
-    };
-    let _crates = workspace.crates();
-    let count = first_question(workspace).saturating_add(question_count(workspace));
-    reserve(count, found)?;
-    explain_crates(texts, limits, found)
-}
-
-/// What is found of a text.
-pub struct Explained {
-    /// The explanation of each line of the output, by index.
+    text: &'f [u8],
+    known: Known<'f>,
+    spending: Spending,
+    /// How many frames the session had started after its last explanation.
+    frames: u64,
+    /// The explanation of each line of the output, by index: for each crate but `core`, then for each `later` and `supers` line, then for
+    /// each query, in their order. A text with a fault has one line. A line without an explanation has `None`.
     pub lines: Vec<Option<Diagnostic>>,
     /// The faulty lines after the one that the output names.
     pub further: Vec<FurtherFault>,
+    /// Why the explanations ended before the last line, if they did.
+    pub lack: Option<Lack>,
 }
 
-// Hand-written so that the prover sees one drop call: docs/PROVING.md#drop.
-impl Drop for Explained {
-    fn drop(self) {
-        let Explained {
-            lines: _,
-            further: _,
-        } = self;
+impl<'f> Explaining<'f> {
+    /// Nothing is explained yet. `file` is the same text with its name.
+    pub fn new(
+        alloc: Global,
+        text: &'f [u8],
+        file: &'f SourceFile<'f>,
+    ) -> Result<Explaining<'f>, AllocError> {
+        let known = Known {
+            file,
+            items: item_lines(alloc, file)?,
+            seen: Vec::new(alloc),
+            seen_by: None,
+        };
+        Ok(Explaining {
+            alloc,
+            text,
+            known,
+            spending: Spending::new(),
+            frames: 0,
+            lines: Vec::new(alloc),
+            further: Vec::new(alloc),
+            lack: None,
+        })
+    }
+
+    /// Ends the explanations.
+    pub fn end(&mut self, lack: Lack) {
+        if self.lack.is_none() {
+            self.lack = Some(lack);
+        }
+    }
+
+    /// Makes room for all lines, the first time.
+    fn begin(&mut self, workspace: &Workspace) -> Result<(), AllocError> {
+        if self.lines.is_empty() {
+            let count = question_line(workspace, workspace.questions().len());
+            reserve(count, &mut self.lines)?;
+        }
+        Ok(())
+    }
+
+    /// Stores the diagnostic of a line.
+    fn put(&mut self, session: &Session<'_>, line: usize, told: Result<Option<Diagnostic>, Fault>) {
+        self.frames = session.frames();
+        match told {
+            Err(Fault::Memory) => self.end(Lack::Memory),
+            Err(Fault::Full) => self.end(Lack::Full),
+            Ok(told) => {
+                if let Some(place) = self.lines.get_mut(line) {
+                    *place = told;
+                }
+            }
+        }
+    }
+
+    /// Explains the faulty lines of the text.
+    fn explain_faults(&mut self, first: TextFault) -> Result<(), AllocError> {
+        let file = self.known.file;
+        let told = fault_diagnostic(self.alloc, self.text, file, first)?;
+        self.lines.push(Some(told))?;
+        further_faults(self.alloc, self.text, file, first, &mut self.further)
+    }
+
+    /// What is to be done with the answer of a query. What the answer took counts if it is explained.
+    fn next(&mut self, session: &Session<'_>) -> Next {
+        let next = self.spending.next();
+        if let Next::Explained = next {
+            self.spending.add_answer(self.frames, session.frames());
+        }
+        next
+    }
+
+    fn explain_judged(
+        &mut self,
+        session: &mut Session<'_>,
+        workspace: &Workspace,
+        verdict: &Verdict,
+    ) -> Result<Option<Diagnostic>, Fault>
+        requires { VerdictHeld session.old.terms verdict.now }
+        ensures { StaysOn session.old session.new }
+    {
+        self.begin(workspace)?;
+        let texts = self.known.texts(workspace);
+        explain_verdict(self.alloc, texts, session, verdict, &mut self.spending)
+    }
+
+    fn explain_check(
+        &mut self,
+        session: &mut Session<'_>,
+        workspace: &Workspace,
+        place: usize,
+    ) -> Result<Option<Diagnostic>, Fault>
+        requires on { session.old.declarations ≡ workspace.now }
+        requires checked { IsCheckedIn workspace.now session.old.of_crate place }
+        ensures { StaysOn session.old session.new }
+    {
+        self.begin(workspace)?;
+        self.known.see(self.alloc, session, workspace)?;
+        let check = check_at(workspace, place);
+        let known = self.known.question(workspace, place, session.limits.depth);
+        explain_checked(self.alloc, known.texts, session, check, known.seen)
+    }
+
+    fn explain_proved(
+        &mut self,
+        session: &mut Session<'_>,
+        workspace: &Workspace,
+        number: u32,
+        answer: &ProveAnswer,
+    ) -> Result<Option<Diagnostic>, Fault>
+        requires asked { (q : Question) × AsksProof session.old.declarations session.old.of_crate number q }
+        requires held { AnswerValuesHeld session.old.terms answer.now }
+        ensures { StaysOn session.old session.new }
+    {
+        self.begin(workspace)?;
+        self.known.see(self.alloc, session, workspace)?;
+        match self.next(session) {
+            Next::Silent => Ok(None),
+            Next::Told => Ok(Some(too_long(self.alloc)?)),
+            Next::Explained => {
+                let place = (number as usize).saturating_sub(1);
+                let question = self.known.question(workspace, place, session.limits.depth);
+                explain_proved(
+                    self.alloc,
+                    question,
+                    session,
+                    number,
+                    answer,
+                    &mut self.spending,
+                )
+            }
+        }
+    }
+
+    fn explain_refuted(
+        &mut self,
+        session: &mut Session<'_>,
+        workspace: &Workspace,
+        number: u32,
+        answer: RefuteAnswer,
+    ) -> Result<Option<Diagnostic>, Fault>
+        requires { (q : Question) × AsksRefutation session.old.declarations session.old.of_crate number q }
+        ensures { StaysOn session.old session.new }
+    {
+        self.begin(workspace)?;
+        self.known.see(self.alloc, session, workspace)?;
+        match self.next(session) {
+            Next::Silent => Ok(None),
+            Next::Told => Ok(Some(too_long(self.alloc)?)),
+            Next::Explained => {
+                let place = (number as usize).saturating_sub(1);
+                let question = self.known.question(workspace, place, session.limits.depth);
+                explain_refuted(
+                    self.alloc,
+                    question,
+                    session,
+                    number,
+                    answer,
+                    &mut self.spending,
+                )
+            }
+        }
     }
 }
 
-/// Explains the faulty lines of a text.
-fn explain_faults(
-    alloc: Global,
-    file: &SourceFile<'_>,
-    text: &[u8],
-    first: TextFault,
-    found: &mut Explained,
-) -> Result<(), AllocError> {
-    let told = fault_diagnostic(alloc, text, file, first)?;
-    found.lines.push(Some(told))?;
-    further_faults(alloc, text, file, first, &mut found.further)
-}
+impl Listener for Explaining<'_> {
+    fn faulty(&mut self, fault: TextFault) {
+        if self.explain_faults(fault).is_err() {
+            self.end(Lack::Memory);
+        }
+    }
 
-/// Finds the explanation of each line of a text's output: for each crate but `core`, then for each `later` and `supers` line, then for each
-/// query, in their order. A text with a fault has one line. A line without an explanation has `None`.
-///
-/// `file` is the same text with its name. What was found before an error stays. Fails with `Memory` if memory is refused, or with `Full` if
-/// a table of a session is full.
-pub fn explain(
-    alloc: Global,
-    file: &SourceFile<'_>,
-    text: &[u8],
-    limits: Limits,
-    found: &mut Explained,
-) -> Result<(), Fault> {
-    match parse(alloc, text) {
-        Err(TextError::Memory) => Err(Fault::Memory),
-        Err(TextError::Text(fault)) => Ok(explain_faults(alloc, file, text, fault, found)?),
-        Ok(workspace) => explain_text(alloc, file, &workspace, limits, &mut found.lines),
+    fn judged(&mut self, session: &mut Session<'_>, workspace: &Workspace, verdict: &Verdict) {
+        if self.lack.is_none() {
+            let told = self.explain_judged(session, workspace, verdict);
+            let line = (session.crate_id.index as usize).saturating_sub(1);
+            self.put(session, line, told);
+        }
+    }
+
+    fn checked(&mut self, session: &mut Session<'_>, workspace: &Workspace, place: usize) {
+        if self.lack.is_none() {
+            let told = self.explain_check(session, workspace, place);
+            let line = crate_lines(workspace).saturating_add(place);
+            self.put(session, line, told);
+        }
+    }
+
+    fn proved(
+        &mut self,
+        session: &mut Session<'_>,
+        workspace: &Workspace,
+        number: u32,
+        answer: &ProveAnswer,
+    ) {
+        if self.lack.is_none() {
+            let told = self.explain_proved(session, workspace, number, answer);
+            let line = question_line(workspace, (number as usize).saturating_sub(1));
+            self.put(session, line, told);
+        }
+    }
+
+    fn refuted(
+        &mut self,
+        session: &mut Session<'_>,
+        workspace: &Workspace,
+        number: u32,
+        answer: RefuteAnswer,
+    ) {
+        if self.lack.is_none() {
+            let told = self.explain_refuted(session, workspace, number, answer);
+            let line = question_line(workspace, (number as usize).saturating_sub(1));
+            self.put(session, line, told);
+        }
     }
 }

@@ -28,13 +28,12 @@ mod spending;
 mod supertraits;
 mod words;
 
-use crate::explaining::{Explained, explain};
+use crate::explaining::Explaining;
 use crate::input::read_text;
 use crate::printed::{Explanations, Lack, Shown, Told, write_told};
 use crate::words::{ColorConfig, Options, read_words};
-use coherence::{Limits, RunFault, Status, run};
+use coherence::{Limits, RunFault, Status, answer_text, run};
 use explain_faults::explain_diagnostics::SourceFile;
-use explain_faults::type_terms::Fault;
 use std::alloc::{AllocError, Global};
 use std::fs::File;
 use std::io::IsTerminal;
@@ -117,59 +116,6 @@ fn has_colors<W: IsTerminal>(options: Options<'_>, writer: &W) -> bool {
     }
 }
 
-/// What was missing if the explanations ended like this.
-fn lack_of(ended: Result<(), Fault>) -> Option<Lack> {
-    match ended {
-        Ok(()) => None,
-        Err(Fault::Memory) => Some(Lack::Memory),
-        Err(Fault::Full) => Some(Lack::Full),
-    }
-}
-
-/// What is found of a text, and what was missing if it is not complete.
-fn explanations_of(
-    alloc: Global,
-    file: Option<&SourceFile<'_>>,
-    text: &[u8],
-    limits: Limits,
-) -> (Explained, Option<Lack>) {
-    let mut found = Explained {
-        lines: Vec::new(alloc),
-        further: Vec::new(alloc),
-    };
-    let lack = match file {
-        None => Some(Lack::Memory),
-        Some(file) => lack_of(explain(alloc, file, text, limits, &mut found)),
-    };
-    (found, lack)
-}
-
-/// Writes the lines of the output, each with its explanation.
-fn tell(
-    rt: &HostRuntime,
-    options: Options<'_>,
-    limits: Limits,
-    text: &[u8],
-    lines: &[u8],
-) -> Result<Told, io::Error> {
-    let mut writer = rt.stdout();
-    let shown = Shown {
-        is_json: options.is_json,
-        has_colors: !options.is_json && has_colors(options, &writer),
-    };
-    let alloc = rt.alloc();
-    let name = options.name.or(options.file).unwrap_or("<stdin>");
-    let file = SourceFile::new(alloc, name, text).ok();
-    let (found, lack) = explanations_of(alloc, file.as_ref(), text, limits);
-    let explanations = Explanations {
-        file: file.as_ref(),
-        found: &found.lines,
-        further: &found.further,
-        lack,
-    };
-    write_told(alloc, &mut writer, shown, lines, explanations)
-}
-
 /// How the answers are, by how the run ended and what was printed.
 fn ending_of(ran: Result<Status, RunFault>, is_check: bool, told: Told) -> Result<Ending, Failure> {
     match ran {
@@ -181,8 +127,27 @@ fn ending_of(ran: Result<Status, RunFault>, is_check: bool, told: Told) -> Resul
     }
 }
 
-/// Answers a text. All lines are made first, and then they are explained and written.
-fn answer_text(
+/// Writes the lines of the output, each with its explanation.
+fn tell(
+    rt: &HostRuntime,
+    options: Options<'_>,
+    ran: Result<Status, RunFault>,
+    lines: &[u8],
+    explanations: Explanations<'_>,
+) -> Result<Ending, Failure> {
+    let mut writer = rt.stdout();
+    let shown = Shown {
+        is_json: options.is_json,
+        has_colors: !options.is_json && has_colors(options, &writer),
+    };
+    match write_told(rt.alloc(), &mut writer, shown, lines, explanations) {
+        Err(_) => Err(Failure::Run(RunFault::Write)),
+        Ok(told) => ending_of(ran, options.is_check, told),
+    }
+}
+
+/// Answers a text whose explanations have no room.
+fn answer_alone(
     rt: &HostRuntime,
     options: Options<'_>,
     limits: Limits,
@@ -191,10 +156,67 @@ fn answer_text(
     let mut reader = text;
     let mut lines = Vec::new(rt.alloc());
     let ran = run(rt.alloc(), &mut reader, &mut lines, limits);
-    match tell(rt, options, limits, text, &lines) {
-        Err(_) => Err(Failure::Run(RunFault::Write)),
-        Ok(told) => ending_of(ran, options.is_check, told),
+    let explanations = Explanations {
+        file: None,
+        found: &[],
+        further: &[],
+        lack: Some(Lack::Memory),
+    };
+    tell(rt, options, ran, &lines, explanations)
+}
+
+/// What was missing if a run in memory stopped so.
+fn lack_of(fault: RunFault) -> Lack {
+    match fault {
+        RunFault::Full => Lack::Full,
+        RunFault::Memory | RunFault::Read | RunFault::Write => Lack::Memory,
     }
+}
+
+/// The lines of a text, while they are explained. If that stops, they are made anew and alone: what was missing may be what the
+/// explanations took.
+fn explain_lines(
+    alloc: Global,
+    text: &[u8],
+    limits: Limits,
+    lines: &mut Vec<u8>,
+    explaining: &mut Explaining<'_>,
+) -> Result<Status, RunFault> {
+    match answer_text(alloc, text, limits, lines, explaining) {
+        Ok(status) => Ok(status),
+        Err(fault) => {
+            explaining.end(lack_of(fault));
+            lines.clear();
+            let mut reader = text;
+            run(alloc, &mut reader, lines, limits)
+        }
+    }
+}
+
+/// Answers a text. All lines are made and explained first, and then they are written.
+fn answer_lines(
+    rt: &HostRuntime,
+    options: Options<'_>,
+    limits: Limits,
+    text: &[u8],
+) -> Result<Ending, Failure> {
+    let alloc = rt.alloc();
+    let name = options.name.or(options.file).unwrap_or("<stdin>");
+    let Ok(file) = SourceFile::new(alloc, name, text) else {
+        return answer_alone(rt, options, limits, text);
+    };
+    let Ok(mut explaining) = Explaining::new(alloc, text, &file) else {
+        return answer_alone(rt, options, limits, text);
+    };
+    let mut lines = Vec::new(alloc);
+    let ran = explain_lines(alloc, text, limits, &mut lines, &mut explaining);
+    let explanations = Explanations {
+        file: Some(&file),
+        found: &explaining.lines,
+        further: &explaining.further,
+        lack: explaining.lack,
+    };
+    tell(rt, options, ran, &lines, explanations)
 }
 
 /// Answers the text in the file, or on standard input.
@@ -206,7 +228,7 @@ fn answer_asked(rt: &HostRuntime, options: Options<'_>) -> Result<Ending, Failur
         }
         Ok(text) => match Limits::new(options.depth, HANDLES) {
             None => Err(Failure::Words),
-            Some(limits) => answer_text(rt, options, limits, &text),
+            Some(limits) => answer_lines(rt, options, limits, &text),
         },
     }
 }

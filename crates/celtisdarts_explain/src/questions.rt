@@ -1,16 +1,16 @@
 //! Explanations of queries.
 
 ghost use Rattle.std.specs.Prelude.{◌≡◌, ℕ};
-ghost use Rattle.celtisdarts_explain.specs.Asked.{IsAskedOf};
 ghost use Rattle.celtisdarts_explain.specs.Told.{ShowsProofOf};
 ghost use Rattle.explain_faults.specs.ExplainSessions.Claims.{ClaimsHold};
 ghost use Rattle.explain_faults.specs.ExplainSessions.Walked.{ProofWalkHeld, WalkHeld};
+ghost use Rattle.explain_faults.specs.Sessions.Promised.Given.{AnswerValuesHeld};
 ghost use Rattle.explain_faults.specs.Sessions.Promised.Subjects.{AsksProof, AsksRefutation, StaysOn};
 ghost use Rattle.explain_faults.specs.TextLanguage.Promised.Declarations.{Question};
 ghost use Rattle.explain_faults.specs.TypeTerms.Promised.Handles.{ArgsHeld};
 
 use crate::proofs::{proved, tell_proof};
-use crate::spending::{Next, Spending, too_long};
+use crate::spending::Spending;
 use explain_faults::explain_diagnostics::{Diagnostic, Span};
 use explain_faults::explain_sessions::{
     Claims, GoalWalk, ProofWalk, explain_proof, explain_question, explain_refutation, no_claims,
@@ -21,7 +21,7 @@ use explain_faults::sessions::{ProveAnswer, RefuteAnswer, Session};
 use explain_faults::text_printer::ShownNames;
 use explain_faults::type_terms::kinds::GenericArgKind;
 use explain_faults::type_terms::{Fault, ImplId};
-use explain_faults::workspace::{Asked, Param};
+use explain_faults::workspace::Param;
 use std::alloc::{AllocError, Global};
 
 /// A query of a text, by its index there.
@@ -169,26 +169,25 @@ fn explain_not_proved(
     Ok(tell_not_proved(alloc, question, session, &walk, &claims, answer)?)
 }
 
-/// Explains the answer of a `prove` query.
-fn explain_proving(
+/// Explains the answer of a `prove` query of the session's crate. Queries count from 1. The session stays as it was, after a fault too.
+pub(crate) fn explain_proved(
     alloc: Global,
     question: Questioned<'_>,
     session: &mut Session<'_>,
     number: u32,
+    answer: &ProveAnswer,
     spending: &mut Spending,
-) -> Result<Diagnostic, Fault>
-    requires { (q : Question) × AsksProof session.old.declarations session.old.of_crate number q }
+) -> Result<Option<Diagnostic>, Fault>
+    requires asked { (q : Question) × AsksProof session.old.declarations session.old.of_crate number q }
+    requires held { AnswerValuesHeld session.old.terms answer.now }
     ensures { StaysOn session.old session.new }
 {
-    let before = session.frames();
-    let answer = session.prove(number);
-    spending.add_answer(before, session.frames());
-    match answer? {
+    let told = match answer {
         ProveAnswer::Yes(values) => {
-            explain_yes(alloc, question, session, number, &values, spending)
+            explain_yes(alloc, question, session, number, values, spending)?
         }
         ProveAnswer::Maybe => {
-            explain_not_proved(alloc, question, session, number, NotProved::Maybe, spending)
+            explain_not_proved(alloc, question, session, number, NotProved::Maybe, spending)?
         }
         ProveAnswer::Unproved => {
             explain_not_proved(
@@ -198,9 +197,10 @@ fn explain_proving(
                 number,
                 NotProved::Unproved,
                 spending,
-            )
+            )?
         }
-    }
+    };
+    Ok(Some(told))
 }
 
 /// The diagnostic for a `refute` query.
@@ -224,53 +224,22 @@ fn tell_refutation(
     }
 }
 
-/// Explains the answer of a `refute` query.
-fn explain_refuting(
+/// Explains the answer of a `refute` query of the session's crate. Queries count from 1. The session stays as it was, after a fault too.
+pub(crate) fn explain_refuted(
     alloc: Global,
     question: Questioned<'_>,
     session: &mut Session<'_>,
     number: u32,
+    answer: RefuteAnswer,
     spending: &mut Spending,
-) -> Result<Diagnostic, Fault>
+) -> Result<Option<Diagnostic>, Fault>
     requires { (q : Question) × AsksRefutation session.old.declarations session.old.of_crate number q }
     ensures { StaysOn session.old session.new }
 {
     let before = session.frames();
-    let answer = session.refute(number);
-    let between = session.frames();
-    spending.add_answer(before, between);
-    let answer = answer?;
     let walk = explain_refutation(session, number)?;
     let claims = refutation_claims(session, &walk)?;
-    spending.add_explanation(between, session.frames(), walk.nodes.len());
-    Ok(tell_refutation(alloc, question, session, &walk, &claims, answer)?)
-}
-
-/// Explains the answer of a query of the session's crate, unless the explanations so far took as long as they may. Queries count from 1.
-/// The session stays as it was, after a fault too.
-pub(crate) fn explain_asked(
-    alloc: Global,
-    question: Questioned<'_>,
-    session: &mut Session<'_>,
-    number: u32,
-    asked: Asked,
-    spending: &mut Spending,
-) -> Result<Option<Diagnostic>, Fault>
-    requires { IsAskedOf session.old.declarations session.old.of_crate number asked }
-    ensures { StaysOn session.old session.new }
-{
-    match spending.next() {
-        Next::Silent => Ok(None),
-        Next::Told => Ok(Some(too_long(alloc)?)),
-        Next::Explained => match asked {
-            Asked::Prove(_) => {
-                let told = explain_proving(alloc, question, session, number, spending)?;
-                Ok(Some(told))
-            }
-            Asked::Refute(_) => {
-                let told = explain_refuting(alloc, question, session, number, spending)?;
-                Ok(Some(told))
-            }
-        },
-    }
+    spending.add_explanation(before, session.frames(), walk.nodes.len());
+    let told = tell_refutation(alloc, question, session, &walk, &claims, answer)?;
+    Ok(Some(told))
 }
