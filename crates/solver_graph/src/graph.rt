@@ -15,6 +15,7 @@ use crate::context::SolverCx;
 use crate::frame::SolverFrame;
 use crate::requests::{keep_request, read_reply};
 use crate::silent::{cycle_certainty, holds_nothing, is_silent, silent_answer};
+use crate::size::count_open_types;
 use goal_frames::store::{InputId, ResponseId};
 use goal_frames::{GoalFrame, GoalHandler};
 use infer_table::certainty::{Certainty, MaybeCause};
@@ -22,8 +23,11 @@ use search_graph::{Delegate, PathKind, Reply, Request};
 use std::marker::PhantomData;
 use type_terms::Fault;
 
-/// A request for a goal costs 1 plus the number of levels of its types divided by this.
-const LEVELS_OF_A_SMALL_GOAL: usize = 32;
+/// A nested goal counts once more for so many levels of its goal's types.
+const LEVELS_OF_ONE: usize = 32;
+
+/// And once more for so many further types with variables, which stand beside others.
+const TYPES_OF_ONE: usize = 8;
 
 /// Evaluates goals by the rules of a handler.
 ///
@@ -149,11 +153,13 @@ impl<H: GoalHandler> Delegate for SolverGraph<H> {
         silent_answer(cx, *for_input, Certainty::Maybe(ambiguity_info))
     }
 
-    /// The evaluation visits a goal's terms several times. So the cost grows with the levels of its predicate's types.
+    /// The evaluation walks several times through a goal's types with variables, be they above or beside one another. So the cost grows with
+    /// the levels of the predicate's types and with the number of such types, where-clauses included.
     fn cost_of(cx: &SolverCx<H>, input: &InputId) -> usize {
         let goal = cx.store.input(*input);
-        let levels = cx.interner.depth(goal.goal.predicate.trait_ref.args);
-        levels as usize / LEVELS_OF_A_SMALL_GOAL
+        let levels = cx.interner.depth(goal.goal.predicate.trait_ref.args) as usize;
+        let types = count_open_types(&cx.interner, &goal.goal);
+        (levels / LEVELS_OF_ONE).saturating_add(types.saturating_sub(levels) / TYPES_OF_ONE)
     }
 
     /// The frame of the goal with this number, in its typing mode.

@@ -23,6 +23,7 @@ mod root;
 mod searching;
 mod settling;
 mod silent;
+mod size;
 
 pub use asking::{Asked, ask};
 pub use context::SolverCx;
