@@ -1,5 +1,5 @@
--- `dyn` types: their bounds with a self type, and the bounds of one trait among them.
-use Rattle.std.specs.Prelude.{◌≡◌, ℕ, suc, ◌==◌, ◌&&◌, not, if◌then◌else◌, List, [], ◌∷◌, ◌++◌, Option, Some, None, IfSome, option_map}
+-- `dyn` types: their bounds with a self type, and those among them that can be a goal.
+use Rattle.std.specs.Prelude.{◌≡◌, ℕ, suc, Bool, ◌==◌, ◌&&◌, not, if◌then◌else◌, List, [], ◌∷◌, ◌++◌, Option, Some, None, IfSome, option_map}
 use Rattle.std.specs.List.{slice_get}
 use Rattle.type_terms.specs.Promised.Label.{Label, of_lifetime, dynamic}
 use Rattle.type_terms.specs.Promised.Trees.{Trees, none, tree, leaf, ◌+++◌, sort_of}
@@ -17,7 +17,7 @@ use Rattle.declarations.specs.Promised.Elaboration.{Each}
 use Rattle.declarations.specs.Applied.{sorts_of, sorts_of_params}
 use Rattle.declarations.specs.Promised.Elaboration.{elaborate, supertraits}
 use Rattle.candidate_model.specs.Asking.{GoalOverKinds}
-use Rattle.candidate_model.specs.Candidates.{Candidate, if_so, upcasts_to, by_objects}
+use Rattle.candidate_model.specs.Candidates.{Candidate, if_so, can_be, upcasts_to, by_objects}
 
 -- ---- parts of a type
 -- The bounds of a `dyn`, followed by its lifetime, if the first type is one.
@@ -45,11 +45,15 @@ abbrev pub ObjectIsApplied : Items → Trees → Type 0
 ObjectIsApplied d (tree dynamic b o) = Each (AreArgumentsOf d) (principal_with (tree dynamic b none) b)
 ObjectIsApplied d t = Unit {0}
 
--- ---- the bounds of one trait
--- The trait references of the trait t in the list, each with its index. The first index is i.
-abbrev pub numbered_to : ℕ → ℕ → List TraitRef → List (ℕ × TraitRef)
-numbered_to t i [] = []
-numbered_to t i (r ∷ rs) = if r.def_id.index == t then (i, r) ∷ numbered_to t (suc i) rs else numbered_to t (suc i) rs
+-- ---- bounds of a kind
+-- The trait references of the list that have the property p, each with its index. The first index is i.
+abbrev pub numbered_to : (TraitRef → Bool) → ℕ → List TraitRef → List (ℕ × TraitRef)
+numbered_to p i [] = []
+numbered_to p i (r ∷ rs) = if p r then (i, r) ∷ numbered_to p (suc i) rs else numbered_to p (suc i) rs
+
+-- The trait reference can be q.
+abbrev pub can_be_in : List Entry → Reference → TraitRef → Bool
+can_be_in es q r = can_be q (reference_in es r)
 
 -- A bound, and the source of the candidate by it.
 pub record BoundRule : Type 0 where
@@ -59,20 +63,20 @@ pub record BoundRule : Type 0 where
 abbrev pub bound_in : List Entry → BuiltinImplSource × TraitRef → BoundRule
 bound_in es x = record { source = x.0; reference = reference_in es x.1 }
 
--- The bounds of the trait t in the list. The first index is i, and a bound's source depends on its index.
-abbrev pub bounds_to : ℕ → (ℕ → BuiltinImplSource) → ℕ → List Reference → List BoundRule
-bounds_to t source i [] = []
-bounds_to t source i (r ∷ rs) = if r.trait == t then record { source = source i; reference = r } ∷ bounds_to t source (suc i) rs else bounds_to t source (suc i) rs
+-- The bounds of the list that have the property p. The first index is i, and a bound's source depends on its index.
+abbrev pub bounds_to : (Reference → Bool) → (ℕ → BuiltinImplSource) → ℕ → List Reference → List BoundRule
+bounds_to p source i [] = []
+bounds_to p source i (r ∷ rs) = if p r then record { source = source i; reference = r } ∷ bounds_to p source (suc i) rs else bounds_to p source (suc i) rs
 
--- The bounds of the trait t among the auto traits of a `dyn`, followed by those among its principal and the supertraits. There are none of
+-- The bounds that can be q among the auto traits of a `dyn`, followed by those among its principal and the supertraits. There are none of
 -- `Sized`.
-abbrev pub written_and_elaborated : ℕ → Trees → Trees → List Reference → List BoundRule
-written_and_elaborated t self b rs = if_so (not (t == sized)) (bounds_to t (λ i. Misc) 0 (autos_with self b) ++ bounds_to t Object 0 rs)
+abbrev pub written_and_elaborated : Reference → Trees → Trees → List Reference → List BoundRule
+written_and_elaborated q self b rs = if_so (not (q.trait == sized)) (bounds_to (can_be q) (λ i. Misc) 0 (autos_with self b) ++ bounds_to (can_be q) Object 0 rs)
 
--- The bounds of the trait t of a `dyn`, if its principal is dyn compatible. `dyn Sub + Send` has bounds of `Send`, of `Sub`, and of the
+-- The bounds of a `dyn` that can be q, if its principal is dyn compatible. `dyn Sub + Send` has bounds of `Send`, of `Sub`, and of the
 -- supertraits of `Sub`.
-abbrev pub object_bounds : World → ℕ → Trees → Trees → List BoundRule
-object_bounds V t self b = if_so (are_dyn_compatible V (principal_with self b)) (written_and_elaborated t self b (elaborate V (principal_with self b)))
+abbrev pub object_bounds : World → Reference → Trees → Trees → List BoundRule
+object_bounds V q self b = if_so (are_dyn_compatible V (principal_with self b)) (written_and_elaborated q self b (elaborate V (principal_with self b)))
 
 -- The rule with this index is of the bound with this number among the principal and its supertraits.
 abbrev pub IsOfBound : List BoundRule → ℕ → ℕ → Type 0
@@ -85,7 +89,7 @@ IsByBound V a number place = option_map (λ (c : Candidate). c.source) (slice_ge
 -- The bounds of the trait t to which a `dyn` with this principal is upcast: the principal if it is of that trait, and else its supertraits.
 abbrev pub upcast_bounds : World → ℕ → List Reference → List BoundRule
 upcast_bounds V t [] = []
-upcast_bounds V t (p ∷ ps) = if p.trait == t then record { source = Misc; reference = p } ∷ [] else bounds_to t TraitUpcasting 1 (supertraits V p)
+upcast_bounds V t (p ∷ ps) = if p.trait == t then record { source = Misc; reference = p } ∷ [] else bounds_to (λ r. r.trait == t) TraitUpcasting 1 (supertraits V p)
 
 -- The candidates by which a `dyn` with the bounds b unsizes to one with the bounds d. Self is the same type in both.
 abbrev pub upcasts_between : World → GoalOverKinds → Trees → Trees → Trees → List Candidate

@@ -1,6 +1,6 @@
 //! `dyn` types: their bounds, the principal with a self type, and its supertraits.
 ghost use Rattle.type_terms.specs.Growth.{GrewOrFull};
-ghost use Rattle.std.specs.Prelude.{◌≡◌, ◌==◌, List, [], ◌∷◌, length, filter, count_by, true, IfOk, OnOk, suc, drop};
+ghost use Rattle.std.specs.Prelude.{◌≡◌, ◌==◌, ◌≤◌, List, [], ◌∷◌, length, filter, count_by, true, IfOk, OnOk, suc, drop};
 ghost use Rattle.std.specs.List.{list_any, slice_get};
 ghost use Rattle.type_terms.specs.Promised.Trees.{Trees, ◌+++◌};
 ghost use Rattle.type_terms.specs.Promised.Rules.{principal_with, autos_with, are_declared, are_dyn_compatible};
@@ -8,14 +8,15 @@ ghost use Rattle.type_terms.specs.Promised.Handles.{Has, Entry, types, bounds_li
 ghost use Rattle.type_terms.specs.Terms.{args_lists};
 ghost use Rattle.goal_evaluator.specs.Merge.{if_there};
 ghost use Rattle.declarations.specs.Items.{Items, reference_in, written};
-ghost use Rattle.declarations.specs.Held.{AreHeld};
+ghost use Rattle.declarations.specs.Held.{AreHeld, ReferenceHeld};
 ghost use Rattle.declarations.specs.Promised.Elaboration.{Each};
 ghost use Rattle.declarations.specs.Applied.{references_in, TraitRefsHeld, AreApplied, HaveBounds};
 ghost use Rattle.declarations.specs.Promised.Elaboration.{elaborate};
-ghost use Rattle.built_in_candidates.specs.Objects.{AreArgumentsOf, AreBoundsOf, WithLifetime, numbered_to};
+ghost use Rattle.built_in_candidates.specs.Objects.{AreArgumentsOf, AreBoundsOf, WithLifetime, numbered_to, can_be_in};
 ghost use Rattle.built_in_candidates.specs.Noted.{first_of, StayElaborated};
 
 use crate::built_in::SIZED;
+use crate::relate::can_be;
 use declarations::declarations::Declarations;
 use std::alloc::Global;
 use term_folds::predicate::TraitRef;
@@ -289,7 +290,7 @@ pub(crate) fn reference_at(
     def_id: TraitId,
     place: usize,
 ) -> Option<(usize, TraitRef)>
-    ensures { result ≡ slice_get (numbered_to def_id.index 0 references.now) place }
+    ensures { result ≡ slice_get (numbered_to (λ r. r.def_id.index == def_id.index) 0 references.now) place }
 {
     let mut before = place;
     'references: for (number, trait_ref) in references.iter().enumerate() {
@@ -303,23 +304,46 @@ pub(crate) fn reference_at(
     None
 }
 
-/// The first trait reference of the trait after the index `after` of the list, with its own index.
-pub(crate) fn reference_after(
-    references: &[TraitRef],
-    def_id: TraitId,
-    after: usize,
+/// The bound with this index among those that can be what is asked, from the index `first` of the list on. It comes with its index in the
+/// whole list.
+pub(crate) fn bound_from(
+    cx: &Interner,
+    bounds: &[TraitRef],
+    asked: TraitRef,
+    first: usize,
+    place: usize,
 ) -> Option<(usize, TraitRef)>
-    ensures { result ≡ slice_get (numbered_to def_id.index (suc after) (drop (suc after) references.now)) 0 }
+    requires asked { ReferenceHeld cx.now.entries asked }
+    requires held { TraitRefsHeld cx.now.entries bounds.now }
+    requires first { first ≤ length bounds.now }
+    ensures { let es = cx.now.entries in result ≡ slice_get (numbered_to (can_be_in es (reference_in es asked)) first (drop first bounds.now)) place }
 {
-    if after >= references.len() {
-        return None;
-    }
-    let first = after + 1;
-    let (_, rest) = references.split_at(first);
-    'rest: for (place, trait_ref) in rest.iter().enumerate() {
-        if trait_ref.def_id.index == def_id.index {
-            return Some((first + place, *trait_ref));
+    let (_, rest) = bounds.split_at(first);
+    let mut before = place;
+    'rest: for (skipped, bound) in rest.iter().enumerate() {
+        if can_be(cx, asked, *bound) {
+            if before == 0 {
+                return Some((first + skipped, *bound));
+            }
+            before -= 1;
         }
     }
     None
+}
+
+/// The first bound that can be what is asked after the index `after` of the list, with its own index.
+pub(crate) fn bound_after(
+    cx: &Interner,
+    bounds: &[TraitRef],
+    asked: TraitRef,
+    after: usize,
+) -> Option<(usize, TraitRef)>
+    requires asked { ReferenceHeld cx.now.entries asked }
+    requires held { TraitRefsHeld cx.now.entries bounds.now }
+    ensures { let es = cx.now.entries in result ≡ slice_get (numbered_to (can_be_in es (reference_in es asked)) (suc after) (drop (suc after) bounds.now)) 0 }
+{
+    if after >= bounds.len() {
+        return None;
+    }
+    bound_from(cx, bounds, asked, after + 1, 0)
 }

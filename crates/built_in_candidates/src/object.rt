@@ -1,8 +1,8 @@
 //! Candidates by the bounds of a `dyn`, if the self type is one.
 ghost use Rattle.type_terms.specs.Growth.{GrewOrFull};
-ghost use Rattle.std.specs.Prelude.{◌≡◌, ℕ, suc, IfOk, IfSome, option_map, OnOk};
+ghost use Rattle.std.specs.Prelude.{◌≡◌, ℕ, suc, length, filter, IfOk, IfSome, option_map, OnOk};
 ghost use Rattle.std.specs.List.{slice_get};
-ghost use Rattle.type_terms.specs.Promised.Rules.{principal_with};
+ghost use Rattle.type_terms.specs.Promised.Rules.{principal_with, autos_with};
 ghost use Rattle.type_terms.specs.Promised.Handles.{Has, types, bounds_lists, trees_at};
 ghost use Rattle.term_folds.specs.Signatures.{StartsWithType};
 ghost use Rattle.infer_table.specs.Goals.{GoalHeld};
@@ -13,36 +13,57 @@ ghost use Rattle.declarations.specs.Held.{AreHeld, ReferenceHeld};
 ghost use Rattle.declarations.specs.Promised.Elaboration.{Each};
 ghost use Rattle.declarations.specs.Applied.{references_in, TraitRefsHeld, IsApplied, HaveBounds};
 ghost use Rattle.declarations.specs.Promised.Elaboration.{supertraits};
-ghost use Rattle.candidate_model.specs.Candidates.{all_equal, by_rule, by_objects};
+ghost use Rattle.candidate_model.specs.Candidates.{all_equal, can_be, by_rule, by_objects};
 ghost use Rattle.built_in_candidates.specs.Goals.{asked_of, candidate_of};
 ghost use Rattle.built_in_candidates.specs.Noted.{StayElaborated};
 ghost use Rattle.built_in_candidates.specs.Objects.{ObjectIsApplied, AreArgumentsOf, IsByBound, IsOfBound, WithLifetime, bound_in, object_bounds, written_and_elaborated};
 
 use crate::built_in::{SIZED, type_asked};
 use crate::dyn_type::{
-    count_autos, dyn_bounds, is_dyn_compatible, noted_principal, reference_after, reference_at,
+    bound_after, bound_from, count_autos, dyn_bounds, is_dyn_compatible, noted_principal,
 };
 use crate::parts::by_rule;
-use crate::relate::relate_args;
+use crate::relate::{can_be, relate_args};
 use declarations::declarations::Declarations;
 use goal_evaluator::{BuiltinImplSource, CandidateSource, CandidateSpec};
 use infer_table::input::CanonicalInput;
 use std::alloc::Global;
 use term_folds::predicate::TraitRef;
+use type_terms::Fault;
 use type_terms::interner::Interner;
 use type_terms::kinds::{Bounds, Ty};
-use type_terms::{Fault, TraitId};
 
-/// A `dyn` type with the bounds that it is written with, and the trait that it is asked for.
+/// A `dyn` type with the bounds that it is written with, and the trait reference that is asked of it.
 #[derive(Clone, Copy)]
 struct AskedObject {
-    asked: TraitId,
+    asked: TraitRef,
     self_ty: Ty,
     bounds: Bounds,
 }
 
-/// The bound with this index among those of the asked trait: the auto traits that the `dyn` is written with, then its principal with the
-/// supertraits. No bound is of `Sized`.
+/// How many of the auto traits that a `dyn` is written with can be what is asked. All of them are asked of the `dyn` alone.
+fn count_written(alloc: Global, cx: &mut Interner, object: AskedObject) -> Result<usize, Fault>
+    requires asked { ReferenceHeld cx.old.entries object.asked }
+    requires self_held { Has cx.old.entries types object.self_ty.0 }
+    requires bounds { Has cx.old.entries bounds_lists object.bounds.0 }
+    ensures terms { GrewOrFull cx.old cx.new result }
+    ensures is { let q = reference_in cx.old.entries object.asked in let S = trees_at cx.old.entries object.self_ty.0 in
+        IfOk result (λ n. WithLifetime cx.old.entries object.bounds (λ b. n ≡ length (filter (can_be q) (autos_with S b)))) }
+{
+    let autos = count_autos(cx, object.bounds, object.asked.def_id);
+    if autos == 0 {
+        return Ok(0);
+    }
+    let bound = type_asked(alloc, cx, object.asked.def_id, object.self_ty)?;
+    if can_be(cx, object.asked, bound) {
+        Ok(autos)
+    } else {
+        Ok(0)
+    }
+}
+
+/// The bound with this index among those that can be what is asked: the auto traits that the `dyn` is written with, then its principal with
+/// the supertraits. No bound is of `Sized`.
 fn bound_of_trait(
     alloc: Global,
     cx: &mut Interner,
@@ -50,30 +71,31 @@ fn bound_of_trait(
     elaborated: &[TraitRef],
     place: usize,
 ) -> Result<Option<(BuiltinImplSource, TraitRef)>, Fault>
+    requires asked { ReferenceHeld cx.old.entries object.asked }
     requires self_held { Has cx.old.entries types object.self_ty.0 }
     requires bounds { Has cx.old.entries bounds_lists object.bounds.0 }
     requires elaborated { TraitRefsHeld cx.old.entries elaborated.now }
     ensures terms { GrewOrFull cx.old cx.new result }
     ensures held { IfOk result (λ o. IfSome o (λ x. ReferenceHeld cx.new.entries x.1)) }
-    ensures is { let S = trees_at cx.old.entries object.self_ty.0 in
+    ensures is { let q = reference_in cx.old.entries object.asked in let S = trees_at cx.old.entries object.self_ty.0 in
         IfOk result (λ o. WithLifetime cx.old.entries object.bounds (λ b. option_map (bound_in cx.new.entries) o
-        ≡ slice_get (written_and_elaborated object.asked.index S b (references_in cx.old.entries elaborated.now)) place)) }
+        ≡ slice_get (written_and_elaborated q S b (references_in cx.old.entries elaborated.now)) place)) }
 {
-    if object.asked.index == SIZED {
+    if object.asked.def_id.index == SIZED {
         return Ok(None);
     }
-    let autos = count_autos(cx, object.bounds, object.asked);
+    let autos = count_written(alloc, cx, object)?;
     if place < autos {
-        let bound = type_asked(alloc, cx, object.asked, object.self_ty)?;
+        let bound = type_asked(alloc, cx, object.asked.def_id, object.self_ty)?;
         return Ok(Some((BuiltinImplSource::Misc, bound)));
     }
-    match reference_at(elaborated, object.asked, place - autos) {
+    match bound_from(cx, elaborated, object.asked, 0, place - autos) {
         Some((number, bound)) => Ok(Some((BuiltinImplSource::Object(number), bound))),
         None => Ok(None),
     }
 }
 
-/// The bound of a `dyn` with this index among those of the asked trait, if the principal is dyn compatible.
+/// The bound of a `dyn` with this index among those that can be what is asked, if the principal is dyn compatible.
 fn object_bound_at(
     alloc: Global,
     cx: &mut Interner,
@@ -84,6 +106,7 @@ fn object_bound_at(
 ) -> Result<Option<(BuiltinImplSource, TraitRef)>, Fault>
     requires declared { AreHeld cx.old.entries declarations.now }
     requires traits { HaveBounds cx.old.entries declarations.now }
+    requires asked { ReferenceHeld cx.old.entries object.asked }
     requires self_held { Has cx.old.entries types object.self_ty.0 }
     requires bounds { Has cx.old.entries bounds_lists object.bounds.0 }
     requires applied { let S = trees_at cx.old.entries object.self_ty.0 in
@@ -94,7 +117,7 @@ fn object_bound_at(
     ensures held { IfOk result (λ o. IfSome o (λ x. ReferenceHeld cx.new.entries x.1)) }
     ensures is { let V = written cx.old.entries declarations.now in let S = trees_at cx.old.entries object.self_ty.0 in
         IfOk result (λ o. WithLifetime cx.old.entries object.bounds (λ b. option_map (bound_in cx.new.entries) o
-        ≡ slice_get (object_bounds V object.asked.index S b) place)) }
+        ≡ slice_get (object_bounds V (reference_in cx.old.entries object.asked) S b) place)) }
 {
     let principal = noted_principal(
         alloc,
@@ -111,8 +134,8 @@ fn object_bound_at(
     }
 }
 
-/// The bound of a `dyn` that comes next, among those of the asked trait, after the one with this number in the elaborated list. That one
-/// is a bound, so the principal is dyn compatible.
+/// The bound of a `dyn` that comes next, among those that can be what is asked, after the one with this number in the elaborated list. That
+/// one is a bound, so the principal is dyn compatible.
 fn object_bound_after(
     alloc: Global,
     cx: &mut Interner,
@@ -123,6 +146,7 @@ fn object_bound_after(
 ) -> Result<Option<(BuiltinImplSource, TraitRef)>, Fault>
     requires declared { AreHeld cx.old.entries declarations.now }
     requires traits { HaveBounds cx.old.entries declarations.now }
+    requires asked { ReferenceHeld cx.old.entries object.asked }
     requires self_held { Has cx.old.entries types object.self_ty.0 }
     requires bounds { Has cx.old.entries bounds_lists object.bounds.0 }
     requires applied { let S = trees_at cx.old.entries object.self_ty.0 in
@@ -132,12 +156,13 @@ fn object_bound_after(
     ensures notes { OnOk result (StayElaborated cx.new.entries declarations.now notes.new.items) }
     ensures held { IfOk result (λ o. IfSome o (λ x. ReferenceHeld cx.new.entries x.1)) }
     ensures is { let V = written cx.old.entries declarations.now in let S = trees_at cx.old.entries object.self_ty.0 in
-        IfOk result (λ o. WithLifetime cx.old.entries object.bounds (λ b. (place : ℕ) → IsOfBound (object_bounds V object.asked.index S b) number place
-        → option_map (bound_in cx.new.entries) o ≡ slice_get (object_bounds V object.asked.index S b) (suc place))) }
+        let q = reference_in cx.old.entries object.asked in
+        IfOk result (λ o. WithLifetime cx.old.entries object.bounds (λ b. (place : ℕ) → IsOfBound (object_bounds V q S b) number place
+        → option_map (bound_in cx.new.entries) o ≡ slice_get (object_bounds V q S b) (suc place))) }
 {
     let self_ty = object.self_ty;
     noted_principal(alloc, cx, declarations, self_ty, object.bounds, notes)?;
-    match reference_after(notes, object.asked, number) {
+    match bound_after(cx, notes, object.asked, number) {
         Some((next, bound)) => Ok(Some((BuiltinImplSource::Object(next), bound))),
         None => Ok(None),
     }
@@ -171,7 +196,7 @@ fn bound_candidate(
     by_rule(alloc, goal, source, equations, &supertraits)
 }
 
-/// The candidate by the bound with this index among the bounds of the goal's trait, if the self type is a `dyn` that has so many. The
+/// The candidate by the bound with this index among the bounds that can be the goal, if the self type is a `dyn` that has so many. The
 /// auto traits that the `dyn` is written with come first, then its principal and the supertraits. The source of a candidate by one of
 /// the latter has its index in the elaborated list. rustc: `consider_object_bound_candidate`.
 ///
@@ -202,7 +227,7 @@ pub fn consider_object_bound_candidate(
     match dyn_bounds(cx, self_ty) {
         Some(bounds) => {
             let object = AskedObject {
-                asked: asked.def_id,
+                asked,
                 self_ty,
                 bounds,
             };
@@ -247,7 +272,7 @@ pub fn consider_next_object_bound_candidate(
     match dyn_bounds(cx, self_ty) {
         Some(bounds) => {
             let object = AskedObject {
-                asked: asked.def_id,
+                asked,
                 self_ty,
                 bounds,
             };

@@ -1,4 +1,4 @@
-//! Equations between the arguments of trait references.
+//! Equations between the arguments of trait references, and which of these references are disjoint.
 ghost use Rattle.type_terms.specs.Growth.{GrewOrFull};
 ghost use Rattle.std.specs.Prelude.{◌≡◌, IfOk, IfErr, map};
 ghost use Rattle.type_terms.specs.Promised.Handles.{Has, trees_at};
@@ -7,14 +7,30 @@ ghost use Rattle.type_terms.specs.declared.Fault.TheVariants.{Memory};
 ghost use Rattle.goal_evaluator.specs.Lists.{Every};
 ghost use Rattle.goal_evaluator.specs.Readings.{EquationHeld};
 ghost use Rattle.goal_evaluator.specs.StepReadings.{equation_read};
-ghost use Rattle.candidate_model.specs.Candidates.{all_equal, never_met};
+ghost use Rattle.declarations.specs.Items.{reference_in};
+ghost use Rattle.declarations.specs.Held.{ReferenceHeld};
+ghost use Rattle.candidate_model.specs.Candidates.{all_equal, can_be, never_met};
 ghost use Rattle.built_in_candidates.specs.Equations.{ArePaired};
 
+use declarations::apart::are_apart;
 use infer_table::terms::Equation;
 use std::alloc::Global;
+use term_folds::predicate::TraitRef;
 use type_terms::Fault;
 use type_terms::interner::Interner;
 use type_terms::kinds::{GenericArgKind, GenericArgs, TyKind};
+
+/// Whether a where-clause, or a bound of a `dyn`, can be what is asked: it is of the same trait, and its arguments are not disjoint from
+/// those that are asked.
+///
+/// rustc: `fast_reject_assumption`, by `DeepRejectCtxt`.
+pub fn can_be(cx: &Interner, asked: TraitRef, trait_ref: TraitRef) -> bool
+    requires asked { ReferenceHeld cx.now.entries asked }
+    requires held { ReferenceHeld cx.now.entries trait_ref }
+    ensures { result ≡ can_be (reference_in cx.now.entries asked) (reference_in cx.now.entries trait_ref) }
+{
+    trait_ref.def_id.index == asked.def_id.index && !are_apart(cx, asked.args, trait_ref.args)
+}
 
 /// Equations between the arguments with the same index in two lists, and whether one list is longer. Fails only with `Memory`.
 fn paired_args(

@@ -210,7 +210,7 @@ module _ (V : World) (fields : (x : StructDecl) → In x V.structs → Every Are
 
   bounds-over : (source : ℕ → CandidateSource) (i : ℕ) (rs : List Reference) → AreOverAll V ls fields bounds rs → Every Fit (bounds_from V a source i rs)
   bounds-over source i [] e = tt
-  bounds-over source i (r ∷ rs) e = by (r.trait == a.reference.trait) (bounds-over source (suc i) rs e.1)
+  bounds-over source i (r ∷ rs) e = by (can_be a.reference r) (bounds-over source (suc i) rs e.1)
     where
       by : (b : Bool) → Every Fit (bounds_from V a source (suc i) rs)
           → Every Fit (if b then by_rule V a (source i) (all_equal a.reference.args r.args) (supertraits V a.reference) ∷ bounds_from V a source (suc i) rs else bounds_from V a source (suc i) rs)

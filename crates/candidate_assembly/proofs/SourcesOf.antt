@@ -10,6 +10,7 @@ use Rattle.goal_evaluator.specs.declared.candidate.CandidateSource.{CandidateSou
 use Rattle.goal_evaluator.specs.declared.candidate.CandidateSource.TheVariants.{Impl, BuiltinImpl, ParamEnv}
 use Rattle.goal_evaluator.specs.declared.candidate.BuiltinImplSource.TheVariants.{Trivial, Misc, Object, TraitUpcasting}
 use Rattle.declarations.specs.Promised.Elaboration.{elaborate, supertraits}
+use Rattle.declarations.specs.Apart.{are_apart}
 use Rattle.candidate_model.specs.Asking.{GoalOverKinds, self_of, next_of, begins_unknown}
 use Rattle.candidate_model.specs.Solver.{is_clause, is_non_global, is_impl}
 use Rattle.candidate_model.specs.Candidates.{Candidate, unsure, all_equal, by_rule, clause_source, can_be, by_clauses, by_the_impl, can_match, by_impls, as_written, misc, if_so, by_sized, by_copy, by_auto, by_tuple, by_fn_ptr, call_of, by_call, unsize_array_of, upcast_source, upcasts_from, upcasts_to, upcasts_of, unsize_by_struct, unsize_struct_of, unsize_known, unsizing_outlives, unsize_recording, built_in, bounds_from, object_source, written_source, objects_of, by_objects}
@@ -253,7 +254,7 @@ module _ (V : World) (a : GoalOverKinds) where
   bounds-are : (p : CandidateSource → Bool) (source : ℕ → CandidateSource) → ((i : ℕ) → p (source i) ≡ true) → (n : ℕ) (rs : List Reference) → Are p (bounds_from V a source n rs)
   bounds-are p source h n [] = tt
   bounds-are p source h n (r ∷ rs) =
-      if-first p (r.trait == a.reference.trait) (by_rule V a (source n) (all_equal a.reference.args r.args) (supertraits V a.reference)) (bounds_from V a source (suc n) rs) (h n) (bounds-are p source h (suc n) rs)
+      if-first p (can_be a.reference r) (by_rule V a (source n) (all_equal a.reference.args r.args) (supertraits V a.reference)) (bounds_from V a source (suc n) rs) (h n) (bounds-are p source h (suc n) rs)
 
   no-bounds : (p : CandidateSource → Bool) (source : ℕ → CandidateSource) → a.reference.trait ≡ unsize → (n : ℕ) (rs : List Reference) → list_any (λ (r : Reference). r.trait == unsize) rs ≡ false → Are p (bounds_from V a source n rs)
   no-bounds p source e n [] h = tt
@@ -264,7 +265,7 @@ module _ (V : World) (a : GoalOverKinds) where
       by true f h go = absurd cc
       by false f h go =
           subst (λ b. Are p (if b then by_rule V a (source n) (all_equal a.reference.args r.args) (supertraits V a.reference) ∷ bounds_from V a source (suc n) rs else bounds_from V a source (suc n) rs))
-          (sym (ap (λ m. r.trait == m) e ∙ f)) (go h)
+          (sym (ap (λ (m : ℕ). (r.trait == m) && not (are_apart a.reference.args r.args)) e ∙ ap (λ z. z && not (are_apart a.reference.args r.args)) f)) (go h)
 
   -- those that a `dyn` is written with
   written-bounds : (b : Bool) (bounds others : Trees) → (not (a.reference.trait == unsize)) ≡ b → (not (a.reference.trait == unsize) || not (list_any (λ (r : Reference). r.trait == unsize) (autos_with (tree dynamic bounds none) bounds))) ≡ true

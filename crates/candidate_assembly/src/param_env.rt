@@ -9,14 +9,13 @@ ghost use Rattle.goal_evaluator.specs.Readings.{SpecHeld};
 ghost use Rattle.declarations.specs.Items.{reference_in};
 ghost use Rattle.declarations.specs.Held.{ReferenceHeld};
 ghost use Rattle.candidate_model.specs.Asking.{clauses};
-ghost use Rattle.candidate_model.specs.Candidates.{clause_source, can_be, by_clauses};
+ghost use Rattle.candidate_model.specs.Candidates.{clause_source, by_clauses};
 ghost use Rattle.built_in_candidates.specs.Goals.{asked_of, candidate_of};
 ghost use Rattle.candidate_assembly.specs.Clauses.{reference_of, references_to};
 
 use crate::visitors::has_open_places;
 use built_in_candidates::parts::by_rule;
-use built_in_candidates::relate::relate_args;
-use declarations::apart::are_apart;
+use built_in_candidates::relate::{can_be, relate_args};
 use goal_evaluator::{CandidateSource, CandidateSpec, ParamEnvSource};
 use infer_table::input::CanonicalInput;
 use std::alloc::Global;
@@ -36,17 +35,6 @@ fn clause_source(cx: &Interner, trait_ref: TraitRef) -> ParamEnvSource
     } else {
         ParamEnvSource::Global
     }
-}
-
-/// Whether a where-clause can be what is asked: it is of the same trait, and its arguments are not disjoint from those that are asked.
-///
-/// rustc: `fast_reject_assumption`, by `DeepRejectCtxt`.
-fn can_be(cx: &Interner, asked: TraitRef, trait_ref: TraitRef) -> bool
-    requires asked { ReferenceHeld cx.now.entries asked }
-    requires held { ReferenceHeld cx.now.entries trait_ref }
-    ensures { result ≡ can_be (reference_in cx.now.entries asked) (reference_in cx.now.entries trait_ref) }
-{
-    trait_ref.def_id.index == asked.def_id.index && !are_apart(cx, asked.args, trait_ref.args)
 }
 
 fn reference_of(cx: &Interner, asked: TraitRef, clause: &Clause) -> Option<TraitRef>

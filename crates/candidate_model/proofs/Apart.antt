@@ -1,6 +1,7 @@
 -- Arguments that are apart have no common instance: what is fixed stays as it is, whatever is put in, and what is read as one is not kept apart by its first levels.
-use Rattle.std.proofs.Common.{◌≡◌, ℕ, zero, true, not, List, refl, sym, ap, ◌∙◌, subst}
+use Rattle.std.proofs.Common.{◌≡◌, ℕ, zero, ◌==◌, true, not, List, refl, sym, ap, ◌∙◌, subst}
 use Rattle.type_terms.specs.Promised.Label.{Label, of_type, of_const, of_lifetime, static, fn_ptr, principal, param, placeholder, infer, canonical, bound}
+use Rattle.type_terms.specs.Promised.Worlds.{Reference}
 use Rattle.type_terms.specs.Promised.Trees.{Trees, none, tree, erase, erase_label, instantiate}
 use Rattle.type_terms.specs.Trees.{flags, label_flags}
 use Rattle.type_terms.specs.Promised.Answers.{is_open}
@@ -11,7 +12,11 @@ use Rattle.goal_evaluator.specs.Content.{given}
 use Rattle.declarations.specs.Apart.{is_fixed, are_apart, levels}
 use Rattle.declarations.proofs.Fixed.{top, child, next, no-flags, some-flag, fixed-label, fixed-erased, fixed-instance}
 use Rattle.declarations.proofs.MeetingLaws.{Reads, ReadNode, instantiate-reads, meet, erased-meet, not-apart, may-be-one}
+use Rattle.candidate_model.specs.Candidates.{can_be}
+use Rattle.candidate_model.specs.Cover.{read_reference}
 use Rattle.candidate_model.proofs.Reading.{begins}
+use Rattle.type_terms.proofs.Members.{self-number}
+use Rattle.type_terms.proofs.Walking.{both}
 use Rattle.type_terms.proofs.TermBasics.{three}
 use Rattle.type_terms.proofs.BooleanBasics.{true-false}
 
@@ -114,6 +119,12 @@ reads-meet ts x y e =
       one = λ f g. same-complete x y (sym (fixed-read ts x (no-flags x f)) ∙ e ∙ fixed-read ts y (no-flags y g));
       levels_meet = meet (λ d. read_with (given ts)) (λ d. read_with (given ts)) (read-reads ts) (read-reads ts) levels zero zero x y e;
     })
+
+-- so a trait reference that is read as the goal can be the goal
+pub reads-can-be : (ts : List Trees) (q r : Reference) → read_reference ts r ≡ read_reference ts q → can_be q r ≡ true
+reads-can-be ts q r e =
+    both (r.trait == q.trait) (not (are_apart q.args r.args)) (ap (λ (z : Reference). z.trait == q.trait) e ∙ self-number q.trait)
+    (reads-meet ts q.args r.args (sym (ap (λ (z : Reference). z.args) e)))
 
 -- lifetimes tell nothing apart
 pub erased-apart : (t h : Trees) → not (are_apart t (erase h)) ≡ true → not (are_apart t h) ≡ true

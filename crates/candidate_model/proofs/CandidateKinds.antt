@@ -142,7 +142,7 @@ module _ (V : World) (a : GoalOverKinds) where
   bounds-made : (source : ℕ → CandidateSource) (n : ℕ) (rs : List Reference) → Every IsMadeAs (bounds_from V a source n rs)
   bounds-made source n [] = tt
   bounds-made source n (r ∷ rs) =
-      if-first (r.trait == a.reference.trait) (by_rule V a (source n) (all_equal a.reference.args r.args) (supertraits V a.reference)) (bounds_from V a source (suc n) rs)
+      if-first (can_be a.reference r) (by_rule V a (source n) (all_equal a.reference.args r.args) (supertraits V a.reference)) (bounds_from V a source (suc n) rs)
       (rule-made (source n) (all_equal a.reference.args r.args) (supertraits V a.reference)) (bounds-made source (suc n) rs)
 
   objects-made : (t : Trees) → Every IsMadeAs (objects_of V a t)

@@ -13,7 +13,7 @@ use Rattle.goal_evaluator.specs.Tables.{frame_tables}
 use Rattle.goal_evaluator.specs.Promised.Widths.{count}
 use Rattle.goal_evaluator.proofs.Widths.{IsWithin, count-append}
 use Rattle.candidate_model.specs.Asking.{GoalOverKinds}
-use Rattle.candidate_model.specs.Candidates.{Candidate, premise, as_written, if_so, by_rule, all_equal, misc, upcast_source, upcasts_from, upcasts_to, upcasts_of, unsize_by_struct, bounds_from}
+use Rattle.candidate_model.specs.Candidates.{Candidate, premise, as_written, if_so, by_rule, can_be, all_equal, misc, upcast_source, upcasts_from, upcasts_to, upcasts_of, unsize_by_struct, bounds_from}
 use Rattle.declarations.specs.Promised.Elaboration.{all_levels, elaborate, supertraits}
 use Rattle.candidate_model.specs.Promised.Widths.{supers_of}
 use Rattle.candidate_model.proofs.CandidateCounts.{elaborate-few, supertraits-few}
@@ -310,7 +310,7 @@ module _ (V : World) (w : ℕ) (each : (x : TraitDecl) → In x V.traits → sup
   -- ---- object bounds
   pub from-bounds-few : (a : GoalOverKinds) (source : ℕ → CandidateSource) (i : ℕ) (rs : List Reference) → length (bounds_from V a source i rs) ≤ length rs
   from-bounds-few a source i [] = omega arith
-  from-bounds-few a source i (r ∷ rs) = by (r.trait == a.reference.trait) (from-bounds-few a source (suc i) rs)
+  from-bounds-few a source i (r ∷ rs) = by (can_be a.reference r) (from-bounds-few a source (suc i) rs)
     where
       by : (b : Bool) → length (bounds_from V a source (suc i) rs) ≤ length rs
           → length (if b then by_rule V a (source i) (all_equal a.reference.args r.args) (supertraits V a.reference) ∷ bounds_from V a source (suc i) rs else bounds_from V a source (suc i) rs) ≤ suc (length rs)

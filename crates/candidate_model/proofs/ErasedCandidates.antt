@@ -255,7 +255,7 @@ module _ (H : Reference → Type 0) (V : World) (cs : List CrateDecl) (a : GoalO
 
   bounds-same : (source : ℕ → CandidateSource) (i : ℕ) (rs : List Reference) → bounds_from U a source i rs ≡ bounds_from V a source i rs
   bounds-same source i [] = refl
-  bounds-same source i (r ∷ rs) = by (r.trait == a.reference.trait) (bounds-same source (suc i) rs)
+  bounds-same source i (r ∷ rs) = by (can_be a.reference r) (bounds-same source (suc i) rs)
     where
       by : (b : Bool) → bounds_from U a source (suc i) rs ≡ bounds_from V a source (suc i) rs
           → (if b then by_rule U a (source i) (all_equal a.reference.args r.args) (supertraits U a.reference) ∷ bounds_from U a source (suc i) rs else bounds_from U a source (suc i) rs)

@@ -19,7 +19,7 @@ use Rattle.candidate_model.specs.Asking.{GoalOverKinds, all_known, self_of, next
 use Rattle.declarations.specs.Promised.Elaboration.{elaborate, supertraits}
 use Rattle.candidate_model.specs.Meaning.{ViewMeaning}
 use Rattle.candidate_model.specs.Declared.{FieldsAreOne}
-use Rattle.candidate_model.specs.Candidates.{Candidate, all_equal, by_rule, unsure, unknowable, by_the_impl, can_match, by_impls, as_written, misc, if_so, by_sized, by_copy, by_auto, by_tuple, by_fn_ptr, call_of, by_call, unsize_array_of, upcast_source, upcasts_from, upcasts_to, upcasts_of, unsize_by_struct, unsize_struct_of, unsize_known, unsizing_outlives, unsize_recording, by_unsize, built_in, bounds_from, object_source, written_source, objects_of, by_objects}
+use Rattle.candidate_model.specs.Candidates.{Candidate, all_equal, by_rule, unsure, unknowable, can_be, by_the_impl, can_match, by_impls, as_written, misc, if_so, by_sized, by_copy, by_auto, by_tuple, by_fn_ptr, call_of, by_call, unsize_array_of, upcast_source, upcasts_from, upcasts_to, upcasts_of, unsize_by_struct, unsize_struct_of, unsize_known, unsizing_outlives, unsize_recording, by_unsize, built_in, bounds_from, object_source, written_source, objects_of, by_objects}
 use Rattle.candidate_model.specs.Promised.Widths.{greatest, width_of, supers_of, declared_width}
 use Rattle.candidate_model.specs.Solver.{widest_of}
 use Rattle.candidate_model.proofs.Premises.{IsNarrow, CandidatesAreNarrow}
@@ -156,7 +156,7 @@ module _ (V : World) (n : ℕ) (fields : (x : StructDecl) → In x V.structs →
 
   bounds-narrow : (source : ℕ → CandidateSource) (i : ℕ) (rs : List Reference) → Every (λ r. width_of r ≤ n) rs → Every Narrow (bounds_from V a source i rs)
   bounds-narrow source i [] e = tt
-  bounds-narrow source i (r ∷ rs) e = by (r.trait == a.reference.trait) (bounds-narrow source (suc i) rs e.1)
+  bounds-narrow source i (r ∷ rs) e = by (can_be a.reference r) (bounds-narrow source (suc i) rs e.1)
     where
       by : (b : Bool) → Every Narrow (bounds_from V a source (suc i) rs)
           → Every Narrow (if b then by_rule V a (source i) (all_equal a.reference.args r.args) (supertraits V a.reference) ∷ bounds_from V a source (suc i) rs else bounds_from V a source (suc i) rs)

@@ -1,5 +1,5 @@
 -- How often a trait occurs among the bounds of a `dyn`, and how many premises these bounds have together.
-use Rattle.std.proofs.Common.{◌≡◌, ℕ, zero, suc, ◌+◌, ◌*◌, ◌≤◌, ◌<◌, Bool, true, false, if◌then◌else◌, ◌==◌, List, [], ◌∷◌, ◌++◌, length, refl, sym, ◌∙◌, ap, subst, arith}
+use Rattle.std.proofs.Common.{◌≡◌, ℕ, zero, suc, ◌+◌, ◌*◌, ◌≤◌, ◌<◌, Bool, true, false, not, ◌&&◌, if◌then◌else◌, ◌==◌, List, [], ◌∷◌, ◌++◌, length, refl, sym, ◌∙◌, ap, subst, arith}
 use Rattle.std.proofs.lemmas.Nat.{mul-le}
 use Rattle.std.proofs.Math.Nat.{le_refl}
 use Rattle.type_terms.specs.Promised.Worlds.{World, Reference}
@@ -11,6 +11,7 @@ use Rattle.type_terms.proofs.NumberBasics.{not-less}
 use Rattle.goal_evaluator.specs.Plans.{nested_in}
 use Rattle.goal_evaluator.specs.Tables.{frame_tables}
 use Rattle.goal_evaluator.specs.declared.candidate.CandidateSource.{CandidateSource}
+use Rattle.declarations.specs.Apart.{are_apart}
 use Rattle.declarations.specs.Promised.Elaboration.{is_put, new_of, pushed, off_stack, all_levels, elaborate, supertraits}
 use Rattle.candidate_model.specs.Asking.{GoalOverKinds}
 use Rattle.candidate_model.specs.Candidates.{premise, by_rule, all_equal, bounds_from}
@@ -52,23 +53,29 @@ many-none t (r ∷ rs) h =
 spread : (k l w : ℕ) → (k + l) * w ≡ k * w + l * w
 spread k l w = grind arith
 
--- the candidates of a list of bounds have the goal's supertraits as premises, once for each that is of the goal's trait
+-- the candidates of a list of bounds have the goal's supertraits as premises, at most once for each that is of the goal's trait
 pub bounds-ask : (V : World) (a : GoalOverKinds) (source : ℕ → CandidateSource) (i : ℕ) (rs : List Reference)
-    → nested_in frame_tables (bounds_from V a source i rs) ≡ many a.reference.trait rs * length (supertraits V a.reference)
+    → nested_in frame_tables (bounds_from V a source i rs) ≤ many a.reference.trait rs * length (supertraits V a.reference)
 bounds-ask V a source i [] = omega arith
-bounds-ask V a source i (r ∷ rs) = by (r.trait == a.reference.trait) (bounds-ask V a source (suc i) rs)
+bounds-ask V a source i (r ∷ rs) = by (r.trait == a.reference.trait) (not (are_apart a.reference.args r.args)) (bounds-ask V a source (suc i) rs)
   where
-    next : (n k l x : ℕ) → l ≡ k → x ≡ n * k → l + x ≡ (1 + n) * k
+    next : (n k l x : ℕ) → l ≤ k → x ≤ n * k → l + x ≤ (1 + n) * k
     next n k l x e f = let d = spread 1 n k in omega (arith, d, e, f)
 
-    same : (n k x : ℕ) → x ≡ n * k → x ≡ (0 + n) * k
+    more : (n k x : ℕ) → x ≤ n * k → x ≤ (1 + n) * k
+    more n k x f = let d = spread 1 n k in omega (arith, d, f)
+
+    same : (n k x : ℕ) → x ≤ n * k → x ≤ (0 + n) * k
     same n k x f = let d = spread 0 n k in omega (arith, d, f)
 
-    by : (b : Bool) → nested_in frame_tables (bounds_from V a source (suc i) rs) ≡ many a.reference.trait rs * length (supertraits V a.reference)
-        → nested_in frame_tables (if b then by_rule V a (source i) (all_equal a.reference.args r.args) (supertraits V a.reference) ∷ bounds_from V a source (suc i) rs else bounds_from V a source (suc i) rs)
-        ≡ (once b + many a.reference.trait rs) * length (supertraits V a.reference)
-    by true h = next (many a.reference.trait rs) (length (supertraits V a.reference)) _ _ (map-length (premise a (is_coinductive V a.reference.trait)) (supertraits V a.reference)) h
-    by false h = same (many a.reference.trait rs) (length (supertraits V a.reference)) _ h
+    by : (b n : Bool) → nested_in frame_tables (bounds_from V a source (suc i) rs) ≤ many a.reference.trait rs * length (supertraits V a.reference)
+        → nested_in frame_tables (if b && n then by_rule V a (source i) (all_equal a.reference.args r.args) (supertraits V a.reference) ∷ bounds_from V a source (suc i) rs else bounds_from V a source (suc i) rs)
+        ≤ (once b + many a.reference.trait rs) * length (supertraits V a.reference)
+    by true true h =
+        let l = map-length (premise a (is_coinductive V a.reference.trait)) (supertraits V a.reference) in
+        next (many a.reference.trait rs) (length (supertraits V a.reference)) _ _ (omega (arith, l)) h
+    by true false h = more (many a.reference.trait rs) (length (supertraits V a.reference)) _ h
+    by false n h = same (many a.reference.trait rs) (length (supertraits V a.reference)) _ h
 
 module _ (V : World) (rank : ℕ → ℕ) (down : LeadDown V rank) where
   -- ---- what is elaborated is among the levels

@@ -8,7 +8,7 @@ use Rattle.type_terms.specs.Promised.Rules.{Rule, row, object_auto, object_princ
 use Rattle.type_terms.specs.Promised.Proofs.{In}
 use Rattle.type_terms.specs.Promised.Answers.{is_open}
 use Rattle.type_terms.specs.Promised.LinkedSet.{is_stray}
-use Rattle.type_terms.proofs.Members.{here, there, in-nothing, in-cases, in-append, in-map, in-filter, in-flat, self-number}
+use Rattle.type_terms.proofs.Members.{here, there, in-nothing, in-cases, in-append, in-map, in-filter, in-flat}
 use Rattle.type_terms.proofs.ProofEntries.{map-in}
 use Rattle.type_terms.proofs.Supertraits.{flat-same}
 use Rattle.type_terms.proofs.Fitting.{same-reference-sound, child-shut, append-shut, or-no}
@@ -24,12 +24,13 @@ use Rattle.goal_evaluator.specs.Content.{Values, given}
 use Rattle.candidate_model.specs.Declared.{are_terms, are_references, is_declared_view}
 use Rattle.declarations.specs.Promised.Elaboration.{supertraits, elaborate}
 use Rattle.candidate_model.specs.Asking.{GoalOverKinds}
-use Rattle.candidate_model.specs.Candidates.{by_rule, all_equal, if_so, bounds_from, object_source, written_source, objects_of}
+use Rattle.candidate_model.specs.Candidates.{by_rule, can_be, all_equal, if_so, bounds_from, object_source, written_source, objects_of}
 use Rattle.candidate_model.specs.Cover.{slots, SolvesEquations, Proved, read_reference}
 use Rattle.candidate_model.proofs.Instances.{Shut, read-declared}
 use Rattle.candidate_model.proofs.Supers.{plain-shut}
 use Rattle.candidate_model.proofs.Unsizing.{map-append, compatible-same, principal-read, autos-read, traits-stay}
 use Rattle.candidate_model.proofs.Impls.{pairwise}
+use Rattle.candidate_model.proofs.Apart.{reads-can-be}
 use Rattle.candidate_model.proofs.Calls.{gives-equal}
 use Rattle.candidate_model.proofs.EqualRows.{one-row, each-row}
 use Rattle.candidate_model.proofs.ByView.{some-left, some-right}
@@ -127,15 +128,15 @@ module _ (H : Reference → Type 0) (V : World) (declared : is_declared_view V �
     -- a bound that is read as what is asked gives the candidate
     from-bound : (source : ℕ → CandidateSource) (i : ℕ) (rs : List Reference) (t : Reference) → In t rs → read_reference ys t ≡ asks → SomeOf (SolvesEquations H a.kinds v) (bounds_from V a source i rs)
     from-bound source i [] t j e = absurd (in-nothing t j)
-    from-bound source i (r ∷ rs) t j e = by (r.trait == a.reference.trait) refl (in-cases t r rs j) (λ k g. from-bound source k rs t g e)
+    from-bound source i (r ∷ rs) t j e = by (can_be a.reference r) refl (in-cases t r rs j) (λ k g. from-bound source k rs t g e)
       where
-        by : (b : Bool) → (r.trait == a.reference.trait) ≡ b → (r ≡ t) ⊎ In t rs → ((k : ℕ) → In t rs → SomeOf (SolvesEquations H a.kinds v) (bounds_from V a source k rs))
+        by : (b : Bool) → can_be a.reference r ≡ b → (r ≡ t) ⊎ In t rs → ((k : ℕ) → In t rs → SomeOf (SolvesEquations H a.kinds v) (bounds_from V a source k rs))
             → SomeOf (SolvesEquations H a.kinds v) (if b then by_rule V a (source i) (all_equal a.reference.args r.args) (supertraits V a.reference) ∷ bounds_from V a source (suc i) rs else bounds_from V a source (suc i) rs)
         by true q (inl g) go =
             inl (gives-equal H V a v (source i) (all_equal a.reference.args r.args) (supertraits V a.reference)
             (pairwise ys a.reference.args r.args (sym (ap (λ (z : Reference). z.args) (ap (read_reference ys) g ∙ e)))) supers)
         by true q (inr g) go = inr (go (suc i) g)
-        by false q (inl g) go = absurd (true-false (sym (self-number a.reference.trait) ∙ ap (λ z. z == a.reference.trait) (sym (ap (λ (z : Reference). z.trait) (ap (read_reference ys) g ∙ e))) ∙ q))
+        by false q (inl g) go = absurd (true-false (sym (reads-can-be ys a.reference r (ap (read_reference ys) g ∙ e)) ∙ q))
         by false q (inr g) go = go (suc i) g
 
     -- one of the references of a rule is read as what is asked

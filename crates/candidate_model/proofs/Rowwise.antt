@@ -139,7 +139,7 @@ module _ (V : World) (a : GoalOverKinds) (P : Candidate → Type 0) (E : List Eq
 
     bounds-so : (source : ℕ → CandidateSource) (n : ℕ) (rs : List Reference) → Every (λ (r : Reference). E (all_equal a.reference.args r.args)) rs → Every P (bounds_from V a source n rs)
     bounds-so source n [] h = tt
-    bounds-so source n (r ∷ rs) h = by (r.trait == a.reference.trait) (bounds-so source (suc n) rs h.1) (bounds-so source (suc n) rs h.1)
+    bounds-so source n (r ∷ rs) h = by (can_be a.reference r) (bounds-so source (suc n) rs h.1) (bounds-so source (suc n) rs h.1)
       where
         by : (b : Bool) → Every P (bounds_from V a source (suc n) rs) → Every P (bounds_from V a source (suc n) rs)
             → Every P (if b then by_rule V a (source n) (all_equal a.reference.args r.args) (supertraits V a.reference) ∷ bounds_from V a source (suc n) rs else bounds_from V a source (suc n) rs)

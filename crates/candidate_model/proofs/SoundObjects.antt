@@ -19,10 +19,11 @@ use Rattle.goal_evaluator.specs.Content.{given, ChosenTerms}
 use Rattle.goal_evaluator.specs.FrameTables.{Nested, fact, Equation, EquationIsMet, is_open_label}
 use Rattle.candidate_model.specs.Facts.{FactFollows, is_plain, is_unerased, clauses_of, beside}
 use Rattle.declarations.specs.Promised.Elaboration.{supertraits, elaborate}
+use Rattle.declarations.specs.Apart.{are_apart}
 use Rattle.candidate_model.specs.Meaning.{ViewMeaning}
 use Rattle.candidate_model.specs.Declared.{is_declared_view, BoundsAreErased}
 use Rattle.candidate_model.specs.Asking.{GoalOverKinds, goal_over_kinds, all_known, are_clauses, is_rigid, self_of, with_plain_head}
-use Rattle.candidate_model.specs.Candidates.{premise, by_rule, all_equal, if_so, bounds_from, object_source, written_source, objects_of, by_objects}
+use Rattle.candidate_model.specs.Candidates.{premise, by_rule, can_be, all_equal, if_so, bounds_from, object_source, written_source, objects_of, by_objects}
 use Rattle.candidate_model.specs.Cover.{read_reference}
 use Rattle.candidate_model.specs.Lawful.{IsSoundFor, ObjectBoundsAreSound}
 use Rattle.candidate_model.proofs.ByView.{rigid-read}
@@ -222,11 +223,11 @@ module _ (m : ViewMeaning) (declared : is_declared_view m.view ≡ true) (f : Ca
             → BuiltFrom s (supertraits V a.reference) × Every (IsPlainAt m declared f a is_asked s) (supertraits V a.reference))
             → Every (IsSoundFor m f a) (bounds_from V a source n rs)
         each-bound source n [] g = tt
-        each-bound source n (r ∷ rs) g = by (r.trait == a.reference.trait) refl (each-bound source (suc n) rs (λ x i. g x (there x r rs i)))
+        each-bound source n (r ∷ rs) g = by (can_be a.reference r) refl (each-bound source (suc n) rs (λ x i. g x (there x r rs i)))
           where
-            by : (b : Bool) → (r.trait == a.reference.trait) ≡ b → Every (IsSoundFor m f a) (bounds_from V a source (suc n) rs)
+            by : (b : Bool) → can_be a.reference r ≡ b → Every (IsSoundFor m f a) (bounds_from V a source (suc n) rs)
                 → Every (IsSoundFor m f a) (if b then by_rule V a (source n) (all_equal a.reference.args r.args) (supertraits V a.reference) ∷ bounds_from V a source (suc n) rs else bounds_from V a source (suc n) rs)
-            by true q e = (among-sound (source n) (all_equal a.reference.args r.args) (supertraits V a.reference) (g r (here r rs) q), e)
+            by true q e = (among-sound (source n) (all_equal a.reference.args r.args) (supertraits V a.reference) (g r (here r rs) (left (r.trait == a.reference.trait) (not (are_apart a.reference.args r.args)) q)), e)
             by false q e = e
 
         self-made : is_made is_open_label terms self ≡ true

@@ -86,16 +86,17 @@ unknowable V a = record {
   certainty = Maybe Ambiguity;
 }
 
+-- The trait reference r can be the goal's reference q: they are of one trait, and their arguments are not disjoint. rustc:
+-- `fast_reject_assumption`, by `DeepRejectCtxt`.
+abbrev pub can_be : Reference → Reference → Bool
+can_be q r = (r.trait == q.trait) && not (are_apart q.args r.args)
+
 -- ---- where-clauses
 -- A where-clause is global if no parameter, variable or placeholder occurs in it, and no lifetime except `'static`.
 abbrev pub clause_source : Reference → ParamEnvSource
 clause_source r = if some_node is_open r.args then NonGlobal else Global
 
--- The where-clause r can be the goal's reference q: they are of one trait, and their arguments are not disjoint. rustc:
--- `fast_reject_assumption`, by `DeepRejectCtxt`.
-abbrev pub can_be : Reference → Reference → Bool
-can_be q r = (r.trait == q.trait) && not (are_apart q.args r.args)
-
+-- A candidate for each where-clause that can be the goal. It equates the two.
 abbrev pub by_clauses : World → GoalOverKinds → List Reference → List Candidate
 by_clauses V a [] = []
 by_clauses V a (r ∷ rs) = if can_be a.reference r then by_rule V a (ParamEnv (clause_source r)) (all_equal a.reference.args r.args) [] ∷ by_clauses V a rs else by_clauses V a rs
@@ -258,12 +259,12 @@ abbrev pub built_in : World → GoalOverKinds → List Candidate
 built_in V a = by_sized V a ++ (by_copy V a ++ (by_auto V a ++ (by_tuple V a ++ (by_fn_ptr V a ++ (by_call V a ++ by_unsize V a)))))
 
 -- ---- object bounds
--- A candidate for each bound of the list that is of the goal's trait. It equates the bound with the goal. Its premises are the goal's
--- supertraits. The first index is i.
+-- A candidate for each bound of the list that can be the goal. It equates the bound with the goal. Its premises are the goal's supertraits.
+-- The first index is i.
 abbrev pub bounds_from : World → GoalOverKinds → (ℕ → CandidateSource) → ℕ → List Reference → List Candidate
 bounds_from V a source i [] = []
 bounds_from V a source i (r ∷ rs) =
-    if r.trait == a.reference.trait
+    if can_be a.reference r
     then by_rule V a (source i) (all_equal a.reference.args r.args) (supertraits V a.reference) ∷ bounds_from V a source (suc i) rs
     else bounds_from V a source (suc i) rs
 

@@ -1,5 +1,5 @@
 -- Candidates of a goal without inference variables that equate lists of terms: they apply if both lists have the same value.
-use Rattle.std.proofs.Common.{◌≡◌, ℕ, suc, ◌==◌, Bool, true, false, ◌&&◌, if◌then◌else◌, List, [], ◌∷◌, ◌++◌, map, ◌⊎◌, inl, inr, refl, sym, ◌∙◌, ap, subst, Some}
+use Rattle.std.proofs.Common.{◌≡◌, ℕ, suc, ◌==◌, Bool, true, false, not, ◌&&◌, if◌then◌else◌, List, [], ◌∷◌, ◌++◌, map, ◌⊎◌, inl, inr, refl, sym, ◌∙◌, ap, subst, Some}
 use Rattle.type_terms.specs.Promised.Label.{Label, of_type, of_const, canonical, param, placeholder}
 use Rattle.type_terms.specs.Promised.Trees.{Trees, none, tree, ◌+++◌}
 use Rattle.type_terms.specs.Codes.{same}
@@ -26,6 +26,8 @@ use Rattle.candidate_model.specs.Meaning.{ViewMeaning}
 use Rattle.candidate_model.specs.Asking.{GoalOverKinds, goal_over_kinds}
 use Rattle.candidate_model.specs.Candidates.{Candidate, all_equal, by_rule, bounds_from, upcast_source, upcasts_from}
 use Rattle.declarations.specs.Promised.Elaboration.{supertraits}
+use Rattle.declarations.specs.Apart.{are_apart}
+use Rattle.candidate_model.proofs.Apart.{reads-meet}
 use Rattle.candidate_model.specs.Cover.{read_reference}
 use Rattle.candidate_model.proofs.EquationTerms.{IsOpenTerms, made-open}
 use Rattle.candidate_model.proofs.Facts.{same-self}
@@ -123,7 +125,8 @@ module _ (m : ViewMeaning) (f : CanonicalForm) (a : GoalOverKinds) (is_asked : g
   pub bound-ways : (source : ℕ → CandidateSource) (n : ℕ) (rs : List Reference) → Every HasOpenTerms rs
       → AreWaysHere (bounds_from m.view a source n rs) (equal_ways (read_all (supertraits m.view a.reference)) (read_reference its_terms.slots a.reference) (read_all rs))
   bound-ways source n [] h = no_more
-  bound-ways source n (r ∷ rs) h = by (r.trait == a.reference.trait) (same (read r.args) (read a.reference.args)) refl (bound-ways source (suc n) rs h.1)
+  bound-ways source n (r ∷ rs) h =
+      by (r.trait == a.reference.trait) (not (are_apart a.reference.args r.args)) refl (same (read r.args) (read a.reference.args)) refl (bound-ways source (suc n) rs h.1)
     where
       ps : List Reference
       ps = supertraits m.view a.reference
@@ -131,11 +134,13 @@ module _ (m : ViewMeaning) (f : CanonicalForm) (a : GoalOverKinds) (is_asked : g
       others : List (List Reference)
       others = equal_ways (read_all ps) (read_reference its_terms.slots a.reference) (read_all rs)
 
-      by : (b d : Bool) → same (read r.args) (read a.reference.args) ≡ d → AreWaysHere (bounds_from m.view a source (suc n) rs) others
-          → AreWaysHere (if b then by_rule m.view a (source n) (all_equal a.reference.args r.args) ps ∷ bounds_from m.view a source (suc n) rs else bounds_from m.view a source (suc n) rs)
+      by : (b k : Bool) → not (are_apart a.reference.args r.args) ≡ k → (d : Bool) → same (read r.args) (read a.reference.args) ≡ d → AreWaysHere (bounds_from m.view a source (suc n) rs) others
+          → AreWaysHere (if b && k then by_rule m.view a (source n) (all_equal a.reference.args r.args) ps ∷ bounds_from m.view a source (suc n) rs else bounds_from m.view a source (suc n) rs)
           (if b && d then read_all ps ∷ others else others)
-      by true d e u = equated (source n) a.reference.args r.args ps args-open h.0 (bounds_from m.view a source (suc n) rs) others u d (same-swap (read r.args) (read a.reference.args) d e)
-      by false d e u = u
+      by true true e d g u = equated (source n) a.reference.args r.args ps args-open h.0 (bounds_from m.view a source (suc n) rs) others u d (same-swap (read r.args) (read a.reference.args) d g)
+      by true false e true g u = absurd (false-true (sym e ∙ reads-meet its_terms.slots a.reference.args r.args (sym (same-sound (read r.args) (read a.reference.args) g))))
+      by true false e false g u = u
+      by false k e d g u = u
 
   -- ---- rules that none is for a parameter or a placeholder
   pub at-place : (F : Trees → List Rule) → ((i : ℕ) (c o : Trees) → F (tree (param of_type i) c o) ≡ []) → ((i : ℕ) (c o : Trees) → F (tree (placeholder of_type i) c o) ≡ [])

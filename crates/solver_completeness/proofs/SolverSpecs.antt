@@ -193,7 +193,7 @@ module _ (V : World) (a : GoalOverKinds) where
 
   bounds-sure : (source : ℕ → CandidateSource) (n : ℕ) (rs : List Reference) → Every Sure (bounds_from V a source n rs)
   bounds-sure source n [] = tt
-  bounds-sure source n (r ∷ rs) = by (r.trait == a.reference.trait) _ refl (bounds-sure source (suc n) rs)
+  bounds-sure source n (r ∷ rs) = by (can_be a.reference r) _ refl (bounds-sure source (suc n) rs)
     where
       by : (b : Bool) (c : Candidate) → Sure c → Every Sure (bounds_from V a source (suc n) rs) → Every Sure (if b then c ∷ bounds_from V a source (suc n) rs else bounds_from V a source (suc n) rs)
       by true c e h = (e, h)

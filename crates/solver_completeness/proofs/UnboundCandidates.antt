@@ -374,7 +374,7 @@ module _ (V : World) (well : IsDeclaredWell V) where
     bounds-fine : (source : ℕ → CandidateSource) (n : ℕ) (rs : List Reference) → Every IsFine (bounds_from V a source n rs)
     bounds-fine source n [] = tt
     bounds-fine source n (r ∷ rs) =
-        if-first (r.trait == a.reference.trait) _ (bounds_from V a source (suc n) rs) (rule-fine (source n) (all_equal a.reference.args r.args) (supertraits V a.reference) (supers-shut a.reference open_shut)) (bounds-fine source (suc n) rs)
+        if-first (can_be a.reference r) _ (bounds_from V a source (suc n) rs) (rule-fine (source n) (all_equal a.reference.args r.args) (supertraits V a.reference) (supers-shut a.reference open_shut)) (bounds-fine source (suc n) rs)
 
     objects-fine : (t : Trees) → Every IsFine (objects_of V a t)
     objects-fine none = tt

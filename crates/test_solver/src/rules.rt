@@ -61,7 +61,7 @@ const PRINCIPAL: Option<Told> = Some(Told {
     equal: true,
 });
 
-/// The principal with other arguments.
+/// The principal `Conv<u8>`, at a parameter. At another type, such as `Conv<bool>`, it is skipped.
 const OTHER_PRINCIPAL: Option<Told> = Some(Told {
     source: Source::BuiltinImpl(BuiltinImplSource::Object(0)),
     certainty: Certainty::Yes,
@@ -176,7 +176,7 @@ const AUTO_TRAITS: [Row; 21] = [
 ];
 
 /// Calls of `fn` pointers, and the bounds of a `dyn`.
-const CALLS_AND_BOUNDS: [Row; 21] = [
+const CALLS_AND_BOUNDS: [Row; 22] = [
     (
         b"fn(u8, bool) -> char: Fn<(u8, bool)> where char: Sized",
         MISC,
@@ -198,7 +198,8 @@ const CALLS_AND_BOUNDS: [Row; 21] = [
         FIRST_SUPERTRAIT,
     ),
     (b"dyn Conv<u8>: Conv<u8>", PRINCIPAL),
-    (b"dyn Conv<u8>: Conv<bool>", OTHER_PRINCIPAL),
+    (b"dyn Conv<u8>: Conv<bool>", None),
+    (b"<T> dyn Conv<u8>: Conv<T>", OTHER_PRINCIPAL),
     (b"dyn Unsize<u8>: Unsize<u8>", PRINCIPAL),
     (b"dyn Sub: Safe", None),
     (b"dyn Sup: Sub", None),

@@ -1,4 +1,5 @@
-use Rattle.std.proofs.Common.{sym, subst}
+use Rattle.std.proofs.Common.{◌==◌, sym, subst}
+use Rattle.term_folds.specs.declared.predicate.TraitRef.{TraitRef}
 use Rattle.declarations.specs.Applied.{TraitRefsHeld}
 use Rattle.built_in_candidates.proofs.Objects.{upcast-level, numbered-held}
 use Rattle.built_in_candidates.proofs.upcast.upcast_bound.Goals as goal
@@ -10,7 +11,7 @@ returns-in-Some-reference_at-clause-is c = λ es V e.
 
 pub returns-in-Some-reference_at-clause-held : goal.returns-in-Some-reference_at-clause-held
 returns-in-Some-reference_at-clause-held c = λ es h g.
-    numbered-held es c.args.def_id.index 0 c.args.place c.deref.result.now c.in-Some-reference_at.number c.in-Some-reference_at.bound (subst (TraitRefsHeld es) (sym c.deref.ensures.value) g) c.in-Some-reference_at.ensures
+    numbered-held es (λ (r : TraitRef). r.def_id.index == c.args.def_id.index) 0 c.args.place c.deref.result.now c.in-Some-reference_at.number c.in-Some-reference_at.bound (subst (TraitRefsHeld es) (sym c.deref.ensures.value) g) c.in-Some-reference_at.ensures
 
 pub returns-in-None-reference_at-clause-is : goal.returns-in-None-reference_at-clause-is
 returns-in-None-reference_at-clause-is c = λ es V e.
