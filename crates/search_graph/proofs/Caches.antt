@@ -59,6 +59,10 @@ KeepsResults-push (z ∷ xs) y zero x at = at
 KeepsResults-push (z ∷ xs) y (suc place) x at = KeepsResults-push xs y place x at
 
 module _ {I R : Type 0} where
+  pub known_length : (es : List (CacheEntry I R)) → length (known_results es) ≡ length es
+  known_length [] = refl
+  known_length (e ∷ es) = ap suc (known_length es)
+
   pub known_at : (es : List (CacheEntry I R)) (i : ℕ) (e : CacheEntry I R) → slice_get es i ≡ Some e → slice_get (known_results es) i ≡ Some (known_result e)
   known_at [] i e at = absurd (none-some e at)
   known_at (x ∷ es) zero e at = ap (λ z. Some (known_result z)) (same_Some x e at)

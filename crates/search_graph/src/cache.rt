@@ -85,7 +85,7 @@ fn is_usable(encountered_overflow: bool, needed: usize, depth: usize) -> bool
 
 /// The cached results, found by their goals. They rest on no goal of the stack.
 pub struct CachedResults<D: Delegate> {
-    alloc: Global,
+    pub(crate) alloc: Global,
     /// The goals that were asked. The number of a goal is its index here.
     pub goals: IndexSet<InputOf<D>>,
     /// The index of the newest result of each chain.

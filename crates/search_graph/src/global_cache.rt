@@ -1,12 +1,17 @@
 //! The public interface of a cache.
 
-ghost use Rattle.std.specs.Prelude.{◌≡◌, [], IsOkAnd};
+ghost use Rattle.std.specs.Prelude.{◌≡◌, ◌<◌, ◌≤◌, [], length, IsOkAnd};
+ghost use Rattle.search_graph.specs.Cache.{AreJustified};
+ghost use Rattle.search_graph.specs.declared.global_cache.TheConstants.{MAX_KEPT_RESULTS};
 
 use crate::cache::CachedResults;
 use crate::delegate::Delegate;
 use std::alloc::Global;
 use std::marker::Model;
 use type_terms::Fault;
+
+/// How many results a cache keeps at most from one root goal to the next.
+pub const MAX_KEPT_RESULTS: usize = 262_144;
 
 /// The results that depend on no goal of the stack, by their goals.
 ///
@@ -38,5 +43,18 @@ impl<D: Delegate> GlobalCache<D> {
         Ok(GlobalCache {
             results: CachedResults::new(alloc),
         })
+    }
+
+    /// Forgets all results if there are more than `MAX_KEPT_RESULTS`, so that a cache has at most these and those of one root goal.
+    ///
+    /// A chain longer than the depth leaves a result for each goal and depth, and no later goal uses them.
+    pub fn forget_if_many(&mut self)
+        ensures kept { length self.old ≤ MAX_KEPT_RESULTS → self.new ≡ self.old }
+        ensures forgotten { MAX_KEPT_RESULTS < length self.old → self.new ≡ [] }
+        ensures justified { (c : D.Cx) → AreJustified D.meaning c self.old → AreJustified D.meaning c self.new }
+    {
+        if self.results.entries.len() > MAX_KEPT_RESULTS {
+            self.results = CachedResults::new(self.results.alloc);
+        }
     }
 }

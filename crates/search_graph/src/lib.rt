@@ -23,7 +23,7 @@ pub use cache::{Asked, CacheEntry, CachedResults};
 pub use candidates::Candidates;
 pub use delegate::{Cx, Delegate, InputOf, Reply, Request, ResultOf};
 pub use fault::GraphFault;
-pub use global_cache::GlobalCache;
+pub use global_cache::{GlobalCache, MAX_KEPT_RESULTS};
 pub use graph::SearchGraph;
 pub use newest::{Chain, Newest};
 pub use provisional::{ProvisionalEntries, ProvisionalEntry};

@@ -513,7 +513,8 @@ impl<D: Delegate> Search<D> {
         })
     }
 
-    /// Returns the result of a nested goal of a goal of depth 0, and sets `limits_met`.
+    /// Returns the result of a nested goal of a goal of depth 0, and sets `limits_met`. It lists the goal with this number alone, which is
+    /// the one of depth 0 that asks, or a root goal that is given up.
     ///
     /// `handle_overflow` of `rustc_type_ir::search_graph`.
     pub fn overflow(

@@ -100,6 +100,7 @@ pub fn overlap_at(
     let Some(mut found) = intersection_at(&mut search.cx, later, earlier)? else {
         return Ok(false);
     };
+    search.cache.forget_if_many();
     let refused = has_impossible_obligation(search, &mut found)?;
     Ok(is_overlap(refused))
 }

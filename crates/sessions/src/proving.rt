@@ -167,6 +167,7 @@ fn ask_for<H: GoalHandler>(
     ensures full { IfErr result (ContextFullAtLimit search.new.cx) }
 {
     rest_laws::<H>();
+    search.cache.forget_if_many();
     match ask_until_settled(search, table, TypingMode::PostAnalysis, goal)? {
         Outcome::Proved => read_values_in(
             &mut search.cx,

@@ -70,6 +70,7 @@ fn ask_in_coherence<H: GoalHandler>(
         param_env: Vec::new(search.cx.alloc),
         predicate: TraitPredicate { trait_ref: asked },
     };
+    search.cache.forget_if_many();
     let evaluated = search.evaluate(table, TypingMode::Coherence, &goal);
     answer_of(evaluated)
 }

@@ -61,7 +61,8 @@ use workspace::Workspace;
 ///
 /// A session sees the view of its crate alone: the crate, `core`, and all that it uses, directly or through others. It lowers the view when
 /// it is made, or only what is new if it begins with what another session left. It can be used after any call, also after a fault: the
-/// terms, goals and answers of each call stay, and what the cache holds is justified.
+/// terms, goals and answers of each call stay, and what the cache holds is justified. A cache with many results is emptied before the
+/// next goal.
 ///
 /// A fault is `Memory` if memory is refused, or if there are no numbers for so many variables or parameters (`MAX_INDEX`). It is `Full`
 /// only if a limit of the session is reached.

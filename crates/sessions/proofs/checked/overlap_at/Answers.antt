@@ -24,6 +24,7 @@ returns-in_default-clause-judged c = λ d n depth s.
 
 pub has_impossible_obligation-requires-clause-cache : goal.has_impossible_obligation-requires-clause-cache
 has_impossible_obligation-requires-clause-cache c =
+    c.forget_if_many.ensures.justified c.intersection_at.new.cx
     (c.rest_laws.ensures.rest c.args.search.now.graph.root_depth c.args.search.now.cx c.intersection_at.new.cx c.args.search.now.graph c.args.search.now.cache c.requires.rest c.intersection_at.ensures.advances).cached
 
 pub returns-clause-judged : goal.returns-clause-judged

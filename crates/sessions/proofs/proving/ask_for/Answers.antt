@@ -15,7 +15,7 @@ use Rattle.sessions.proofs.ShortCalls.{full-of-terms}
 use Rattle.sessions.proofs.proving.ask_for.Goals as goal
 
 pub ask_until_settled-requires : goal.ask_until_settled-requires
-ask_until_settled-requires g c = record { empty = c.requires.rest.empty; cache = c.requires.rest.cached; ready = c.requires.rest.ready; table = c.requires.ready; goal = c.requires.goal }
+ask_until_settled-requires g c = record { empty = c.requires.rest.empty; cache = c.forget_if_many.ensures.justified c.args.search.now.cx c.requires.rest.cached; ready = c.requires.rest.ready; table = c.requires.ready; goal = c.requires.goal }
 
 pub returns-in_err-ask_until_settled-clause-rest : goal.returns-in_err-ask_until_settled-clause-rest
 returns-in_err-ask_until_settled-clause-rest g c =
