@@ -26,4 +26,5 @@ pub mod Judged
 pub mod Walked
 pub mod PairLists
 pub mod Tops
+pub mod FixedClauses
 pub mod ImplRulesLaw

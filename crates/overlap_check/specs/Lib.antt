@@ -9,3 +9,4 @@ pub mod Written
 pub mod Orphans
 pub mod Partners
 pub mod Heads
+pub mod FixedClauses

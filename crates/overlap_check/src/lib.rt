@@ -10,6 +10,7 @@
 #![tactic(auto)]
 
 pub mod equate;
+pub mod fixed;
 pub mod fresh;
 pub mod header;
 pub mod heads;
