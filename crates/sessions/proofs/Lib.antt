@@ -98,6 +98,7 @@ pub mod LinkedTexts
 pub mod WorkedSets
 pub mod ScopedTexts
 pub mod LaterChecks
+pub mod FixedGoals
 -- The crates below whose names the crates above need too: these list this crate alone.
 pub use Rattle.candidate_assembly.proofs as CandidateAssembly
 pub use Rattle.candidate_model.proofs as CandidateModel

@@ -46,6 +46,7 @@ pub use Rattle.type_terms.specs.Promised.Verdicts
 pub use Rattle.view_lowering.specs.Promised.Questions as TextQuestions
 pub mod Shown
 pub mod ByTrait
+pub mod FixedGoals
 -- The crates below whose names the crates above need too: these list this crate alone.
 pub use Rattle.candidate_assembly.specs as CandidateAssembly
 pub use Rattle.candidate_model.specs as CandidateModel

@@ -1,6 +1,6 @@
 //! The checks of a crate: the headers of its impls, and the pairs of impls that it brings together.
 
-ghost use Rattle.std.specs.Prelude.{◌≡◌, ◌≤◌, ◌+◌, ℕ, not, IfOk, IfErr, IfSome, Ok, None};
+ghost use Rattle.std.specs.Prelude.{◌≡◌, ◌≤◌, ◌+◌, ℕ, not, IfOk, IfErr, IfSome, OnOk, Ok, None};
 ghost use Rattle.type_terms.specs.Promised.Handles.{Keeps};
 ghost use Rattle.type_terms.specs.declared.TheConstants.{MAX_INDEX};
 ghost use Rattle.type_terms.specs.Growth.{FullAtLimit};
@@ -9,12 +9,14 @@ ghost use Rattle.orphan_check.specs.Promised.Errors.{ErrorHeld};
 ghost use Rattle.overlap_check.specs.Orphans.{IsFirstError};
 ghost use Rattle.text_language.specs.Promised.Declarations.{Declarations};
 ghost use Rattle.sessions.specs.Checking.{IsReadySolver, SolverStaysReady, HaveOwnNumbers, AreApartAt, IsFoundAt, IsJudgedAt, rules_in, solving_in};
+ghost use Rattle.sessions.specs.FixedGoals.{AreRefutedAsNoted, RestsSince};
 ghost use Rattle.sessions.specs.Promised.Promises.{view_in};
 ghost use Rattle.sessions.specs.Sessions.{SolverRests, IsSession};
 ghost use Rattle.solver_graph.specs.Contexts.{KeepsLimits};
 ghost use Rattle.solver_graph.specs.Shortages.{ContextFullAtLimit};
 
 use crate::asked::rest_laws;
+use crate::fixed_goals::{FixedAnswers, has_refuted_goal};
 use crate::laws::{open_pair_goals_are_possible, ready_impls_are_written_well};
 use crate::obligations::has_impossible_obligation;
 use candidate_assembly::solver::Solver;
@@ -103,6 +105,30 @@ pub fn overlap_at(
     search.cache.forget_if_many();
     let refused = has_impossible_obligation(search, &mut found)?;
     Ok(is_overlap(refused))
+}
+
+/// The same as `overlap_at`. It first looks at the where-clauses that the headers fix, and notes the answers for other pairs.
+pub(crate) fn overlaps_by_goals(
+    search: &mut Search<Solver>,
+    answers: &mut FixedAnswers,
+    later: ImplId,
+    earlier: ImplId,
+) -> Result<bool, Fault>
+    requires rest { SolverRests search.old.graph.root_depth search.old.cx search.old.graph search.old.cache }
+    requires numbers { HaveOwnNumbers (rules_in search.old.cx) }
+    ensures rests { RestsSince search.old.graph.root_depth search.old.cx search.new.cx search.new.graph search.new.cache }
+    ensures noted { (d : Declarations) (c depth : ℕ) → IsSession d c depth search.old.cx search.old.graph search.old.cache
+        → AreRefutedAsNoted d c search.old.cx.interner.entries answers.old
+        → OnOk result (AreRefutedAsNoted d c search.new.cx.interner.entries answers.new) }
+    ensures judged { (d : Declarations) (c depth : ℕ) → IsSession d c depth search.old.cx search.old.graph search.old.cache
+        → AreRefutedAsNoted d c search.old.cx.interner.entries answers.old
+        → IfOk result (IsJudgedAt depth (view_in d c) c later.index earlier.index) }
+    ensures full { IfErr result (ContextFullAtLimit search.new.cx) }
+{
+    if has_refuted_goal(search, answers, later, earlier)? {
+        return Ok(false);
+    }
+    overlap_at(search, later, earlier)
 }
 
 /// Whether a pair with a common instance overlaps, given whether one of its where-clauses is impossible there.

@@ -14,6 +14,7 @@ mod answers;
 mod asked;
 mod by_trait;
 mod checked;
+mod fixed_goals;
 mod impossible;
 mod later;
 pub mod laws;

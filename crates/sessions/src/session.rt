@@ -1,6 +1,6 @@
 //! Sessions: checks and queries of one crate.
 
-ghost use Rattle.std.specs.Prelude.{◌≡◌, ◌<◌, ◌≤◌, ◌+◌, ℕ, true, length, IfOk, IfErr, IfSome, IsOk, Ok, Err};
+ghost use Rattle.std.specs.Prelude.{◌≡◌, ◌<◌, ◌≤◌, ◌+◌, ℕ, true, length, IfOk, IfErr, IfSome, IsOk, OnOk, Ok, Err};
 ghost use Rattle.type_terms.specs.Promised.Handles.{SomeKindIsFull};
 ghost use Rattle.type_terms.specs.Promised.Handles.{ArgsHeld};
 ghost use Rattle.type_terms.specs.declared.TheConstants.{MAX_INDEX};
@@ -16,6 +16,7 @@ ghost use Rattle.sessions.specs.Promised.AnsweredSets.{AnsweredSetsAreCoherent, 
 ghost use Rattle.sessions.specs.ByTrait.{ListsSeen, HavePartnersSeen};
 ghost use Rattle.sessions.specs.Promised.CoherentTexts.{HeldTextsAreCoherent};
 ghost use Rattle.sessions.specs.Checking.{HasOrphan, HasJudged, HasPartner, HasOverlap};
+ghost use Rattle.sessions.specs.FixedGoals.{AreRefutedInSession};
 ghost use Rattle.sessions.specs.Promised.FrameBounds.{ProvesInFrames, RefutesInFrames};
 ghost use Rattle.sessions.specs.Promised.Given.{AnswerValuesHeld, VerdictHeld, answer_in, later_of, refutation_of, supers_answer_of, verdict_in};
 ghost use Rattle.sessions.specs.Promised.Promises.{IsProved, IsRefutation, IsVerdictOf};
@@ -29,7 +30,8 @@ ghost use Rattle.sessions.specs.Promised.Subjects.{IsOfText, AsksProof, AsksRefu
 use crate::answers::{LaterAnswer, ProveAnswer, RefuteAnswer, SupersAnswer, Verdict};
 use crate::asked::rest_laws;
 use crate::by_trait::ImplsByTrait;
-use crate::checked::{first_broken_header, overlap_at};
+use crate::checked::{first_broken_header, overlaps_by_goals};
+use crate::fixed_goals::FixedAnswers;
 use crate::later::{added_impls_break_no_user, later_answer};
 use crate::laws::{
     answered_sets_are_linked, clauses_apply, held_texts_are_coherent, impls_apply,
@@ -314,9 +316,10 @@ impl<'w> Session<'w> {
         ensures full { IfErr result (SessionFullAtLimit self.new) }
     {
         let impls = self.impls_by_trait(end)?;
+        let mut answers = FixedAnswers::new(self.search.cx.alloc);
         for index in 0..end {
             let later = ImplId { index };
-            if let Some(earlier) = self.first_partner(&impls, later)? {
+            if let Some(earlier) = self.first_partner(&impls, &mut answers, later)? {
                 return Ok(Some((later, earlier)));
             }
         }
@@ -355,17 +358,20 @@ impl<'w> Session<'w> {
     fn first_partner(
         &mut self,
         impls: &ImplsByTrait,
+        answers: &mut FixedAnswers,
         later: ImplId,
     ) -> Result<Option<ImplId>, Fault>
         requires listed { ListsSeen self.old impls.now }
         requires numbered { IsNumbered self.old.declarations }
+        requires noted { AreRefutedInSession self.old answers.old }
+        ensures noted { OnOk result (AreRefutedInSession self.new answers.new) }
         ensures found { (end : ℕ) → IfOk result (HasPartner self.old end later.index) }
         ensures stays { StaysOn self.old self.new }
         ensures full { IfErr result (SessionFullAtLimit self.new) }
     {
         let partners = self.partners_of(impls, later)?;
         for earlier in &partners {
-            if self.overlaps(later, *earlier)? {
+            if self.overlaps(answers, later, *earlier)? {
                 return Ok(Some(*earlier));
             }
         }
@@ -373,13 +379,20 @@ impl<'w> Session<'w> {
     }
 
     /// Whether the crate brings the impls with these numbers together and they overlap.
-    fn overlaps(&mut self, later: ImplId, earlier: ImplId) -> Result<bool, Fault>
+    fn overlaps(
+        &mut self,
+        answers: &mut FixedAnswers,
+        later: ImplId,
+        earlier: ImplId,
+    ) -> Result<bool, Fault>
         requires numbered { IsNumbered self.old.declarations }
+        requires noted { AreRefutedInSession self.old answers.old }
+        ensures noted { OnOk result (AreRefutedInSession self.new answers.new) }
         ensures judged { IfOk result (HasJudged self.old later.index earlier.index) }
         ensures stays { StaysOn self.old self.new }
         ensures full { IfErr result (SessionFullAtLimit self.new) }
     {
-        overlap_at(&mut self.search, later, earlier)
+        overlaps_by_goals(&mut self.search, answers, later, earlier)
     }
 
     /// The terms of the session. The handles of its answers are of this interner.

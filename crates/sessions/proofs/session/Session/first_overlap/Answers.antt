@@ -7,6 +7,7 @@ use Rattle.sessions.proofs.session.Session.first_overlap.Goals as goal
 pub loop-index-init : goal.loop-index-init
 loop-index-init c = record {
   stays = search rules;
+  noted = c.new-answers.ensures c.args.self.now.declarations c.args.self.now.of_crate c.args.self.now.terms;
   passed = none-below (λ k. (j : ℕ) → j < c.args.end → Passed c.args.self.now k j);
 }
 
@@ -14,6 +15,7 @@ pub first_partner-requires : goal.first_partner-requires
 first_partner-requires c = record {
   listed = lists-still c.args.self.now c.loop-index.self c.loop-index.invariant.stays c.in_ok-impls.impls c.in_ok-impls.ensures;
   numbered = numbered-still c.args.self.now c.loop-index.self c.loop-index.invariant.stays c.requires.numbered;
+  noted = c.loop-index.invariant.noted;
 }
 
 pub returns-in_err-earlier-clause-stays : goal.returns-in_err-earlier-clause-stays
@@ -31,6 +33,7 @@ pub loop-index-preserved : goal.loop-index-preserved
 loop-index-preserved c =
     record {
       stays = stays-on c.args.self.now c.loop-index.self c.first_partner.new.self c.loop-index.invariant.stays c.first_partner.ensures.stays;
+      noted = c.in_ok-earlier.ensures.noted;
       passed = one-more (λ k. (j : ℕ) → j < c.args.end → Passed c.args.self.now k j) c.loop-index.index c.loop-index.invariant.passed
           (partner-before c.args.self.now c.loop-index.self c.loop-index.invariant.stays c.args.end c.loop-index.index None
           (subst (HasPartner c.loop-index.self c.args.end c.loop-index.index) c.in_default.is (c.in_ok-earlier.ensures.found c.args.end)));

@@ -8,7 +8,7 @@ use Rattle.sessions.proofs.Partners.{all-partners-passed}
 use Rattle.sessions.proofs.session.Session.first_partner.Goals as goal
 
 pub overlaps-requires : goal.overlaps-requires
-overlaps-requires c = record { numbered = numbered-still c.args.self.now c.loop-earlier.self c.loop-earlier.invariant.stays c.requires.numbered }
+overlaps-requires c = record { numbered = numbered-still c.args.self.now c.loop-earlier.self c.loop-earlier.invariant.stays c.requires.numbered; noted = c.loop-earlier.invariant.noted }
 
 pub returns-in_err-overlaps-clause-stays : goal.returns-in_err-overlaps-clause-stays
 returns-in_err-overlaps-clause-stays c = stays-on c.args.self.now c.loop-earlier.self c.overlaps.new.self c.loop-earlier.invariant.stays c.overlaps.ensures.stays
@@ -27,6 +27,7 @@ loop-earlier-preserved c =
     let item = c.earlier-item.result in
     record {
       stays = stays-on c.args.self.now c.loop-earlier.self c.overlaps.new.self c.loop-earlier.invariant.stays c.overlaps.ensures.stays;
+      noted = c.in_ok-overlaps.ensures.noted;
       passed = each-more c.deref-earlier-items.result.now c.loop-earlier.earlier-index item c.earlier-item.is c.loop-earlier-test.true (λ (i : ImplId). Passed c.args.self.now c.args.later.index i.index) c.loop-earlier.invariant.passed
           (pair-passed c.args.self.now c.loop-earlier.self c.loop-earlier.invariant.stays c.args.later.index item.index c.in_ok-overlaps.field-0 b c.in_ok-overlaps.ensures.judged);
     }
