@@ -24,7 +24,7 @@ from .common import Missing, Tally
 GROUPS = {
     "sources": ["promises", "documents", "reading", "shape"],
     "programs": [
-        "examples", "slips", "explanations", "explained_words", "statuses", "options", "asking", "transcripts", "limits", "prefixes", "orders",
+        "examples", "slips", "explanations", "explained_words", "statuses", "options", "asking", "transcripts", "limits", "prefixes", "orders", "monotone",
         "hostile", "walks", "refused_growth", "rustdoc_cases", "survey_cases", "bindings", "driven",
     ],
     "by_hand": ["explained", "explained_json"],
