@@ -25,7 +25,7 @@ GROUPS = {
     "sources": ["promises", "documents", "reading", "shape"],
     "programs": [
         "examples", "slips", "explanations", "explained_words", "statuses", "options", "asking", "transcripts", "limits", "prefixes", "orders",
-        "hostile", "walks", "refused_growth", "rustdoc_cases", "survey_cases", "bindings", "driven",
+        "hostile", "tests", "walks", "refused_growth", "rustdoc_cases", "survey_cases", "bindings", "driven",
     ],
     "by_hand": ["explained", "explained_json"],
 }
