@@ -4,10 +4,10 @@ Each run of the built program but the last has to end with status 3 after a pref
 may one in which the library, refused a list with room to spare, asks for one without and gets it.) Of the program that explains the lines
 of the answer have to stand in the output, with others between them, as far as it came. A test of the layers below has to end with the
 fault `Memory` (also inside an equation's error, or as the allocator's own error, where the test itself asked), or to pass where it asks the
-refused call again; the last run has to pass. An explanation asks for memory thousands of times and a search that is given up tens of
-thousands: of these each of the first 400 and 4,000 requests is refused, and then each 17th and 97th.
+refused call again; where none is refused it has to pass. An explanation asks for memory thousands of times and a search that is given up
+tens of thousands: of these each of the first 400 and 4,000 requests is refused, and then each 17th and 97th.
 
-It needs a C compiler under the name cc, and the tests that `rt ci` built.
+It needs a C compiler under the name cc. A program is run once for each request. A test is run once, and forks at each (tools/driver/refuse.c).
 """
 from __future__ import annotations
 
@@ -18,17 +18,19 @@ import tempfile
 from pathlib import Path
 from typing import Iterator, NamedTuple, Optional, Sequence
 
-from .common import TOP, Ended, Missing, Tally, built, example, program, run
+from .common import TOP, Ended, Limits, Missing, Tally, example, program, run
+from .driver import driver, tests
 
 ANSWERED = """two_crates_accepted orphan_impl an_uncovered_parameter a_local_type_is_not_num a_later_version_may_add_num
     where_clauses_are_proved refuted_and_open values_of_a_type_and_a_const values_with_variables later_versions_are_judged_apart
     a_supertrait_that_is_missing a_supertrait_that_is_there""".split()
 EXPLAINED = "a_later_version_may_add_num orphan_impl values_with_variables".split()
-TESTED = ("test_terms", "test_solver")
-# Tests that walk through long lists of goals ask for memory too often.
-LONG = ("rules::", "walks::", "worked::")
+# Tests that walk through long lists of goals ask for memory too often, or compare a `Result`.
+LONG = ("solver::rules::", "solver::walks::", "solver::worked::")
 MOST = 100000
 OF_MEMORY = re.compile(rb"^[Ee]rror: (Fault\()*(Memory|Alloc)", re.M)
+# The line in a report behind what the test says that was refused this request.
+REQUEST = re.compile(rb"\nrequest (\d+): status (-?\d+)\n")
 
 
 class Turn(NamedTuple):
@@ -99,21 +101,16 @@ def explained_on(tally: Tally, refusing: Refusing, name: str) -> None:
     print(f"{name}, explained: requests refused in turn, up to the {last}th")
 
 
-def tests_of(tally: Tally, refusing: Refusing, crate: str) -> None:
-    """The built tests of a crate, each in a run of its own."""
-    tests = built(crate, f"{crate}_tests")
-    names = re.findall(r"^(.*): test$", run([tests, "--list"]).output.decode(), re.M)
-    requests = 0
-    for name in names:
-        if name.startswith(LONG):
-            continue
-        for number, ended, was_refused in refusing.turns([tests, name], b"", 4000, 97):
-            is_so = ended.status == 0 or was_refused and OF_MEMORY.search(ended.said) is not None
-            tally.expect(f"{crate} {name}, request {number} refused", is_so, f"the test ends with status {ended.status} and no fault of memory")
-            requests += was_refused
-    print(f"the tests of {crate}: {requests} requests refused in turn")
-    if not requests:
-        tally.tell(f"the tests of {crate}", "no request was refused at all")
+def test_on(tally: Tally, report: Path, name: str) -> int:
+    """A test of the layers below; returns how many requests it was refused."""
+    report.unlink(missing_ok=True)
+    ended = run([driver(), name], limits=Limits(seconds=600), env={**os.environ, "REFUSE_EACH": str(report)})
+    tally.expect(f"{name}, none refused", ended.status == 0, f"the test ends with status {ended.status}")
+    parts = REQUEST.split(report.read_bytes())
+    for said, number, status in zip(parts[0::3], parts[1::3], parts[2::3]):
+        is_so = status == b"0" or OF_MEMORY.search(said) is not None
+        tally.expect(f"{name}, request {int(number)} refused", is_so, f"the test ends with status {int(status)} and no fault of memory")
+    return len(parts) // 3
 
 
 def check(tally: Tally, _: argparse.Namespace) -> None:
@@ -123,5 +120,6 @@ def check(tally: Tally, _: argparse.Namespace) -> None:
             program_on(tally, refusing, name)
         for name in EXPLAINED:
             explained_on(tally, refusing, name)
-        for crate in TESTED:
-            tests_of(tally, refusing, crate)
+        requests = sum(test_on(tally, Path(room) / "of_tests", name) for name in tests() if not name.startswith(LONG))
+    print(f"the tests of the layers below: {requests} requests refused in turn")
+    tally.expect("the tests of the layers below", requests > 0, "no request was refused at all")

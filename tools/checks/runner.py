@@ -24,8 +24,8 @@ from .common import Missing, Tally
 GROUPS = {
     "sources": ["promises", "documents", "reading", "shape"],
     "programs": [
-        "examples", "slips", "explanations", "explained_words", "statuses", "options", "asking", "transcripts", "limits", "prefixes", "orders", "monotone",
-        "hostile", "walks", "refused_growth", "rustdoc_cases", "survey_cases", "bindings", "driven",
+        "examples", "slips", "explanations", "explained_words", "statuses", "options", "asking", "transcripts", "limits", "prefixes", "orders",
+        "monotone", "hostile", "tests", "walks", "refused_growth", "rustdoc_cases", "survey_cases", "bindings", "driven",
     ],
     "by_hand": ["explained", "explained_json"],
 }

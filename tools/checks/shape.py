@@ -4,15 +4,14 @@
     tools/check shape --copies     names the lemmas that are copies, and the names that stand several times
     tools/check shape --write      keeps the figures of today
 
-- `edges`: the crates that crates.txt lists behind crates. `paths`: a crate has one path, and all those of each crate that it lists; the
-  figure is the greatest. The driver computes the stamp of a crate once for each path.
+- `crates`: those of crates.txt.
 - `promised_...`: what the promised calls rest on, as the check `reading` follows it, and how many of its names stand in several files of
   specs/.
 - `functions_...`: functions outside the crates of tests, by their parameters, with `self`.
 - `copies_of_lemmas`: lemmas of proofs/ that say the same as another, with what they stand under, whatever they are called.
 - `lines_of_...`: lines without blank ones and comments. `files`: those that they stand in.
 
-The figures stand in tools/checks/shape.txt. A case is a figure that is as it stands there, or less. LIMITS hold whatever stands there.
+The figures stand in tools/checks/shape.txt. A case is a figure that is as it stands there, or less.
 """
 from __future__ import annotations
 
@@ -26,7 +25,6 @@ from . import reading
 from .common import TOP, Tally, crates
 
 FIGURES = Path(__file__).with_suffix(".txt")
-LIMITS = {"edges": 160, "paths": 1200}
 NO_PRODUCT = ("test_", "bench_")
 MANY = 7
 FOLDERS = {"src": (".rt", "//"), "specs": (".antt", "--"), "proofs": (".antt", "--")}
@@ -47,17 +45,6 @@ def lines_of(path: Path, comment: str) -> list[str]:
     """The lines of a file without blank ones and comments."""
     lines = path.read_text(encoding="utf-8").split("\n")
     return [it for it in lines if it.strip() and not it.lstrip().startswith(comment)]
-
-
-# ---- crates.txt
-
-
-def counts_of_crates() -> dict[str, int]:
-    listed = {name: [it for it in uses if it in crates()] for name, uses in crates().items()}
-    paths: dict[str, int] = {}
-    for name, uses in listed.items():
-        paths[name] = 1 + sum(paths[it] for it in uses)
-    return {"crates": len(listed), "edges": sum(map(len, listed.values())), "paths": max(paths.values())}
 
 
 # ---- what promises rest on
@@ -197,7 +184,7 @@ def counts_of_lines() -> dict[str, int]:
 
 def figures() -> dict[str, int]:
     copied = {"copies_of_lemmas": sum(len(it) - 1 for it in copies())}
-    return {**counts_of_crates(), **counts_of_promised(), **counts_of_functions(), **copied, **counts_of_lines()}
+    return {"crates": len(crates()), **counts_of_promised(), **counts_of_functions(), **copied, **counts_of_lines()}
 
 
 def kept_figures() -> dict[str, int]:
@@ -234,5 +221,3 @@ def check(tally: Tally, given: argparse.Namespace) -> None:
         print(f"{name} {number}")
         most = kept.get(name, -1)
         tally.expect(name, number <= most, f"{number} are more than the {most} in {FIGURES.relative_to(TOP)}: lower it, or say why not and --write it")
-    for name, most in LIMITS.items():
-        tally.expect(f"{name}, limit", found[name] <= most, f"{found[name]} are more than {most}, which is the most whatever is kept")

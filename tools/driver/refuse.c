@@ -4,12 +4,20 @@
  *     was_refused();       whether it came so far
  *     refuse(0);           none is
  *
+ * In a run with REFUSE_EACH=FILE in its environment each of the first 4,000 requests is refused, and then each 97th: at each the process
+ * forks, and the child is refused it and goes on to its end, while the other waits and goes on with what it asked for. What the children
+ * write is in the file, each followed by the number of its request and its status.
+ *
  * The program asks by `rattle_alloc` and `rattle_realloc` of the toolchain's own library. Before `main`, their first
  * instructions are overwritten by a jump to the functions here, which count and then ask the C library as those do. */
+#include <fcntl.h>
+#include <inttypes.h>
 #include <stdint.h>
+#include <stdio.h>
 #include <stdlib.h>
 #include <string.h>
 #include <sys/mman.h>
+#include <sys/wait.h>
 #include <unistd.h>
 
 /* Whether memory was given, and where it lies. */
@@ -24,6 +32,7 @@ extern struct given rattle_realloc(void *old, size_t kept, size_t size, size_t a
 static uint64_t wanted = 0;
 static uint64_t asked = 0;
 static uint8_t refused = 0;
+static int report = -1;
 static char nowhere;
 
 void refuse(uint64_t number)
@@ -38,9 +47,29 @@ uint8_t was_refused(void)
     return refused;
 }
 
+/* Whether this is the child. */
+static int is_refused_apart(void)
+{
+    int status = -1;
+    pid_t child = fork();
+    if (child == 0) {
+        dup2(report, STDOUT_FILENO);
+        dup2(report, STDERR_FILENO);
+        report = -1;
+        return 1;
+    }
+    if (child > 0)
+        waitpid(child, &status, 0);
+    dprintf(report, "\nrequest %" PRIu64 ": status %d\n", asked, WIFEXITED(status) ? WEXITSTATUS(status) : -1);
+    return 0;
+}
+
 static int is_refused(void)
 {
-    if (wanted == 0 || ++asked != wanted)
+    asked++;
+    if (report >= 0)
+        return (asked <= 4000 || asked % 97 == 0) && is_refused_apart();
+    if (asked != wanted)
         return 0;
     refused = 1;
     return 1;
@@ -82,4 +111,7 @@ __attribute__((constructor)) static void begin(void)
 {
     jump_from((void *)rattle_alloc, (void *)alloc);
     jump_from((void *)rattle_realloc, (void *)resize);
+    const char *file = getenv("REFUSE_EACH");
+    if (file)
+        report = open(file, O_WRONLY | O_CREAT | O_APPEND | O_CLOEXEC, 0600);
 }

@@ -1,6 +1,0 @@
-mod Evaluations
-mod Responses
-mod Readying
-mod Questions
-mod Rows
-mod BothGoals

@@ -1,4 +1,0 @@
-use Rattle.test_solver.proofs.rounds.asked_and_dropped.Goals as goal
-
-pub hear-requires-clause-held : goal.hear-requires-clause-held
-hear-requires-clause-held c = c.holds.ensures c.evaluate.new.cx.entries

@@ -1,5 +1,0 @@
-use Rattle.test_terms.proofs.AtomTables.{atoms_are_lawful}
-use Rattle.test_terms.proofs.toy.atoms_are_lawful.Goals as goal
-
-pub returns : goal.returns
-returns c = atoms_are_lawful
