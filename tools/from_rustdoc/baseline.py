@@ -3,6 +3,7 @@ from __future__ import annotations
 
 import contextlib
 import hashlib
+import json
 import os
 import shutil
 import subprocess
@@ -105,6 +106,9 @@ def documented(baseline: str, folder: str, extra: list[str], quiet: bool) -> Ite
     with older(baseline, folder) as there:
         # A folder has a place of its own for its documents, so that cargo takes no others for them. A revision stands in another folder each time.
         name = hashlib.sha256(there.encode()).hexdigest()[:12] if is_folder(baseline) else "revision"
-        target = os.path.join(cargo.target_of(cargo.metadata(folder, extra, [])), f"baseline-{name}")
+        target = os.path.join(cargo.target_of(json.loads(cargo.metadata(folder, extra, []))), f"baseline-{name}")
         old = cargo.document(folder, extra, quiet, os.path.join(there, "Cargo.toml"), target)
-        yield Documented(old, cargo.document(folder, extra, quiet))
+        new = cargo.document(folder, extra, quiet)
+        for project in (old, new):
+            cargo.add_cfgs(project, folder)
+        yield Documented(old, new)

@@ -2,12 +2,12 @@
 from __future__ import annotations
 
 import argparse
+import contextlib
 import hashlib
 import json
 import os
 import sqlite3
 import sys
-import time
 from dataclasses import replace
 from typing import TYPE_CHECKING, Any, Callable, Iterator, Optional
 
@@ -15,8 +15,7 @@ from . import cargo
 from .answer import Answerer
 from .build import Translation
 from .html_docs import Pages, json_folder
-from .kept import Damaged, KeptPages, KeptStandard, remove_stores
-from .made_by import current, made_by, own_folders, remember, state_of
+from .kept import Damaged, KeptPages, KeptStandard, remove_stores, tool_sum
 from .messages import NO_ANSWER, Message, Output, Sources, worst
 from .program import binding, run
 from .questions import QuestionReader
@@ -29,7 +28,7 @@ if TYPE_CHECKING:
 
 USAGE = """from-rustdoc: a translator of crates to texts for this program, and of its answers back. It is not proved: docs/RUSTDOC.md.
 
-  from-rustdoc PROJECT [-- CARGO'S FLAGS]                runs cargo doc in the folder, and checks the project and what it uses
+  from-rustdoc PROJECT [-- CARGO'S FLAGS]                documents the folder's project and what it uses, and checks each crate
   from-rustdoc read -o BASE CRATE.json ..                writes BASE.upper.txt, BASE.lower.txt, BASE.report and BASE.map
   from-rustdoc check BASE                                is each crate coherent?
   from-rustdoc ask BASE 'smallvec::IntoIter<[u8; 4]>: Send' ..
@@ -51,7 +50,7 @@ USAGE_OF_CARGO = """cargo celtisdarts: real crates, judged by Celtisdarts. It do
   cargo celtisdarts ask 'mine::Pool: Send' ..                  does the bound hold, and why not?
   cargo celtisdarts check                                      is each crate coherent?
 
---manifest-path FILE names another project; behind `--` stand flags for cargo doc."""
+--manifest-path FILE names another project; behind `--` stand flags for cargo."""
 
 
 def new_world(docs: Optional[str]) -> World:
@@ -100,7 +99,7 @@ def read(arguments: argparse.Namespace) -> int:
     links = links_of(arguments.metadata)
     world = world_of(arguments.json, arguments.docs, links)
     inputs = inputs_of(world, arguments.json, links)
-    write_map(arguments.output, {"inputs": inputs})
+    write_map(arguments.output, {"inputs": inputs, "documents": states(arguments.json)})
     warn(world)
     translation = translated(world, arguments)
     report = Report(translation)
@@ -151,16 +150,30 @@ def write_all(base: str, report: Report, texts: dict[str, str], inputs: dict[str
     for ending, text in files.items():
         with open(base + ending, "w", encoding="utf-8") as handle:
             handle.write(text)
-    write_map(base, report.map(inputs, texts))
+    write_map(base, {**report.map(inputs, texts), "documents": states(inputs["json"])})
+
+
+def states(files: list[str]) -> list[list[int]]:
+    """By what a document is known to be the one that was read: its time, its size and its place on the disk."""
+    return [[found.st_mtime_ns, found.st_size, found.st_ino] for found in map(os.stat, files)]
+
+
+def map_of(base: str) -> dict[str, Any]:
+    with open(base + ".map", encoding="utf-8") as handle:
+        found: dict[str, Any] = json.load(handle)
+        return found
 
 
 def kept(base: str) -> dict[str, Any]:
+    """The map of crates that were read, whose documents have to be those that it is of."""
     try:
-        with open(base + ".map", encoding="utf-8") as handle:
-            found: dict[str, Any] = json.load(handle)
-            return found
+        found = map_of(base)
+        is_same = "documents" not in found or found["documents"] == states(found["inputs"]["json"])
     except (OSError, ValueError) as error:
         raise BadInput(f"{base}.map cannot be read; make it by `from-rustdoc read -o {base} CRATE.json ..`: {error}")
+    if not is_same:
+        raise BadInput(f"the documents that {base}.map names were made again since: read the crates again")
+    return found
 
 
 def check(arguments: argparse.Namespace) -> int:
@@ -213,48 +226,41 @@ def answered(inputs: dict[str, Any], world: World, arguments: argparse.Namespace
 
 
 def ask_project(arguments: argparse.Namespace, extra: list[str]) -> int:
-    """Questions on a project, which is documented first where its documents are of older sources."""
-    found = current(arguments.project, extra)
-    if found is not None:
-        known = found[1]
-        return answered(known["inputs"], world_again(known, arguments), arguments)
+    """Questions on a project, of which cargo documents first what has changed."""
     _, inputs, world = documents(arguments.project, extra, arguments)
     return answered(inputs, world, arguments)
 
 
 def documents(folder: str, extra: list[str], arguments: argparse.Namespace) -> tuple[str, dict[str, Any], World]:
     """Documents a project, and writes the map, which is all that questions need: the base of its files, and what was read."""
-    docs = cargo.docs_folder(arguments.docs, folder)
-    cargo.has_manifest(folder)
-    data = cargo.metadata(folder, extra, [])
-    own = own_folders(data)
-    state, began = state_of(folder, own), time.time()
     found = cargo.document(folder, extra, arguments.quiet)
-    for name in sorted(set(found.doubled)):
-        print(f"from-rustdoc: {name} is there twice with one version, and the documents of one are read", file=sys.stderr)
     crates = found.closure(found.members)
     if not crates:
         raise BadInput(f"{folder} has no library that is documented: a project of programs or procedural macros alone has nothing to read")
-    files = [found.files[c] for c in crates]
-    world = world_of(files, docs, found.links)
-    base = os.path.join(found.folder, crates[0])
+    base, files = os.path.join(found.folder, crates[0]), [found.files[c] for c in crates]
+    known = {"documents": states(files), "made_by": made_by(found, files, arguments.docs)}
+    with contextlib.suppress(OSError, ValueError):
+        before = map_of(base)
+        if {name: before.get(name) for name in known} == known:
+            return base, before["inputs"], world_again(before, arguments)
+    cargo.add_cfgs(found, folder)
+    world = world_of(files, cargo.docs_folder(arguments.docs, folder), found.links)
     inputs = inputs_of(world, files, found.links)
-    write_map(base, {"inputs": inputs, "made_by": made_by(folder, extra, data)})
-    # (So that what is edited while cargo works is newer.)
-    os.utime(base + ".map", (began, began))
-    remember(folder, extra, own, state, base + ".map")
+    if states(files) != known["documents"]:
+        raise BadInput(f"{folder} was documented again while it was read: ask again")
+    write_map(base, {"inputs": inputs, **known})
     warn(world)
     return base, inputs, world
 
 
+def made_by(found: cargo.Project, files: list[str], docs: Optional[str]) -> str:
+    """A sum of what a map is made by besides its documents."""
+    return hashlib.sha256(json.dumps([found.links.kept(), files, docs, tool_sum()]).encode()).hexdigest()
+
+
 def project(folder: str, extra: list[str], arguments: argparse.Namespace) -> int:
-    """Checks a project, which is documented first where its documents are of older sources."""
-    found = current(folder, extra)
-    if found is not None:
-        base, inputs, world = found[0], found[1]["inputs"], world_again(found[1], arguments)
-        warn(world)
-    else:
-        base, inputs, world = documents(folder, extra, arguments)
+    """Checks a project, of which cargo documents first what has changed."""
+    base, inputs, world = documents(folder, extra, arguments)
     output_of(arguments, inputs).line(f"what `from-rustdoc ask {base} ..` needs is written: {base}.map")
     return check_project(base, inputs, world, arguments)
 

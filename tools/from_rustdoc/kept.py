@@ -22,7 +22,7 @@ from typing import Any, Iterator, Optional
 from . import proved, terms
 from .html_docs import CRATES, Pages
 from .proved import SETTLED, cache_folder
-from .rustdoc_json import ItemName, JsonCrate
+from .rustdoc_json import ItemName, JsonCrate, external_name
 from .standard import Header, Standard
 from .terms import ANY_HEAD, Declaration, Impl, Named, Type, head_of
 
@@ -171,20 +171,28 @@ class Keeper:
         self.of_tool = hashlib.sha256((tool_sum() + docs_sum(pages)).encode()).hexdigest()
         self.store = Store(os.path.join(folder(), f"std-{self.of_tool[:16]}.sqlite"), self.of_tool)
 
-    def crate(self, file: str, pages: Pages, own: str, artifacts: dict[str, str]) -> KeptCrate:
+    def crate(self, file: str, pages: Pages, own: str, artifacts: Optional[dict[str, str]]) -> KeptCrate:
         try:
             total = self.store.sum_of(file)
         except OSError as error:
             raise terms.BadInput(f"{file}: cannot be read as JSON: {error}")
-        # Keys of std's items stand in what is kept of a crate, so it goes with the very store that gave them out.
-        name = hashlib.sha256(repr((total, self.of_tool, self.store.made, own, sorted(artifacts.items()))).encode()).hexdigest()
+        read: Optional[JsonCrate] = None
+        externals = self.store.get("externals", total)
+        if externals is None:
+            read = JsonCrate(file, pages, own, artifacts)
+            externals = read.externals
+            self.store.put("externals", total, externals)
+        # What it says of other crates goes by their names. Keys of std's items stand in what is kept of a crate, so it goes with the very store that
+        # gave them out.
+        named = [external_name(name, stem, artifacts) for name, stem in externals]
+        name = hashlib.sha256(repr((total, self.of_tool, self.store.made, own, named)).encode()).hexdigest()
         path = os.path.join(folder(), "crates", name)
         try:
             with open(path, "rb") as handle:
                 return KeptCrate(file, unpacked(handle.read()))
         except (OSError, Damaged, pickle.UnpicklingError, EOFError):
             pass
-        crate = JsonCrate(file, pages, own, artifacts)
+        crate = read or JsonCrate(file, pages, own, artifacts)
         crate.load()
         data = data_of(crate)
         self.store.flush()

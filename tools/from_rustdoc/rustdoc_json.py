@@ -36,9 +36,17 @@ def stem_of(crate: dict[str, Any]) -> str:
     return os.path.basename(crate.get("path") or "").rsplit(".", 1)[0]
 
 
+def external_name(name: str, stem: str, artifacts: Optional[dict[str, str]]) -> str:
+    """The name of an external crate. One that is not read never goes by the name of one that is."""
+    if artifacts is None or name in STD_CRATES:
+        return name
+    is_another = any(known.partition("@")[0] == name for known in artifacts.values())
+    return artifacts.get(stem, f"{name}@{stem}" if is_another else name)
+
+
 class JsonCrate:
-    """One crate's JSON. `load` fills `declarations` and `impls`. The crate may go by another name than its own, and of those that it names
-    `artifacts` has the names by their compiled files, where these are not their own."""
+    """One crate's JSON. `load` fills `declarations` and `impls`. The crate may go by another name than its own. `artifacts` has the names of all
+    crates that are read, by their compiled files; without it a crate that is named is the one with that name."""
     needs_private = True
 
     def __init__(self, file: str, pages: Pages, name: str = "", artifacts: Optional[dict[str, str]] = None) -> None:
@@ -55,7 +63,7 @@ class JsonCrate:
         self.name: str = name or self.index[str(self.json["root"])]["name"]
         self.version: str = self.json.get("crate_version") or ""
         self.first_column = first_column(self.json)
-        self.external = {int(number): (artifacts or {}).get(stem_of(crate), crate["name"]) for number, crate in self.json["external_crates"].items()}
+        self.external = {int(number): external_name(crate["name"], stem_of(crate), artifacts) for number, crate in self.json["external_crates"].items()}
         self.keys: dict[int, Optional[str]] = {}
         self.declarations: dict[str, Declaration] = {}
         self.aliases: dict[str, Declaration] = {}
@@ -63,6 +71,11 @@ class JsonCrate:
         self.names_crates: dict[str, None] = {}
 
     # ---- of all items at once, as `kept.KeptCrate` has it too
+    @property
+    def externals(self) -> list[tuple[str, str]]:
+        """The crates that it names, each with the name of its compiled file."""
+        return [(crate["name"], stem_of(crate)) for crate in self.json["external_crates"].values()]
+
     @property
     def heads(self) -> list[tuple[str, str]]:
         """The trait and the head of each impl."""

@@ -59,7 +59,7 @@ class World:
         """Reads the crates; `links` says which crates each one uses. Without it they use those that their items name."""
         self.links = links
         keeper: Optional[Keeper] = getattr(self.pages, "keeper", None)
-        names, artifacts = (links.names, links.artifacts) if links else ({}, {})
+        names, artifacts = (links.names, links.artifacts) if links else ({}, None)
         read: list[AnyCrate] = [keeper.crate(file, self.pages, names.get(file, ""), artifacts) if keeper
                                 else JsonCrate(file, self.pages, names.get(file, ""), artifacts) for file in files]
         given = {crate.name for crate in read}

@@ -118,9 +118,9 @@ class Baseline(unittest.TestCase):
         self.assertEqual((status, out), (0, "to_draw::S<u8>: to_draw::Draw    yes   (by law)\n"))
         # What is documented is so until a source is newer.
         words = ("cargo", "celtisdarts", "ask", "to_draw::S<u8>: to_draw::Draw")
-        self.assertNotIn("Documenting", self.ended(*words)[2])
+        self.assertNotIn("Checking", self.ended(*words)[2])
         self.write(self.project, NEW)
-        self.assertIn("Documenting", self.ended(*words)[2])
+        self.assertIn("Checking", self.ended(*words)[2])
         manifest = os.path.join(self.project, "Cargo.toml")
         status, out, _ = self.ended("cargo", "celtisdarts", "check", "--manifest-path", manifest, folder=self.room)
         self.assertEqual(status, 0)
