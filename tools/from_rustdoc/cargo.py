@@ -328,6 +328,23 @@ def metadata(folder: str, extra: list[str], of: list[str]) -> str:
     return command(["cargo", "metadata", "--no-deps", "--format-version", "1", *of, *configured(extra)], folder)
 
 
+def whole_metadata(folder: str, extra: list[str], of: list[str]) -> str:
+    """Of all packages that are used."""
+    host = next(line.split()[1] for line in command(["rustc", "-vV"], folder).splitlines() if line.startswith("host:"))
+    return command(["cargo", "metadata", "--format-version", "1", "--filter-platform", host, *of, *configured(extra), *chosen(extra)], folder)
+
+
+def chosen(extra: list[str]) -> list[str]:
+    """Those of cargo's flags that choose what is used."""
+    found = []
+    for number, word in enumerate(extra):
+        if word in ("--offline", "--locked", "--frozen", "--all-features", "--no-default-features") or word.startswith("--features="):
+            found.append(word)
+        elif word in ("--features", "-F"):
+            found += extra[number:number + 2]
+    return found
+
+
 def configured(extra: list[str]) -> list[str]:
     """Those of cargo's flags that say where the target is."""
     found = []

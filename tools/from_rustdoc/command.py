@@ -13,6 +13,7 @@ from typing import TYPE_CHECKING, Any, Callable, Iterator, Optional
 
 from . import cargo
 from .answer import Answerer
+from .baseline import named
 from .build import Translation
 from .html_docs import Pages, json_folder
 from .kept import Damaged, KeptPages, KeptStandard, remove_stores, tool_sum
@@ -38,7 +39,8 @@ USAGE = """from-rustdoc: a translator of crates to texts for this program, and o
   from-rustdoc std -o FILE                               the part of std that people name, as a text to stand in front of others
 
 ask: --expect yes|no (another answer is status 1), --why (the proof too, where there is one).
-later: --strict (status 4 if something that changed is not judged), --private (private and sealed impls too), -p NAME (this library alone), --with CRATE.json (crates that both files use).
+later: --strict (status 4 if something that changed is not judged), --private (private and sealed impls too), -p NAME (this library alone),
+--no-build-scripts (refuses an older version that runs some, or procedural macros, of its own), --with CRATE.json (crates that both files use).
 All: --message-format human|json, --docs DIR (std's documents), --program FILE and --program-that-explains FILE (default: the proved ones
 that are here), --metadata FILE (what `cargo metadata --format-version 1` printed; read and later), --all-std (read: all of std that is about
 the traits that are named), --jobs N (processes of a project's check), --quiet.
@@ -309,37 +311,40 @@ def check_shared(name: str) -> Judged:
 
 # ---- words
 def parser(prog: str = "from-rustdoc") -> argparse.ArgumentParser:
-    common = argparse.ArgumentParser(add_help=False)
+    # (A flag that is cut short is none: another one would be taken for it one day.)
+    common = argparse.ArgumentParser(add_help=False, allow_abbrev=False)
     common.add_argument("--docs")
     common.add_argument("--program")
     common.add_argument("--program-that-explains")
     common.add_argument("--quiet", action="store_true")
     common.add_argument("--message-format", choices=("human", "json"), default="human")
     common.add_argument("--jobs", type=int, default=os.cpu_count() or 1)
-    top = argparse.ArgumentParser(prog=prog, usage=USAGE, add_help=True)
+    top = argparse.ArgumentParser(prog=prog, usage=USAGE, add_help=True, allow_abbrev=False)
     commands = top.add_subparsers(dest="command", required=True)
-    one = commands.add_parser("read", parents=[common], usage=USAGE)
+    one = commands.add_parser("read", parents=[common], usage=USAGE, allow_abbrev=False)
     one.add_argument("json", nargs="+")
     one.add_argument("-o", dest="output", required=True)
     one.add_argument("--metadata")
     one.add_argument("--all-std", action="store_true")
-    commands.add_parser("std", parents=[common], usage=USAGE).add_argument("-o", dest="output", required=True)
-    two = commands.add_parser("check", parents=[common], usage=USAGE)
+    commands.add_parser("std", parents=[common], usage=USAGE, allow_abbrev=False).add_argument("-o", dest="output", required=True)
+    two = commands.add_parser("check", parents=[common], usage=USAGE, allow_abbrev=False)
     two.add_argument("base")
-    three = commands.add_parser("ask", parents=[common], usage=USAGE)
+    three = commands.add_parser("ask", parents=[common], usage=USAGE, allow_abbrev=False)
     three.add_argument("--project")
     three.add_argument("--expect", choices=("yes", "no"))
     three.add_argument("--why", action="store_true")
     three.add_argument("words", nargs="+")
-    four = commands.add_parser("later", parents=[common], usage=USAGE)
+    four = commands.add_parser("later", parents=[common], usage=USAGE, allow_abbrev=False)
     four.add_argument("--private", action="store_true")
     four.add_argument("--strict", action="store_true")
     four.add_argument("--with", dest="with_crates", action="append", default=[])
     four.add_argument("--metadata")
-    four.add_argument("--baseline")
+    four.add_argument("--baseline", type=named)
+    four.add_argument("--no-build-scripts", action="store_true")
+    four.set_defaults(of_project=False)
     four.add_argument("-p", "--package", action="append", default=[])
     four.add_argument("files", nargs="*")
-    five = commands.add_parser("project", parents=[common], usage=USAGE)
+    five = commands.add_parser("project", parents=[common], usage=USAGE, allow_abbrev=False)
     five.add_argument("folder")
     return top
 
@@ -375,7 +380,7 @@ def main_of_cargo(words: list[str]) -> int:
     """`cargo celtisdarts check|ask|later`, in the project that stands here or that `--manifest-path` names."""
     words, extra = divided(words[1:] if words[:1] == ["celtisdarts"] else words)
     # (`--flag=value` as `--flag value`.)
-    words = [part for word in words for part in (word.split("=", 1) if word.startswith(("--manifest-path=", "--baseline=")) else [word])]
+    words = [part for word in words for part in (word.split("=", 1) if word.startswith("--manifest-path=") else [word])]
     folder = "."
     if "--manifest-path" in words[:-1]:
         at = words.index("--manifest-path")
@@ -384,22 +389,16 @@ def main_of_cargo(words: list[str]) -> int:
     if not words or words[0] not in ("check", "ask", "later"):
         print(USAGE_OF_CARGO, file=sys.stderr if words[:1] != ["--help"] else sys.stdout)
         return 0 if words[:1] == ["--help"] else 2
-    return guarded("cargo celtisdarts", lambda: run_command(parser("cargo celtisdarts").parse_args(words_of_cargo(words, folder)), extra))
+    return guarded("cargo celtisdarts", lambda: run_in_project(words, folder, extra))
 
 
-def words_of_cargo(words: list[str], folder: str) -> list[str]:
-    """The words of this command for those behind `cargo celtisdarts`."""
-    if words[0] == "check":
-        return ["project", folder, *words[1:]]
-    if words[0] == "ask":
-        return ["ask", "--project", folder, *words[1:]]
-    if "--baseline" in words:
-        return [*words, folder]
-    from .baseline import latest_tag
-    tag = latest_tag(folder)
-    if tag and "--quiet" not in words:
-        print(f"cargo celtisdarts: the older version is {tag}", file=sys.stderr)
-    return [*words, "--baseline", tag, folder]
+def run_in_project(words: list[str], folder: str, extra: list[str]) -> int:
+    """The command for the words behind `cargo celtisdarts`."""
+    before = {"check": ["project", folder], "ask": ["ask", "--project", folder], "later": ["later"]}[words[0]]
+    arguments = parser("cargo celtisdarts").parse_args([*before, *words[1:]])
+    if arguments.command == "later":
+        arguments.of_project, arguments.files = True, [folder, *arguments.files]
+    return run_command(arguments, extra)
 
 
 def guarded(name: str, run_it: Callable[[], int]) -> int:

@@ -2,12 +2,14 @@
 from __future__ import annotations
 
 import argparse
+import json
 import os
 import signal
 import sys
 from typing import Callable, Optional
 
-from .baseline import documented
+from . import cargo
+from .baseline import Documented, Older, by_default, documented, older
 from .cargo import Links
 from .claims import Programs
 from .later import Release, compared
@@ -52,21 +54,47 @@ def of_project(arguments: argparse.Namespace, extra: list[str], read: WorldReade
     """Compares each library of a project with an older version of the project."""
     signal.signal(signal.SIGTERM, lambda number, frame: sys.exit(143))
     folder = arguments.files[0] if arguments.files else "."
+    cargo.has_manifest(folder)
     statuses = []
-    with documented(arguments.baseline, folder, extra, arguments.quiet) as both:
-        output = Output(Sources({"old": [both.old.root], "": [both.new.root]}), arguments.message_format == "json")
-        for name in both.members(arguments.package):
-            if name not in both.new.files:
-                output.message(Message(f"the library `{name}` is gone", "crate-removed", "breaking", name))
-                statuses.append(BAD)
-                continue
-            worlds = [read([p.files[c] for c in p.closure([name])], arguments.docs, p.links) for p in (both.old, both.new)]
-            statuses.append(told(compared(worlds[0], worlds[1], name, arguments.private, programs_of(arguments)), output, arguments.strict))
+    for one, packages in versions_before(arguments, folder, extra):
+        if one.remark and not arguments.quiet:
+            print(f"from-rustdoc: {one.remark}", file=sys.stderr, flush=True)
+        with documented(one, folder, extra, arguments.quiet, arguments.no_build_scripts) as both:
+            output = Output(Sources({"old": [both.old.root], "": [both.new.root]}), arguments.message_format == "json")
+            statuses += [of_library(name, both, arguments, read, output) for name in both.members(packages)]
     return worst(statuses)
 
 
-def later(arguments: argparse.Namespace, extra: list[str], read: WorldReader, links: Optional[Links]) -> int:
+def versions_before(arguments: argparse.Namespace, folder: str, extra: list[str]) -> list[tuple[Older, list[str]]]:
+    """The older versions, each with the packages that are compared with it."""
     if arguments.baseline is not None:
+        return [(older(arguments.baseline, folder), arguments.package)]
+    packages = [package["name"] for package in json.loads(cargo.metadata(folder, extra, []))["packages"]]
+    return by_default(folder, arguments.package, packages)
+
+
+def of_library(name: str, both: Documented, arguments: argparse.Namespace, read: WorldReader, output: Output) -> int:
+    versions = [project.units[name].version if name in project.units else "" for project in (both.old, both.new)]
+    say_versions(name, versions, both.names, output)
+    if name not in both.new.files:
+        output.message(Message(f"the library `{name}` is gone", "crate-removed", "breaking", name))
+        return BAD
+    worlds = [read([p.files[c] for c in p.closure([name])], arguments.docs, p.links) for p in (both.old, both.new)]
+    return told(compared(worlds[0], worlds[1], name, arguments.private, programs_of(arguments)), output, arguments.strict)
+
+
+def say_versions(name: str, versions: list[str], names: tuple[str, str], output: Output) -> None:
+    """What is compared with what."""
+    if output.is_json:
+        old, new = ({"version": version or None, "name": called} for version, called in zip(versions, names))
+        output.write(json.dumps({"$message_type": "versions", "crate": name, "old": old, "new": new}) + "\n")
+        return
+    old_text, new_text = (f"{name} {version} ({called})" if version else f"no {name} ({called})" for version, called in zip(versions, names))
+    output.line(f"comparing {old_text} with {new_text}")
+
+
+def later(arguments: argparse.Namespace, extra: list[str], read: WorldReader, links: Optional[Links]) -> int:
+    if arguments.baseline is not None or arguments.of_project:
         if len(arguments.files) > 1:
             raise BadInput("`later --baseline` takes one project")
         return of_project(arguments, extra, read)
