@@ -6,14 +6,12 @@ from __future__ import annotations
 
 import argparse
 import contextlib
-import glob
+import functools
 import hashlib
 import json
 import os
-import shutil
 import subprocess
 import sys
-import tempfile
 from dataclasses import dataclass, field
 from typing import Any, Iterator, Sequence
 
@@ -90,6 +88,25 @@ def changes(folder: str) -> list[str]:
     return [name for state, name in lines if not (state == "??" and os.path.basename(name.rstrip("/")) in ("target", LOCK))]
 
 
+@dataclass
+class Here:
+    """What stands in a folder of a repository, asked of git once."""
+    folder: str
+
+    @functools.cached_property
+    def tree(self) -> str:
+        return found_by_git(self.folder, "rev-parse", "HEAD^{tree}")
+
+    @functools.cached_property
+    def changed(self) -> list[str]:
+        return changes(self.folder)
+
+    def is_at(self, commit: str, without: Sequence[str] = ()) -> bool:
+        """Whether a commit has the very files that stand here; `without` are names of files that do not count."""
+        is_changed = any(os.path.basename(name) not in without for name in self.changed)
+        return not is_changed and git(self.folder, "rev-parse", f"{commit}^{{tree}}") == self.tree
+
+
 def shallow(folder: str) -> str:
     """What to do where git does not have all revisions."""
     if found_by_git(folder, "rev-parse", "--is-shallow-repository") != "true":
@@ -122,16 +139,10 @@ def older(baseline: str, folder: str) -> Older:
     commit = commit_of(folder, baseline)
     if not commit:
         raise BadInput(f"{baseline} is no folder with a Cargo.toml, and no revision of {top}{shallow(folder)}")
-    if is_here(folder, commit):
+    if Here(folder).is_at(commit):
         before = nearest_tag(folder, excluded=tags_here(folder))
         raise BadInput(f"{baseline} is what stands here: nothing has changed since. Name an older version" + (f", as {before}" if before else ""))
     return Older(baseline, commit=commit)
-
-
-def is_here(folder: str, commit: str, without: tuple[str, ...] = ()) -> bool:
-    """Whether a commit has the very files that stand here; `without` are names of files that do not count."""
-    same = git(folder, "rev-parse", f"{commit}^{{tree}}") == found_by_git(folder, "rev-parse", "HEAD^{tree}")
-    return same and not [name for name in changes(folder) if os.path.basename(name) not in without]
 
 
 def tags_here(folder: str) -> list[str]:
@@ -148,33 +159,35 @@ def patterns(package: str) -> list[str]:
     return [f"{name}{between}[0-9]*" for name in names for between in ("-v", "-", "@", "@v", "/v", "/")]
 
 
-def latest(folder: str, package: str, packages: list[str]) -> Older:
+def latest(here: Here, package: str, packages: list[str]) -> Older:
     """The nearest tag that is not what stands here: of several packages one of this package, else one of none of them."""
     others = [tag for other in packages if other.replace("_", "-") != package.replace("_", "-") for tag in patterns(other)]
     kinds = ([patterns(package), [tag for tag in others if tag.startswith(tuple(package + between for between in "-@/"))]], [[], others])
     skipped: list[str] = []
     for matching, excluded in kinds if len(packages) > 1 else (([], []),):
         while True:
-            tag = nearest_tag(folder, matching, [*excluded, *skipped])
+            tag = nearest_tag(here.folder, matching, [*excluded, *skipped])
             if not tag:
                 break
-            commit = commit_of(folder, f"refs/tags/{tag}")
-            if not is_here(folder, commit, (LOCK,)):
+            commit = commit_of(here.folder, f"refs/tags/{tag}")
+            if not here.is_at(commit, (LOCK,)):
                 remark = f"; {skipped[-1]} is what stands here" if skipped else ""
                 return Older(tag, commit=commit, remark=f"the older version is {tag}{remark}")
             skipped.append(tag)
     whose = f" of {package}" if len(packages) > 1 else ""
     why = f"the only tag{whose} is {skipped[-1]}, which is what stands here" if skipped else f"there is no tag{whose} in this repository"
-    raise BadInput(f"{why}: name the older version by --baseline, with a revision or a folder{shallow(folder)}")
+    raise BadInput(f"{why}: name the older version by --baseline, with a revision or a folder{shallow(here.folder)}")
 
 
 def by_default(folder: str, wanted: list[str], packages: list[str]) -> list[tuple[Older, list[str]]]:
     """The older versions where none is named, each with the packages that are compared with it (all, where there is one for all)."""
+    here = Here(folder)
     if len(packages) <= 1:
-        return [(latest(folder, "", packages), wanted)]
+        return [(latest(here, "", packages), wanted)]
     found: dict[str, tuple[Older, list[str]]] = {}
+    # (Each is looked for: tags of several packages are not made at one time.)
     for package in wanted or packages:
-        one = latest(folder, package, packages)
+        one = latest(here, package, packages)
         found.setdefault(one.name, (one, []))[1].append(package)
     return [(one, [] if len(found) == 1 and not wanted else names) for one, names in found.values()]
 
@@ -193,12 +206,13 @@ def files_of(one: Older, folder: str) -> Iterator[str]:
         try:
             os.makedirs(room, exist_ok=True)
         except OSError:
+            import tempfile
             room = stack.enter_context(tempfile.TemporaryDirectory(prefix="from-rustdoc-"))
         place = os.path.join(room, one.commit)
         if not os.path.isdir(place):
             check_out(top, one.commit, place)
         os.utime(place)
-        keep_newest(room, "*")
+        keep_newest(room, "")
         tree = os.path.join(place, "tree")
         for number, (lock, there) in enumerate([(os.path.join(top, LOCK), os.path.join(tree, LOCK)), (os.path.join(folder, LOCK), os.path.join(tree, inside, LOCK))]):
             keep_lock(lock, there, os.path.join(place, f"lock-{number}"))
@@ -207,6 +221,8 @@ def files_of(one: Older, folder: str) -> Iterator[str]:
 
 def check_out(top: str, commit: str, place: str) -> None:
     """Puts the files of a commit there, all or none."""
+    import shutil
+    import tempfile
     room = tempfile.mkdtemp(dir=os.path.dirname(place))
     try:
         index = os.path.join(room, "index")
@@ -228,7 +244,8 @@ def keep_lock(lock: str, there: str, copied: str) -> None:
     if is_own or not os.path.isfile(lock) or not os.path.isdir(os.path.dirname(there)) or os.path.exists(copied) and bytes_of(copied) == bytes_of(lock):
         return
     for target in (copied, there):
-        shutil.copyfile(lock, target)
+        with open(target, "wb") as handle:
+            handle.write(bytes_of(lock))
 
 
 def bytes_of(file: str) -> bytes:
@@ -236,10 +253,12 @@ def bytes_of(file: str) -> bytes:
         return handle.read()
 
 
-def keep_newest(room: str, pattern: str) -> None:
+def keep_newest(room: str, beginning: str) -> None:
     """Removes the folders that were used long ago."""
     with contextlib.suppress(OSError):
-        for place in sorted(glob.glob(os.path.join(room, pattern)), key=os.path.getmtime, reverse=True)[KEPT:]:
+        places = [os.path.join(room, name) for name in os.listdir(room) if name.startswith(beginning)]
+        for place in sorted(places, key=os.path.getmtime, reverse=True)[KEPT:]:
+            import shutil
             shutil.rmtree(place, ignore_errors=True)
 
 
@@ -279,17 +298,18 @@ def told_of(run: Run, name: str) -> str:
 
 # ---- the documents of both
 @contextlib.contextmanager
-def documented(one: Older, folder: str, extra: list[str], quiet: bool, runs_nothing: bool = False) -> Iterator[Documented]:
-    """Documents both versions, as cargo would in the newer one's folder. The older one's sources are there while this lasts."""
-    cargo.has_manifest(folder)
-    home = cargo.target_of(json.loads(cargo.metadata(folder, extra, [])))
+def documented(one: Older, folder: str, data: dict[str, Any], extra: list[str], quiet: bool, runs_nothing: bool = False) -> Iterator[Documented]:
+    """Documents both versions, as cargo would in the newer one's folder, of which `data` is the metadata. The older one's sources are there while
+    this lasts."""
+    home = cargo.target_of(data)
     with files_of(one, folder) as there:
         # Each has a place of its own for its documents, so that cargo takes no others for them.
         target = os.path.join(home, f"baseline-{one.commit[:12] or sum_of(there)}")
         manifest = os.path.join(there, "Cargo.toml")
         cargo.has_manifest(folder, manifest)
         if runs_nothing or not os.path.isdir(target):
-            said = told_of(only_older(*(run_by(json.loads(cargo.whole_metadata(folder, extra, of))) for of in (["--manifest-path", manifest], []))), one.name)
+            runs = [run_by(cargo.whole_metadata(folder, extra, of)) for of in (["--manifest-path", manifest], [])]
+            said = told_of(only_older(runs[0], runs[1]), one.name)
             if said and runs_nothing:
                 raise BadInput(f"{said}, which --no-build-scripts forbids")
             if said and not quiet:
@@ -297,10 +317,10 @@ def documented(one: Older, folder: str, extra: list[str], quiet: bool, runs_noth
         remember(one, folder, os.path.join(home, "baselines.json"))
         old = cargo.document(folder, extra, quiet, manifest, target)
         os.utime(target)
-        keep_newest(home, "baseline-*")
-        new = cargo.document(folder, extra, quiet)
+        keep_newest(home, "baseline-")
+        new = cargo.document(folder, extra, quiet, data=data)
         for project in (old, new):
-            cargo.add_cfgs(project, folder)
+            cargo.recall_doc_cfgs(project, folder)
         yield Documented(old, new, (one.shown(), revision_of(folder) or folder))
 
 

@@ -1,18 +1,17 @@
 """Projects: has cargo check them, by which rustdoc makes the JSON of each library, and reads what uses what. Cargo decides what is made again."""
 from __future__ import annotations
 
-import glob
+import functools
 import hashlib
 import json
 import os
 import re
-import shutil
 import subprocess
 import sys
-import tempfile
 from dataclasses import dataclass, field
-from typing import Any, Iterable, Iterator
+from typing import Any, Iterable, Iterator, Sequence
 
+from . import proved
 from .doc_cfg import Cfgs
 from .terms import BadInput
 
@@ -119,11 +118,15 @@ def docs_folder(given: str | None, folder: str = ".") -> str:
         if not os.path.exists(os.path.join(given, "core")) and not given.endswith(".json"):
             raise BadInput(f"{given} has no documents of std: it needs the folders `core`, `alloc` and `std`")
         return given
-    root = command(["rustc", "--print", "sysroot"], folder).strip()
-    found = os.path.join(root, "share", "doc", "rust", "html")
+    found = os.path.join(said_by_rustc(folder, "sysroot").strip(), "share", "doc", "rust", "html")
     if not os.path.isdir(os.path.join(found, "core")):
         raise BadInput(f"std's documents are not in {found}: install them by `rustup component add rust-docs`, or name their folder by --docs")
     return found
+
+
+@functools.lru_cache(maxsize=None)
+def said_by_rustc(folder: str, what: str, target: str = "") -> str:
+    return command(["rustc", "--print", what, *(["--target", target] if target else [])], folder)
 
 
 # ---- what uses what
@@ -195,12 +198,12 @@ def unique_names(units: list[Unit], members: list[str]) -> dict[str, str]:
 
 # ---- documents
 def document(folder: str, extra: list[str], quiet: bool = False, manifest: str | None = None, target: str | None = None,
-             shared: str | None = None) -> Project:
+             shared: str | None = None, data: dict[str, Any] | None = None) -> Project:
     """Documents the project and all that it uses, into `target/from-rustdoc`, where cargo finds that anything has changed. Another project's
-    manifest is documented as this folder would be, by its toolchain and its configuration, into a target below that."""
+    manifest is documented as this folder would be, by its toolchain and its configuration, into a target below that. `data` is what `metadata` says."""
     has_manifest(folder, manifest)
     of = ["--manifest-path", os.path.abspath(manifest)] if manifest else []
-    data = json.loads(metadata(folder, extra, of))
+    data = data or metadata(folder, extra, of)
     shared = shared or os.path.join(os.path.dirname(target) if target else target_of(data), SHARED)
     target = target or target_of(data)
     if not any(library_name(package) for package in data["packages"]):
@@ -254,6 +257,8 @@ def flags_of_check(extra: list[str]) -> list[str]:
 
 def messages(words: list[str], folder: str, environment: dict[str, str], told: str) -> Iterator[dict[str, Any]]:
     """What cargo says for machines. What it says for people is passed on if it works, after a line of what is done."""
+    # (Imported here, as below what an answer does not need: to load it takes long beside that.)
+    import tempfile
     with tempfile.TemporaryFile() as said:
         try:
             # (Where its words are passed on to a terminal they have its colours.)
@@ -306,6 +311,8 @@ def units_of(said: Iterable[dict[str, Any]], place: str) -> tuple[list[Unit], li
 
 
 def forget(target: str) -> None:
+    import glob
+    import shutil
     for pattern in (os.path.join(target, "*", ".fingerprint"), os.path.join(target, "*", "*", ".fingerprint")):
         for place in glob.glob(pattern):
             shutil.rmtree(place, ignore_errors=True)
@@ -315,23 +322,51 @@ def forget(target: str) -> None:
 
 def add_cfgs(project: Project, folder: str) -> None:
     """What is set where each crate is compiled."""
-    of_targets: dict[str, frozenset[str]] = {}
     for name, unit in project.units.items():
-        if unit.target not in of_targets:
-            words = ["rustc", "--print", "cfg", *(["--target", unit.target] if unit.target else [])]
-            of_targets[unit.target] = frozenset(command(words, folder).split("\n"))
-        project.links.cfgs[name] = of_targets[unit.target].union(unit.cfgs)
+        project.links.cfgs[name] = frozenset(said_by_rustc(folder, "cfg", unit.target).split("\n")).union(unit.cfgs)
 
 
-def metadata(folder: str, extra: list[str], of: list[str]) -> str:
+# ---- what depends on `cfg(doc)`, kept while the documents stay
+def states(files: Iterable[str]) -> list[list[int]]:
+    """By what a document is known to be the one that was read: its time, its size and its place on the disk."""
+    return [[found.st_mtime_ns, found.st_size, found.st_ino] for found in map(os.stat, files)]
+
+
+def state_of(project: Project) -> str:
+    return json.dumps([proved.tool_sum(), {**project.links.kept(), "doc_cfgs": None}, project.files, states(project.files.values())], sort_keys=True)
+
+
+def recall_doc_cfgs(project: Project, folder: str) -> None:
+    """What was found of these very documents; else what is needed to find it."""
+    known = proved.known(doc_cfgs_of(project), state_of(project))
+    if known is not None:
+        project.links.doc_cfgs = json.loads(known)
+    else:
+        add_cfgs(project, folder)
+
+
+def keep_doc_cfgs(project: Project, found: dict[str, list[str]]) -> None:
+    if project.links.doc_cfgs is None:
+        proved.keep(doc_cfgs_of(project), {"state": state_of(project), "found": json.dumps(found)})
+
+
+def doc_cfgs_of(project: Project) -> str:
+    return os.path.join(project.folder, "doc-cfgs.json")
+
+
+# ---- cargo's metadata
+def metadata(folder: str, extra: Sequence[str], of: Sequence[str] = ()) -> dict[str, Any]:
     """Of the workspace's own packages alone, which takes no time."""
-    return command(["cargo", "metadata", "--no-deps", "--format-version", "1", *of, *configured(extra)], folder)
+    found: dict[str, Any] = json.loads(command(["cargo", "metadata", "--no-deps", "--format-version", "1", *of, *configured(extra)], folder))
+    return found
 
 
-def whole_metadata(folder: str, extra: list[str], of: list[str]) -> str:
+def whole_metadata(folder: str, extra: list[str], of: Sequence[str]) -> dict[str, Any]:
     """Of all packages that are used."""
     host = next(line.split()[1] for line in command(["rustc", "-vV"], folder).splitlines() if line.startswith("host:"))
-    return command(["cargo", "metadata", "--format-version", "1", "--filter-platform", host, *of, *configured(extra), *chosen(extra)], folder)
+    words = ["cargo", "metadata", "--format-version", "1", "--filter-platform", host, *of, *configured(extra), *chosen(extra)]
+    found: dict[str, Any] = json.loads(command(words, folder))
+    return found
 
 
 def chosen(extra: list[str]) -> list[str]:
@@ -345,12 +380,12 @@ def chosen(extra: list[str]) -> list[str]:
     return found
 
 
-def configured(extra: list[str]) -> list[str]:
+def configured(extra: Sequence[str]) -> list[str]:
     """Those of cargo's flags that say where the target is."""
-    found = []
+    found: list[str] = []
     for number, word in enumerate(extra):
         if word in ("--config", "-Z"):
-            found += extra[number:number + 2]
+            found += [word, *extra[number + 1:number + 2]]
         elif word.startswith(("--config=", "-Z")):
             found.append(word)
     return found

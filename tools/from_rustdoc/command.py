@@ -16,9 +16,10 @@ from .answer import Answerer
 from .baseline import named
 from .build import Translation
 from .html_docs import Pages, json_folder
-from .kept import Damaged, KeptPages, KeptStandard, remove_stores, tool_sum
+from .kept import Damaged, KeptPages, KeptStandard, remove_stores
 from .messages import NO_ANSWER, Message, Output, Sources, worst
 from .program import binding, run
+from .proved import tool_sum
 from .questions import QuestionReader
 from .terms import BadInput, Lossy
 from .verdicts import Checked, answer_message, check_verdicts, say_answer, say_checks
@@ -101,7 +102,7 @@ def read(arguments: argparse.Namespace) -> int:
     links = links_of(arguments.metadata)
     world = world_of(arguments.json, arguments.docs, links)
     inputs = inputs_of(world, arguments.json, links)
-    write_map(arguments.output, {"inputs": inputs, "documents": states(arguments.json)})
+    write_map(arguments.output, {"inputs": inputs, "documents": cargo.states(arguments.json)})
     warn(world)
     translation = translated(world, arguments)
     report = Report(translation)
@@ -152,12 +153,7 @@ def write_all(base: str, report: Report, texts: dict[str, str], inputs: dict[str
     for ending, text in files.items():
         with open(base + ending, "w", encoding="utf-8") as handle:
             handle.write(text)
-    write_map(base, {**report.map(inputs, texts), "documents": states(inputs["json"])})
-
-
-def states(files: list[str]) -> list[list[int]]:
-    """By what a document is known to be the one that was read: its time, its size and its place on the disk."""
-    return [[found.st_mtime_ns, found.st_size, found.st_ino] for found in map(os.stat, files)]
+    write_map(base, {**report.map(inputs, texts), "documents": cargo.states(inputs["json"])})
 
 
 def map_of(base: str) -> dict[str, Any]:
@@ -170,7 +166,7 @@ def kept(base: str) -> dict[str, Any]:
     """The map of crates that were read, whose documents have to be those that it is of."""
     try:
         found = map_of(base)
-        is_same = "documents" not in found or found["documents"] == states(found["inputs"]["json"])
+        is_same = "documents" not in found or found["documents"] == cargo.states(found["inputs"]["json"])
     except (OSError, ValueError) as error:
         raise BadInput(f"{base}.map cannot be read; make it by `from-rustdoc read -o {base} CRATE.json ..`: {error}")
     if not is_same:
@@ -240,7 +236,7 @@ def documents(folder: str, extra: list[str], arguments: argparse.Namespace) -> t
     if not crates:
         raise BadInput(f"{folder} has no library that is documented: a project of programs or procedural macros alone has nothing to read")
     base, files = os.path.join(found.folder, crates[0]), [found.files[c] for c in crates]
-    known = {"documents": states(files), "made_by": made_by(found, files, arguments.docs)}
+    known = {"documents": cargo.states(files), "made_by": made_by(found, files, arguments.docs)}
     with contextlib.suppress(OSError, ValueError):
         before = map_of(base)
         if {name: before.get(name) for name in known} == known:
@@ -248,7 +244,7 @@ def documents(folder: str, extra: list[str], arguments: argparse.Namespace) -> t
     cargo.add_cfgs(found, folder)
     world = world_of(files, cargo.docs_folder(arguments.docs, folder), found.links)
     inputs = inputs_of(world, files, found.links)
-    if states(files) != known["documents"]:
+    if cargo.states(files) != known["documents"]:
         raise BadInput(f"{folder} was documented again while it was read: ask again")
     write_map(base, {"inputs": inputs, **known})
     warn(world)

@@ -6,13 +6,11 @@ class is loaded from them.
 """
 from __future__ import annotations
 
-import functools
 import hashlib
 import io
 import os
 import pickle
 import sqlite3
-import sys
 import time
 import zlib
 from collections.abc import Mapping, Sequence
@@ -21,12 +19,10 @@ from typing import Any, Iterator, Optional
 
 from . import proved, terms
 from .html_docs import CRATES, Pages
-from .proved import SETTLED, cache_folder
+from .proved import SETTLED, cache_folder, tool_sum
 from .rustdoc_json import ItemName, JsonCrate, external_name
 from .standard import Header, Standard
 from .terms import ANY_HEAD, Declaration, Impl, Named, Type, head_of
-
-HERE = os.path.dirname(os.path.abspath(__file__))
 
 
 class Damaged(Exception):
@@ -55,17 +51,6 @@ def unpacked(data: bytes) -> Any:
 # ---- where it is kept, and of what
 def folder() -> str:
     return os.path.join(cache_folder(), "from-rustdoc")
-
-
-@functools.lru_cache(maxsize=None)
-def tool_sum() -> str:
-    """The sum of this tool's own sources, and of Python's version."""
-    total = hashlib.sha256(sys.version.encode())
-    for name in sorted(os.listdir(HERE)):
-        if name.endswith(".py"):
-            with open(os.path.join(HERE, name), "rb") as handle:
-                total.update(name.encode() + handle.read())
-    return total.hexdigest()
 
 
 def docs_sum(pages: Pages) -> str:

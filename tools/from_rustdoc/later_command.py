@@ -55,31 +55,40 @@ def of_project(arguments: argparse.Namespace, extra: list[str], read: WorldReade
     signal.signal(signal.SIGTERM, lambda number, frame: sys.exit(143))
     folder = arguments.files[0] if arguments.files else "."
     cargo.has_manifest(folder)
+    data = cargo.metadata(folder, extra)
     statuses = []
-    for one, packages in versions_before(arguments, folder, extra):
+    for one, packages in versions_before(arguments, folder, [package["name"] for package in data["packages"]]):
         if one.remark and not arguments.quiet:
             print(f"from-rustdoc: {one.remark}", file=sys.stderr, flush=True)
-        with documented(one, folder, extra, arguments.quiet, arguments.no_build_scripts) as both:
+        with documented(one, folder, data, extra, arguments.quiet, arguments.no_build_scripts) as both:
             output = Output(Sources({"old": [both.old.root], "": [both.new.root]}), arguments.message_format == "json")
-            statuses += [of_library(name, both, arguments, read, output) for name in both.members(packages)]
+            doc_cfgs: list[dict[str, list[str]]] = [{}, {}]
+            libraries = both.members(packages)
+            statuses += [of_library(name, both, arguments, read, output, doc_cfgs) for name in libraries]
+            if libraries == both.old.members == both.new.members:
+                for project, found in zip((both.old, both.new), doc_cfgs):
+                    cargo.keep_doc_cfgs(project, found)
     return worst(statuses)
 
 
-def versions_before(arguments: argparse.Namespace, folder: str, extra: list[str]) -> list[tuple[Older, list[str]]]:
+def versions_before(arguments: argparse.Namespace, folder: str, packages: list[str]) -> list[tuple[Older, list[str]]]:
     """The older versions, each with the packages that are compared with it."""
     if arguments.baseline is not None:
         return [(older(arguments.baseline, folder), arguments.package)]
-    packages = [package["name"] for package in json.loads(cargo.metadata(folder, extra, []))["packages"]]
     return by_default(folder, arguments.package, packages)
 
 
-def of_library(name: str, both: Documented, arguments: argparse.Namespace, read: WorldReader, output: Output) -> int:
+def of_library(name: str, both: Documented, arguments: argparse.Namespace, read: WorldReader, output: Output,
+               doc_cfgs: list[dict[str, list[str]]]) -> int:
+    """Compares one library, and adds to what was found of its crates."""
     versions = [project.units[name].version if name in project.units else "" for project in (both.old, both.new)]
     say_versions(name, versions, both.names, output)
     if name not in both.new.files:
         output.message(Message(f"the library `{name}` is gone", "crate-removed", "breaking", name))
         return BAD
     worlds = [read([p.files[c] for c in p.closure([name])], arguments.docs, p.links) for p in (both.old, both.new)]
+    for found, world in zip(doc_cfgs, worlds):
+        found.update(world.doc_cfgs)
     return told(compared(worlds[0], worlds[1], name, arguments.private, programs_of(arguments)), output, arguments.strict)
 
 

@@ -15,7 +15,7 @@ from typing import Any
 from unittest import mock
 
 from .. import command
-from ..cargo import HERE, Unit, configured, docs_folder, is_no_work, pinned, project_of, read_metadata, units_of
+from ..cargo import HERE, Unit, chosen, configured, docs_folder, is_no_work, pinned, project_of, read_metadata, units_of
 from ..command import main
 from ..doc_cfg import lines
 from ..proved import proved_program
@@ -98,6 +98,9 @@ class Units(unittest.TestCase):
     def test_only_work_is_told(self) -> None:
         lines = ("    Finished `dev` profile in 0.0s", "\x1b[1m\x1b[92m    Finished\x1b[0m `dev`", "   Compiling a v1", "error: no")
         self.assertEqual([is_no_work(line) for line in lines], [True, True, False, False])
+
+    def test_what_is_chosen_goes_to_metadata_too(self) -> None:
+        self.assertEqual(chosen(["--offline", "--no-deps", "--features", "a,b", "-j", "2"]), ["--offline", "--features", "a,b"])
 
     def test_what_is_configured_goes_to_metadata_too(self) -> None:
         self.assertEqual(configured(["--offline", "--config", "build.target-dir='x'", "-j", "2", "--config=a", "-Zb"]), ["--config", "build.target-dir='x'", "--config=a", "-Zb"])
