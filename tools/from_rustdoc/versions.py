@@ -74,6 +74,10 @@ class Versions:
                 for key, later in pairs_of(self.before, self.before.by_path[path], self.after, self.after.by_path[path]):
                     self.newer.setdefault(key, later)
                     self.older.setdefault(later, key)
+        for key in self.before.reached:
+            if key in self.after.items and key not in self.older:
+                self.newer.setdefault(key, key)
+                self.older.setdefault(key, key)
 
     def impls(self, world: World) -> list[Impl]:
         """The impls of the crate, and of crates that only one version has and exports items of: what was moved there is still this crate's."""
@@ -226,10 +230,11 @@ def is_private(world: World, declaration: Declaration) -> bool:
 
 
 def names_private(world: World, surface: Surface, keys: list[str]) -> bool:
-    """Whether one of the items is of a given crate, and no path of this one, or of its own, names it."""
+    """Whether one of the items is of a given crate, no path of this one, or of its own, names it, and nothing public is of it."""
     for key in keys:
         declaration = world.known(world.key_of(key))
-        if key.startswith(("?", "hidden:")) or (declaration is not None and declaration.key not in surface.kinds and is_private(world, declaration)):
+        if key.startswith(("?", "hidden:")) or (declaration is not None and is_private(world, declaration) and declaration.key not in surface.kinds
+                                                and declaration.key not in surface.reached):
             return True
     return False
 
