@@ -72,7 +72,7 @@ class Item(Generics):
         return None
 
     def shown(self) -> str:
-        return f"{'type' if self.kind == 'alias' else self.kind} {self.paths[0] if self.paths else self.name}"
+        return f"{'type' if self.kind == 'alias' else self.kind} {self.paths[0] if self.paths else self.key}"
 
 
 @dataclass
@@ -116,6 +116,7 @@ class SurfaceReader:
         self.surface.values = {**self.globs, **self.surface.values}
         for item in self.surface.items.values():
             self.find_members(item)
+        self.find_reached()
 
     def crate(self, name: str) -> Optional[JsonCrate]:
         if name not in self.crates:
@@ -218,7 +219,24 @@ class SurfaceReader:
         if item.crate is not None and item.kind != "alias":
             if item.crate.name not in self.inherent:
                 self.inherent[item.crate.name] = inherent_impls(item.crate)
-            item.members = members_of(item.crate, item.read, item.paths[0] if item.paths else item.name, self.inherent[item.crate.name].get(item.key, []))
+            item.members = members_of(item.crate, item.read, item.paths[0] if item.paths else item.key, self.inherent[item.crate.name].get(item.key, []))
+
+    def find_reached(self) -> None:
+        """The types of the crates that were walked which stand in what is public, or in what is reached by it."""
+        given = [crate for crate in self.crates.values() if crate is not None]
+        todo = [term for member in self.surface.values.values() for term in terms_of(member)]
+        todo += [term for item in self.surface.items.values() for term in terms_of_item(item)]
+        impls = [impl for crate in given for impl in crate.impls]
+        for impl in impls:
+            todo += impl.associated.values()
+        while todo:
+            for key in map(self.world.key_of, keys_of(todo.pop())):
+                crate = next((c for c in given if key in c.declarations), None)
+                if crate is None or key in self.surface.kinds or key in self.surface.reached or crate.declarations[key].is_trait:
+                    continue
+                item = self.surface.reached[key] = self.surface.items[key] = read_item(crate, crate.declarations[key].item, key)
+                self.find_members(item)
+                todo += terms_of_item(item)
 
     def behind(self, crate: JsonCrate, alias: Item) -> None:
         """What an alias is another name of goes by its path too."""
@@ -237,6 +255,27 @@ class SurfaceReader:
             assert read is not None
             self.surface.items[key] = read_item(crate, read, key)
         return self.surface.items[key]
+
+
+def terms_of(member: Member) -> list[Type]:
+    """The types that stand in what others see of a member."""
+    if member.crate is None or not member.item or not member.is_public:
+        return []
+    kind, body = kind_and_body(member.item)
+    if kind == "function":
+        if "sig" not in body:
+            return []
+        signature = signature_of(member)
+        bounds = [b for found in signature.results.values() for b in found] + [b for _, b in signature.predicates]
+        return [*signature.inputs, signature.output, *(t for b in bounds for t in (*b.arguments, *(v for _, v in b.constraints)))]
+    written = body if kind == "struct_field" else body.get("type") if isinstance(body, dict) else None
+    return [member.crate.type(written, None)] if written is not None else []
+
+
+def terms_of_item(item: Item) -> list[Type]:
+    bounds = [b for found in item.associated.values() for b in found.bounds] + item.supers
+    return [*(term for members in item.members.values() for member in members for term in terms_of(member)), *([item.target] if item.target else []),
+            *(term for b in bounds for term in (*b.arguments, *(v for _, v in b.constraints)))]
 
 
 def read_item(crate: JsonCrate, read: dict[str, Any], key: str) -> Item:
