@@ -10,6 +10,7 @@ from .impl_changes import ImplChanges
 from .item_changes import ItemChanges
 from .member_changes import MemberChanges
 from .messages import BAD, FINE, UNSETTLED, Message, worst
+from .not_given import counted, not_given
 from .versions import Versions
 from .world import World
 
@@ -66,6 +67,8 @@ def compared(old: World, new: World, crate: str, with_private: bool = False, pro
     told = items.messages + Judge(new, programs).settle(items.claims)
     drops = [message.spans for message in told if message.code == "drop-added"]
     messages = told + [m for m in impls.messages if m.spans not in drops] + autos.messages + items.new_items + items.unjudged
+    exported = not_given(versions)
+    messages += exported
     for message in messages:
         message.crate = crate
-    return Release(crate, (old.crates[crate].version, new.crates[crate].version), worst_first(messages), items.not_judged)
+    return Release(crate, (old.crates[crate].version, new.crates[crate].version), worst_first(messages), items.not_judged + counted(exported))
