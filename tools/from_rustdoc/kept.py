@@ -20,7 +20,7 @@ from typing import Any, Iterator, Optional
 from . import proved, terms
 from .html_docs import CRATES, Pages
 from .proved import SETTLED, cache_folder, tool_sum
-from .rustdoc_json import ItemName, JsonCrate, external_name
+from .rustdoc_json import ItemName, JsonCrate, external_name, too_deep
 from .standard import Header, Standard
 from .terms import ANY_HEAD, Declaration, Impl, Named, Type, head_of
 
@@ -179,7 +179,10 @@ class Keeper:
             pass
         crate = read or JsonCrate(file, pages, own, artifacts)
         crate.load()
-        data = data_of(crate)
+        try:
+            data = data_of(crate)
+        except RecursionError:
+            raise too_deep(file)
         self.store.flush()
         try:
             written(path, packed(data))

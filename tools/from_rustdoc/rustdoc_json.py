@@ -44,6 +44,10 @@ def external_name(name: str, stem: str, artifacts: Optional[dict[str, str]]) -> 
     return artifacts.get(stem, f"{name}@{stem}" if is_another else name)
 
 
+def too_deep(file: str) -> BadInput:
+    return BadInput(f"{file}: something in it is nested too deep to be read")
+
+
 class JsonCrate:
     """One crate's JSON. `load` fills `declarations` and `impls`. The crate may go by another name than its own. `artifacts` has the names of all
     crates that are read, by their compiled files; without it a crate that is named is the one with that name."""
@@ -57,6 +61,8 @@ class JsonCrate:
                 self.json = agreed(json.load(handle), file)
         except (OSError, ValueError) as error:
             raise BadInput(f"{file}: cannot be read as JSON: {error}")
+        except RecursionError:
+            raise too_deep(file)
         if self.needs_private and not self.json.get("includes_private"):
             raise BadInput(f"{file}: has no private items; make it with `--document-private-items --document-hidden-items`")
         self.index: dict[str, Any] = self.json["index"]
@@ -148,6 +154,12 @@ class JsonCrate:
 
     # ---- the whole crate
     def load(self) -> None:
+        try:
+            self.load_items()
+        except RecursionError:
+            raise too_deep(self.file)
+
+    def load_items(self) -> None:
         for item in self.index.values():
             kind, _ = kind_and_body(item)
             if item["crate_id"] != 0 or kind not in ITEMS:
