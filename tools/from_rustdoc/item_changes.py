@@ -6,7 +6,7 @@ told where nothing is lost.
 from __future__ import annotations
 
 from collections import Counter
-from typing import Iterator, Optional
+from typing import Callable, Iterator, Optional
 
 from .claims import Claim
 from .html_docs import is_std_key
@@ -26,7 +26,7 @@ MAXIMAL_DEPTH = 8
 RUSTC = {"item-removed": "E0425 or E0432", "alias-removed": "E0425 or E0432", "kind-changed": "E0404, E0423, E0530, E0532 or E0782", "alias-retargeted": "E0277 or E0308",
          "parameter-added": "E0107", "parameter-removed": "E0107", "parameter-kind-changed": "E0308 or E0747", "default-removed": "E0107",
          "default-changed": "E0308", "lifetime-added": "E0106", "lifetime-removed": "E0107", "bound-added": "E0271, E0277, E0308 or E0599",
-         "lifetime-bound-added": "E0310 or E0477", "supertrait-added": "E0271 or E0277", "supertrait-removed": "E0277, E0308 or E0599",
+         "lifetime-bound-added": "E0310, E0477, E0521 or E0597", "supertrait-added": "E0271 or E0277", "supertrait-removed": "E0277, E0308 or E0599",
          "associated-type-added": "E0046 or E0191", "associated-type-removed": "E0220", "associated-type-bound-added": "E0277",
          "associated-type-bound-removed": "E0277, E0308 or E0599", "associated-type-changed": "E0107 or E0049", "required-item-added": "E0046",
          "trait-item-removed": "E0407 or E0599", "trait-made-unsafe": "E0200", "trait-made-safe": "E0199", "trait-made-auto": "E0119",
@@ -57,10 +57,11 @@ def is_unsized(generics: Generics, name: str) -> bool:
 
 class ItemChanges:
     """`messages` are told as they are; `claims` are to be asked in the new version; `not_judged` counts what is neither. `troubled` are items, by their old keys, whose impls
-    cannot be compared: they are gone, or take other arguments."""
+    cannot be compared: they are gone, or take other arguments. `is_same` says whether all sources are the same."""
 
-    def __init__(self, versions: Versions) -> None:
+    def __init__(self, versions: Versions, is_same: Callable[[], bool] = lambda: False) -> None:
         self.versions = versions
+        self.is_same = is_same
         self.messages: list[Message] = []
         self.claims: list[Claim] = []
         self.troubled: dict[str, Message] = {}

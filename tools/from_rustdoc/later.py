@@ -3,6 +3,7 @@ from __future__ import annotations
 
 from collections import Counter
 from dataclasses import dataclass, field
+from typing import Callable
 
 from .auto_changes import AutoChanges
 from .claims import Judge, Programs, worst_first
@@ -10,7 +11,6 @@ from .impl_changes import ImplChanges
 from .item_changes import ItemChanges
 from .member_changes import MemberChanges
 from .messages import BAD, FINE, UNSETTLED, Message, worst
-from .not_given import counted, not_given
 from .versions import Versions
 from .world import World
 
@@ -54,9 +54,11 @@ class Release:
         return f"not judged: {', '.join(counts)}" if counts else ""
 
 
-def compared(old: World, new: World, crate: str, with_private: bool = False, programs: Programs = Programs()) -> Release:
+def compared(old: World, new: World, crate: str, with_private: bool = False, programs: Programs = Programs(),
+             is_same: Callable[[], bool] = lambda: False) -> Release:
+    """`is_same` says whether all sources are the same, on which it depends what no document tells."""
     versions = Versions(old, new, crate)
-    items = ItemChanges(versions)
+    items = ItemChanges(versions, is_same)
     items.run()
     impls = ImplChanges(versions, items.troubled, with_private, programs)
     impls.run()
@@ -67,8 +69,6 @@ def compared(old: World, new: World, crate: str, with_private: bool = False, pro
     told = items.messages + Judge(new, programs).settle(items.claims)
     drops = [message.spans for message in told if message.code == "drop-added"]
     messages = told + [m for m in impls.messages if m.spans not in drops] + autos.messages + items.new_items + items.unjudged
-    exported = not_given(versions)
-    messages += exported
     for message in messages:
         message.crate = crate
-    return Release(crate, (old.crates[crate].version, new.crates[crate].version), worst_first(messages), items.not_judged + counted(exported))
+    return Release(crate, (old.crates[crate].version, new.crates[crate].version), worst_first(messages), items.not_judged)

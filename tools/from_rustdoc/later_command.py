@@ -13,8 +13,8 @@ from .baseline import Documented, Older, by_default, documented, older
 from .cargo import Links
 from .claims import Programs
 from .later import Release, compared
-from .messages import BAD, Message, Output, Sources, worst
-from .terms import BadInput
+from .messages import BAD, Message, Output, Sources, Span, worst
+from .terms import BadInput, Place
 from .world import World
 
 # Reads crates: their files, std's documents, and how they belong together.
@@ -47,7 +47,18 @@ def of_files(arguments: argparse.Namespace, read: WorldReader, links: Optional[L
         raise BadInput(f"{crates[0]} and {crates[1]} are two crates, not two versions of one")
     folders = [os.path.dirname(os.path.abspath(file)) for file in files]
     output = Output(Sources({"old": folders[:1], "": folders[1:]}), arguments.message_format == "json")
-    return told(compared(worlds[0], worlds[1], crates[0], arguments.private, programs_of(arguments)), output, arguments.strict)
+    return judged(worlds, crates[0], arguments, output)
+
+
+def judged(worlds: list[World], crate: str, arguments: argparse.Namespace, output: Output) -> int:
+    return told(compared(worlds[0], worlds[1], crate, arguments.private, programs_of(arguments), lambda: is_same(*worlds, output.sources)), output, arguments.strict)
+
+
+def is_same(old: World, new: World, sources: Sources) -> bool:
+    """Whether all crates have the same versions, files and texts."""
+    files = [{(c.name, c.version): c.sources for c in world.crates.values()} for world in (old, new)]
+    texts = [[sources.text(sources.path(Span(Place(file, 1, 1, 1, 1), version=version))) for its in files[0].values() for file in its] for version in ("old", "")]
+    return files[0] == files[1] and None not in texts[0] and texts[0] == texts[1]
 
 
 def of_project(arguments: argparse.Namespace, extra: list[str], read: WorldReader) -> int:
@@ -89,7 +100,7 @@ def of_library(name: str, both: Documented, arguments: argparse.Namespace, read:
     worlds = [read([p.files[c] for c in p.closure([name])], arguments.docs, p.links) for p in (both.old, both.new)]
     for found, world in zip(doc_cfgs, worlds):
         found.update(world.doc_cfgs)
-    return told(compared(worlds[0], worlds[1], name, arguments.private, programs_of(arguments)), output, arguments.strict)
+    return judged(worlds, name, arguments, output)
 
 
 def say_versions(name: str, versions: list[str], names: tuple[str, str], output: Output) -> None:

@@ -10,11 +10,11 @@ from .html_docs import is_std_key
 from .item_changes import ItemChanges
 from .members import Member, Shape, shape_of
 from .messages import at
-from .rustdoc_json import kind_and_body
+from .rustdoc_json import STD_CRATES, JsonCrate, kind_and_body
 from .signature_changes import SignatureChanges
 from .surface import Item, terms_of
 from .terms import Array, Bound, Function, Impl, Named, Never, Pointer, Primitive, Reference, Slice, Tuple, Type, parts
-from .versions import Unsure, compared_types
+from .versions import Unsure, all_keys, compared_types, names_private, parameter_order
 from .world import World
 from .written import ATTRIBUTES, Form, attributes, clauses
 
@@ -45,10 +45,45 @@ class MemberChanges:
                 self.member(old, new)
         for members in lost.values():
             self.removed(sorted(members, key=lambda m: (m.path.count("::"), m.path)))
+        self.impls()
+        self.outside()
         for old_key, new_key in self.versions.newer.items():
             item, later = before.items.get(old_key), after.items.get(new_key)
             if item is not None and later is not None and old_key not in self.items.troubled:
                 self.item(item, later)
+
+    # ---- what is the same but for lifetimes, or is elsewhere
+    def impls(self) -> None:
+        """Impls with one header and one set of clauses in both versions, but with other lifetimes, or values of constants."""
+        found: list[dict[object, tuple[Impl, Any, Any]]] = [{}, {}]
+        for version, (world, surface) in enumerate(((self.versions.old, self.versions.before), (self.versions.new, self.versions.after))):
+            for crate in surface.walked:
+                for impl, body in zip(crate.impls, crate.impl_bodies()):
+                    keys = [] if impl.trait is None else [impl.trait.key, *all_keys(impl.self_type)]
+                    if not names_private(world, surface, keys) and any(world.key_of(key) in surface.items for key in keys):
+                        found[version][self.versions.header(world, impl)] = (impl, *self.of_impl(crate, impl, body, version))
+        for key, (_, form, values) in found[0].items():
+            impl, later, others = found[1].get(key, (None, form, values))
+            changed = [name for name, value in values.items() if others.get(name, value) != value]
+            if impl is not None and (form != later or changed):
+                self.count("impl", f"`{self.versions.show_new.header(impl)}`", f"its `{changed[0]}` is another one" if changed else "has other lifetimes", impl.place)
+
+    def of_impl(self, crate: JsonCrate, impl: Impl, body: dict[str, Any], version: int) -> tuple[Any, dict[str, Any]]:
+        """What is written of an impl, and its constants."""
+        names, common = parameter_order(impl), self.common(version)
+        header = Form(crate, common, names)
+        found = [header.of([body["trait"], body["for"]]), set(clauses(crate, common, body, names, header.met))]
+        return found, {i["name"]: kind_and_body(i)[1]["value"] for i in map(crate.item, body["items"]) if i is not None and kind_and_body(i)[0] == "assoc_const"}
+
+    def outside(self) -> None:
+        """What is exported of crates that were not given: if these are not the very same, it is not known what has changed."""
+        before, after = self.versions.before, self.versions.after
+        shown = {path: key[len("other:"):] for path, key in before.by_path.items() if key.startswith("other:") and path in after.by_path}
+        shown |= {path: m.other for (kind, path), m in before.values.items() if not m.item and m.other and (kind, path) in after.values}
+        for path, other in shown.items():
+            name = other.split("::")[0]
+            if name not in STD_CRATES and (not before.outside.get(name) or before.outside.get(name) != after.outside.get(name)):
+                self.count("re-export", path, f"is of {name}, which was not given")
 
     # ---- what is gone
     def removed(self, members: list[Member]) -> None:
@@ -114,7 +149,7 @@ class MemberChanges:
                 own = [f"{inside['name']}::{p['name']}" for p in its["generics"]["params"]]
                 found |= {f"{inside['name']}: {unit}": f"{inside['name']}: {erased}"
                           for unit, erased in clauses(item.crate, self.common(version), its, names + own).items()}
-        return found, set(found.values())
+        return found, set(found.values()) - {""}
 
     # ---- fields and variants
     def form_of(self, old: Item, new: Item) -> None:

@@ -5,6 +5,7 @@ from __future__ import annotations
 from dataclasses import dataclass, field
 from typing import Any, Iterator, Optional
 
+from .build import AUTO_TRAITS
 from .item_changes import ITSELF, ItemChanges, split
 from .members import Member, Signature, signature_of
 from .messages import at
@@ -76,11 +77,15 @@ class SignatureChanges:
         is_trait = "for" not in old.impl and owners[0] is not None
         is_implemented = is_trait and owners[0] is not None and not is_sealed(self.versions.old, self.versions.old.get(owners[0].key))
         self.header(old, new, before, after, is_implemented)
+        if self.hides(before) and (not self.hides(after) or not self.items.is_same()):
+            self.count("hidden type", new.shown(), "which auto traits its result has is not known", new.place)
         forms = [self.form(member, signature, version) for version, (member, signature) in enumerate(((old, before), (new, after)))]
         if forms[0][:2] == forms[1][:2]:
             return
         try:
             told = len(self.items.messages) + len(self.items.claims)
+            if any(not erased and unit not in forms[0][1] for unit, erased in forms[1][1].items()):
+                self.tell(new, "lifetime-bound-added", "has a new bound on lifetimes", "changed")
             self.judge(new, before, after, owners, is_implemented)
             if told == len(self.items.messages) + len(self.items.claims) and not self.same_lifetimes(forms[0], forms[1]):
                 self.count("function signature", new.shown(), "its lifetimes have changed", new.place)
@@ -88,6 +93,11 @@ class SignatureChanges:
             self.count("function signature", new.shown(), str(why), new.place)
         except Gone as gone:
             self.count("function signature", new.shown(), f"it names `{gone}`, which is gone", new.place)
+
+    def hides(self, signature: Signature) -> bool:
+        """Whether the result is of a type that rustdoc does not tell, and of which auto traits are not asked by name."""
+        named = [{bound.key.split("trait.")[-1].split(".")[0] for bound in bounds} for bounds in signature.results.values()]
+        return bool(signature.header["is_async"]) or any(not set(AUTO_TRAITS) <= names for names in named)
 
     # ---- what is written
     def form(self, member: Member, signature: Signature, version: int) -> tuple[Any, Any, list[str], int]:
@@ -102,12 +112,12 @@ class SignatureChanges:
         written = form.of([signature.written, {"for": member.impl.get("for")}, signature.own])
         inputs = Form(member.crate, common, signature.names)
         inputs.of([{**signature.written, "output": None}])
-        return written, clauses(member.crate, common, {"generics": signature.generics}, signature.names), form.tokens, len(inputs.tokens)
+        return written, clauses(member.crate, common, {"generics": signature.generics}, signature.names, form.met), form.tokens, len(inputs.tokens)
 
     @staticmethod
     def same_lifetimes(old: tuple[Any, Any, list[str], int], new: tuple[Any, Any, list[str], int]) -> bool:
         """Whether lifetimes tie nothing, or the same in both versions."""
-        if any(unit not in old[1] and erased in old[1].values() for unit, erased in new[1].items()):
+        if any(erased and unit not in old[1] and erased in old[1].values() for unit, erased in new[1].items()):
             return False
         tied = [bool(tokens[count:]) or len(set(tokens)) < len(tokens) or STATIC in tokens for _, _, tokens, count in (old, new)]
         return old[2] == new[2] or not any(tied)
@@ -148,7 +158,9 @@ class SignatureChanges:
                     continue
                 return self.other(new, what, old_type, put(new_type, match.values))
         given = list(match.values.values())
-        if is_implemented and (match.equations or len(set(given)) < len(given) or not all(isinstance(value, (Parameter, Constant)) for value in given)):
+        if is_implemented and match.equations:
+            raise Unsure("it names another associated type, or the same")
+        if is_implemented and (len(set(given)) < len(given) or not all(isinstance(value, (Parameter, Constant)) for value in given)):
             return self.tell(new, "signature-changed", "is more general now, as an impl may not be")
         if own - set(match.values):
             return self.tell(new, "signature-changed", f"has a new generic parameter that no argument tells: `{sorted(own - set(match.values))[0][1:]}`")

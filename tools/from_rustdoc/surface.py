@@ -5,7 +5,7 @@ from dataclasses import dataclass, field
 from typing import Any, Optional
 
 from .members import INSIDE, VALUES, Member, Members, inherent_impls, members_of, signature_of
-from .rustdoc_json import ITEMS, STD_CRATES, JsonCrate, kind_and_body
+from .rustdoc_json import ITEMS, STD_CRATES, JsonCrate, kind_and_body, stem_of
 from .terms import BadInput, Bound, Constant, Named, Param, Parameter, Place, Predicate, Type, keys_of, put
 from .world import World
 
@@ -79,7 +79,8 @@ class Item(Generics):
 class Surface:
     """`by_path` has the key of what each public path names; `items` those that are read; `behind` the types that aliases are other names
     of; `closed` are the globs of crates that were not given. `values` are the public items that are no types or traits, by kind and path, and
-    `reached` the types without a path that others can have all the same, by what is public."""
+    `reached` the types without a path that others can have all the same, by what is public. `walked` are the crates that were read for it,
+    and `outside` the compiled files of those that are named."""
     items: dict[str, Item] = field(default_factory=dict)
     by_path: dict[str, str] = field(default_factory=dict)
     kinds: dict[str, str] = field(default_factory=dict)
@@ -87,6 +88,8 @@ class Surface:
     closed: set[str] = field(default_factory=set)
     values: dict[tuple[str, str], Member] = field(default_factory=dict)
     reached: dict[str, Item] = field(default_factory=dict)
+    walked: list[JsonCrate] = field(default_factory=list)
+    outside: dict[str, str] = field(default_factory=dict)
 
 
 class SurfaceReader:
@@ -117,6 +120,7 @@ class SurfaceReader:
         for item in self.surface.items.values():
             self.find_members(item)
         self.find_reached()
+        self.surface.outside = {other["name"]: stem_of(other) for other in top.json["external_crates"].values()}
 
     def crate(self, name: str) -> Optional[JsonCrate]:
         if name not in self.crates:
@@ -223,7 +227,7 @@ class SurfaceReader:
 
     def find_reached(self) -> None:
         """The types of the crates that were walked which stand in what is public, or in what is reached by it."""
-        given = [crate for crate in self.crates.values() if crate is not None]
+        given = self.surface.walked = [crate for crate in self.crates.values() if crate is not None]
         todo = [term for member in self.surface.values.values() for term in terms_of(member)]
         todo += [term for item in self.surface.items.values() for term in terms_of_item(item)]
         impls = [impl for crate in given for impl in crate.impls]

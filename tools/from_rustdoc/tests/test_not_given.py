@@ -45,8 +45,8 @@ class NotGiven(unittest.TestCase):
         release = self.judged(*exports)
         self.assertEqual(release.answer, "no break found in what was judged")
         self.assertEqual(sorted(m.text for m in release.messages if m.word == "not judged"), [
-            "user::Ta: it is of ab, which was not given", "user::all: it is of up, which was not given", "user::f: it is of up, which was not given",
-            "user::up::inner::*: it is of up, which was not given"])
+            "user::Ta: is of ab, which was not given", "user::all: is of up, which was not given", "user::f: is of up, which was not given",
+            "user::up::inner::*: is of up, which was not given"])
         self.assertEqual((release.not_judged["re-export"], release.status, release.strict_status()), (4, 0, 4))
 
     def test_what_was_given_is_judged(self) -> None:
