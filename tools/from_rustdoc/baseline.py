@@ -319,6 +319,7 @@ def documented(one: Older, folder: str, data: dict[str, Any], extra: list[str], 
         os.utime(target)
         keep_newest(home, "baseline-")
         new = cargo.document(folder, extra, quiet, data=data)
+        cargo.align(old, new)
         for project in (old, new):
             cargo.recall_doc_cfgs(project, folder)
         yield Documented(old, new, (one.shown(), revision_of(folder) or folder))

@@ -22,7 +22,7 @@ PINS = ("rust-toolchain.toml", "rust-toolchain")
 SHARED, TAKEN = "shared", "taken"
 LIBRARIES = ("lib", "rlib", "dylib", "cdylib", "staticlib")
 # What cargo says of its work where there was none.
-NO_WORK = ("Finished", "Blocking")
+NO_WORK = "Finished"
 
 
 @dataclass
@@ -196,6 +196,37 @@ def unique_names(units: list[Unit], members: list[str]) -> dict[str, str]:
     return names
 
 
+def align(old: Project, new: Project) -> None:
+    """Gives a crate that is there more than once in one of two versions of a project the same names in both: with the part of its version that
+    a compatible one has too, where that tells them apart."""
+    both = (old, new)
+    doubled = {name.partition("@")[0] for project in both for name in project.units if "@" in name}
+    for project in both:
+        own = {name: (name.partition("@")[0], unit.version) for name, unit in project.units.items()}
+        wanted = {name: f"{crate}@{compatible(version)}" for name, (crate, version) in own.items() if crate in doubled and name not in project.members}
+        rename(project, {name: one for name, one in wanted.items() if list(wanted.values()).count(one) == 1})
+
+
+def compatible(version: str) -> str:
+    """`1` of `1.4.2`, `0.4` of `0.4.2`."""
+    parts = version.split("+")[0].split("-")[0].split(".")
+    first = next((number for number, part in enumerate(parts) if part != "0"), len(parts) - 1)
+    return ".".join(parts[:first + 1])
+
+
+def rename(project: Project, names: dict[str, str]) -> None:
+    def of(name: str) -> str:
+        return names.get(name, name)
+
+    links = project.links
+    links.uses = {of(name): list(map(of, uses)) for name, uses in links.uses.items()}
+    links.artifacts = {stem: of(name) for stem, name in links.artifacts.items()}
+    project.files = {of(name): file for name, file in project.files.items()}
+    project.units = {of(name): unit for name, unit in project.units.items()}
+    project.members = list(map(of, project.members))
+    links.names = {file: name for name, file in project.files.items() if "@" in name}
+
+
 # ---- documents
 def document(folder: str, extra: list[str], quiet: bool = False, manifest: str | None = None, target: str | None = None,
              shared: str | None = None, data: dict[str, Any] | None = None) -> Project:
@@ -285,7 +316,7 @@ def messages(words: list[str], folder: str, environment: dict[str, str], told: s
 
 def is_no_work(line: str) -> bool:
     words = re.sub(r"\x1b\[[0-9;]*m", "", line).split()
-    return words[:1] != [] and words[0] in NO_WORK
+    return words[:1] == [NO_WORK]
 
 
 def units_of(said: Iterable[dict[str, Any]], place: str) -> tuple[list[Unit], list[str]]:

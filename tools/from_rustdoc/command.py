@@ -68,9 +68,9 @@ def new_world(docs: Optional[str]) -> World:
     return World(pages, KeptStandard(pages))
 
 
-def world_of(files: list[str], docs: Optional[str], links: Optional[cargo.Links]) -> World:
+def world_of(files: list[str], docs: Optional[str], links: Optional[cargo.Links], is_given_what_it_uses: bool = False) -> World:
     world = new_world(docs)
-    world.load(files, links)
+    world.load(files, links, is_given_what_it_uses)
     keep(world)
     return world
 
@@ -137,6 +137,9 @@ def world_again(known: dict[str, Any], arguments: argparse.Namespace) -> World:
 
 def warn(world: World) -> None:
     """Told once, where the crates are read."""
+    for name in world.doubled:
+        print(f"from-rustdoc: warning: more than one version of {name} is used, and one is given: what others use of it is taken as unknown. "
+              "(Of a project, each version is read.)", file=sys.stderr, flush=True)
     for name, places in world.doc_cfgs.items():
         print(f"from-rustdoc: warning: rustdoc sets `cfg(doc)`, on which items of {name} depend ({', '.join(places)}): what rests on them may be "
               "there for rustdoc alone, or be hidden from it", file=sys.stderr, flush=True)

@@ -139,6 +139,7 @@ class KeptCrate:
         self.items = [ItemName(*entry) for entry in data["items"]]
         self.std_version: str = data["std_version"]
         self.sources: list[str] = data["sources"]
+        self.externals: list[tuple[str, str]] = data["externals"]
 
 
 def data_of(crate: JsonCrate) -> dict[str, Any]:
@@ -146,7 +147,7 @@ def data_of(crate: JsonCrate) -> dict[str, Any]:
             "declarations": {k: packed(replace(d, item={})) for k, d in crate.declarations.items()},
             "aliases": {k: packed(d) for k, d in crate.aliases.items()}, "impls": [packed(i) for i in crate.impls],
             "heads": crate.heads, "items": [(i.key, i.name, i.public_path) for i in crate.items], "std_version": crate.std_version,
-            "sources": crate.sources}
+            "sources": crate.sources, "externals": crate.externals}
 
 
 class Keeper:

@@ -17,8 +17,8 @@ from .messages import BAD, Message, Output, Sources, Span, worst
 from .terms import BadInput, Place
 from .world import World
 
-# Reads crates: their files, std's documents, and how they belong together.
-WorldReader = Callable[[list[str], Optional[str], Optional[Links]], World]
+# Reads crates: their files, std's documents, how they belong together, and whether the first is said to use the others.
+WorldReader = Callable[..., World]
 
 
 def programs_of(arguments: argparse.Namespace) -> Programs:
@@ -41,7 +41,7 @@ def told(release: Release, output: Output, is_strict: bool = False) -> int:
 def of_files(arguments: argparse.Namespace, read: WorldReader, links: Optional[Links]) -> int:
     """Compares two JSON files."""
     files = arguments.files
-    worlds = [read([file, *arguments.with_crates], arguments.docs, links) for file in files]
+    worlds = [read([file, *arguments.with_crates], arguments.docs, links, True) for file in files]
     crates = [next(c.name for c in w.crates.values() if c.file == f) for w, f in zip(worlds, files)]
     if crates[0] != crates[1]:
         raise BadInput(f"{crates[0]} and {crates[1]} are two crates, not two versions of one")

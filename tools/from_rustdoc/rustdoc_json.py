@@ -38,7 +38,7 @@ def stem_of(crate: dict[str, Any]) -> str:
 
 def external_name(name: str, stem: str, artifacts: Optional[dict[str, str]]) -> str:
     """The name of an external crate. One that is not read never goes by the name of one that is."""
-    if artifacts is None or name in STD_CRATES:
+    if not artifacts or name in STD_CRATES:
         return name
     is_another = any(known.partition("@")[0] == name for known in artifacts.values())
     return artifacts.get(stem, f"{name}@{stem}" if is_another else name)

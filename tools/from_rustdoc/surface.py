@@ -126,8 +126,7 @@ class SurfaceReader:
         if name not in self.crates:
             self.crates[name] = None
             if name in self.world.crates:
-                links = self.world.links
-                read = JsonCrate(self.world.crates[name].file, self.world.pages, name if "@" in name else "", links.artifacts if links else None)
+                read = JsonCrate(self.world.crates[name].file, self.world.pages, name if "@" in name else "", self.world.artifacts)
                 read.load()
                 self.crates[name] = read
         return self.crates[name]

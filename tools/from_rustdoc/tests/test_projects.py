@@ -15,12 +15,12 @@ from typing import Any
 from unittest import mock
 
 from .. import command
-from ..cargo import HERE, Unit, chosen, configured, docs_folder, is_no_work, pinned, project_of, read_metadata, units_of
+from ..cargo import HERE, Project, Unit, align, chosen, configured, docs_folder, is_no_work, pinned, project_of, read_metadata, units_of
 from ..command import main
 from ..doc_cfg import lines
 from ..proved import proved_program
 from ..rustdoc_json import external_name
-from ..terms import BadInput
+from ..terms import BadInput, keys_of
 from ..unit import Depends, add_depends, is_documented, read_depends, words_of_rustdoc
 from ..world import World
 from .common import kept, pages
@@ -77,11 +77,46 @@ class Units(unittest.TestCase):
         units = [unit("libd-1", "d"), unit("libmac-3", "mac", "libd-1"), unit("libd-2", "d")]
         self.assertEqual(project_of(units, ["d 1.0.0"], "/w").files, {"d": "libd-2.json"})
 
+    def test_of_files_alone_neither_version_is_taken_for_the_other(self) -> None:
+        def user(folder: str, name: str, stem: str) -> str:
+            with open(kept("user"), encoding="utf-8") as handle:
+                data = json.load(handle)
+            data["index"][str(data["root"])]["name"] = name
+            for path in data["paths"].values():
+                path["path"][0] = name if path["crate_id"] == 0 else path["path"][0]
+            next(crate for crate in data["external_crates"].values() if crate["name"] == "ab")["path"] = f"/deps/{stem}.rmeta"
+            with open(os.path.join(folder, name + ".json"), "w", encoding="utf-8") as handle:
+                json.dump(data, handle)
+            return handle.name
+        for second, doubled in (("libab-1", []), ("libab-2", ["ab"])):
+            with tempfile.TemporaryDirectory() as folder:
+                found = World(pages())
+                found.load([kept("ab"), user(folder, "one", "libab-1"), user(folder, "two", second)])
+            self.assertEqual(found.doubled, doubled)
+            keys = {key for crate in found.crates.values() if crate.name != "ab" for d in crate.declarations.values() for t in d.fields for key in keys_of(t)}
+            self.assertEqual(any(key.startswith("other:ab::") for key in keys), not doubled)
+            self.assertEqual(any(key.startswith("other:ab@libab-2::") for key in keys), bool(doubled))
+
     def test_a_crate_that_is_not_read_is_no_other_version(self) -> None:
         artifacts = {"libd-1": "d@0.1.0", "libd-2": "d@0.2.0", "libb-3": "b"}
         self.assertEqual([external_name(name, stem, artifacts) for name, stem in (("d", "libd-2"), ("b", "libb-3"), ("b", "libb-4"), ("c", "libc-5"), ("core", "x"))],
                          ["d@0.2.0", "b", "b@libb-4", "c", "core"])
         self.assertEqual(external_name("b", "libb-4", None), "b")
+
+    def test_two_versions_of_a_project_have_the_same_names(self) -> None:
+        def project(*versions: str) -> Project:
+            units = [unit("liba-1", "a", *(f"libd-{v}" for v in versions)), *(unit(f"libd-{v}", "d", version=v) for v in versions)]
+            found = project_of(units, ["a 1.0.0"], "/w")
+            found.units = {name: next(u for u in units if u.file == file) for name, file in found.files.items()}
+            return found
+        for old, new, names_of_old, names_of_new in (
+                (("0.9.1",), ("0.9.4", "1.0.2"), ["d@0.9"], ["d@0.9", "d@1"]), (("1.0.0", "0.0.2"), ("0.0.3", "1.4.0"), ["d@1", "d@0.0.2"], ["d@0.0.3", "d@1"]),
+                (("1.0.0", "1.1.0"), ("1.1.0",), ["d@1.0.0", "d@1.1.0"], ["d@1"]), (("1.0.0",), ("2.0.0",), ["d"], ["d"])):
+            before, after = project(*old), project(*new)
+            align(before, after)
+            for one, names in ((before, names_of_old), (after, names_of_new)):
+                self.assertEqual((one.uses["a"], list(one.uses)[1:], list(one.files)[1:], list(one.units)[1:], list(one.links.artifacts.values())[1:]), (names,) * 5)
+                self.assertEqual(list(one.links.names.values()), [name for name in names if "@" in name])
 
     def test_what_has_no_document_is_named(self) -> None:
         def message(package: str, file: str, kind: str = "lib") -> dict[str, Any]:
