@@ -26,6 +26,8 @@ from .documents import documents, text_of
 BLOCK = re.compile(r"^```(console|rust)\n((?:.|\n)*?)^```", re.M)
 COMMAND = re.compile(r"^\$ (.*)\n((?:(?!\$ ).*\n)*)", re.M)
 SINCE = "// added since v1.0.0\n"
+# So that the commit has one number each time.
+AT_ONE_TIME = {f"GIT_{who}_DATE": "2026-01-01T00:00:00Z" for who in ("AUTHOR", "COMMITTER")}
 MANIFEST = '[package]\nname = "shapes"\nversion = "{}"\nedition = "2021"\n'
 
 
@@ -78,7 +80,7 @@ class Library:
         (folder / "src").mkdir()
         self.write("1.0.0", source.partition(SINCE)[0])
         for words in (["init", "-q"], ["add", "."], ["-c", "user.name=a", "-c", "user.email=a@a", "commit", "-qm", "a"], ["tag", "v1.0.0"]):
-            subprocess.run(["git", *words], cwd=folder, check=True)
+            subprocess.run(["git", *words], cwd=folder, check=True, env={**os.environ, **AT_ONE_TIME})
         self.write("1.1.0", source)
 
     def write(self, version: str, source: str) -> None:

@@ -1,33 +1,36 @@
-"""Projects: runs `cargo doc`, which makes rustdoc's JSON of each library, and reads `cargo metadata` for what uses what."""
+"""Projects: has cargo check them, by which rustdoc makes the JSON of each library, and reads what uses what. Cargo decides what is made again."""
 from __future__ import annotations
 
+import functools
 import hashlib
 import json
 import os
-import shutil
+import re
 import subprocess
 import sys
 from dataclasses import dataclass, field
-from typing import Any
+from typing import Any, Iterable, Iterator, Sequence
 
+from . import proved
 from .doc_cfg import Cfgs
 from .terms import BadInput
 
 FLAGS = "-Z unstable-options --output-format json --document-private-items --document-hidden-items"
 HERE = os.path.dirname(os.path.abspath(__file__))
 PINS = ("rust-toolchain.toml", "rust-toolchain")
-# What decides how cargo documents a project, besides its sources and what rustc says of itself. (So RUSTUP_TOOLCHAIN is none: rustup sets it for
-# `cargo celtisdarts`, and the documents are the same.)
-SETTINGS = ("RUSTFLAGS", "RUSTDOCFLAGS", "RUSTC", "RUSTDOC", "CARGO_BUILD_TARGET")
 # What is shared of documents, and what says beside one that it was taken from there.
 SHARED, TAKEN = "shared", "taken"
+LIBRARIES = ("lib", "rlib", "dylib", "cdylib", "staticlib")
+# What cargo says of its work where there was none.
+NO_WORK = "Finished"
 
 
 @dataclass
 class Links:
-    """How the crates of one build belong together: which crates each one uses. Of a crate that is there in two versions each has a name with
-    its version, by its file and by that of its compiled form. `cfgs` of a crate are known if it was documented here, `doc_cfgs` is what
-    depends on `cfg(doc)`, where that was looked for; `root` is the workspace's folder, from which rustdoc names its sources."""
+    """How the crates of one build belong together: which crates each one uses. Of a crate that is there more than once each has a name with
+    its version, by its file. `artifacts` has the names by the compiled files, which no two units share. `cfgs` of a crate are known if it was
+    documented here, `doc_cfgs` is what depends on `cfg(doc)`, where that was looked for; `root` is the workspace's folder, from which rustdoc
+    names its sources."""
     uses: dict[str, list[str]] = field(default_factory=dict)
     names: dict[str, str] = field(default_factory=dict)
     artifacts: dict[str, str] = field(default_factory=dict)
@@ -45,8 +48,8 @@ class Project:
     links: Links = field(default_factory=Links)
     members: list[str] = field(default_factory=list)
     files: dict[str, str] = field(default_factory=dict)
-    doubled: list[str] = field(default_factory=list)
     folder: str = ""
+    units: dict[str, Unit] = field(default_factory=dict)
 
     @property
     def uses(self) -> dict[str, list[str]]:
@@ -57,21 +60,33 @@ class Project:
         return self.links.root
 
     def closure(self, names: list[str]) -> list[str]:
-        found: dict[str, None] = {}
-        todo = list(names)
-        while todo:
-            name = todo.pop(0)
-            if name not in found:
-                found[name] = None
-                todo += self.uses.get(name, [])
-        return [name for name in found if name in self.files]
+        return [name for name in closure(names, self.uses) if name in self.files]
 
 
 @dataclass
 class Unit:
-    """A library that was documented in this run."""
+    """A library that cargo has checked and rustdoc documented: a package with its features and the units that it uses. `stem` is the name of
+    its compiled file, `uses` those of other units. `is_fresh` says that nothing was to be done."""
+    stem: str
+    package: str
+    crate: str
+    version: str
     file: str
-    cfgs: Cfgs
+    target: str = ""
+    cfgs: list[str] = field(default_factory=list)
+    uses: list[str] = field(default_factory=list)
+    is_fresh: bool = False
+
+
+def closure(begin: list[str], uses: dict[str, list[str]]) -> list[str]:
+    found: dict[str, None] = {}
+    todo = list(begin)
+    while todo:
+        one = todo.pop(0)
+        if one not in found:
+            found[one] = None
+            todo += uses.get(one, [])
+    return list(found)
 
 
 def command(words: list[str], folder: str, environment: dict[str, str] | None = None) -> str:
@@ -103,60 +118,290 @@ def docs_folder(given: str | None, folder: str = ".") -> str:
         if not os.path.exists(os.path.join(given, "core")) and not given.endswith(".json"):
             raise BadInput(f"{given} has no documents of std: it needs the folders `core`, `alloc` and `std`")
         return given
-    root = command(["rustc", "--print", "sysroot"], folder).strip()
-    found = os.path.join(root, "share", "doc", "rust", "html")
+    found = os.path.join(said_by_rustc(folder, "sysroot").strip(), "share", "doc", "rust", "html")
     if not os.path.isdir(os.path.join(found, "core")):
         raise BadInput(f"std's documents are not in {found}: install them by `rustup component add rust-docs`, or name their folder by --docs")
     return found
 
 
+@functools.lru_cache(maxsize=None)
+def said_by_rustc(folder: str, what: str, target: str = "") -> str:
+    return command(["rustc", "--print", what, *(["--target", target] if target else [])], folder)
+
+
+# ---- what uses what
 def library_name(package: dict[str, Any]) -> str | None:
     for target in package["targets"]:
-        if any(kind in ("lib", "rlib", "dylib", "cdylib", "staticlib") for kind in target["kind"]):
+        if any(kind in LIBRARIES for kind in target["kind"]):
             return str(target["name"]).replace("-", "_")
     return None
 
 
-def read_metadata(text: str, units: dict[str, Unit] | None = None, artifacts: dict[str, str] | None = None) -> Project:
-    """A project by cargo's metadata. `units` are the libraries that were documented, `artifacts` the compiled files, by the package's id: without
-    them it is known what uses what."""
+def read_metadata(text: str) -> Project:
+    """A project by cargo's metadata, which says what uses what, but knows no documents."""
     data = json.loads(text)
-    names = unique_names(data, units)
-    project = Project()
+    names = {package["id"]: library_name(package) for package in data["packages"]}
+    project = Project(Links(root=data.get("workspace_root", "")))
     for node in data["resolve"]["nodes"]:
         name = names.get(node["id"])
         if name is None:
             continue
-        if name in project.uses:
-            project.doubled.append(name)
         uses = project.uses.setdefault(name, [])
         for dependency in node["deps"]:
             kinds = [kind["kind"] for kind in dependency.get("dep_kinds", [])] or [None]
             other = names.get(dependency["pkg"])
             if other and None in kinds and other not in uses:
                 uses.append(other)
-        if units is not None:
-            project.files[name] = units[node["id"]].file
-            project.links.cfgs[name] = units[node["id"]].cfgs
-    project.links.names = {file: name for name, file in project.files.items() if "@" in name}
-    project.links.artifacts = {stem: names[i] for stem, i in (artifacts or {}).items() if "@" in names.get(i, "")}
-    project.links.root = data.get("workspace_root", "")
     project.members = [n for n in (names.get(i) for i in data["workspace_members"]) if n]
     return project
 
 
-def unique_names(data: dict[str, Any], units: dict[str, Unit] | None) -> dict[str, str]:
-    """The libraries that count, by their packages: of two versions of one crate each has its version in its name, if both are documented."""
-    found = {p["id"]: (library_name(p) or "", str(p.get("version", ""))) for p in data["packages"]}
-    there = {i: entry for i, entry in found.items() if entry[0] and (units is None or i in units)}
+def project_of(units: list[Unit], members: list[str], root: str) -> Project:
+    """A project of the units that were documented; `members` are the packages of the workspace. What its libraries do not use is no part of it."""
+    by_stem = {unit.stem: unit for unit in units}
+    of_members = [unit.stem for unit in own_units(units, members)]
+    uses = {unit.stem: [stem for stem in unit.uses if stem in by_stem] for unit in units}
+    names = unique_names([by_stem[stem] for stem in closure(of_members, uses)], of_members)
+    project = Project(Links(root=root))
+    for stem, name in names.items():
+        project.files[name] = by_stem[stem].file
+        project.uses[name] = list(dict.fromkeys(names[used] for used in uses[stem]))
+    project.links.names = {file: name for name, file in project.files.items() if "@" in name}
+    project.links.artifacts = names
+    project.members = [names[stem] for stem in of_members]
+    return project
+
+
+def own_units(units: list[Unit], members: list[str]) -> Iterator[Unit]:
+    """A unit of each member. One that procedural macros use too may have been checked twice: then it is the one that none uses."""
+    used = {stem for unit in units for stem in unit.uses}
+    for member in members:
+        of_member = sorted((unit for unit in units if unit.package == member), key=lambda unit: unit.stem in used)
+        yield from of_member[:1]
+
+
+def unique_names(units: list[Unit], members: list[str]) -> dict[str, str]:
+    """The names of units, by their compiled files: of a crate that is there more than once each has its version in its name, but for the
+    workspace's own."""
     count: dict[str, int] = {}
-    for name, _ in there.values():
-        count[name] = count.get(name, 0) + 1
-    return {i: f"{name}@{version}" if units is not None and count[name] > 1 else name for i, (name, version) in there.items()}
+    for unit in units:
+        count[unit.crate] = count.get(unit.crate, 0) + 1
+    own = [unit.crate for unit in units if unit.stem in members]
+    names: dict[str, str] = {}
+    for unit in units:
+        is_alone = count[unit.crate] == 1 or unit.stem in members and own.count(unit.crate) == 1
+        name = unit.crate if is_alone else f"{unit.crate}@{unit.version}"
+        taken = sum(n == name or n.startswith(name + "+") for n in names.values())
+        names[unit.stem] = f"{name}+{taken + 1}" if taken else name
+    return names
 
 
-def shared_flags(extra: list[str]) -> list[str]:
-    """Those of `cargo doc`'s flags that `cargo metadata` is to get too."""
+def align(old: Project, new: Project) -> None:
+    """Gives a crate that is there more than once in one of two versions of a project the same names in both: with the part of its version that
+    a compatible one has too, where that tells them apart."""
+    both = (old, new)
+    doubled = {name.partition("@")[0] for project in both for name in project.units if "@" in name}
+    for project in both:
+        own = {name: (name.partition("@")[0], unit.version) for name, unit in project.units.items()}
+        wanted = {name: f"{crate}@{compatible(version)}" for name, (crate, version) in own.items() if crate in doubled and name not in project.members}
+        rename(project, {name: one for name, one in wanted.items() if list(wanted.values()).count(one) == 1})
+
+
+def compatible(version: str) -> str:
+    """`1` of `1.4.2`, `0.4` of `0.4.2`."""
+    parts = version.split("+")[0].split("-")[0].split(".")
+    first = next((number for number, part in enumerate(parts) if part != "0"), len(parts) - 1)
+    return ".".join(parts[:first + 1])
+
+
+def rename(project: Project, names: dict[str, str]) -> None:
+    def of(name: str) -> str:
+        return names.get(name, name)
+
+    links = project.links
+    links.uses = {of(name): list(map(of, uses)) for name, uses in links.uses.items()}
+    links.artifacts = {stem: of(name) for stem, name in links.artifacts.items()}
+    project.files = {of(name): file for name, file in project.files.items()}
+    project.units = {of(name): unit for name, unit in project.units.items()}
+    project.members = list(map(of, project.members))
+    links.names = {file: name for name, file in project.files.items() if "@" in name}
+
+
+# ---- documents
+def document(folder: str, extra: list[str], quiet: bool = False, manifest: str | None = None, target: str | None = None,
+             shared: str | None = None, data: dict[str, Any] | None = None) -> Project:
+    """Documents the project and all that it uses, into `target/from-rustdoc`, where cargo finds that anything has changed. Another project's
+    manifest is documented as this folder would be, by its toolchain and its configuration, into a target below that. `data` is what `metadata` says."""
+    has_manifest(folder, manifest)
+    of = ["--manifest-path", os.path.abspath(manifest)] if manifest else []
+    data = data or metadata(folder, extra, of)
+    shared = shared or os.path.join(os.path.dirname(target) if target else target_of(data), SHARED)
+    target = target or target_of(data)
+    if not any(library_name(package) for package in data["packages"]):
+        raise BadInput(f"{folder} has no library that is documented: a project of programs or procedural macros alone has nothing to read")
+    place = os.path.join(target, f"json-{made_by()}")
+    words = ["cargo", "check", "--lib", "--target-dir", target, "--message-format", "json-render-diagnostics", *of, *flags_of_check(extra)]
+    told = "" if quiet else f"from-rustdoc: documenting {manifest or 'the project'} and what it uses"
+    units, missing = units_of(messages(words, folder, environment(place, shared), told), place)
+    if missing:
+        # Someone has removed documents, or they were made by another version of this tool: then cargo is to find nothing fresh.
+        forget(target)
+        units, missing = units_of(messages(words, folder, environment(place, shared), told), place)
+    if missing:
+        raise BadInput(f"rustdoc made no document of {', '.join(missing)}")
+    project = project_of(units, data["workspace_members"], data["workspace_root"])
+    if "--no-deps" in extra:
+        project.files = {name: project.files[name] for name in project.members}
+    project.folder = target
+    project.units = {name: next(u for u in units if u.file == file) for name, file in project.files.items()}
+    return project
+
+
+def has_manifest(folder: str, manifest: str | None = None) -> None:
+    if not os.path.exists(manifest or os.path.join(folder, "Cargo.toml")):
+        raise BadInput(f"{folder} has no Cargo.toml" if manifest is None else f"there is no {manifest}")
+
+
+def made_by() -> str:
+    """A sum of what makes documents besides cargo's own settings: the files that are called, the flags, rustdoc where another one is named."""
+    total = hashlib.sha256(repr((FLAGS, os.environ.get("RUSTDOC", ""))).encode())
+    for name in ("rustc.sh", "unit.py"):
+        with open(os.path.join(HERE, name), "rb") as handle:
+            total.update(handle.read())
+    return total.hexdigest()[:12]
+
+
+def environment(place: str, shared: str) -> dict[str, str]:
+    """What has cargo call `unit.py` for each unit."""
+    flags = {"RUSTC_WRAPPER": os.path.join(HERE, "rustc.sh"), "FROM_RUSTDOC_WRAPPER": os.environ.get("RUSTC_WRAPPER", ""),
+             "FROM_RUSTDOC_PYTHON": sys.executable, "FROM_RUSTDOC_JSON": os.path.abspath(place), "FROM_RUSTDOC_FLAGS": FLAGS,
+             "FROM_RUSTDOC_SHARED": os.path.abspath(shared)}
+    if "RUSTDOC" in os.environ:
+        flags["FROM_RUSTDOC_TOOL"] = os.environ["RUSTDOC"]
+    return flags
+
+
+def flags_of_check(extra: list[str]) -> list[str]:
+    """Cargo's flags, without those that `cargo check --lib` does not take twice, or not at all."""
+    return [word for word in extra if word not in ("--lib", "--no-deps")]
+
+
+def messages(words: list[str], folder: str, environment: dict[str, str], told: str) -> Iterator[dict[str, Any]]:
+    """What cargo says for machines. What it says for people is passed on if it works, after a line of what is done."""
+    # (Imported here, as below what an answer does not need: to load it takes long beside that.)
+    import tempfile
+    with tempfile.TemporaryFile() as said:
+        try:
+            # (Where its words are passed on to a terminal they have its colours.)
+            colour = {"CARGO_TERM_COLOR": "always"} if sys.stderr.isatty() and "CARGO_TERM_COLOR" not in os.environ else {}
+            started = subprocess.Popen(words, cwd=folder, env={**os.environ, **colour, **environment}, stdout=said, stderr=subprocess.PIPE, text=True,
+                                       errors="replace")
+        except OSError as error:
+            raise BadInput(f"`{words[0]}` cannot be run: {error}")
+        assert started.stderr is not None
+        with started:
+            for line in started.stderr:
+                if line.strip() and not is_no_work(line):
+                    if told:
+                        print(told, file=sys.stderr)
+                    told = ""
+                    print(line, end="", file=sys.stderr, flush=True)
+        if started.returncode:
+            raise BadInput(f"`{' '.join(words)}` failed" + pinned(folder))
+        said.seek(0)
+        for line in said.read().decode().splitlines():
+            if line.startswith("{"):
+                yield json.loads(line)
+
+
+def is_no_work(line: str) -> bool:
+    words = re.sub(r"\x1b\[[0-9;]*m", "", line).split()
+    return words[:1] == [NO_WORK]
+
+
+def units_of(said: Iterable[dict[str, Any]], place: str) -> tuple[list[Unit], list[str]]:
+    """The libraries that are checked, by cargo's messages, and the names of those that have no document."""
+    units, missing = [], []
+    for message in said:
+        if message.get("reason") != "compiler-artifact" or not any(kind in LIBRARIES for kind in message["target"]["kind"]) or \
+                not all(file.endswith(".rmeta") for file in message["filenames"]):
+            continue
+        stem = os.path.basename(message["filenames"][0]).rsplit(".", 1)[0]
+        try:
+            with open(os.path.join(place, stem, "unit"), encoding="utf-8") as handle:
+                known = json.load(handle)
+            unit = Unit(stem, message["package_id"], known["crate"], known["version"], os.path.join(place, stem, known["crate"] + ".json"),
+                        known["target"], known["cfgs"], known["uses"], bool(message.get("fresh")))
+        except (OSError, ValueError, KeyError):
+            unit = None
+        if unit is not None and os.path.isfile(unit.file):
+            units.append(unit)
+        else:
+            missing.append(message["package_id"])
+    return units, missing
+
+
+def forget(target: str) -> None:
+    import glob
+    import shutil
+    for pattern in (os.path.join(target, "*", ".fingerprint"), os.path.join(target, "*", "*", ".fingerprint")):
+        for place in glob.glob(pattern):
+            shutil.rmtree(place, ignore_errors=True)
+    for place in glob.glob(os.path.join(target, "json-*")):
+        shutil.rmtree(place, ignore_errors=True)
+
+
+def add_cfgs(project: Project, folder: str) -> None:
+    """What is set where each crate is compiled."""
+    for name, unit in project.units.items():
+        project.links.cfgs[name] = frozenset(said_by_rustc(folder, "cfg", unit.target).split("\n")).union(unit.cfgs)
+
+
+# ---- what depends on `cfg(doc)`, kept while the documents stay
+def states(files: Iterable[str]) -> list[list[int]]:
+    """By what a document is known to be the one that was read: its time, its size and its place on the disk."""
+    return [[found.st_mtime_ns, found.st_size, found.st_ino] for found in map(os.stat, files)]
+
+
+def state_of(project: Project) -> str:
+    return json.dumps([proved.tool_sum(), {**project.links.kept(), "doc_cfgs": None}, project.files, states(project.files.values())], sort_keys=True)
+
+
+def recall_doc_cfgs(project: Project, folder: str) -> None:
+    """What was found of these very documents; else what is needed to find it."""
+    known = proved.known(doc_cfgs_of(project), state_of(project))
+    if known is not None:
+        project.links.doc_cfgs = json.loads(known)
+    else:
+        add_cfgs(project, folder)
+
+
+def keep_doc_cfgs(project: Project, found: dict[str, list[str]]) -> None:
+    if project.links.doc_cfgs is None:
+        proved.keep(doc_cfgs_of(project), {"state": state_of(project), "found": json.dumps(found)})
+
+
+def doc_cfgs_of(project: Project) -> str:
+    return os.path.join(project.folder, "doc-cfgs.json")
+
+
+# ---- cargo's metadata
+def metadata(folder: str, extra: Sequence[str], of: Sequence[str] = ()) -> dict[str, Any]:
+    """Of the workspace's own packages alone, which takes no time."""
+    found: dict[str, Any] = json.loads(command(["cargo", "metadata", "--no-deps", "--format-version", "1", *of, *configured(extra)], folder))
+    return found
+
+
+def whole_metadata(folder: str, extra: list[str], of: Sequence[str]) -> dict[str, Any]:
+    """Of all packages that are used."""
+    host = next(line.split()[1] for line in command(["rustc", "-vV"], folder).splitlines() if line.startswith("host:"))
+    words = ["cargo", "metadata", "--format-version", "1", "--filter-platform", host, *of, *configured(extra), *chosen(extra)]
+    found: dict[str, Any] = json.loads(command(words, folder))
+    return found
+
+
+def chosen(extra: list[str]) -> list[str]:
+    """Those of cargo's flags that choose what is used."""
     found = []
     for number, word in enumerate(extra):
         if word in ("--offline", "--locked", "--frozen", "--all-features", "--no-default-features") or word.startswith("--features="):
@@ -166,105 +411,17 @@ def shared_flags(extra: list[str]) -> list[str]:
     return found
 
 
-def document(folder: str, extra: list[str], quiet: bool = False, manifest: str | None = None, target: str | None = None,
-             shared: str | None = None) -> Project:
-    """Documents the project and all that it uses, into `target/from-rustdoc`, and reads which crate uses which. Another project's manifest
-    is documented as this folder would be, by its toolchain and its configuration, into a target below that. What an earlier run has left
-    there does not count, but for documents of packages of a registry, which are shared."""
-    has_manifest(folder, manifest)
-    of = ["--manifest-path", os.path.abspath(manifest)] if manifest else []
-    data = metadata(folder, extra, of)
-    shared = shared or os.path.join(os.path.dirname(target) if target else target_of(data), SHARED, settings_sum(folder, extra))
-    target = target or target_of(data)
-    if not quiet:
-        print(f"from-rustdoc: documenting {manifest or 'the project'} and what it uses (cargo doc)", file=sys.stderr, flush=True)
-    room = os.path.join(target, f"json-{os.getpid()}")
-    try:
-        words = ["cargo", "doc", "--target-dir", target, "--message-format", "json-render-diagnostics"]
-        said = command(words + of + extra, folder, {**environment(room), **sharing(data, shared)})
-        place = os.path.join(target, "json")
-        shutil.rmtree(place, ignore_errors=True)
-        if os.path.isdir(room):
-            os.replace(room, place)
-    finally:
-        shutil.rmtree(room, ignore_errors=True)
-    target_cfgs = frozenset(command(["rustc", "--print", "cfg"], folder).split("\n"))
-    project = read_metadata(data, units_of(json.loads(data), place, target_cfgs), artifacts_of(said))
-    project.folder = target
-    return project
-
-
-def has_manifest(folder: str, manifest: str | None = None) -> None:
-    if not os.path.exists(manifest or os.path.join(folder, "Cargo.toml")):
-        raise BadInput(f"{folder} has no Cargo.toml" if manifest is None else f"there is no {manifest}")
-
-
-def environment(room: str) -> dict[str, str]:
-    """What has cargo call rustdoc for JSON. Build scripts do not see it: what they find of the compiler is as in any build."""
-    flags = {"RUSTDOC": os.path.join(HERE, "rustdoc.sh"), "FROM_RUSTDOC_JSON": os.path.abspath(room), "FROM_RUSTDOC_FLAGS": FLAGS}
-    if "RUSTDOC" in os.environ:
-        flags["FROM_RUSTDOC_TOOL"] = os.environ["RUSTDOC"]
-    if "RUSTC_WORKSPACE_WRAPPER" not in os.environ:
-        flags["RUSTC_WORKSPACE_WRAPPER"] = os.path.join(HERE, "rustc.sh")
-    return flags
-
-
-def sharing(data: str, shared: str) -> dict[str, str]:
-    """What has rustdoc.sh share the documents of packages whose sources never change, since a registry has them. Where such a package uses
-    another, by a patch, nothing is shared: what it says may change with that."""
-    known = json.loads(data)
-    folders = {p["id"]: os.path.dirname(os.path.dirname(p["manifest_path"])) for p in known["packages"]
-               if (p["source"] or "").startswith(("registry+", "sparse+"))}
-    if any(dependency["pkg"] not in folders for node in known["resolve"]["nodes"] if node["id"] in folders for dependency in node["deps"]):
-        return {"FROM_RUSTDOC_SHARED": ""}
-    return {"FROM_RUSTDOC_SHARED": os.path.abspath(shared), "FROM_RUSTDOC_REGISTRIES": ":".join(sorted(set(folders.values())))}
-
-
-def settings_sum(folder: str, extra: list[str]) -> str:
-    """A sum of what documents are made by, besides sources: the flags, the toolchain, the configuration."""
-    environment = [os.environ.get(name, "") for name in SETTINGS]
-    total = hashlib.sha256(json.dumps([extra, FLAGS, command(["rustc", "-vV"], folder), environment]).encode())
-    place = os.path.abspath(folder)
-    while True:
-        for name in (".cargo/config.toml", ".cargo/config", *PINS):
-            file = os.path.join(place, name)
-            if os.path.isfile(file):
-                with open(file, "rb") as handle:
-                    total.update(handle.read())
-        if place == os.path.dirname(place):
-            return total.hexdigest()
-        place = os.path.dirname(place)
-
-
-def units_of(data: dict[str, Any], place: str, target_cfgs: frozenset[str]) -> dict[str, Unit]:
-    """What was documented, by the package's id."""
-    packages = {os.path.dirname(package["manifest_path"]): package["id"] for package in data["packages"]}
-    found: dict[str, Unit] = {}
-    for name in sorted(os.listdir(place)) if os.path.isdir(place) else []:
-        files = [file for file in os.listdir(os.path.join(place, name)) if file.endswith(".json")]
-        with open(os.path.join(place, name, "unit"), encoding="utf-8") as handle:
-            manifest, *cfgs = handle.read().splitlines()
-        if files and manifest in packages:
-            found[packages[manifest]] = Unit(os.path.join(place, name, files[0]), target_cfgs.union(cfgs))
+def configured(extra: Sequence[str]) -> list[str]:
+    """Those of cargo's flags that say where the target is."""
+    found: list[str] = []
+    for number, word in enumerate(extra):
+        if word in ("--config", "-Z"):
+            found += [word, *extra[number + 1:number + 2]]
+        elif word.startswith(("--config=", "-Z")):
+            found.append(word)
     return found
 
 
-def artifacts_of(said: str) -> dict[str, str]:
-    """The package of each compiled file, by the file's name without its ending, of cargo's messages."""
-    found: dict[str, str] = {}
-    for line in said.splitlines():
-        message = json.loads(line) if line.startswith("{") else {}
-        if message.get("reason") == "compiler-artifact":
-            for file in message["filenames"]:
-                found[os.path.basename(file).rsplit(".", 1)[0]] = message["package_id"]
-    return found
-
-
-def metadata(folder: str, extra: list[str], of: list[str]) -> str:
-    host = next(line.split()[1] for line in command(["rustc", "-vV"], folder).splitlines() if line.startswith("host:"))
-    return command(["cargo", "metadata", "--format-version", "1", "--filter-platform", host] + of + shared_flags(extra), folder)
-
-
-def target_of(data: str) -> str:
+def target_of(data: dict[str, Any]) -> str:
     """Where the documents of a project are, by its metadata."""
-    return os.path.join(json.loads(data)["target_directory"], "from-rustdoc")
+    return os.path.join(data["target_directory"], "from-rustdoc")

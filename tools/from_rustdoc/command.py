@@ -2,23 +2,24 @@
 from __future__ import annotations
 
 import argparse
+import contextlib
 import hashlib
 import json
 import os
 import sqlite3
 import sys
-import time
 from dataclasses import replace
 from typing import TYPE_CHECKING, Any, Callable, Iterator, Optional
 
 from . import cargo
 from .answer import Answerer
+from .baseline import named
 from .build import Translation
 from .html_docs import Pages, json_folder
 from .kept import Damaged, KeptPages, KeptStandard, remove_stores
-from .made_by import current, made_by, own_folders, remember, state_of
 from .messages import NO_ANSWER, Message, Output, Sources, worst
 from .program import binding, run
+from .proved import tool_sum
 from .questions import QuestionReader
 from .terms import BadInput, Lossy
 from .verdicts import Checked, answer_message, check_verdicts, say_answer, say_checks
@@ -29,7 +30,7 @@ if TYPE_CHECKING:
 
 USAGE = """from-rustdoc: a translator of crates to texts for this program, and of its answers back. It is not proved: docs/RUSTDOC.md.
 
-  from-rustdoc PROJECT [-- CARGO'S FLAGS]                runs cargo doc in the folder, and checks the project and what it uses
+  from-rustdoc PROJECT [-- CARGO'S FLAGS]                documents the folder's project and what it uses, and checks each crate
   from-rustdoc read -o BASE CRATE.json ..                writes BASE.upper.txt, BASE.lower.txt, BASE.report and BASE.map
   from-rustdoc check BASE                                is each crate coherent?
   from-rustdoc ask BASE 'smallvec::IntoIter<[u8; 4]>: Send' ..
@@ -39,7 +40,8 @@ USAGE = """from-rustdoc: a translator of crates to texts for this program, and o
   from-rustdoc std -o FILE                               the part of std that people name, as a text to stand in front of others
 
 ask: --expect yes|no (another answer is status 1), --why (the proof too, where there is one).
-later: --private (private and sealed impls too), -p NAME (this library alone), --with CRATE.json (crates that both files use).
+later: --strict (status 4 if something that changed is not judged), --private (private and sealed impls too), -p NAME (this library alone),
+--no-build-scripts (refuses an older version that runs some, or procedural macros, of its own), --with CRATE.json (crates that both files use).
 All: --message-format human|json, --docs DIR (std's documents), --program FILE and --program-that-explains FILE (default: the proved ones
 that are here), --metadata FILE (what `cargo metadata --format-version 1` printed; read and later), --all-std (read: all of std that is about
 the traits that are named), --jobs N (processes of a project's check), --quiet.
@@ -51,7 +53,7 @@ USAGE_OF_CARGO = """cargo celtisdarts: real crates, judged by Celtisdarts. It do
   cargo celtisdarts ask 'mine::Pool: Send' ..                  does the bound hold, and why not?
   cargo celtisdarts check                                      is each crate coherent?
 
---manifest-path FILE names another project; behind `--` stand flags for cargo doc."""
+--manifest-path FILE names another project; behind `--` stand flags for cargo."""
 
 
 def new_world(docs: Optional[str]) -> World:
@@ -66,9 +68,9 @@ def new_world(docs: Optional[str]) -> World:
     return World(pages, KeptStandard(pages))
 
 
-def world_of(files: list[str], docs: Optional[str], links: Optional[cargo.Links]) -> World:
+def world_of(files: list[str], docs: Optional[str], links: Optional[cargo.Links], is_given_what_it_uses: bool = False) -> World:
     world = new_world(docs)
-    world.load(files, links)
+    world.load(files, links, is_given_what_it_uses)
     keep(world)
     return world
 
@@ -100,7 +102,7 @@ def read(arguments: argparse.Namespace) -> int:
     links = links_of(arguments.metadata)
     world = world_of(arguments.json, arguments.docs, links)
     inputs = inputs_of(world, arguments.json, links)
-    write_map(arguments.output, {"inputs": inputs})
+    write_map(arguments.output, {"inputs": inputs, "documents": cargo.states(arguments.json)})
     warn(world)
     translation = translated(world, arguments)
     report = Report(translation)
@@ -135,6 +137,9 @@ def world_again(known: dict[str, Any], arguments: argparse.Namespace) -> World:
 
 def warn(world: World) -> None:
     """Told once, where the crates are read."""
+    for name in world.doubled:
+        print(f"from-rustdoc: warning: more than one version of {name} is used, and one is given: what others use of it is taken as unknown. "
+              "(Of a project, each version is read.)", file=sys.stderr, flush=True)
     for name, places in world.doc_cfgs.items():
         print(f"from-rustdoc: warning: rustdoc sets `cfg(doc)`, on which items of {name} depend ({', '.join(places)}): what rests on them may be "
               "there for rustdoc alone, or be hidden from it", file=sys.stderr, flush=True)
@@ -151,16 +156,25 @@ def write_all(base: str, report: Report, texts: dict[str, str], inputs: dict[str
     for ending, text in files.items():
         with open(base + ending, "w", encoding="utf-8") as handle:
             handle.write(text)
-    write_map(base, report.map(inputs, texts))
+    write_map(base, {**report.map(inputs, texts), "documents": cargo.states(inputs["json"])})
+
+
+def map_of(base: str) -> dict[str, Any]:
+    with open(base + ".map", encoding="utf-8") as handle:
+        found: dict[str, Any] = json.load(handle)
+        return found
 
 
 def kept(base: str) -> dict[str, Any]:
+    """The map of crates that were read, whose documents have to be those that it is of."""
     try:
-        with open(base + ".map", encoding="utf-8") as handle:
-            found: dict[str, Any] = json.load(handle)
-            return found
+        found = map_of(base)
+        is_same = "documents" not in found or found["documents"] == cargo.states(found["inputs"]["json"])
     except (OSError, ValueError) as error:
         raise BadInput(f"{base}.map cannot be read; make it by `from-rustdoc read -o {base} CRATE.json ..`: {error}")
+    if not is_same:
+        raise BadInput(f"the documents that {base}.map names were made again since: read the crates again")
+    return found
 
 
 def check(arguments: argparse.Namespace) -> int:
@@ -213,48 +227,41 @@ def answered(inputs: dict[str, Any], world: World, arguments: argparse.Namespace
 
 
 def ask_project(arguments: argparse.Namespace, extra: list[str]) -> int:
-    """Questions on a project, which is documented first where its documents are of older sources."""
-    found = current(arguments.project, extra)
-    if found is not None:
-        known = found[1]
-        return answered(known["inputs"], world_again(known, arguments), arguments)
+    """Questions on a project, of which cargo documents first what has changed."""
     _, inputs, world = documents(arguments.project, extra, arguments)
     return answered(inputs, world, arguments)
 
 
 def documents(folder: str, extra: list[str], arguments: argparse.Namespace) -> tuple[str, dict[str, Any], World]:
     """Documents a project, and writes the map, which is all that questions need: the base of its files, and what was read."""
-    docs = cargo.docs_folder(arguments.docs, folder)
-    cargo.has_manifest(folder)
-    data = cargo.metadata(folder, extra, [])
-    own = own_folders(data)
-    state, began = state_of(folder, own), time.time()
     found = cargo.document(folder, extra, arguments.quiet)
-    for name in sorted(set(found.doubled)):
-        print(f"from-rustdoc: {name} is there twice with one version, and the documents of one are read", file=sys.stderr)
     crates = found.closure(found.members)
     if not crates:
         raise BadInput(f"{folder} has no library that is documented: a project of programs or procedural macros alone has nothing to read")
-    files = [found.files[c] for c in crates]
-    world = world_of(files, docs, found.links)
-    base = os.path.join(found.folder, crates[0])
+    base, files = os.path.join(found.folder, crates[0]), [found.files[c] for c in crates]
+    known = {"documents": cargo.states(files), "made_by": made_by(found, files, arguments.docs)}
+    with contextlib.suppress(OSError, ValueError):
+        before = map_of(base)
+        if {name: before.get(name) for name in known} == known:
+            return base, before["inputs"], world_again(before, arguments)
+    cargo.add_cfgs(found, folder)
+    world = world_of(files, cargo.docs_folder(arguments.docs, folder), found.links)
     inputs = inputs_of(world, files, found.links)
-    write_map(base, {"inputs": inputs, "made_by": made_by(folder, extra, data)})
-    # (So that what is edited while cargo works is newer.)
-    os.utime(base + ".map", (began, began))
-    remember(folder, extra, own, state, base + ".map")
+    if cargo.states(files) != known["documents"]:
+        raise BadInput(f"{folder} was documented again while it was read: ask again")
+    write_map(base, {"inputs": inputs, **known})
     warn(world)
     return base, inputs, world
 
 
+def made_by(found: cargo.Project, files: list[str], docs: Optional[str]) -> str:
+    """A sum of what a map is made by besides its documents."""
+    return hashlib.sha256(json.dumps([found.links.kept(), files, docs, tool_sum()]).encode()).hexdigest()
+
+
 def project(folder: str, extra: list[str], arguments: argparse.Namespace) -> int:
-    """Checks a project, which is documented first where its documents are of older sources."""
-    found = current(folder, extra)
-    if found is not None:
-        base, inputs, world = found[0], found[1]["inputs"], world_again(found[1], arguments)
-        warn(world)
-    else:
-        base, inputs, world = documents(folder, extra, arguments)
+    """Checks a project, of which cargo documents first what has changed."""
+    base, inputs, world = documents(folder, extra, arguments)
     output_of(arguments, inputs).line(f"what `from-rustdoc ask {base} ..` needs is written: {base}.map")
     return check_project(base, inputs, world, arguments)
 
@@ -303,36 +310,40 @@ def check_shared(name: str) -> Judged:
 
 # ---- words
 def parser(prog: str = "from-rustdoc") -> argparse.ArgumentParser:
-    common = argparse.ArgumentParser(add_help=False)
+    # (A flag that is cut short is none: another one would be taken for it one day.)
+    common = argparse.ArgumentParser(add_help=False, allow_abbrev=False)
     common.add_argument("--docs")
     common.add_argument("--program")
     common.add_argument("--program-that-explains")
     common.add_argument("--quiet", action="store_true")
     common.add_argument("--message-format", choices=("human", "json"), default="human")
     common.add_argument("--jobs", type=int, default=os.cpu_count() or 1)
-    top = argparse.ArgumentParser(prog=prog, usage=USAGE, add_help=True)
+    top = argparse.ArgumentParser(prog=prog, usage=USAGE, add_help=True, allow_abbrev=False)
     commands = top.add_subparsers(dest="command", required=True)
-    one = commands.add_parser("read", parents=[common], usage=USAGE)
+    one = commands.add_parser("read", parents=[common], usage=USAGE, allow_abbrev=False)
     one.add_argument("json", nargs="+")
     one.add_argument("-o", dest="output", required=True)
     one.add_argument("--metadata")
     one.add_argument("--all-std", action="store_true")
-    commands.add_parser("std", parents=[common], usage=USAGE).add_argument("-o", dest="output", required=True)
-    two = commands.add_parser("check", parents=[common], usage=USAGE)
+    commands.add_parser("std", parents=[common], usage=USAGE, allow_abbrev=False).add_argument("-o", dest="output", required=True)
+    two = commands.add_parser("check", parents=[common], usage=USAGE, allow_abbrev=False)
     two.add_argument("base")
-    three = commands.add_parser("ask", parents=[common], usage=USAGE)
+    three = commands.add_parser("ask", parents=[common], usage=USAGE, allow_abbrev=False)
     three.add_argument("--project")
     three.add_argument("--expect", choices=("yes", "no"))
     three.add_argument("--why", action="store_true")
     three.add_argument("words", nargs="+")
-    four = commands.add_parser("later", parents=[common], usage=USAGE)
+    four = commands.add_parser("later", parents=[common], usage=USAGE, allow_abbrev=False)
     four.add_argument("--private", action="store_true")
+    four.add_argument("--strict", action="store_true")
     four.add_argument("--with", dest="with_crates", action="append", default=[])
     four.add_argument("--metadata")
-    four.add_argument("--baseline")
+    four.add_argument("--baseline", type=named)
+    four.add_argument("--no-build-scripts", action="store_true")
+    four.set_defaults(of_project=False)
     four.add_argument("-p", "--package", action="append", default=[])
     four.add_argument("files", nargs="*")
-    five = commands.add_parser("project", parents=[common], usage=USAGE)
+    five = commands.add_parser("project", parents=[common], usage=USAGE, allow_abbrev=False)
     five.add_argument("folder")
     return top
 
@@ -368,7 +379,7 @@ def main_of_cargo(words: list[str]) -> int:
     """`cargo celtisdarts check|ask|later`, in the project that stands here or that `--manifest-path` names."""
     words, extra = divided(words[1:] if words[:1] == ["celtisdarts"] else words)
     # (`--flag=value` as `--flag value`.)
-    words = [part for word in words for part in (word.split("=", 1) if word.startswith(("--manifest-path=", "--baseline=")) else [word])]
+    words = [part for word in words for part in (word.split("=", 1) if word.startswith("--manifest-path=") else [word])]
     folder = "."
     if "--manifest-path" in words[:-1]:
         at = words.index("--manifest-path")
@@ -377,22 +388,16 @@ def main_of_cargo(words: list[str]) -> int:
     if not words or words[0] not in ("check", "ask", "later"):
         print(USAGE_OF_CARGO, file=sys.stderr if words[:1] != ["--help"] else sys.stdout)
         return 0 if words[:1] == ["--help"] else 2
-    return guarded("cargo celtisdarts", lambda: run_command(parser("cargo celtisdarts").parse_args(words_of_cargo(words, folder)), extra))
+    return guarded("cargo celtisdarts", lambda: run_in_project(words, folder, extra))
 
 
-def words_of_cargo(words: list[str], folder: str) -> list[str]:
-    """The words of this command for those behind `cargo celtisdarts`."""
-    if words[0] == "check":
-        return ["project", folder, *words[1:]]
-    if words[0] == "ask":
-        return ["ask", "--project", folder, *words[1:]]
-    if "--baseline" in words:
-        return [*words, folder]
-    from .baseline import latest_tag
-    tag = latest_tag(folder)
-    if tag and "--quiet" not in words:
-        print(f"cargo celtisdarts: the older version is {tag}", file=sys.stderr)
-    return [*words, "--baseline", tag, folder]
+def run_in_project(words: list[str], folder: str, extra: list[str]) -> int:
+    """The command for the words behind `cargo celtisdarts`."""
+    before = {"check": ["project", folder], "ask": ["ask", "--project", folder], "later": ["later"]}[words[0]]
+    arguments = parser("cargo celtisdarts").parse_args([*before, *words[1:]])
+    if arguments.command == "later":
+        arguments.of_project, arguments.files = True, [folder, *arguments.files]
+    return run_command(arguments, extra)
 
 
 def guarded(name: str, run_it: Callable[[], int]) -> int:

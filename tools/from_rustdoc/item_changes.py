@@ -5,7 +5,8 @@ told where nothing is lost.
 """
 from __future__ import annotations
 
-from typing import Iterator, Optional
+from collections import Counter
+from typing import Callable, Iterator, Optional
 
 from .claims import Claim
 from .html_docs import is_std_key
@@ -22,15 +23,24 @@ ITSELF = "Self_"
 SIZED = "core/marker/trait.Sized.html"
 MAXIMAL_DEPTH = 8
 # What rustc says of a crate that a change breaks.
-RUSTC = {"item-removed": "E0425 or E0432", "alias-removed": "E0425 or E0432", "kind-changed": "E0404, E0423 or E0782", "alias-retargeted": "E0277 or E0308",
+RUSTC = {"item-removed": "E0425 or E0432", "alias-removed": "E0425 or E0432", "kind-changed": "E0404, E0423, E0530, E0532 or E0782", "alias-retargeted": "E0277 or E0308",
          "parameter-added": "E0107", "parameter-removed": "E0107", "parameter-kind-changed": "E0308 or E0747", "default-removed": "E0107",
-         "default-changed": "E0308", "lifetime-added": "E0106", "lifetime-removed": "E0107", "bound-added": "E0271 or E0277",
-         "lifetime-bound-added": "E0310 or E0477", "supertrait-added": "E0271 or E0277", "supertrait-removed": "E0277, E0308 or E0599",
+         "default-changed": "E0308", "lifetime-added": "E0106", "lifetime-removed": "E0107", "bound-added": "E0271, E0277, E0308 or E0599",
+         "lifetime-bound-added": "E0310, E0477, E0521 or E0597", "supertrait-added": "E0271 or E0277", "supertrait-removed": "E0277, E0308 or E0599",
          "associated-type-added": "E0046 or E0191", "associated-type-removed": "E0220", "associated-type-bound-added": "E0277",
          "associated-type-bound-removed": "E0277, E0308 or E0599", "associated-type-changed": "E0107 or E0049", "required-item-added": "E0046",
          "trait-item-removed": "E0407 or E0599", "trait-made-unsafe": "E0200", "trait-made-safe": "E0199", "trait-made-auto": "E0119",
          "dyn-lost": "E0038 or E0393", "impl-added": "E0119", "impl-removed": "E0277 or E0599", "impl-bounds-changed": "E0277, E0308 or E0599",
-         "associated-value-changed": "E0271 or E0308", "auto-trait-lost": "E0277"}
+         "associated-value-changed": "E0271 or E0308", "auto-trait-lost": "E0277",
+         "function-removed": "E0425 or E0432", "constant-removed": "E0425 or E0432", "static-removed": "E0425 or E0432", "macro-removed": "E0432 or E0433",
+         "module-removed": "E0432 or E0433", "method-removed": "E0599 or E0624", "associated-constant-removed": "E0599 or E0624", "field-removed": "E0026, E0560 or E0609",
+         "field-made-private": "E0451 or E0616", "field-added": "E0023, E0027, E0061, E0063, E0423, E0451 or E0532", "field-type-changed": "E0308",
+         "form-changed": "E0308, E0423, E0532, E0533 or E0618", "non-exhaustive-added": "E0004, E0603, E0638 or E0639", "variant-removed": "E0599",
+         "variant-added": "E0004", "discriminant-changed": "E0308", "repr-changed": "E0793", "constant-type-changed": "E0308",
+         "associated-constant-type-changed": "E0308 or E0326", "static-type-changed": "E0308", "static-made-mutable": "E0133 or E0594",
+         "signature-changed": "E0049, E0050, E0053, E0061, E0107, E0185, E0186, E0276, E0277, E0282, E0283, E0308, E0507 or E0599",
+         "const-lost": "E0015 or E0658", "function-made-unsafe": "E0053 or E0133", "result-bound-removed": "E0277, E0308 or E0599",
+         "drop-added": "E0493, E0505, E0509, E0597 or E0716"}
 
 
 def change(code: str, text: str, new: list[Span], old: Optional[list[Span]] = None, word: str = "breaking") -> Message:
@@ -46,28 +56,40 @@ def is_unsized(generics: Generics, name: str) -> bool:
 
 
 class ItemChanges:
-    """`messages` are told as they are; `claims` are to be asked in the new version. `troubled` are items, by their old keys, whose impls
-    cannot be compared: they are gone, or take other arguments."""
+    """`messages` are told as they are; `claims` are to be asked in the new version; `not_judged` counts what is neither. `troubled` are items, by their old keys, whose impls
+    cannot be compared: they are gone, or take other arguments. `is_same` says whether all sources are the same."""
 
-    def __init__(self, versions: Versions) -> None:
+    def __init__(self, versions: Versions, is_same: Callable[[], bool] = lambda: False) -> None:
         self.versions = versions
+        self.is_same = is_same
         self.messages: list[Message] = []
         self.claims: list[Claim] = []
         self.troubled: dict[str, Message] = {}
         self.new_items: list[Message] = []
+        self.unjudged: list[Message] = []
+        self.not_judged: Counter[str] = Counter()
 
     def run(self) -> None:
         self.removed_paths()
         for old_key, new_key in self.versions.newer.items():
             before, after = self.versions.before.items.get(old_key), self.versions.after.items.get(new_key)
             if before is not None and after is not None:
-                self.item(before, after)
+                if old_key not in self.versions.before.reached:
+                    self.item(before, after)
+                elif [p.kind for p in before.params] != [p.kind for p in after.params] or before.is_type != after.is_type:
+                    self.count("type without a path", after.shown(), "has other parameters", after.place)
+                    self.troubled[old_key] = self.unjudged[-1]
         self.aliased()
         self.find_new()
 
     def tell(self, code: str, text: str, new: list[Span], old: Optional[list[Span]] = None, word: str = "breaking") -> Message:
         self.messages.append(change(code, text, new, old, word))
         return self.messages[-1]
+
+    def count(self, kind: str, what: str, why: str, place: Optional[Place] = None) -> None:
+        """What changed and has no class, by kind."""
+        self.not_judged[kind] += 1
+        self.unjudged.append(Message(f"{what}: {why}", "not-judged", "not judged", spans=at(place)))
 
     # ---- paths
     def removed_paths(self) -> None:

@@ -6,13 +6,11 @@ class is loaded from them.
 """
 from __future__ import annotations
 
-import functools
 import hashlib
 import io
 import os
 import pickle
 import sqlite3
-import sys
 import time
 import zlib
 from collections.abc import Mapping, Sequence
@@ -21,12 +19,10 @@ from typing import Any, Iterator, Optional
 
 from . import proved, terms
 from .html_docs import CRATES, Pages
-from .proved import SETTLED, cache_folder
-from .rustdoc_json import ItemName, JsonCrate
+from .proved import SETTLED, cache_folder, tool_sum
+from .rustdoc_json import ItemName, JsonCrate, external_name, too_deep
 from .standard import Header, Standard
 from .terms import ANY_HEAD, Declaration, Impl, Named, Type, head_of
-
-HERE = os.path.dirname(os.path.abspath(__file__))
 
 
 class Damaged(Exception):
@@ -55,17 +51,6 @@ def unpacked(data: bytes) -> Any:
 # ---- where it is kept, and of what
 def folder() -> str:
     return os.path.join(cache_folder(), "from-rustdoc")
-
-
-@functools.lru_cache(maxsize=None)
-def tool_sum() -> str:
-    """The sum of this tool's own sources, and of Python's version."""
-    total = hashlib.sha256(sys.version.encode())
-    for name in sorted(os.listdir(HERE)):
-        if name.endswith(".py"):
-            with open(os.path.join(HERE, name), "rb") as handle:
-                total.update(name.encode() + handle.read())
-    return total.hexdigest()
 
 
 def docs_sum(pages: Pages) -> str:
@@ -154,6 +139,7 @@ class KeptCrate:
         self.items = [ItemName(*entry) for entry in data["items"]]
         self.std_version: str = data["std_version"]
         self.sources: list[str] = data["sources"]
+        self.externals: list[tuple[str, str]] = data["externals"]
 
 
 def data_of(crate: JsonCrate) -> dict[str, Any]:
@@ -161,7 +147,7 @@ def data_of(crate: JsonCrate) -> dict[str, Any]:
             "declarations": {k: packed(replace(d, item={})) for k, d in crate.declarations.items()},
             "aliases": {k: packed(d) for k, d in crate.aliases.items()}, "impls": [packed(i) for i in crate.impls],
             "heads": crate.heads, "items": [(i.key, i.name, i.public_path) for i in crate.items], "std_version": crate.std_version,
-            "sources": crate.sources}
+            "sources": crate.sources, "externals": crate.externals}
 
 
 class Keeper:
@@ -171,22 +157,33 @@ class Keeper:
         self.of_tool = hashlib.sha256((tool_sum() + docs_sum(pages)).encode()).hexdigest()
         self.store = Store(os.path.join(folder(), f"std-{self.of_tool[:16]}.sqlite"), self.of_tool)
 
-    def crate(self, file: str, pages: Pages, own: str, artifacts: dict[str, str]) -> KeptCrate:
+    def crate(self, file: str, pages: Pages, own: str, artifacts: Optional[dict[str, str]]) -> KeptCrate:
         try:
             total = self.store.sum_of(file)
         except OSError as error:
             raise terms.BadInput(f"{file}: cannot be read as JSON: {error}")
-        # Keys of std's items stand in what is kept of a crate, so it goes with the very store that gave them out.
-        name = hashlib.sha256(repr((total, self.of_tool, self.store.made, own, sorted(artifacts.items()))).encode()).hexdigest()
+        read: Optional[JsonCrate] = None
+        externals = self.store.get("externals", total)
+        if externals is None:
+            read = JsonCrate(file, pages, own, artifacts)
+            externals = read.externals
+            self.store.put("externals", total, externals)
+        # What it says of other crates goes by their names. Keys of std's items stand in what is kept of a crate, so it goes with the very store that
+        # gave them out.
+        named = [external_name(name, stem, artifacts) for name, stem in externals]
+        name = hashlib.sha256(repr((total, self.of_tool, self.store.made, own, named)).encode()).hexdigest()
         path = os.path.join(folder(), "crates", name)
         try:
             with open(path, "rb") as handle:
                 return KeptCrate(file, unpacked(handle.read()))
         except (OSError, Damaged, pickle.UnpicklingError, EOFError):
             pass
-        crate = JsonCrate(file, pages, own, artifacts)
+        crate = read or JsonCrate(file, pages, own, artifacts)
         crate.load()
-        data = data_of(crate)
+        try:
+            data = data_of(crate)
+        except RecursionError:
+            raise too_deep(file)
         self.store.flush()
         try:
             written(path, packed(data))

@@ -7,6 +7,7 @@ import hashlib
 import json
 import os
 import subprocess
+import sys
 import time
 from typing import Any, Iterator, Optional
 
@@ -78,6 +79,18 @@ def proved_program(name: str = "celtisdarts") -> Optional[str]:
     if now is not None:
         keep(file, {"state": now, "path": path})
     return path
+
+
+@functools.lru_cache(maxsize=None)
+def tool_sum() -> str:
+    """The sum of this tool's own sources, and of Python's version."""
+    here = os.path.dirname(os.path.abspath(__file__))
+    total = hashlib.sha256(sys.version.encode())
+    for name in sorted(os.listdir(here)):
+        if name.endswith(".py"):
+            with open(os.path.join(here, name), "rb") as handle:
+                total.update(name.encode() + handle.read())
+    return total.hexdigest()
 
 
 def known(file: str, state: Optional[str]) -> Optional[str]:

@@ -36,9 +36,21 @@ def stem_of(crate: dict[str, Any]) -> str:
     return os.path.basename(crate.get("path") or "").rsplit(".", 1)[0]
 
 
+def external_name(name: str, stem: str, artifacts: Optional[dict[str, str]]) -> str:
+    """The name of an external crate. One that is not read never goes by the name of one that is."""
+    if not artifacts or name in STD_CRATES:
+        return name
+    is_another = any(known.partition("@")[0] == name for known in artifacts.values())
+    return artifacts.get(stem, f"{name}@{stem}" if is_another else name)
+
+
+def too_deep(file: str) -> BadInput:
+    return BadInput(f"{file}: something in it is nested too deep to be read")
+
+
 class JsonCrate:
-    """One crate's JSON. `load` fills `declarations` and `impls`. The crate may go by another name than its own, and of those that it names
-    `artifacts` has the names by their compiled files, where these are not their own."""
+    """One crate's JSON. `load` fills `declarations` and `impls`. The crate may go by another name than its own. `artifacts` has the names of all
+    crates that are read, by their compiled files; without it a crate that is named is the one with that name."""
     needs_private = True
 
     def __init__(self, file: str, pages: Pages, name: str = "", artifacts: Optional[dict[str, str]] = None) -> None:
@@ -49,13 +61,15 @@ class JsonCrate:
                 self.json = agreed(json.load(handle), file)
         except (OSError, ValueError) as error:
             raise BadInput(f"{file}: cannot be read as JSON: {error}")
+        except RecursionError:
+            raise too_deep(file)
         if self.needs_private and not self.json.get("includes_private"):
             raise BadInput(f"{file}: has no private items; make it with `--document-private-items --document-hidden-items`")
         self.index: dict[str, Any] = self.json["index"]
         self.name: str = name or self.index[str(self.json["root"])]["name"]
         self.version: str = self.json.get("crate_version") or ""
         self.first_column = first_column(self.json)
-        self.external = {int(number): (artifacts or {}).get(stem_of(crate), crate["name"]) for number, crate in self.json["external_crates"].items()}
+        self.external = {int(number): external_name(crate["name"], stem_of(crate), artifacts) for number, crate in self.json["external_crates"].items()}
         self.keys: dict[int, Optional[str]] = {}
         self.declarations: dict[str, Declaration] = {}
         self.aliases: dict[str, Declaration] = {}
@@ -63,6 +77,11 @@ class JsonCrate:
         self.names_crates: dict[str, None] = {}
 
     # ---- of all items at once, as `kept.KeptCrate` has it too
+    @property
+    def externals(self) -> list[tuple[str, str]]:
+        """The crates that it names, each with the name of its compiled file."""
+        return [(crate["name"], stem_of(crate)) for crate in self.json["external_crates"].values()]
+
     @property
     def heads(self) -> list[tuple[str, str]]:
         """The trait and the head of each impl."""
@@ -135,6 +154,12 @@ class JsonCrate:
 
     # ---- the whole crate
     def load(self) -> None:
+        try:
+            self.load_items()
+        except RecursionError:
+            raise too_deep(self.file)
+
+    def load_items(self) -> None:
         for item in self.index.values():
             kind, _ = kind_and_body(item)
             if item["crate_id"] != 0 or kind not in ITEMS:
@@ -165,6 +190,11 @@ class JsonCrate:
     def is_read(self, body: dict[str, Any]) -> bool:
         """Impls of traits as they are written: neither the computed ones of auto traits, nor instances of blanket impls."""
         return body["trait"] is not None and not body["is_synthetic"] and body["blanket_impl"] is None
+
+    def impl_bodies(self) -> list[dict[str, Any]]:
+        """What the JSON says of each of `impls`."""
+        bodies = [kind_and_body(item) for item in self.index.values() if item["crate_id"] == 0]
+        return [body for kind, body in bodies if kind == "impl" and self.is_read(body)]
 
     def read_declaration(self, declaration: Declaration) -> None:
         kind, body = kind_and_body(declaration.item)

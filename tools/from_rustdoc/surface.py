@@ -4,8 +4,9 @@ from __future__ import annotations
 from dataclasses import dataclass, field
 from typing import Any, Optional
 
-from .rustdoc_json import ITEMS, STD_CRATES, JsonCrate, kind_and_body
-from .terms import BadInput, Bound, Constant, Named, Param, Parameter, Place, Predicate, Type, put
+from .members import INSIDE, VALUES, Member, Members, inherent_impls, members_of, signature_of
+from .rustdoc_json import ITEMS, STD_CRATES, JsonCrate, kind_and_body, stem_of
+from .terms import BadInput, Bound, Constant, Named, Param, Parameter, Place, Predicate, Type, keys_of, put
 from .world import World
 
 KINDS = {**{kind: kind for kind in ITEMS}, "type_alias": "alias"}
@@ -36,7 +37,7 @@ class Associated(Generics):
 class Item(Generics):
     """`target` is what an alias stands for. `required` and `provided` are the methods and constants of a trait. `is_open` says of a struct,
     enum or union that others can name its form: a variant, a public field, or that it has none; `is_made_by_name` that its name is also a
-    value, or has variants, which an alias of it has not."""
+    value, or has variants, which an alias of it has not. `read` is what the JSON says of it."""
     kind: str = ""
     key: str = ""
     name: str = ""
@@ -53,6 +54,9 @@ class Item(Generics):
     is_open: bool = False
     is_made_by_name: bool = False
     target: Optional[Type] = None
+    crate: Optional[JsonCrate] = field(default=None, repr=False)
+    read: dict[str, Any] = field(default_factory=dict, repr=False)
+    members: Members = field(default_factory=dict, repr=False)
 
     @property
     def is_type(self) -> bool:
@@ -68,18 +72,24 @@ class Item(Generics):
         return None
 
     def shown(self) -> str:
-        return f"{'type' if self.kind == 'alias' else self.kind} {self.paths[0] if self.paths else self.name}"
+        return f"{'type' if self.kind == 'alias' else self.kind} {self.paths[0] if self.paths else self.key}"
 
 
 @dataclass
 class Surface:
     """`by_path` has the key of what each public path names; `items` those that are read; `behind` the types that aliases are other names
-    of; `closed` are the globs of crates that were not given."""
+    of; `closed` are the globs of crates that were not given. `values` are the public items that are no types or traits, by kind and path, and
+    `reached` the types without a path that others can have all the same, by what is public. `walked` are the crates that were read for it,
+    and `outside` the compiled files of those that are named."""
     items: dict[str, Item] = field(default_factory=dict)
     by_path: dict[str, str] = field(default_factory=dict)
     kinds: dict[str, str] = field(default_factory=dict)
     behind: dict[str, str] = field(default_factory=dict)
     closed: set[str] = field(default_factory=set)
+    values: dict[tuple[str, str], Member] = field(default_factory=dict)
+    reached: dict[str, Item] = field(default_factory=dict)
+    walked: list[JsonCrate] = field(default_factory=list)
+    outside: dict[str, str] = field(default_factory=dict)
 
 
 class SurfaceReader:
@@ -92,6 +102,8 @@ class SurfaceReader:
         self.numbers: dict[str, tuple[JsonCrate, int]] = {}
         self.seen: set[tuple[str, int, tuple[str, ...]]] = set()
         self.by_glob: dict[str, tuple[str, str]] = {}
+        self.globs: dict[tuple[str, str], Member] = {}
+        self.inherent: dict[str, dict[str, list[dict[str, Any]]]] = {}
         top = self.crate(crate)
         assert top is not None
         self.module(top, top.json["root"], (crate.split("@")[0],), False, {})
@@ -104,13 +116,17 @@ class SurfaceReader:
             self.behind(top, item)
         for item in self.surface.items.values():
             item.paths.sort(key=lambda path: (path.count("::"), path))
+        self.surface.values = {**self.globs, **self.surface.values}
+        for item in self.surface.items.values():
+            self.find_members(item)
+        self.find_reached()
+        self.surface.outside = {other["name"]: stem_of(other) for other in top.json["external_crates"].values()}
 
     def crate(self, name: str) -> Optional[JsonCrate]:
         if name not in self.crates:
             self.crates[name] = None
             if name in self.world.crates:
-                links = self.world.links
-                read = JsonCrate(self.world.crates[name].file, self.world.pages, name if "@" in name else "", links.artifacts if links else None)
+                read = JsonCrate(self.world.crates[name].file, self.world.pages, name if "@" in name else "", self.world.artifacts)
                 read.load()
                 self.crates[name] = read
         return self.crates[name]
@@ -122,6 +138,8 @@ class SurfaceReader:
         if module is None or (*place, path) in self.seen or len(path) > MAXIMAL_PATH or stack.get(place, 0) > 1:
             return
         self.seen.add((*place, path))
+        if len(path) > 1:
+            self.value(Member("module", path[-1], "::".join(path), crate, module), is_glob)
         inner = {**stack, place: stack.get(place, 0) + 1}
         for child in module["inner"]["module"]["items"]:
             item = crate.item(child)
@@ -134,6 +152,8 @@ class SurfaceReader:
                 self.use(crate, body, path, is_glob, inner)
             elif kind in KINDS:
                 self.add(path + (item["name"],), crate.key(child) or "", KINDS[kind], is_glob, (crate, child))
+            elif kind in VALUES:
+                self.value(Member(VALUES[kind], item["name"], "::".join(path + (item["name"],)), crate, item), is_glob)
 
     def use(self, crate: JsonCrate, body: dict[str, Any], path: tuple[str, ...], is_glob: bool, stack: dict[tuple[str, int], int]) -> None:
         number = body["id"]
@@ -145,6 +165,8 @@ class SurfaceReader:
                 self.module(crate, number, inside, is_glob or body["is_glob"], stack)
             elif kind in KINDS and not body["is_glob"]:
                 self.add(inside, crate.key(number) or "", KINDS[kind], is_glob, (crate, number))
+            elif kind in VALUES:
+                self.value(Member(VALUES[kind], inside[-1], "::".join(inside), crate, target), is_glob)
             return
         found = crate.json["paths"].get(str(number))
         if found is None or found["crate_id"] == 0:
@@ -160,11 +182,18 @@ class SurfaceReader:
         if found["kind"] == "module":
             if other is not None and there is not None:
                 self.module(other, there, inside, is_glob or is_all, stack)
-            elif name not in STD_CRATES:
-                self.surface.closed.add("::".join(found["path"]))
+                return
+            path = "::".join(found["path"])
+            kind, name_of = ("glob re-export", "*") if is_all else ("module", inside[-1])
+            self.value(Member(kind, name_of, "::".join(inside + ((path, "*") if is_all else ())), other=path), is_glob)
+            if name not in STD_CRATES:
+                self.surface.closed.add(path)
         elif found["kind"] in KINDS and not is_all:
             key = self.world.key_of(crate.key(number) or "")
             self.add(inside, key, KINDS[found["kind"]], is_glob, (other, there) if other is not None and there is not None else None)
+        elif found["kind"] in VALUES:
+            item = other.item(there) if other is not None else None
+            self.value(Member(VALUES[found["kind"]], inside[-1], "::".join(inside), other, item or {}, other="::".join(found["path"])), is_glob)
 
     @staticmethod
     def number_of(crate: JsonCrate, path: list[str]) -> Optional[int]:
@@ -185,7 +214,33 @@ class SurfaceReader:
         self.surface.by_path.setdefault(path, key)
         self.surface.kinds.setdefault(key, kind)
 
+    def value(self, member: Member, is_glob: bool) -> None:
+        (self.globs if is_glob else self.surface.values).setdefault((member.kind, member.path), member)
+
     # ---- items
+    def find_members(self, item: Item) -> None:
+        if item.crate is not None and item.kind != "alias":
+            if item.crate.name not in self.inherent:
+                self.inherent[item.crate.name] = inherent_impls(item.crate)
+            item.members = members_of(item.crate, item.read, item.paths[0] if item.paths else item.key, self.inherent[item.crate.name].get(item.key, []))
+
+    def find_reached(self) -> None:
+        """The types of the crates that were walked which stand in what is public, or in what is reached by it."""
+        given = self.surface.walked = [crate for crate in self.crates.values() if crate is not None]
+        todo = [term for member in self.surface.values.values() for term in terms_of(member)]
+        todo += [term for item in self.surface.items.values() for term in terms_of_item(item)]
+        impls = [impl for crate in given for impl in crate.impls]
+        for impl in impls:
+            todo += impl.associated.values()
+        while todo:
+            for key in map(self.world.key_of, keys_of(todo.pop())):
+                crate = next((c for c in given if key in c.declarations), None)
+                if crate is None or key in self.surface.kinds or key in self.surface.reached or crate.declarations[key].is_trait:
+                    continue
+                item = self.surface.reached[key] = self.surface.items[key] = read_item(crate, crate.declarations[key].item, key)
+                self.find_members(item)
+                todo += terms_of_item(item)
+
     def behind(self, crate: JsonCrate, alias: Item) -> None:
         """What an alias is another name of goes by its path too."""
         key = self.world.key_of(alias.same_as() or "")
@@ -205,9 +260,30 @@ class SurfaceReader:
         return self.surface.items[key]
 
 
+def terms_of(member: Member) -> list[Type]:
+    """The types that stand in what others see of a member."""
+    if member.crate is None or not member.item or not member.is_public:
+        return []
+    kind, body = kind_and_body(member.item)
+    if kind == "function":
+        if "sig" not in body:
+            return []
+        signature = signature_of(member)
+        bounds = [b for found in signature.results.values() for b in found] + [b for _, b in signature.predicates]
+        return [*signature.inputs, signature.output, *(t for b in bounds for t in (*b.arguments, *(v for _, v in b.constraints)))]
+    written = body if kind == "struct_field" else body.get("type") if isinstance(body, dict) else None
+    return [member.crate.type(written, None)] if written is not None else []
+
+
+def terms_of_item(item: Item) -> list[Type]:
+    bounds = [b for found in item.associated.values() for b in found.bounds] + item.supers
+    return [*(term for members in item.members.values() for member in members for term in terms_of(member)), *([item.target] if item.target else []),
+            *(term for b in bounds for term in (*b.arguments, *(v for _, v in b.constraints)))]
+
+
 def read_item(crate: JsonCrate, read: dict[str, Any], key: str) -> Item:
     kind, body = kind_and_body(read)
-    item = Item(kind=KINDS[kind], key=key, name=read["name"], place=crate.place(read), is_hidden=is_hidden(read))
+    item = Item(kind=KINDS[kind], key=key, name=read["name"], place=crate.place(read), is_hidden=is_hidden(read), crate=crate, read=read)
     read_generics(crate, body["generics"], item)
     if kind == "trait":
         read_trait(crate, body, item)

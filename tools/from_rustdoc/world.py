@@ -31,6 +31,16 @@ def crate_name(name: str) -> str:
     return name + "_" if name in RESERVED or name == "core" else name
 
 
+def doubled(crates: list[AnyCrate], given: set[str]) -> list[str]:
+    """The crates that are given of which others name more than one unit: it is not known which one is given."""
+    named: dict[str, set[str]] = {}
+    for crate in crates:
+        for name, stem in crate.externals:
+            if stem and name in given:
+                named.setdefault(name, set()).add(stem)
+    return sorted(name for name, stems in named.items() if len(stems) > 1)
+
+
 class World:
     def __init__(self, pages: Pages, standard: Optional[Standard] = None) -> None:
         self.standard = standard or Standard(pages)
@@ -42,6 +52,8 @@ class World:
         self.uses: dict[str, list[str]] = {}
         self.missing: dict[str, int] = defaultdict(int)
         self.doc_cfgs: dict[str, list[str]] = {}
+        self.doubled: list[str] = []
+        self.artifacts: dict[str, str] = {}
         self.links: Optional[Links] = None
         self.names: dict[str, str] = {}
         self.named: dict[str, str] = {}
@@ -55,14 +67,24 @@ class World:
         self.shape_of_key: dict[str, Shape] = {}
 
     # ---- reading
-    def load(self, files: list[str], links: Optional[Links] = None) -> None:
-        """Reads the crates; `links` says which crates each one uses. Without it they use those that their items name."""
+    def load(self, files: list[str], links: Optional[Links] = None, is_given_what_it_uses: bool = False) -> None:
+        """Reads the crates; `links` says which crates each one uses. Without it they use those that their items name. The first may be said to use the
+        others, whatever unit it was compiled with."""
         self.links = links
         keeper: Optional[Keeper] = getattr(self.pages, "keeper", None)
-        names, artifacts = (links.names, links.artifacts) if links else ({}, {})
-        read: list[AnyCrate] = [keeper.crate(file, self.pages, names.get(file, ""), artifacts) if keeper
-                                else JsonCrate(file, self.pages, names.get(file, ""), artifacts) for file in files]
+        names, self.artifacts = (links.names, links.artifacts) if links else ({}, {})
+
+        def crates() -> list[AnyCrate]:
+            of_file = keeper.crate if keeper else JsonCrate
+            return [of_file(file, self.pages, names.get(file, ""), self.artifacts) for file in files]
+
+        read = crates()
         given = {crate.name for crate in read}
+        self.doubled = [] if self.artifacts else doubled(read[is_given_what_it_uses:], given)
+        if self.doubled:
+            # (By no compiled file: so that neither unit is taken for the other.)
+            self.artifacts = {f"any {name}": name for name in self.doubled}
+            read = crates()
         if len(given) < len(read):
             raise BadInput("two of the files are of crates with one name; give one version of a crate at a time")
         for crate in read:

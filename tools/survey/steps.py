@@ -16,6 +16,7 @@ from typing import Any, Iterator, Optional
 
 from from_rustdoc.cargo import TAKEN, Links, Project
 from from_rustdoc.terms import BadInput
+from from_rustdoc.unit import copied
 
 from . import compare, results, translator
 from .compiler import OPEN, REJECTED, Compiler, Held
@@ -99,8 +100,11 @@ def documented(folder: str, place: Place, log: str) -> tuple[Project, int]:
         shutil.rmtree(kept, ignore_errors=True)
         os.makedirs(kept)
         for name, file in project.files.items():
-            made += not os.path.exists(os.path.join(os.path.dirname(file), TAKEN))
-            project.files[name] = shutil.move(file, os.path.join(kept, f"{name}.json"))
+            is_fresh = name in project.units and project.units[name].is_fresh
+            made += not (is_fresh or os.path.exists(os.path.join(os.path.dirname(file), TAKEN)))
+            # (A document stays where cargo knows it: a folder of builds is shared.)
+            project.files[name] = os.path.join(kept, f"{name}.json")
+            copied(file, project.files[name])
     if place.target is None:
         shutil.rmtree(target, ignore_errors=True)
     return project, made
@@ -111,7 +115,7 @@ def save_project(folder: str, project: Project) -> None:
     links: dict[str, Any] = {**project.links.kept(), "names": {}}
     cfgs = {name: sorted(found) for name, found in project.links.cfgs.items() if found is not None}
     data = {"files": {name: os.path.relpath(file, folder) for name, file in project.files.items()}, "links": links, "cfgs": cfgs,
-            "doubled": project.doubled, "members": project.members}
+            "members": project.members}
     with open(os.path.join(folder, "project.json"), "w", encoding="utf-8") as handle:
         json.dump(data, handle)
 
@@ -126,7 +130,7 @@ def load_project(folder: str) -> Project:
     links = Links(**data["links"])
     links.names = {file: name for name, file in files.items() if "@" in name}
     links.cfgs = {name: frozenset(cfgs) for name, cfgs in data["cfgs"].items()}
-    return Project(links, data["members"], files, data["doubled"])
+    return Project(links, data["members"], files)
 
 
 def own_name(project: Project, package: Package) -> str:

@@ -118,7 +118,9 @@ def joined(parts: Sequence[Said]) -> Said:
 
 # ---- documents, reading, checks
 def document(folder: str, extra: list[str], shared: str) -> Project:
-    return cargo.document(folder, extra, quiet=True, shared=shared)
+    project = cargo.document(folder, extra, quiet=True, shared=shared)
+    cargo.add_cfgs(project, folder)
+    return project
 
 
 def read(files: list[str], links: Links) -> World:

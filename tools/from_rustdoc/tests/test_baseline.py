@@ -86,7 +86,8 @@ class Baseline(unittest.TestCase):
         # It has other sources now, and cargo is asked anew.
         self.write(there, NEW)
         status, out, err = self.later("--baseline", there, ".", "-p", "to-draw")
-        self.assertEqual((status, out), (0, "to_draw 1.0.0 to 1.0.0: compatible (nothing that is looked at has changed)\n"), err)
+        self.assertEqual((status, out.splitlines()[1:]), (0, ["to_draw 1.0.0 to 1.0.0: compatible (nothing public has changed)"]), err)
+        self.assertRegex(out, rf"^comparing to_draw 1\.0\.0 \({there}\) with to_draw 1\.0\.0 \([0-9a-f]{{9}} with changes\)\n")
 
     def test_what_has_moved_into_a_crate_of_its_own_is_the_same(self) -> None:
         older, newer = os.path.join(self.room, "whole"), os.path.join(self.room, "split")
@@ -103,6 +104,16 @@ class Baseline(unittest.TestCase):
         self.assertEqual(status, 1, err)
         self.assertIn("another crate may have `impl core_of_it::Draw for &Mine`", out)
 
+    def test_what_no_document_tells_is_the_same_in_the_same_sources(self) -> None:
+        older, newer = os.path.join(self.room, "waits"), os.path.join(self.room, "waits-too")
+        for folder in (older, newer):
+            self.write(folder, "pub async fn wait() {}\n")
+        status, out, err = self.later("--strict", "--baseline", older, newer)
+        self.assertEqual((status, out.splitlines()[1:]), (0, ["to_draw 1.0.0 to 1.0.0: compatible (nothing public has changed)"]), err)
+        self.write(newer, "pub async fn wait() { let _ = std::rc::Rc::new(1); }\n")
+        status, out, err = self.later("--strict", "--baseline", older, newer)
+        self.assertEqual((status, out.splitlines()[-2:]), (4, ["not judged: 1 hidden type", "to_draw 1.0.0 to 1.0.0: no break found in what was judged"]), err)
+
     def test_what_is_no_version_is_told(self) -> None:
         for words, why in [(["--baseline", "v9"], "v9 is no folder with a Cargo.toml, and no revision of"), (["--baseline", self.room], "has no Cargo.toml"),
                            (["--baseline", "HEAD", "-p", "other"], "the older version has no library other; it has to_draw")]:
@@ -118,9 +129,9 @@ class Baseline(unittest.TestCase):
         self.assertEqual((status, out), (0, "to_draw::S<u8>: to_draw::Draw    yes   (by law)\n"))
         # What is documented is so until a source is newer.
         words = ("cargo", "celtisdarts", "ask", "to_draw::S<u8>: to_draw::Draw")
-        self.assertNotIn("Documenting", self.ended(*words)[2])
+        self.assertNotIn("Checking", self.ended(*words)[2])
         self.write(self.project, NEW)
-        self.assertIn("Documenting", self.ended(*words)[2])
+        self.assertIn("Checking", self.ended(*words)[2])
         manifest = os.path.join(self.project, "Cargo.toml")
         status, out, _ = self.ended("cargo", "celtisdarts", "check", "--manifest-path", manifest, folder=self.room)
         self.assertEqual(status, 0)

@@ -136,6 +136,16 @@ class Errors(Ended):
         self.assertIn("No such file", self.one_line("read", "-o", os.path.join(self.room, "x"), kept("before"), "--metadata", "/nowhere"))
         self.assertIn("it has no format number", self.one_line("read", "-o", os.path.join(self.room, "x"), kept("std")))
 
+    def test_what_is_nested_too_deep_is_bad_input(self) -> None:
+        with open(kept("deep"), encoding="utf-8") as handle:
+            data = json.load(handle)
+        next(item for item in data["index"].values() if "struct_field" in item["inner"])["inner"]["struct_field"] = "HERE"
+        for number, deep in enumerate(('{"slice":' * 9000 + '{"primitive":"u8"}' + "}" * 9000, "[" * 100_000 + "]" * 100_000)):
+            file = os.path.join(self.room, f"deep{number}.json")
+            with open(file, "w", encoding="utf-8") as handle:
+                handle.write(json.dumps(data).replace('"HERE"', deep))
+            self.assertEqual(self.one_line("later", file, file), f"from-rustdoc: {file}: something in it is nested too deep to be read\n")
+
     def test_words_that_are_not_understood_end_with_status_2(self) -> None:
         for words in (["nothing"], ["later", "--expect", "yes"], ["ask"], ["ask", "x", "y", "--expect", "maybe"]):
             self.assertEqual(self.run_words(*words)[0], 2, words)

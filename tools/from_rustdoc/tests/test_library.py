@@ -14,7 +14,7 @@ from unittest import mock
 
 from .. import library, program, proved
 from ..program import ask, run
-from ..proved import LIBRARY, proved_program
+from ..proved import LIBRARY, TOP, proved_program
 from ..questions import Asker, QuestionReader
 from ..terms import BadInput
 from .common import texts, translation, world
@@ -162,6 +162,13 @@ class Found(Room):
     def test_a_folder_that_cannot_be_written_is_none_that_keeps(self) -> None:
         with mock.patch.dict(os.environ, {"XDG_CACHE_HOME": self.source}):
             self.assertEqual([self.find(), self.find()], ["/program/celtisdarts/1", "/program/celtisdarts/2"])
+
+
+@unittest.skipUnless(shutil.which("git") and os.path.exists(os.path.join(TOP, ".git")), "this is no repository of git")
+class Made(unittest.TestCase):
+    def test_what_the_binding_makes_beside_itself_is_none_of_the_repositorys(self) -> None:
+        for name in ("libceltisdarts.so", "__pycache__/x.pyc"):
+            self.assertEqual(subprocess.run(["git", "check-ignore", "-q", os.path.join("bindings", "python", name)], cwd=TOP).returncode, 0, name)
 
 
 if __name__ == "__main__":

@@ -8,17 +8,20 @@ import json
 import os
 import shutil
 import subprocess
+import sys
 import tempfile
 import unittest
 from typing import Any
 from unittest import mock
 
-from .. import cargo, command, made_by, proved
-from ..cargo import HERE, Unit, artifacts_of, docs_folder, pinned, read_metadata, settings_sum, shared_flags, sharing
+from .. import command
+from ..cargo import HERE, Project, Unit, align, chosen, configured, docs_folder, is_no_work, pinned, project_of, read_metadata, units_of
 from ..command import main
 from ..doc_cfg import lines
 from ..proved import proved_program
-from ..terms import BadInput
+from ..rustdoc_json import external_name
+from ..terms import BadInput, keys_of
+from ..unit import Depends, add_depends, is_documented, read_depends, words_of_rustdoc
 from ..world import World
 from .common import kept, pages
 
@@ -41,31 +44,101 @@ class Metadata(unittest.TestCase):
         text = metadata([package("a"), package("b-c"), package("m", kind="proc-macro"), package("t")],
                         {"a 1.0.0": [used("b-c"), used("m"), used("t", "dev")]}, ["a 1.0.0"])
         project = read_metadata(text)
-        self.assertEqual((project.uses["a"], project.members, project.doubled), (["b_c"], ["a"], []))
+        self.assertEqual((project.uses["a"], project.members), (["b_c"], ["a"]))
 
-    def test_what_was_not_documented_in_this_run_does_not_count(self) -> None:
-        text = metadata([package("a"), package("b"), package("c")], {"a 1.0.0": [used("b")]}, ["a 1.0.0", "c 1.0.0"])
-        project = read_metadata(text, {"a 1.0.0": Unit("a.json", None), "b 1.0.0": Unit("b.json", None)})
-        self.assertEqual((project.members, project.files), (["a"], {"a": "a.json", "b": "b.json"}))
 
-    def test_two_versions_have_two_names(self) -> None:
-        packages = [package("a"), package("d", "0.1.0"), package("d", "0.2.0"), package("m")]
-        uses = {"a 1.0.0": [used("m"), used("d", None, "0.2.0")], "m 1.0.0": [used("d", None, "0.1.0")]}
-        units = {p["id"]: Unit(p["id"].replace(" ", "-") + ".json", None) for p in packages}
-        project = read_metadata(metadata(packages, uses, ["a 1.0.0"]), units, {"libd-1": "d 0.1.0", "libd-2": "d 0.2.0", "libm-3": "m 1.0.0"})
-        self.assertEqual(project.uses, {"a": ["m", "d@0.2.0"], "d@0.1.0": [], "d@0.2.0": [], "m": ["d@0.1.0"]})
-        self.assertEqual(project.links.names, {"d-0.1.0.json": "d@0.1.0", "d-0.2.0.json": "d@0.2.0"})
-        self.assertEqual(project.links.artifacts, {"libd-1": "d@0.1.0", "libd-2": "d@0.2.0"})
-        self.assertEqual(project.doubled, [])
-        del units["d 0.1.0"]
-        self.assertEqual(read_metadata(metadata(packages, uses, ["a 1.0.0"]), units).uses["a"], ["m", "d"])
+def unit(stem: str, crate: str, *uses: str, package: str = "", version: str = "1.0.0") -> Unit:
+    return Unit(stem, package or f"{crate} {version}", crate, version, f"{stem}.json", uses=list(uses))
 
-    def test_compiled_files_are_known_by_cargos_messages(self) -> None:
-        said = '{"reason": "compiler-artifact", "package_id": "d 1", "filenames": ["/t/deps/libd-77.rmeta"]}\nnoise\n{"reason": "build-finished"}\n'
-        self.assertEqual(artifacts_of(said), {"libd-77": "d 1"})
 
-    def test_features_go_to_metadata_too(self) -> None:
-        self.assertEqual(shared_flags(["--offline", "--no-deps", "--features", "a,b", "-j", "2"]), ["--offline", "--features", "a,b"])
+class Units(unittest.TestCase):
+    def test_what_uses_what_is_told_by_compiled_files(self) -> None:
+        project = project_of([unit("liba-1", "a", "libb-2", "libm-3"), unit("libb-2", "b"), unit("libz-9", "z")], ["a 1.0.0", "c 1.0.0"], "/w")
+        self.assertEqual((project.members, project.files, project.uses), (["a"], {"a": "liba-1.json", "b": "libb-2.json"}, {"a": ["b"], "b": []}))
+        self.assertEqual((project.links.artifacts, project.root), ({"liba-1": "a", "libb-2": "b"}, "/w"))
+
+    def test_units_of_one_crate_have_names_of_their_own(self) -> None:
+        units = [unit("liba-1", "a", "libd-3", "libm-4"), unit("libd-2", "d", version="0.1.0"), unit("libd-3", "d", version="0.2.0"), unit("libm-4", "m", "libd-2")]
+        project = project_of(units, ["a 1.0.0"], "/w")
+        self.assertEqual(project.uses, {"a": ["d@0.2.0", "m"], "d@0.1.0": [], "d@0.2.0": [], "m": ["d@0.1.0"]})
+        self.assertEqual(project.links.names, {"libd-2.json": "d@0.1.0", "libd-3.json": "d@0.2.0"})
+        # One that is not used by a library, as what only procedural macros use, is none of these.
+        self.assertEqual(project_of(units[:1] + units[2:3], ["a 1.0.0"], "/w").uses, {"a": ["d"], "d": []})
+
+    def test_one_version_from_two_places_has_two_names(self) -> None:
+        units = [unit("liba-1", "a", "libd-2", "libd-3"), unit("libd-2", "d", package="one"), unit("libd-3", "d", package="two")]
+        self.assertEqual(project_of(units, ["a 1.0.0"], "/w").uses, {"a": ["d@1.0.0", "d@1.0.0+2"], "d@1.0.0": [], "d@1.0.0+2": []})
+
+    def test_the_workspaces_own_crate_keeps_its_name(self) -> None:
+        units = [unit("libd-1", "d", "libm-2"), unit("libm-2", "m", "libd-3"), unit("libd-3", "d", version="0.2.0")]
+        self.assertEqual(project_of(units, ["d 1.0.0"], "/w").uses, {"d": ["m"], "m": ["d@0.2.0"], "d@0.2.0": []})
+
+    def test_a_member_is_the_unit_that_procedural_macros_do_not_use(self) -> None:
+        units = [unit("libd-1", "d"), unit("libmac-3", "mac", "libd-1"), unit("libd-2", "d")]
+        self.assertEqual(project_of(units, ["d 1.0.0"], "/w").files, {"d": "libd-2.json"})
+
+    def test_of_files_alone_neither_version_is_taken_for_the_other(self) -> None:
+        def user(folder: str, name: str, stem: str) -> str:
+            with open(kept("user"), encoding="utf-8") as handle:
+                data = json.load(handle)
+            data["index"][str(data["root"])]["name"] = name
+            for path in data["paths"].values():
+                path["path"][0] = name if path["crate_id"] == 0 else path["path"][0]
+            next(crate for crate in data["external_crates"].values() if crate["name"] == "ab")["path"] = f"/deps/{stem}.rmeta"
+            with open(os.path.join(folder, name + ".json"), "w", encoding="utf-8") as handle:
+                json.dump(data, handle)
+            return handle.name
+        for second, doubled in (("libab-1", []), ("libab-2", ["ab"])):
+            with tempfile.TemporaryDirectory() as folder:
+                found = World(pages())
+                found.load([kept("ab"), user(folder, "one", "libab-1"), user(folder, "two", second)])
+            self.assertEqual(found.doubled, doubled)
+            keys = {key for crate in found.crates.values() if crate.name != "ab" for d in crate.declarations.values() for t in d.fields for key in keys_of(t)}
+            self.assertEqual(any(key.startswith("other:ab::") for key in keys), not doubled)
+            self.assertEqual(any(key.startswith("other:ab@libab-2::") for key in keys), bool(doubled))
+
+    def test_a_crate_that_is_not_read_is_no_other_version(self) -> None:
+        artifacts = {"libd-1": "d@0.1.0", "libd-2": "d@0.2.0", "libb-3": "b"}
+        self.assertEqual([external_name(name, stem, artifacts) for name, stem in (("d", "libd-2"), ("b", "libb-3"), ("b", "libb-4"), ("c", "libc-5"), ("core", "x"))],
+                         ["d@0.2.0", "b", "b@libb-4", "c", "core"])
+        self.assertEqual(external_name("b", "libb-4", None), "b")
+
+    def test_two_versions_of_a_project_have_the_same_names(self) -> None:
+        def project(*versions: str) -> Project:
+            units = [unit("liba-1", "a", *(f"libd-{v}" for v in versions)), *(unit(f"libd-{v}", "d", version=v) for v in versions)]
+            found = project_of(units, ["a 1.0.0"], "/w")
+            found.units = {name: next(u for u in units if u.file == file) for name, file in found.files.items()}
+            return found
+        for old, new, names_of_old, names_of_new in (
+                (("0.9.1",), ("0.9.4", "1.0.2"), ["d@0.9"], ["d@0.9", "d@1"]), (("1.0.0", "0.0.2"), ("0.0.3", "1.4.0"), ["d@1", "d@0.0.2"], ["d@0.0.3", "d@1"]),
+                (("1.0.0", "1.1.0"), ("1.1.0",), ["d@1.0.0", "d@1.1.0"], ["d@1"]), (("1.0.0",), ("2.0.0",), ["d"], ["d"])):
+            before, after = project(*old), project(*new)
+            align(before, after)
+            for one, names in ((before, names_of_old), (after, names_of_new)):
+                self.assertEqual((one.uses["a"], list(one.uses)[1:], list(one.files)[1:], list(one.units)[1:], list(one.links.artifacts.values())[1:]), (names,) * 5)
+                self.assertEqual(list(one.links.names.values()), [name for name in names if "@" in name])
+
+    def test_what_has_no_document_is_named(self) -> None:
+        def message(package: str, file: str, kind: str = "lib") -> dict[str, Any]:
+            return {"reason": "compiler-artifact", "package_id": package, "target": {"kind": [kind]}, "filenames": [file]}
+        with tempfile.TemporaryDirectory() as folder:
+            os.makedirs(os.path.join(folder, "liba-1"))
+            for name, text in (("unit", json.dumps({"crate": "a", "version": "1", "target": "", "cfgs": ["x"], "uses": ["libb-2"]})), ("a.json", "{}")):
+                with open(os.path.join(folder, "liba-1", name), "w", encoding="utf-8") as handle:
+                    handle.write(text)
+            found, missing = units_of([message("a 1", "/t/liba-1.rmeta"), message("b 1", "/t/libb-2.rmeta"), message("m 1", "/t/libm-3.so", "proc-macro"),
+                                       message("h 1", "/t/libh-4.rlib"), {"reason": "build-finished"}], folder)
+        self.assertEqual((found, missing), ([Unit("liba-1", "a 1", "a", "1", os.path.join(folder, "liba-1", "a.json"), "", ["x"], ["libb-2"])], ["b 1"]))
+
+    def test_only_work_is_told(self) -> None:
+        lines = ("    Finished `dev` profile in 0.0s", "\x1b[1m\x1b[92m    Finished\x1b[0m `dev`", "   Compiling a v1", "error: no")
+        self.assertEqual([is_no_work(line) for line in lines], [True, True, False, False])
+
+    def test_what_is_chosen_goes_to_metadata_too(self) -> None:
+        self.assertEqual(chosen(["--offline", "--no-deps", "--features", "a,b", "-j", "2"]), ["--offline", "--features", "a,b"])
+
+    def test_what_is_configured_goes_to_metadata_too(self) -> None:
+        self.assertEqual(configured(["--offline", "--config", "build.target-dir='x'", "-j", "2", "--config=a", "-Zb"]), ["--config", "build.target-dir='x'", "--config=a", "-Zb"])
 
 
 class Told(unittest.TestCase):
@@ -77,14 +150,6 @@ class Told(unittest.TestCase):
             self.assertIn("rust-toolchain pins the toolchain", pinned(os.path.join(folder, "in")))
             with mock.patch.dict(os.environ, {"RUSTUP_TOOLCHAIN": "stable"}):
                 self.assertEqual(pinned(folder), "")
-
-    def test_a_toolchain_is_known_by_its_version(self) -> None:
-        with tempfile.TemporaryDirectory() as folder, mock.patch.object(cargo, "command", return_value="rustc 1.95.0") as said:
-            before = settings_sum(folder, [])
-            with mock.patch.dict(os.environ, {"RUSTUP_TOOLCHAIN": "stable"}):
-                self.assertEqual(settings_sum(folder, []), before)
-            said.return_value = "rustc 1.96.0"
-            self.assertNotEqual(settings_sum(folder, []), before)
 
     def test_a_folder_without_documents_is_refused_before_anything_is_made(self) -> None:
         with tempfile.TemporaryDirectory() as folder:
@@ -110,160 +175,128 @@ class DocCfg(unittest.TestCase):
         self.assertEqual(list(lines(text, frozenset({'feature="x"'}))), [1, 2, 4, 6, 9, 10])
 
 
+RUSTC = ("--crate-name", "d", "--edition=2021", "src/my lib.rs", "--error-format=json", "--json=artifacts", "--crate-type", "lib", "--emit=dep-info,metadata",
+         "-C", "embed-bitcode=no", "-Cdebuginfo=2", "--cfg", 'feature="x"', "--check-cfg", "cfg(docsrs,test)", "-C", "metadata=5", "-C", "extra-filename=-77",
+         "--out-dir", "/deps", "-C", "incremental=/i", "-L", "dependency=/deps", "--extern", "noprelude:b=/deps/libb-8.rmeta", "-l", "static=z", "-Dwarnings", "-g")
+
+
 class Wrapper(unittest.TestCase):
-    """`rustdoc.sh` with a program in rustdoc's place that writes its words."""
-
-    def called(self, *words: str) -> tuple[list[str], dict[str, str]]:
-        with tempfile.TemporaryDirectory() as folder:
-            tool = os.path.join(folder, "tool")
-            with open(tool, "w", encoding="utf-8") as handle:
-                handle.write('#!/bin/sh\nprintf "%s\\n" "$RUSTC_BOOTSTRAP" "$@"\n')
-            os.chmod(tool, 0o755)
-            environment = {"PATH": os.environ["PATH"], "FROM_RUSTDOC_TOOL": tool, "FROM_RUSTDOC_JSON": os.path.join(folder, "json"),
-                           "FROM_RUSTDOC_FLAGS": "-Z json", "CARGO_MANIFEST_DIR": "/a b"}
-            done = subprocess.run([os.path.join(HERE, "rustdoc.sh"), *words], env=environment, stdout=subprocess.PIPE, text=True, check=True)
-            units = {}
-            for top, _, names in os.walk(os.path.join(folder, "json")):
-                for name in names:
-                    with open(os.path.join(top, name), encoding="utf-8") as handle:
-                        units[os.path.basename(top)] = handle.read()
-            return done.stdout.replace(folder, "").splitlines(), units
-
-    def test_a_library_gets_a_folder_of_its_own(self) -> None:
-        said, units = self.called("--crate-type", "lib", "--crate-name", "d", "src/my lib.rs", "-o", "/doc", "--cfg", 'feature="x"', "--cfg", "has_it",
-                                  "-C", "metadata=77")
-        self.assertEqual(said, ["1", "--crate-type", "lib", "--crate-name", "d", "src/my lib.rs", "-o", "/json/d-77", "--cfg", 'feature="x"', "--cfg", "has_it",
-                                "-C", "metadata=77", "--cap-lints", "allow", "-Z", "json"])
-        self.assertEqual(units, {"d-77": '/a b\nfeature="x"\nhas_it\n'})
-
-    def test_others_are_left_alone(self) -> None:
-        self.assertEqual(self.called("-vV"), (["", "-vV"], {}))
-        self.assertEqual(self.called("--crate-type", "bin", "--crate-name", "d", "-o", "/doc"), ([], {}))
-        self.assertEqual(self.called("--crate-type", "proc-macro", "--crate-name", "d", "-o", "/doc"), ([], {}))
-
-
-class Shared(unittest.TestCase):
-    """`rustdoc.sh` where projects share documents, with a program in rustdoc's place that writes a document of its own number."""
+    """`rustc.sh` and `unit.py` with a program in rustc's and rustdoc's place that writes its words, and a document of its own number."""
 
     def setUp(self) -> None:
         self.room = tempfile.mkdtemp()
         self.addCleanup(shutil.rmtree, self.room)
-        with open(os.path.join(self.room, "tool"), "w", encoding="utf-8") as handle:
-            handle.write('#!/bin/sh\n[ -z "$FAILS" ] || exit 7\nwhile [ "$1" != -o ]; do shift; done\necho x >> "$CALLS"\nwc -l < "$CALLS" > "$2/d.json"\n')
-        os.chmod(os.path.join(self.room, "tool"), 0o755)
+        os.makedirs(os.path.join(self.room, "deps"))
+        os.makedirs(os.path.join(self.room, "shared"))
+        self.tool("rustc", 'echo "rustc $*" >> "$CALLS"\n[ -z "$FAILS" ] || exit 7\nprintf "x: src/lib.rs\\n\\nsrc/lib.rs:\\n" > "$ROOM/deps/d-77.d"\n')
+        self.tool("rustdoc", '[ "$1" != -vV ] || { echo 1.0; exit; }\necho "rustdoc $RUSTC_BOOTSTRAP $*" >> "$CALLS"\n'
+                             'for word; do [ "$before" != -o ] || place=$word; case $word in --emit=*) depends=${word#*=dep-info=};; esac; before=$word; done\n'
+                             'grep -c ^rustdoc "$CALLS" > "$place/d.json"\n'
+                             'printf "y: src/lib.rs seen\\\\\\\\ here.rs\\n\\n# env-dep:READ%s\\n" "${READ:+=$READ}" > "${depends%,*}"\n')
 
-    def called(self, project: str, manifest: str = "/registry/d-1", metadata: str = "77", cfg: str = 'feature="x"', **more: str) -> tuple[str, bool, int]:
-        """The document that a project gets, whether it was taken, and the status."""
-        place = os.path.join(self.room, project, f"d-{metadata}")
-        environment = {"PATH": os.environ["PATH"], "FROM_RUSTDOC_TOOL": os.path.join(self.room, "tool"), "FROM_RUSTDOC_JSON": os.path.join(self.room, project),
-                       "CALLS": os.path.join(self.room, "calls"), "FROM_RUSTDOC_SHARED": os.path.join(self.room, "shared"),
-                       "FROM_RUSTDOC_REGISTRIES": "/other:/registry", "CARGO_MANIFEST_DIR": manifest, **more}
-        words = ["--crate-type", "lib", "--crate-name", "d", "-o", "/doc", "--cfg", cfg, "-C", f"metadata={metadata}"]
-        done = subprocess.run([os.path.join(HERE, "rustdoc.sh"), *words], env=environment, stdout=subprocess.PIPE, stderr=subprocess.PIPE, text=True)
+    def tool(self, name: str, text: str) -> None:
+        with open(os.path.join(self.room, name), "w", encoding="utf-8") as handle:
+            handle.write("#!/bin/sh\n" + text)
+        os.chmod(os.path.join(self.room, name), 0o755)
+
+    def called(self, *words: str, project: str = "json", **more: str) -> tuple[int, list[str]]:
+        """The status, and the calls of both, without the folder."""
+        calls = os.path.join(self.room, "calls")
+        before = len(self.lines(calls))
+        environment = {"PATH": os.environ["PATH"], "FROM_RUSTDOC_TOOL": os.path.join(self.room, "rustdoc"), "FROM_RUSTDOC_JSON": os.path.join(self.room, project),
+                       "FROM_RUSTDOC_FLAGS": "-Z json", "FROM_RUSTDOC_PYTHON": sys.executable, "CARGO_MANIFEST_DIR": "/a b", "CARGO_PKG_VERSION": "0.2.0",
+                       "CALLS": calls, "ROOM": self.room, **more}
+        done = subprocess.run([os.path.join(HERE, "rustc.sh"), os.path.join(self.room, "rustc"), *words], env=environment, stderr=subprocess.PIPE, text=True)
         self.assertEqual(done.stderr, "")
-        with contextlib.suppress(FileNotFoundError), open(os.path.join(place, "d.json"), encoding="utf-8") as handle:
-            return handle.read().strip(), os.path.exists(os.path.join(place, "taken")), done.returncode
-        return "", False, done.returncode
+        return done.returncode, [line.replace(self.room, "") for line in self.lines(calls)[before:]]
+
+    @staticmethod
+    def lines(file: str) -> list[str]:
+        if not os.path.exists(file):
+            return []
+        with open(file, encoding="utf-8") as handle:
+            return handle.read().splitlines()
+
+    def words(self, **more: str) -> tuple[str, ...]:
+        return tuple(more.get(word, word).replace("/deps", os.path.join(self.room, "deps"), 1) if word == "/deps" else more.get(word, word) for word in RUSTC)
+
+    def test_a_library_that_is_checked_is_documented_by_the_same_words(self) -> None:
+        status, (built, documented) = self.called(*self.words())
+        self.assertEqual((status, built.split()[-2:]), (0, ["--cap-lints", "allow"]))
+        self.assertRegex(documented, r'^rustdoc 1 --crate-name d --edition 2021 src/my lib.rs --crate-type lib -C embed-bitcode=no -C debuginfo=2 --cfg feature="x" '
+                                     r"--check-cfg cfg\(docsrs,test\) -C metadata=5 -L dependency=/deps --extern noprelude:b=/deps/libb-8.rmeta "
+                                     r"--crate-version 0.2.0 -o /json/libd-77\.\d+ --cap-lints allow -Z json --emit=dep-info=/json/libd-77\.\d+/depends,invocation-specific$")
+        with open(os.path.join(self.room, "json", "libd-77", "unit"), encoding="utf-8") as handle:
+            self.assertEqual(json.load(handle), {"stem": "libd-77", "crate": "d", "version": "0.2.0", "manifest": "/a b", "target": "", "cfgs": ['feature="x"'],
+                                                 "uses": ["libb-8"], "is_fixed": False})
+        # Cargo is told of what rustdoc alone has read.
+        self.assertEqual(self.lines(os.path.join(self.room, "deps", "d-77.d")), ["x: src/lib.rs seen\\ here.rs", "", "src/lib.rs:", "seen\\ here.rs:", "# env-dep:READ"])
+
+    def test_others_are_built_alone(self) -> None:
+        for old, new in (("lib", "bin"), ("lib", "proc-macro"), ("--emit=dep-info,metadata", "--emit=dep-info,metadata,link")):
+            self.assertEqual([line.split()[0] for line in self.called(*self.words(**{old: new}))[1]], ["rustc"], new)
+            self.assertEqual(os.listdir(os.path.join(self.room, "json", "libd-77")), ["unit"])
+        self.assertEqual(self.called("-vV"), (0, ["rustc -vV"]))
+        # As a build script asks what the compiler can do.
+        self.assertEqual(self.called("--crate-name", "probe", "--crate-type=lib", "--emit=dep-info,metadata", "--out-dir", "/o", "-")[1],
+                         ["rustc --crate-name probe --crate-type=lib --emit=dep-info,metadata --out-dir /o -"])
+
+    def test_what_does_not_compile_is_not_documented(self) -> None:
+        status, calls = self.called(*self.words(), FAILS="1")
+        self.assertEqual((status, len(calls), os.path.exists(os.path.join(self.room, "json", "libd-77"))), (7, 1, False))
+
+    def test_the_users_wrapper_is_called(self) -> None:
+        self.tool("cache", 'echo "cache" >> "$CALLS"\nexec "$@"\n')
+        self.assertEqual([line.split()[0] for line in self.called(*self.words(), FROM_RUSTDOC_WRAPPER=os.path.join(self.room, "cache"))[1]], ["cache", "rustc", "rustdoc"])
+
+    # ---- where projects share documents
+    def shared(self, project: str, *words: str, **more: str) -> tuple[str, bool]:
+        """The document that a project gets, and whether it was taken."""
+        used = os.path.join(self.room, project, "libb-8")
+        os.makedirs(used)
+        with open(os.path.join(used, "unit"), "w", encoding="utf-8") as handle:
+            json.dump({"is_fixed": more.pop("USES", "fixed") == "fixed"}, handle)
+        environment = {"FROM_RUSTDOC_SHARED": os.path.join(self.room, "shared"), "CARGO_HOME": "/home", "CARGO_MANIFEST_DIR": "/home/registry/src/i/d-1", **more}
+        self.assertEqual(self.called(*(words or (*self.words(), "--cap-lints", "allow")), project=project, **environment)[0], 0)
+        place = os.path.join(self.room, project, "libd-77")
+        return self.lines(os.path.join(place, "d.json"))[0], os.path.exists(os.path.join(place, "taken"))
 
     def test_a_document_of_the_registry_is_made_once(self) -> None:
-        self.assertEqual([self.called("a"), self.called("b")], [("1", False, 0), ("1", True, 0)])
-        with open(os.path.join(self.room, "b", "d-77", "unit"), encoding="utf-8") as handle:
-            self.assertEqual(handle.read(), '/registry/d-1\nfeature="x"\n')
+        self.assertEqual([self.shared("a"), self.shared("b")], [("1", False), ("1", True)])
+        self.assertIn("seen", self.lines(os.path.join(self.room, "deps", "d-77.d"))[0])
 
-    def test_another_unit_or_another_cfg_has_its_own(self) -> None:
-        self.assertEqual([self.called("a")[0], self.called("b", metadata="78")[0], self.called("c", cfg="has_it")[0]], ["1", "2", "3"])
-        self.assertEqual([self.called("d", metadata="78"), self.called("e", cfg="has_it")], [("2", True, 0), ("3", True, 0)])
+    def test_another_word_or_variable_has_its_own(self) -> None:
+        capped = ("--cap-lints", "allow")
+        self.assertEqual([self.shared("a"), self.shared("b", *self.words(**{'feature="x"': "has_it"}), *capped), self.shared("c", READ="x")],
+                         [("1", False), ("2", False), ("3", False)])
 
     def test_what_its_build_script_wrote_tells_documents_apart(self) -> None:
         for project, text in (("a", "one"), ("b", "two"), ("c", "one")):
-            os.makedirs(os.path.join(self.room, project, "out"))
-            with open(os.path.join(self.room, project, "out", "generated.rs"), "w", encoding="utf-8") as handle:
+            os.makedirs(os.path.join(self.room, "out", project))
+            with open(os.path.join(self.room, "out", project, "generated.rs"), "w", encoding="utf-8") as handle:
                 handle.write(text)
-        self.assertEqual([self.called(p, OUT_DIR=os.path.join(self.room, p, "out")) for p in ("a", "b", "c")], [("1", False, 0), ("2", False, 0), ("1", True, 0)])
+        self.assertEqual([self.shared(p, OUT_DIR=os.path.join(self.room, "out", p)) for p in ("a", "b", "c")], [("1", False), ("2", False), ("1", True)])
 
-    def test_what_lies_elsewhere_is_not_shared(self) -> None:
-        for number, folder in enumerate(("/own/d-1", "/registry2/d-1", "/registry"), 1):
-            self.assertEqual((self.called(f"a{number}", folder), os.path.exists(os.path.join(self.room, "shared"))), ((str(number), False, 0), False))
-        self.assertEqual([self.called(f"b{n}", FROM_RUSTDOC_SHARED="")[:2] for n in range(2)], [("4", False), ("5", False)])
-        self.assertEqual([self.called(f"c{n}", FROM_RUSTDOC_REGISTRIES="")[:2] for n in range(2)], [("6", False), ("7", False)])
+    def test_what_may_change_is_not_shared(self) -> None:
+        for number, more in enumerate(({"CARGO_MANIFEST_DIR": "/home/git/checkouts/d"}, {"CARGO_MANIFEST_DIR": "/own"}, {"USES": "a patch"}), 1):
+            self.assertEqual(self.shared(f"a{number}", **more), (str(number), False))
+        # (Cargo caps no lints where a package has a path.)
+        self.assertEqual(self.shared("b", *self.words()), ("4", False))
+        self.assertEqual(os.listdir(os.path.join(self.room, "shared")), [])
 
-    def test_packages_of_registries_are_shared_unless_one_of_them_uses_another(self) -> None:
-        packages = [{"id": folder, "manifest_path": f"{folder}/Cargo.toml", "source": source} for folder, source in (
-            ("/home/me/own", None), ("/cargo/src/one/a", "registry+https://one"), ("/cargo/src/one/b", "registry+https://one"),
-            ("/cargo/src/two/c", "sparse+https://two"), ("/cargo/git/d", "git+https://three"))]
-        uses = [("/home/me/own", "/cargo/src/one/a"), ("/cargo/src/one/a", "/cargo/src/two/c"), ("/cargo/git/d", "/home/me/own")]
-        shared = {"FROM_RUSTDOC_SHARED": "/t/shared", "FROM_RUSTDOC_REGISTRIES": "/cargo/src/one:/cargo/src/two"}
-        by_patches = (), (("/cargo/src/one/b", "/home/me/own"),), (("/cargo/src/two/c", "/cargo/git/d"),)
-        for more in by_patches:
-            nodes = [{"id": user, "deps": [{"pkg": used}]} for user, used in (*uses, *more)]
-            self.assertEqual(sharing(json.dumps({"packages": packages, "resolve": {"nodes": nodes}}), "/t/shared"),
-                             {"FROM_RUSTDOC_SHARED": ""} if more else shared)
+    # ---- words and files
+    def test_what_is_built_to_be_run_is_not_documented(self) -> None:
+        self.assertTrue(is_documented(list(RUSTC)))
+        self.assertFalse(is_documented([*RUSTC, "--test"]))
+        self.assertEqual(words_of_rustdoc(["-Zx", "-Wy", "-O", "--target=t", "--codegen", "linker=l", "--cap-lints", "warn"]), ["-Z", "x", "--target", "t"])
 
-    def test_what_failed_is_not_kept(self) -> None:
-        self.assertEqual([self.called("a", FAILS="1"), self.called("b")], [("", False, 7), ("1", False, 0)])
-
-
-class Untouched(unittest.TestCase):
-    """What is found current without cargo: nothing that cargo looks at may have changed."""
-
-    def setUp(self) -> None:
-        self.room = os.path.realpath(tempfile.mkdtemp())
-        self.addCleanup(shutil.rmtree, self.room)
-        self.folder = os.path.join(self.room, "above", "project")
-        patches: list[Any] = [mock.patch.object(proved, "SETTLED", -1.0), mock.patch.object(cargo, "command", side_effect=BadInput("cargo is run")),
-                              mock.patch.dict(os.environ, {"XDG_CACHE_HOME": os.path.join(self.room, "cache")})]
-        for patch in patches:
-            patch.start()
-            self.addCleanup(patch.stop)
-        self.json, self.map = os.path.join(self.folder, "target", "a.json"), os.path.join(self.folder, "target", "a.map")
-        self.files = {os.path.join(self.folder, "Cargo.toml"): "", os.path.join(self.folder, "src", "lib.rs"): "", self.json: "{}",
-                      self.map: json.dumps({"inputs": {"json": [self.json]}})}
-        self.again()
-
-    def write(self, file: str, text: str) -> None:
-        os.makedirs(os.path.dirname(file), exist_ok=True)
+    def test_files_of_dependencies(self) -> None:
+        file = os.path.join(self.room, "x.d")
         with open(file, "w", encoding="utf-8") as handle:
-            handle.write(text)
-
-    def again(self) -> None:
-        for file, text in self.files.items():
-            self.write(file, text)
-        made_by.remember(self.folder, [], [self.folder], made_by.state_of(self.folder, [self.folder]), self.map)
-        self.assertIsNotNone(made_by.untouched(self.folder, []))
-
-    def test_it_needs_no_cargo(self) -> None:
-        found = made_by.current(self.folder, [])
-        self.assertEqual(found, (self.map.removesuffix(".map"), {"inputs": {"json": [self.json]}}))
-        # What is built, and what no source is, does not count.
-        for name in ("target/debug/build.rs", ".git/a.rs", "README.md"):
-            self.write(os.path.join(self.folder, name), "more")
-        self.assertEqual(made_by.current(self.folder, []), found)
-
-    def test_what_is_touched_is_seen(self) -> None:
-        above = os.path.dirname(self.folder)
-        for file in (os.path.join(self.folder, "src", "lib.rs"), os.path.join(self.folder, "src", "new.rs"), os.path.join(self.folder, "Cargo.lock"),
-                     os.path.join(self.folder, ".cargo", "config.toml"), os.path.join(above, "Cargo.toml"), os.path.join(above, "rust-toolchain"), self.json,
-                     self.map):
-            self.again()
-            self.write(file, "something else" if file != self.map else json.dumps({"inputs": {"json": [self.json], "more": 1}}))
-            self.assertIsNone(made_by.untouched(self.folder, []), file)
-        for file in (os.path.join(self.folder, "src", "new.rs"), self.json, self.map):
-            self.again()
-            os.remove(file)
-            self.assertIsNone(made_by.untouched(self.folder, []), file)
-            self.again()
-
-    def test_other_flags_and_another_environment_are_another_project(self) -> None:
-        self.assertIsNone(made_by.untouched(self.folder, ["--all-features"]))
-        with mock.patch.dict(os.environ, {"RUSTFLAGS": "--cfg other"}):
-            self.assertIsNone(made_by.untouched(self.folder, []))
-        with mock.patch.dict(os.environ, {"RUSTUP_TOOLCHAIN": "other"}):
-            self.assertIsNone(made_by.untouched(self.folder, []))
-
-    def test_what_was_written_just_now_is_not_kept(self) -> None:
-        with mock.patch.object(proved, "SETTLED", 60.0):
-            self.assertIsNone(made_by.state_of(self.folder, [self.folder]))
-            self.assertIsNone(made_by.untouched(self.folder, []))
+            handle.write("x: a.rs b\\ c.rs\n\na.rs:\n\n# env-dep:A=1\n# env-dep:B\n")
+        self.assertEqual(read_depends(file), Depends(["a.rs", "b\\ c.rs"], {"A": "1", "B": None}))
+        add_depends(file, Depends(["a.rs", "d.rs"], {"B": None, "C": "2"}))
+        self.assertEqual(read_depends(file), Depends(["a.rs", "b\\ c.rs", "d.rs"], {"A": "1", "B": None, "C": "2"}))
 
 
 FILES = {
@@ -288,6 +321,19 @@ FILES = {
     "bin/src/main.rs": "fn main() {}\n",
     "mac/Cargo.toml": '[package]\nname = "mac"\nversion = "0.1.0"\nedition = "2021"\n[lib]\nproc-macro = true\n[workspace]\n',
     "mac/src/lib.rs": "",
+    # A folder in place of a registry, with two versions of one crate, of which a third crate uses the older one too.
+    "twice/.cargo/config.toml": '[source.crates-io]\nreplace-with = "folder"\n[source.folder]\ndirectory = "vendor"\n',
+    "twice/Cargo.toml": '[package]\nname = "twice"\nversion = "0.1.0"\nedition = "2021"\n[workspace]\nexclude = ["vendor"]\n'
+                        '[dependencies]\nolder = { package = "num", version = "0.9" }\nnum = "1.0"\nunder = "0.1"\n',
+    "twice/src/lib.rs": "pub trait Q {}\nimpl Q for older::N {}\npub trait P { type A; }\npub struct V;\nimpl P for V { type A = num::N; }\n"
+                        "pub struct Under(pub under::U);\n",
+    **{f"twice/vendor/{folder}/.cargo-checksum.json": '{"files":{}}' for folder in ("num-0.9", "num-1.0", "under")},
+    "twice/vendor/num-0.9/Cargo.toml": '[package]\nname = "num"\nversion = "0.9.0"\nedition = "2021"\n',
+    "twice/vendor/num-0.9/src/lib.rs": "pub struct N(pub *const u8);\npub trait Number {}\nimpl Number for N {}\n",
+    "twice/vendor/num-1.0/Cargo.toml": '[package]\nname = "num"\nversion = "1.0.0"\nedition = "2021"\n',
+    "twice/vendor/num-1.0/src/lib.rs": "pub struct N(pub u8);\npub trait Number {}\nimpl Number for N {}\n",
+    "twice/vendor/under/Cargo.toml": '[package]\nname = "under"\nversion = "0.1.0"\nedition = "2021"\n[dependencies]\nnum = "0.9"\n',
+    "twice/vendor/under/src/lib.rs": "pub struct U(pub num::N);\n",
 }
 
 
@@ -354,6 +400,18 @@ class Projects(unittest.TestCase):
             self.assertIn("has no library that is documented", errors)
         status, _, errors = self.project("cache")
         self.assertEqual((status, errors.count("\n")), (3, 1))
+
+    def test_two_versions_of_a_registrys_crate_are_two_crates(self) -> None:
+        status, said, errors = self.project("twice")
+        self.assertEqual(status, 0, said + errors)
+        self.assertEqual(sorted(line.split(":")[0] for line in said.splitlines() if ": coherent" in line), ["num 0.9.0", "num 1.0.0", "twice 0.1.0", "under 0.1.0"])
+        base = "twice/target/from-rustdoc/twice"
+        questions = {"<twice::V as twice::P>::A: twice::Q": "no", "<twice::V as twice::P>::A: Send": "yes", "num@0.9::N: twice::Q": "yes", "num@1.0::N: twice::Q": "no",
+                     "num@0.9::N: Send": "no", "twice::Under: Send": "no", "<twice::V as twice::P>::A: num@0.9::Number": "no", "num@0.9::N: num@0.9::Number": "yes"}
+        status, said, errors = self.call("ask", os.path.join(self.folder, base), *questions)
+        self.assertEqual((status, errors), (0, ""))
+        found = [line.split("    ")[1].split()[0] for line in said.splitlines() if not line.startswith(" ")]
+        self.assertEqual([("yes" if word == "yes" else "no") for word in found], list(questions.values()), said)
 
 
 if __name__ == "__main__":
