@@ -4,7 +4,7 @@ from __future__ import annotations
 from dataclasses import dataclass, field
 from typing import Any, Optional
 
-from .members import INSIDE, VALUES, Member, Members, inherent_impls, members_of, signature_of
+from .members import VALUES, Member, Members, inherent_impls, members_of, signature_of
 from .rustdoc_json import ITEMS, STD_CRATES, JsonCrate, kind_and_body, stem_of
 from .terms import BadInput, Bound, Constant, Named, Param, Parameter, Place, Predicate, Type, keys_of, put
 from .world import World
