@@ -15,6 +15,7 @@ from .open_walk import downstream, is_sealed, met_in_header
 from .program import run
 from .questions import Question, Verdict
 from .render import is_sizedness
+from .show import Show
 from .terms import BadInput, Bound, Declaration, Impl, Lossy, Named, Parameter, Predicate, Type, argument_values, put, put_bound, walk
 from .versions import Gone, Header, Versions, all_keys, bound_keys, is_private, names_private, plain_params
 from .world import World, crate_name
@@ -109,19 +110,9 @@ class ImplChanges:
             self.messages.append(message.note(f"it names `{gone}`, which is gone"))
             return []
         params = plain_params(impl.params)
-        predicates += self.of_names([subject, *bound.arguments])
-        found = [Claim(Question(self.asked(impl), subject, bound, params, predicates, crate=versions.crate), message)]
+        predicates += asked_of_names(versions, [subject, *bound.arguments])
+        found = [Claim(Question(written_question(versions.show_old, impl), subject, bound, params, predicates, crate=versions.crate), message)]
         return found + self.value_claims(kept, subject, bound, predicates)
-
-    def of_names(self, terms: list[Type]) -> list[Predicate]:
-        """What the new version asks of whoever names these types: a new bound of one is told of it, and not of its impls too."""
-        found: list[Predicate] = []
-        for part in (part for term in terms for part in walk(term)):
-            item = self.versions.after.items.get(self.versions.new.key_of(part.key)) if isinstance(part, Named) else None
-            if item is not None and isinstance(part, Named):
-                values = argument_values(item.params, part.arguments)
-                found += [(put(t, values), put_bound(b, values)) for t, b in item.predicates if not is_sizedness(b)]
-        return found
 
     def value_claims(self, kept: Kept, subject: Type, bound: Bound, predicates: list[Predicate]) -> list[Claim]:
         """Where another impl stands for the old one, its associated types are to be those of the old one."""
@@ -132,17 +123,9 @@ class ImplChanges:
                 asked = Bound(bound.key, bound.arguments, ((name, self.versions.to_new(value)),))
             except Gone:
                 continue
-            claims.append(Claim(Question(f"{self.asked(kept.impl)} with its `{name}`", subject, asked, plain_params(kept.impl.params), predicates,
-                                         crate=self.versions.crate), message))
+            claims.append(Claim(Question(f"{written_question(self.versions.show_old, kept.impl)} with its `{name}`", subject, asked,
+                                         plain_params(kept.impl.params), predicates, crate=self.versions.crate), message))
         return claims
-
-    def asked(self, impl: Impl) -> str:
-        """An impl as a question."""
-        show = self.versions.show_old
-        assert impl.trait is not None
-        names = ", ".join(("const " if p.kind == "const" else "") + p.name for p in impl.params)
-        where = ", ".join(f"{show.type(t)}: {show.bound(b)}" for t, b in impl.predicates)
-        return (f"<{names}> " if names else "") + f"{show.type(impl.self_type)}: {show.bound(impl.trait)}" + (f" where {where}" if where else "")
 
     def values(self, old: Impl, new: Impl) -> None:
         """Associated types of an impl that is there again."""
@@ -281,6 +264,25 @@ def trait_of(world: World, impl: Impl) -> Optional[Declaration]:
 def is_auto(world: World, impl: Impl) -> bool:
     trait = trait_of(world, impl)
     return trait is not None and trait.is_auto
+
+
+def written_question(show: Show, impl: Impl) -> str:
+    """An impl as a question."""
+    assert impl.trait is not None
+    names = ", ".join(("const " if p.kind == "const" else "") + p.name for p in impl.params)
+    where = ", ".join(f"{show.type(t)}: {show.bound(b)}" for t, b in impl.predicates)
+    return (f"<{names}> " if names else "") + f"{show.type(impl.self_type)}: {show.bound(impl.trait)}" + (f" where {where}" if where else "")
+
+
+def asked_of_names(versions: Versions, terms: list[Type]) -> list[Predicate]:
+    """What the new version asks of whoever names these types of it: a new bound of one is told of it, and not of its impls too."""
+    found: list[Predicate] = []
+    for part in (part for term in terms for part in walk(term)):
+        item = versions.after.items.get(versions.new.key_of(part.key)) if isinstance(part, Named) else None
+        if item is not None and isinstance(part, Named):
+            values = argument_values(item.params, part.arguments)
+            found += [(put(t, values), put_bound(b, values)) for t, b in item.predicates if not is_sizedness(b)]
+    return found
 
 
 def header_keys(impl: Impl) -> list[str]:

@@ -5,7 +5,7 @@ import json
 import os
 import re
 from dataclasses import dataclass
-from typing import Any, Optional
+from typing import Any, Iterator, Optional
 
 from .formats import agreed, first_column
 from .html_docs import Pages
@@ -215,6 +215,16 @@ class JsonCrate:
         return found
 
     def read_impl(self, item: dict[str, Any], body: dict[str, Any]) -> None:
+        self.impls.append(self.impl_of(item, body))
+
+    def computed_impls(self) -> Iterator[Impl]:
+        """What rustdoc found of the auto traits of types for which nobody wrote an impl: positive or negative, with the least clauses."""
+        for item in self.index.values():
+            kind, body = kind_and_body(item)
+            if kind == "impl" and item["crate_id"] == 0 and body["is_synthetic"] and body["trait"] is not None:
+                yield self.impl_of(item, body)
+
+    def impl_of(self, item: dict[str, Any], body: dict[str, Any]) -> Impl:
         itself = self.type(body["for"], None)
         params, predicates = self.generics(body["generics"], itself)
         impl = Impl(self.name, self.source(item), self.trait_bound(body["trait"], itself), itself, params, predicates,
@@ -225,7 +235,7 @@ class JsonCrate:
                 value = inside["inner"]["assoc_type"]
                 generic = bool(value["generics"]["params"])
                 impl.associated[inside["name"]] = Unsayable("a generic associated type") if generic else self.type(value["type"], itself)
-        self.impls.append(impl)
+        return impl
 
     # ---- public paths
     def find_public_paths(self) -> None:
@@ -361,11 +371,20 @@ class JsonCrate:
 
     def projection(self, body: dict[str, Any], itself: Optional[Type]) -> Type:
         if (body["args"] or {}).get("angle_bracketed", {}).get("args"):
-            return Unsayable("a generic associated type")
+            return Unsayable("a generic associated type", repr(self.with_keys(body)))
         bound = self.trait_bound(body["trait"], itself) if body["trait"] else None
         if bound and bound.key.startswith("?"):
             bound = None
         return Projection(self.type(body["self_type"], itself), bound, body["name"])
+
+    def with_keys(self, written: Any) -> Any:
+        """A part of the JSON with the keys of items in the place of their numbers, which differ from file to file."""
+        if isinstance(written, list):
+            return [self.with_keys(part) for part in written]
+        if not isinstance(written, dict):
+            return written
+        found = {name: self.with_keys(part) for name, part in sorted(written.items()) if name not in ("id", "path")}
+        return {**found, "id": self.key(written["id"], written.get("path", ""))} if "id" in written else found
 
     def path_type(self, body: dict[str, Any], itself: Optional[Type]) -> Type:
         key = self.key(body["id"], body["path"])

@@ -5,7 +5,7 @@ from dataclasses import dataclass, field
 from typing import Any, Optional
 
 from .rustdoc_json import ITEMS, STD_CRATES, JsonCrate, kind_and_body
-from .terms import BadInput, Bound, Constant, Named, Param, Parameter, Place, Predicate, Type, put
+from .terms import BadInput, Bound, Constant, Impl, Named, Param, Parameter, Place, Predicate, Type, put
 from .world import World
 
 KINDS = {**{kind: kind for kind in ITEMS}, "type_alias": "alias"}
@@ -74,12 +74,13 @@ class Item(Generics):
 @dataclass
 class Surface:
     """`by_path` has the key of what each public path names; `items` those that are read; `behind` the types that aliases are other names
-    of; `closed` are the globs of crates that were not given."""
+    of; `closed` are the globs of crates that were not given; `computed` what rustdoc found of auto traits."""
     items: dict[str, Item] = field(default_factory=dict)
     by_path: dict[str, str] = field(default_factory=dict)
     kinds: dict[str, str] = field(default_factory=dict)
     behind: dict[str, str] = field(default_factory=dict)
     closed: set[str] = field(default_factory=set)
+    computed: list[Impl] = field(default_factory=list)
 
 
 class SurfaceReader:
@@ -104,6 +105,7 @@ class SurfaceReader:
             self.behind(top, item)
         for item in self.surface.items.values():
             item.paths.sort(key=lambda path: (path.count("::"), path))
+        self.surface.computed = [impl for read in self.crates.values() if read is not None for impl in read.computed_impls()]
 
     def crate(self, name: str) -> Optional[JsonCrate]:
         if name not in self.crates:

@@ -137,8 +137,9 @@ class BoundsOf:
 
 @dataclass(frozen=True)
 class Unsayable:
-    """A type that no text can say, and why."""
+    """A type that no text can say, and why. `written` tells it from others, where that is known."""
     why: str
+    written: str = ""
 
 
 Type = Union[Primitive, Never, Parameter, Unknown, Reference, Pointer, Slice, Array, Tuple, Function, Dyn, Named, Alias,

@@ -17,6 +17,7 @@ from typing import Any
 HERE = os.path.dirname(os.path.abspath(__file__))
 sys.path.insert(0, os.path.dirname(os.path.dirname(HERE)))
 
+from from_rustdoc.build import AUTO_TRAITS  # noqa: E402
 from from_rustdoc.cargo import FLAGS, docs_folder  # noqa: E402
 from from_rustdoc.html_docs import Pages  # noqa: E402
 from from_rustdoc.standard import COMPUTED  # noqa: E402
@@ -25,6 +26,7 @@ from from_rustdoc.tests.pairs import all_pairs, library, rustdoc  # noqa: E402
 # Each with the crates that it uses.
 CRATES: dict[str, list[str]] = {"shapes": [], "before": [], "after": [], "ab": [], "user": ["ab"], "deep": ["ab"], "reasons": [],
                                 "formats": []}
+COMPARED = ("before", "after")
 READ = ("struct", "enum", "union", "variant", "struct_field", "trait", "impl", "assoc_type", "module", "use", "type_alias")
 # Pages that no kept crate names, but the translator or a question does.
 MORE = ("core/marker/trait.Send.html core/marker/trait.Sync.html core/marker/trait.Unpin.html core/panic/unwind_safe/trait.UnwindSafe.html "
@@ -36,7 +38,14 @@ MORE = ("core/marker/trait.Send.html core/marker/trait.Sync.html core/marker/tra
         "core/fmt/type.Result.html core/result/enum.Result.html core/fmt/struct.Error.html core/marker/trait.Tuple.html core/num/nonzero/trait.ZeroablePrimitive.html core/num/trait.ZeroablePrimitive.html").split()
 
 
-def trimmed(data: dict[str, Any]) -> dict[str, Any]:
+def is_kept(impl: dict[str, Any], is_compared: bool) -> bool:
+    if impl["blanket_impl"] is not None or impl["trait"] is None:
+        return False
+    return not impl["is_synthetic"] or is_compared and impl["trait"]["path"] in AUTO_TRAITS
+
+
+def trimmed(data: dict[str, Any], is_compared: bool = False) -> dict[str, Any]:
+    """Of a crate that `later` compares the auto traits are kept that rustdoc found."""
     index = {}
     of_traits = {number for item in data["index"].values() if "trait" in item["inner"] and item["crate_id"] == 0 for number in item["inner"]["trait"]["items"]}
     for number, item in data["index"].items():
@@ -45,7 +54,7 @@ def trimmed(data: dict[str, Any]) -> dict[str, Any]:
             item["inner"] = {kind: {name: body[name] for name in ("has_body", "value") if name in body}}
         elif item["crate_id"] != 0 or kind not in READ:
             continue
-        if kind == "impl" and (body["blanket_impl"] is not None or body["trait"] is None or body["is_synthetic"]):
+        if kind == "impl" and not is_kept(body, is_compared):
             continue
         for name in ("docs", "links", "deprecation"):
             item.pop(name, None)
@@ -72,13 +81,13 @@ def crate_json(name: str, folder: str, rustdoc: str = "rustdoc") -> dict[str, An
                        env=environment)
     subprocess.run([rustdoc, "--cap-lints", "allow", *edition, source, "-o", folder, *used, *FLAGS.split()], check=True, env=environment)
     with open(os.path.join(folder, name + ".json"), encoding="utf-8") as handle:
-        return trimmed(json.load(handle))
+        return trimmed(json.load(handle), name in COMPARED)
 
 
 def pair_json(version: str, folder: str) -> dict[str, Any]:
     """The library of releases/pairs.txt, all pairs in it."""
     with open(rustdoc(folder, library(all_pairs(), version), version), encoding="utf-8") as handle:
-        return trimmed(json.load(handle))
+        return trimmed(json.load(handle), True)
 
 
 def write(name: str, data: Any) -> None:
