@@ -11,12 +11,13 @@ from .cone import cone_of_questions
 from .impls import Written
 from .item_changes import change
 from .messages import Message, at
-from .open_walk import downstream, is_sealed, met_in_header
+from .open_walk import is_sealed, met_in_header
+from .other_impls import Nobody, OtherImpls
 from .program import run
 from .questions import Question, Verdict
 from .render import is_sizedness
 from .show import Show
-from .terms import BadInput, Bound, Declaration, Impl, Lossy, Named, Parameter, Predicate, Type, argument_values, put, put_bound, walk
+from .terms import BadInput, Bound, Declaration, Impl, Lossy, Named, Predicate, Type, argument_values, put, put_bound, walk
 from .versions import Gone, Header, Versions, all_keys, bound_keys, is_private, names_private, plain_params
 from .world import World, crate_name
 
@@ -50,6 +51,7 @@ class ImplChanges:
         self.troubled = troubled
         self.with_private = with_private
         self.programs = programs
+        self.others = OtherImpls(versions, with_private, programs)
         self.messages: list[Message] = []
         self.added: list[Judged] = []
         self.uncompared: dict[str, int] = {}
@@ -89,12 +91,17 @@ class ImplChanges:
         """Whether nobody else can name what the header names."""
         return names_private(self.versions.old, self.versions.before, header_keys(impl))
 
+    def is_uncompared(self, keys: list[str]) -> bool:
+        """Whether an impl names an old item of which it is told that it is another one; such impls are counted with that."""
+        trouble = next((key for key in keys if key in self.troubled), None)
+        if trouble is not None:
+            self.uncompared[trouble] = self.uncompared.get(trouble, 0) + 1
+        return trouble is not None
+
     def claim(self, kept: Kept) -> list[Claim]:
         impl, versions = kept.impl, self.versions
         assert impl.trait is not None
-        trouble = next((own for own in map(versions.old.key_of, header_keys(impl)) if own in self.troubled), None)
-        if trouble is not None:
-            self.uncompared[trouble] = self.uncompared.get(trouble, 0) + 1
+        if self.is_uncompared([versions.old.key_of(key) for key in header_keys(impl)]):
             return []
         header = versions.show_old.header(impl)
         code = "impl-bounds-changed" if kept.again else "impl-removed"
@@ -141,36 +148,13 @@ class ImplChanges:
 
     # ---- what is added
     def new_ones(self, old: dict[Header, list[tuple[Impl, frozenset[Predicate]]]], new: dict[Header, list[tuple[Impl, frozenset[Predicate]]]]) -> None:
-        fresh = [self.narrowed(impl) for header, impls in new.items() for impl, clauses in impls if all(c != clauses for _, c in old.get(header, []))]
+        others = [impl for header, impls in new.items() for impl, clauses in impls if all(c != clauses for _, c in old.get(header, []))]
+        before = {id(i): [self.versions.older.get(self.versions.new.key_of(key), "") for key in header_keys(i)] for i in others}
+        fresh = [self.others.narrowed(impl) for impl in others if not self.is_uncompared(before[id(impl)])]
         proved = self.proved_before(fresh)
         self.added = [self.judged(impl, proved.get(id(impl))) for impl in fresh]
         self.ask_program()
         self.messages += [self.told(judged) for judged in self.added if judged.reason != KNOWN]
-
-    def narrowed(self, impl: Impl) -> Impl:
-        """The part of an added impl that an impl of an older crate can meet: new parameters of its trait have their defaults there."""
-        trait = trait_of(self.versions.new, impl)
-        before = self.versions.before.items.get(self.versions.older.get(trait.key, "")) if trait is not None else None
-        if trait is None or impl.trait is None or before is None or len(before.params) >= len(impl.trait.arguments):
-            return impl
-        values: dict[str, Type] = {}
-        for param, argument in list(zip(trait.params, impl.trait.arguments))[len(before.params):]:
-            if isinstance(argument, Parameter) and param.default is not None:
-                values[argument.name] = param.default
-        found = impl.copy()
-        found.trait, found.self_type = put_bound(impl.trait, values), put(impl.self_type, values)
-        found.predicates = [(put(t, values), put_bound(b, values)) for t, b in impl.predicates]
-        found.params = [p for p in impl.params if p.name not in values]
-        return found
-
-    def old_bound(self, bound: Bound) -> Bound:
-        """The bound in the old version, without arguments that are the defaults of new parameters."""
-        before = self.versions.before.items.get(self.versions.older.get(self.versions.new.key_of(bound.key), ""))
-        trait = self.versions.new.get(bound.key, "trait", bound.arguments)
-        count = len(before.params) if before is not None else len(bound.arguments)
-        if all(argument == param.default for param, argument in list(zip(trait.params, bound.arguments))[count:]):
-            bound = Bound(bound.key, bound.arguments[:count], bound.constraints)
-        return self.versions.bound_to_old(bound)
 
     def proved_before(self, fresh: list[Impl]) -> dict[int, Verdict]:
         """What the old version says to each: where it has a proof nothing is added."""
@@ -178,9 +162,11 @@ class ImplChanges:
         for impl in fresh:
             assert impl.trait is not None
             try:
-                asked.append((impl, Question("", self.versions.to_old(impl.self_type), self.old_bound(impl.trait), plain_params(impl.params),
-                                             self.versions.predicates_to_old(impl.predicates), crate=self.versions.crate)))
-            except (Gone, Lossy):
+                before = self.others.in_old(impl)
+                assert before.trait is not None
+                predicates = [(self.others.to_old(t), self.others.to_old_bound(b)) for t, b in impl.predicates]
+                asked.append((impl, Question("", before.self_type, before.trait, plain_params(impl.params), predicates, crate=self.versions.crate)))
+            except (Gone, Lossy, Nobody):
                 pass
         asked = [(impl, question) for impl, question in asked if not impl.is_negative]
         verdicts = Judge(self.versions.old, self.programs).ask([question for _, question in asked])
@@ -200,18 +186,24 @@ class ImplChanges:
             subject = world.get(impl.self_type.key, "struct", impl.self_type.arguments) if isinstance(impl.self_type, Named) else None
             if is_private(world, trait) or (subject is not None and is_private(world, subject) and subject.key not in self.versions.after.kinds):
                 return Judged(impl, "private", "nobody else can name it, so it is in no section")
-            if is_sealed(world, trait):
+            if self.was_sealed(trait):
                 return Judged(impl, "sealed", "nobody else can implement the trait, so it is in no section")
         if trait.crate in world.crates and trait.key in self.versions.after.kinds and trait.key not in self.versions.older:
             return Judged(impl, "compatible", "its trait is new")
         return Judged(impl, "")
+
+    def was_sealed(self, trait: Declaration) -> bool:
+        """Whether nobody else could implement the trait in the old version."""
+        old = self.versions.old.known(self.versions.older.get(trait.key, trait.key))
+        return is_sealed(self.versions.old, old) if old is not None else is_sealed(self.versions.new, trait)
 
     def ask_program(self) -> None:
         """Has the program judge the impls that wait for it, by a section for each behind a text that has what their headers name."""
         waiting = [j for j in self.added if not j.word]
         for judged, verdict in zip(waiting, self.verdicts([j.impl for j in waiting])):
             judged.word = verdict.split()[0] if verdict else "not settled"
-            judged.reason = self.reason(judged.impl) if judged.word == "breaking" else "" if verdict else "the text cannot say its header"
+            if judged.word != "compatible":
+                self.meets(judged)
 
     def verdicts(self, impls: list[Impl]) -> list[str]:
         try:
@@ -232,16 +224,20 @@ class ImplChanges:
         verdicts = iter(run("\n".join(translation.text("upper")[0] + sections) + "\n", self.programs.answers).releases if sections else [])
         return [next(verdicts) if line else "" for line in lines]
 
-    def reason(self, impl: Impl) -> str:
-        """Why the program says that an impl is breaking."""
-        world, trait = self.versions.new, trait_of(self.versions.new, impl)
+    def meets(self, judged: Judged) -> None:
+        """What stands against an impl of which the program does not say that it is compatible; its where-clauses are looked at here."""
+        trait = trait_of(self.versions.new, judged.impl)
         assert trait is not None
+        unsaid = "the text cannot say its header" if judged.word == "not settled" else ""
         if trait.is_fundamental:
-            return "the trait is fundamental: others may rely on there being no such impl"
-        met = met_in_header(world, trait, impl)
-        if met is not None:
-            return f"another crate may have `{downstream(self.versions.show_new, trait, impl, met)}`"
-        return "its header is none that the crate may have"
+            judged.reason = unsaid or "the trait is fundamental: others may rely on there being no such impl"
+        elif met_in_header(self.versions.new, trait, judged.impl) is None:
+            judged.reason = unsaid or "its header is none that the crate may have"
+        else:
+            try:
+                judged.reason = f"{unsaid}{'; ' if unsaid else ''}another crate may have {self.others.met(trait, judged.impl)}"
+            except Nobody as nobody:
+                judged.word, judged.reason = "compatible", f"no crate has an impl that it meets: {nobody}"
 
     def told(self, judged: Judged) -> Message:
         header = self.versions.show_new.header(judged.impl)

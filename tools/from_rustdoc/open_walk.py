@@ -3,9 +3,7 @@ from __future__ import annotations
 
 from typing import Optional
 
-from .show import Show
-from .terms import (Bound, Declaration, Impl, Lossy, Named, Parameter, Projection, Reference, Type, Unsayable, argument_values, parameters_of, put,
-                    rebuilt)
+from .terms import Declaration, Impl, Lossy, Named, Parameter, Projection, Reference, Type, Unsayable, argument_values, put
 from .world import World
 
 
@@ -38,24 +36,6 @@ def written_arguments(trait: Declaration, impl: Impl) -> list[Type]:
 
 def met_in_header(world: World, trait: Declaration, impl: Impl) -> Optional[Type]:
     return next((met for met in (met_parameter(world, term) for term in written_arguments(trait, impl)) if met is not None), None)
-
-
-def downstream(show: Show, trait: Declaration, impl: Impl, met: Type) -> str:
-    """An impl of another crate that this one would meet: its own type stands where the walk meets a parameter."""
-    assert impl.trait is not None
-    mine = Parameter("Mine")
-
-    def changed(term: Type) -> Type:
-        return mine if term == met else rebuilt(term, changed)
-
-    values = {p.name: changed(a) for p, a in zip(trait.params, impl.trait.arguments)}
-    bound = Bound(impl.trait.key, tuple(values.values()))
-    self_type = changed(impl.self_type)
-    left = {n for t in (self_type, *bound.arguments) for n in parameters_of(t)} & {p.name for p in impl.params}
-    special = impl.copy()
-    special.params = [p for p in impl.params if p.name in left]
-    special.trait, special.self_type, special.is_negative = bound, self_type, False
-    return show.header(special)
 
 
 def is_sealed(world: World, trait: Declaration) -> bool:

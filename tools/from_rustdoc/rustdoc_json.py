@@ -169,6 +169,7 @@ class JsonCrate:
     def read_declaration(self, declaration: Declaration) -> None:
         kind, body = kind_and_body(declaration.item)
         declaration.params, declaration.predicates = self.generics(body["generics"], None)
+        declaration.lifetimes = sum("lifetime" in param["kind"] for param in body["generics"]["params"])
         declaration.is_fundamental = any(FUNDAMENTAL.search(str(a)) for a in declaration.item.get("attrs", []))
         if kind == "trait":
             declaration.is_auto = body["is_auto"]

@@ -180,7 +180,8 @@ class Place:
 
 @dataclass
 class Declaration:
-    """A struct (enums and unions too), a trait, or an alias of std (its one field is what it stands for)."""
+    """A struct (enums and unions too), a trait, or an alias of std (its one field is what it stands for). `lifetimes` counts its parameters
+    that are left away."""
     kind: str
     key: str
     crate: str
@@ -203,6 +204,7 @@ class Declaration:
     place: Optional[Place] = None
     field_names: list[str] = field(default_factory=list)
     item: dict[str, Any] = field(default_factory=dict)
+    lifetimes: int = 0
 
     @property
     def is_trait(self) -> bool:

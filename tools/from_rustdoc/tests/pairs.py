@@ -7,6 +7,8 @@ import re
 import subprocess
 from dataclasses import dataclass, field
 
+from ..messages import Message
+
 HERE = os.path.dirname(os.path.abspath(__file__))
 LIBRARY = "pairs"
 LINT = "#![allow(warnings)]\n"
@@ -14,10 +16,11 @@ LINT = "#![allow(warnings)]\n"
 
 @dataclass
 class Pair:
-    """`classes` are what `later` is to tell; none of a pair that is compatible."""
+    """`classes` are what `later` is to tell; none of a pair that is compatible. `of` is the pair whose library is used, if it is another."""
     name: str
     classes: set[str]
     sources: dict[str, str] = field(default_factory=lambda: {"old": "", "new": "", "user": ""})
+    of: str = ""
 
 
 def read_pairs(text: str) -> list[Pair]:
@@ -45,7 +48,7 @@ def library(pairs: list[Pair], version: str) -> str:
 
 
 def users(pairs: list[Pair]) -> str:
-    return LINT + "".join(f"pub mod {p.name} {{\nuse {LIBRARY}::{p.name}::*;\n{p.sources['user']}}}\n" for p in pairs)
+    return LINT + "".join(f"pub mod {p.name} {{\nuse {LIBRARY}::{p.of or p.name}::*;\n{p.sources['user']}}}\n" for p in pairs)
 
 
 class Compiler:
@@ -87,6 +90,17 @@ class Compiler:
                     if span["file_name"].endswith("user.rs"):
                         code = (error["code"] or {"code": ""})["code"]  # type: ignore[index]
                         found.setdefault(module_at(lines, span["line_start"]), set()).add(code)
+
+
+def written_out(message: Message) -> list[str]:
+    """The crates that a message on an added impl says there may be; the types of constants are not told."""
+    found = []
+    for child in message.children:
+        if "another crate may have " in child.text:
+            items = re.findall("`([^`]*)`", child.text)
+            mine = "" if any(item.startswith("trait Mine") for item in items) else "pub struct Mine; "
+            found.append(mine + " ".join(re.sub(r"const (\w+)(?=[,>])", r"const \1: usize", item) + " {}" for item in items))
+    return found
 
 
 def module_at(lines: list[str], number: int) -> str:

@@ -14,7 +14,7 @@ from ..later import Release, compared
 from ..messages import Message
 from ..world import World
 from .common import PROGRAM, WHY_NO_PROGRAM, kept, pages, world
-from .pairs import Compiler, Pair, all_pairs
+from .pairs import Compiler, Pair, all_pairs, written_out
 
 
 def renamed(name: str, other: str, folder: str) -> str:
@@ -134,3 +134,18 @@ class Pairs(unittest.TestCase):
             said = " ".join(child.text for m in self.told[name] for child in m.children if child.level == "help")
             with self.subTest(name):
                 self.assertTrue(codes & set(re.findall(r"E\d{4}", said)), (codes, said))
+
+    @unittest.skipUnless(shutil.which("rustc"), "there is no rustc")
+    def test_each_impl_that_is_written_out_breaks(self) -> None:
+        """It compiles with the old version but for the items that it has to have, and with the new one it overlaps."""
+        texts = [(p.name, text) for p in self.pairs for m in self.told.get(p.name, []) if m.code == "impl-added" and m.word == "breaking"
+                 for text in written_out(m)]
+        users = [Pair(f"user_{number}", set(), {"user": text + "\n"}, name) for number, (name, text) in enumerate(texts)]
+        self.assertGreater(len(users), 10)
+        with tempfile.TemporaryDirectory() as folder:
+            compiler = Compiler(folder, self.pairs)
+            old, new = compiler.failing(users, "old"), compiler.failing(users, "new")
+        for user in users:
+            with self.subTest(user.sources["user"]):
+                self.assertLessEqual(old.get(user.name, set()), {"E0046"})
+                self.assertIn("E0119", new.get(user.name, set()))
