@@ -39,7 +39,7 @@ USAGE = """from-rustdoc: a translator of crates to texts for this program, and o
   from-rustdoc std -o FILE                               the part of std that people name, as a text to stand in front of others
 
 ask: --expect yes|no (another answer is status 1), --why (the proof too, where there is one).
-later: --private (private and sealed impls too), -p NAME (this library alone), --with CRATE.json (crates that both files use).
+later: --strict (status 4 if something that changed is not judged), --private (private and sealed impls too), -p NAME (this library alone), --with CRATE.json (crates that both files use).
 All: --message-format human|json, --docs DIR (std's documents), --program FILE and --program-that-explains FILE (default: the proved ones
 that are here), --metadata FILE (what `cargo metadata --format-version 1` printed; read and later), --all-std (read: all of std that is about
 the traits that are named), --jobs N (processes of a project's check), --quiet.
@@ -327,6 +327,7 @@ def parser(prog: str = "from-rustdoc") -> argparse.ArgumentParser:
     three.add_argument("words", nargs="+")
     four = commands.add_parser("later", parents=[common], usage=USAGE)
     four.add_argument("--private", action="store_true")
+    four.add_argument("--strict", action="store_true")
     four.add_argument("--with", dest="with_crates", action="append", default=[])
     four.add_argument("--metadata")
     four.add_argument("--baseline")

@@ -1,25 +1,30 @@
 """A release judged: what a later version of a crate changes, and whether that breaks crates that use it."""
 from __future__ import annotations
 
+from collections import Counter
 from dataclasses import dataclass, field
 
 from .auto_changes import AutoChanges
 from .claims import Judge, Programs, worst_first
 from .impl_changes import ImplChanges
 from .item_changes import ItemChanges
+from .member_changes import MemberChanges
 from .messages import BAD, FINE, UNSETTLED, Message, worst
 from .versions import Versions
 from .world import World
 
 ANSWERS = {FINE: "compatible", UNSETTLED: "not settled", BAD: "breaking"}
+# What is said in place of `compatible` if something that changed is not judged.
+IN_WHAT_WAS_JUDGED = "no break found in what was judged"
 
 
 @dataclass
 class Release:
-    """What is told of a release, worst first."""
+    """What is told of a release, worst first. `not_judged` counts what changed and has no class, by kind."""
     crate: str
     versions: tuple[str, str]
     messages: list[Message] = field(default_factory=list)
+    not_judged: Counter[str] = field(default_factory=Counter)
 
     @property
     def status(self) -> int:
@@ -27,7 +32,11 @@ class Release:
 
     @property
     def answer(self) -> str:
-        return ANSWERS[self.status]
+        return IN_WHAT_WAS_JUDGED if self.status == FINE and self.not_judged else ANSWERS[self.status]
+
+    def strict_status(self) -> int:
+        """The status where what is not judged is not settled."""
+        return worst([self.status, UNSETTLED]) if self.not_judged else self.status
 
     def count(self, word: str) -> int:
         return sum(m.word == word for m in self.messages)
@@ -35,7 +44,13 @@ class Release:
     def summary(self) -> str:
         counts = [f"{self.count(word)} {word}" for word in ("breaking", "not settled", "changed", "compatible", "new", "sealed", "private") if self.count(word)]
         old, new = (v or "?" for v in self.versions)
-        return f"{self.crate} {old} to {new}: {self.answer}" + (f" ({', '.join(counts)})" if counts else " (nothing that is looked at has changed)")
+        nothing = "" if self.not_judged else " (nothing public has changed)"
+        return f"{self.crate} {old} to {new}: {self.answer}" + (f" ({', '.join(counts)})" if counts else nothing)
+
+    def uncovered(self) -> str:
+        """How much is not judged; empty where all is."""
+        counts = [f"{count} {kind}{'s' if count > 1 else ''}" for kind, count in sorted(self.not_judged.items())]
+        return f"not judged: {', '.join(counts)}" if counts else ""
 
 
 def compared(old: World, new: World, crate: str, with_private: bool = False, programs: Programs = Programs()) -> Release:
@@ -46,7 +61,9 @@ def compared(old: World, new: World, crate: str, with_private: bool = False, pro
     impls.run()
     autos = AutoChanges(versions, items.troubled, programs)
     autos.run()
-    messages = items.messages + Judge(new, programs).settle(items.claims) + impls.messages + autos.messages + items.new_items
+    members = MemberChanges(items)
+    members.run()
+    messages = items.messages + Judge(new, programs).settle(items.claims) + impls.messages + autos.messages + items.new_items + members.messages
     for message in messages:
         message.crate = crate
-    return Release(crate, (old.crates[crate].version, new.crates[crate].version), worst_first(messages))
+    return Release(crate, (old.crates[crate].version, new.crates[crate].version), worst_first(messages), members.not_judged)

@@ -23,14 +23,17 @@ def programs_of(arguments: argparse.Namespace) -> Programs:
     return Programs(arguments.program, arguments.program_that_explains)
 
 
-def told(release: Release, output: Output) -> int:
+def told(release: Release, output: Output, is_strict: bool = False) -> int:
     for message in release.messages:
         # What others cannot name is counted; `--private` has it judged.
         if output.is_json or message.word not in ("private", "sealed"):
             output.message(message)
-    output.summary(release.summary(), release.crate, release.answer, release.status,
-                   counts={word: release.count(word) for word in dict.fromkeys(m.word for m in release.messages)})
-    return release.status
+    if release.not_judged:
+        output.line(release.uncovered())
+    status = release.strict_status() if is_strict else release.status
+    output.summary(release.summary(), release.crate, release.answer, status,
+                   counts={word: release.count(word) for word in dict.fromkeys(m.word for m in release.messages)}, not_judged=dict(release.not_judged))
+    return status
 
 
 def of_files(arguments: argparse.Namespace, read: WorldReader, links: Optional[Links]) -> int:
@@ -42,7 +45,7 @@ def of_files(arguments: argparse.Namespace, read: WorldReader, links: Optional[L
         raise BadInput(f"{crates[0]} and {crates[1]} are two crates, not two versions of one")
     folders = [os.path.dirname(os.path.abspath(file)) for file in files]
     output = Output(Sources({"old": folders[:1], "": folders[1:]}), arguments.message_format == "json")
-    return told(compared(worlds[0], worlds[1], crates[0], arguments.private, programs_of(arguments)), output)
+    return told(compared(worlds[0], worlds[1], crates[0], arguments.private, programs_of(arguments)), output, arguments.strict)
 
 
 def of_project(arguments: argparse.Namespace, extra: list[str], read: WorldReader) -> int:
@@ -58,7 +61,7 @@ def of_project(arguments: argparse.Namespace, extra: list[str], read: WorldReade
                 statuses.append(BAD)
                 continue
             worlds = [read([p.files[c] for c in p.closure([name])], arguments.docs, p.links) for p in (both.old, both.new)]
-            statuses.append(told(compared(worlds[0], worlds[1], name, arguments.private, programs_of(arguments)), output))
+            statuses.append(told(compared(worlds[0], worlds[1], name, arguments.private, programs_of(arguments)), output, arguments.strict))
     return worst(statuses)
 
 

@@ -4,8 +4,9 @@ from __future__ import annotations
 from dataclasses import dataclass, field
 from typing import Any, Optional
 
+from .members import INSIDE, VALUES, Member, Members, inherent_impls, members_of, signature_of
 from .rustdoc_json import ITEMS, STD_CRATES, JsonCrate, kind_and_body
-from .terms import BadInput, Bound, Constant, Impl, Named, Param, Parameter, Place, Predicate, Type, put
+from .terms import BadInput, Bound, Constant, Impl, Named, Param, Parameter, Place, Predicate, Type, keys_of, put
 from .world import World
 
 KINDS = {**{kind: kind for kind in ITEMS}, "type_alias": "alias"}
@@ -36,7 +37,7 @@ class Associated(Generics):
 class Item(Generics):
     """`target` is what an alias stands for. `required` and `provided` are the methods and constants of a trait. `is_open` says of a struct,
     enum or union that others can name its form: a variant, a public field, or that it has none; `is_made_by_name` that its name is also a
-    value, or has variants, which an alias of it has not."""
+    value, or has variants, which an alias of it has not. `read` is what the JSON says of it."""
     kind: str = ""
     key: str = ""
     name: str = ""
@@ -53,6 +54,9 @@ class Item(Generics):
     is_open: bool = False
     is_made_by_name: bool = False
     target: Optional[Type] = None
+    crate: Optional[JsonCrate] = field(default=None, repr=False)
+    read: dict[str, Any] = field(default_factory=dict, repr=False)
+    members: Members = field(default_factory=dict, repr=False)
 
     @property
     def is_type(self) -> bool:
@@ -74,13 +78,16 @@ class Item(Generics):
 @dataclass
 class Surface:
     """`by_path` has the key of what each public path names; `items` those that are read; `behind` the types that aliases are other names
-    of; `closed` are the globs of crates that were not given; `computed` what rustdoc found of auto traits."""
+    of; `closed` are the globs of crates that were not given. `values` are the public items that are no types or traits, by kind and path, and
+    `reached` the types without a path that others can have all the same, by what is public; `computed` is what rustdoc found of auto traits."""
     items: dict[str, Item] = field(default_factory=dict)
     by_path: dict[str, str] = field(default_factory=dict)
     kinds: dict[str, str] = field(default_factory=dict)
     behind: dict[str, str] = field(default_factory=dict)
     closed: set[str] = field(default_factory=set)
     computed: list[Impl] = field(default_factory=list)
+    values: dict[tuple[str, str], Member] = field(default_factory=dict)
+    reached: dict[str, Item] = field(default_factory=dict)
 
 
 class SurfaceReader:
@@ -93,6 +100,8 @@ class SurfaceReader:
         self.numbers: dict[str, tuple[JsonCrate, int]] = {}
         self.seen: set[tuple[str, int, tuple[str, ...]]] = set()
         self.by_glob: dict[str, tuple[str, str]] = {}
+        self.globs: dict[tuple[str, str], Member] = {}
+        self.inherent: dict[str, dict[str, list[dict[str, Any]]]] = {}
         top = self.crate(crate)
         assert top is not None
         self.module(top, top.json["root"], (crate.split("@")[0],), False, {})
@@ -106,6 +115,9 @@ class SurfaceReader:
         for item in self.surface.items.values():
             item.paths.sort(key=lambda path: (path.count("::"), path))
         self.surface.computed = [impl for read in self.crates.values() if read is not None for impl in read.computed_impls()]
+        self.surface.values = {**self.globs, **self.surface.values}
+        for item in self.surface.items.values():
+            self.find_members(item)
 
     def crate(self, name: str) -> Optional[JsonCrate]:
         if name not in self.crates:
@@ -124,6 +136,8 @@ class SurfaceReader:
         if module is None or (*place, path) in self.seen or len(path) > MAXIMAL_PATH or stack.get(place, 0) > 1:
             return
         self.seen.add((*place, path))
+        if len(path) > 1:
+            self.value(Member("module", path[-1], "::".join(path), crate, module), is_glob)
         inner = {**stack, place: stack.get(place, 0) + 1}
         for child in module["inner"]["module"]["items"]:
             item = crate.item(child)
@@ -136,6 +150,8 @@ class SurfaceReader:
                 self.use(crate, body, path, is_glob, inner)
             elif kind in KINDS:
                 self.add(path + (item["name"],), crate.key(child) or "", KINDS[kind], is_glob, (crate, child))
+            elif kind in VALUES:
+                self.value(Member(VALUES[kind], item["name"], "::".join(path + (item["name"],)), crate, item), is_glob)
 
     def use(self, crate: JsonCrate, body: dict[str, Any], path: tuple[str, ...], is_glob: bool, stack: dict[tuple[str, int], int]) -> None:
         number = body["id"]
@@ -147,6 +163,8 @@ class SurfaceReader:
                 self.module(crate, number, inside, is_glob or body["is_glob"], stack)
             elif kind in KINDS and not body["is_glob"]:
                 self.add(inside, crate.key(number) or "", KINDS[kind], is_glob, (crate, number))
+            elif kind in VALUES:
+                self.value(Member(VALUES[kind], inside[-1], "::".join(inside), crate, target), is_glob)
             return
         found = crate.json["paths"].get(str(number))
         if found is None or found["crate_id"] == 0:
@@ -162,11 +180,18 @@ class SurfaceReader:
         if found["kind"] == "module":
             if other is not None and there is not None:
                 self.module(other, there, inside, is_glob or is_all, stack)
-            elif name not in STD_CRATES:
-                self.surface.closed.add("::".join(found["path"]))
+                return
+            path = "::".join(found["path"])
+            kind, name_of = ("glob re-export", "*") if is_all else ("module", inside[-1])
+            self.value(Member(kind, name_of, "::".join(inside + ((path, "*") if is_all else ())), other=path), is_glob)
+            if name not in STD_CRATES:
+                self.surface.closed.add(path)
         elif found["kind"] in KINDS and not is_all:
             key = self.world.key_of(crate.key(number) or "")
             self.add(inside, key, KINDS[found["kind"]], is_glob, (other, there) if other is not None and there is not None else None)
+        elif found["kind"] in VALUES:
+            item = other.item(there) if other is not None else None
+            self.value(Member(VALUES[found["kind"]], inside[-1], "::".join(inside), other, item or {}, other="::".join(found["path"])), is_glob)
 
     @staticmethod
     def number_of(crate: JsonCrate, path: list[str]) -> Optional[int]:
@@ -187,7 +212,16 @@ class SurfaceReader:
         self.surface.by_path.setdefault(path, key)
         self.surface.kinds.setdefault(key, kind)
 
+    def value(self, member: Member, is_glob: bool) -> None:
+        (self.globs if is_glob else self.surface.values).setdefault((member.kind, member.path), member)
+
     # ---- items
+    def find_members(self, item: Item) -> None:
+        if item.crate is not None and item.kind != "alias":
+            if item.crate.name not in self.inherent:
+                self.inherent[item.crate.name] = inherent_impls(item.crate)
+            item.members = members_of(item.crate, item.read, item.paths[0] if item.paths else item.name, self.inherent[item.crate.name].get(item.key, []))
+
     def behind(self, crate: JsonCrate, alias: Item) -> None:
         """What an alias is another name of goes by its path too."""
         key = self.world.key_of(alias.same_as() or "")
@@ -209,7 +243,7 @@ class SurfaceReader:
 
 def read_item(crate: JsonCrate, read: dict[str, Any], key: str) -> Item:
     kind, body = kind_and_body(read)
-    item = Item(kind=KINDS[kind], key=key, name=read["name"], place=crate.place(read), is_hidden=is_hidden(read))
+    item = Item(kind=KINDS[kind], key=key, name=read["name"], place=crate.place(read), is_hidden=is_hidden(read), crate=crate, read=read)
     read_generics(crate, body["generics"], item)
     if kind == "trait":
         read_trait(crate, body, item)

@@ -1,8 +1,8 @@
 #!/usr/bin/env python3
 """Makes the kept JSON anew: of the crates beside this file, by the rustdoc that is on the PATH, and of the pages of std that they name.
 
-What the translator does not read (documentation, functions, blanket impls) is cut out of both. With a rustdoc of another version as
-its word it makes json/formats.NUMBER.json of that.
+What the translator does not read (documentation, blanket impls) is cut out of both, and functions of all crates but the pairs. With a rustdoc
+of another version as its word it makes json/formats.NUMBER.json of that.
 """
 from __future__ import annotations
 
@@ -38,23 +38,26 @@ MORE = ("core/marker/trait.Send.html core/marker/trait.Sync.html core/marker/tra
         "core/fmt/type.Result.html core/result/enum.Result.html core/fmt/struct.Error.html core/marker/trait.Tuple.html core/num/nonzero/trait.ZeroablePrimitive.html core/num/trait.ZeroablePrimitive.html").split()
 
 
-def is_kept(impl: dict[str, Any], is_compared: bool) -> bool:
+def is_kept(impl: dict[str, Any], whole: bool, is_compared: bool) -> bool:
     if impl["blanket_impl"] is not None or impl["trait"] is None:
-        return False
+        return whole and impl["blanket_impl"] is None
     return not impl["is_synthetic"] or is_compared and impl["trait"]["path"] in AUTO_TRAITS
 
 
-def trimmed(data: dict[str, Any], is_compared: bool = False) -> dict[str, Any]:
-    """Of a crate that `later` compares the auto traits are kept that rustdoc found."""
+def trimmed(data: dict[str, Any], is_compared: bool, whole: bool = False) -> dict[str, Any]:
+    """The parts that are read; all items if the crate is `whole`. Of one that `later` compares the auto traits are kept that rustdoc found."""
     index = {}
     of_traits = {number for item in data["index"].values() if "trait" in item["inner"] and item["crate_id"] == 0 for number in item["inner"]["trait"]["items"]}
+    of_impls = {number for item in data["index"].values() if item["inner"].get("impl", {}).get("trait") for number in item["inner"]["impl"]["items"]}
     for number, item in data["index"].items():
         kind, body = next(iter(item["inner"].items()))
-        if int(number) in of_traits and kind in ("function", "assoc_const"):
+        if whole and item["crate_id"] == 0 and kind != "impl" and int(number) not in of_impls:
+            pass
+        elif int(number) in of_traits and kind in ("function", "assoc_const"):
             item["inner"] = {kind: {name: body[name] for name in ("has_body", "value") if name in body}}
         elif item["crate_id"] != 0 or kind not in READ:
             continue
-        if kind == "impl" and not is_kept(body, is_compared):
+        if kind == "impl" and not is_kept(body, whole, is_compared):
             continue
         for name in ("docs", "links", "deprecation"):
             item.pop(name, None)
@@ -87,7 +90,7 @@ def crate_json(name: str, folder: str, rustdoc: str = "rustdoc") -> dict[str, An
 def pair_json(version: str, folder: str) -> dict[str, Any]:
     """The library of releases/pairs.txt, all pairs in it."""
     with open(rustdoc(folder, library(all_pairs(), version), version), encoding="utf-8") as handle:
-        return trimmed(json.load(handle), True)
+        return trimmed(json.load(handle), True, whole=True)
 
 
 def write(name: str, data: Any) -> None:

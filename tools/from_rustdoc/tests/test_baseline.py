@@ -86,7 +86,7 @@ class Baseline(unittest.TestCase):
         # It has other sources now, and cargo is asked anew.
         self.write(there, NEW)
         status, out, err = self.later("--baseline", there, ".", "-p", "to-draw")
-        self.assertEqual((status, out), (0, "to_draw 1.0.0 to 1.0.0: compatible (nothing that is looked at has changed)\n"), err)
+        self.assertEqual((status, out), (0, "to_draw 1.0.0 to 1.0.0: compatible (nothing public has changed)\n"), err)
 
     def test_what_has_moved_into_a_crate_of_its_own_is_the_same(self) -> None:
         older, newer = os.path.join(self.room, "whole"), os.path.join(self.room, "split")

@@ -8,6 +8,7 @@ import re
 import shutil
 import tempfile
 import unittest
+from collections import Counter
 
 from ..claims import Programs
 from ..later import Release, compared
@@ -15,6 +16,9 @@ from ..messages import Message
 from ..world import World
 from .common import PROGRAM, WHY_NO_PROGRAM, kept, pages, world
 from .pairs import Compiler, Pair, all_pairs, written_out
+
+
+NOT_JUDGED = "not-judged"
 
 
 def renamed(name: str, other: str, folder: str) -> str:
@@ -99,7 +103,19 @@ class Later(unittest.TestCase):
 
     def test_a_release_that_changes_nothing_is_compatible(self) -> None:
         release = compared(world("before"), world("before"), "before", programs=Programs(PROGRAM))
-        self.assertEqual((release.messages, release.answer, release.status), ([], "compatible", 0))
+        self.assertEqual((release.messages, release.answer, release.status, release.strict_status()), ([], "compatible", 0, 0))
+
+
+class NotJudged(unittest.TestCase):
+    def test_what_is_not_judged_is_not_compatible(self) -> None:
+        release = Release("a", ("1.0.0", "1.1.0"), [], Counter({"function signature": 3, "field": 1}))
+        self.assertEqual((release.answer, release.status, release.strict_status()), ("no break found in what was judged", 0, 4))
+        self.assertEqual(release.summary(), "a 1.0.0 to 1.1.0: no break found in what was judged")
+        self.assertEqual(release.uncovered(), "not judged: 1 field, 3 function signatures")
+
+    def test_a_break_stays_one(self) -> None:
+        release = Release("a", ("1.0.0", "1.1.0"), [Message("x", word="breaking")], Counter({"field": 1}))
+        self.assertEqual((release.answer, release.status, release.strict_status()), ("breaking", 1, 1))
 
 
 @unittest.skipIf(WHY_NO_PROGRAM, WHY_NO_PROGRAM)
@@ -114,7 +130,7 @@ class Pairs(unittest.TestCase):
 
     def test_each_pair_is_told_as_it_was_worked_out(self) -> None:
         for pair in self.pairs:
-            found = [m for m in self.told.get(pair.name, []) if m.level in ("error", "warning")]
+            found = [m for m in self.told.get(pair.name, []) if m.level in ("error", "warning") or m.word == "not judged"]
             with self.subTest(pair.name):
                 self.assertEqual({m.code for m in found}, pair.classes, [m.text for m in found])
                 self.assertEqual([m.text for m in found if m.word == "not settled"], [])
@@ -129,8 +145,12 @@ class Pairs(unittest.TestCase):
             compiler = Compiler(folder, self.pairs)
             self.assertEqual(compiler.failing(self.pairs, "old"), {})
             failing = compiler.failing(self.pairs, "new")
-        self.assertEqual(set(failing), {p.name for p in self.pairs if p.classes})
+        # Of what is not judged either may be so.
+        unsure = {p.name for p in self.pairs if p.classes == {NOT_JUDGED}}
+        self.assertEqual(set(failing) - unsure, {p.name for p in self.pairs if p.classes - {NOT_JUDGED}})
         for name, codes in failing.items():
+            if name in unsure:
+                continue
             said = " ".join(child.text for m in self.told[name] for child in m.children if child.level == "help")
             with self.subTest(name):
                 self.assertTrue(codes & set(re.findall(r"E\d{4}", said)), (codes, said))
