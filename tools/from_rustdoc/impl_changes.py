@@ -8,6 +8,7 @@ from typing import Optional
 
 from .claims import Claim, Judge, Programs
 from .cone import cone_of_questions
+from .constant_changes import MARKERS, trait_name
 from .impls import Written
 from .item_changes import change
 from .messages import Message, at
@@ -22,6 +23,12 @@ from .versions import Gone, Header, Versions, all_keys, bound_keys, is_private, 
 from .world import World, crate_name
 
 
+# What rustc says where a type has not a trait that the language itself asks for.
+BINARY = "Add Sub Mul Div Rem BitAnd BitOr BitXor Shl Shr"
+WITHOUT = {**dict.fromkeys(f"{BINARY} PartialEq PartialOrd".split(), "E0277 or E0369"),
+           **dict.fromkeys((f"{name}Assign" for name in BINARY.split()), "E0277 or E0368"), **dict.fromkeys(("Neg", "Not"), "E0277 or E0600"),
+           **dict.fromkeys(("DerefMut", "IndexMut"), "E0594 or E0596"), "Copy": "E0277, E0382 or E0507", "Index": "E0277 or E0608",
+           "Deref": "E0277, E0599 or E0614", "CoerceUnsized": "E0277 or E0308"}
 # What nothing is told of.
 KNOWN = "the old version proves it already"
 
@@ -64,10 +71,10 @@ class ImplChanges:
             self.troubled[key].note(f"its impls are not compared: {count}")
 
     def of(self, world: World) -> dict[Header, list[tuple[Impl, frozenset[Predicate]]]]:
-        """The crate's impls by their headers, without those of auto traits, which are asked for."""
+        """The crate's impls by their headers, without those of auto traits, which are asked for, and of traits that nobody can name."""
         found: dict[Header, list[tuple[Impl, frozenset[Predicate]]]] = {}
         for impl in self.versions.impls(world):
-            if impl.trait is not None and not is_auto(world, impl):
+            if impl.trait is not None and trait_name(impl.trait) not in MARKERS and not is_auto(world, impl):
                 header, clauses = self.versions.header(world, impl)
                 found.setdefault(header, []).append((impl, clauses))
         return found
@@ -108,7 +115,7 @@ class ImplChanges:
         if kept.again:
             message = change(code, f"`{header}` asks for more", at(kept.again[0].place), at(impl.place, "", "old"))
         else:
-            message = change(code, f"`{header}` is removed", [], at(impl.place, "it was here", "old"))
+            message = change(code, f"`{header}` is removed", [], at(impl.place, "it was here", "old"), rustc=WITHOUT.get(trait_name(impl.trait), ""))
         try:
             predicates = versions.predicates_to_new(impl.predicates)
             subject, bound = versions.to_new(impl.self_type), versions.bound_to_new(impl.trait)

@@ -30,14 +30,15 @@ RUSTC = {"item-removed": "E0425 or E0432", "alias-removed": "E0425 or E0432", "k
          "associated-type-bound-removed": "E0277, E0308 or E0599", "associated-type-changed": "E0107 or E0049", "required-item-added": "E0046",
          "trait-item-removed": "E0407 or E0599", "trait-made-unsafe": "E0200", "trait-made-safe": "E0199", "trait-made-auto": "E0119",
          "dyn-lost": "E0038 or E0393", "impl-added": "E0119", "impl-removed": "E0277 or E0599", "impl-bounds-changed": "E0277, E0308 or E0599",
-         "associated-value-changed": "E0271 or E0308", "auto-trait-lost": "E0277"}
+         "associated-value-changed": "E0271 or E0308", "auto-trait-lost": "E0277", "constant-pattern-lost": "`constant of non-structural type`",
+         "constant-borrow-lost": "E0492 or E0716"}
 
 
-def change(code: str, text: str, new: list[Span], old: Optional[list[Span]] = None, word: str = "breaking") -> Message:
-    """A change of a class; where the new version has no place for it the old one has."""
+def change(code: str, text: str, new: list[Span], old: Optional[list[Span]] = None, word: str = "breaking", rustc: str = "") -> Message:
+    """A change of a class; where the new version has no place for it the old one has. `rustc` is what it says, if not that of the class."""
     message = Message(text, code, word, spans=new or old or [])
-    if code in RUSTC:
-        message.help(f"a crate that breaks gets {RUSTC[code]}")
+    if rustc or code in RUSTC:
+        message.help(f"a crate that breaks gets {rustc or RUSTC[code]}")
     return message
 
 

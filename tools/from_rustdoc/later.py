@@ -6,6 +6,7 @@ from dataclasses import dataclass, field
 
 from .auto_changes import AutoChanges
 from .claims import Judge, Programs, worst_first
+from .constant_changes import ConstantChanges
 from .impl_changes import ImplChanges
 from .item_changes import ItemChanges
 from .member_changes import MemberChanges
@@ -61,9 +62,12 @@ def compared(old: World, new: World, crate: str, with_private: bool = False, pro
     impls.run()
     autos = AutoChanges(versions, items.troubled, programs)
     autos.run()
+    constants = ConstantChanges(versions, items.troubled)
+    constants.run()
     members = MemberChanges(items)
     members.run()
-    messages = items.messages + Judge(new, programs).settle(items.claims) + impls.messages + autos.messages + items.new_items + members.messages
+    messages = items.messages + Judge(new, programs).settle(items.claims) + impls.messages + autos.messages + constants.messages
+    messages += items.new_items + members.messages
     for message in messages:
         message.crate = crate
     return Release(crate, (old.crates[crate].version, new.crates[crate].version), worst_first(messages), members.not_judged)

@@ -19,6 +19,7 @@ sys.path.insert(0, os.path.dirname(os.path.dirname(HERE)))
 
 from from_rustdoc.build import AUTO_TRAITS  # noqa: E402
 from from_rustdoc.cargo import FLAGS, docs_folder  # noqa: E402
+from from_rustdoc.constant_changes import FREEZE  # noqa: E402
 from from_rustdoc.html_docs import Pages  # noqa: E402
 from from_rustdoc.standard import COMPUTED  # noqa: E402
 from from_rustdoc.tests.pairs import all_pairs, library, rustdoc  # noqa: E402
@@ -32,7 +33,7 @@ READ = ("struct", "enum", "union", "variant", "struct_field", "trait", "impl", "
 MORE = ("core/marker/trait.Send.html core/marker/trait.Sync.html core/marker/trait.Unpin.html core/panic/unwind_safe/trait.UnwindSafe.html "
         "core/panic/unwind_safe/trait.RefUnwindSafe.html core/marker/trait.Sized.html core/marker/trait.PointeeSized.html core/marker/trait.MetaSized.html "
         "core/ops/function/trait.FnMut.html core/ops/function/trait.FnOnce.html core/default/trait.Default.html core/fmt/trait.Debug.html core/clone/trait.Clone.html core/marker/trait.Copy.html core/marker/trait.Unsize.html core/cmp/trait.Eq.html "
-        "core/option/enum.Option.html alloc/vec/struct.Vec.html alloc/boxed/struct.Box.html alloc/string/struct.String.html "
+        "core/marker/trait.StructuralPartialEq.html core/option/enum.Option.html alloc/vec/struct.Vec.html alloc/boxed/struct.Box.html alloc/string/struct.String.html "
         "alloc/alloc/struct.Global.html core/alloc/trait.Allocator.html core/cell/struct.Cell.html core/marker/struct.PhantomData.html "
         "core/iter/traits/collect/trait.IntoIterator.html core/iter/traits/iterator/trait.Iterator.html alloc/vec/struct.IntoIter.html alloc/rc/struct.Rc.html "
         "core/fmt/type.Result.html core/result/enum.Result.html core/fmt/struct.Error.html core/marker/trait.Tuple.html core/num/nonzero/trait.ZeroablePrimitive.html core/num/trait.ZeroablePrimitive.html").split()
@@ -41,7 +42,7 @@ MORE = ("core/marker/trait.Send.html core/marker/trait.Sync.html core/marker/tra
 def is_kept(impl: dict[str, Any], whole: bool, is_compared: bool) -> bool:
     if impl["blanket_impl"] is not None or impl["trait"] is None:
         return whole and impl["blanket_impl"] is None
-    return not impl["is_synthetic"] or is_compared and impl["trait"]["path"] in AUTO_TRAITS
+    return not impl["is_synthetic"] or is_compared and impl["trait"]["path"] in (*AUTO_TRAITS, FREEZE)
 
 
 def trimmed(data: dict[str, Any], is_compared: bool, whole: bool = False) -> dict[str, Any]:

@@ -74,7 +74,7 @@ class Compiler:
         return [m for m in messages if m["level"] == "error" and m["spans"]]
 
     def failing(self, pairs: list[Pair], version: str) -> dict[str, set[str]]:
-        """The names of the pairs whose users do not compile with a version, with rustc's codes. Errors of one kind hide others, so the
+        """The names of the pairs whose users do not compile with a version, with rustc's codes, or how its message begins. Errors of one kind hide others, so the
         users that failed are left out and the rest compiled again."""
         found: dict[str, set[str]] = {}
         while True:
@@ -88,7 +88,7 @@ class Compiler:
             for error in errors:
                 for span in error["spans"]:  # type: ignore[attr-defined]
                     if span["file_name"].endswith("user.rs"):
-                        code = (error["code"] or {"code": ""})["code"]  # type: ignore[index]
+                        code = error["code"]["code"] if error["code"] else str(error["message"]).split(" `")[0]  # type: ignore[index]
                         found.setdefault(module_at(lines, span["line_start"]), set()).add(code)
 
 

@@ -135,6 +135,10 @@ class Pairs(unittest.TestCase):
                 self.assertEqual({m.code for m in found}, pair.classes, [m.text for m in found])
                 self.assertEqual([m.text for m in found if m.word == "not settled"], [])
 
+    def test_one_break_is_told_once(self) -> None:
+        for name in ("copy_lost", "equality_removed", "equality_written_by_hand"):
+            self.assertEqual(len([m for m in self.told[name] if m.level == "error"]), 1, name)
+
     def test_there_are_enough_pairs_of_either_kind(self) -> None:
         self.assertGreater(sum(not p.classes for p in self.pairs), 25)
         self.assertGreater(len(set().union(*(p.classes for p in self.pairs))), 24)
@@ -153,7 +157,7 @@ class Pairs(unittest.TestCase):
                 continue
             said = " ".join(child.text for m in self.told[name] for child in m.children if child.level == "help")
             with self.subTest(name):
-                self.assertTrue(codes & set(re.findall(r"E\d{4}", said)), (codes, said))
+                self.assertTrue(codes & set(re.findall(r"E\d{4}", said) + re.findall("`([^`]*)`", said)), (codes, said))
 
     @unittest.skipUnless(shutil.which("rustc"), "there is no rustc")
     def test_each_impl_that_is_written_out_breaks(self) -> None:
