@@ -12,7 +12,7 @@ from .members import Member, signature_of
 from .messages import Message, at
 from .rustdoc_json import kind_and_body
 from .surface import Item, Surface
-from .terms import Array, Bound, Impl, Named, Never, Parameter, Primitive, Reference, Slice, Tuple, Type, walk
+from .terms import Array, Bound, Impl, Named, Never, Parameter, Primitive, Reference, Slice, Tuple, Type, put, walk
 from .versions import Versions
 from .world import World
 
@@ -45,10 +45,17 @@ class ConstantChanges:
             if old is None or new is None or not old.is_type or old_key in self.troubled:
                 continue
             if old_key in structural[id(versions.old)] and new_key not in structural[id(versions.new)] and self.has_equality(new_key):
-                if constants.has(old, True):
+                if constants.has(old, self.is_as_before(old, new), True):
                     self.tell("constant-pattern-lost", new, "a constant of it is no pattern any more: its `PartialEq` is not derived")
-            if old_key in cells and constants.has(old, False):
+            if old_key in cells and constants.has(old, self.is_as_before(old, new), False):
                 self.tell("constant-borrow-lost", new, "a constant of it cannot be borrowed for good any more: there is a cell in it")
+
+    def is_as_before(self, old: Item, new: Item) -> bool:
+        """Whether who writes a value of the old type writes one of the new type; if not, that is told."""
+        names: dict[str, Type] = {p.name: q for p, q in zip(new.params, old.itself().arguments)}
+        versions = self.versions
+        before = [versions.common(versions.old, term) for term in versions.old.get(old.key).fields]
+        return before == [versions.common(versions.new, put(term, names)) for term in versions.new.get(new.key).fields]
 
     def tell(self, code: str, item: Item, text: str) -> None:
         self.messages.append(change(code, f"{item.shown()}: {text}", at(item.place)))
@@ -113,9 +120,9 @@ class Constants:
     def fields(self, item: Item) -> list[Type]:
         return self.world.get(item.key).fields
 
-    def has(self, item: Item, as_pattern: bool) -> bool:
-        forms = list(self.forms(item))
-        made = [fields for is_made, fields in forms if is_made or item.key in self.given]
+    def has(self, item: Item, is_written: bool, as_pattern: bool) -> bool:
+        """Whether others can have one of the type: one that is given, or that is written if the type's form allows it."""
+        made = [fields for is_made, fields in self.forms(item) if is_made and is_written or item.key in self.given]
         return any(not as_pattern or all(map(self.is_structural, fields)) for fields in made)
 
     def forms(self, item: Item) -> Iterator[tuple[bool, list[Type]]]:

@@ -22,16 +22,24 @@ ITSELF = "Self_"
 SIZED = "core/marker/trait.Sized.html"
 MAXIMAL_DEPTH = 8
 # What rustc says of a crate that a change breaks.
-RUSTC = {"item-removed": "E0425 or E0432", "alias-removed": "E0425 or E0432", "kind-changed": "E0404, E0423 or E0782", "alias-retargeted": "E0277 or E0308",
+RUSTC = {"item-removed": "E0425 or E0432", "alias-removed": "E0425 or E0432", "kind-changed": "E0404, E0423, E0530, E0532 or E0782", "alias-retargeted": "E0277 or E0308",
          "parameter-added": "E0107", "parameter-removed": "E0107", "parameter-kind-changed": "E0308 or E0747", "default-removed": "E0107",
-         "default-changed": "E0308", "lifetime-added": "E0106", "lifetime-removed": "E0107", "bound-added": "E0271 or E0277",
+         "default-changed": "E0308", "lifetime-added": "E0106", "lifetime-removed": "E0107", "bound-added": "E0271, E0277, E0308 or E0599",
          "lifetime-bound-added": "E0310 or E0477", "supertrait-added": "E0271 or E0277", "supertrait-removed": "E0277, E0308 or E0599",
          "associated-type-added": "E0046 or E0191", "associated-type-removed": "E0220", "associated-type-bound-added": "E0277",
          "associated-type-bound-removed": "E0277, E0308 or E0599", "associated-type-changed": "E0107 or E0049", "required-item-added": "E0046",
          "trait-item-removed": "E0407 or E0599", "trait-made-unsafe": "E0200", "trait-made-safe": "E0199", "trait-made-auto": "E0119",
          "dyn-lost": "E0038 or E0393", "impl-added": "E0119", "impl-removed": "E0277 or E0599", "impl-bounds-changed": "E0277, E0308 or E0599",
          "associated-value-changed": "E0271 or E0308", "auto-trait-lost": "E0277", "constant-pattern-lost": "`constant of non-structural type`",
-         "constant-borrow-lost": "E0492 or E0716"}
+         "constant-borrow-lost": "E0492 or E0716",
+         "function-removed": "E0425 or E0432", "constant-removed": "E0425 or E0432", "static-removed": "E0425 or E0432", "macro-removed": "E0432 or E0433",
+         "module-removed": "E0432 or E0433", "method-removed": "E0599 or E0624", "associated-constant-removed": "E0599 or E0624", "field-removed": "E0026, E0560 or E0609",
+         "field-made-private": "E0451 or E0616", "field-added": "E0023, E0027, E0061, E0063, E0423, E0451 or E0532", "field-type-changed": "E0308",
+         "form-changed": "E0308, E0423, E0532, E0533 or E0618", "non-exhaustive-added": "E0004, E0603, E0638 or E0639", "variant-removed": "E0599",
+         "variant-added": "E0004", "discriminant-changed": "E0308", "repr-changed": "E0793", "constant-type-changed": "E0308",
+         "associated-constant-type-changed": "E0308 or E0326", "static-type-changed": "E0308", "static-made-mutable": "E0133 or E0594",
+         "signature-changed": "E0049, E0050, E0053, E0061, E0107, E0185, E0186, E0276, E0277, E0282, E0283, E0308, E0507 or E0599",
+         "const-lost": "E0015 or E0658", "function-made-unsafe": "E0053 or E0133", "result-bound-removed": "E0277, E0308 or E0599"}
 
 
 def change(code: str, text: str, new: list[Span], old: Optional[list[Span]] = None, word: str = "breaking", rustc: str = "") -> Message:

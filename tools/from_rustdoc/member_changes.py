@@ -3,19 +3,22 @@ is not judged. Two things are the same if they are written in one form (`written
 go on, or it is counted: silent is nothing."""
 from __future__ import annotations
 
+import re
 from collections import Counter
-from typing import Any, Optional
+from typing import Any, Callable, Iterable, Optional
 
 from .item_changes import ItemChanges
-from .members import Member, signature_of
+from .members import Member, Shape, shape_of
 from .messages import Message, at
 from .rustdoc_json import kind_and_body
+from .signature_changes import SignatureChanges
 from .surface import Item
+from .terms import Place
+from .versions import Unsure, compared_types
 from .written import ATTRIBUTES, Form, attributes, clauses
 
-
-# What is looked at of some kinds; of others it is all.
-FORMS = {"module": (), "static": ("type", "is_mutable", "is_unsafe"), "constant": ("type", "const"), "associated constant": ("type", "value")}
+FORM_NAMES = {"unit": "without fields", "tuple": "a tuple", "plain": "with named fields"}
+PACKED = r"packed(?!': None)"
 
 
 class MemberChanges:
@@ -28,40 +31,73 @@ class MemberChanges:
         self.messages: list[Message] = []
         self.not_judged: Counter[str] = Counter()
         self.seen: set[tuple[int, int]] = set()
+        self.signatures = SignatureChanges(items, self.count)
 
     def run(self) -> None:
         before, after = self.versions.before, self.versions.after
+        lost: dict[object, list[Member]] = {}
         for place, old in before.values.items():
             new = after.values.get(place)
             if new is None:
-                self.count(old.kind, old.shown(), "is removed")
+                lost.setdefault((old.kind, id(old.item) if old.item else old.other), []).append(old)
             else:
                 self.member(old, new)
+        for members in lost.values():
+            self.removed(sorted(members, key=lambda m: (m.path.count("::"), m.path)))
         for old_key, new_key in self.versions.newer.items():
             item, later = before.items.get(old_key), after.items.get(new_key)
             if item is not None and later is not None and old_key not in self.items.troubled:
                 self.item(item, later)
 
-    def count(self, kind: str, what: str, why: str, place: Any = None) -> None:
+    def count(self, kind: str, what: str, why: str, place: Optional[Place] = None) -> None:
         """What changed and is not judged."""
         self.not_judged[kind] += 1
         self.messages.append(Message(f"{what}: {why}", "not-judged", "not judged", spans=at(place)))
 
+    # ---- what is gone
+    def removed(self, members: list[Member]) -> None:
+        """One item, by all paths by which it is gone."""
+        old, after = members[0], self.versions.after
+        if old.kind == "module" and any(m.text.startswith(tuple(f"{w} `{old.path}::" for w in ("struct", "enum", "union", "trait", "type", "function",
+                                                                                               "constant", "static"))) for m in self.items.messages):
+            return
+        now = next((kind for kind, path in after.values if path == old.path and {kind, old.kind} == {"constant", "static"}), None)
+        if now == "constant":
+            self.count(old.kind, old.shown(), "is a constant now")
+            return
+        code = "kind-changed" if now else f"{old.kind.replace(' ', '-')}-removed"
+        unknown = sorted(after.closed - self.versions.before.closed)
+        message = self.tell(code, f"{old.kind} `{old.path}` is " + (f"a {now} now" if now else "removed"), [], at(old.place, "it was here", "old"),
+                            "not settled" if unknown else "breaking")
+        for member in members[1:]:
+            message.note(f"so is `{member.path}`")
+        if unknown:
+            message.note(f"it may come by `{unknown[0]}`, which is exported and was not given")
+
     # ---- types and traits
     def item(self, old: Item, new: Item) -> None:
         self.lifetimes(old, new)
-        if attributes(old.read, "non_exhaustive", *ATTRIBUTES) != attributes(new.read, "non_exhaustive", *ATTRIBUTES):
-            self.count("attribute", new.shown(), "its attributes have changed", new.place)
+        self.attributes(old, new)
         for name, members in old.members.items():
-            again = new.members.get(name, [])
-            for old_member in members:
-                if again and (old_member.is_public or again[0].is_public):
-                    self.member(old_member, again[0], old, new)
-                elif old_member.is_public and old.kind != "trait":
-                    self.count(name[0], old_member.shown(), "is removed", new.place)
-        for name, members in new.members.items():
-            if name not in old.members and name[0] in ("field", "variant") and all(m.is_public for i in old.members.values() for m in i):
-                self.count(name[0], members[0].shown(), "is new", members[0].place)
+            if name[0] in ("field", "variant"):
+                continue
+            for member in members:
+                again = [m for m in new.members.get(name, []) if ("for" in m.impl) == ("for" in member.impl)]
+                if again:
+                    self.member(member, self.signatures.nearest(member, again), old, new)
+                elif "for" in member.impl:
+                    self.tell(f"{name[0].replace(' ', '-')}-removed", f"{name[0]} `{member.path}` is removed", [], at(member.place, "it was here", "old"))
+        if old.kind == new.kind and old.is_type:
+            self.form_of(old, new)
+
+    def attributes(self, old: Item, new: Item) -> None:
+        before, after = attributes(old.read, *ATTRIBUTES), attributes(new.read, *ATTRIBUTES)
+        if before == after:
+            return
+        if re.search(PACKED, str(after)) and not re.search(PACKED, str(before)) and any(m.is_public for (k, _), i in old.members.items() if k == "field" for m in i):
+            self.tell("repr-changed", f"{new.shown()} is packed now, so that nobody can refer to its fields", at(new.place))
+        else:
+            self.count("attribute", new.shown(), "its attributes have changed", new.place)
 
     def lifetimes(self, old: Item, new: Item) -> None:
         """What is asked of bounds is asked up to lifetimes, so other lifetimes in them are counted."""
@@ -82,8 +118,82 @@ class MemberChanges:
                           for unit, erased in clauses(item.crate, self.common(version), its, names + own).items()}
         return found, set(found.values())
 
+    # ---- fields and variants
+    def form_of(self, old: Item, new: Item) -> None:
+        """What others can name of a type's form."""
+        if old.kind != "enum":
+            self.shape(shape_of(old.crate, old.read), shape_of(new.crate, new.read), new.shown(), (old, new))
+            return
+        before, after = ({m.name: m for (kind, _), members in item.members.items() for m in members if kind == "variant"} for item in (old, new))
+        is_open = not attributes(old.read, "non_exhaustive")
+        if is_open and attributes(new.read, "non_exhaustive"):
+            self.tell("non-exhaustive-added", f"{new.shown()} is `#[non_exhaustive]` now", at(new.place))
+            is_open = False
+        for name, member in before.items():
+            if name not in after:
+                self.tell("variant-removed", f"variant `{member.path}` is removed", at(new.place), at(member.place, "it was here", "old"))
+            else:
+                self.shape(shape_of(old.crate, member.item), shape_of(new.crate, after[name].item), f"variant {after[name].path}", (old, new))
+        added = [member for name, member in after.items() if name not in before]
+        if added and is_open:
+            self.tell("variant-added", f"{new.shown()} has a new variant: `{added[0].name}`", at(added[0].place))
+        values = discriminants(before.values()), discriminants(after.values())
+        if None not in values:
+            changed = [n for n, value in (values[0] or {}).items() if (values[1] or {}).get(n, value) != value]
+            if changed:
+                self.tell("discriminant-changed", f"variant {after[changed[0]].path} is another number now", at(after[changed[0]].place))
+        elif any(m.body["discriminant"] != after[n].body["discriminant"] for n, m in before.items() if n in after):
+            self.count("discriminant", new.shown(), "a number of a variant has changed", new.place)
+
+    def shape(self, old: Shape, new: Shape, what: str, owners: tuple[Item, Item]) -> None:
+        """The fields of a struct, a union or a variant."""
+        place = at(new.place)
+        is_closed = old.is_made and not new.is_exhaustive
+        if is_closed:
+            self.tell("non-exhaustive-added", f"{what} is `#[non_exhaustive]` now", place)
+        elif old.is_made and old.kind in ("unit", "tuple") and old.kind != new.kind:
+            self.tell("form-changed", f"{what} is {FORM_NAMES[new.kind]} now, and was {FORM_NAMES[old.kind]}", place)
+            return
+        for name, field in old.fields.items():
+            later = new.fields.get(name)
+            if not field.is_public:
+                continue
+            if later is None:
+                self.tell("field-removed", f"{what} has no field `{name}` any more", place, at(field.place, "it was here", "old"))
+            elif not later.is_public:
+                self.tell("field-made-private", f"{what}: the field `{name}` is private now", at(later.place))
+            else:
+                self.typed("field", field, later, f"{what}: the field `{name}`", owners)
+        added = [field for name, field in new.fields.items() if name not in old.fields]
+        if added and old.is_made and not is_closed and owners[0].kind != "union":
+            self.tell("field-added", f"{what} has a new field: `{added[0].name.split('::')[-1]}`", at(added[0].place))
+
+    def typed(self, kind: str, old: Member, new: Member, what: str, owners: tuple[Optional[Item], Optional[Item]]) -> None:
+        """The type of a field, constant or static."""
+        if any(not isinstance(m.body, (dict, str)) or (kind != "field" and "type" not in m.body) for m in (old, new)):
+            return
+        types = [m.body if kind == "field" else m.body["type"] for m in (old, new)]
+        names = [self.names(m, owner) for m, owner in zip((old, new), owners)]
+        forms = [[Form(m.crate, self.common(v), names[v], erased).of(types[v]) for erased in (False, True)] for v, m in enumerate((old, new)) if m.crate]
+        if forms[0][0] == forms[1][0]:
+            return
+        if forms[0][1] == forms[1][1]:
+            self.count(kind, what, "its type has other lifetimes", new.place)
+            return
+        try:
+            before, after = compared_types(self.versions, (old.crate, types[0], names[0]), (new.crate, types[1], names[1]))
+        except Unsure as unsure:
+            self.count(kind, what, f"its type is another one, or not: {unsure}", new.place)
+            return
+        self.tell(f"{kind.replace(' ', '-')}-type-changed", f"{what} is of another type: `{after}`, and was `{before}`", at(new.place))
+
+    @staticmethod
+    def names(member: Member, owner: Optional[Item]) -> list[str]:
+        around = member.impl or (kind_and_body(owner.read)[1] if owner is not None else {"generics": {"params": []}})
+        return [p["name"] for p in around["generics"]["params"]]
+
     # ---- one member
-    def common(self, version: int) -> Any:
+    def common(self, version: int) -> Callable[[str], str]:
         world = (self.versions.old, self.versions.new)[version]
         return lambda key: self.versions.common_key(world, key)
 
@@ -95,20 +205,44 @@ class MemberChanges:
             if old.other != new.other:
                 self.count("re-export", new.shown(), "is another one")
             return
-        if self.form(old, 0, before) != self.form(new, 1, after):
+        if attributes(old.item, *ATTRIBUTES) != attributes(new.item, *ATTRIBUTES):
+            self.count("attribute", new.shown(), "its attributes have changed", new.place)
+        owners = before, after
+        if old.kind in ("function", "method"):
+            if "sig" in old.body and "sig" in new.body:
+                self.signatures.compare(old, new, owners)
+        elif old.kind in ("constant", "associated constant", "static"):
+            self.value(old, new, owners)
+        elif self.form(old, 0, before) != self.form(new, 1, after):
             self.count(old.kind, new.shown(), "how it is declared", new.place)
+
+    def value(self, old: Member, new: Member, owners: tuple[Optional[Item], Optional[Item]]) -> None:
+        told = len(self.items.messages)
+        self.typed(old.kind, old, new, new.shown(), owners)
+        if old.kind == "static":
+            if old.body["is_mutable"] != new.body["is_mutable"] or (new.body.get("is_unsafe") and not old.body.get("is_unsafe")):
+                self.tell("static-made-mutable", f"{new.shown()} is {'mutable' if new.body['is_mutable'] else 'not as mutable as before'} now", at(new.place))
+            return
+        values = [(m.body.get("const") or {}).get("value") or (m.body.get("const") or {}).get("expr") or m.body.get("value") for m in (old, new)]
+        if values[0] != values[1] and told == len(self.items.messages):
+            self.count(old.kind, new.shown(), "its value is another one", new.place)
 
     def form(self, member: Member, version: int, owner: Optional[Item]) -> Any:
         assert member.crate is not None
-        body, common = member.body, self.common(version)
-        kept = [member.is_public, attributes(member.item, "non_exhaustive", "target_feature", *ATTRIBUTES)]
-        if member.kind in ("function", "method") and "sig" in body:
-            signature = signature_of(member)
-            return kept, set(clauses(member.crate, common, {"generics": signature.generics}, signature.names)), Form(member.crate, common, signature.names).of(
-                [signature.written, {"generics": [], "for": member.impl.get("for")}]), signature.header, signature.own
-        if member.kind == "variant":
-            body = {"discriminant": body["discriminant"], "kind": body["kind"] if isinstance(body["kind"], str) else next(iter(body["kind"]))}
-        elif member.kind in FORMS:
-            body = {name: body.get(name) for name in FORMS[member.kind]}
-        around = member.impl or kind_and_body(owner.read)[1] if owner is not None else {"generics": {"params": []}}
-        return kept, Form(member.crate, common, [p["name"] for p in around["generics"]["params"]]).of([body])
+        return Form(member.crate, self.common(version), self.names(member, owner)).of([() if member.kind == "module" else member.body])
+
+
+def discriminants(variants: Iterable[Member]) -> Optional[dict[str, int]]:
+    """The number of each variant of an enum without fields, as `as` gives it; None of another enum."""
+    found: dict[str, int] = {}
+    following = 0
+    for variant in variants:
+        written = variant.body["discriminant"]
+        assert variant.crate is not None
+        shape = shape_of(variant.crate, variant.item)
+        if shape.fields or not shape.is_exhaustive:
+            return None
+        following = int(written["value"]) if written else following
+        found[variant.name] = following
+        following += 1
+    return found

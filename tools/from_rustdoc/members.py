@@ -5,7 +5,7 @@ from dataclasses import dataclass, field
 from typing import Any, Optional
 
 from .rustdoc_json import ITEMS, JsonCrate, kind_and_body
-from .terms import UNIT, Bound, Dyn, Named, Parameter, Place, Type
+from .terms import UNIT, Bound, Dyn, Named, Param, Parameter, Place, Predicate, Type
 
 # Items of modules that are values, macros, or have no form that is read.
 VALUES = {"function": "function", "constant": "constant", "static": "static", "macro": "macro", "proc_macro": "macro", "proc_derive": "macro",
@@ -84,16 +84,42 @@ def members_of(crate: JsonCrate, item: dict[str, Any], path: str, impls: list[di
 
 
 @dataclass
+class Shape:
+    """The form of a struct, union or variant: `kind` is unit, tuple or plain; fields by name, private ones too."""
+    kind: str
+    is_exhaustive: bool
+    place: Optional[Place]
+    fields: dict[str, Member]
+
+    @property
+    def is_made(self) -> bool:
+        """Whether others can make one, and take it apart without `..`."""
+        return self.is_exhaustive and all(field.is_public for field in self.fields.values())
+
+
+def shape_of(crate: JsonCrate, item: dict[str, Any]) -> Shape:
+    kind, body = kind_and_body(item)
+    form = body.get("kind", "plain")
+    word = {"plain": "unit" if kind == "variant" else "plain", "struct": "plain"}.get(form, form) if isinstance(form, str) else next(iter(form))
+    numbers = crate.field_numbers("enum", {"variants": [item["id"]]}) if kind == "variant" else crate.field_numbers(kind, body)
+    fields = {inside["name"]: Member("field", inside["name"], inside["name"], crate, inside) for inside in filter(None, map(crate.item, numbers))}
+    return Shape({"struct": "plain"}.get(word, word), not any("non_exhaustive" in str(a) for a in item["attrs"]), crate.place(item), fields)
+
+
+@dataclass
 class Signature:
     """A function's parameters and result. `params` are those of its impl or trait, its own, and one for each `impl Trait` among its
-    parameters; `own` is how many are its own and can be named. `results` are the bounds of each `impl Trait` of the result, which stands in
+    parameters; `own` are its own that can be named, `made` counts the `impl Trait`s. `results` are the bounds of each `impl Trait` of the result, which stands in
     `output` as a parameter. `written` is the whole as JSON."""
     generics: dict[str, Any]
     written: dict[str, Any]
     inputs: list[Type]
     output: Type
     itself: Type
+    params: list[Param]
+    predicates: list[Predicate]
     own: list[str]
+    made: int
     results: dict[str, list[Bound]]
     header: dict[str, Any]
 
@@ -132,6 +158,7 @@ def signature_of(member: Member) -> Signature:
     generics = {"params": around["params"] + own + made, "where_predicates": around["where_predicates"] + body["generics"]["where_predicates"]}
     itself = crate.type(impl["for"], None) if "for" in impl else Parameter("Self")
     meant = itself if "for" in impl else None
-    return Signature(generics, {**body["sig"], "inputs": inputs, "output": output}, [crate.type(t, meant) for _, t in inputs],
-                     crate.type(output, meant) if output else UNIT, itself, [p["name"] for p in own if "lifetime" not in p["kind"]],
+    return Signature(generics, {**body["sig"], "inputs": inputs, "output": output, "results": results}, [crate.type(t, meant) for _, t in inputs],
+                     crate.type(output, meant) if output else UNIT, itself, *crate.generics(generics, meant),
+                     [p["name"] for p in own if "lifetime" not in p["kind"]], len(made),
                      {n: crate.bounds(b, meant) for n, b in results.items()}, body["header"])

@@ -4,13 +4,14 @@ Items are the same if a public path names both, wherever they are declared; priv
 """
 from __future__ import annotations
 
-from typing import Callable
+from typing import Any, Callable, Optional
 
 from .html_docs import is_std_key
+from .rustdoc_json import JsonCrate
 from .show import Show
 from .surface import Surface, surface_of
-from .terms import (Alias, Bound, BoundsOf, Constant, Declaration, Dyn, Impl, Named, Param, Parameter, Predicate, Projection, Type, keys_of,
-                    parameters_of, put, put_bound, rebuilt, walk)
+from .terms import (Alias, Bound, BoundsOf, Constant, Declaration, Dyn, Impl, Lossy, Named, Param, Parameter, Predicate, Projection, Type, Unsayable,
+                    argument_values, keys_of, parameters_of, put, put_bound, rebuilt, walk)
 from .world import World
 
 Header = tuple[object, ...]
@@ -18,6 +19,10 @@ Header = tuple[object, ...]
 
 class Gone(Exception):
     """An item of the old version that the new one has not."""
+
+
+class Unsure(Exception):
+    """Whether two types are one is not known; the message says why."""
 
 
 def rekeyed(term: Type, change: Callable[[str], str]) -> Type:
@@ -167,6 +172,52 @@ def parameter_order(impl: Impl) -> list[str]:
 
 def in_order(term: Type) -> list[str]:
     return [part.name for part in walk(term) if isinstance(part, Parameter)]
+
+
+# ---- types that are written otherwise
+Written = tuple[Optional[JsonCrate], Any, list[str]]
+
+
+def compared_types(versions: Versions, old: Written, new: Written) -> tuple[str, str]:
+    """Two types that are not written alike, as they are shown, if they are two types for certain; each as its JSON, with the names of the
+    parameters around it."""
+    found, shown = [], []
+    for world, show, (crate, written, names) in ((versions.old, versions.show_old, old), (versions.new, versions.show_new, new)):
+        assert crate is not None
+        term = expanded(world, crate.type(written, None))
+        shown.append(show.type(term))
+        found.append(versions.common(world, put(term, {name: Parameter(f"P{number}") for number, name in enumerate(names)})))
+        for part in walk(term):
+            why = unsure(world, part)
+            if why:
+                raise Unsure(why)
+    if found[0] == found[1]:
+        raise Unsure("they differ in what is not read")
+    return shown[0], shown[1]
+
+
+def unsure(world: World, part: Type) -> str:
+    """Why a part of a type may be the same as one that is written otherwise; empty if it cannot."""
+    if isinstance(part, Projection):
+        return "it names an associated type"
+    if isinstance(part, (Unsayable, Alias, BoundsOf)):
+        return part.why if isinstance(part, Unsayable) else "it names an alias of another crate"
+    if isinstance(part, Named):
+        declaration = world.known(world.key_of(part.key))
+        if part.key.startswith(("hidden:", "?")) or (declaration is not None and is_private(world, declaration)):
+            return "it names a type that has no path"
+    return ""
+
+
+def expanded(world: World, term: Type) -> Type:
+    """The type with what aliases of std stand for."""
+    if isinstance(term, Alias):
+        try:
+            declaration = world.get(term.key)
+            return expanded(world, put(declaration.fields[0], argument_values(declaration.params, term.arguments)))
+        except (Lossy, IndexError):
+            return term
+    return rebuilt(term, lambda part: expanded(world, part))
 
 
 # ---- who can name what

@@ -70,7 +70,7 @@ class Form:
         self.elided = own or (met[0] if len(met) == 1 else "elided")
         output = self.of(node["output"])
         self.elided = outer
-        return {"inputs": inputs, "output": output, "variadic": node.get("is_c_variadic", False)}
+        return {"inputs": inputs, "output": output, "variadic": node.get("is_c_variadic", False), "results": self.of(node.get("results"))}
 
     def lifetime(self, name: Any) -> Any:
         if self.erased or isinstance(name, list):
