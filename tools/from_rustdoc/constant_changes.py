@@ -8,7 +8,7 @@ from __future__ import annotations
 from typing import Iterator, Optional
 
 from .item_changes import change
-from .members import Member, signature_of
+from .members import Member, shape_of, signature_of
 from .messages import Message, at
 from .rustdoc_json import kind_and_body
 from .surface import Item, Surface
@@ -128,12 +128,10 @@ class Constants:
     def forms(self, item: Item) -> Iterator[tuple[bool, list[Type]]]:
         """The fields of a struct, or of each variant of an enum, and whether others can write such a value."""
         assert item.crate is not None
-        crate, (kind, body) = item.crate, kind_and_body(item.read)
-        for read in filter(None, map(crate.item, body["variants"])) if kind == "enum" else [item.read]:
-            numbers = crate.field_numbers("enum", {"variants": [read["id"]]}) if kind == "enum" else crate.field_numbers(kind, body)
-            fields = list(filter(None, map(crate.item, numbers)))
-            is_made = all(f["visibility"] in ("public", "default") for f in fields) and "non_exhaustive" not in str(read.get("attrs", []))
-            yield is_made and (bool(fields) or kind == "enum" or body.get("kind") == "unit"), [crate.type(f["inner"]["struct_field"], None) for f in fields]
+        variants = kind_and_body(item.read)[1].get("variants", [])
+        for read in filter(None, map(item.crate.item, variants)) if item.kind == "enum" else [item.read]:
+            shape = shape_of(item.crate, read)
+            yield shape.is_made, [item.crate.type(field.body, None) for field in shape.fields.values()]
 
     def is_structural(self, term: Type, depth: int = 0) -> bool:
         """Whether a value of the type may be a pattern."""

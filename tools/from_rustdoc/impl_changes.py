@@ -95,8 +95,9 @@ class ImplChanges:
         self.messages += Judge(self.versions.new, self.programs).settle(claims)
 
     def is_hidden(self, impl: Impl) -> bool:
-        """Whether nobody else can name what the header names."""
-        return names_private(self.versions.old, self.versions.before, header_keys(impl))
+        """Whether nobody else can name what the header names, or have it."""
+        keys = map(self.versions.old.key_of, header_keys(impl))
+        return names_private(self.versions.old, self.versions.before, [k for k in keys if k not in self.versions.before.reached or k not in self.versions.newer])
 
     def is_uncompared(self, keys: list[str]) -> bool:
         """Whether an impl names an old item of which it is told that it is another one; such impls are counted with that."""

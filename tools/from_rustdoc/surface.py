@@ -5,6 +5,7 @@ from dataclasses import dataclass, field
 from typing import Any, Optional
 
 from .members import INSIDE, VALUES, Member, Members, inherent_impls, members_of, signature_of
+from .reached import Reached, terms_of
 from .rustdoc_json import ITEMS, STD_CRATES, JsonCrate, kind_and_body
 from .terms import BadInput, Bound, Constant, Impl, Named, Param, Parameter, Place, Predicate, Type, keys_of, put
 from .world import World
@@ -118,6 +119,7 @@ class SurfaceReader:
         self.surface.values = {**self.globs, **self.surface.values}
         for item in self.surface.items.values():
             self.find_members(item)
+        self.find_reached()
 
     def crate(self, name: str) -> Optional[JsonCrate]:
         if name not in self.crates:
@@ -221,6 +223,20 @@ class SurfaceReader:
             if item.crate.name not in self.inherent:
                 self.inherent[item.crate.name] = inherent_impls(item.crate)
             item.members = members_of(item.crate, item.read, item.paths[0] if item.paths else item.name, self.inherent[item.crate.name].get(item.key, []))
+
+    def find_reached(self) -> None:
+        crates = [read for read in self.crates.values() if read is not None]
+        members = [*self.surface.values.values(), *(m for item in self.surface.items.values() for found in item.members.values() for m in found)]
+        terms = [term for member in members for term in terms_of(member)]
+        for item in self.surface.items.values():
+            terms += [item.target] if item.target is not None else []
+            terms += [p.default for p in item.params if p.default is not None]
+        self.surface.reached = Reached(crates, set(self.surface.kinds), self.world.key_of, self.without_path).by(terms)
+
+    def without_path(self, crate: JsonCrate, read: dict[str, Any], key: str) -> Item:
+        item = read_item(crate, read, key)
+        self.find_members(item)
+        return item
 
     def behind(self, crate: JsonCrate, alias: Item) -> None:
         """What an alias is another name of goes by its path too."""

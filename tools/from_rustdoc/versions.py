@@ -1,6 +1,7 @@
 """Two versions of one crate: which item of the newer one is which of the older one, and types of either as the other one has them.
 
-Items are the same if a public path names both, wherever they are declared; private ones if they have one key.
+Items are the same if a public path names both, wherever they are declared; private ones if they have one key, or are the only ones of a name
+that others can have.
 """
 from __future__ import annotations
 
@@ -74,6 +75,12 @@ class Versions:
                 for key, later in pairs_of(self.before, self.before.by_path[path], self.after, self.after.by_path[path]):
                     self.newer.setdefault(key, later)
                     self.older.setdefault(later, key)
+        for key, item in self.before.reached.items():
+            moved = [k for k, i in self.after.reached.items() if i.name == item.name and k not in self.older]
+            later = key if key in self.after.reached or key in self.after.kinds else moved[0] if len(moved) == 1 else ""
+            if later:
+                self.newer.setdefault(key, later)
+                self.older.setdefault(later, key)
 
     def impls(self, world: World) -> list[Impl]:
         """The impls of the crate, and of crates that only one version has and exports items of: what was moved there is still this crate's."""

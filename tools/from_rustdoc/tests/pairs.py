@@ -92,6 +92,13 @@ class Compiler:
                         found.setdefault(module_at(lines, span["line_start"]), set()).add(code)
 
 
+def pairs_of(message: Message, pairs: list[Pair]) -> set[str]:
+    """The pairs that a message is about: those that it names, or the one in which it stands."""
+    named = set(re.findall(r"pairs::(\w+)", message.text)) & {p.name for p in pairs}
+    places = [] if named else [module_at(library(pairs, span.version or "new").splitlines(), span.place.line) for span in message.spans[:1]]
+    return named | set(places)
+
+
 def written_out(message: Message) -> list[str]:
     """The crates that a message on an added impl says there may be; the types of constants are not told."""
     found = []

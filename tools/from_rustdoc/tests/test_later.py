@@ -15,7 +15,7 @@ from ..later import Release, compared
 from ..messages import Message
 from ..world import World
 from .common import PROGRAM, WHY_NO_PROGRAM, kept, pages, world
-from .pairs import Compiler, Pair, all_pairs, written_out
+from .pairs import Compiler, Pair, all_pairs, pairs_of, written_out
 
 
 NOT_JUDGED = "not-judged"
@@ -35,11 +35,11 @@ def renamed(name: str, other: str, folder: str) -> str:
     return file
 
 
-def told(release: Release) -> dict[str, list[Message]]:
-    """What is told of each pair, by the module that it names."""
+def told(release: Release, pairs: list[Pair]) -> dict[str, list[Message]]:
+    """What is told of each pair."""
     found: dict[str, list[Message]] = {}
     for message in release.messages:
-        for name in set(re.findall(r"pairs::(\w+)", message.text)):
+        for name in pairs_of(message, pairs):
             found.setdefault(name, []).append(message)
     return found
 
@@ -126,7 +126,7 @@ class Pairs(unittest.TestCase):
     @classmethod
     def setUpClass(cls) -> None:
         cls.pairs = all_pairs()
-        cls.told = told(compared(world("pairs_old"), world("pairs_new"), "pairs", programs=Programs(PROGRAM)))
+        cls.told = told(compared(world("pairs_old"), world("pairs_new"), "pairs", programs=Programs(PROGRAM)), cls.pairs)
 
     def test_each_pair_is_told_as_it_was_worked_out(self) -> None:
         for pair in self.pairs:
