@@ -19,10 +19,11 @@ from .questions import Question, Verdict
 from .render import is_sizedness
 from .show import Show
 from .terms import BadInput, Bound, Declaration, Impl, Lossy, Named, Predicate, Type, argument_values, put, put_bound, walk
-from .versions import Gone, Header, Versions, all_keys, bound_keys, is_private, names_private, plain_params
+from .versions import Gone, Header, Versions, all_keys, bound_keys, is_private, names_private, plain_params, values_of
 from .world import World, crate_name
 
 
+Headers = dict[Header, list[tuple[Impl, frozenset[Predicate]]]]
 # What rustc says where a type has not a trait that the language itself asks for.
 BINARY = "Add Sub Mul Div Rem BitAnd BitOr BitXor Shl Shr"
 WITHOUT = {**dict.fromkeys(f"{BINARY} PartialEq PartialOrd".split(), "E0277 or E0369"),
@@ -64,23 +65,32 @@ class ImplChanges:
         self.uncompared: dict[str, int] = {}
 
     def run(self) -> None:
-        old, new = self.of(self.versions.old), self.of(self.versions.new)
-        self.lost(old, new)
+        versions = self.versions
+        old, new = self.of(versions.old, versions.impls(versions.old)), self.of(versions.new, versions.impls(versions.new))
+        self.lost({**self.of(versions.old, self.exported(versions.old)), **old}, {**self.of(versions.new, self.exported(versions.new)), **new})
         self.new_ones(old, new)
         for key, count in self.uncompared.items():
             self.troubled[key].note(f"its impls are not compared: {count}")
 
-    def of(self, world: World) -> dict[Header, list[tuple[Impl, frozenset[Predicate]]]]:
-        """The crate's impls by their headers, without those of auto traits, which are asked for, and of traits that nobody can name."""
-        found: dict[Header, list[tuple[Impl, frozenset[Predicate]]]] = {}
-        for impl in self.versions.impls(world):
+    def of(self, world: World, impls: list[Impl]) -> Headers:
+        """Impls by their headers, without those of auto traits, which are asked for, and of traits that nobody can name."""
+        found: Headers = {}
+        for impl in impls:
             if impl.trait is not None and trait_name(impl.trait) not in MARKERS and not is_auto(world, impl):
                 header, clauses = self.versions.header(world, impl)
                 found.setdefault(header, []).append((impl, clauses))
         return found
 
+    def exported(self, world: World) -> list[Impl]:
+        """Those of other crates for what this one exports of them, where it has another version of the crate now."""
+        surface = self.versions.before if world is self.versions.old else self.versions.after
+        names = {world.homes[key].name for key in surface.kinds if key in world.homes} - {self.versions.crate}
+        both = [name for name in names if name in self.versions.old.crates and name in self.versions.new.crates]
+        return [crate.impls[number] for crate in (world.crates[name] for name in both if not self.versions.is_same_crate(name))
+                for number, keys in enumerate(crate.heads) if any(world.key_of(key) in surface.kinds for key in keys)]
+
     # ---- what is lost
-    def lost(self, old: dict[Header, list[tuple[Impl, frozenset[Predicate]]]], new: dict[Header, list[tuple[Impl, frozenset[Predicate]]]]) -> None:
+    def lost(self, old: Headers, new: Headers) -> None:
         claims: list[Claim] = []
         for header, impls in old.items():
             again = new.get(header, [])
@@ -97,7 +107,8 @@ class ImplChanges:
     def is_hidden(self, impl: Impl) -> bool:
         """Whether nobody else can name what the header names, or have it."""
         keys = map(self.versions.old.key_of, header_keys(impl))
-        return names_private(self.versions.old, self.versions.before, [k for k in keys if k not in self.versions.before.reached or k not in self.versions.newer])
+        reached = self.versions.before.reached.keys() & self.versions.newer.keys()
+        return names_private(self.versions.old, self.versions.before, [key for key in keys if key not in reached])
 
     def is_uncompared(self, keys: list[str]) -> bool:
         """Whether an impl names an old item of which it is told that it is another one; such impls are counted with that."""
@@ -148,14 +159,19 @@ class ImplChanges:
         for name, value in before.items():
             if name in after and after[name] != value:
                 self.messages.append(self.other_value(old, name, new))
+            elif name in after and old.lifetimes.get(name) != new.lifetimes.get(name):
+                message = change("associated-value-changed", f"`{self.versions.show_old.header(old)}`: `{name}` has other lifetimes", at(new.place),
+                                 word="changed", rustc="E0521, E0597, E0716 or `lifetime may not live long enough`")
+                self.messages.append(message.note("answers are up to lifetimes: whether a crate loses something is not asked"))
 
     def other_value(self, old: Impl, name: str, new: Optional[Impl]) -> Message:
-        became = f"`{self.versions.show_new.type(new.associated[name])}`" if new is not None and name in new.associated else "another type"
+        before, after = values_of(old), values_of(new) if new is not None else {}
+        became = f"`{self.versions.show_new.type(after[name])}`" if name in after else "another type"
         return change("associated-value-changed", f"`{self.versions.show_old.header(old)}`: `{name}` is {became}, and was "
-                      f"`{self.versions.show_old.type(old.associated[name])}`", at(new.place if new is not None else None), at(old.place, "", "old"))
+                      f"`{self.versions.show_old.type(before[name])}`", at(new.place if new is not None else None), at(old.place, "", "old"))
 
     # ---- what is added
-    def new_ones(self, old: dict[Header, list[tuple[Impl, frozenset[Predicate]]]], new: dict[Header, list[tuple[Impl, frozenset[Predicate]]]]) -> None:
+    def new_ones(self, old: Headers, new: Headers) -> None:
         others = [impl for header, impls in new.items() for impl, clauses in impls if all(c != clauses for _, c in old.get(header, []))]
         before = {id(i): [self.versions.older.get(self.versions.new.key_of(key), "") for key in header_keys(i)] for i in others}
         fresh = [self.others.narrowed(impl) for impl in others if not self.is_uncompared(before[id(impl)])]

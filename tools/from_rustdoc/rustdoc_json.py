@@ -31,6 +31,19 @@ def kind_and_body(item: dict[str, Any]) -> tuple[str, Any]:
     return kind, body
 
 
+def lifetimes_in(written: Any) -> Iterator[str]:
+    """The lifetimes in a part of the JSON, in a fixed order; those that a `for` binds too."""
+    if isinstance(written, list):
+        for part in written:
+            yield from lifetimes_in(part)
+    elif isinstance(written, dict):
+        for name, part in sorted(written.items()):
+            if name == "lifetime" and isinstance(part, str):
+                yield part
+            else:
+                yield from lifetimes_in(part)
+
+
 def stem_of(crate: dict[str, Any]) -> str:
     """The name of an external crate's compiled file, without its ending."""
     return os.path.basename(crate.get("path") or "").rsplit(".", 1)[0]
@@ -233,10 +246,18 @@ class JsonCrate:
         for number in body["items"]:
             inside = self.item(number)
             if inside and kind_and_body(inside)[0] == "assoc_type" and inside["inner"]["assoc_type"].get("type") is not None:
-                value = inside["inner"]["assoc_type"]
-                generic = bool(value["generics"]["params"])
-                impl.associated[inside["name"]] = Unsayable("a generic associated type") if generic else self.type(value["type"], itself)
+                self.read_value(impl, inside["name"], inside["inner"]["assoc_type"], [body["trait"], body["for"]])
         return impl
+
+    def read_value(self, impl: Impl, name: str, value: dict[str, Any], header: list[Any]) -> None:
+        read = self.type(value["type"], impl.self_type)
+        own = [param["name"] for param in value["generics"]["params"]]
+        impl.associated[name] = Unsayable("a generic associated type") if own else read
+        if own:
+            impl.generic[name] = put(read, {its: Parameter(f"{name}::{number}") for number, its in enumerate(own)})
+        places = {lifetime: str(number) for number, lifetime in reversed(list(enumerate(lifetimes_in(header))))}
+        places |= {its: f"{name}::{number}" for number, its in enumerate(own)}
+        impl.lifetimes[name] = [places.get(lifetime, lifetime) for lifetime in lifetimes_in(value["type"])]
 
     # ---- public paths
     def find_public_paths(self) -> None:

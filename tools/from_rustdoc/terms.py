@@ -218,7 +218,8 @@ class Declaration:
 @dataclass
 class Impl:
     """An impl as read. `trait` is None where the header was not understood (`error` says why). `narrowed` says that it is written for
-    less than it holds of, in both texts, and why. `is_computed`: one of an auto trait that nobody wrote."""
+    less than it holds of, in both texts, and why. `is_computed`: one of an auto trait that nobody wrote. Of associated types that take
+    parameters `generic` has the values, and `lifetimes` has those in each value, by their places in the header."""
     crate: str
     source: str
     trait: Optional[Bound] = None
@@ -231,6 +232,8 @@ class Impl:
     error: str = ""
     narrowed: str = ""
     place: Optional[Place] = None
+    generic: dict[str, Type] = field(default_factory=dict)
+    lifetimes: dict[str, list[str]] = field(default_factory=dict)
 
     def copy(self) -> Impl:
         return replace(self, params=list(self.params), predicates=list(self.predicates), associated=dict(self.associated))

@@ -89,6 +89,12 @@ class Versions:
         names = [self.crate, *(name for name in world.crates if name in homes and name not in other.crates and name != self.crate)]
         return [impl for name in names for impl in world.crates[name].impls]
 
+    def is_same_crate(self, name: str) -> bool:
+        """Whether both versions use one version of a crate; its size tells features."""
+        before, after = self.old.crates.get(name), self.new.crates.get(name)
+        return before is not None and after is not None and (before.version, len(before.impls), len(before.items)) == (
+            after.version, len(after.impls), len(after.items))
+
     # ---- from the old version to the new one
     def new_key(self, key: str) -> str:
         own = self.old.key_of(key)
@@ -151,7 +157,12 @@ class Versions:
 
     def values(self, world: World, impl: Impl) -> dict[str, Type]:
         """The associated types of an impl, in the same form."""
-        return {name: self.common(world, put(value, numbered(impl))) for name, value in impl.associated.items()}
+        return {name: self.common(world, put(value, numbered(impl))) for name, value in values_of(impl).items()}
+
+
+def values_of(impl: Impl) -> dict[str, Type]:
+    """The associated types of an impl, those that take parameters too."""
+    return {**impl.associated, **impl.generic}
 
 
 def pairs_of(before: Surface, key: str, after: Surface, later: str) -> list[tuple[str, str]]:

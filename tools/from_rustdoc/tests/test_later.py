@@ -13,6 +13,7 @@ from collections import Counter
 from ..claims import Programs
 from ..later import Release, compared
 from ..messages import Message
+from ..show import Show
 from ..world import World
 from .common import PROGRAM, WHY_NO_PROGRAM, kept, pages, world
 from .pairs import Compiler, Pair, all_pairs, pairs_of, written_out
@@ -104,6 +105,28 @@ class Later(unittest.TestCase):
     def test_a_release_that_changes_nothing_is_compatible(self) -> None:
         release = compared(world("before"), world("before"), "before", programs=Programs(PROGRAM))
         self.assertEqual((release.messages, release.answer, release.status, release.strict_status()), ([], "compatible", 0, 0))
+
+
+@unittest.skipIf(WHY_NO_PROGRAM, WHY_NO_PROGRAM)
+class Exported(unittest.TestCase):
+    def test_an_impl_that_a_type_of_another_crate_loses(self) -> None:
+        """`user` exports `ab::Sb`. Its new version uses one of `ab` in which that has no impl of `Ta`."""
+        old = world("ab", "user")
+        with tempfile.TemporaryDirectory() as folder:
+            with open(kept("ab"), encoding="utf-8") as handle:
+                data = json.load(handle)
+            data["crate_version"] = "2.0.0"
+            lost = next(i for i in old.crates["ab"].impls if Show(old).header(i) == "impl ab::Ta for ab::Sb")
+            assert lost.place is not None
+            data["index"] = {n: i for n, i in data["index"].items() if "impl" not in i["inner"] or i["span"]["begin"][0] != lost.place.line}
+            file = os.path.join(folder, "ab.json")
+            with open(file, "w", encoding="utf-8") as handle:
+                json.dump(data, handle)
+            new = World(pages())
+            new.load([file, kept("user")])
+            release = compared(old, new, "user", programs=Programs(PROGRAM))
+        self.assertEqual([(m.text, m.word) for m in release.messages], [("`impl ab::Ta for ab::Sb` is removed", "breaking")])
+        self.assertEqual(compared(old, old, "user", programs=Programs(PROGRAM)).messages, [])
 
 
 class NotJudged(unittest.TestCase):
