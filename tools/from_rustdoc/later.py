@@ -11,6 +11,7 @@ from .impl_changes import ImplChanges
 from .item_changes import ItemChanges
 from .member_changes import MemberChanges
 from .messages import BAD, FINE, UNSETTLED, Message, worst
+from .size_changes import SizeChanges
 from .versions import Versions
 from .world import World
 
@@ -64,10 +65,12 @@ def compared(old: World, new: World, crate: str, with_private: bool = False, pro
     autos.run()
     constants = ConstantChanges(versions, items.troubled)
     constants.run()
+    sizes = SizeChanges(versions, items.troubled, programs)
+    sizes.run()
     members = MemberChanges(items)
     members.run()
     messages = items.messages + Judge(new, programs).settle(items.claims) + impls.messages + autos.messages + constants.messages
-    messages += items.new_items + members.messages
+    messages += sizes.messages + items.new_items + members.messages
     for message in messages:
         message.crate = crate
     return Release(crate, (old.crates[crate].version, new.crates[crate].version), worst_first(messages), members.not_judged)
