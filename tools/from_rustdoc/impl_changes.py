@@ -10,6 +10,7 @@ from .claims import Claim, Judge, Programs
 from .cone import cone_of_questions
 from .constant_changes import MARKERS, trait_name
 from .impls import Written
+from .inference import Inference
 from .item_changes import change
 from .messages import Message, at
 from .open_walk import is_sealed, met_in_header
@@ -179,6 +180,9 @@ class ImplChanges:
         self.added = [self.judged(impl, proved.get(id(impl))) for impl in fresh]
         self.ask_program()
         self.messages += [self.told(judged) for judged in self.added if judged.reason != KNOWN]
+        inference = Inference(self.versions, self.others)
+        found = [inference.by(judged.impl) for judged in self.added if judged.word == "compatible" and judged.reason != KNOWN]
+        self.messages += [message for message in found if message is not None]
 
     def proved_before(self, fresh: list[Impl]) -> dict[int, Verdict]:
         """What the old version says to each: where it has a proof nothing is added."""

@@ -32,6 +32,7 @@ RUSTC = {"item-removed": "E0425 or E0432", "alias-removed": "E0425 or E0432", "k
          "dyn-lost": "E0038 or E0393", "impl-added": "E0119", "impl-removed": "E0277 or E0599", "impl-bounds-changed": "E0277, E0308 or E0599",
          "associated-value-changed": "E0271 or E0308", "auto-trait-lost": "E0277", "constant-pattern-lost": "`constant of non-structural type`",
          "constant-borrow-lost": "E0492 or E0716", "sized-lost": "E0277 or E0599", "unsizing-lost": "E0277, E0308 or E0605",
+         "annotations-needed": "E0277, E0282, E0283, E0284 or E0308",
          "function-removed": "E0425 or E0432", "constant-removed": "E0425 or E0432", "static-removed": "E0425 or E0432", "macro-removed": "E0432 or E0433",
          "module-removed": "E0432 or E0433", "method-removed": "E0599 or E0624", "associated-constant-removed": "E0599 or E0624", "field-removed": "E0026, E0560 or E0609",
          "field-made-private": "E0451 or E0616", "field-added": "E0023, E0027, E0061, E0063, E0423, E0451 or E0532", "field-type-changed": "E0308",
