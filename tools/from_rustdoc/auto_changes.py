@@ -116,8 +116,7 @@ class AutoChanges:
                     self.messages.append(self.lost(asked, verdict, word))
 
     def lost(self, asked: Asked, verdict: Verdict, word: str) -> Message:
-        later = self.versions.newer[asked.key]
-        after = self.versions.after.items.get(later) or self.versions.after.reached.get(later)
+        after = self.versions.after.items.get(self.versions.newer[asked.key])
         shown = after.shown() if after is not None else f"`{self.versions.show_new.type(asked.new.subject)}`"
         how = "may not be" if word == "not settled" else "is not"
         message = change("auto-trait-lost", f"{shown} {how} `{self.versions.show_old.bound(asked.old.bound)}` any more", at(after.place if after else None),

@@ -107,9 +107,9 @@ class ImplChanges:
 
     def is_hidden(self, impl: Impl) -> bool:
         """Whether nobody else can name what the header names, or have it."""
-        keys = map(self.versions.old.key_of, header_keys(impl))
-        reached = self.versions.before.reached.keys() & self.versions.newer.keys()
-        return names_private(self.versions.old, self.versions.before, [key for key in keys if key not in reached])
+        keys = list(map(self.versions.old.key_of, header_keys(impl)))
+        is_lost = any(key in self.versions.before.reached and key not in self.versions.newer for key in keys)
+        return is_lost or names_private(self.versions.old, self.versions.before, keys)
 
     def is_uncompared(self, keys: list[str]) -> bool:
         """Whether an impl names an old item of which it is told that it is another one; such impls are counted with that."""

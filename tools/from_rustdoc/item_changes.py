@@ -5,6 +5,7 @@ told where nothing is lost.
 """
 from __future__ import annotations
 
+from collections import Counter
 from typing import Iterator, Optional
 
 from .claims import Claim
@@ -40,7 +41,8 @@ RUSTC = {"item-removed": "E0425 or E0432", "alias-removed": "E0425 or E0432", "k
          "variant-added": "E0004", "discriminant-changed": "E0308", "repr-changed": "E0793", "constant-type-changed": "E0308",
          "associated-constant-type-changed": "E0308 or E0326", "static-type-changed": "E0308", "static-made-mutable": "E0133 or E0594",
          "signature-changed": "E0049, E0050, E0053, E0061, E0107, E0185, E0186, E0276, E0277, E0282, E0283, E0308, E0507 or E0599",
-         "const-lost": "E0015 or E0658", "function-made-unsafe": "E0053 or E0133", "result-bound-removed": "E0277, E0308 or E0599"}
+         "const-lost": "E0015 or E0658", "function-made-unsafe": "E0053 or E0133", "result-bound-removed": "E0277, E0308 or E0599",
+         "drop-added": "E0493, E0505, E0509, E0597 or E0716"}
 
 
 def change(code: str, text: str, new: list[Span], old: Optional[list[Span]] = None, word: str = "breaking", rustc: str = "") -> Message:
@@ -56,7 +58,7 @@ def is_unsized(generics: Generics, name: str) -> bool:
 
 
 class ItemChanges:
-    """`messages` are told as they are; `claims` are to be asked in the new version. `troubled` are items, by their old keys, whose impls
+    """`messages` are told as they are; `claims` are to be asked in the new version; `not_judged` counts what is neither. `troubled` are items, by their old keys, whose impls
     cannot be compared: they are gone, or take other arguments."""
 
     def __init__(self, versions: Versions) -> None:
@@ -65,19 +67,30 @@ class ItemChanges:
         self.claims: list[Claim] = []
         self.troubled: dict[str, Message] = {}
         self.new_items: list[Message] = []
+        self.unjudged: list[Message] = []
+        self.not_judged: Counter[str] = Counter()
 
     def run(self) -> None:
         self.removed_paths()
         for old_key, new_key in self.versions.newer.items():
             before, after = self.versions.before.items.get(old_key), self.versions.after.items.get(new_key)
             if before is not None and after is not None:
-                self.item(before, after)
+                if old_key not in self.versions.before.reached:
+                    self.item(before, after)
+                elif [p.kind for p in before.params] != [p.kind for p in after.params] or before.is_type != after.is_type:
+                    self.count("type without a path", after.shown(), "has other parameters", after.place)
+                    self.troubled[old_key] = self.unjudged[-1]
         self.aliased()
         self.find_new()
 
     def tell(self, code: str, text: str, new: list[Span], old: Optional[list[Span]] = None, word: str = "breaking") -> Message:
         self.messages.append(change(code, text, new, old, word))
         return self.messages[-1]
+
+    def count(self, kind: str, what: str, why: str, place: Optional[Place] = None) -> None:
+        """What changed and has no class, by kind."""
+        self.not_judged[kind] += 1
+        self.unjudged.append(Message(f"{what}: {why}", "not-judged", "not judged", spans=at(place)))
 
     # ---- paths
     def removed_paths(self) -> None:

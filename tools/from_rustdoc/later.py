@@ -69,8 +69,10 @@ def compared(old: World, new: World, crate: str, with_private: bool = False, pro
     sizes.run()
     members = MemberChanges(items)
     members.run()
-    messages = items.messages + Judge(new, programs).settle(items.claims) + impls.messages + autos.messages + constants.messages
-    messages += sizes.messages + items.new_items + members.messages
+    told = items.messages + Judge(new, programs).settle(items.claims)
+    drops = [message.spans for message in told if message.code == "drop-added"]
+    messages = told + [m for m in impls.messages if m.spans not in drops] + autos.messages + constants.messages + sizes.messages
+    messages += items.new_items + items.unjudged
     for message in messages:
         message.crate = crate
-    return Release(crate, (old.crates[crate].version, new.crates[crate].version), worst_first(messages), members.not_judged)
+    return Release(crate, (old.crates[crate].version, new.crates[crate].version), worst_first(messages), items.not_judged)

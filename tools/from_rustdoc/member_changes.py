@@ -4,34 +4,35 @@ go on, or it is counted: silent is nothing."""
 from __future__ import annotations
 
 import re
-from collections import Counter
 from typing import Any, Callable, Iterable, Optional
 
+from .html_docs import is_std_key
 from .item_changes import ItemChanges
 from .members import Member, Shape, shape_of
-from .messages import Message, at
+from .messages import at
 from .rustdoc_json import kind_and_body
 from .signature_changes import SignatureChanges
-from .surface import Item
-from .terms import Place
+from .surface import Item, terms_of
+from .terms import Array, Bound, Function, Impl, Named, Never, Pointer, Primitive, Reference, Slice, Tuple, Type, parts
 from .versions import Unsure, compared_types
+from .world import World
 from .written import ATTRIBUTES, Form, attributes, clauses
 
 FORM_NAMES = {"unit": "without fields", "tuple": "a tuple", "plain": "with named fields"}
+COPY = "core/marker/trait.Copy.html"
+# Types of std that have something to drop.
+OWNING = ("struct.Vec", "struct.String", "struct.Box", "struct.Rc", "struct.Arc", "struct.HashMap", "struct.BTreeMap")
 PACKED = r"packed(?!': None)"
 
 
 class MemberChanges:
-    """`not_judged` counts by kind what has changed and has no class."""
-
     def __init__(self, items: ItemChanges) -> None:
         self.items = items
         self.versions = items.versions
         self.tell = items.tell
-        self.messages: list[Message] = []
-        self.not_judged: Counter[str] = Counter()
+        self.count = items.count
         self.seen: set[tuple[int, int]] = set()
-        self.signatures = SignatureChanges(items, self.count)
+        self.signatures = SignatureChanges(items)
 
     def run(self) -> None:
         before, after = self.versions.before, self.versions.after
@@ -48,11 +49,6 @@ class MemberChanges:
             item, later = before.items.get(old_key), after.items.get(new_key)
             if item is not None and later is not None and old_key not in self.items.troubled:
                 self.item(item, later)
-
-    def count(self, kind: str, what: str, why: str, place: Optional[Place] = None) -> None:
-        """What changed and is not judged."""
-        self.not_judged[kind] += 1
-        self.messages.append(Message(f"{what}: {why}", "not-judged", "not judged", spans=at(place)))
 
     # ---- what is gone
     def removed(self, members: list[Member]) -> None:
@@ -89,6 +85,8 @@ class MemberChanges:
                     self.tell(f"{name[0].replace(' ', '-')}-removed", f"{name[0]} `{member.path}` is removed", [], at(member.place, "it was here", "old"))
         if old.kind == new.kind and old.is_type:
             self.form_of(old, new)
+        if old.is_type:
+            self.drop(old, new)
 
     def attributes(self, old: Item, new: Item) -> None:
         before, after = attributes(old.read, *ATTRIBUTES), attributes(new.read, *ATTRIBUTES)
@@ -121,8 +119,12 @@ class MemberChanges:
     # ---- fields and variants
     def form_of(self, old: Item, new: Item) -> None:
         """What others can name of a type's form."""
+        is_reached = old.key in self.versions.before.reached
         if old.kind != "enum":
-            self.shape(shape_of(old.crate, old.read), shape_of(new.crate, new.read), new.shown(), (old, new))
+            shape = shape_of(old.crate, old.read)
+            shape.is_exhaustive &= not is_reached
+            self.shape(shape, shape_of(new.crate, new.read), new.shown(), (old, new))
+        if old.kind != "enum" or is_reached:
             return
         before, after = ({m.name: m for (kind, _), members in item.members.items() for m in members if kind == "variant"} for item in (old, new))
         is_open = not attributes(old.read, "non_exhaustive")
@@ -191,6 +193,48 @@ class MemberChanges:
     def names(member: Member, owner: Optional[Item]) -> list[str]:
         around = member.impl or (kind_and_body(owner.read)[1] if owner is not None else {"generics": {"params": []}})
         return [p["name"] for p in around["generics"]["params"]]
+
+    # ---- destructors
+    def drop(self, old: Item, new: Item) -> None:
+        """An impl of `Drop` that is new. Nothing can be moved out of such a type, no `const fn` can take one that had nothing to drop, and
+        what its parameters borrow has to live longer."""
+        impl = self.dropped(self.versions.new, new.key)
+        if impl is None or self.dropped(self.versions.old, old.key) is not None:
+            return
+        owns = self.owns(old.itself())
+        why = "a `const fn` cannot take one any more" if owns is False else \
+            "what it borrows has to live longer" if old.lifetimes or old.params else ""
+        fields = [term for (kind, _), members in new.members.items() if kind == "field" for m in members if m.is_public for term in terms_of(m)]
+        text, span = f"{new.shown()} has a destructor now", at(impl.place)
+        if why or not fields and owns is None:
+            self.tell("drop-added", text, span, word="breaking" if why else "changed").note(why or "whether it had something to drop before is not known")
+        elif fields:
+            self.items.claim("drop-added", f"{text}: its fields cannot be moved out", span, [], [], Tuple(tuple(fields)), Bound(self.versions.new.pages.key(COPY) or ""))
+
+    def dropped(self, world: World, key: str) -> Optional[Impl]:
+        return next((i for i in self.versions.impls(world) if i.trait is not None and is_std_key(i.trait.key) and i.trait.key.endswith("trait.Drop")
+                     and isinstance(i.self_type, Named) and world.key_of(i.self_type.key) == key), None)
+
+    def owns(self, term: Type, above: tuple[str, ...] = ()) -> Optional[bool]:
+        """Whether a type of the old version has something to drop; None where that is not known."""
+        world = self.versions.old
+        inside: Iterable[Type] = parts(term)
+        if isinstance(term, (Primitive, Never, Reference, Pointer, Function)):
+            return False
+        if isinstance(term, Named):
+            key = world.key_of(term.key)
+            home = world.homes.get(key)
+            if key in above or term.key.endswith(OWNING):
+                return key not in above
+            if home is None or home.name != self.versions.crate:
+                return None
+            if above and self.dropped(world, key) is not None:
+                return True
+            inside, above = world.get(key).fields, (*above, key)
+        elif not isinstance(term, (Tuple, Array, Slice)):
+            return None
+        found = [self.owns(part, above) for part in inside]
+        return True if True in found else None if None in found else False
 
     # ---- one member
     def common(self, version: int) -> Callable[[str], str]:

@@ -108,7 +108,9 @@ class OtherImpls:
             old = self.versions.old_key(key)
         except Gone:
             raise Nobody(f"`{self.versions.show_new.path(key)}` is new")
-        if not self.with_private and names_private(self.versions.old, self.versions.before, [old]):
+        declaration = self.versions.old.known(old)
+        is_unnamed = declaration is not None and is_private(self.versions.old, declaration) and declaration.key not in self.versions.before.kinds
+        if not self.with_private and (is_unnamed or old.startswith("hidden:")):
             raise Nobody(f"nobody else can name `{self.versions.show_old.path(old)}`")
 
     def to_old(self, term: Type) -> Type:

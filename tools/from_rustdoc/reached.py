@@ -1,39 +1,37 @@
 """Types that others can have though no path names them: public functions take or give them, public types hold them, or impls name them."""
 from __future__ import annotations
 
-from typing import Any, Callable, Iterator
+from typing import Callable, Iterator
 
 from .members import Member, signature_of
 from .rustdoc_json import JsonCrate
 from .terms import Bound, Impl, Named, Type, walk
 
-# Reads an item that has no path, with its members.
-ItemReader = Callable[[JsonCrate, dict[str, Any], str], Any]
+# Takes a type that is found, by its key; what others see of it.
+Finder = Callable[[JsonCrate, str], list[Type]]
 
 
 class Reached:
     """`key_of` gives the own key of an item that another crate names; `names` are the keys of what has a path."""
 
-    def __init__(self, crates: list[JsonCrate], names: set[str], key_of: Callable[[str], str], read: ItemReader) -> None:
+    def __init__(self, crates: list[JsonCrate], names: set[str], key_of: Callable[[str], str], found: Finder) -> None:
         self.homes = {key: crate for crate in crates for key, declaration in crate.declarations.items() if not declaration.is_trait}
         self.private = {key for crate in crates for key in crate.declarations} - names
         self.impls = [impl for crate in crates for impl in crate.impls if impl.associated and not impl.is_negative]
         self.key_of = key_of
-        self.read = read
-        self.found: dict[str, Any] = {}
+        self.tell = found
+        self.found: set[str] = set()
 
-    def by(self, terms: list[Type]) -> dict[str, Any]:
-        """What these types lead to, by their keys."""
+    def by(self, terms: list[Type]) -> None:
+        """Finds what these types lead to."""
         while terms:
             keys = dict.fromkeys(self.key_of(part.key) for term in terms for part in walk(term) if isinstance(part, Named))
             terms = []
             for key in keys:
                 if key in self.private and key in self.homes and key not in self.found:
-                    home = self.homes[key]
-                    self.found[key] = self.read(home, home.declarations[key].item, key)
-                    terms += [t for members in self.found[key].members.values() for member in members for t in terms_of(member)]
+                    self.found.add(key)
+                    terms += self.tell(self.homes[key], key)
             terms += self.by_impls()
-        return self.found
 
     def by_impls(self) -> list[Type]:
         """The associated types of impls of which others can have or name all."""
@@ -63,7 +61,8 @@ def terms_of(member: Member) -> Iterator[Type]:
     if member.kind in ("function", "method") and "sig" in body:
         signature = signature_of(member)
         yield from (*signature.inputs, signature.output)
-        yield from (term for bounds in signature.results.values() for bound in bounds for term in bound_terms(bound))
+        bounds = [bound for found in signature.results.values() for bound in found] + [bound for _, bound in signature.predicates]
+        yield from (term for bound in bounds for term in bound_terms(bound))
     elif member.kind == "field":
         yield member.crate.type(body, itself)
     elif member.kind in ("constant", "static", "associated constant") and "type" in body:

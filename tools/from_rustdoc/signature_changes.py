@@ -3,7 +3,7 @@ bounds: each bound of the new version by those of the old one."""
 from __future__ import annotations
 
 from dataclasses import dataclass, field
-from typing import Any, Callable, Iterator, Optional
+from typing import Any, Iterator, Optional
 
 from .item_changes import ITSELF, ItemChanges, split
 from .members import Member, Signature, signature_of
@@ -52,12 +52,10 @@ class Match:
 
 
 class SignatureChanges:
-    """`count` is told what is not judged."""
-
-    def __init__(self, items: ItemChanges, count: Callable[..., None]) -> None:
+    def __init__(self, items: ItemChanges) -> None:
         self.items = items
         self.versions = items.versions
-        self.count = count
+        self.count = items.count
 
     def tell(self, new: Member, code: str, text: str, word: str = "breaking") -> None:
         self.items.tell(code, f"{new.shown()} {text}", at(new.place), word=word)

@@ -31,8 +31,7 @@ class SizeChanges:
         versions = self.versions
         changed: list[tuple[Item, Question, Question]] = []
         for old_key, new_key in versions.newer.items():
-            old = versions.before.items.get(old_key) or versions.before.reached.get(old_key)
-            new = versions.after.items.get(new_key) or versions.after.reached.get(new_key)
+            old, new = versions.before.items.get(old_key), versions.after.items.get(new_key)
             if old is None or new is None or old.kind != "struct" or new.kind != "struct" or old_key in self.troubled:
                 continue
             self.unsizing(old, new)

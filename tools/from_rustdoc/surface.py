@@ -4,8 +4,8 @@ from __future__ import annotations
 from dataclasses import dataclass, field
 from typing import Any, Optional
 
-from .members import INSIDE, VALUES, Member, Members, inherent_impls, members_of, signature_of
-from .reached import Reached, terms_of
+from .members import INSIDE, VALUES, Member, Members, inherent_impls, members_of
+from .reached import Reached, bound_terms, terms_of
 from .rustdoc_json import ITEMS, STD_CRATES, JsonCrate, kind_and_body
 from .terms import BadInput, Bound, Constant, Impl, Named, Param, Parameter, Place, Predicate, Type, keys_of, put
 from .world import World
@@ -73,7 +73,7 @@ class Item(Generics):
         return None
 
     def shown(self) -> str:
-        return f"{'type' if self.kind == 'alias' else self.kind} {self.paths[0] if self.paths else self.name}"
+        return f"{'type' if self.kind == 'alias' else self.kind} {self.paths[0] if self.paths else self.key}"
 
 
 @dataclass
@@ -222,21 +222,19 @@ class SurfaceReader:
         if item.crate is not None and item.kind != "alias":
             if item.crate.name not in self.inherent:
                 self.inherent[item.crate.name] = inherent_impls(item.crate)
-            item.members = members_of(item.crate, item.read, item.paths[0] if item.paths else item.name, self.inherent[item.crate.name].get(item.key, []))
+            item.members = members_of(item.crate, item.read, item.paths[0] if item.paths else item.key, self.inherent[item.crate.name].get(item.key, []))
 
     def find_reached(self) -> None:
-        crates = [read for read in self.crates.values() if read is not None]
-        members = [*self.surface.values.values(), *(m for item in self.surface.items.values() for found in item.members.values() for m in found)]
-        terms = [term for member in members for term in terms_of(member)]
-        for item in self.surface.items.values():
-            terms += [item.target] if item.target is not None else []
-            terms += [p.default for p in item.params if p.default is not None]
-        self.surface.reached = Reached(crates, set(self.surface.kinds), self.world.key_of, self.without_path).by(terms)
+        crates = [crate for crate in self.crates.values() if crate is not None]
+        terms = [term for member in self.surface.values.values() for term in terms_of(member)]
+        terms += [term for item in self.surface.items.values() for term in terms_of_item(item)]
+        Reached(crates, set(self.surface.kinds), self.world.key_of, self.without_path).by(terms)
 
-    def without_path(self, crate: JsonCrate, read: dict[str, Any], key: str) -> Item:
-        item = read_item(crate, read, key)
+    def without_path(self, crate: JsonCrate, key: str) -> list[Type]:
+        """Reads a type that has no path; what others see of it."""
+        item = self.surface.reached[key] = self.surface.items[key] = read_item(crate, crate.declarations[key].item, key)
         self.find_members(item)
-        return item
+        return terms_of_item(item)
 
     def behind(self, crate: JsonCrate, alias: Item) -> None:
         """What an alias is another name of goes by its path too."""
@@ -255,6 +253,13 @@ class SurfaceReader:
             assert read is not None
             self.surface.items[key] = read_item(crate, read, key)
         return self.surface.items[key]
+
+
+def terms_of_item(item: Item) -> list[Type]:
+    """The types that stand in what others see of a type or trait."""
+    bounds = [b for found in item.associated.values() for b in found.bounds] + item.supers
+    found = [term for members in item.members.values() for member in members for term in terms_of(member)]
+    return [*found, *filter(None, [item.target, *(p.default for p in item.params)]), *(term for bound in bounds for term in bound_terms(bound))]
 
 
 def read_item(crate: JsonCrate, read: dict[str, Any], key: str) -> Item:

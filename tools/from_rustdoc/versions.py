@@ -76,8 +76,8 @@ class Versions:
                     self.newer.setdefault(key, later)
                     self.older.setdefault(later, key)
         for key, item in self.before.reached.items():
-            moved = [k for k, i in self.after.reached.items() if i.name == item.name and k not in self.older]
-            later = key if key in self.after.reached or key in self.after.kinds else moved[0] if len(moved) == 1 else ""
+            moved = [k for k, i in self.after.reached.items() if i.name == item.name and k not in self.before.items]
+            later = key if key in self.after.items else moved[0] if len(moved) == 1 else ""
             if later:
                 self.newer.setdefault(key, later)
                 self.older.setdefault(later, key)
@@ -244,10 +244,11 @@ def is_private(world: World, declaration: Declaration) -> bool:
 
 
 def names_private(world: World, surface: Surface, keys: list[str]) -> bool:
-    """Whether one of the items is of a given crate, and no path of this one, or of its own, names it."""
+    """Whether one of the items is of a given crate, no path of this one, or of its own, names it, and nothing public is of it."""
     for key in keys:
         declaration = world.known(world.key_of(key))
-        if key.startswith(("?", "hidden:")) or (declaration is not None and declaration.key not in surface.kinds and is_private(world, declaration)):
+        if key.startswith(("?", "hidden:")) or (declaration is not None and is_private(world, declaration) and declaration.key not in surface.kinds
+                                                and declaration.key not in surface.reached):
             return True
     return False
 
