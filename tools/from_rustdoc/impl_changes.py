@@ -13,7 +13,7 @@ from .impls import Written
 from .inference import Inference
 from .item_changes import change
 from .messages import Message, at
-from .open_walk import is_sealed, met_in_header
+from .open_walk import met_in_header
 from .other_impls import Nobody, OtherImpls
 from .program import run
 from .questions import Question, Verdict
@@ -92,7 +92,7 @@ class ImplChanges:
 
     # ---- what is lost
     def lost(self, old: Headers, new: Headers) -> None:
-        claims: list[Claim] = []
+        claims: list[tuple[Claim, list[Claim]]] = []
         for header, impls in old.items():
             again = new.get(header, [])
             for impl, clauses in impls:
@@ -103,7 +103,10 @@ class ImplChanges:
                     self.values(impl, same)
                 else:
                     claims += self.claim(Kept(impl, clauses, [i for i, _ in again]))
-        self.messages += Judge(self.versions.new, self.programs).settle(claims)
+        judge = Judge(self.versions.new, self.programs)
+        verdicts = judge.ask([claim.question for claim, _ in claims])
+        self.messages += [judge.told(claim, verdict) for (claim, _), verdict in zip(claims, verdicts) if verdict.word != "yes"]
+        self.messages += judge.settle([value for (_, values), verdict in zip(claims, verdicts) if verdict.word == "yes" for value in values])
 
     def is_hidden(self, impl: Impl) -> bool:
         """Whether nobody else can name what the header names, or have it."""
@@ -118,7 +121,8 @@ class ImplChanges:
             self.uncompared[trouble] = self.uncompared.get(trouble, 0) + 1
         return trouble is not None
 
-    def claim(self, kept: Kept) -> list[Claim]:
+    def claim(self, kept: Kept) -> list[tuple[Claim, list[Claim]]]:
+        """That the new version proves the old impl, and if it does, with the same associated types."""
         impl, versions = kept.impl, self.versions
         assert impl.trait is not None
         if self.is_uncompared([versions.old.key_of(key) for key in header_keys(impl)]):
@@ -138,8 +142,10 @@ class ImplChanges:
             return []
         params = plain_params(impl.params)
         predicates += asked_of_names(versions, [subject, *bound.arguments])
-        found = [Claim(Question(written_question(versions.show_old, impl), subject, bound, params, predicates, crate=versions.crate), message)]
-        return found + self.value_claims(kept, subject, bound, predicates)
+        question = Question(written_question(versions.show_old, impl), subject, bound, params, predicates, crate=versions.crate)
+        if trait_name(impl.trait) != "Drop":
+            return [(Claim(question, message), self.value_claims(kept, subject, bound, predicates))]
+        return [(Claim(question, message.note("only a bound by `Drop` itself, of which rustc warns, asks for it"), "changed"), [])]
 
     def value_claims(self, kept: Kept, subject: Type, bound: Bound, predicates: list[Predicate]) -> list[Claim]:
         """Where another impl stands for the old one, its associated types are to be those of the old one."""
@@ -223,7 +229,8 @@ class ImplChanges:
     def was_sealed(self, trait: Declaration) -> bool:
         """Whether nobody else could implement the trait in the old version."""
         old = self.versions.old.known(self.versions.older.get(trait.key, trait.key))
-        return is_sealed(self.versions.old, old) if old is not None else is_sealed(self.versions.new, trait)
+        versions = self.versions
+        return versions.is_sealed(versions.old, old) if old is not None else versions.is_sealed(versions.new, trait)
 
     def ask_program(self) -> None:
         """Has the program judge the impls that wait for it, by a section for each behind a text that has what their headers name."""

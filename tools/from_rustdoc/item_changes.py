@@ -11,7 +11,6 @@ from typing import Iterator, Optional
 from .claims import Claim
 from .html_docs import is_std_key
 from .messages import Message, Span, at
-from .open_walk import is_sealed
 from .questions import Question
 from .render import is_sizedness
 from .surface import Associated, Generics, Item
@@ -291,7 +290,7 @@ class ItemChanges:
     # ---- traits
     def trait(self, old: Item, new: Item) -> None:
         declaration = self.versions.old.get(old.key)
-        sealed = is_sealed(self.versions.old, declaration)
+        sealed = self.versions.is_sealed(self.versions.old, declaration)
         if old.is_unsafe != new.is_unsafe and not sealed:
             code, word = ("trait-made-unsafe", "is `unsafe` now") if new.is_unsafe else ("trait-made-safe", "is not `unsafe` any more")
             self.tell(code, f"{new.shown()} {word}", at(new.place))

@@ -8,7 +8,7 @@ from __future__ import annotations
 from typing import Iterator, Optional
 
 from .claims import Judge, Programs
-from .open_walk import is_sealed, met_in_header, met_parameter, written_arguments
+from .open_walk import met_in_header, met_parameter, written_arguments
 from .questions import Question
 from .reach import bind
 from .render import is_sizedness
@@ -315,7 +315,7 @@ class OtherImpls:
             bare = Impl("", "", Bound(bound.key, tuple(map(some, bound.arguments))), subject)
             header = self.shown(trait, self.in_old(bare))
             is_dyn = subject == DYN and self.is_dyn(trait)
-            is_closed = trait.name in BUILT_IN or not self.with_private and is_sealed(self.world, trait)
+            is_closed = trait.name in BUILT_IN or not self.with_private and self.versions.is_sealed(self.world, trait)
             if not is_dyn and (is_closed or not self.is_local(trait, bare)):
                 return None
         except (Nobody, Gone):

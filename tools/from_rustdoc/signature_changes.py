@@ -8,7 +8,6 @@ from typing import Any, Iterator, Optional
 from .item_changes import ITSELF, ItemChanges, split
 from .members import Member, Signature, signature_of
 from .messages import at
-from .open_walk import is_sealed
 from .render import is_sizedness
 from .surface import Item
 from .terms import (UNIT, Array, Bound, Constant, Dyn, Named, Param, Parameter, Predicate, Primitive, Projection, Reference, Slice, Type, Unsayable, parts,
@@ -74,7 +73,7 @@ class SignatureChanges:
     def compare(self, old: Member, new: Member, owners: Owners) -> None:
         before, after = signature_of(old), signature_of(new)
         is_trait = "for" not in old.impl and owners[0] is not None
-        is_implemented = is_trait and owners[0] is not None and not is_sealed(self.versions.old, self.versions.old.get(owners[0].key))
+        is_implemented = is_trait and owners[0] is not None and not self.versions.is_sealed(self.versions.old, self.versions.old.get(owners[0].key))
         self.header(old, new, before, after, is_implemented)
         forms = [self.form(member, signature, version) for version, (member, signature) in enumerate(((old, before), (new, after)))]
         if forms[0][:2] == forms[1][:2]:

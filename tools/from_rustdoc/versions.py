@@ -8,6 +8,8 @@ from __future__ import annotations
 from typing import Any, Callable, Optional
 
 from .html_docs import is_std_key
+from .open_walk import is_sealed
+from .reached import terms_of
 from .rustdoc_json import JsonCrate
 from .show import Show
 from .surface import Surface, surface_of
@@ -70,6 +72,7 @@ class Versions:
         self.show_old, self.show_new = Show(old), Show(new)
         self.newer: dict[str, str] = {}
         self.older: dict[str, str] = {}
+        self.unwritable: dict[int, set[str]] = {}
         for path in sorted(self.before.by_path, key=lambda p: (p.count("::"), p)):
             if path in self.after.by_path:
                 for key, later in pairs_of(self.before, self.before.by_path[path], self.after, self.after.by_path[path]):
@@ -88,6 +91,12 @@ class Versions:
         homes = {world.homes[key].name for key in surface.kinds if key in world.homes}
         names = [self.crate, *(name for name in world.crates if name in homes and name not in other.crates and name != self.crate)]
         return [impl for name in names for impl in world.crates[name].impls]
+
+    def is_sealed(self, world: World, trait: Declaration) -> bool:
+        """Whether nobody else can implement the trait."""
+        if id(world) not in self.unwritable:
+            self.unwritable[id(world)] = unwritable(world, self.before if world is self.old else self.after, self.impls(world))
+        return is_sealed(world, trait, self.unwritable[id(world)])
 
     def is_same_crate(self, name: str) -> bool:
         """Whether both versions use one version of a crate; its size tells features."""
@@ -241,6 +250,18 @@ def expanded(world: World, term: Type) -> Type:
 # ---- who can name what
 def is_private(world: World, declaration: Declaration) -> bool:
     return declaration.crate in world.crates and declaration.public_path is None
+
+
+def unwritable(world: World, surface: Surface, impls: list[Impl]) -> set[str]:
+    """The traits that ask for an item whose type nobody else can write: it names one that has no path, and is no associated type of an impl."""
+    values = {world.key_of(value.key) for impl in impls for value in impl.associated.values() if isinstance(value, Named)}
+
+    def is_unnamed(term: Type) -> bool:
+        declaration = world.known(world.key_of(term.key)) if isinstance(term, Named) else None
+        return declaration is not None and is_private(world, declaration) and declaration.key not in surface.kinds and declaration.key not in values
+
+    return {item.key for item in surface.items.values() for (_, name), members in item.members.items() if item.kind == "trait" and name in item.required
+            and any(is_unnamed(part) for member in members for term in terms_of(member) for part in walk(term))}
 
 
 def names_private(world: World, surface: Surface, keys: list[str]) -> bool:
