@@ -112,7 +112,7 @@ class Agreement:
     def is_read(self, body: dict[str, Any]) -> bool:
         self.fields({k: v for k, v in body.items() if k in ("trait", "is_synthetic", "blanket_impl")}, "impl", trait=self.of_kind(dict, type(None)),
                     is_synthetic=self.of_kind(bool), blanket_impl=self.of_kind(dict, type(None)))
-        return body["trait"] is not None and not body["is_synthetic"] and body["blanket_impl"] is None
+        return body["trait"] is not None and body["blanket_impl"] is None
 
     def item_module(self, body: Any) -> None:
         self.fields(body, "module", items=self.each(self.of_kind(int)))

@@ -8,18 +8,29 @@ from typing import Optional
 
 from .claims import Claim, Judge, Programs
 from .cone import cone_of_questions
+from .constant_changes import MARKERS, trait_name
 from .impls import Written
+from .inference import Inference
 from .item_changes import change
 from .messages import Message, at
-from .open_walk import downstream, is_sealed, met_in_header
+from .open_walk import met_in_header
+from .other_impls import Nobody, OtherImpls
 from .program import run
 from .questions import Question, Verdict
 from .render import is_sizedness
-from .terms import BadInput, Bound, Declaration, Impl, Lossy, Named, Parameter, Predicate, Type, argument_values, put, put_bound, walk
-from .versions import Gone, Header, Versions, all_keys, bound_keys, is_private, names_private, plain_params
+from .show import Show
+from .terms import BadInput, Bound, Declaration, Impl, Lossy, Named, Predicate, Type, argument_values, put, put_bound, walk
+from .versions import Gone, Header, Versions, all_keys, bound_keys, is_private, names_private, plain_params, values_of
 from .world import World, crate_name
 
 
+Headers = dict[Header, list[tuple[Impl, frozenset[Predicate]]]]
+# What rustc says where a type has not a trait that the language itself asks for.
+BINARY = "Add Sub Mul Div Rem BitAnd BitOr BitXor Shl Shr"
+WITHOUT = {**dict.fromkeys(f"{BINARY} PartialEq PartialOrd".split(), "E0277 or E0369"),
+           **dict.fromkeys((f"{name}Assign" for name in BINARY.split()), "E0277 or E0368"), **dict.fromkeys(("Neg", "Not"), "E0277 or E0600"),
+           **dict.fromkeys(("DerefMut", "IndexMut"), "E0594 or E0596"), "Copy": "E0277, E0382 or E0507", "Index": "E0277 or E0608",
+           "Deref": "E0277, E0599 or E0614", "CoerceUnsized": "E0277 or E0308"}
 # What nothing is told of.
 KNOWN = "the old version proves it already"
 
@@ -49,29 +60,39 @@ class ImplChanges:
         self.troubled = troubled
         self.with_private = with_private
         self.programs = programs
+        self.others = OtherImpls(versions, with_private, programs)
         self.messages: list[Message] = []
         self.added: list[Judged] = []
         self.uncompared: dict[str, int] = {}
 
     def run(self) -> None:
-        old, new = self.of(self.versions.old), self.of(self.versions.new)
-        self.lost(old, new)
+        versions = self.versions
+        old, new = self.of(versions.old, versions.impls(versions.old)), self.of(versions.new, versions.impls(versions.new))
+        self.lost({**self.of(versions.old, self.exported(versions.old)), **old}, {**self.of(versions.new, self.exported(versions.new)), **new})
         self.new_ones(old, new)
         for key, count in self.uncompared.items():
             self.troubled[key].note(f"its impls are not compared: {count}")
 
-    def of(self, world: World) -> dict[Header, list[tuple[Impl, frozenset[Predicate]]]]:
-        """The crate's impls by their headers, without those of auto traits, which are asked for."""
-        found: dict[Header, list[tuple[Impl, frozenset[Predicate]]]] = {}
-        for impl in self.versions.impls(world):
-            if impl.trait is not None and not is_auto(world, impl):
+    def of(self, world: World, impls: list[Impl]) -> Headers:
+        """Impls by their headers, without those of auto traits, which are asked for, and of traits that nobody can name."""
+        found: Headers = {}
+        for impl in impls:
+            if impl.trait is not None and trait_name(impl.trait) not in MARKERS and not is_auto(world, impl):
                 header, clauses = self.versions.header(world, impl)
                 found.setdefault(header, []).append((impl, clauses))
         return found
 
+    def exported(self, world: World) -> list[Impl]:
+        """Those of other crates for what this one exports of them, where it has another version of the crate now."""
+        surface = self.versions.before if world is self.versions.old else self.versions.after
+        names = {world.homes[key].name for key in surface.kinds if key in world.homes} - {self.versions.crate}
+        both = [name for name in names if name in self.versions.old.crates and name in self.versions.new.crates]
+        return [crate.impls[number] for crate in (world.crates[name] for name in both if not self.versions.is_same_crate(name))
+                for number, keys in enumerate(crate.heads) if any(world.key_of(key) in surface.kinds for key in keys)]
+
     # ---- what is lost
-    def lost(self, old: dict[Header, list[tuple[Impl, frozenset[Predicate]]]], new: dict[Header, list[tuple[Impl, frozenset[Predicate]]]]) -> None:
-        claims: list[Claim] = []
+    def lost(self, old: Headers, new: Headers) -> None:
+        claims: list[tuple[Claim, list[Claim]]] = []
         for header, impls in old.items():
             again = new.get(header, [])
             for impl, clauses in impls:
@@ -82,25 +103,36 @@ class ImplChanges:
                     self.values(impl, same)
                 else:
                     claims += self.claim(Kept(impl, clauses, [i for i, _ in again]))
-        self.messages += Judge(self.versions.new, self.programs).settle(claims)
+        judge = Judge(self.versions.new, self.programs)
+        verdicts = judge.ask([claim.question for claim, _ in claims])
+        self.messages += [judge.told(claim, verdict) for (claim, _), verdict in zip(claims, verdicts) if verdict.word != "yes"]
+        self.messages += judge.settle([value for (_, values), verdict in zip(claims, verdicts) if verdict.word == "yes" for value in values])
 
     def is_hidden(self, impl: Impl) -> bool:
-        """Whether nobody else can name what the header names."""
-        return names_private(self.versions.old, self.versions.before, header_keys(impl))
+        """Whether nobody else can name what the header names, or have it."""
+        keys = list(map(self.versions.old.key_of, header_keys(impl)))
+        is_lost = any(key in self.versions.before.reached and key not in self.versions.newer for key in keys)
+        return is_lost or names_private(self.versions.old, self.versions.before, keys)
 
-    def claim(self, kept: Kept) -> list[Claim]:
-        impl, versions = kept.impl, self.versions
-        assert impl.trait is not None
-        trouble = next((own for own in map(versions.old.key_of, header_keys(impl)) if own in self.troubled), None)
+    def is_uncompared(self, keys: list[str]) -> bool:
+        """Whether an impl names an old item of which it is told that it is another one; such impls are counted with that."""
+        trouble = next((key for key in keys if key in self.troubled), None)
         if trouble is not None:
             self.uncompared[trouble] = self.uncompared.get(trouble, 0) + 1
+        return trouble is not None
+
+    def claim(self, kept: Kept) -> list[tuple[Claim, list[Claim]]]:
+        """That the new version proves the old impl, and if it does, with the same associated types."""
+        impl, versions = kept.impl, self.versions
+        assert impl.trait is not None
+        if self.is_uncompared([versions.old.key_of(key) for key in header_keys(impl)]):
             return []
         header = versions.show_old.header(impl)
         code = "impl-bounds-changed" if kept.again else "impl-removed"
         if kept.again:
             message = change(code, f"`{header}` asks for more", at(kept.again[0].place), at(impl.place, "", "old"))
         else:
-            message = change(code, f"`{header}` is removed", [], at(impl.place, "it was here", "old"))
+            message = change(code, f"`{header}` is removed", [], at(impl.place, "it was here", "old"), rustc=WITHOUT.get(trait_name(impl.trait), ""))
         try:
             predicates = versions.predicates_to_new(impl.predicates)
             subject, bound = versions.to_new(impl.self_type), versions.bound_to_new(impl.trait)
@@ -109,19 +141,11 @@ class ImplChanges:
             self.messages.append(message.note(f"it names `{gone}`, which is gone"))
             return []
         params = plain_params(impl.params)
-        predicates += self.of_names([subject, *bound.arguments])
-        found = [Claim(Question(self.asked(impl), subject, bound, params, predicates, crate=versions.crate), message)]
-        return found + self.value_claims(kept, subject, bound, predicates)
-
-    def of_names(self, terms: list[Type]) -> list[Predicate]:
-        """What the new version asks of whoever names these types: a new bound of one is told of it, and not of its impls too."""
-        found: list[Predicate] = []
-        for part in (part for term in terms for part in walk(term)):
-            item = self.versions.after.items.get(self.versions.new.key_of(part.key)) if isinstance(part, Named) else None
-            if item is not None and isinstance(part, Named):
-                values = argument_values(item.params, part.arguments)
-                found += [(put(t, values), put_bound(b, values)) for t, b in item.predicates if not is_sizedness(b)]
-        return found
+        predicates += asked_of_names(versions, [subject, *bound.arguments])
+        question = Question(written_question(versions.show_old, impl), subject, bound, params, predicates, crate=versions.crate)
+        if trait_name(impl.trait) != "Drop":
+            return [(Claim(question, message), self.value_claims(kept, subject, bound, predicates))]
+        return [(Claim(question, message.note("only a bound by `Drop` itself, of which rustc warns, asks for it"), "changed"), [])]
 
     def value_claims(self, kept: Kept, subject: Type, bound: Bound, predicates: list[Predicate]) -> list[Claim]:
         """Where another impl stands for the old one, its associated types are to be those of the old one."""
@@ -132,17 +156,9 @@ class ImplChanges:
                 asked = Bound(bound.key, bound.arguments, ((name, self.versions.to_new(value)),))
             except Gone:
                 continue
-            claims.append(Claim(Question(f"{self.asked(kept.impl)} with its `{name}`", subject, asked, plain_params(kept.impl.params), predicates,
-                                         crate=self.versions.crate), message))
+            claims.append(Claim(Question(f"{written_question(self.versions.show_old, kept.impl)} with its `{name}`", subject, asked,
+                                         plain_params(kept.impl.params), predicates, crate=self.versions.crate), message))
         return claims
-
-    def asked(self, impl: Impl) -> str:
-        """An impl as a question."""
-        show = self.versions.show_old
-        assert impl.trait is not None
-        names = ", ".join(("const " if p.kind == "const" else "") + p.name for p in impl.params)
-        where = ", ".join(f"{show.type(t)}: {show.bound(b)}" for t, b in impl.predicates)
-        return (f"<{names}> " if names else "") + f"{show.type(impl.self_type)}: {show.bound(impl.trait)}" + (f" where {where}" if where else "")
 
     def values(self, old: Impl, new: Impl) -> None:
         """Associated types of an impl that is there again."""
@@ -150,44 +166,29 @@ class ImplChanges:
         for name, value in before.items():
             if name in after and after[name] != value:
                 self.messages.append(self.other_value(old, name, new))
+            elif name in after and old.lifetimes.get(name) != new.lifetimes.get(name):
+                message = change("associated-value-changed", f"`{self.versions.show_old.header(old)}`: `{name}` has other lifetimes", at(new.place),
+                                 word="changed", rustc="E0521, E0597, E0716 or `lifetime may not live long enough`")
+                self.messages.append(message.note("answers are up to lifetimes: whether a crate loses something is not asked"))
 
     def other_value(self, old: Impl, name: str, new: Optional[Impl]) -> Message:
-        became = f"`{self.versions.show_new.type(new.associated[name])}`" if new is not None and name in new.associated else "another type"
+        before, after = values_of(old), values_of(new) if new is not None else {}
+        became = f"`{self.versions.show_new.type(after[name])}`" if name in after else "another type"
         return change("associated-value-changed", f"`{self.versions.show_old.header(old)}`: `{name}` is {became}, and was "
-                      f"`{self.versions.show_old.type(old.associated[name])}`", at(new.place if new is not None else None), at(old.place, "", "old"))
+                      f"`{self.versions.show_old.type(before[name])}`", at(new.place if new is not None else None), at(old.place, "", "old"))
 
     # ---- what is added
-    def new_ones(self, old: dict[Header, list[tuple[Impl, frozenset[Predicate]]]], new: dict[Header, list[tuple[Impl, frozenset[Predicate]]]]) -> None:
-        fresh = [self.narrowed(impl) for header, impls in new.items() for impl, clauses in impls if all(c != clauses for _, c in old.get(header, []))]
+    def new_ones(self, old: Headers, new: Headers) -> None:
+        others = [impl for header, impls in new.items() for impl, clauses in impls if all(c != clauses for _, c in old.get(header, []))]
+        before = {id(i): [self.versions.older.get(self.versions.new.key_of(key), "") for key in header_keys(i)] for i in others}
+        fresh = [self.others.narrowed(impl) for impl in others if not self.is_uncompared(before[id(impl)])]
         proved = self.proved_before(fresh)
         self.added = [self.judged(impl, proved.get(id(impl))) for impl in fresh]
         self.ask_program()
         self.messages += [self.told(judged) for judged in self.added if judged.reason != KNOWN]
-
-    def narrowed(self, impl: Impl) -> Impl:
-        """The part of an added impl that an impl of an older crate can meet: new parameters of its trait have their defaults there."""
-        trait = trait_of(self.versions.new, impl)
-        before = self.versions.before.items.get(self.versions.older.get(trait.key, "")) if trait is not None else None
-        if trait is None or impl.trait is None or before is None or len(before.params) >= len(impl.trait.arguments):
-            return impl
-        values: dict[str, Type] = {}
-        for param, argument in list(zip(trait.params, impl.trait.arguments))[len(before.params):]:
-            if isinstance(argument, Parameter) and param.default is not None:
-                values[argument.name] = param.default
-        found = impl.copy()
-        found.trait, found.self_type = put_bound(impl.trait, values), put(impl.self_type, values)
-        found.predicates = [(put(t, values), put_bound(b, values)) for t, b in impl.predicates]
-        found.params = [p for p in impl.params if p.name not in values]
-        return found
-
-    def old_bound(self, bound: Bound) -> Bound:
-        """The bound in the old version, without arguments that are the defaults of new parameters."""
-        before = self.versions.before.items.get(self.versions.older.get(self.versions.new.key_of(bound.key), ""))
-        trait = self.versions.new.get(bound.key, "trait", bound.arguments)
-        count = len(before.params) if before is not None else len(bound.arguments)
-        if all(argument == param.default for param, argument in list(zip(trait.params, bound.arguments))[count:]):
-            bound = Bound(bound.key, bound.arguments[:count], bound.constraints)
-        return self.versions.bound_to_old(bound)
+        inference = Inference(self.versions, self.others)
+        found = [inference.by(judged.impl) for judged in self.added if judged.word == "compatible" and judged.reason != KNOWN]
+        self.messages += [message for message in found if message is not None]
 
     def proved_before(self, fresh: list[Impl]) -> dict[int, Verdict]:
         """What the old version says to each: where it has a proof nothing is added."""
@@ -195,9 +196,11 @@ class ImplChanges:
         for impl in fresh:
             assert impl.trait is not None
             try:
-                asked.append((impl, Question("", self.versions.to_old(impl.self_type), self.old_bound(impl.trait), plain_params(impl.params),
-                                             self.versions.predicates_to_old(impl.predicates), crate=self.versions.crate)))
-            except (Gone, Lossy):
+                before = self.others.in_old(impl)
+                assert before.trait is not None
+                predicates = [(self.others.to_old(t), self.others.to_old_bound(b)) for t, b in impl.predicates]
+                asked.append((impl, Question("", before.self_type, before.trait, plain_params(impl.params), predicates, crate=self.versions.crate)))
+            except (Gone, Lossy, Nobody):
                 pass
         asked = [(impl, question) for impl, question in asked if not impl.is_negative]
         verdicts = Judge(self.versions.old, self.programs).ask([question for _, question in asked])
@@ -217,18 +220,25 @@ class ImplChanges:
             subject = world.get(impl.self_type.key, "struct", impl.self_type.arguments) if isinstance(impl.self_type, Named) else None
             if is_private(world, trait) or (subject is not None and is_private(world, subject) and subject.key not in self.versions.after.kinds):
                 return Judged(impl, "private", "nobody else can name it, so it is in no section")
-            if is_sealed(world, trait):
+            if self.was_sealed(trait):
                 return Judged(impl, "sealed", "nobody else can implement the trait, so it is in no section")
         if trait.crate in world.crates and trait.key in self.versions.after.kinds and trait.key not in self.versions.older:
             return Judged(impl, "compatible", "its trait is new")
         return Judged(impl, "")
+
+    def was_sealed(self, trait: Declaration) -> bool:
+        """Whether nobody else could implement the trait in the old version."""
+        old = self.versions.old.known(self.versions.older.get(trait.key, trait.key))
+        versions = self.versions
+        return versions.is_sealed(versions.old, old) if old is not None else versions.is_sealed(versions.new, trait)
 
     def ask_program(self) -> None:
         """Has the program judge the impls that wait for it, by a section for each behind a text that has what their headers name."""
         waiting = [j for j in self.added if not j.word]
         for judged, verdict in zip(waiting, self.verdicts([j.impl for j in waiting])):
             judged.word = verdict.split()[0] if verdict else "not settled"
-            judged.reason = self.reason(judged.impl) if judged.word == "breaking" else "" if verdict else "the text cannot say its header"
+            if judged.word != "compatible":
+                self.meets(judged)
 
     def verdicts(self, impls: list[Impl]) -> list[str]:
         try:
@@ -249,16 +259,20 @@ class ImplChanges:
         verdicts = iter(run("\n".join(translation.text("upper")[0] + sections) + "\n", self.programs.answers).releases if sections else [])
         return [next(verdicts) if line else "" for line in lines]
 
-    def reason(self, impl: Impl) -> str:
-        """Why the program says that an impl is breaking."""
-        world, trait = self.versions.new, trait_of(self.versions.new, impl)
+    def meets(self, judged: Judged) -> None:
+        """What stands against an impl of which the program does not say that it is compatible; its where-clauses are looked at here."""
+        trait = trait_of(self.versions.new, judged.impl)
         assert trait is not None
+        unsaid = "the text cannot say its header" if judged.word == "not settled" else ""
         if trait.is_fundamental:
-            return "the trait is fundamental: others may rely on there being no such impl"
-        met = met_in_header(world, trait, impl)
-        if met is not None:
-            return f"another crate may have `{downstream(self.versions.show_new, trait, impl, met)}`"
-        return "its header is none that the crate may have"
+            judged.reason = unsaid or "the trait is fundamental: others may rely on there being no such impl"
+        elif met_in_header(self.versions.new, trait, judged.impl) is None:
+            judged.reason = unsaid or "its header is none that the crate may have"
+        else:
+            try:
+                judged.reason = f"{unsaid}{'; ' if unsaid else ''}another crate may have {self.others.met(trait, judged.impl)}"
+            except Nobody as nobody:
+                judged.word, judged.reason = "compatible", f"no crate has an impl that it meets: {nobody}"
 
     def told(self, judged: Judged) -> Message:
         header = self.versions.show_new.header(judged.impl)
@@ -281,6 +295,25 @@ def trait_of(world: World, impl: Impl) -> Optional[Declaration]:
 def is_auto(world: World, impl: Impl) -> bool:
     trait = trait_of(world, impl)
     return trait is not None and trait.is_auto
+
+
+def written_question(show: Show, impl: Impl) -> str:
+    """An impl as a question."""
+    assert impl.trait is not None
+    names = ", ".join(("const " if p.kind == "const" else "") + p.name for p in impl.params)
+    where = ", ".join(f"{show.type(t)}: {show.bound(b)}" for t, b in impl.predicates)
+    return (f"<{names}> " if names else "") + f"{show.type(impl.self_type)}: {show.bound(impl.trait)}" + (f" where {where}" if where else "")
+
+
+def asked_of_names(versions: Versions, terms: list[Type]) -> list[Predicate]:
+    """What the new version asks of whoever names these types of it: a new bound of one is told of it, and not of its impls too."""
+    found: list[Predicate] = []
+    for part in (part for term in terms for part in walk(term)):
+        item = versions.after.items.get(versions.new.key_of(part.key)) if isinstance(part, Named) else None
+        if item is not None and isinstance(part, Named):
+            values = argument_values(item.params, part.arguments)
+            found += [(put(t, values), put_bound(b, values)) for t, b in item.predicates if not is_sizedness(b)]
+    return found
 
 
 def header_keys(impl: Impl) -> list[str]:

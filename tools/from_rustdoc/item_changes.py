@@ -11,7 +11,6 @@ from typing import Callable, Iterator, Optional
 from .claims import Claim
 from .html_docs import is_std_key
 from .messages import Message, Span, at
-from .open_walk import is_sealed
 from .questions import Question
 from .render import is_sizedness
 from .surface import Associated, Generics, Item
@@ -32,7 +31,9 @@ RUSTC = {"item-removed": "E0425 or E0432", "alias-removed": "E0425 or E0432", "a
          "associated-type-bound-removed": "E0277, E0308 or E0599", "associated-type-changed": "E0107 or E0049", "required-item-added": "E0046",
          "trait-item-removed": "E0407 or E0599", "trait-made-unsafe": "E0200", "trait-made-safe": "E0199", "trait-made-auto": "E0119",
          "dyn-lost": "E0038 or E0393", "impl-added": "E0119", "impl-removed": "E0277 or E0599", "impl-bounds-changed": "E0277, E0308 or E0599",
-         "associated-value-changed": "E0271 or E0308", "auto-trait-lost": "E0277",
+         "associated-value-changed": "E0271 or E0308", "auto-trait-lost": "E0277", "constant-pattern-lost": "`constant of non-structural type`",
+         "constant-borrow-lost": "E0492 or E0716", "sized-lost": "E0277 or E0599", "unsizing-lost": "E0277, E0308 or E0605",
+         "annotations-needed": "E0277, E0282, E0283, E0284 or E0308",
          "function-removed": "E0425 or E0432", "constant-removed": "E0425 or E0432", "static-removed": "E0425 or E0432", "macro-removed": "E0432 or E0433",
          "module-removed": "E0432 or E0433",
          "glob-re-export-removed": "E0405, E0412, E0425, E0432 or E0433", "extern-type-removed": "E0412 or E0432",
@@ -46,11 +47,11 @@ RUSTC = {"item-removed": "E0425 or E0432", "alias-removed": "E0425 or E0432", "a
          "drop-added": "E0493, E0505, E0509, E0597 or E0716"}
 
 
-def change(code: str, text: str, new: list[Span], old: Optional[list[Span]] = None, word: str = "breaking") -> Message:
-    """A change of a class; where the new version has no place for it the old one has."""
+def change(code: str, text: str, new: list[Span], old: Optional[list[Span]] = None, word: str = "breaking", rustc: str = "") -> Message:
+    """A change of a class; where the new version has no place for it the old one has. `rustc` is what it says, if not that of the class."""
     message = Message(text, code, word, spans=new or old or [])
-    if code in RUSTC:
-        message.help(f"a crate that breaks gets {RUSTC[code]}")
+    if rustc or code in RUSTC:
+        message.help(f"a crate that breaks gets {rustc or RUSTC[code]}")
     return message
 
 
@@ -294,7 +295,7 @@ class ItemChanges:
     # ---- traits
     def trait(self, old: Item, new: Item) -> None:
         declaration = self.versions.old.get(old.key)
-        sealed = is_sealed(self.versions.old, declaration)
+        sealed = self.versions.is_sealed(self.versions.old, declaration)
         if old.is_unsafe != new.is_unsafe and not sealed:
             code, word = ("trait-made-unsafe", "is `unsafe` now") if new.is_unsafe else ("trait-made-safe", "is not `unsafe` any more")
             self.tell(code, f"{new.shown()} {word}", at(new.place))

@@ -7,10 +7,12 @@ from typing import Callable
 
 from .auto_changes import AutoChanges
 from .claims import Judge, Programs, worst_first
+from .constant_changes import ConstantChanges
 from .impl_changes import ImplChanges
 from .item_changes import ItemChanges
 from .member_changes import MemberChanges
 from .messages import BAD, FINE, UNSETTLED, Message, worst
+from .size_changes import SizeChanges
 from .versions import Versions
 from .world import World
 
@@ -64,11 +66,16 @@ def compared(old: World, new: World, crate: str, with_private: bool = False, pro
     impls.run()
     autos = AutoChanges(versions, items.troubled, programs)
     autos.run()
+    constants = ConstantChanges(versions, items.troubled)
+    constants.run()
+    sizes = SizeChanges(versions, items.troubled, programs)
+    sizes.run()
     members = MemberChanges(items)
     members.run()
     told = items.messages + Judge(new, programs).settle(items.claims)
     drops = [message.spans for message in told if message.code == "drop-added"]
-    messages = told + [m for m in impls.messages if m.spans not in drops] + autos.messages + items.new_items + items.unjudged
+    messages = told + [m for m in impls.messages if m.spans not in drops] + autos.messages + constants.messages + sizes.messages
+    messages += items.new_items + items.unjudged
     for message in messages:
         message.crate = crate
     return Release(crate, (old.crates[crate].version, new.crates[crate].version), worst_first(messages), items.not_judged)

@@ -149,7 +149,7 @@ class MemberChanges:
         for inside in filter(None, map(item.crate.item, body["items"] if item.kind == "trait" else [])):
             kind, its = kind_and_body(inside)
             if kind == "assoc_type":
-                own = [f"{inside['name']}::{p['name']}" for p in its["generics"]["params"]]
+                own = [p["name"] for p in its["generics"]["params"]]
                 found |= {f"{inside['name']}: {unit}": f"{inside['name']}: {erased}"
                           for unit, erased in clauses(item.crate, self.common(version), its, names + own).items()}
         return found, set(found.values()) - {""}

@@ -3,9 +3,7 @@ from __future__ import annotations
 
 from typing import Optional
 
-from .show import Show
-from .terms import (Bound, Declaration, Impl, Lossy, Named, Parameter, Projection, Reference, Type, Unsayable, argument_values, parameters_of, put,
-                    rebuilt)
+from .terms import Declaration, Impl, Lossy, Named, Parameter, Projection, Reference, Type, Unsayable, argument_values, put
 from .world import World
 
 
@@ -40,38 +38,21 @@ def met_in_header(world: World, trait: Declaration, impl: Impl) -> Optional[Type
     return next((met for met in (met_parameter(world, term) for term in written_arguments(trait, impl)) if met is not None), None)
 
 
-def downstream(show: Show, trait: Declaration, impl: Impl, met: Type) -> str:
-    """An impl of another crate that this one would meet: its own type stands where the walk meets a parameter."""
-    assert impl.trait is not None
-    mine = Parameter("Mine")
-
-    def changed(term: Type) -> Type:
-        return mine if term == met else rebuilt(term, changed)
-
-    values = {p.name: changed(a) for p, a in zip(trait.params, impl.trait.arguments)}
-    bound = Bound(impl.trait.key, tuple(values.values()))
-    self_type = changed(impl.self_type)
-    left = {n for t in (self_type, *bound.arguments) for n in parameters_of(t)} & {p.name for p in impl.params}
-    special = impl.copy()
-    special.params = [p for p in impl.params if p.name in left]
-    special.trait, special.self_type, special.is_negative = bound, self_type, False
-    return show.header(special)
-
-
-def is_sealed(world: World, trait: Declaration) -> bool:
+def is_sealed(world: World, trait: Declaration, unwritable: set[str]) -> bool:
     """Whether nobody else can implement the trait: of it, or of a trait above it, nobody else can have an impl. That is so if it has no
-    public path, and no impl of its own is for types of others."""
-    return closed(world, trait, set())
+    public path, and no impl of its own is for types of others, or if it is one of those that ask for an item which nobody else can write."""
+    return closed(world, trait, set(), unwritable)
 
 
-def closed(world: World, trait: Declaration, above: set[str]) -> bool:
+def closed(world: World, trait: Declaration, above: set[str], unwritable: set[str]) -> bool:
     todo, seen = [trait], set(above)
     while todo:
         declaration = todo.pop()
         if declaration.key in seen:
             continue
         seen.add(declaration.key)
-        if declaration.crate in world.crates and declaration.public_path is None and not is_for_others(world, declaration, seen):
+        is_private = declaration.crate in world.crates and declaration.public_path is None
+        if declaration.key in unwritable or is_private and not is_for_others(world, declaration, seen, unwritable):
             return True
         todo += supertraits(world, declaration)
     return False
@@ -87,11 +68,11 @@ def supertraits(world: World, trait: Declaration) -> list[Declaration]:
     return found
 
 
-def is_for_others(world: World, trait: Declaration, above: set[str]) -> bool:
+def is_for_others(world: World, trait: Declaration, above: set[str], unwritable: set[str]) -> bool:
     """Whether some impl of the trait may be for a type of another crate: not if it asks the very trait, or one like it, of that type."""
     for impl in world.impls_of(trait.key, None):
         met = None if impl.is_negative else met_in_header(world, trait, impl)
         asked = [world.known(world.key_of(b.key)) for t, b in impl.predicates if t == met]
-        if met is not None and not any(d is not None and (d.key == trait.key or closed(world, d, above)) for d in asked):
+        if met is not None and not any(d is not None and (d.key == trait.key or closed(world, d, above, unwritable)) for d in asked):
             return True
     return False

@@ -5,7 +5,7 @@ import json
 import os
 import re
 from dataclasses import dataclass
-from typing import Any, Optional
+from typing import Any, Iterator, Optional
 
 from .formats import agreed, first_column
 from .html_docs import Pages
@@ -29,6 +29,19 @@ class ItemName:
 def kind_and_body(item: dict[str, Any]) -> tuple[str, Any]:
     kind, body = next(iter(item["inner"].items()))
     return kind, body
+
+
+def lifetimes_in(written: Any) -> Iterator[str]:
+    """The lifetimes in a part of the JSON, in a fixed order; those that a `for` binds too."""
+    if isinstance(written, list):
+        for part in written:
+            yield from lifetimes_in(part)
+    elif isinstance(written, dict):
+        for name, part in sorted(written.items()):
+            if name == "lifetime" and isinstance(part, str):
+                yield part
+            else:
+                yield from lifetimes_in(part)
 
 
 def stem_of(crate: dict[str, Any]) -> str:
@@ -199,6 +212,7 @@ class JsonCrate:
     def read_declaration(self, declaration: Declaration) -> None:
         kind, body = kind_and_body(declaration.item)
         declaration.params, declaration.predicates = self.generics(body["generics"], None)
+        declaration.lifetimes = sum("lifetime" in param["kind"] for param in body["generics"]["params"])
         declaration.is_fundamental = any(FUNDAMENTAL.search(str(a)) for a in declaration.item.get("attrs", []))
         if kind == "trait":
             declaration.is_auto = body["is_auto"]
@@ -245,6 +259,16 @@ class JsonCrate:
         return found
 
     def read_impl(self, item: dict[str, Any], body: dict[str, Any]) -> None:
+        self.impls.append(self.impl_of(item, body))
+
+    def computed_impls(self) -> Iterator[Impl]:
+        """What rustdoc found of the auto traits of types for which nobody wrote an impl: positive or negative, with the least clauses."""
+        for item in self.index.values():
+            kind, body = kind_and_body(item)
+            if kind == "impl" and item["crate_id"] == 0 and body["is_synthetic"] and body["trait"] is not None:
+                yield self.impl_of(item, body)
+
+    def impl_of(self, item: dict[str, Any], body: dict[str, Any]) -> Impl:
         itself = self.type(body["for"], None)
         params, predicates = self.generics(body["generics"], itself)
         impl = Impl(self.name, self.source(item), self.trait_bound(body["trait"], itself), itself, params, predicates,
@@ -252,10 +276,18 @@ class JsonCrate:
         for number in body["items"]:
             inside = self.item(number)
             if inside and kind_and_body(inside)[0] == "assoc_type" and inside["inner"]["assoc_type"].get("type") is not None:
-                value = inside["inner"]["assoc_type"]
-                generic = bool(value["generics"]["params"])
-                impl.associated[inside["name"]] = Unsayable("a generic associated type") if generic else self.type(value["type"], itself)
-        self.impls.append(impl)
+                self.read_value(impl, inside["name"], inside["inner"]["assoc_type"], [body["trait"], body["for"]])
+        return impl
+
+    def read_value(self, impl: Impl, name: str, value: dict[str, Any], header: list[Any]) -> None:
+        read = self.type(value["type"], impl.self_type)
+        own = [param["name"] for param in value["generics"]["params"]]
+        impl.associated[name] = Unsayable("a generic associated type") if own else read
+        if own:
+            impl.generic[name] = put(read, {its: Parameter(f"{name}::{number}") for number, its in enumerate(own)})
+        places = {lifetime: str(number) for number, lifetime in reversed(list(enumerate(lifetimes_in(header))))}
+        places |= {its: f"{name}::{number}" for number, its in enumerate(own)}
+        impl.lifetimes[name] = [places.get(lifetime, lifetime) for lifetime in lifetimes_in(value["type"])]
 
     # ---- public paths
     def find_public_paths(self) -> None:
@@ -391,11 +423,20 @@ class JsonCrate:
 
     def projection(self, body: dict[str, Any], itself: Optional[Type]) -> Type:
         if (body["args"] or {}).get("angle_bracketed", {}).get("args"):
-            return Unsayable("a generic associated type")
+            return Unsayable("a generic associated type", repr(self.with_keys(body)))
         bound = self.trait_bound(body["trait"], itself) if body["trait"] else None
         if bound and bound.key.startswith("?"):
             bound = None
         return Projection(self.type(body["self_type"], itself), bound, body["name"])
+
+    def with_keys(self, written: Any) -> Any:
+        """A part of the JSON with the keys of items in the place of their numbers, which differ from file to file."""
+        if isinstance(written, list):
+            return [self.with_keys(part) for part in written]
+        if not isinstance(written, dict):
+            return written
+        found = {name: self.with_keys(part) for name, part in sorted(written.items()) if name not in ("id", "path")}
+        return {**found, "id": self.key(written["id"], written.get("path", ""))} if "id" in written else found
 
     def path_type(self, body: dict[str, Any], itself: Optional[Type]) -> Type:
         key = self.key(body["id"], body["path"])

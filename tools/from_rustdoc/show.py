@@ -7,12 +7,18 @@ from .terms import (UNIT, Alias, Array, Bound, BoundsOf, Constant, Declaration, 
 from .world import World
 
 
-class Show:
-    """With `exact` a path is the public path of the item, and what has none is lossy; else its last name will do."""
+PRELUDE = """AsMut AsRef Box Clone Copy Default DoubleEndedIterator Drop Eq ExactSizeIterator Extend Fn FnMut FnOnce From FromIterator Into IntoIterator
+             Iterator Option Ord PartialEq PartialOrd Result Send Sized String Sync ToOwned ToString TryFrom TryInto Unpin Vec""".split()
 
-    def __init__(self, world: World, exact: bool = False) -> None:
+
+class Show:
+    """With `exact` a path is the public path of the item, and what has none is lossy; else its last name will do. With `pasted` it
+    can be pasted into a crate: lifetimes are `'_`, and what is not in Rust's prelude has its path."""
+
+    def __init__(self, world: World, exact: bool = False, pasted: bool = False) -> None:
         self.world = world
         self.exact = exact
+        self.pasted = pasted
 
     def path(self, key: str) -> str:
         try:
@@ -22,21 +28,24 @@ class Show:
                 raise
             return key.split("@")[-1].split(".")[-1].split("::")[-1].split(":")[-1].lstrip("?")
         if is_std_key(declaration.key):
-            return "::".join(self.world.pages.rust_path(declaration.key)) if self.exact else declaration.name
+            is_whole = self.exact or self.pasted and declaration.name not in PRELUDE
+            return "::".join(self.world.pages.rust_path(declaration.key)) if is_whole else declaration.name
         if declaration.public_path:
             return "::".join(declaration.public_path)
         if self.exact:
             raise Lossy(f"{declaration.name} has no public path")
         return f"{declaration.crate}::{declaration.name}"
 
-    def arguments(self, terms: tuple[Type, ...], constraints: tuple[tuple[str, Type], ...] = ()) -> str:
-        written = [self.type(t) for t in terms]
+    def applied(self, key: str, terms: tuple[Type, ...], constraints: tuple[tuple[str, Type], ...] = ()) -> str:
+        """An item with its arguments."""
+        declaration = self.world.known(key) if self.pasted else None
+        written = ["'_"] * (declaration.lifetimes if declaration is not None else 0) + [self.type(t) for t in terms]
         for name, value in constraints:
             written.append(f"{name}: {self.bounds(value.bounds)}" if isinstance(value, BoundsOf) else f"{name} = {self.type(value)}")
-        return f"<{', '.join(written)}>" if written else ""
+        return self.path(key) + (f"<{', '.join(written)}>" if written else "")
 
     def bound(self, bound: Bound) -> str:
-        return ("?" if bound.maybe else "") + self.path(bound.key) + self.arguments(bound.arguments, bound.constraints)
+        return ("?" if bound.maybe else "") + self.applied(bound.key, bound.arguments, bound.constraints)
 
     def bounds(self, bounds: tuple[Bound, ...]) -> str:
         return " + ".join(self.bound(b) for b in bounds)
@@ -69,7 +78,7 @@ class Show:
             case Named(key, arguments) if key in self.world.shape_of_key:
                 return self.type(self.world.shape_of_key[key].dyn(arguments))
             case Named(key, arguments) | Alias(key, arguments):
-                return self.path(key) + self.arguments(arguments)
+                return self.applied(key, arguments)
             case Constant(text):
                 return text
             case Projection(subject, bound, name):

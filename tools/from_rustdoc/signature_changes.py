@@ -9,7 +9,6 @@ from .build import AUTO_TRAITS
 from .item_changes import ITSELF, ItemChanges, split
 from .members import Member, Signature, signature_of
 from .messages import at
-from .open_walk import is_sealed
 from .render import is_sizedness
 from .surface import Item
 from .terms import (UNIT, Array, Bound, Constant, Dyn, Function, Named, Param, Parameter, Predicate, Primitive, Projection, Reference, Slice, Type,
@@ -74,7 +73,7 @@ class SignatureChanges:
     def compare(self, old: Member, new: Member, owners: Owners) -> None:
         before, after = signature_of(old), signature_of(new)
         is_trait = "for" not in old.impl and owners[0] is not None
-        is_implemented = is_trait and owners[0] is not None and not is_sealed(self.versions.old, self.versions.old.get(owners[0].key))
+        is_implemented = is_trait and owners[0] is not None and not self.versions.is_sealed(self.versions.old, self.versions.old.get(owners[0].key))
         self.header(old, new, before, after, is_implemented)
         if self.hides(before) and (not self.hides(after) or not self.items.is_same()):
             self.count("hidden type", new.shown(), "which auto traits its result has is not known", new.place)

@@ -71,6 +71,8 @@ class Standard:
             return declaration
         reader = self.pages.reader(fragment.group(1), path)
         declaration.is_auto = "auto trait" in reader.text
+        params = re.search(rf"\b{name}<([^>]*)>", reader.text)
+        declaration.lifetimes = sum(param.strip().startswith("'") for param in params.group(1).split(",")) if params else 0
         declaration.is_fundamental = ("#[fundamental]" in reader.text or (kind == "struct" and name in ("Box", "Pin"))
                                       or (kind == "trait" and name in FN_TRAITS))
         associated = re.findall(r'type <a href="#associatedtype\.([A-Za-z0-9_]+)', fragment.group(1))

@@ -137,8 +137,9 @@ class BoundsOf:
 
 @dataclass(frozen=True)
 class Unsayable:
-    """A type that no text can say, and why."""
+    """A type that no text can say, and why. `written` tells it from others, where that is known."""
     why: str
+    written: str = ""
 
 
 Type = Union[Primitive, Never, Parameter, Unknown, Reference, Pointer, Slice, Array, Tuple, Function, Dyn, Named, Alias,
@@ -179,7 +180,8 @@ class Place:
 
 @dataclass
 class Declaration:
-    """A struct (enums and unions too), a trait, or an alias of std (its one field is what it stands for)."""
+    """A struct (enums and unions too), a trait, or an alias of std (its one field is what it stands for). `lifetimes` counts its parameters
+    that are left away."""
     kind: str
     key: str
     crate: str
@@ -202,6 +204,7 @@ class Declaration:
     place: Optional[Place] = None
     field_names: list[str] = field(default_factory=list)
     item: dict[str, Any] = field(default_factory=dict)
+    lifetimes: int = 0
 
     @property
     def is_trait(self) -> bool:
@@ -215,7 +218,8 @@ class Declaration:
 @dataclass
 class Impl:
     """An impl as read. `trait` is None where the header was not understood (`error` says why). `narrowed` says that it is written for
-    less than it holds of, in both texts, and why. `is_computed`: one of an auto trait that nobody wrote."""
+    less than it holds of, in both texts, and why. `is_computed`: one of an auto trait that nobody wrote. Of associated types that take
+    parameters `generic` has the values, and `lifetimes` has those in each value, by their places in the header."""
     crate: str
     source: str
     trait: Optional[Bound] = None
@@ -228,6 +232,8 @@ class Impl:
     error: str = ""
     narrowed: str = ""
     place: Optional[Place] = None
+    generic: dict[str, Type] = field(default_factory=dict)
+    lifetimes: dict[str, list[str]] = field(default_factory=dict)
 
     def copy(self) -> Impl:
         return replace(self, params=list(self.params), predicates=list(self.predicates), associated=dict(self.associated))

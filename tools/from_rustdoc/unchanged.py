@@ -97,8 +97,7 @@ class Unchanged:
         if home is None:
             # One that was not given is not known in either version.
             return is_std_key(key) or (key.startswith("other:") and self.versions.new.key_of(key) == key)
-        other = self.versions.new.crates.get(home.name)
-        return other is not None and (home.version, len(home.impls), len(home.items)) == (other.version, len(other.impls), len(other.items))
+        return self.versions.is_same_crate(home.name)
 
 
 def decides_more(term: Type, is_asked: bool) -> bool:

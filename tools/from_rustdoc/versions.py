@@ -1,12 +1,16 @@
 """Two versions of one crate: which item of the newer one is which of the older one, and types of either as the other one has them.
 
-Items are the same if a public path names both, wherever they are declared; private ones if they have one key.
+Items are the same if a public path names both, wherever they are declared; private ones if they have one key, or are the only ones of a name
+that others can have.
 """
 from __future__ import annotations
 
 from typing import Callable
 
 from .html_docs import is_std_key
+from .open_walk import is_sealed
+from .reached import terms_of
+from .rustdoc_json import JsonCrate
 from .show import Show
 from .surface import Surface, surface_of
 from .terms import (Alias, Bound, BoundsOf, Constant, Declaration, Dyn, Impl, Lossy, Named, Param, Parameter, Predicate, Projection, Type, Unsayable,
@@ -68,15 +72,18 @@ class Versions:
         self.show_old, self.show_new = Show(old), Show(new)
         self.newer: dict[str, str] = {}
         self.older: dict[str, str] = {}
+        self.unwritable: dict[int, set[str]] = {}
         for path in sorted(self.before.by_path, key=lambda p: (p.count("::"), p)):
             if path in self.after.by_path:
                 for key, later in pairs_of(self.before, self.before.by_path[path], self.after, self.after.by_path[path]):
                     self.newer.setdefault(key, later)
                     self.older.setdefault(later, key)
-        for key in self.before.reached:
-            if key in self.after.items and key not in self.older:
-                self.newer.setdefault(key, key)
-                self.older.setdefault(key, key)
+        for key, item in self.before.reached.items():
+            moved = [k for k, i in self.after.reached.items() if i.name == item.name and k not in self.before.items]
+            later = key if key in self.after.items else moved[0] if len(moved) == 1 else ""
+            if later:
+                self.newer.setdefault(key, later)
+                self.older.setdefault(later, key)
 
     def impls(self, world: World) -> list[Impl]:
         """The impls of the crate, and of crates that only one version has and exports items of: what was moved there is still this crate's."""
@@ -84,6 +91,18 @@ class Versions:
         homes = {world.homes[key].name for key in surface.kinds if key in world.homes}
         names = [self.crate, *(name for name in world.crates if name in homes and name not in other.crates and name != self.crate)]
         return [impl for name in names for impl in world.crates[name].impls]
+
+    def is_sealed(self, world: World, trait: Declaration) -> bool:
+        """Whether nobody else can implement the trait."""
+        if id(world) not in self.unwritable:
+            self.unwritable[id(world)] = unwritable(world, self.before if world is self.old else self.after, self.impls(world))
+        return is_sealed(world, trait, self.unwritable[id(world)])
+
+    def is_same_crate(self, name: str) -> bool:
+        """Whether both versions use one version of a crate; its size tells features."""
+        before, after = self.old.crates.get(name), self.new.crates.get(name)
+        return before is not None and after is not None and (before.version, len(before.impls), len(before.items)) == (
+            after.version, len(after.impls), len(after.items))
 
     # ---- from the old version to the new one
     def new_key(self, key: str) -> str:
@@ -154,7 +173,12 @@ class Versions:
 
     def values(self, world: World, impl: Impl) -> dict[str, Type]:
         """The associated types of an impl, in the same form."""
-        return {name: self.common(world, put(value, numbered(impl))) for name, value in impl.associated.items()}
+        return {name: self.common(world, put(value, numbered(impl))) for name, value in values_of(impl).items()}
+
+
+def values_of(impl: Impl) -> dict[str, Type]:
+    """The associated types of an impl, those that take parameters too."""
+    return {**impl.associated, **impl.generic}
 
 
 def pairs_of(before: Surface, key: str, after: Surface, later: str) -> list[tuple[str, str]]:
@@ -222,6 +246,18 @@ def settled(world: World, term: Type) -> Type:
 # ---- who can name what
 def is_private(world: World, declaration: Declaration) -> bool:
     return declaration.crate in world.crates and declaration.public_path is None
+
+
+def unwritable(world: World, surface: Surface, impls: list[Impl]) -> set[str]:
+    """The traits that ask for an item whose type nobody else can write: it names one that has no path, and is no associated type of an impl."""
+    values = {world.key_of(value.key) for impl in impls for value in impl.associated.values() if isinstance(value, Named)}
+
+    def is_unnamed(term: Type) -> bool:
+        declaration = world.known(world.key_of(term.key)) if isinstance(term, Named) else None
+        return declaration is not None and is_private(world, declaration) and declaration.key not in surface.kinds and declaration.key not in values
+
+    return {item.key for item in surface.items.values() for (_, name), members in item.members.items() if item.kind == "trait" and name in item.required
+            and any(is_unnamed(part) for member in members for term in terms_of(member) for part in walk(term))}
 
 
 def names_private(world: World, surface: Surface, keys: list[str]) -> bool:

@@ -17,7 +17,9 @@ from typing import Any
 HERE = os.path.dirname(os.path.abspath(__file__))
 sys.path.insert(0, os.path.dirname(os.path.dirname(HERE)))
 
+from from_rustdoc.build import AUTO_TRAITS  # noqa: E402
 from from_rustdoc.cargo import FLAGS, docs_folder  # noqa: E402
+from from_rustdoc.constant_changes import FREEZE  # noqa: E402
 from from_rustdoc.html_docs import Pages  # noqa: E402
 from from_rustdoc.standard import COMPUTED  # noqa: E402
 from from_rustdoc.tests.pairs import all_pairs, library, rustdoc  # noqa: E402
@@ -25,19 +27,26 @@ from from_rustdoc.tests.pairs import all_pairs, library, rustdoc  # noqa: E402
 # Each with the crates that it uses.
 CRATES: dict[str, list[str]] = {"shapes": [], "before": [], "after": [], "ab": [], "user": ["ab"], "deep": ["ab"], "reasons": [],
                                 "formats": []}
+COMPARED = ("before", "after")
 READ = ("struct", "enum", "union", "variant", "struct_field", "trait", "impl", "assoc_type", "module", "use", "type_alias")
 # Pages that no kept crate names, but the translator or a question does.
 MORE = ("core/marker/trait.Send.html core/marker/trait.Sync.html core/marker/trait.Unpin.html core/panic/unwind_safe/trait.UnwindSafe.html "
         "core/panic/unwind_safe/trait.RefUnwindSafe.html core/marker/trait.Sized.html core/marker/trait.PointeeSized.html core/marker/trait.MetaSized.html "
         "core/ops/function/trait.FnMut.html core/ops/function/trait.FnOnce.html core/default/trait.Default.html core/fmt/trait.Debug.html core/clone/trait.Clone.html core/marker/trait.Copy.html core/marker/trait.Unsize.html core/cmp/trait.Eq.html "
-        "core/option/enum.Option.html alloc/vec/struct.Vec.html alloc/boxed/struct.Box.html alloc/string/struct.String.html "
+        "core/marker/trait.StructuralPartialEq.html core/option/enum.Option.html alloc/vec/struct.Vec.html alloc/boxed/struct.Box.html alloc/string/struct.String.html "
         "alloc/alloc/struct.Global.html core/alloc/trait.Allocator.html core/cell/struct.Cell.html core/marker/struct.PhantomData.html "
         "core/iter/traits/collect/trait.IntoIterator.html core/iter/traits/iterator/trait.Iterator.html alloc/vec/struct.IntoIter.html alloc/rc/struct.Rc.html "
         "core/fmt/type.Result.html core/result/enum.Result.html core/fmt/struct.Error.html core/marker/trait.Tuple.html core/num/nonzero/trait.ZeroablePrimitive.html core/num/trait.ZeroablePrimitive.html").split()
 
 
-def trimmed(data: dict[str, Any], whole: bool = False) -> dict[str, Any]:
-    """The parts that are read; all items if the crate is `whole`."""
+def is_kept(impl: dict[str, Any], whole: bool, is_compared: bool) -> bool:
+    if impl["blanket_impl"] is not None or impl["trait"] is None:
+        return whole and impl["blanket_impl"] is None
+    return not impl["is_synthetic"] or is_compared and impl["trait"]["path"] in (*AUTO_TRAITS, FREEZE)
+
+
+def trimmed(data: dict[str, Any], is_compared: bool, whole: bool = False) -> dict[str, Any]:
+    """The parts that are read; all items if the crate is `whole`. Of one that `later` compares the auto traits are kept that rustdoc found."""
     index = {}
     of_traits = {number for item in data["index"].values() if "trait" in item["inner"] and item["crate_id"] == 0 for number in item["inner"]["trait"]["items"]}
     of_impls = {number for item in data["index"].values() if item["inner"].get("impl", {}).get("trait") for number in item["inner"]["impl"]["items"]}
@@ -49,7 +58,7 @@ def trimmed(data: dict[str, Any], whole: bool = False) -> dict[str, Any]:
             item["inner"] = {kind: {name: body[name] for name in ("has_body", "value") if name in body}}
         elif item["crate_id"] != 0 or kind not in READ:
             continue
-        if kind == "impl" and (body["blanket_impl"] is not None or (body["trait"] is None and not whole) or body["is_synthetic"]):
+        if kind == "impl" and not is_kept(body, whole, is_compared):
             continue
         for name in ("docs", "links", "deprecation"):
             item.pop(name, None)
@@ -76,13 +85,13 @@ def crate_json(name: str, folder: str, rustdoc: str = "rustdoc") -> dict[str, An
                        env=environment)
     subprocess.run([rustdoc, "--cap-lints", "allow", *edition, source, "-o", folder, *used, *FLAGS.split()], check=True, env=environment)
     with open(os.path.join(folder, name + ".json"), encoding="utf-8") as handle:
-        return trimmed(json.load(handle))
+        return trimmed(json.load(handle), name in COMPARED)
 
 
 def pair_json(version: str, folder: str) -> dict[str, Any]:
     """The library of releases/pairs.txt, all pairs in it."""
     with open(rustdoc(folder, library(all_pairs(), version), version), encoding="utf-8") as handle:
-        return trimmed(json.load(handle), True)
+        return trimmed(json.load(handle), True, whole=True)
 
 
 def write(name: str, data: Any) -> None:

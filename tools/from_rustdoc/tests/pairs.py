@@ -7,6 +7,8 @@ import re
 import subprocess
 from dataclasses import dataclass, field
 
+from ..messages import Message
+
 HERE = os.path.dirname(os.path.abspath(__file__))
 LIBRARY = "pairs"
 LINT = "#![allow(warnings)]\n"
@@ -14,10 +16,11 @@ LINT = "#![allow(warnings)]\n"
 
 @dataclass
 class Pair:
-    """`classes` are what `later` is to tell; none of a pair that is compatible."""
+    """`classes` are what `later` is to tell; none of a pair that is compatible. `of` is the pair whose library is used, if it is another."""
     name: str
     classes: set[str]
     sources: dict[str, str] = field(default_factory=lambda: {"old": "", "new": "", "user": ""})
+    of: str = ""
 
 
 def read_pairs(text: str) -> list[Pair]:
@@ -45,7 +48,7 @@ def library(pairs: list[Pair], version: str) -> str:
 
 
 def users(pairs: list[Pair]) -> str:
-    return LINT + "".join(f"pub mod {p.name} {{\nuse {LIBRARY}::{p.name}::*;\n{p.sources['user']}}}\n" for p in pairs)
+    return LINT + "".join(f"pub mod {p.name} {{\nuse {LIBRARY}::{p.of or p.name}::*;\n{p.sources['user']}}}\n" for p in pairs)
 
 
 class Compiler:
@@ -71,7 +74,7 @@ class Compiler:
         return [m for m in messages if m["level"] == "error" and m["spans"]]
 
     def failing(self, pairs: list[Pair], version: str) -> dict[str, set[str]]:
-        """The names of the pairs whose users do not compile with a version, with rustc's codes. Errors of one kind hide others, so the
+        """The names of the pairs whose users do not compile with a version, with rustc's codes, or how its message begins. Errors of one kind hide others, so the
         users that failed are left out and the rest compiled again."""
         found: dict[str, set[str]] = {}
         while True:
@@ -85,8 +88,26 @@ class Compiler:
             for error in errors:
                 for span in error["spans"]:  # type: ignore[attr-defined]
                     if span["file_name"].endswith("user.rs"):
-                        code = (error["code"] or {"code": ""})["code"]  # type: ignore[index]
+                        code = error["code"]["code"] if error["code"] else str(error["message"]).split(" `")[0]  # type: ignore[index]
                         found.setdefault(module_at(lines, span["line_start"]), set()).add(code)
+
+
+def pairs_of(message: Message, pairs: list[Pair]) -> set[str]:
+    """The pairs that a message is about: those that it names, or the one in which it stands."""
+    named = set(re.findall(r"pairs::(\w+)", message.text)) & {p.name for p in pairs}
+    places = [] if named else [module_at(library(pairs, span.version or "new").splitlines(), span.place.line) for span in message.spans[:1]]
+    return named | set(places)
+
+
+def written_out(message: Message) -> list[str]:
+    """The crates that a message on an added impl says there may be; the types of constants are not told."""
+    found = []
+    for child in message.children:
+        if "another crate may have " in child.text:
+            items = re.findall("`([^`]*)`", child.text)
+            mine = "" if any(item.startswith("trait Mine") for item in items) else "pub struct Mine; "
+            found.append(mine + " ".join(re.sub(r"const (\w+)(?=[,>])", r"const \1: usize", item) + " {}" for item in items))
+    return found
 
 
 def module_at(lines: list[str], number: int) -> str:

@@ -1,7 +1,7 @@
 """Releases of real crates: each of some impls of a crate of Debian's registry as if it had been added, judged beside rustc.
 
 The older version is the crate without the impl, where it compiles without it. Of a breaking one `later` names an impl of another crate: a
-crate that has it is E0119 with the newer version alone, unless a where-clause keeps the two apart. Of a compatible one no impl of another
+crate that has it is E0119 with the newer version alone. Of a compatible one no impl of another
 crate for a type of its own is. It takes minutes; what it needs is as in real_crates.py. FROM_RUSTDOC_PAIRS says how many impls of each crate.
 """
 from __future__ import annotations
@@ -24,10 +24,10 @@ from ..claims import Programs
 from ..later import compared
 from ..messages import Message
 from ..proved import proved_program
-from ..render import is_sizedness
 from ..show import Show
 from ..terms import BadInput, Bound, Impl, Lossy, Parameter, Place, Type, put, put_bound
 from ..world import World
+from .pairs import written_out
 from .real_crates import REGISTRY
 
 CRATES = os.environ.get("FROM_RUSTDOC_CRATES", """either bytes smallvec semver arrayvec indexmap itertools num-complex num-rational num-bigint once_cell http url hashbrown log memchr
@@ -130,34 +130,12 @@ def users_impls(world: World, impl: Impl) -> Iterator[str]:
             pass
 
 
-def for_the_clauses(world: World, impl: Impl) -> str:
-    """Impls by which the user's own type has what the added impl asks of its parameters, without their methods: rustc looks for overlaps
-    all the same."""
-    show, found = Show(world, exact=True), []
-    values: dict[str, Type] = {p.name: Parameter("Mine") for p in impl.params if p.kind == "type"}
-    for subject, bound in impl.predicates:
-        if isinstance(subject, Parameter) and not is_sizedness(bound):
-            try:
-                written = show.bound(Bound(bound.key, put_bound(bound, values).arguments))
-                declaration = world.get(bound.key)
-            except Lossy:
-                continue
-            if "'" not in written and not declaration.is_auto and not declaration.name.startswith("Fn"):
-                found.append(f"impl {written} for Mine {{}} ")
-    return "".join(dict.fromkeys(found))
-
-
 def header(show: Show, impl: Impl) -> str:
     """As Rust writes it, lifetimes elided."""
     written = show.header(impl).replace("&'static ", "&")
     if "'" in written:
         raise Lossy("a lifetime")
     return written + " {}"
-
-
-def header_for_rustc(shown: str) -> str:
-    """A header as it is told, with the types of its constants, which are not told."""
-    return re.sub(r"const (\w+)(?=[,>])", r"const \1: usize", shown)
 
 
 @unittest.skipIf(missing(), missing())
@@ -227,9 +205,7 @@ class RealReleases(unittest.TestCase):
         assert impl.place is not None
         users = list(users_impls(new, impl))
         if word == "breaking":
-            with_clauses = for_the_clauses(new, impl)
-            users = [f"pub struct Mine; {with_clauses}{header_for_rustc(found)} {{}}" for child in messages[0].children
-                     for found in re.findall(r"another crate may have `(.*)`", child.text)]
+            users = written_out(messages[0])
         for user in users:
             old = copy.errors(user)
             copy.restore(impl.place, before)
@@ -239,7 +215,7 @@ class RealReleases(unittest.TestCase):
             count[f"{word}, rustc {'E0119' if meets else 'nothing'}"] += 1
             if word == "compatible" and meets:
                 yield f"{shown}: compatible, and `{user}` breaks"
-            if word == "breaking" and not meets and not any(not is_sizedness(b) for _, b in impl.predicates):
-                yield f"{shown}: breaking, and `{user}` compiles with both, though no where-clause keeps them apart: {old} {new_errors}"
+            if word == "breaking" and not meets:
+                yield f"{shown}: breaking, and `{user}` compiles with both: {old} {new_errors}"
 
 

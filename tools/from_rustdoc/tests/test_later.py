@@ -15,9 +15,10 @@ from ..claims import Programs
 from ..later import Release, compared
 from ..later_command import told as say
 from ..messages import Message, Output
+from ..show import Show
 from ..world import World
 from .common import PROGRAM, WHY_NO_PROGRAM, kept, pages, world
-from .pairs import Compiler, Pair, all_pairs
+from .pairs import Compiler, Pair, all_pairs, pairs_of, written_out
 
 
 NOT_JUDGED = "not-judged"
@@ -37,11 +38,11 @@ def renamed(name: str, other: str, folder: str) -> str:
     return file
 
 
-def told(release: Release) -> dict[str, list[Message]]:
-    """What is told of each pair, by the module that it names."""
+def told(release: Release, pairs: list[Pair]) -> dict[str, list[Message]]:
+    """What is told of each pair."""
     found: dict[str, list[Message]] = {}
     for message in release.messages:
-        for name in set(re.findall(r"pairs::(\w+)", message.text)):
+        for name in pairs_of(message, pairs):
             found.setdefault(name, []).append(message)
     return found
 
@@ -108,6 +109,28 @@ class Later(unittest.TestCase):
         self.assertEqual((release.messages, release.answer, release.status, release.strict_status()), ([], "compatible", 0, 0))
 
 
+@unittest.skipIf(WHY_NO_PROGRAM, WHY_NO_PROGRAM)
+class Exported(unittest.TestCase):
+    def test_an_impl_that_a_type_of_another_crate_loses(self) -> None:
+        """`user` exports `ab::Sb`. Its new version uses one of `ab` in which that has no impl of `Ta`."""
+        old = world("ab", "user")
+        with tempfile.TemporaryDirectory() as folder:
+            with open(kept("ab"), encoding="utf-8") as handle:
+                data = json.load(handle)
+            data["crate_version"] = "2.0.0"
+            lost = next(i for i in old.crates["ab"].impls if Show(old).header(i) == "impl ab::Ta for ab::Sb")
+            assert lost.place is not None
+            data["index"] = {n: i for n, i in data["index"].items() if "impl" not in i["inner"] or i["span"]["begin"][0] != lost.place.line}
+            file = os.path.join(folder, "ab.json")
+            with open(file, "w", encoding="utf-8") as handle:
+                json.dump(data, handle)
+            new = World(pages())
+            new.load([file, kept("user")])
+            release = compared(old, new, "user", programs=Programs(PROGRAM))
+        self.assertEqual([(m.text, m.word) for m in release.messages], [("`impl ab::Ta for ab::Sb` is removed", "breaking")])
+        self.assertEqual(compared(old, old, "user", programs=Programs(PROGRAM)).messages, [])
+
+
 class NotJudged(unittest.TestCase):
     def test_what_is_not_judged_is_not_compatible(self) -> None:
         release = Release("a", ("1.0.0", "1.1.0"), [], Counter({"function signature": 3, "field": 1}))
@@ -139,7 +162,7 @@ class Pairs(unittest.TestCase):
     @classmethod
     def setUpClass(cls) -> None:
         cls.pairs = all_pairs()
-        cls.told = told(compared(world("pairs_old"), world("pairs_new"), "pairs", programs=Programs(PROGRAM)))
+        cls.told = told(compared(world("pairs_old"), world("pairs_new"), "pairs", programs=Programs(PROGRAM)), cls.pairs)
 
     def test_each_pair_is_told_as_it_was_worked_out(self) -> None:
         for pair in self.pairs:
@@ -147,6 +170,10 @@ class Pairs(unittest.TestCase):
             with self.subTest(pair.name):
                 self.assertEqual({m.code for m in found}, pair.classes, [m.text for m in found])
                 self.assertEqual([m.text for m in found if m.word == "not settled"], [])
+
+    def test_one_break_is_told_once(self) -> None:
+        for name in ("copy_lost", "equality_removed", "equality_written_by_hand"):
+            self.assertEqual(len([m for m in self.told[name] if m.level == "error"]), 1, name)
 
     def test_there_are_enough_pairs_of_either_kind(self) -> None:
         self.assertGreater(sum(not p.classes for p in self.pairs), 25)
@@ -166,4 +193,19 @@ class Pairs(unittest.TestCase):
                 continue
             said = " ".join(child.text for m in self.told[name] for child in m.children if child.level == "help")
             with self.subTest(name):
-                self.assertTrue(codes & set(re.findall(r"E\d{4}", said)), (codes, said))
+                self.assertTrue(codes & set(re.findall(r"E\d{4}", said) + re.findall("`([^`]*)`", said)), (codes, said))
+
+    @unittest.skipUnless(shutil.which("rustc"), "there is no rustc")
+    def test_each_impl_that_is_written_out_breaks(self) -> None:
+        """It compiles with the old version but for the items that it has to have, and with the new one it overlaps."""
+        texts = [(p.name, text) for p in self.pairs for m in self.told.get(p.name, []) if m.code == "impl-added" and m.word == "breaking"
+                 for text in written_out(m)]
+        users = [Pair(f"user_{number}", set(), {"user": text + "\n"}, name) for number, (name, text) in enumerate(texts)]
+        self.assertGreater(len(users), 10)
+        with tempfile.TemporaryDirectory() as folder:
+            compiler = Compiler(folder, self.pairs)
+            old, new = compiler.failing(users, "old"), compiler.failing(users, "new")
+        for user in users:
+            with self.subTest(user.sources["user"]):
+                self.assertLessEqual(old.get(user.name, set()), {"E0046"})
+                self.assertIn("E0119", new.get(user.name, set()))
