@@ -73,10 +73,12 @@ class Versions:
                 for key, later in pairs_of(self.before, self.before.by_path[path], self.after, self.after.by_path[path]):
                     self.newer.setdefault(key, later)
                     self.older.setdefault(later, key)
-        for key in self.before.reached:
-            if key in self.after.items and key not in self.older:
-                self.newer.setdefault(key, key)
-                self.older.setdefault(key, key)
+        for key, item in self.before.reached.items():
+            moved = [k for k, i in self.after.reached.items() if i.name == item.name and k not in self.before.items]
+            later = key if key in self.after.items else moved[0] if len(moved) == 1 else ""
+            if later:
+                self.newer.setdefault(key, later)
+                self.older.setdefault(later, key)
 
     def impls(self, world: World) -> list[Impl]:
         """The impls of the crate, and of crates that only one version has and exports items of: what was moved there is still this crate's."""
