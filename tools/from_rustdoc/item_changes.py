@@ -23,7 +23,8 @@ ITSELF = "Self_"
 SIZED = "core/marker/trait.Sized.html"
 MAXIMAL_DEPTH = 8
 # What rustc says of a crate that a change breaks.
-RUSTC = {"item-removed": "E0425 or E0432", "alias-removed": "E0425 or E0432", "kind-changed": "E0404, E0423, E0530, E0532 or E0782", "alias-retargeted": "E0277 or E0308",
+RUSTC = {"item-removed": "E0425 or E0432", "alias-removed": "E0425 or E0432", "alias-retargeted": "E0277 or E0308",
+         "kind-changed": "E0404, E0423, E0530, E0532 or E0782",
          "parameter-added": "E0107", "parameter-removed": "E0107", "parameter-kind-changed": "E0308 or E0747", "default-removed": "E0107",
          "default-changed": "E0308", "lifetime-added": "E0106", "lifetime-removed": "E0107", "bound-added": "E0271, E0277, E0308 or E0599",
          "lifetime-bound-added": "E0310, E0477, E0521 or E0597", "supertrait-added": "E0271 or E0277", "supertrait-removed": "E0277, E0308 or E0599",
@@ -33,7 +34,9 @@ RUSTC = {"item-removed": "E0425 or E0432", "alias-removed": "E0425 or E0432", "k
          "dyn-lost": "E0038 or E0393", "impl-added": "E0119", "impl-removed": "E0277 or E0599", "impl-bounds-changed": "E0277, E0308 or E0599",
          "associated-value-changed": "E0271 or E0308", "auto-trait-lost": "E0277",
          "function-removed": "E0425 or E0432", "constant-removed": "E0425 or E0432", "static-removed": "E0425 or E0432", "macro-removed": "E0432 or E0433",
-         "module-removed": "E0432 or E0433", "method-removed": "E0599 or E0624", "associated-constant-removed": "E0599 or E0624", "field-removed": "E0026, E0560 or E0609",
+         "module-removed": "E0432 or E0433",
+         "glob-re-export-removed": "E0405, E0412, E0425, E0432 or E0433", "extern-type-removed": "E0412 or E0432",
+         "method-removed": "E0599 or E0624", "associated-constant-removed": "E0599 or E0624", "field-removed": "E0026, E0560 or E0609",
          "field-made-private": "E0451 or E0616", "field-added": "E0023, E0027, E0061, E0063, E0423, E0451 or E0532", "field-type-changed": "E0308",
          "form-changed": "E0308, E0423, E0532, E0533 or E0618", "non-exhaustive-added": "E0004, E0603, E0638 or E0639", "variant-removed": "E0599",
          "variant-added": "E0004", "discriminant-changed": "E0308", "repr-changed": "E0793", "constant-type-changed": "E0308",
@@ -56,8 +59,9 @@ def is_unsized(generics: Generics, name: str) -> bool:
 
 
 class ItemChanges:
-    """`messages` are told as they are; `claims` are to be asked in the new version; `not_judged` counts what is neither. `troubled` are items, by their old keys, whose impls
-    cannot be compared: they are gone, or take other arguments. `is_same` says whether all sources are the same."""
+    """`messages` are told as they are; `claims` are to be asked in the new version; `not_judged` counts what is neither. `troubled` are items,
+    by their old keys, whose impls cannot be compared: they are gone, or take other arguments. `is_same` says whether all sources are the
+    same."""
 
     def __init__(self, versions: Versions, is_same: Callable[[], bool] = lambda: False) -> None:
         self.versions = versions

@@ -2,10 +2,12 @@
 from __future__ import annotations
 
 import argparse
+import functools
 import json
 import os
 import signal
 import sys
+from collections import Counter
 from typing import Callable, Optional
 
 from . import cargo
@@ -17,6 +19,7 @@ from .messages import BAD, Message, Output, Sources, Span, worst
 from .terms import BadInput, Place
 from .world import World
 
+MAXIMAL_TOLD = 5
 # Reads crates: their files, std's documents, how they belong together, and whether the first is said to use the others.
 WorldReader = Callable[..., World]
 
@@ -26,9 +29,12 @@ def programs_of(arguments: argparse.Namespace) -> Programs:
 
 
 def told(release: Release, output: Output, is_strict: bool = False) -> int:
+    told: Counter[str] = Counter()
     for message in release.messages:
-        # What others cannot name is counted; `--private` has it judged.
-        if output.is_json or message.word not in ("private", "sealed"):
+        why = message.text.rpartition(": ")[2] if message.word == "not judged" else ""
+        told[why] += 1
+        # What others cannot name is counted; `--private` has it judged. Of what is not judged for one reason people see the first.
+        if output.is_json or message.word not in ("private", "sealed") and (not why or told[why] <= MAXIMAL_TOLD):
             output.message(message)
     if release.not_judged:
         output.line(release.uncovered())
@@ -51,13 +57,15 @@ def of_files(arguments: argparse.Namespace, read: WorldReader, links: Optional[L
 
 
 def judged(worlds: list[World], crate: str, arguments: argparse.Namespace, output: Output) -> int:
-    return told(compared(worlds[0], worlds[1], crate, arguments.private, programs_of(arguments), lambda: is_same(*worlds, output.sources)), output, arguments.strict)
+    same = functools.partial(is_same, worlds[0], worlds[1], output.sources)
+    return told(compared(worlds[0], worlds[1], crate, arguments.private, programs_of(arguments), same), output, arguments.strict)
 
 
 def is_same(old: World, new: World, sources: Sources) -> bool:
     """Whether all crates have the same versions, files and texts."""
     files = [{(c.name, c.version): c.sources for c in world.crates.values()} for world in (old, new)]
-    texts = [[sources.text(sources.path(Span(Place(file, 1, 1, 1, 1), version=version))) for its in files[0].values() for file in its] for version in ("old", "")]
+    places = [Place(file, 1, 1, 1, 1) for its in files[0].values() for file in its]
+    texts = [[sources.text(sources.path(Span(place, version=version))) for place in places] for version in ("old", "")]
     return files[0] == files[1] and None not in texts[0] and texts[0] == texts[1]
 
 

@@ -4,9 +4,10 @@ from __future__ import annotations
 from dataclasses import dataclass, field
 from typing import Any, Optional
 
-from .members import INSIDE, VALUES, Member, Members, inherent_impls, members_of, signature_of
+from .members import VALUES, Member, Members, inherent_impls, members_of
+from .reached import Reached, bound_terms, terms_of
 from .rustdoc_json import ITEMS, STD_CRATES, JsonCrate, kind_and_body, stem_of
-from .terms import BadInput, Bound, Constant, Named, Param, Parameter, Place, Predicate, Type, keys_of, put
+from .terms import BadInput, Bound, Constant, Named, Param, Parameter, Place, Predicate, Type, put
 from .world import World
 
 KINDS = {**{kind: kind for kind in ITEMS}, "type_alias": "alias"}
@@ -225,21 +226,16 @@ class SurfaceReader:
             item.members = members_of(item.crate, item.read, item.paths[0] if item.paths else item.key, self.inherent[item.crate.name].get(item.key, []))
 
     def find_reached(self) -> None:
-        """The types of the crates that were walked which stand in what is public, or in what is reached by it."""
-        given = self.surface.walked = [crate for crate in self.crates.values() if crate is not None]
-        todo = [term for member in self.surface.values.values() for term in terms_of(member)]
-        todo += [term for item in self.surface.items.values() for term in terms_of_item(item)]
-        impls = [impl for crate in given for impl in crate.impls]
-        for impl in impls:
-            todo += impl.associated.values()
-        while todo:
-            for key in map(self.world.key_of, keys_of(todo.pop())):
-                crate = next((c for c in given if key in c.declarations), None)
-                if crate is None or key in self.surface.kinds or key in self.surface.reached or crate.declarations[key].is_trait:
-                    continue
-                item = self.surface.reached[key] = self.surface.items[key] = read_item(crate, crate.declarations[key].item, key)
-                self.find_members(item)
-                todo += terms_of_item(item)
+        crates = self.surface.walked = [crate for crate in self.crates.values() if crate is not None]
+        terms = [term for member in self.surface.values.values() for term in terms_of(member)]
+        terms += [term for item in self.surface.items.values() for term in terms_of_item(item)]
+        Reached(crates, set(self.surface.kinds), self.world.key_of, self.without_path).by(terms)
+
+    def without_path(self, crate: JsonCrate, key: str) -> list[Type]:
+        """Reads a type that has no path; what others see of it."""
+        item = self.surface.reached[key] = self.surface.items[key] = read_item(crate, crate.declarations[key].item, key)
+        self.find_members(item)
+        return terms_of_item(item)
 
     def behind(self, crate: JsonCrate, alias: Item) -> None:
         """What an alias is another name of goes by its path too."""
@@ -260,25 +256,11 @@ class SurfaceReader:
         return self.surface.items[key]
 
 
-def terms_of(member: Member) -> list[Type]:
-    """The types that stand in what others see of a member."""
-    if member.crate is None or not member.item or not member.is_public:
-        return []
-    kind, body = kind_and_body(member.item)
-    if kind == "function":
-        if "sig" not in body:
-            return []
-        signature = signature_of(member)
-        bounds = [b for found in signature.results.values() for b in found] + [b for _, b in signature.predicates]
-        return [*signature.inputs, signature.output, *(t for b in bounds for t in (*b.arguments, *(v for _, v in b.constraints)))]
-    written = body if kind == "struct_field" else body.get("type") if isinstance(body, dict) else None
-    return [member.crate.type(written, None)] if written is not None else []
-
-
 def terms_of_item(item: Item) -> list[Type]:
+    """The types that stand in what others see of a type or trait."""
     bounds = [b for found in item.associated.values() for b in found.bounds] + item.supers
-    return [*(term for members in item.members.values() for member in members for term in terms_of(member)), *([item.target] if item.target else []),
-            *(term for b in bounds for term in (*b.arguments, *(v for _, v in b.constraints)))]
+    found = [term for members in item.members.values() for member in members for term in terms_of(member)]
+    return [*found, *filter(None, [item.target, *(p.default for p in item.params)]), *(term for bound in bounds for term in bound_terms(bound))]
 
 
 def read_item(crate: JsonCrate, read: dict[str, Any], key: str) -> Item:

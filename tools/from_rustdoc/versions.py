@@ -4,10 +4,9 @@ Items are the same if a public path names both, wherever they are declared; priv
 """
 from __future__ import annotations
 
-from typing import Any, Callable, Optional
+from typing import Callable
 
 from .html_docs import is_std_key
-from .rustdoc_json import JsonCrate
 from .show import Show
 from .surface import Surface, surface_of
 from .terms import (Alias, Bound, BoundsOf, Constant, Declaration, Dyn, Impl, Lossy, Named, Param, Parameter, Predicate, Projection, Type, Unsayable,
@@ -74,10 +73,12 @@ class Versions:
                 for key, later in pairs_of(self.before, self.before.by_path[path], self.after, self.after.by_path[path]):
                     self.newer.setdefault(key, later)
                     self.older.setdefault(later, key)
-        for key in self.before.reached:
-            if key in self.after.items and key not in self.older:
-                self.newer.setdefault(key, key)
-                self.older.setdefault(key, key)
+        for key, item in self.before.reached.items():
+            moved = [k for k, i in self.after.reached.items() if i.name == item.name and k not in self.before.items]
+            later = key if key in self.after.items else moved[0] if len(moved) == 1 else ""
+            if later:
+                self.newer.setdefault(key, later)
+                self.older.setdefault(later, key)
 
     def impls(self, world: World) -> list[Impl]:
         """The impls of the crate, and of crates that only one version has and exports items of: what was moved there is still this crate's."""
@@ -111,6 +112,13 @@ class Versions:
 
     def predicates_to_new(self, predicates: list[Predicate]) -> list[Predicate]:
         return [(self.to_new(t), self.bound_to_new(b)) for t, b in predicates]
+
+    def old_type(self, term: Type) -> Type:
+        """A type of the old version as one of the new version that is written otherwise, but is the same."""
+        return settled(self.new, self.to_new(settled(self.old, term)))
+
+    def new_type(self, term: Type) -> Type:
+        return settled(self.new, rekeyed(settled(self.new, term), self.new.key_of))
 
     def to_old(self, term: Type) -> Type:
         return rekeyed(term, self.old_key)
@@ -179,27 +187,6 @@ def in_order(term: Type) -> list[str]:
 
 
 # ---- types that are written otherwise
-Written = tuple[Optional[JsonCrate], Any, list[str]]
-
-
-def compared_types(versions: Versions, old: Written, new: Written) -> tuple[str, str]:
-    """Two types that are not written alike, as they are shown, if they are two types for certain; each as its JSON, with the names of the
-    parameters around it."""
-    found, shown = [], []
-    for world, show, (crate, written, names) in ((versions.old, versions.show_old, old), (versions.new, versions.show_new, new)):
-        assert crate is not None
-        term = expanded(world, crate.type(written, None))
-        shown.append(show.type(term))
-        found.append(versions.common(world, put(term, {name: Parameter(f"P{number}") for number, name in enumerate(names)})))
-        for part in walk(term):
-            why = unsure(world, part)
-            if why:
-                raise Unsure(why)
-    if found[0] == found[1]:
-        raise Unsure("they differ in what is not read")
-    return shown[0], shown[1]
-
-
 def unsure(world: World, part: Type) -> str:
     """Why a part of a type may be the same as one that is written otherwise; empty if it cannot."""
     if isinstance(part, Projection):
@@ -213,15 +200,25 @@ def unsure(world: World, part: Type) -> str:
     return ""
 
 
-def expanded(world: World, term: Type) -> Type:
-    """The type with what aliases of std stand for."""
+def settled(world: World, term: Type) -> Type:
+    """The type with what aliases of std stand for, with omitted arguments, and with the bounds of a `dyn` in one order."""
     if isinstance(term, Alias):
         try:
             declaration = world.get(term.key)
-            return expanded(world, put(declaration.fields[0], argument_values(declaration.params, term.arguments)))
+            return settled(world, put(declaration.fields[0], argument_values(declaration.params, term.arguments)))
         except (Lossy, IndexError):
             return term
-    return rebuilt(term, lambda part: expanded(world, part))
+    term = rebuilt(term, lambda part: settled(world, part))
+    if isinstance(term, Dyn):
+        return Dyn(tuple(sorted(term.bounds, key=lambda bound: bound.key)))
+    if isinstance(term, Named):
+        try:
+            params = world.get(term.key, "struct", term.arguments).params
+        except Lossy:
+            return term
+        values = argument_values(params, term.arguments)
+        return Named(term.key, tuple(values[param.name] for param in params)) if len(term.arguments) < len(params) else term
+    return term
 
 
 # ---- who can name what
