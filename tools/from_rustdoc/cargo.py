@@ -30,16 +30,18 @@ class Links:
     """How the crates of one build belong together: which crates each one uses. Of a crate that is there more than once each has a name with
     its version, by its file. `artifacts` has the names by the compiled files, which no two units share. `cfgs` of a crate are known if it was
     documented here, `doc_cfgs` is what depends on `cfg(doc)`, where that was looked for; `root` is the workspace's folder, from which rustdoc
-    names its sources."""
+    names its sources; `editions` has its own crates."""
     uses: dict[str, list[str]] = field(default_factory=dict)
     names: dict[str, str] = field(default_factory=dict)
     artifacts: dict[str, str] = field(default_factory=dict)
     cfgs: dict[str, Cfgs] = field(default_factory=dict)
     doc_cfgs: dict[str, list[str]] | None = None
     root: str = ""
+    editions: dict[str, str] = field(default_factory=dict)
 
     def kept(self) -> dict[str, Any]:
-        return {"uses": self.uses, "names": self.names, "artifacts": self.artifacts, "doc_cfgs": self.doc_cfgs, "root": self.root}
+        return {"uses": self.uses, "names": self.names, "artifacts": self.artifacts, "doc_cfgs": self.doc_cfgs, "root": self.root,
+                "editions": self.editions}
 
 
 @dataclass
@@ -153,6 +155,7 @@ def read_metadata(text: str) -> Project:
             if other and None in kinds and other not in uses:
                 uses.append(other)
     project.members = [n for n in (names.get(i) for i in data["workspace_members"]) if n]
+    project.links.editions = {str(names[p["id"]]): str(p.get("edition", "")) for p in data["packages"] if names[p["id"]] in project.members}
     return project
 
 
@@ -254,6 +257,8 @@ def document(folder: str, extra: list[str], quiet: bool = False, manifest: str |
         project.files = {name: project.files[name] for name in project.members}
     project.folder = target
     project.units = {name: next(u for u in units if u.file == file) for name, file in project.files.items()}
+    editions = {package["id"]: package["edition"] for package in data["packages"]}
+    project.links.editions = {name: editions[project.units[name].package] for name in project.members}
     return project
 
 

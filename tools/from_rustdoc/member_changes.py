@@ -10,9 +10,10 @@ from .html_docs import is_std_key
 from .item_changes import ItemChanges
 from .members import Member, Shape, shape_of
 from .messages import at
+from .reached import terms_of
 from .rustdoc_json import STD_CRATES, JsonCrate, kind_and_body
 from .signature_changes import SignatureChanges
-from .surface import Item, terms_of
+from .surface import Item
 from .terms import Array, Bound, Function, Impl, Named, Never, Parameter, Pointer, Primitive, Reference, Slice, Tuple, Type, parts, put, walk
 from .versions import Gone, all_keys, names_private, parameter_order, unsure
 from .world import World

@@ -7,7 +7,7 @@ from typing import Any, Optional
 from .members import VALUES, Member, Members, inherent_impls, members_of
 from .reached import Reached, bound_terms, terms_of
 from .rustdoc_json import ITEMS, STD_CRATES, JsonCrate, kind_and_body, stem_of
-from .terms import BadInput, Bound, Constant, Impl, Named, Param, Parameter, Place, Predicate, Type, keys_of, put
+from .terms import BadInput, Bound, Constant, Impl, Named, Param, Parameter, Place, Predicate, Type, put
 from .world import World
 
 KINDS = {**{kind: kind for kind in ITEMS}, "type_alias": "alias"}

@@ -186,14 +186,14 @@ class Kept(Repository):
     def setUp(self) -> None:
         super().setUp()
         self.write(".gitignore", "target\nCargo.lock\n")
-        self.write("src/lib.rs", "pub struct S(pub u8);\n")
+        self.write("src/lib.rs", "pub struct S(u8);\n")
 
     def later(self, *words: str) -> tuple[int, str, str]:
         return self.ended("later", "--manifest-path", os.path.join(self.folder, "Cargo.toml"), "--docs", kept("std"), *words)
 
     def test_an_older_version_is_documented_once(self) -> None:
         self.commit("v1.0")
-        self.write("src/lib.rs", "pub struct S(pub *const u8);\n")
+        self.write("src/lib.rs", "pub struct S(*const u8);\n")
         status, out, err = self.later()
         self.assertEqual((status, err.count("Checking alone")), (1, 2), err)
         commit = self.git("rev-parse", "HEAD")
@@ -202,7 +202,7 @@ class Kept(Repository):
         # A tag that has moved is another version, and that is told.
         self.commit()
         self.git("tag", "-f", "v1.0")
-        self.write("src/lib.rs", "pub struct S(pub u8);\n")
+        self.write("src/lib.rs", "pub struct S(u8);\n")
         status, _, err = self.later("--baseline", "v1.0")
         self.assertEqual((status, err.count("Checking alone")), (0, 2), err)
         self.assertIn(f"the tag v1.0 has moved: it was {commit[:9]}, and is", err)
@@ -212,7 +212,7 @@ class Kept(Repository):
         self.write("build.rs", f'fn main() {{ std::fs::write("{self.room}/ran", "").unwrap(); }}\n')
         self.commit("v1.0")
         self.git("rm", "-q", "build.rs")
-        self.write("src/lib.rs", "pub struct S(pub u8);\npub struct T;\n")
+        self.write("src/lib.rs", "pub struct S(u8);\npub struct T;\n")
         said = "to document v1.0 runs build scripts and procedural macros of alone 1.0.0 as they were then"
         status, out, err = self.later("--no-build-scripts")
         self.assertEqual((status, out, err.splitlines()[-1]), (3, "", f"cargo celtisdarts: {said}, which --no-build-scripts forbids"))
@@ -223,7 +223,7 @@ class Kept(Repository):
         self.assertEqual(self.later("--no-build-scripts")[0], 3)
         # Without any of its own it may be compared.
         self.commit("v1.1")
-        self.write("src/lib.rs", "pub struct S(pub u8);\npub struct T;\npub struct U;\n")
+        self.write("src/lib.rs", "pub struct S(u8);\npub struct T;\npub struct U;\n")
         self.assertEqual(self.later("--no-build-scripts")[0], 0)
 
 
