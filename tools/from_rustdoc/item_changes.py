@@ -13,6 +13,7 @@ from .html_docs import is_std_key
 from .messages import Message, Span, at
 from .questions import Question
 from .render import is_sizedness
+from .rustdoc_json import STD_CRATES
 from .surface import Associated, Generics, Item
 from .terms import (Bound, Declaration, Lossy, Param, Parameter, Place, Predicate, Projection, Type, argument_values, parameters_of, put,
                     put_bound, walk)
@@ -79,8 +80,16 @@ class ItemChanges:
                 elif [p.kind for p in before.params] != [p.kind for p in after.params] or before.is_type != after.is_type:
                     self.count("type without a path", after.shown(), "has other parameters", after.place)
                     self.troubled[old_key] = self.unjudged[-1]
+        self.not_given()
         self.aliased()
         self.find_new()
+
+    def not_given(self) -> None:
+        """What is exported of crates that were not given may have changed."""
+        for path, key in self.versions.before.by_path.items():
+            crate, is_other, _ = key.partition("other:")[2].partition("::")
+            if is_other and key in self.versions.newer and crate not in STD_CRATES:
+                self.count("re-export", path, f"the crate `{crate}` was not given")
 
     def tell(self, code: str, text: str, new: list[Span], old: Optional[list[Span]] = None, word: str = "breaking") -> Message:
         self.messages.append(change(code, text, new, old, word))

@@ -128,6 +128,10 @@ class Exported(unittest.TestCase):
         self.assertEqual([(m.text, m.word) for m in release.messages], [("`impl ab::Ta for ab::Sb` is removed", "breaking")])
         self.assertEqual(compared(old, old, "user", programs=Programs(PROGRAM)).messages, [])
 
+    def test_what_is_exported_of_a_crate_that_was_not_given_is_counted(self) -> None:
+        release = compared(world("user"), world("user"), "user", programs=Programs(PROGRAM))
+        self.assertEqual((release.answer, release.uncovered()), ("no break found in what was judged", "not judged: 1 re-export"))
+
 
 class NotJudged(unittest.TestCase):
     def test_what_is_not_judged_is_not_compatible(self) -> None:
