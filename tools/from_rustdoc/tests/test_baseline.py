@@ -101,7 +101,7 @@ class Baseline(unittest.TestCase):
         self.write(os.path.join(newer, "core"), inside + "impl<T> Draw for &T {}\n", "core_of_it")
         status, out, err = self.later("--baseline", older, newer)
         self.assertEqual(status, 1, err)
-        self.assertIn("another crate may have `impl core_of_it::Draw for &Mine`", out)
+        self.assertIn("another crate may have `impl to_draw::shapes::Draw for &Mine`", out)
 
     def test_what_is_no_version_is_told(self) -> None:
         for words, why in [(["--baseline", "v9"], "v9 is no folder with a Cargo.toml, and no revision of"), (["--baseline", self.room], "has no Cargo.toml"),
