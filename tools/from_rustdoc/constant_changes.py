@@ -12,7 +12,7 @@ from .members import Member, shape_of, signature_of
 from .messages import Message, at
 from .rustdoc_json import kind_and_body
 from .surface import Item, Surface
-from .terms import Array, Bound, Impl, Named, Never, Parameter, Primitive, Reference, Slice, Tuple, Type, put, walk
+from .terms import Array, Bound, Named, Never, Parameter, Primitive, Reference, Slice, Tuple, Type, put, walk
 from .versions import Versions
 from .world import World
 

@@ -13,7 +13,7 @@ from .impls import Written
 from .inference import Inference
 from .item_changes import change
 from .messages import Message, at
-from .open_walk import met_in_header
+from .open_walk import met_in_header, supertraits
 from .other_impls import Nobody, OtherImpls
 from .program import run
 from .questions import Question, Verdict
@@ -52,18 +52,29 @@ class Kept:
     again: list[Impl] = field(default_factory=list)
 
 
+@dataclass
+class AskedImpl:
+    """An old impl that is asked for, and if it is proved its associated types."""
+    impl: Impl
+    claim: Claim
+    values: list[Claim]
+
+
 class ImplChanges:
-    """`troubled` are old items whose impls are not compared, by their keys, with what was told of them."""
+    """`troubled` are old items whose impls are not compared, by their keys, with what was told of them; `unproved` are old impls of which the new
+    version has no proof."""
 
     def __init__(self, versions: Versions, troubled: dict[str, Message], with_private: bool, programs: Programs) -> None:
         self.versions = versions
         self.troubled = troubled
         self.with_private = with_private
         self.programs = programs
-        self.others = OtherImpls(versions, with_private, programs)
+        self.others = OtherImpls(versions, with_private)
         self.messages: list[Message] = []
         self.added: list[Judged] = []
         self.uncompared: dict[str, int] = {}
+        self.unproved: set[int] = set()
+        self.above: set[str] = set()
 
     def run(self) -> None:
         versions = self.versions
@@ -92,27 +103,40 @@ class ImplChanges:
 
     # ---- what is lost
     def lost(self, old: Headers, new: Headers) -> None:
-        claims: list[tuple[Claim, list[Claim]]] = []
+        claims: list[AskedImpl] = []
         for header, impls in old.items():
             again = new.get(header, [])
             for impl, clauses in impls:
-                if impl.is_negative or self.is_hidden(impl):
+                is_hidden, same = self.is_hidden(impl), next((i for i, c in again if c == clauses), None)
+                if impl.is_negative or is_hidden and not (same is not None and self.is_above(impl)):
                     continue
-                same = next((i for i, c in again if c == clauses), None)
                 if same is not None:
                     self.values(impl, same)
                 else:
                     claims += self.claim(Kept(impl, clauses, [i for i, _ in again]))
         judge = Judge(self.versions.new, self.programs)
-        verdicts = judge.ask([claim.question for claim, _ in claims])
-        self.messages += [judge.told(claim, verdict) for (claim, _), verdict in zip(claims, verdicts) if verdict.word != "yes"]
-        self.messages += judge.settle([value for (_, values), verdict in zip(claims, verdicts) if verdict.word == "yes" for value in values])
+        verdicts = judge.ask([asked.claim.question for asked in claims])
+        self.messages += [judge.told(asked.claim, verdict) for asked, verdict in zip(claims, verdicts) if verdict.word != "yes"]
+        self.messages += judge.settle([value for asked, verdict in zip(claims, verdicts) if verdict.word == "yes" for value in asked.values])
+        self.unproved = {id(asked.impl) for asked, verdict in zip(claims, verdicts) if verdict.word != "yes"}
 
     def is_hidden(self, impl: Impl) -> bool:
         """Whether nobody else can name what the header names, or have it."""
         keys = list(map(self.versions.old.key_of, header_keys(impl)))
         is_lost = any(key in self.versions.before.reached and key not in self.versions.newer for key in keys)
         return is_lost or names_private(self.versions.old, self.versions.before, keys)
+
+    def is_above(self, impl: Impl) -> bool:
+        """Whether the impl is of a private trait above a public one, so that others can name its associated types by that."""
+        assert impl.trait is not None
+        todo = [self.versions.old.get(item.key) for item in self.versions.before.items.values() if item.kind == "trait"] if not self.above else []
+        while todo:
+            for trait in supertraits(self.versions.old, todo.pop()):
+                if trait.key not in self.above:
+                    self.above.add(trait.key)
+                    todo.append(trait)
+        return self.versions.old.key_of(impl.trait.key) in self.above and not names_private(
+            self.versions.old, self.versions.before, list(map(self.versions.old.key_of, header_keys(impl)[1:])))
 
     def is_uncompared(self, keys: list[str]) -> bool:
         """Whether an impl names an old item of which it is told that it is another one; such impls are counted with that."""
@@ -121,7 +145,7 @@ class ImplChanges:
             self.uncompared[trouble] = self.uncompared.get(trouble, 0) + 1
         return trouble is not None
 
-    def claim(self, kept: Kept) -> list[tuple[Claim, list[Claim]]]:
+    def claim(self, kept: Kept) -> list[AskedImpl]:
         """That the new version proves the old impl, and if it does, with the same associated types."""
         impl, versions = kept.impl, self.versions
         assert impl.trait is not None
@@ -144,8 +168,8 @@ class ImplChanges:
         predicates += asked_of_names(versions, [subject, *bound.arguments])
         question = Question(written_question(versions.show_old, impl), subject, bound, params, predicates, crate=versions.crate)
         if trait_name(impl.trait) != "Drop":
-            return [(Claim(question, message), self.value_claims(kept, subject, bound, predicates))]
-        return [(Claim(question, message.note("only a bound by `Drop` itself, of which rustc warns, asks for it"), "changed"), [])]
+            return [AskedImpl(impl, Claim(question, message), self.value_claims(kept, subject, bound, predicates))]
+        return [AskedImpl(impl, Claim(question, message.note("only a bound by `Drop` itself, of which rustc warns, asks for it"), "changed"), [])]
 
     def value_claims(self, kept: Kept, subject: Type, bound: Bound, predicates: list[Predicate]) -> list[Claim]:
         """Where another impl stands for the old one, its associated types are to be those of the old one."""
@@ -186,7 +210,7 @@ class ImplChanges:
         self.added = [self.judged(impl, proved.get(id(impl))) for impl in fresh]
         self.ask_program()
         self.messages += [self.told(judged) for judged in self.added if judged.reason != KNOWN]
-        inference = Inference(self.versions, self.others)
+        inference = Inference(self.versions, self.others, self.unproved)
         found = [inference.by(judged.impl) for judged in self.added if judged.word == "compatible" and judged.reason != KNOWN]
         self.messages += [message for message in found if message is not None]
 

@@ -20,12 +20,12 @@ Terms = tuple[Type, ...]
 
 
 class Inference:
-    """`others` says what added impls are in the old version."""
+    """`others` says what added impls are in the old version; `told` are old impls of which enough is told."""
 
-    def __init__(self, versions: Versions, others: OtherImpls) -> None:
+    def __init__(self, versions: Versions, others: OtherImpls, told: set[int]) -> None:
         self.versions = versions
         self.others = others
-        self.told: set[int] = set()
+        self.told = set(told)
 
     def by(self, impl: Impl) -> Optional[Message]:
         """What is told of an added impl: of one old impl that was the only one that could apply, once."""

@@ -7,9 +7,7 @@ from __future__ import annotations
 
 from typing import Iterator, Optional
 
-from .claims import Judge, Programs
 from .open_walk import met_in_header, met_parameter, written_arguments
-from .questions import Question
 from .reach import bind
 from .render import is_sizedness
 from .show import Show
@@ -39,10 +37,9 @@ class Nobody(Exception):
 class OtherImpls:
     """`with_private`: items without a path are taken for public ones."""
 
-    def __init__(self, versions: Versions, with_private: bool, programs: Programs) -> None:
+    def __init__(self, versions: Versions, with_private: bool) -> None:
         self.versions = versions
         self.with_private = with_private
-        self.programs = programs
         self.world = versions.new
         self.show = Show(versions.old, pasted=True)
 
@@ -238,8 +235,8 @@ class OtherImpls:
     # ---- whether clauses can hold
     def clauses(self, special: Impl) -> Optional[list[str]]:
         """What the other crate has to have for the clauses of the added impl; None if they cannot hold."""
-        own = {p.name: Unknown("_") for p in special.params}
-        unknown: dict[str, Type] = {**own, **{n: Unknown("_") for t, b in special.predicates for n in parameters_of(t) if n not in (MINE.name, DYN.name)}}
+        names = {n for t, b in special.predicates for term in (t, *b.arguments, *(v for _, v in b.constraints)) for n in parameters_of(term)}
+        unknown: dict[str, Type] = {name: Unknown("_") for name in names - {MINE.name, DYN.name}}
         return self.all_of([(put(t, unknown), put_bound(b, unknown)) for t, b in special.predicates], ())
 
     def all_of(self, predicates: list[tuple[Type, Bound]], above: tuple[object, ...]) -> Optional[list[str]]:
@@ -252,15 +249,16 @@ class OtherImpls:
         return needs
 
     def possible(self, subject: Type, bound: Bound, above: tuple[object, ...]) -> Optional[list[str]]:
-        """What another crate has to have for a bound on its type to hold; None if it cannot hold."""
+        """What another crate has to have for a bound to hold; None if it cannot hold. A bound that the crate cannot write an impl for is one
+        that rustc takes for possible: this crate may have an impl later."""
         trait = self.trait(bound)
         goal = (subject, bound.key, bound.arguments)
         if trait is None or trait.is_auto or trait.name == "Sized" or isinstance(subject, (Unknown, Projection, Unsayable)):
             return []
-        if goal in above or len(above) > MAXIMAL_DEPTH:
-            return None if goal in above else []
-        if not self.has_own(subject, bound):
-            return [] if self.has_unknown(subject, bound) or self.holds(subject, bound) else None
+        if not self.is_local(trait, Impl("", "", Bound(bound.key, bound.arguments), subject)) or len(above) > MAXIMAL_DEPTH:
+            return []
+        if goal in above:
+            return None
         by_impls = [found for found in self.by_impls(subject, bound, (*above, goal)) if found is not None]
         if [] in by_impls:
             return []
@@ -272,18 +270,6 @@ class OtherImpls:
             return self.world.get(bound.key, "trait", bound.arguments)
         except Lossy:
             return None
-
-    @staticmethod
-    def has_own(subject: Type, bound: Bound) -> bool:
-        return any(part in (MINE, DYN) for term in (subject, *bound.arguments) for part in walk(term))
-
-    @staticmethod
-    def has_unknown(subject: Type, bound: Bound) -> bool:
-        return any(isinstance(part, Unknown) for term in (subject, *bound.arguments) for part in walk(term))
-
-    def holds(self, subject: Type, bound: Bound) -> bool:
-        """Whether a bound on types of this crate alone may hold."""
-        return Judge(self.world, self.programs).ask([Question("", subject, bound, crate=self.versions.crate)])[0].word != "no"
 
     def by_impls(self, subject: Type, bound: Bound, above: tuple[object, ...]) -> Iterator[Optional[list[str]]]:
         """By each impl that there is: what its clauses need."""
@@ -315,8 +301,7 @@ class OtherImpls:
             bare = Impl("", "", Bound(bound.key, tuple(map(some, bound.arguments))), subject)
             header = self.shown(trait, self.in_old(bare))
             is_dyn = subject == DYN and self.is_dyn(trait)
-            is_closed = trait.name in BUILT_IN or not self.with_private and self.versions.is_sealed(self.world, trait)
-            if not is_dyn and (is_closed or not self.is_local(trait, bare)):
+            if not is_dyn and (trait.name in BUILT_IN or not self.with_private and self.versions.is_sealed(self.world, trait)):
                 return None
         except (Nobody, Gone):
             return None

@@ -1,16 +1,15 @@
 """Two versions of one crate: which item of the newer one is which of the older one, and types of either as the other one has them.
 
-Items are the same if a public path names both, wherever they are declared; private ones if they have one key, or are the only ones of a name
-that others can have.
+Items are the same if a public path names both, wherever they are declared; private ones if they have one key, or are the only ones of their name
+that one version alone has.
 """
 from __future__ import annotations
 
-from typing import Callable
+from typing import Callable, Iterator
 
 from .html_docs import is_std_key
 from .open_walk import is_sealed
 from .reached import terms_of
-from .rustdoc_json import JsonCrate
 from .show import Show
 from .surface import Surface, surface_of
 from .terms import (Alias, Bound, BoundsOf, Constant, Declaration, Dyn, Impl, Lossy, Named, Param, Parameter, Predicate, Projection, Type, Unsayable,
@@ -78,12 +77,26 @@ class Versions:
                 for key, later in pairs_of(self.before, self.before.by_path[path], self.after, self.after.by_path[path]):
                     self.newer.setdefault(key, later)
                     self.older.setdefault(later, key)
-        for key, item in self.before.reached.items():
-            moved = [k for k, i in self.after.reached.items() if i.name == item.name and k not in self.before.items]
-            later = key if key in self.after.items else moved[0] if len(moved) == 1 else ""
-            if later:
-                self.newer.setdefault(key, later)
-                self.older.setdefault(later, key)
+        for key, later in [*((key, key) for key in self.before.reached if key in self.after.items), *self.moved()]:
+            self.newer.setdefault(key, later)
+            self.older.setdefault(later, key)
+
+    def moved(self) -> Iterator[tuple[str, str]]:
+        """Traits without a path, and types that others have without one, that are declared elsewhere now: the only ones of a name that one
+        version alone has."""
+        gone, come = self.without_path(self.old, self.new), self.without_path(self.new, self.old)
+        for name, keys in gone.items():
+            if len(keys) == len(come.get(name, [])) == 1:
+                key, later = keys[0], come[name][0]
+                if key in self.before.reached and later in self.after.reached or self.old.get(key).is_trait and self.new.get(later).is_trait:
+                    yield key, later
+
+    def without_path(self, world: World, other: World) -> dict[str, list[str]]:
+        found: dict[str, list[str]] = {}
+        for item in world.crates[self.crate].items:
+            if item.public_path is None and item.key not in other.homes:
+                found.setdefault(item.name, []).append(item.key)
+        return found
 
     def impls(self, world: World) -> list[Impl]:
         """The impls of the crate, and of crates that only one version has and exports items of: what was moved there is still this crate's."""

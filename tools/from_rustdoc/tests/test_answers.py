@@ -132,7 +132,7 @@ class NoAnswers(unittest.TestCase):
             self.assertEqual((statuses, errors.getvalue()), ([0, 0, 0, 4], ""))
             self.assertEqual(answers, ["yes", "not settled", "not settled", "no"])
             self.assertIn("user 1.0.0: coherent. 2 impls, 1 whole, 1 with a loss", said.getvalue())
-            self.assertIn("user 1.0.0 to 1.0.0: compatible", said.getvalue())
+            self.assertIn("user 1.0.0 to 1.0.0: no break found in what was judged", said.getvalue())
 
     @unittest.skipUnless(proved_program(), "there is no proved program of these sources")
     def test_one_bad_question_ends_with_3_and_the_others_are_answered(self) -> None:

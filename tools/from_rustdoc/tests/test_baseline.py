@@ -102,7 +102,7 @@ class Baseline(unittest.TestCase):
         self.write(os.path.join(newer, "core"), inside + "impl<T> Draw for &T {}\n", "core_of_it")
         status, out, err = self.later("--baseline", older, newer)
         self.assertEqual(status, 1, err)
-        self.assertIn("another crate may have `impl core_of_it::Draw for &Mine`", out)
+        self.assertIn("another crate may have `impl to_draw::shapes::Draw for &Mine`", out)
 
     def test_what_no_document_tells_is_the_same_in_the_same_sources(self) -> None:
         older, newer = os.path.join(self.room, "waits"), os.path.join(self.room, "waits-too")
