@@ -27,16 +27,19 @@ SHARED, TAKEN = "shared", "taken"
 class Links:
     """How the crates of one build belong together: which crates each one uses. Of a crate that is there in two versions each has a name with
     its version, by its file and by that of its compiled form. `cfgs` of a crate are known if it was documented here, `doc_cfgs` is what
-    depends on `cfg(doc)`, where that was looked for; `root` is the workspace's folder, from which rustdoc names its sources."""
+    depends on `cfg(doc)`, where that was looked for; `root` is the workspace's folder, from which rustdoc names its sources; `editions` has
+    its own crates."""
     uses: dict[str, list[str]] = field(default_factory=dict)
     names: dict[str, str] = field(default_factory=dict)
     artifacts: dict[str, str] = field(default_factory=dict)
     cfgs: dict[str, Cfgs] = field(default_factory=dict)
     doc_cfgs: dict[str, list[str]] | None = None
     root: str = ""
+    editions: dict[str, str] = field(default_factory=dict)
 
     def kept(self) -> dict[str, Any]:
-        return {"uses": self.uses, "names": self.names, "artifacts": self.artifacts, "doc_cfgs": self.doc_cfgs, "root": self.root}
+        return {"uses": self.uses, "names": self.names, "artifacts": self.artifacts, "doc_cfgs": self.doc_cfgs, "root": self.root,
+                "editions": self.editions}
 
 
 @dataclass
@@ -142,6 +145,8 @@ def read_metadata(text: str, units: dict[str, Unit] | None = None, artifacts: di
     project.links.artifacts = {stem: names[i] for stem, i in (artifacts or {}).items() if "@" in names.get(i, "")}
     project.links.root = data.get("workspace_root", "")
     project.members = [n for n in (names.get(i) for i in data["workspace_members"]) if n]
+    editions = {names.get(p["id"]): str(p.get("edition", "")) for p in data["packages"]}
+    project.links.editions = {name: editions[name] for name in project.members}
     return project
 
 

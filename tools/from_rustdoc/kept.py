@@ -154,6 +154,8 @@ class KeptCrate:
         self.items = [ItemName(*entry) for entry in data["items"]]
         self.std_version: str = data["std_version"]
         self.sources: list[str] = data["sources"]
+        self.exports: dict[str, Optional[str]] = data["exports"]
+        self.modules: dict[str, list[str]] = data["modules"]
 
 
 def data_of(crate: JsonCrate) -> dict[str, Any]:
@@ -161,7 +163,7 @@ def data_of(crate: JsonCrate) -> dict[str, Any]:
             "declarations": {k: packed(replace(d, item={})) for k, d in crate.declarations.items()},
             "aliases": {k: packed(d) for k, d in crate.aliases.items()}, "impls": [packed(i) for i in crate.impls],
             "heads": crate.heads, "items": [(i.key, i.name, i.public_path) for i in crate.items], "std_version": crate.std_version,
-            "sources": crate.sources}
+            "sources": crate.sources, "exports": crate.exports, "modules": crate.modules}
 
 
 class Keeper:

@@ -11,11 +11,11 @@ from .checker import check_texts
 from .headers import FLOATS, PRIMITIVES, Named_, NotUnderstood, Reader
 from .html_docs import is_std_key
 from .impls import ImplWriter
+from .names import Names
 from .negative import Negatives
 from .program import DEPTH, Answer, ask
 from .reach import BY_PARTS, Reach, Reacher, Reference_
 from .render import CLAUSE, MAXIMAL_PARAMS, QUESTION, THEN, Scope, bracketed, is_sizedness, names_of
-from .rustdoc_json import ItemName
 from .show import Show
 from .standard import FN_TRAITS
 from .terms import (Alias, BadInput, Bound, BoundsOf, Declaration, Dyn, Lossy, Param, Parameter, Predicate, Projection, Type, Unknown, Unsayable,
@@ -24,13 +24,6 @@ from .text_form import Text, TextLine, read_text
 from .world import World, crate_name
 
 MAXIMAL_ROUNDS = 6
-PRELUDE = {"core::marker": "Send Sync Unpin Copy Sized PhantomData", "core::clone": "Clone", "core::default": "Default", "core::fmt": "Debug Display",
-           "core::hash": "Hash Hasher BuildHasher", "core::cmp": "PartialEq Eq PartialOrd Ord Ordering", "core::option": "Option", "core::result": "Result",
-           "core::ops": "Drop Fn FnMut FnOnce Deref DerefMut Index IndexMut Add Sub Mul Div Rem Neg Not", "core::error": "Error",
-           "core::iter": "Iterator IntoIterator Extend DoubleEndedIterator ExactSizeIterator FromIterator", "core::convert": "AsRef AsMut From Into TryFrom TryInto",
-           "core::cell": "Cell RefCell", "core::panic": "UnwindSafe RefUnwindSafe", "core::pin": "Pin", "core::borrow": "Borrow BorrowMut",
-           "core::str": "FromStr", "alloc::vec": "Vec", "alloc::string": "String ToString", "alloc::boxed": "Box", "alloc::rc": "Rc", "alloc::sync": "Arc",
-           "alloc::borrow": "Cow ToOwned", "std::collections": "HashMap HashSet BTreeMap BTreeSet VecDeque", "std::sync": "Mutex RwLock", "std::path": "Path PathBuf"}
 
 
 # The unknown that the tool itself puts for a value that it asks for.
@@ -131,58 +124,14 @@ def joined(question: Question, verdicts: list[Verdict]) -> Verdict:
 class QuestionReader:
     def __init__(self, world: World) -> None:
         self.world = world
-        self.prelude = {name: module.split("::") + [name] for module, names in PRELUDE.items() for name in names.split()}
+        self.names = Names(world)
 
     def lookup(self, words: list[str], params: set[str]) -> Named_:
         if len(words) == 1 and (words[0] in params or words[0] in PRIMITIVES or words[0] in FLOATS or words[0] == "_"):
             return "word", None, words[0]
-        key = self.key([self.versioned(words[0]), *words[1:]])
-        if key is None:
-            raise BadInput(f"`{'::'.join(words)}` is not known: {self.instead(words)}")
+        key = self.names.key(words)
         declaration = self.world.get(key)
         return ("trait" if declaration.is_trait else "type" if declaration.kind == "type" else "struct"), key, declaration.name
-
-    def instead(self, words: list[str]) -> str:
-        """What to write for a path that names nothing: public items of like names."""
-        import difflib
-        crates = [c for n, c in self.world.crates.items() if len(words) == 1 or n.partition("@")[0] == words[0].partition("@")[0]]
-        paths = {item.name: "::".join(item.public_path) for crate in crates for item in crate.items if item.public_path}
-        found = [f"`{paths[name]}`" for name in difflib.get_close_matches(words[-1], paths)]
-        return f"is it {' or '.join(found)}?" if found else "write its path, as `bytes::Bytes` or `std::vec::Vec`"
-
-    def versioned(self, name: str) -> str:
-        """The crate of a name: of one that is there in two versions it has to have the version, or how that begins."""
-        wanted, _, version = name.partition("@")
-        found = [c for c in self.world.crates if c == name or c.partition("@")[0] == wanted and c.partition("@")[2].startswith(version)]
-        if not version and wanted in self.world.crates:
-            return wanted
-        if version and wanted in self.world.crates and self.world.crates[wanted].version.startswith(version):
-            return wanted
-        if len(found) > 1:
-            raise BadInput(f"`{name}` may be any of {', '.join(f'`{c}`' for c in found)}")
-        return found[0] if found else name
-
-    def key(self, words: list[str]) -> Optional[str]:
-        if words[0] in self.world.crates:
-            found = self.world.crates[words[0]].items
-            tests: tuple[Callable[[ItemName], bool], ...] = (
-                lambda d: d.public_path == words, lambda d: d.key == "::".join(words), lambda d: d.name == words[-1] and d.public_path is not None,
-                lambda d: d.name == words[-1])
-            for test in tests:
-                keys = {d.key for d in found if test(d)}
-                if len(keys) == 1:
-                    return keys.pop()
-            return None
-        if words[0] in ("std", "core", "alloc", "proc_macro") and len(words) > 1:
-            # (`alloc::collections::BTreeMap` has no page of its own, as `std::collections::BTreeMap` has.)
-            return self.world.pages.key_of_any_kind(words) or self.world.pages.key_of_any_kind(["std", *words[1:]])
-        if len(words) == 1 and words[0] in self.prelude:
-            return self.world.pages.key_of_any_kind(self.prelude[words[0]])
-        if len(words) == 1:
-            own = {d.key for crate in self.world.crates.values() for d in crate.items if d.name == words[0] and d.public_path}
-            if len(own) == 1:
-                return own.pop()
-        return None
 
     def read(self, written: str) -> Question:
         """A question by one bound."""

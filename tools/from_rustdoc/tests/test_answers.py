@@ -109,15 +109,9 @@ class NoAnswers(unittest.TestCase):
         reader = QuestionReader(world("ab"))
         for written, why in (("ab::Sb: ?Sized", "asks nothing"), ("ab::Sb: Vec<u8>", "is no trait"), ("ab::Sb: 'static", "asks for no trait"),
                              ("<T: Send", "is not understood"), ("<T as", "is not understood"), ("ab::Sb", "`:` expected at the end"), ("ab::Sb:", "a path expected at the end"), ("", "a type expected at the end"),
-                             ("ab::Sx: Send", "is not known: write"), ("ab::Aroud: Send", "is it `ab::Around`?"), ("Vec<u8>::Item Send", "is not understood")):
+                             ("ab::Sx: Send", "is not known: write its path"), ("ab::Aroud: Send", "is it `ab::Around`?"), ("Vec<u8>::Item Send", "is not understood")):
             with self.assertRaisesRegex(BadInput, why, msg=written):
                 reader.read_all(written)
-
-    def test_items_that_core_and_alloc_document_elsewhere_are_found_in_std(self) -> None:
-        reader = QuestionReader(world("ab"))
-        with mock.patch.object(reader.world.pages, "key_of_any_kind", side_effect=lambda words: "a map" if words == ["std", "collections", "BTreeMap"] else None):
-            self.assertEqual([reader.key([crate, "collections", name]) for crate in ("std", "alloc") for name in ("BTreeMap", "None")],
-                             ["a map", None, "a map", None])
 
     @unittest.skipUnless(proved_program(), "there is no proved program of these sources")
     def test_an_alias_of_a_crate_that_is_not_given_is_a_loss(self) -> None:
