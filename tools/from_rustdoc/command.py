@@ -42,7 +42,8 @@ ask: --expect yes|no (another answer is status 1), --why (the proof too, where t
 later: --private (private and sealed impls too), -p NAME (this library alone), --with CRATE.json (crates that both files use).
 All: --message-format human|json, --docs DIR (std's documents), --program FILE and --program-that-explains FILE (default: the proved ones
 that are here), --metadata FILE (what `cargo metadata --format-version 1` printed; read and later), --all-std (read: all of std that is about
-the traits that are named), --jobs N (processes of a project's check), --quiet.
+the traits that are named), --jobs N (processes of a project's check), --quiet,
+--verbose (what answers rest on, in the words of docs/RUSTDOC.md).
 
 Status: 0 fine, 1 not coherent, breaking or not as expected, 4 not settled or a changed bound, 3 no answer, 2 the words are not understood."""
 USAGE_OF_CARGO = """cargo celtisdarts: real crates, judged by Celtisdarts. It documents the project that stands here, and takes all flags of tools/from-rustdoc.
@@ -183,7 +184,7 @@ def check(arguments: argparse.Namespace) -> int:
 def output_of(arguments: argparse.Namespace, inputs: dict[str, Any]) -> Output:
     """Standard output, with the sources that places name."""
     folders = [inputs["links"]["root"]] if inputs["links"]["root"] else [os.path.dirname(file) for file in inputs["json"]]
-    return Output(Sources({"": folders}), arguments.message_format == "json")
+    return Output(Sources({"": folders}), arguments.message_format == "json", is_verbose=arguments.verbose)
 
 
 def ask(arguments: argparse.Namespace) -> int:
@@ -308,6 +309,7 @@ def parser(prog: str = "from-rustdoc") -> argparse.ArgumentParser:
     common.add_argument("--program")
     common.add_argument("--program-that-explains")
     common.add_argument("--quiet", action="store_true")
+    common.add_argument("--verbose", action="store_true")
     common.add_argument("--message-format", choices=("human", "json"), default="human")
     common.add_argument("--jobs", type=int, default=os.cpu_count() or 1)
     top = argparse.ArgumentParser(prog=prog, usage=USAGE, add_help=True)

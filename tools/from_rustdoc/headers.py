@@ -31,6 +31,8 @@ class Reader:
         self.text = text
         self.lookup = lookup
         self.params = params
+        # Whether the path that is read now is that of a trait, by where it stands.
+        self.wants_trait = False
         self.tokens: list[tuple[str, str]] = []
         self.places: list[int] = []
         self.at = 0
@@ -175,6 +177,7 @@ class Reader:
             # `?Sized`, in a text where `?name` is an unknown.
             maybe = True
             self.tokens[self.at] = ("word", self.peek()[1][1:])
+        self.wants_trait = True
         _, key, name = self.path()
         arguments, constraints = self.arguments()
         if inside:
@@ -359,6 +362,7 @@ class Reader:
         if kind == "word" and self.peek(1)[1] == "::" and self.peek(2)[0] == "word" and (value == "Self" or value in self.scope()):
             self.at += 1
             return Parameter(value)
+        self.wants_trait = False
         what, key, name = self.path()
         if what == "word":
             if name in PRIMITIVES or name in FLOATS:
@@ -369,7 +373,7 @@ class Reader:
         if key is None:
             raise NotUnderstood(f"no page of `{name}`")
         if what == "trait":
-            raise NotUnderstood(f"the trait `{name}` as a type")
+            raise NotUnderstood(f"`{name}` is a trait, and a type is wanted; its objects are `dyn {name}`")
         arguments, _ = self.arguments()
         return Alias(key, tuple(arguments)) if what == "type" else Named(key, tuple(arguments))
 

@@ -15,6 +15,20 @@ WORDS = {"breaking": ("error", BAD), "not coherent": ("error", BAD), "not as exp
          "changed": ("warning", UNSETTLED), "not understood": ("error", NO_ANSWER)}
 
 
+# What users read for words of the inside; those stand in JSON, and in what `--verbose` prints.
+PLAIN = (("by law", "certain"), ("argued: ", "not proved: "), ("the question has unknowns", "the question has variables"),
+         ("a clause on an associated type is asked as a pattern", "a bound on an associated type was written in another form"),
+         ("the question leads to chains without end", "the goals that it leads to have no end"), ("the text cannot say the question", "it cannot be asked"),
+         ("the upper text has a proof, the lower one none", "it rests on a part that was left out"), ("neither text has a proof", "there is no proof"),
+         (": a fresh parameter stands for it", ""), (": any type in the upper text, none in the lower", ""), ("out of both texts: ", ""), (": header: ", ": "))
+
+
+def plain(text: str) -> str:
+    for inside, words in PLAIN:
+        text = text.replace(inside, words)
+    return text
+
+
 @dataclass
 class Span:
     """A place, and what is said of it. `version` is "old" for the sources of the older version of a release."""
@@ -26,7 +40,8 @@ class Span:
 
 @dataclass
 class Message:
-    """`code` is the class, as `bound-added`; `word` the answer; `basis` says on what it rests, `rests_on` on the loss of which impls."""
+    """`code` is the class, as `bound-added`; `word` the answer; `basis` says on what it rests, `rests_on` on the loss of which impls. `summary`
+    of a step says why by the part of it that is new."""
     text: str
     code: str = ""
     word: str = ""
@@ -36,6 +51,7 @@ class Message:
     basis: str = ""
     rests_on: list[str] = field(default_factory=list)
     kind: str = ""
+    summary: str = ""
 
     @property
     def level(self) -> str:
@@ -115,7 +131,7 @@ class Sources:
 
 
 # ---- as text
-def rendered(message: Message, sources: Sources) -> str:
+def rendered(message: Message, sources: Sources, is_verbose: bool = False) -> str:
     code = f"[{message.code}]" if message.code and message.level in ("error", "warning") else ""
     lines = [f"{message.level}{code}: {message.text}"] + spans_lines(message.spans, sources)
     width = max([len(str(s.place.line)) for s in message.spans] or [1])
@@ -124,9 +140,8 @@ def rendered(message: Message, sources: Sources) -> str:
             lines += [f"{child.level}: {child.text}"] + spans_lines(child.spans, sources)
         else:
             lines.append(f"{' ' * width} = {child.level}: {child.text}")
-    lines += [f"{' ' * width} = note: rests on {line}" for line in message.rests_on]
-    if message.basis:
-        lines.append(f"{' ' * width} = note: {message.basis}")
+    notes = [f"rests on {line}" for line in message.rests_on] + ([message.basis] if message.basis else [])
+    lines += [f"{' ' * width} = note: {note if is_verbose else plain(note)}" for note in notes]
     return "\n".join(lines) + "\n"
 
 
@@ -172,9 +187,10 @@ def message_json(message: Message, sources: Sources, is_child: bool = False) -> 
 class Output:
     """Standard output in one of both forms. `line` is for people alone, `fine` a message that needs one line there."""
 
-    def __init__(self, sources: Optional[Sources] = None, is_json: bool = False, stream: Optional[TextIO] = None) -> None:
+    def __init__(self, sources: Optional[Sources] = None, is_json: bool = False, stream: Optional[TextIO] = None, is_verbose: bool = False) -> None:
         self.sources = sources or Sources()
         self.is_json = is_json
+        self.is_verbose = is_verbose
         self.stream = stream or sys.stdout
 
     def write(self, text: str) -> None:
@@ -189,7 +205,7 @@ class Output:
         if self.is_json:
             self.write(json.dumps(message_json(message, self.sources)) + "\n")
         elif message.level in ("error", "warning"):
-            self.write(rendered(message, self.sources) + "\n")
+            self.write(rendered(message, self.sources, self.is_verbose) + "\n")
         else:
             self.write(self.in_a_line(message) + "\n")
 

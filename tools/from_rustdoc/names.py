@@ -7,7 +7,7 @@ from __future__ import annotations
 
 from typing import Iterator, Optional
 
-from .html_docs import LINKED, is_std_key, rust_crate_of
+from .html_docs import kind_and_name, rust_crate_of
 from .rustdoc_json import STD_CRATES
 from .terms import BadInput, Lossy
 from .world import World
@@ -39,6 +39,10 @@ def prelude(edition: str) -> dict[str, list[str]]:
     return {name: path for since, table in PRELUDES.items() if since <= (edition or "2999") for name, path in paths_of(table).items()}
 
 
+class NotKnown(BadInput):
+    """A path that names nothing."""
+
+
 class Names:
     def __init__(self, world: World) -> None:
         self.world = world
@@ -48,15 +52,15 @@ class Names:
         self.prelude = prelude(max((editions.get(c, "") for c in self.own), default=""))
         self.known = paths_of(KNOWN) | {name: path for name, path in prelude("").items() if name not in self.prelude}
 
-    def key(self, words: list[str]) -> str:
-        """The key of the item; an error that says what to write where there is none, or more than one."""
+    def key(self, words: list[str], wants_trait: Optional[bool] = None) -> str:
+        """The key of the item; an error that says what to write where there is none, or more than one: a trait, where one is wanted."""
         found = self.of_word(words[0]) if len(words) == 1 else self.of_path_in_scope(words)
         if len(found) > 1:
             shown = [f"`{path}`" for path in found.values()]
             last = f" or {shown[-1]}" if len(shown) <= SHOWN else f" or {len(shown) - SHOWN} more"
             raise BadInput(f"`{'::'.join(words)}` may be {', '.join(shown[:min(SHOWN, len(shown) - (len(shown) <= SHOWN))])}{last}: write its path")
         if not found:
-            raise BadInput(f"`{'::'.join(words)}` is not known: {self.instead(words)}")
+            raise NotKnown(f"`{'::'.join(words)}` is not known: {self.instead(words, wants_trait)}")
         return self.read(next(iter(found)), words)
 
     def read(self, key: str, words: list[str]) -> str:
@@ -140,16 +144,22 @@ class Names:
         return found
 
     # ---- what to write instead
-    def instead(self, words: list[str]) -> str:
+    def instead(self, words: list[str], wants_trait: Optional[bool]) -> str:
         """What to write for a path that names nothing: items of the same name, or of like ones."""
         import difflib
         found = sorted(self.elsewhere(words[-1]).values(), key=lambda path: path.split("::")[0] != words[0])
-        if words[-1] in self.known or words[-1] in self.prelude:
-            found.append("::".join(["std", *(self.known.get(words[-1]) or self.prelude[words[-1]])[1:]]))
+        of_std = {name: "::".join(["std", *path[1:]]) for name, path in {**self.prelude, **self.known}.items()}
+        found += [of_std[name] for name in words[-1:] if name in of_std]
         if not found:
             crates = [c for n, c in self.world.crates.items() if len(words) == 1 or n.partition("@")[0] == words[0].partition("@")[0]]
-            paths = {item.name: "::".join(item.public_path) for crate in crates for item in crate.items if item.public_path}
+            paths = {item.name: "::".join(item.public_path) for crate in crates for item in crate.items
+                     if item.public_path and wants_trait in (None, self.world.get(item.key).is_trait)}
             if len(words) == 1 or words[0] in STD_CRATES:
-                paths = {name: name for name in self.prelude} | {name: "::".join(["std", *path[1:]]) for name, path in self.known.items()} | paths
+                there = {name: path for name, path in of_std.items() if wants_trait is None or self.is_std_trait(name) == wants_trait}
+                paths = {**there, **{name: name for name in there if name in self.prelude}, **paths}
             found = [paths[name] for name in difflib.get_close_matches(words[-1], paths)]
         return f"is it {' or '.join(f'`{path}`' for path in found[:SHOWN])}?" if found else "write its path, as `bytes::Bytes` or `std::vec::Vec`"
+
+    def is_std_trait(self, word: str) -> bool:
+        key = self.of_std(self.known.get(word) or self.prelude[word])
+        return key is not None and kind_and_name(key)[0] == "trait"

@@ -1,6 +1,7 @@
 """Questions as Rust writes them, as lines of both texts, and one answer made of what the program says to each."""
 from __future__ import annotations
 
+import re
 from dataclasses import dataclass, field, replace
 from typing import Callable, Optional
 
@@ -11,7 +12,7 @@ from .checker import check_texts
 from .headers import FLOATS, PRIMITIVES, Named_, NotUnderstood, Reader
 from .html_docs import is_std_key
 from .impls import ImplWriter
-from .names import Names
+from .names import Names, NotKnown
 from .negative import Negatives
 from .program import DEPTH, Answer, ask
 from .reach import BY_PARTS, Reach, Reacher, Reference_
@@ -21,6 +22,7 @@ from .standard import FN_TRAITS
 from .terms import (Alias, BadInput, Bound, BoundsOf, Declaration, Dyn, Lossy, Param, Parameter, Predicate, Projection, Type, Unknown, Unsayable,
                     argument_values, keys_of, put, put_bound, rebuilt, rebuilt_bound, walk)
 from .text_form import Text, TextLine, read_text
+from .well_formed import Fitting
 from .world import World, crate_name
 
 MAXIMAL_ROUNDS = 6
@@ -84,7 +86,8 @@ class InText:
 @dataclass
 class Verdict:
     """`word` is yes, no, unproved or not settled; `basis` says on what it rests. `values` are those of unknowns as Rust writes them, `found`
-    as types. `asked` is the question as it was asked, of several that one that decides."""
+    as types. `asked` is the question as it was asked, of several that one that decides. `because` is a reason that no explanation has; `is_explained` says that
+    the program's own counts beside it."""
     question: Question
     word: str
     basis: str = ""
@@ -92,6 +95,8 @@ class Verdict:
     values: str = ""
     found: dict[str, Type] = field(default_factory=dict)
     asked: Optional[InText] = None
+    because: str = ""
+    is_explained: bool = True
 
     def show(self) -> str:
         tail = (f" {self.values}" if self.values else "") + (f"   ({self.basis})" if self.basis else "")
@@ -125,13 +130,32 @@ class QuestionReader:
     def __init__(self, world: World) -> None:
         self.world = world
         self.names = Names(world)
+        self.fitting = Fitting(world)
 
-    def lookup(self, words: list[str], params: set[str]) -> Named_:
+    def lookup(self, words: list[str], params: set[str], reader: Reader) -> Named_:
         if len(words) == 1 and (words[0] in params or words[0] in PRIMITIVES or words[0] in FLOATS or words[0] == "_"):
             return "word", None, words[0]
-        key = self.names.key(words)
+        try:
+            key = self.names.key(words, reader.wants_trait)
+        except NotKnown:
+            undeclared = self.undeclared(reader, params) if len(words) == 1 and not reader.wants_trait else []
+            if words[0] not in undeclared:
+                raise
+            raise BadInput(f"`{words[0]}` is not known: declare it: `{self.declared(reader.text, undeclared)}`")
         declaration = self.world.get(key)
         return ("trait" if declaration.is_trait else "type" if declaration.kind == "type" else "struct"), key, declaration.name
+
+    def undeclared(self, reader: Reader, params: set[str]) -> list[str]:
+        """Words that look like type parameters, and name nothing."""
+        words = dict.fromkeys(value for kind, value in reader.tokens if kind == "word" and re.fullmatch("[A-Z][A-Z0-9]?", value))
+        return [word for word in words if word not in params and not self.names.of_word(word)]
+
+    @staticmethod
+    def declared(written: str, names: list[str]) -> str:
+        """The question with further parameters."""
+        reader = Reader(written, lambda words: ("word", None, words[-1]), unknowns=True)
+        new = ", ".join(names)
+        return f"<{new}, {written.lstrip()[1:].lstrip()}" if reader.has_generics() else f"<{new}> {written.lstrip()}"
 
     def read(self, written: str) -> Question:
         """A question by one bound."""
@@ -143,11 +167,11 @@ class QuestionReader:
     def read_all(self, written: str) -> list[Question]:
         """`[<params>] type: bound [+ bound ..] [where clauses]`, with `?x` for unknowns: a question for each bound."""
         params: set[str] = set()
-        reader = Reader(written, lambda words: self.lookup(words, params), unknowns=True, params=params)
+        reader = Reader(written, lambda words: self.lookup(words, params, reader), unknowns=True, params=params)
         try:
             params |= self.parameter_names(written)
             generics, predicates = reader.generics() if reader.has_generics() else ([], [])
-            subject = self.plain(reader.type())
+            subject = reader.type()
             reader.need(":")
             start, bounds = reader.place(), self.bounds(reader)
             end = reader.place()
@@ -157,9 +181,10 @@ class QuestionReader:
                 raise NotUnderstood(f"`{reader.peek()[1]}` is too much")
         except NotUnderstood as error:
             raise BadInput(f"the question `{written}` is not understood: {error}")
-        predicates = [(self.plain(t), self.plain_bound(b)) for t, b in predicates]
-        return [Question(written if len(bounds) == 1 else f"{written[:start]}{text} {written[end:]}".strip(), subject, bound, generics, list(predicates))
-                for bound, text in bounds]
+        self.fitting.all(subject, [bound for bound, _ in bounds], predicates)
+        subject, predicates = self.plain(subject), [(self.plain(t), self.plain_bound(b)) for t, b in predicates]
+        return [Question(written if len(bounds) == 1 else f"{written[:start]}{text} {written[end:]}".strip(), subject, self.plain_bound(bound), generics,
+                         list(predicates)) for bound, text in bounds]
 
     def bounds(self, reader: Reader) -> list[tuple[Bound, str]]:
         """The bounds that are asked, each as it is written."""
@@ -172,7 +197,7 @@ class QuestionReader:
             if bound is not None and not self.world.get(bound.key).is_trait:
                 raise NotUnderstood(f"`{reader.text[place:reader.place()].strip()}` is no trait")
             if bound is not None:
-                found.append((self.plain_bound(bound), reader.text[place:reader.place()].strip()))
+                found.append((bound, reader.text[place:reader.place()].strip()))
             if not reader.eat("+"):
                 break
         if not found:

@@ -145,7 +145,7 @@ class Merged(unittest.TestCase):
         translation, _ = asked("shapes::A: PartialEq<?x>")
         back = Back(translation.world)
         self.assertEqual(back.values("?x = Ref_<[shapes__Raw<f32>; 4]>, ?n = 3"), "?x = &[shapes::Raw<f32>; 4], ?n = 3")
-        self.assertEqual(back.values("?x = std__Box<dyn Debug + Send, Global>"), "?x = Box<(dyn Debug + Send), Global>")
+        self.assertEqual(back.values("?x = std__Box<dyn Debug + Send, Global>"), "?x = Box<(dyn Debug + Send)>")
         self.assertEqual(back.values("?y = ?x"), "?y = ?x")
 
     def test_answers_are_read(self) -> None:
