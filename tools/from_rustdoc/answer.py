@@ -11,7 +11,7 @@ from .questions import OWN, Asker, Question, QuestionWriter, TooSmall, Verdict, 
 from .reach import Reference_
 from .render import Scope, names_of
 from .show import Show
-from .terms import Bound, BoundsOf, Lossy, Parameter, Projection, Type, Unknown, parts, rebuilt, rebuilt_bound
+from .terms import Bound, BoundsOf, Lossy, Param, Parameter, Projection, Type, Unknown, parts, put, rebuilt, rebuilt_bound, walk
 from .world import World
 
 MAXIMAL_STEPS = 20
@@ -26,10 +26,31 @@ class Answerer:
     def answer(self, question: Question) -> Verdict:
         try:
             verdict = joined(question, [self.by_values(one) for one in self.divided(question)])
+            if verdict.word == "maybe":
+                return self.of_each(question) or verdict
             other = self.other_value(question) if verdict.word in ("no", "unproved") else ""
             return replace(verdict, because=other, is_explained=False) if other else verdict
         except Lossy as error:
             return Verdict(question, "not settled", f"the text cannot say the question: {error}")
+
+    def of_each(self, question: Question) -> Optional[Verdict]:
+        """A yes where the bound holds whatever the variables of its subject are: they are parameters then."""
+        of_bound = {part.name for term in terms_of(replace(question.bound, constraints=())) for part in walk(term) if isinstance(part, Unknown)}
+        names = {part.name for part in walk(question.subject) if isinstance(part, Unknown)} - of_bound - {param.name for param in question.params}
+        if not names or question.predicates:
+            return None
+
+        def changed(term: Type) -> Type:
+            return Parameter(term.name) if isinstance(term, Unknown) and term.name in names else rebuilt(term, changed)
+
+        general = replace(question, subject=changed(question.subject), bound=rebuilt_bound(question.bound, changed), lines=[], names={},
+                          params=[*question.params, *(Param("type", name) for name in sorted(names))])
+        verdict = joined(general, [self.by_values(one) for one in self.divided(general)])
+        back: dict[str, Type] = {name: Unknown(name) for name in names}
+        found = {name: put(value, back) for name, value in verdict.found.items()}
+        show = Askable(self.world)
+        values = ", ".join(f"?{name} = {show.type(value)}" for name, value in found.items())
+        return replace(verdict, question=question, found=found, values=values) if verdict.word == "yes" else None
 
     def divided(self, question: Question) -> Iterator[Question]:
         """`X: Iterator<Item: Debug>` as `X: Iterator` and `<X as Iterator>::Item: Debug`."""

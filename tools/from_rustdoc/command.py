@@ -38,7 +38,7 @@ USAGE = """from-rustdoc: a translator of crates to texts for this program, and o
   from-rustdoc later --baseline REV|FOLDER [PROJECT]     the same of a project and its older version
   from-rustdoc std -o FILE                               the part of std that people name, as a text to stand in front of others
 
-ask: --expect yes|no (another answer is status 1), --why (the proof too, where there is one).
+ask: --expect yes|no|maybe (another answer is status 1), --why (the proof too, where there is one).
 later: --private (private and sealed impls too), -p NAME (this library alone), --with CRATE.json (crates that both files use).
 All: --message-format human|json, --docs DIR (std's documents), --program FILE and --program-that-explains FILE (default: the proved ones
 that are here), --metadata FILE (what `cargo metadata --format-version 1` printed; read and later), --all-std (read: all of std that is about
@@ -324,7 +324,7 @@ def parser(prog: str = "from-rustdoc") -> argparse.ArgumentParser:
     two.add_argument("base")
     three = commands.add_parser("ask", parents=[common], usage=USAGE)
     three.add_argument("--project")
-    three.add_argument("--expect", choices=("yes", "no"))
+    three.add_argument("--expect", choices=("yes", "no", "maybe"))
     three.add_argument("--why", action="store_true")
     three.add_argument("words", nargs="+")
     four = commands.add_parser("later", parents=[common], usage=USAGE)
@@ -363,7 +363,12 @@ def main(words: list[str]) -> int:
     words, extra = divided(words)
     if words and words[0] not in ("read", "check", "ask", "later", "std", "project") and os.path.isdir(words[0]):
         words = ["project", *words]
-    return guarded("from-rustdoc", lambda: run_command(parser().parse_args(words), extra))
+    return guarded("from-rustdoc", lambda: run_command(parser().parse_args(words), extra), wants_json(words))
+
+
+def wants_json(words: list[str]) -> bool:
+    """Whether messages are JSON, by the words alone: so that what goes wrong anywhere has a line."""
+    return "--message-format=json" in words or ("--message-format", "json") in zip(words, words[1:])
 
 
 def main_of_cargo(words: list[str]) -> int:
@@ -379,7 +384,7 @@ def main_of_cargo(words: list[str]) -> int:
     if not words or words[0] not in ("check", "ask", "later"):
         print(USAGE_OF_CARGO, file=sys.stderr if words[:1] != ["--help"] else sys.stdout)
         return 0 if words[:1] == ["--help"] else 2
-    return guarded("cargo celtisdarts", lambda: run_command(parser("cargo celtisdarts").parse_args(words_of_cargo(words, folder)), extra))
+    return guarded("cargo celtisdarts", lambda: run_command(parser("cargo celtisdarts").parse_args(words_of_cargo(words, folder)), extra), wants_json(words))
 
 
 def words_of_cargo(words: list[str], folder: str) -> list[str]:
@@ -397,7 +402,7 @@ def words_of_cargo(words: list[str], folder: str) -> list[str]:
     return [*words, "--baseline", tag, folder]
 
 
-def guarded(name: str, run_it: Callable[[], int]) -> int:
+def guarded(name: str, run_it: Callable[[], int], is_json: bool = False) -> int:
     """The command's status. Whatever goes wrong ends with a line and the status of no answer, so that none is taken for an answer."""
     sys.setrecursionlimit(20000)
     try:
@@ -421,4 +426,6 @@ def guarded(name: str, run_it: Callable[[], int]) -> int:
         last = traceback.extract_tb(error.__traceback__)[-1]
         complaint = f"a mistake of the translator: {type(error).__name__}: {' '.join(str(error).split())} ({os.path.basename(last.filename)}:{last.lineno})"
     print(f"{name}: {complaint}", file=sys.stderr)
+    if is_json:
+        Output(is_json=True).message(Message(complaint, "no-answer", "no answer"))
     return NO_ANSWER

@@ -12,11 +12,11 @@ from .terms import Place
 FINE, BAD, NO_ANSWER, UNSETTLED = 0, 1, 3, 4
 # The level and the exit status of each word; what is not here is a note, and fine.
 WORDS = {"breaking": ("error", BAD), "not coherent": ("error", BAD), "not as expected": ("error", BAD), "not settled": ("warning", UNSETTLED),
-         "changed": ("warning", UNSETTLED), "not understood": ("error", NO_ANSWER)}
+         "changed": ("warning", UNSETTLED), "not understood": ("error", NO_ANSWER), "no answer": ("error", NO_ANSWER)}
 
 
 # What users read for words of the inside; those stand in JSON, and in what `--verbose` prints.
-PLAIN = (("by law", "certain"), ("argued: ", "not proved: "), ("the question has unknowns", "the question has variables"),
+PLAIN = (("by law", "certain"), ("argued: ", "not proved: "), ("the question has unknowns", "the question has variables"), ("both texts leave open what the unknowns stand for", "it depends on what the variables are"),
          ("a clause on an associated type is asked as a pattern", "a bound on an associated type was written in another form"),
          ("the question leads to chains without end", "the goals that it leads to have no end"), ("the text cannot say the question", "it cannot be asked"),
          ("the upper text has a proof, the lower one none", "it rests on a part that was left out"), ("neither text has a proof", "there is no proof"),
@@ -41,7 +41,7 @@ class Span:
 @dataclass
 class Message:
     """`code` is the class, as `bound-added`; `word` the answer; `basis` says on what it rests, `rests_on` on the loss of which impls. `summary`
-    of a step says why by the part of it that is new."""
+    of a step says why by the part of it that is new; `values` are those of variables, as a question takes them."""
     text: str
     code: str = ""
     word: str = ""
@@ -52,6 +52,7 @@ class Message:
     rests_on: list[str] = field(default_factory=list)
     kind: str = ""
     summary: str = ""
+    values: list[tuple[str, str]] = field(default_factory=list)
 
     @property
     def level(self) -> str:
@@ -181,7 +182,7 @@ def message_json(message: Message, sources: Sources, is_child: bool = False) -> 
     if is_child:
         return found
     return {"$message_type": "diagnostic", **found, "class": message.code or None, "answer": message.word or None, "crate": message.crate or None,
-            "basis": message.basis or None, "rests_on": message.rests_on}
+            "basis": message.basis or None, "rests_on": message.rests_on, "values": [{"name": name, "type": value} for name, value in message.values]}
 
 
 class Output:

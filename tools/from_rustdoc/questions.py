@@ -85,7 +85,7 @@ class InText:
 
 @dataclass
 class Verdict:
-    """`word` is yes, no, unproved or not settled; `basis` says on what it rests. `values` are those of unknowns as Rust writes them, `found`
+    """`word` is yes, no, unproved, maybe or not settled; `basis` says on what it rests. `values` are those of unknowns as Rust writes them, `found`
     as types. `asked` is the question as it was asked, of several that one that decides. `because` is a reason that no explanation has; `is_explained` says that
     the program's own counts beside it."""
     question: Question
@@ -104,6 +104,7 @@ class Verdict:
 
 
 BY_LAW = "by law"
+MAYBE = "both texts leave open what the unknowns stand for"
 
 
 class TooSmall(BadInput):
@@ -116,7 +117,7 @@ class TooSmall(BadInput):
 
 def joined(question: Question, verdicts: list[Verdict]) -> Verdict:
     """One verdict on a question that holds where all of these do: yes where all say so, else what the first says that makes it fail."""
-    for word in ("no", "unproved", "not settled"):
+    for word in ("no", "unproved", "not settled", "maybe"):
         for verdict in verdicts:
             if verdict.word == word:
                 return replace(verdict, question=question)
@@ -394,7 +395,7 @@ class Asker:
         if self.check:
             self.checked(texts)
         pieces = [p for p in self.translation.text("upper")[1] if p is not None]
-        reacher = Reacher(read_text(texts["upper"]), pieces)
+        reacher = Reacher(read_text(texts["upper"]), pieces, self.translation.cone.free if self.translation.cone else frozenset())
         self.text = reacher.text
         lines = {line.text: line for line in reacher.text.lines if line.kind == "question"}
         assumed = self.assumed(good, lines, reacher)
@@ -508,6 +509,8 @@ class Asker:
         if upper == "unproved" and question.whole and not unsure:
             more = "" if not question.refute else "; another crate, or a later version, may add an impl"
             return Verdict(question, "unproved", "neither text has a proof" + more)
+        if lower == upper == "maybe" and question.has_unknowns() and question.whole:
+            return Verdict(question, "maybe", MAYBE)
         reasons = lost + unsure
         if not question.whole:
             reasons.append("a where-clause of the question that the text cannot say")

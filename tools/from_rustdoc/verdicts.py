@@ -4,6 +4,7 @@ from __future__ import annotations
 from dataclasses import dataclass
 from typing import Any, Optional
 
+from .back import Askable
 from .messages import BAD, FINE, UNSETTLED, Message, Output, Span, at, plain, worst
 from .program import Answer
 from .questions import Verdict
@@ -12,7 +13,7 @@ from .report import PATTERNED, is_of
 from .terms import Lossy, Named, Place
 
 # Which answers are as expected: rustc refuses a bound that is `unproved` as it does one that is `no`.
-EXPECTED = {"yes": ("yes",), "no": ("no", "unproved")}
+EXPECTED = {"yes": ("yes",), "no": ("no", "unproved"), "maybe": ("maybe",)}
 # A list of a map: the source, the header, the losses, and the place of an impl.
 Entry = list[Any]
 
@@ -26,7 +27,15 @@ def answer_message(verdict: Verdict, expected: Optional[str], program: Optional[
     if verdict.because:
         reasons.append(Message(verdict.because, kind="note", summary=verdict.because))
     return Message(f"{text}, where {expected} was expected" if unexpected else text, verdict.word.replace(" ", "-"),
-                   "not as expected" if unexpected else verdict.word, verdict.question.of_crate, place_of(verdict), reasons, verdict.basis, verdict.rests_on)
+                   "not as expected" if unexpected else verdict.word, verdict.question.of_crate, place_of(verdict), reasons, verdict.basis, verdict.rests_on,
+                   values=values_of(verdict))
+
+
+def values_of(verdict: Verdict) -> list[tuple[str, str]]:
+    if verdict.asked is None or not verdict.found:
+        return []
+    show = Askable(verdict.asked.translation.world)
+    return [(name, show.type(value)) for name, value in verdict.found.items()]
 
 
 def place_of(verdict: Verdict) -> list[Span]:

@@ -4,16 +4,21 @@ from __future__ import annotations
 
 import contextlib
 import io
+import json
 import os
 import tempfile
+import time
 import unittest
 from unittest import mock
 
 from ..answer import Answerer
 from ..command import main
+from ..cone import TooLarge, cone_of_questions
+from ..messages import Output
 from ..proved import proved_program
 from ..questions import QuestionReader
 from ..terms import BadInput
+from ..verdicts import answer_message
 from .common import kept, world
 
 WIDE = "ab::Wide<" + "u8, " * 16
@@ -47,6 +52,14 @@ DEEP = {
     "deep::Chunk<u8>: Send": "yes", "deep::Node<u8>: Send": "unproved", "<A> deep::Chunk<A>: Sync": "unproved", "<A> deep::Chunk<A>: Sync where A: Sync": "yes",
     "deep::Pool<u8>: Sync": "no", "<A> deep::Pool<A>: Unpin": "yes", "<A> deep::Node<A>: Unpin": "unproved", "<A> deep::Node<A>: Unpin where A: Unpin": "yes",
     "<ab::Sb as deep::Length<u8>>::Array: Copy": "yes", "<T> [<ab::Sb as deep::Length<T>>::Array; 2]: Send": "yes"}
+
+# With variables: the word, and the values. With `no` the parts that are there of it decide.
+VARIABLES = {
+    "Vec<?x>: Clone": ("maybe", ""), "Vec<?x>: Debug": ("maybe", ""), "?x: Clone": ("maybe", ""), "(?x, u8): Send": ("maybe", ""),
+    "Vec<?x>: IntoIterator<Item = ?i>": ("yes", "?i = ?x"), "Vec<?x>: IntoIterator<IntoIter = ?i>": ("yes", "?i = alloc::vec::IntoIter<?x>"),
+    "ab::Here<?x>: Sized": ("yes", ""), "(?x, ab::Shared): Send": ("no", ""), "Vec<?x>: PartialEq<Vec<u8>>": ("maybe", ""),
+    "ab::Bits: core::ops::BitOr<?x>": ("yes", "?x = u8"), "Box<?x>: ab::Ta": ("yes", "?x = dyn Fn(u8) -> u8"), "?x: ab::Ta": ("maybe", ""),
+    "Vec<?x>: Iterator<Item = ?x>": ("unproved", "")}
 
 
 @unittest.skipUnless(proved_program(), "there is no proved program of these sources")
@@ -96,6 +109,33 @@ class Answers(unittest.TestCase):
             verdict = self.answerer.answer(self.reader.read(written))
             self.assertEqual((verdict.word, verdict.values), ("yes", values), written)
 
+    def test_variables_are_answered_or_declined_at_once(self) -> None:
+        before = time.process_time()
+        for written, wanted in VARIABLES.items():
+            verdict = self.answerer.answer(self.reader.read(written))
+            self.assertEqual((verdict.word, verdict.values), wanted, verdict.show())
+        with mock.patch("from_rustdoc.cone.MOST_OPEN", 5), self.assertRaisesRegex(TooLarge, "write more of the types"):
+            cone_of_questions(self.reader.world, [self.reader.read("Option<?x>: From<?y>")])
+        self.assertLess(time.process_time() - before, 20.0)
+
+    def test_what_is_behind_a_free_variable_does_not_count(self) -> None:
+        """The same by all that an unknown type may lead to."""
+        for written in (*VARIABLES, "ab::Fixed<?x>: ab::Ta", "ab::Held<?x>: Send", "user::Mine<?x>: Clone", "user::Mine<?x>: ab::Ta", "ab::Pred<?x>: ab::Ta"):
+            verdict = self.answerer.by_part(self.reader.read(written))
+            with mock.patch("from_rustdoc.cone.free_variables", return_value=frozenset()):
+                whole = self.answerer.by_part(self.reader.read(written))
+            self.assertEqual((verdict.word, verdict.values), (whole.word, whole.values), written)
+        free = [cone_of_questions(self.reader.world, [self.reader.read(written)]).cone.free for written in ("Vec<?x>: Clone", "Box<?x>: ab::Ta", "Vec<?x>: PartialEq<?x>")]
+        self.assertEqual(free, [{"x"}, set(), set()])
+
+    def test_values_are_data_that_a_question_takes(self) -> None:
+        stream = io.StringIO()
+        verdict = self.answerer.answer(self.reader.read("Vec<?x>: IntoIterator<Item = ?i, IntoIter = ?t>"))
+        Output(is_json=True, stream=stream).message(answer_message(verdict, None, None, False))
+        values = json.loads(stream.getvalue())["values"]
+        self.assertEqual(values, [{"name": "i", "type": "?x"}, {"name": "t", "type": "alloc::vec::IntoIter<?x>"}])
+        self.assertEqual(self.answerer.answer(self.reader.read(f"{values[1]['type']}: Iterator<Item = ?i>")).values, "?i = ?x")
+
     def test_two_bounds_are_two_questions(self) -> None:
         questions = self.reader.read_all("ab::Around: Send + Sync")
         self.assertEqual([q.written for q in questions], ["ab::Around: Send", "ab::Around: Sync"])
@@ -105,6 +145,14 @@ class Answers(unittest.TestCase):
 
 
 class NoAnswers(unittest.TestCase):
+    def test_each_has_a_line_of_json(self) -> None:
+        for words in (["ask", "--project", "/nowhere", "--message-format", "json", "u8: Send"], ["read", "--message-format=json", "-o", "x", "/nowhere.json"]):
+            with contextlib.redirect_stdout(io.StringIO()) as said, contextlib.redirect_stderr(io.StringIO()) as errors:
+                status = main(words)
+            (line,) = said.getvalue().splitlines()
+            found = json.loads(line)
+            self.assertEqual((status, found["answer"], found["level"], f"from-rustdoc: {found['message']}\n"), (3, "no answer", "error", errors.getvalue()))
+
     def test_what_is_no_question_is_told_in_a_line(self) -> None:
         reader = QuestionReader(world("ab"))
         for written, why in (("ab::Sb: ?Sized", "asks nothing"), ("ab::Sb: Vec<u8>", "is no trait"), ("ab::Sb: 'static", "asks for no trait"),

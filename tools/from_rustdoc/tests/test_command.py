@@ -137,7 +137,7 @@ class Errors(Ended):
         self.assertIn("it has no format number", self.one_line("read", "-o", os.path.join(self.room, "x"), kept("std")))
 
     def test_words_that_are_not_understood_end_with_status_2(self) -> None:
-        for words in (["nothing"], ["later", "--expect", "yes"], ["ask"], ["ask", "x", "y", "--expect", "maybe"]):
+        for words in (["nothing"], ["later", "--expect", "yes"], ["ask"], ["ask", "x", "y", "--expect", "perhaps"]):
             self.assertEqual(self.run_words(*words)[0], 2, words)
 
     def test_a_mistake_is_told_in_a_line_and_is_no_answer(self) -> None:
