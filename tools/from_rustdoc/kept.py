@@ -24,7 +24,7 @@ from .html_docs import CRATES, Pages
 from .proved import SETTLED, cache_folder
 from .rustdoc_json import ItemName, JsonCrate
 from .standard import Header, Standard
-from .terms import ANY_HEAD, Declaration, Impl, Named, Type, head_of
+from .terms import ANY_HEAD, Declaration, Impl, Type, head_of
 
 HERE = os.path.dirname(os.path.abspath(__file__))
 
@@ -375,14 +375,9 @@ class KeptStandard(Standard):
             self.store.put("autos", key, kept)
         return kept
 
-    def associated_type(self, impl: Impl, name: str) -> Optional[Type]:
-        if impl.source.startswith("std: ") and isinstance(impl.self_type, Named):
-            key = impl.self_type.key
-            if key not in self.values:
-                kept = self.store.get("values", key)
-                if kept is not None:
-                    self.values[key] = kept
-                else:
-                    super().associated_type(impl, name)
-                    self.store.put("values", key, self.values[key])
-        return super().associated_type(impl, name)
+    def read_values(self, key: str) -> dict[str, dict[str, Type]]:
+        kept: Optional[dict[str, dict[str, Type]]] = self.store.get("values", key)
+        if kept is None:
+            kept = super().read_values(key)
+            self.store.put("values", key, kept)
+        return kept

@@ -11,7 +11,7 @@ from typing import Iterator, Optional
 from .html_docs import Pages, is_std_key, kind_and_name, rust_crate_of
 from .headers import NotUnderstood, Reader
 from .terms import (ANY_HEAD, Array, Bound, Declaration, Function, Impl, Named, Param, Parameter, Predicate, Primitive, Reference, Slice, Tuple, Type,
-                    head_of, parameters_of, put, put_bound, rebuilt, rebuilt_bound)
+                    head_of, parameters_of, put, put_bound, rebuilt, rebuilt_bound, walk)
 
 # Of core and alloc one crate is made: core's impls reason about alloc's types by negative impls, which a text has not.
 HOMES = {"core": "alloc", "alloc": "alloc"}
@@ -213,18 +213,23 @@ class Standard:
         return values
 
     def associated_type(self, impl: Impl, name: str) -> Optional[Type]:
-        """The value of an associated type of an impl of std, if the page of its type shows it."""
-        if not impl.source.startswith("std: ") or not isinstance(impl.self_type, Named):
+        """The value of an associated type of an impl of std, if the page of a type that its header names shows it: that of `Vec` has
+        `impl IntoIterator for &Vec<T, A>`."""
+        if not impl.source.startswith("std: ") or impl.trait is None:
             return None
-        key = impl.self_type.key
+        named = (part.key for term in (impl.self_type, *impl.trait.arguments) for part in walk(term) if isinstance(part, Named) and is_std_key(part.key))
+        return next((found[name] for found in (self.values_on(key).get(impl.source, {}) for key in dict.fromkeys(named)) if name in found), None)
+
+    def values_on(self, key: str) -> dict[str, dict[str, Type]]:
+        """The values of associated types that the page of a type shows, by the headers of the impls."""
         if key not in self.values:
-            self.values[key] = {}
-            page, text = self.pages.page(self.pages.own_page(key))
-            for fragment, rest in self.pages.impl_sections(text):
-                found = self.associated(rest, page)
-                if found:
-                    self.values[key]["std: " + Pages.plain(fragment)] = found
-        return self.values[key].get(impl.source, {}).get(name)
+            self.values[key] = self.read_values(key)
+        return self.values[key]
+
+    def read_values(self, key: str) -> dict[str, dict[str, Type]]:
+        page, text = self.pages.page(self.pages.own_page(key))
+        found = {"std: " + Pages.plain(fragment): self.associated(rest, page) for fragment, rest in self.pages.impl_sections(text)}
+        return {header: values for header, values in found.items() if values}
 
     # ---- headers that stand for many
     def expanded(self, fragment: str, page: str, rest: str, crate: str) -> Iterator[Impl]:
