@@ -7,7 +7,7 @@ from .names import Names
 from .render import is_packed
 from .show import Show
 from .standard import FN_TRAITS
-from .terms import UNIT, Bound, Constant, Lossy, Named, Pointer, Primitive, Reference, Tuple, Type, rebuilt
+from .terms import FUNCTION_STRUCTS, UNIT, Bound, Constant, Function, Lossy, Named, Pointer, Primitive, Reference, Tuple, Type, rebuilt
 from .world import World
 
 
@@ -64,7 +64,7 @@ class Back:
         if name in self.keys:
             kind = "trait" if self.world.get(self.keys[name]).is_trait else "struct"
             return kind, self.keys[name], name
-        if name.startswith(("Ref_", "RefMut_", "PtrConst_", "PtrMut_", "Tuple")) or name in FLOATS:
+        if name.startswith(("Ref_", "RefMut_", "PtrConst_", "PtrMut_", "Tuple")) or name in FLOATS or name in FUNCTION_STRUCTS:
             return "struct", name, name
         return "word", None, name
 
@@ -78,6 +78,8 @@ class Back:
         if isinstance(term, Named) and known is None:
             if term.key in FLOATS:
                 return Primitive(term.key)
+            if term.key in FUNCTION_STRUCTS and isinstance(term.arguments[0], Tuple):
+                return Function(term.arguments[0].items, term.arguments[1], FUNCTION_STRUCTS[term.key])
             if term.key.startswith("Tuple"):
                 return Tuple(tuple(item for part in term.arguments if isinstance(part, Tuple) for item in part.items))
             target = term.arguments[0]

@@ -14,7 +14,7 @@ from .headers import FLOATS
 from .html_docs import is_std_key
 from .render import is_packed, is_sizedness, names_of, packed
 from .standard import FN_TRAITS
-from .terms import (Alias, Array, Bound, BoundsOf, Constant, Declaration, Dyn, Form, Function, Impl, Lossy, Named, Never, Parameter, Part, Pointer,
+from .terms import (FUNCTIONS, Alias, Array, Bound, BoundsOf, Constant, Declaration, Dyn, Form, Function, Impl, Lossy, Named, Never, Parameter, Part, Pointer,
                     Predicate, Primitive, Projection, Reference, Slice, Tuple, Type, Unsayable, argument_values, parts, put, walk)
 from .text_form import Text, TextLine, read_text
 from .unfold import Unfolder
@@ -374,10 +374,12 @@ class Checker:
                     chunks = tuple(Tuple(items[n:n + 12]) for n in range(0, len(items), 12))
                     return isinstance(written, Named) and written.key == f"Tuple{len(items)}_" and all_inside(written.arguments, chunks)
                 return isinstance(written, Tuple) and all_inside(written.items, items)
-            case Function(inputs, output, plain):
+            case Function(inputs, output, how):
                 if in_field:
                     return written == Function((), Tuple(()))
-                return plain and isinstance(written, Function) and all_inside(written.inputs, inputs) and inside(written.output, output)
+                if how:
+                    return isinstance(written, Named) and written.key == FUNCTIONS.get(how) and all_inside(written.arguments, (Tuple(inputs), output))
+                return isinstance(written, Function) and all_inside(written.inputs, inputs) and inside(written.output, output)
             case Dyn(bounds) if isinstance(written, Named):
                 return self.is_shape(written, bounds, inside)
             case Dyn(bounds):

@@ -48,8 +48,8 @@ from .project import APPLY, WRAP
 from .questions import OWN, Question, QuestionWriter, terms_of
 from .reach import Reach, Reacher, Reference_, bind
 from .render import FIELD, THEN, Scope, as_arguments, is_packed, names_of, params_text
-from .terms import (UNIT, Array, Constant, Declaration, Dyn, Function, Impl, Lossy, Named, Param, Parameter, Tuple, Type, Unknown, head_of, keys_of, parts, put,
-                    rebuilt, walk)
+from .terms import (FUNCTION_STRUCTS, UNIT, Array, Constant, Declaration, Dyn, Impl, Lossy, Named, Param, Parameter, Tuple, Type, Unknown, head_of,
+                    keys_of, leaf_of, parts, put, rebuilt, walk)
 from .text_form import Text, TextLine
 from .world import CORE_NAMES, World, crate_name
 
@@ -136,6 +136,13 @@ def widest(arguments: tuple[Type, ...]) -> tuple[Type, ...]:
     return tuple(map(widened, arguments))
 
 
+def leaves_of_functions(term: Type) -> Iterator[str]:
+    """The fn pointers for which structs of the text stand in a term."""
+    for part in walk(term):
+        if isinstance(part, Named) and part.key in FUNCTION_STRUCTS and isinstance(part.arguments[0], Tuple):
+            yield leaf_of(part.arguments[0].items, FUNCTION_STRUCTS[part.key])
+
+
 def unknowns_of(term: Type) -> set[str]:
     """The names of the unknowns in a type, also of those that stand for constants."""
     return {part.name for part in walk(term) if isinstance(part, Unknown)} | {name for part in walk(term) for name in re.findall(r"\?(\w+)", constant_of(part))}
@@ -178,7 +185,6 @@ class Cone(Reacher):
         self.traits: dict[str, Optional[TextLine]] = {}
         self.per_trait: dict[tuple[str, str], int] = {}
         self.meanings: dict[str, TextLine] = {}
-        self.of_functions: dict[tuple[str, int], list[TextLine]] = {}
         self.declarer = Declarer(translation.impl_writer.projector, [])
         self.assumed: list[tuple[str, Type, list[Type]]] = []
 
@@ -192,7 +198,7 @@ class Cone(Reacher):
             return "struct" if name == "Box" else "trait", name, name
         if name in self.renderer.further or name in ("Never_", APPLY):
             return "trait", name, name
-        if name in SPECIAL_HEADS or name in FLOATS or name == WRAP or (name.startswith("Tuple") and name.endswith("_")):
+        if name in SPECIAL_HEADS or name in FUNCTION_STRUCTS or name in FLOATS or name == WRAP or (name.startswith("Tuple") and name.endswith("_")):
             return "struct", name, name
         return "word", None, name
 
@@ -273,6 +279,8 @@ class Cone(Reacher):
             return SPECIAL_HEADS[term.key]
         if term.key in FLOATS:
             return "prim:" + term.key
+        if term.key in FUNCTION_STRUCTS:
+            return next(leaves_of_functions(term), None)
         if self.world.named.get(term.key, "") in self.world.shape_of_key:
             return "dyn"
         if term.key.startswith("Tuple") and term.key not in self.world.named:
@@ -336,7 +344,7 @@ class Cone(Reacher):
         return widest(arguments)
 
     def mark(self, term: Type) -> None:
-        leaves = {key for key in keys_of(term) if key.startswith(("prim:", "tuple:", "fn:"))}
+        leaves = {key for key in keys_of(term) if key.startswith(("prim:", "tuple:", "fn:"))}.union(leaves_of_functions(term))
         self.chosen.leaves |= leaves
         self.translation.mark(leaves)
 
@@ -423,14 +431,10 @@ class Cone(Reacher):
         """What fn pointers ask: that a pattern holds of their output."""
         subject = reference[1][0]
         children: list[Reference_] = []
-        if not self.renderer.is_fn_trait(trait) or not isinstance(subject, (Function, Unknown)):
+        if not self.renderer.is_fn_trait(trait):
             return children
-        counts = [len(subject.inputs)] if isinstance(subject, Function) else [n for n in range(13) if f"fn:{n}" in self.translation.leaves]
-        for count in counts:
-            if (reference[0], count) not in self.of_functions:
-                self.of_functions[(reference[0], count)] = [self.parsed(text) for text in self.translation.fn_lines(trait, count)]
-            for line in self.of_functions[(reference[0], count)]:
-                children += self.by_line(line, reference) or []
+        for text in self.translation.all_fn_lines(trait):
+            children += self.by_line(self.parsed(text), reference) or []
         return children
 
     def by_assumed(self, reference: Reference_) -> list[Reference_]:

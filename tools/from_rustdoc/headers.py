@@ -20,6 +20,11 @@ class NotUnderstood(Exception):
     """The text is not a header or type that this reader knows."""
 
 
+def qualifier(is_unsafe: bool, abi: str) -> str:
+    """What stands before the `fn` of a pointer; `abi` is empty for Rust's own."""
+    return ("unsafe " if is_unsafe else "") + (f'extern "{abi}" ' if abi else "")
+
+
 class Reader:
     """Reads tokens. `lookup` says what a path stands for: it gets the words of the path, or the number of a marked link."""
 
@@ -340,12 +345,13 @@ class Reader:
         return Slice(element)
 
     def function(self) -> Type:
-        plain = True
+        before = ""
         while not self.eat("fn"):
-            plain = False
+            before += self.peek()[1]
             self.at += 1
             if self.at_end():
                 raise NotUnderstood("`fn` expected")
+        name = before.partition("extern")[2].strip('"') or ("C" if "extern" in before else "")
         self.need("(")
         inputs: list[Type] = []
         while not self.eat(")"):
@@ -355,7 +361,7 @@ class Reader:
                 raise NotUnderstood("a variadic fn")
             inputs.append(self.type())
             self.eat(",")
-        return Function(tuple(inputs), self.type() if self.eat("->") else UNIT, plain)
+        return Function(tuple(inputs), self.type() if self.eat("->") else UNIT, qualifier("unsafe" in before, name))
 
     def path_type(self) -> Type:
         kind, value = self.peek()

@@ -8,6 +8,7 @@ from dataclasses import dataclass
 from typing import Any, Optional
 
 from .formats import agreed, first_column
+from .headers import qualifier
 from .html_docs import Pages
 from .terms import (UNIT, Alias, Array, BadInput, Bound, BoundsOf, Constant, Declaration, Dyn, Function, Impl, Named, Never,
                     Param, Parameter, Place, Pointer, Predicate, Primitive, Projection, Reference, Slice, Tuple, Type, Unsayable,
@@ -29,6 +30,14 @@ class ItemName:
 def kind_and_body(item: dict[str, Any]) -> tuple[str, Any]:
     kind, body = next(iter(item["inner"].items()))
     return kind, body
+
+
+def abi_of(written: Any) -> str:
+    """An ABI by its name; empty for Rust's own."""
+    if isinstance(written, str):
+        return "" if written == "Rust" else written
+    name, body = next(iter(written.items()))
+    return str(body) if name == "Other" else (name if name == "C" else name.lower()) + ("-unwind" if body.get("unwind") else "")
 
 
 def stem_of(crate: dict[str, Any]) -> str:
@@ -384,7 +393,7 @@ class JsonCrate:
                     return Unsayable("a variadic fn")
                 inputs = tuple(self.type(t, itself) for _, t in signature["inputs"])
                 output = self.type(signature["output"], itself) if signature["output"] else UNIT
-                return Function(inputs, output, not header["is_unsafe"] and header["abi"] == "Rust")
+                return Function(inputs, output, qualifier(header["is_unsafe"], abi_of(header["abi"])))
             case "tuple":
                 return Tuple(tuple(self.type(t, itself) for t in body))
             case "slice":

@@ -10,7 +10,7 @@ from typing import Iterator, Optional
 
 from .html_docs import Pages, is_std_key, kind_and_name, rust_crate_of
 from .headers import NotUnderstood, Reader
-from .terms import (ANY_HEAD, Array, Bound, Declaration, Function, Impl, Named, Param, Parameter, Predicate, Primitive, Reference, Slice, Tuple, Type,
+from .terms import (ANY_HEAD, FUNCTIONS, Array, Bound, Declaration, Function, Impl, Named, Param, Parameter, Predicate, Primitive, Reference, Slice, Tuple, Type,
                     head_of, parameters_of, put, put_bound, rebuilt, rebuilt_bound, walk)
 
 # Of core and alloc one crate is made: core's impls reason about alloc's types by negative impls, which a text has not.
@@ -247,8 +247,9 @@ class Standard:
         impl = self.impl(fragment, page, rest, crate)
         if impl.trait is not None and isinstance(impl.self_type, Parameter) and any(
                 t == impl.self_type and b.key.endswith("trait.FnPtr") for t, b in impl.predicates):
-            for count in range(MAXIMAL_ITEMS + 1):
-                yield self.for_functions(impl, count)
+            for how in ("", *FUNCTIONS):
+                for count in range(MAXIMAL_ITEMS + 1):
+                    yield self.for_functions(impl, count, how)
             return
         yield impl
 
@@ -290,11 +291,11 @@ class Standard:
         impl.params = [p for p in impl.params if p.kind == "type"]
 
     @staticmethod
-    def for_functions(impl: Impl, count: int) -> Impl:
+    def for_functions(impl: Impl, count: int, how: str) -> Impl:
         """The impl for all `F: FnPtr` becomes that for fn pointers of `count` inputs."""
         assert impl.trait is not None and isinstance(impl.self_type, Parameter)
         names = [f"A{number}" for number in range(count)] + ["R"]
-        function = Function(tuple(Parameter(n) for n in names[:-1]), Parameter("R"))
+        function = Function(tuple(Parameter(n) for n in names[:-1]), Parameter("R"), how)
         special = impl.copy()
         special.params = [Param("type", n) for n in names]
         special.predicates = [(Parameter(n), Bound("?Sized", maybe=True)) for n in names]

@@ -12,6 +12,7 @@ import unittest
 from unittest import mock
 
 from ..answer import Answerer
+from ..back import Back
 from ..command import main
 from ..cone import TooLarge, cone_of_questions
 from ..messages import Output
@@ -52,6 +53,13 @@ DEEP = {
     "deep::Chunk<u8>: Send": "yes", "deep::Node<u8>: Send": "unproved", "<A> deep::Chunk<A>: Sync": "unproved", "<A> deep::Chunk<A>: Sync where A: Sync": "yes",
     "deep::Pool<u8>: Sync": "no", "<A> deep::Pool<A>: Unpin": "yes", "<A> deep::Node<A>: Unpin": "unproved", "<A> deep::Node<A>: Unpin where A: Unpin": "yes",
     "<ab::Sb as deep::Length<u8>>::Array: Copy": "yes", "<T> [<ab::Sb as deep::Length<T>>::Array; 2]: Send": "yes"}
+
+# Fn pointers that are no plain ones, of the crate `read`.
+FUNCTIONS = {
+    "unsafe fn(u8): read::Call": "yes", "unsafe fn(u16): read::Call": "no", "fn(u8): read::Call": "no", "u8: read::Call": "no",
+    'extern "C" fn(u16) -> u8: read::Call': "yes", 'extern "C" fn(): read::Call': "no", 'unsafe extern "C" fn(): read::Call': "yes",
+    "unsafe fn(u8): Clone": "yes", "Option<unsafe fn(u8)>: Send": "yes", 'extern "C" fn(u8) -> u16: Fn(u8) -> u16': "yes",
+    "unsafe fn(u8) -> u16: FnOnce(u8) -> u16": "no", 'extern "C" fn(): Sized': "yes", 'extern "system" fn(): Clone': "not settled"}
 
 # With variables: the word, and the values. With `no` the parts that are there of it decide.
 VARIABLES = {
@@ -95,6 +103,16 @@ class Answers(unittest.TestCase):
 
     def test_names_aliases_and_many_parameters(self) -> None:
         self.answers(OTHERS)
+
+    def test_unsafe_and_foreign_fns_are_told_apart(self) -> None:
+        found = world("read")
+        reader, answerer = QuestionReader(found), Answerer(found)
+        for written, word in FUNCTIONS.items():
+            verdict = answerer.answer(reader.read(written))
+            self.assertEqual(verdict.word, word, verdict.show())
+        for written, values in (("unsafe fn(?x): read::Call", "?x = u8"), ('extern "C" fn(u8) -> u16: FnOnce(u8) -> ?r', "?r = u16")):
+            self.assertEqual(answerer.answer(reader.read(written)).values, values)
+        self.assertEqual(Back(found).values("?x = FnUnsafeC_<(u8,), ()>"), '?x = unsafe extern "C" fn(u8)')
 
     def test_deep_types_and_traits_of_crates_that_use_the_subjects(self) -> None:
         found = world("ab", "deep")

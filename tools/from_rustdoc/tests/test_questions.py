@@ -108,7 +108,7 @@ class Merged(unittest.TestCase):
 
     def test_an_answer_names_the_loss_that_it_rests_on(self) -> None:
         (verdict,) = answered(["unproved"], ["yes"], "<T> Option<T>: shapes::Draw")
-        self.assertTrue(any("shapes.rs:" in line and "an unsafe or foreign fn" in line for line in verdict.rests_on), verdict.rests_on)
+        self.assertTrue(any("shapes.rs:" in line and '`extern "system" fn`' in line for line in verdict.rests_on), verdict.rests_on)
 
     def test_what_rests_on_a_law_and_what_is_argued(self) -> None:
         for lower, upper, written, basis in [

@@ -11,7 +11,7 @@ from ..html_docs import Pages, json_folder, with_patterns
 from ..rustdoc_json import JsonCrate
 from ..standard import Standard
 from ..standard_json import JsonStandard
-from ..terms import (Array, BadInput, Bound, Dyn, Function, Impl, Named, Parameter, Pointer, Primitive, Projection, Reference, Tuple, Unknown)
+from ..terms import (Array, BadInput, Bound, Dyn, Function, Impl, Named, Parameter, Pointer, Primitive, Projection, Reference, Tuple, UNIT, Unknown)
 from .common import kept
 
 ITEMS = {"Vec": "struct", "Clone": "trait", "Iterator": "trait", "Send": "trait"}
@@ -34,7 +34,8 @@ class Headers(unittest.TestCase):
             ("Vec<?x>", Named("Vec", (Unknown("x"),))),
             ("(u8,)", Tuple((Primitive("u8"),))),
             ("(u8)", Primitive("u8")),
-            ("unsafe extern fn(x: u8) -> T", Function((Primitive("u8"),), Parameter("T"), False)),
+            ("unsafe extern fn(x: u8) -> T", Function((Primitive("u8"),), Parameter("T"), 'unsafe extern "C" ')),
+            ('extern "C-unwind" fn()', Function((), UNIT, 'extern "C-unwind" ')),
             ("<T as Iterator>::Item", Projection(Parameter("T"), Bound("Iterator"), "Item")),
             ("T::Item", Projection(Parameter("T"), None, "Item")),
             ("dyn for<'a> Iterator<Item = u8> + Send + 'static", Dyn((Bound("Iterator", (), (("Item", Primitive("u8")),)), Bound("Send")))),
