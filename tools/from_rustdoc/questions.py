@@ -524,6 +524,9 @@ class Asker:
         cut = self.cut_structs(reach)
         if cut:
             return f"argued: the auto traits of {cut[0]} are written by its fields"
+        bound = [cut.declaration for cut in self.translation.cuts if cut.tail_by_bound and self.translation.world.name(cut.declaration) in reach.structs]
+        if bound:
+            return f"argued: {self.show.item(bound[0])} is sized by the bound of the associated type that is its last field"
         return self.argued_of_all(reach) or BY_LAW
 
     def argued_of_all(self, reach: Reach) -> str:
@@ -570,6 +573,9 @@ class Asker:
                 found[f"{written.impl.source}: {self.show.header(written.impl)}: {'; '.join(written.losses[:2])}"] = None
             elif piece.written is not None and piece.lower is None:
                 found[f"{piece.written.impl.source}: {self.show.header(piece.written.impl)}: {'; '.join(piece.written.unknown[:2])}"] = None
+        for cut in self.translation.cuts:
+            if cut.tail_unsure and self.translation.world.name(cut.declaration) in reach.structs:
+                found[f"{cut.declaration.source}: {self.show.item(cut.declaration)}: whether its last field is sized"] = None
         return list(found)
 
     def unsure(self, reach: Reach) -> list[str]:

@@ -61,6 +61,12 @@ FUNCTIONS = {
     "unsafe fn(u8): Clone": "yes", "Option<unsafe fn(u8)>: Send": "yes", 'extern "C" fn(u8) -> u16: Fn(u8) -> u16': "yes",
     "unsafe fn(u8) -> u16: FnOnce(u8) -> u16": "no", 'extern "C" fn(): Sized': "yes", 'extern "system" fn(): Clone': "not settled"}
 
+# Structs whose last field is an associated type: sized, unless the trait has `?Sized` for it.
+LAST_FIELDS = {
+    "read::Date<read::Utc>: Sized": "yes", "Vec<read::Date<read::Utc>>: Clone": "yes", "<Z: read::Zone> Option<read::Inner<Z>>: Default": "yes",
+    "read::Listed<Vec<u8>>: Sized": "yes", "read::Date<read::Utc>: Copy": "no", "read::Ended<u8>: Sized": "not settled",
+    "Vec<read::Ended<u8>>: Default": "not settled"}
+
 # With variables: the word, and the values. With `no` the parts that are there of it decide.
 VARIABLES = {
     "Vec<?x>: Clone": ("maybe", ""), "Vec<?x>: Debug": ("maybe", ""), "?x: Clone": ("maybe", ""), "(?x, u8): Send": ("maybe", ""),
@@ -113,6 +119,16 @@ class Answers(unittest.TestCase):
         for written, values in (("unsafe fn(?x): read::Call", "?x = u8"), ('extern "C" fn(u8) -> u16: FnOnce(u8) -> ?r', "?r = u16")):
             self.assertEqual(answerer.answer(reader.read(written)).values, values)
         self.assertEqual(Back(found).values("?x = FnUnsafeC_<(u8,), ()>"), '?x = unsafe extern "C" fn(u8)')
+
+    def test_structs_that_end_with_an_associated_type(self) -> None:
+        found = world("read")
+        reader, answerer = QuestionReader(found), Answerer(found)
+        for written, word in LAST_FIELDS.items():
+            verdict = answerer.answer(reader.read(written))
+            self.assertEqual(verdict.word, word, verdict.show())
+        self.assertEqual(answerer.answer(reader.read("read::Date<read::Utc>: Sized")).basis,
+                         "argued: read::Date is sized by the bound of the associated type that is its last field")
+        self.assertEqual(answerer.answer(reader.read("read::Ended<u8>: Sized")).rests_on, ["read.rs:17: read::Ended: whether its last field is sized"])
 
     def test_deep_types_and_traits_of_crates_that_use_the_subjects(self) -> None:
         found = world("ab", "deep")
