@@ -18,7 +18,7 @@ from .messages import Message, at
 from .program import explain
 from .questions import InText, Verdict
 from .reach import Reach
-from .render import FIELD, Scope
+from .render import FIELD, Scope, names_of
 from .show import Show
 from .terms import BadInput, Bound, Declaration, Dyn, Impl, Lossy, Named, Parameter, Projection, Type, argument_values, put, rebuilt
 from .text_form import read_text
@@ -174,7 +174,8 @@ class Explainer:
     def without_cycle(self, told: Told) -> Optional[Told]:
         """A cycle is no reason by itself where something else of a type in it fails too: its fields are asked one by one."""
         for number, goal in enumerate(told.goals):
-            declaration = self.declaration(self.rust(goal.subject)) if goal.is_built_in else None
+            by_fields = goal.is_built_in or goal.piece is not None and goal.piece.cut is not None
+            declaration = self.declaration(self.rust(goal.subject)) if by_fields else None
             if declaration is None:
                 continue
             lines = [line for line in (self.field_line(goal, declaration, term) for term in declaration.fields) if line]
@@ -250,7 +251,7 @@ class Explainer:
         itself = self.rust(goal.subject)
         declaration = self.declaration(itself)
         if declaration is not None and isinstance(itself, Named) and (goal.is_built_in or (goal.piece is not None and goal.piece.cut is not None)):
-            its = self.field_of(declaration, itself, self.shown_type(inner.subject))
+            its = self.field_of(declaration, itself, self.shown_type(self.unfolded(inner)[0] if inner.bound.key in self.thens else inner.subject))
             return Message(f"{text}: {its}" if its else text, kind="note", spans=at(declaration.place), summary=its)
         impl = goal.piece.written.impl if goal.piece is not None and goal.piece.written is not None else None
         if impl is not None and impl.trait is not None:
@@ -261,9 +262,16 @@ class Explainer:
         """Which field of a type has the inner type."""
         values = argument_values(declaration.params, itself.arguments)
         for name, term in zip(declaration.field_names, declaration.fields):
-            if self.show.type(self.shortened(put(term, values))) == inner:
+            if self.show.type(self.shortened(put(self.resolved(declaration, term), values))) == inner:
                 return f"its field `{name}` is `{inner}`"
         return ""
+
+    def resolved(self, declaration: Declaration, term: Type) -> Type:
+        """A field with the traits of its associated types."""
+        try:
+            return self.translation.renderer.resolved(term, Scope(FIELD, names_of(declaration.params), predicates=declaration.predicates))
+        except Lossy:
+            return term
 
     def declaration(self, term: Type) -> Optional[Declaration]:
         try:

@@ -19,3 +19,13 @@ impl Open for u8 { type Part = str; }
 impl Open for u16 { type Part = u8; }
 pub struct Inner<Z: Zone>(u8, Date<Z>);
 pub struct Listed<I: IntoIterator>(I::IntoIter);
+
+// Reasons: structs that name each other, of which one has an `Rc`; a field that holds an associated type, beside one of the type that has it.
+pub struct Near { next: Option<Box<Far>>, own: u8 }
+pub struct Far { all: Vec<Near>, count: std::rc::Rc<u8> }
+pub trait Backend { type Conn; }
+pub struct Local;
+impl Backend for Local { type Conn = std::rc::Rc<u8>; }
+pub struct Cache<B: Backend> { backend: B, conns: Vec<B::Conn> }
+pub struct Here { next: Option<Box<There>>, count: std::rc::Rc<u8> }
+pub struct There { all: Vec<Here>, own: u8 }
