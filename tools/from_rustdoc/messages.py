@@ -3,6 +3,7 @@ from __future__ import annotations
 
 import json
 import os
+import re
 import sys
 from dataclasses import dataclass, field
 from typing import Any, Iterable, Optional, TextIO
@@ -16,7 +17,8 @@ WORDS = {"breaking": ("error", BAD), "not coherent": ("error", BAD), "not as exp
 
 
 # What users read for words of the inside; those stand in JSON, and in what `--verbose` prints.
-PLAIN = (("by law", "certain"), ("argued: ", "not proved: "), ("the question has unknowns", "the question has variables"), ("both texts leave open what the unknowns stand for", "it depends on what the variables are"),
+PLAIN = (("by law", "certain"), ("argued: ", "not proved: "), ("the question has unknowns", "the question has variables"),
+         ("both texts leave open what the unknowns stand for", "it depends on what the variables are"),
          ("a clause on an associated type is asked as a pattern", "a bound on an associated type was written in another form"),
          ("the question leads to chains without end", "the goals that it leads to have no end"), ("the text cannot say the question", "it cannot be asked"),
          ("the upper text has a proof, the lower one none", "it rests on a part that was left out"), ("neither text has a proof", "there is no proof"),
@@ -26,7 +28,9 @@ PLAIN = (("by law", "certain"), ("argued: ", "not proved: "), ("the question has
 def plain(text: str) -> str:
     for inside, words in PLAIN:
         text = text.replace(inside, words)
-    return text
+    text = re.sub(r"the upper text says [a-z ]+, the lower one [a-z ]+", "a part that was left out may count", text)
+    # (The header is there already.)
+    return re.sub(r"` \(std: .*\) is written$", "` is written", text)
 
 
 @dataclass

@@ -48,7 +48,8 @@ class Names:
         self.world = world
         editions = world.links.editions if world.links else {}
         used = {other for uses in world.uses.values() for other in uses}
-        self.own = [c for c in world.crates if c in editions] or [c for c in world.crates if c not in used]
+        # (Where cargo has not said which are the own ones, those that no other uses.)
+        self.own = [crate for crate in world.crates if (crate in editions if editions else crate not in used)]
         self.prelude = prelude(max((editions.get(c, "") for c in self.own), default=""))
         self.known = paths_of(KNOWN) | {name: path for name, path in prelude("").items() if name not in self.prelude}
 

@@ -10,8 +10,8 @@ from typing import Iterator, Optional
 
 from .html_docs import Pages, is_std_key, kind_and_name, rust_crate_of
 from .headers import NotUnderstood, Reader
-from .terms import (ANY_HEAD, FUNCTIONS, Array, Bound, Declaration, Function, Impl, Named, Param, Parameter, Predicate, Primitive, Reference, Slice, Tuple, Type,
-                    head_of, parameters_of, put, put_bound, rebuilt, rebuilt_bound, walk)
+from .terms import (ANY_HEAD, FUNCTIONS, Array, Bound, Declaration, Function, Impl, Named, Param, Parameter, Predicate, Primitive, Reference, Slice, Tuple,
+                    Type, head_of, parameters_of, put, put_bound, rebuilt, rebuilt_bound, walk)
 
 # Of core and alloc one crate is made: core's impls reason about alloc's types by negative impls, which a text has not.
 HOMES = {"core": "alloc", "alloc": "alloc"}

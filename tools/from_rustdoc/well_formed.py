@@ -4,7 +4,8 @@ from __future__ import annotations
 from typing import Iterable, Optional
 
 from .show import Show
-from .terms import (Alias, BadInput, Bound, BoundsOf, Constant, Declaration, Dyn, Lossy, Named, Predicate, Projection, Type, Unsayable, argument_values, put_bound, walk)
+from .terms import (Alias, BadInput, Bound, BoundsOf, Constant, Declaration, Dyn, Lossy, Named, Predicate, Projection, Type, Unsayable,
+                    argument_values, put_bound, walk)
 from .world import World
 
 MAXIMAL_DEPTH = 8
@@ -70,7 +71,8 @@ class Fitting:
         least = sum(p.kind == "type" and p.default is None for p in params)
         needs = counted(types, "type") if least == types else f"{least} to {counted(types, 'type')}"
         more = f" and {counted(consts, 'constant')}" if consts else ""
-        raise BadInput(f"`{self.show.path(declaration.key)}` takes {needs}{more}, and {counted(len(arguments), 'argument')} {'is' if len(arguments) == 1 else 'are'} written")
+        written = f"{counted(len(arguments), 'argument')} {'is' if len(arguments) == 1 else 'are'} written"
+        raise BadInput(f"`{self.show.path(declaration.key)}` takes {needs}{more}, and {written}")
 
     def has(self, bound: Bound, name: str) -> None:
         known = self.associated(bound, 0)

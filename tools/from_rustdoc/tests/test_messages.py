@@ -58,6 +58,9 @@ class Wrong(unittest.TestCase):
 class Plain(unittest.TestCase):
     def test_words_of_the_inside_are_not_for_people(self) -> None:
         self.assertEqual(plain("argued: the question has unknowns"), "not proved: the question has variables")
+        self.assertEqual(plain("argued: `impl<T> !Send for Rc<T>` (std: impl<T: ?Sized> !Send for Rc<T>) is written"),
+                         "not proved: `impl<T> !Send for Rc<T>` is written")
+        self.assertEqual(plain("the upper text says unproved, the lower one unproved"), "a part that was left out may count")
         self.assertEqual(plain("a.rs:1: impl T for S: header: an unsafe fn: a fresh parameter stands for it"), "a.rs:1: impl T for S: an unsafe fn")
 
     @unittest.skipUnless(proved_program("celtisdarts_explain"), "there is no proved program that explains")

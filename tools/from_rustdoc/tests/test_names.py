@@ -88,6 +88,13 @@ class Preludes(unittest.TestCase):
             self.assertEqual([n for n in ("TryFrom", "Future") if n in names.prelude], known)
             self.assertEqual([n for n in ("TryFrom", "Future") if n not in names.known], known)
 
+    def test_which_crates_are_the_own_ones_cargo_says(self) -> None:
+        found = world("ab", "names")
+        for editions, own in (({}, ["names"]), ({"names": "2021"}, ["names"]), ({"ab": "2021"}, ["ab"]), ({"probe": "2021"}, [])):
+            found.links = Links(editions=editions)
+            self.assertEqual(Names(found).own, own)
+        self.assertEqual(Names(found).key(["Vec"]).split("@")[1], "struct.Vec")
+
     @unittest.skipIf(no_docs(), no_docs())
     def test_they_have_what_std_exports_there(self) -> None:
         pages = Pages(docs_folder(None))
