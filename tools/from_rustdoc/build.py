@@ -14,7 +14,7 @@ from .project import APPLY, WRAP
 from .render import ALWAYS, FIELD, MAXIMAL_ITEMS, Renderer, Scope, names_of
 from .split import split
 from .standard import FN_TRAITS, Header, Standard
-from .terms import (FUNCTION_STRUCTS, FUNCTIONS, Array, Bound, Declaration, Impl, Lossy, Named, Never, Parameter, Pointer, Primitive, Reference, Type, keys_of)
+from .terms import (FUNCTION_STRUCTS, Array, Bound, Declaration, Impl, Lossy, Named, Never, Parameter, Pointer, Primitive, Reference, Type, keys_of)
 from .world import STD_TEXTS, World, crate_name
 
 if TYPE_CHECKING:
@@ -433,18 +433,17 @@ class Translation:
             yield Piece(line, line, "built in", True)
 
     def all_fn_lines(self, declaration: Declaration) -> Iterator[str]:
-        """The impls of a trait of functions for the fn pointers that occur. One that is unsafe can be called by no such trait."""
+        """The impls of a trait of functions for the fn pointers that occur. Those that are unsafe or foreign have `FnPtr` alone."""
         for count in range(MAXIMAL_ITEMS + 1):
             if self.whole_std or f"fn:{count}" in self.leaves:
                 yield from self.fn_lines(declaration, count)
-            for how, name in FUNCTIONS.items():
-                if name in self.renderer.special and f"fn:{count}:{how}" in self.leaves and ("unsafe" not in how or declaration.name == "FnPtr"):
-                    yield from self.fn_lines(declaration, count, name)
+        if declaration.name == "FnPtr":
+            yield from (f"impl<I, R> {self.world.name(declaration)} for {name}<I, R>" for name in FUNCTION_STRUCTS if name in self.renderer.special)
 
-    def fn_lines(self, declaration: Declaration, count: int, struct: str = "") -> list[str]:
+    def fn_lines(self, declaration: Declaration, count: int) -> list[str]:
         names = [f"A{n}" for n in range(count)]
         inputs = f"({names[0]},)" if count == 1 else f"({', '.join(names)})"
-        params, function = f"<{', '.join(names + ['R'])}>", f"{struct}<{inputs}, R>" if struct else f"fn({', '.join(names)}) -> R"
+        params, function = f"<{', '.join(names + ['R'])}>", f"fn({', '.join(names)}) -> R"
         trait = self.world.name(declaration)
         lines = [f"impl{params} {trait}{'' if declaration.name == 'FnPtr' else f'<{inputs}>'} for {function}"]
         if (declaration.key, "Output") in self.renderer.companions:
