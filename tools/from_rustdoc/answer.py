@@ -4,13 +4,14 @@ from __future__ import annotations
 from dataclasses import replace
 from typing import Iterator, Optional
 
+from .back import Askable
 from .build import Translation
 from .cone import MOST, Chosen, cone_of_questions
 from .questions import OWN, Asker, Question, QuestionWriter, TooSmall, Verdict, joined, terms_of
 from .reach import Reference_
 from .render import Scope, names_of
 from .show import Show
-from .terms import Bound, BoundsOf, Lossy, Parameter, Projection, Type, Unknown, parts, rebuilt, rebuilt_bound
+from .terms import Bound, BoundsOf, Lossy, Param, Parameter, Projection, Type, Unknown, parts, put, rebuilt, rebuilt_bound, walk
 from .world import World
 
 MAXIMAL_STEPS = 20
@@ -24,9 +25,32 @@ class Answerer:
 
     def answer(self, question: Question) -> Verdict:
         try:
-            return joined(question, [self.by_values(one) for one in self.divided(question)])
+            verdict = joined(question, [self.by_values(one) for one in self.divided(question)])
+            if verdict.word == "maybe":
+                return self.of_each(question) or verdict
+            other = self.other_value(question) if verdict.word in ("no", "unproved") else ""
+            return replace(verdict, because=other, is_explained=False) if other else verdict
         except Lossy as error:
             return Verdict(question, "not settled", f"the text cannot say the question: {error}")
+
+    def of_each(self, question: Question) -> Optional[Verdict]:
+        """A yes where the bound holds whatever the variables of its subject are: they are parameters then."""
+        of_bound = {part.name for term in terms_of(replace(question.bound, constraints=())) for part in walk(term) if isinstance(part, Unknown)}
+        names = {part.name for part in walk(question.subject) if isinstance(part, Unknown)} - of_bound - {param.name for param in question.params}
+        if not names or question.predicates:
+            return None
+
+        def changed(term: Type) -> Type:
+            return Parameter(term.name) if isinstance(term, Unknown) and term.name in names else rebuilt(term, changed)
+
+        general = replace(question, subject=changed(question.subject), bound=rebuilt_bound(question.bound, changed), lines=[], names={},
+                          params=[*question.params, *(Param("type", name) for name in sorted(names))])
+        verdict = joined(general, [self.by_values(one) for one in self.divided(general)])
+        back: dict[str, Type] = {name: Unknown(name) for name in names}
+        found = {name: put(value, back) for name, value in verdict.found.items()}
+        show = Askable(self.world)
+        values = ", ".join(f"?{name} = {show.type(value)}" for name, value in found.items())
+        return replace(verdict, question=question, found=found, values=values) if verdict.word == "yes" else None
 
     def divided(self, question: Question) -> Iterator[Question]:
         """`X: Iterator<Item: Debug>` as `X: Iterator` and `<X as Iterator>::Item: Debug`."""
@@ -41,17 +65,21 @@ class Answerer:
     def by_values(self, question: Question) -> Verdict:
         """The answer, with the values put in of the associated types that no where-clause names."""
         steps: list[Verdict] = []
+        because = ""
         for _ in range(MAXIMAL_STEPS):
             found = Values(self.world, question).unnamed()
             if found is None:
-                return joined(question, [*steps, self.by_part(question)])
+                verdict = joined(question, [*steps, self.by_part(question)])
+                return replace(verdict, because=because) if verdict.word in ("no", "unproved") else verdict
             place, scope = found
             verdict = self.by_part(self.of_value(question, place))
             if verdict.word != "yes":
-                return replace(verdict, question=question, basis=f"`{self.show.type(place.subject)}: {self.owner(place)}`: {verdict.basis}")
+                goal = f"`{self.show.type(place.subject)}: {self.owner(place)}`"
+                return replace(verdict, question=question, basis=f"{goal}: {verdict.basis}", because=f"{goal} does not hold")
             if OWN not in verdict.found:
                 raise Lossy(f"the value of `{self.show.type(place)}`")
             steps.append(replace(verdict, values="", found={}))
+            because = f"`{self.show.type(place)}` is `{Askable(self.world).type(verdict.found[OWN])}`"
             question = scope.put_in(question, place, verdict.found[OWN])
         raise Lossy("too many associated types")
 
@@ -60,6 +88,15 @@ class Answerer:
         assert place.bound is not None
         written = f"{self.show.type(place.subject)}: {self.owner(place)}<{place.name} = ?{OWN}>"
         return replace(question, written=written, subject=place.subject, bound=replace(place.bound, constraints=((place.name, Unknown(OWN)),)))
+
+    def other_value(self, question: Question) -> str:
+        """Where the bound fails by the value that it gives an associated type: which it has."""
+        for name, value in question.bound.constraints:
+            if not isinstance(value, BoundsOf) and not question.has_unknowns():
+                verdict = self.by_values(self.of_value(question, Projection(question.subject, replace(question.bound, constraints=()), name)))
+                if verdict.word == "yes" and verdict.found.get(OWN, value) != value:
+                    return f"its `{name}` is `{Askable(self.world).type(verdict.found[OWN])}`"
+        return ""
 
     def owner(self, place: Projection) -> str:
         assert place.bound is not None

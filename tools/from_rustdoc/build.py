@@ -14,7 +14,7 @@ from .project import APPLY, WRAP
 from .render import ALWAYS, FIELD, MAXIMAL_ITEMS, Renderer, Scope, names_of
 from .split import split
 from .standard import FN_TRAITS, Header, Standard
-from .terms import (Array, Bound, Declaration, Impl, Lossy, Named, Never, Parameter, Pointer, Primitive, Reference, Type, keys_of)
+from .terms import (FUNCTION_STRUCTS, Array, Bound, Declaration, Impl, Lossy, Named, Never, Parameter, Pointer, Primitive, Reference, Type, keys_of)
 from .world import STD_TEXTS, World, crate_name
 
 if TYPE_CHECKING:
@@ -399,7 +399,8 @@ class Translation:
         assert taken == set(lower)
 
     def specials(self) -> list[Piece]:
-        """`Never_`, which nothing has, and the structs that stand for references, pointers, floats and long tuples."""
+        """`Never_`, which nothing has, and the structs that stand for references, pointers, floats, long tuples, and unsafe or
+        foreign fns."""
         lines = ["fundamental trait Never_", f"fundamental trait {APPLY}<V>", f"struct {WRAP}<K>"]
         for name in self.renderer.special:
             if name in ALWAYS:
@@ -407,6 +408,8 @@ class Translation:
             elif name.startswith("Tuple"):
                 parts = [f"T{n}" for n in range(-(-int(name[5:-1]) // MAXIMAL_ITEMS))]
                 lines.append(f"struct {name}<{', '.join(parts)}>({', '.join(parts)}, ())")
+            elif name in FUNCTION_STRUCTS:
+                lines.append(f"struct {name}<I, R>")
             else:
                 lines.append(f"struct {name}")
         return [Piece(Line(text, "item"), Line(text, "item"), "built in") for text in lines]
@@ -419,14 +422,23 @@ class Translation:
                 parts = [f"T{n}" for n in range(-(-int(name[5:-1]) // MAXIMAL_ITEMS))]
                 for trait in ("Clone", "Copy"):
                     lines.append(f"impl<{', '.join(parts)}> {trait} for {name}<{', '.join(parts)}> where " + ", ".join(f"{p}: {trait}" for p in parts))
+        for name in self.renderer.special:
+            if name in FUNCTION_STRUCTS:
+                lines += [f"impl<I, R> {trait} for {name}<I, R>" for trait in ("Clone", "Copy")]
         for declaration in self.renderer.traits.values():
             if is_std_key(declaration.key) and declaration.name in FN_TRAITS + ("FnPtr",):
-                for count in range(MAXIMAL_ITEMS + 1):
-                    if self.whole_std or f"fn:{count}" in self.leaves:
-                        lines += self.fn_lines(declaration, count)
+                lines += self.all_fn_lines(declaration)
         for text in lines:
             line = Line(text)
             yield Piece(line, line, "built in", True)
+
+    def all_fn_lines(self, declaration: Declaration) -> Iterator[str]:
+        """The impls of a trait of functions for the fn pointers that occur. Those that are unsafe or foreign have `FnPtr` alone."""
+        for count in range(MAXIMAL_ITEMS + 1):
+            if self.whole_std or f"fn:{count}" in self.leaves:
+                yield from self.fn_lines(declaration, count)
+        if declaration.name == "FnPtr":
+            yield from (f"impl<I, R> {self.world.name(declaration)} for {name}<I, R>" for name in FUNCTION_STRUCTS if name in self.renderer.special)
 
     def fn_lines(self, declaration: Declaration, count: int) -> list[str]:
         names = [f"A{n}" for n in range(count)]

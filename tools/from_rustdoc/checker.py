@@ -12,9 +12,9 @@ from typing import Callable, Iterator, Optional
 from .build import Piece, Translation
 from .headers import FLOATS
 from .html_docs import is_std_key
-from .render import is_packed, is_sizedness, names_of, packed
+from .render import FIELD, Scope, is_packed, is_sizedness, names_of, packed
 from .standard import FN_TRAITS
-from .terms import (Alias, Array, Bound, BoundsOf, Constant, Declaration, Dyn, Form, Function, Impl, Lossy, Named, Never, Parameter, Part, Pointer,
+from .terms import (FUNCTIONS, Alias, Array, Bound, BoundsOf, Constant, Declaration, Dyn, Form, Function, Impl, Lossy, Named, Never, Parameter, Part, Pointer,
                     Predicate, Primitive, Projection, Reference, Slice, Tuple, Type, Unsayable, argument_values, parts, put, walk)
 from .text_form import Text, TextLine, read_text
 from .unfold import Unfolder
@@ -134,6 +134,8 @@ class Checker:
         if is_cut:
             if not line.fields:
                 self.complain(mode, line, "the last field is dropped")
+            elif mode == "lower" and line.fields[-1] == Tuple(()) and self.ends_with_unsized_value(declaration):
+                self.complain(mode, line, "sized, where its last field is an associated type that may be unsized")
             return
         extra = 1 if declaration.is_enum and declaration.fields else 0
         if len(line.fields) != len(declaration.fields) + extra:
@@ -143,6 +145,17 @@ class Checker:
         for written, real in zip(line.fields, declaration.fields):
             if not self.matches(written, real, names, set(), in_field=True):
                 self.complain(mode, line, "a field that is not the crate's")
+
+    def ends_with_unsized_value(self, declaration: Declaration) -> bool:
+        """Whether the last field is an associated type that is not said to be sized."""
+        last = declaration.fields[-1] if declaration.fields and not declaration.is_enum else None
+        if not isinstance(last, Projection):
+            return False
+        try:
+            owner = self.renderer.owner(last, Scope(FIELD, names_of(declaration.params), predicates=declaration.predicates))
+            return any(is_sizedness(bound) for bound in self.world.get(owner.key).item_bounds.get(last.name, []))
+        except Lossy:
+            return True
 
     # ---- auto traits
     def auto_impl_of_cut(self, mode: str, line: TextLine, piece: Piece) -> None:
@@ -374,10 +387,12 @@ class Checker:
                     chunks = tuple(Tuple(items[n:n + 12]) for n in range(0, len(items), 12))
                     return isinstance(written, Named) and written.key == f"Tuple{len(items)}_" and all_inside(written.arguments, chunks)
                 return isinstance(written, Tuple) and all_inside(written.items, items)
-            case Function(inputs, output, plain):
+            case Function(inputs, output, how):
                 if in_field:
                     return written == Function((), Tuple(()))
-                return plain and isinstance(written, Function) and all_inside(written.inputs, inputs) and inside(written.output, output)
+                if how:
+                    return isinstance(written, Named) and written.key == FUNCTIONS.get(how) and all_inside(written.arguments, (Tuple(inputs), output))
+                return isinstance(written, Function) and all_inside(written.inputs, inputs) and inside(written.output, output)
             case Dyn(bounds) if isinstance(written, Named):
                 return self.is_shape(written, bounds, inside)
             case Dyn(bounds):

@@ -39,12 +39,13 @@ USAGE = """from-rustdoc: a translator of crates to texts for this program, and o
   from-rustdoc later --baseline REV|FOLDER [PROJECT]     the same of a project and its older version
   from-rustdoc std -o FILE                               the part of std that people name, as a text to stand in front of others
 
-ask: --expect yes|no (another answer is status 1), --why (the proof too, where there is one).
+ask: --expect yes|no|maybe (another answer is status 1), --why (the proof too, where there is one).
 later: --strict (status 4 if something that changed is not judged), --private (private and sealed impls too), -p NAME (this library alone),
 --no-build-scripts (refuses an older version that runs some, or procedural macros, of its own), --with CRATE.json (crates that both files use).
 All: --message-format human|json, --docs DIR (std's documents), --program FILE and --program-that-explains FILE (default: the proved ones
 that are here), --metadata FILE (what `cargo metadata --format-version 1` printed; read and later), --all-std (read: all of std that is about
-the traits that are named), --jobs N (processes of a project's check), --quiet.
+the traits that are named), --jobs N (processes of a project's check), --quiet,
+--verbose (what answers rest on, in the words of docs/RUSTDOC.md).
 
 Status: 0 fine, 1 not coherent, breaking or not as expected, 4 not settled or a changed bound, 3 no answer, 2 the words are not understood."""
 USAGE_OF_CARGO = """cargo celtisdarts: real crates, judged by Celtisdarts. It documents the project that stands here, and takes all flags of tools/from-rustdoc.
@@ -197,7 +198,7 @@ def check(arguments: argparse.Namespace) -> int:
 def output_of(arguments: argparse.Namespace, inputs: dict[str, Any]) -> Output:
     """Standard output, with the sources that places name."""
     folders = [inputs["links"]["root"]] if inputs["links"]["root"] else [os.path.dirname(file) for file in inputs["json"]]
-    return Output(Sources({"": folders}), arguments.message_format == "json")
+    return Output(Sources({"": folders}), arguments.message_format == "json", is_verbose=arguments.verbose)
 
 
 def ask(arguments: argparse.Namespace) -> int:
@@ -316,6 +317,7 @@ def parser(prog: str = "from-rustdoc") -> argparse.ArgumentParser:
     common.add_argument("--program")
     common.add_argument("--program-that-explains")
     common.add_argument("--quiet", action="store_true")
+    common.add_argument("--verbose", action="store_true")
     common.add_argument("--message-format", choices=("human", "json"), default="human")
     common.add_argument("--jobs", type=int, default=os.cpu_count() or 1)
     top = argparse.ArgumentParser(prog=prog, usage=USAGE, add_help=True, allow_abbrev=False)
@@ -330,7 +332,7 @@ def parser(prog: str = "from-rustdoc") -> argparse.ArgumentParser:
     two.add_argument("base")
     three = commands.add_parser("ask", parents=[common], usage=USAGE, allow_abbrev=False)
     three.add_argument("--project")
-    three.add_argument("--expect", choices=("yes", "no"))
+    three.add_argument("--expect", choices=("yes", "no", "maybe"))
     three.add_argument("--why", action="store_true")
     three.add_argument("words", nargs="+")
     four = commands.add_parser("later", parents=[common], usage=USAGE, allow_abbrev=False)
@@ -372,7 +374,12 @@ def main(words: list[str]) -> int:
     words, extra = divided(words)
     if words and words[0] not in ("read", "check", "ask", "later", "std", "project") and os.path.isdir(words[0]):
         words = ["project", *words]
-    return guarded("from-rustdoc", lambda: run_command(parser().parse_args(words), extra))
+    return guarded("from-rustdoc", lambda: run_command(parser().parse_args(words), extra), wants_json(words))
+
+
+def wants_json(words: list[str]) -> bool:
+    """Whether messages are JSON, by the words alone: so that what goes wrong anywhere has a line."""
+    return "--message-format=json" in words or ("--message-format", "json") in zip(words, words[1:])
 
 
 def main_of_cargo(words: list[str]) -> int:
@@ -388,7 +395,7 @@ def main_of_cargo(words: list[str]) -> int:
     if not words or words[0] not in ("check", "ask", "later"):
         print(USAGE_OF_CARGO, file=sys.stderr if words[:1] != ["--help"] else sys.stdout)
         return 0 if words[:1] == ["--help"] else 2
-    return guarded("cargo celtisdarts", lambda: run_in_project(words, folder, extra))
+    return guarded("cargo celtisdarts", lambda: run_in_project(words, folder, extra), wants_json(words))
 
 
 def run_in_project(words: list[str], folder: str, extra: list[str]) -> int:
@@ -400,7 +407,7 @@ def run_in_project(words: list[str], folder: str, extra: list[str]) -> int:
     return run_command(arguments, extra)
 
 
-def guarded(name: str, run_it: Callable[[], int]) -> int:
+def guarded(name: str, run_it: Callable[[], int], is_json: bool = False) -> int:
     """The command's status. Whatever goes wrong ends with a line and the status of no answer, so that none is taken for an answer."""
     sys.setrecursionlimit(20000)
     try:
@@ -424,4 +431,6 @@ def guarded(name: str, run_it: Callable[[], int]) -> int:
         last = traceback.extract_tb(error.__traceback__)[-1]
         complaint = f"a mistake of the translator: {type(error).__name__}: {' '.join(str(error).split())} ({os.path.basename(last.filename)}:{last.lineno})"
     print(f"{name}: {complaint}", file=sys.stderr)
+    if is_json:
+        Output(is_json=True).message(Message(complaint, "no-answer", "no answer"))
     return NO_ANSWER

@@ -25,8 +25,12 @@ it sees whether they have a common instance, and then whether a clause of the tw
 have a common instance with one of them, and the cone of their clauses, with unknowns for parameters that the instance leaves open.
 
 Where the subject is an unknown that no question wrote, impls that name an item which no line of the cone names are left out: an unknown is
-found out by matching lines of the cone, so it becomes a type of their names. A question that writes `?x` leaves none out. Terms that are more
-than `DEEPEST` deep, and traits of which more than `MANY` references are asked, are taken as unknowns.
+found out by matching lines of the cone, so it becomes a type of their names. Terms that are more than `DEEPEST` deep, and traits of which more
+than `MANY` references are asked, are taken as unknowns.
+
+A variable `?x` that a question writes is *free* if nothing that is asked can find out what it is: no header, and no built-in rule, has more than a
+parameter where it stands. A goal whose self type is a variable is undecided, whatever impls there are, so nothing is looked for behind
+`?x: Trait` of a free one. With one that is not free no impl is left out, and a part that grows beyond `MOST_OPEN` is given up at once.
 """
 from __future__ import annotations
 
@@ -41,10 +45,11 @@ from .headers import FLOATS, Named_, NotUnderstood, Reader
 from .html_docs import is_std_key
 from .impls import Written
 from .project import APPLY, WRAP
-from .questions import Question, QuestionWriter
+from .questions import OWN, Question, QuestionWriter, terms_of
 from .reach import Reach, Reacher, Reference_, bind
 from .render import FIELD, THEN, Scope, as_arguments, is_packed, names_of, params_text
-from .terms import UNIT, Declaration, Dyn, Function, Impl, Lossy, Named, Param, Tuple, Type, Unknown, head_of, keys_of, parts, put, rebuilt, walk
+from .terms import (FUNCTION_STRUCTS, UNIT, Array, Constant, Declaration, Dyn, Impl, Lossy, Named, Param, Parameter, Tuple, Type, Unknown, head_of,
+                    keys_of, leaf_of, parts, put, rebuilt, walk)
 from .text_form import Text, TextLine
 from .world import CORE_NAMES, World, crate_name
 
@@ -52,8 +57,8 @@ ANY = Unknown("_")
 DEEPEST, ROUNDS = 12, 12
 # How many references of a trait, or of a pattern, are told apart.
 MANY = 400
-# How many references, and impls, are looked at.
-MOST = 20000
+# How many references are looked at, and how many lines where a variable is not free.
+MOST, MOST_OPEN = 20000, 1000
 SPECIAL_HEADS = {"Ref_": "&", "RefMut_": "&mut", "PtrConst_": "*const", "PtrMut_": "*mut"}
 
 
@@ -64,11 +69,12 @@ class TooLarge(Lossy):
 @dataclass
 class Chosen:
     """What a cone holds: impls, in which order does not matter, by identity; `asked` are the structs by name with the auto traits that are
-    asked of them; `leaves` the built-in types; `references` all that the cone was closed over."""
+    asked of them; `leaves` the built-in types; `references` all that the cone was closed over; `free` the free variables."""
     impls: dict[int, Impl] = field(default_factory=dict)
     asked: set[tuple[str, str]] = field(default_factory=set)
     leaves: set[str] = field(default_factory=set)
     references: set[Reference_] = field(default_factory=set)
+    free: frozenset[str] = frozenset()
 
     def covers(self, reference: Reference_, is_auto: bool = False) -> bool:
         """Whether the closure holds the reference, as it is or as an unknown stands for parts of it. Of an auto trait the type has to have been
@@ -130,24 +136,55 @@ def widest(arguments: tuple[Type, ...]) -> tuple[Type, ...]:
     return tuple(map(widened, arguments))
 
 
-class Cone(Reacher):
-    """`view` are the crates that are seen. Lines are those that `translation` writes, which is no more than a place for names. With
-    `is_open` an unknown may be a type that is named nowhere in the text: the asker wrote it."""
+def leaves_of_functions(term: Type) -> Iterator[str]:
+    """The fn pointers for which structs of the text stand in a term."""
+    for part in walk(term):
+        if isinstance(part, Named) and part.key in FUNCTION_STRUCTS and isinstance(part.arguments[0], Tuple):
+            yield leaf_of(part.arguments[0].items, FUNCTION_STRUCTS[part.key])
 
-    def __init__(self, translation: Translation, view: set[str], is_open: bool = False) -> None:
-        super().__init__(Text(), [])
+
+def unknowns_of(term: Type) -> set[str]:
+    """The names of the unknowns in a type, also of those that stand for constants."""
+    return {part.name for part in walk(term) if isinstance(part, Unknown)} | {name for part in walk(term) for name in re.findall(r"\?(\w+)", constant_of(part))}
+
+
+def constant_of(term: Type) -> str:
+    return term.length if isinstance(term, Array) else term.text if isinstance(term, Constant) else ""
+
+
+def found_out(pattern: Type, term: Type, params: set[str], values: dict[str, Type]) -> set[str]:
+    """The unknowns in a term that may become known where it is an instance of the pattern: those that stand where the pattern has more than a
+    parameter, and those of a parameter that stands for different terms."""
+    if isinstance(pattern, Parameter) and pattern.name in params:
+        known = values.setdefault(pattern.name, term)
+        return set() if known == term else unknowns_of(known) | unknowns_of(term)
+    left, right = parts(pattern), parts(term)
+    if isinstance(term, (Unknown, Dyn)) or len(left) != len(right):
+        return unknowns_of(term)
+    constants = unknowns_of(Constant(constant_of(term))) if constant_of(pattern) not in params else set()
+    return constants.union(*(found_out(l, r, params, values) for l, r in zip(left, right)))
+
+
+class Cone(Reacher):
+    """`view` are the crates that are seen. Lines are those that `translation` writes, which is no more than a place for names. `free` are the
+    variables of the question that are taken for free ones; `bound` gets those that are not. With `is_open` an unknown may be a type that is
+    named nowhere in the text: the asker wrote it."""
+
+    def __init__(self, translation: Translation, view: set[str], is_open: bool = False, free: frozenset[str] = frozenset()) -> None:
+        super().__init__(Text(), [], free)
         self.is_open = is_open
+        self.bound: set[str] = set()
+        self.looked_at = 0
         self.translation = translation
         self.world: World = translation.world
         self.renderer = translation.renderer
         self.standard = translation.standard
         self.view = view
-        self.chosen = Chosen()
+        self.chosen = Chosen(free=free)
         self.lines: dict[int, list[TextLine]] = {}
         self.traits: dict[str, Optional[TextLine]] = {}
         self.per_trait: dict[tuple[str, str], int] = {}
         self.meanings: dict[str, TextLine] = {}
-        self.of_functions: dict[tuple[str, int], list[TextLine]] = {}
         self.declarer = Declarer(translation.impl_writer.projector, [])
         self.assumed: list[tuple[str, Type, list[Type]]] = []
 
@@ -161,7 +198,7 @@ class Cone(Reacher):
             return "struct" if name == "Box" else "trait", name, name
         if name in self.renderer.further or name in ("Never_", APPLY):
             return "trait", name, name
-        if name in SPECIAL_HEADS or name in FLOATS or name == WRAP or (name.startswith("Tuple") and name.endswith("_")):
+        if name in SPECIAL_HEADS or name in FUNCTION_STRUCTS or name in FLOATS or name == WRAP or (name.startswith("Tuple") and name.endswith("_")):
             return "struct", name, name
         return "word", None, name
 
@@ -242,6 +279,8 @@ class Cone(Reacher):
             return SPECIAL_HEADS[term.key]
         if term.key in FLOATS:
             return "prim:" + term.key
+        if term.key in FUNCTION_STRUCTS:
+            return next(leaves_of_functions(term), None)
         if self.world.named.get(term.key, "") in self.world.shape_of_key:
             return "dyn"
         if term.key.startswith("Tuple") and term.key not in self.world.named:
@@ -305,12 +344,15 @@ class Cone(Reacher):
         return widest(arguments)
 
     def mark(self, term: Type) -> None:
-        leaves = {key for key in keys_of(term) if key.startswith(("prim:", "tuple:", "fn:"))}
+        leaves = {key for key in keys_of(term) if key.startswith(("prim:", "tuple:", "fn:"))}.union(leaves_of_functions(term))
         self.chosen.leaves |= leaves
         self.translation.mark(leaves)
 
     def children(self, reference: Reference_, found: Reach) -> list[Reference_]:
         trait, arguments = reference
+        if self.is_free(arguments[0]):
+            return []
+        self.bound_by_rules(trait, arguments)
         if trait == APPLY:
             return self.by_meaning(reference)
         children: list[Reference_] = []
@@ -335,6 +377,11 @@ class Cone(Reacher):
             children.append(("Sized", (arguments[0].output,)))
         return children
 
+    def bound_by_rules(self, trait: str, arguments: tuple[Type, ...]) -> None:
+        """Built-in rules that may find a variable out: of `Unsize`, of fn pointers, of a `dyn`."""
+        if self.free and (trait in ("Unsize", "Fn", "FnMut", "FnOnce") or any(isinstance(part, Dyn) for part in walk(arguments[0]))):
+            self.bound |= self.free & set().union(*map(unknowns_of, arguments))
+
     def by_impl(self, impl: Impl, reference: Reference_) -> list[Reference_]:
         """The premises of an impl's lines that may conclude the reference; with one of them the impl is chosen."""
         trait, arguments = reference
@@ -350,16 +397,20 @@ class Cone(Reacher):
                 children += found
         return children
 
-    @staticmethod
-    def by_line(line: TextLine, reference: Reference_) -> Optional[list[Reference_]]:
+    def by_line(self, line: TextLine, reference: Reference_) -> Optional[list[Reference_]]:
         """The premises of a line by which the reference may be concluded; None where it may not."""
         trait, arguments = reference
         assert line.trait is not None
-        pattern = (line.self_type, *line.trait.arguments)
+        pattern, params = (line.self_type, *line.trait.arguments), {x.name for x in line.params}
         values: dict[str, Type] = {}
-        if line.trait.key != trait or len(pattern) != len(arguments) or not all(
-                bind(p, a, {x.name for x in line.params}, values) for p, a in zip(pattern, arguments)):
+        self.looked_at += self.is_open
+        if self.looked_at > MOST_OPEN:
+            raise TooLarge("too many impls may matter for what its variables stand for: write more of the types")
+        if line.trait.key != trait or len(pattern) != len(arguments) or not all(bind(p, a, params, values) for p, a in zip(pattern, arguments)):
             return None
+        if self.free:
+            firsts: dict[str, Type] = {}
+            self.bound |= self.free & set().union(*(found_out(p, a, params, firsts) for p, a in zip(pattern, arguments)))
         return [(b.key, (put(s, values), *(put(a, values) for a in b.arguments))) for s, b in line.clauses]
 
     # ---- patterns
@@ -380,14 +431,10 @@ class Cone(Reacher):
         """What fn pointers ask: that a pattern holds of their output."""
         subject = reference[1][0]
         children: list[Reference_] = []
-        if not self.renderer.is_fn_trait(trait) or not isinstance(subject, (Function, Unknown)):
+        if not self.renderer.is_fn_trait(trait):
             return children
-        counts = [len(subject.inputs)] if isinstance(subject, Function) else [n for n in range(13) if f"fn:{n}" in self.translation.leaves]
-        for count in counts:
-            if (reference[0], count) not in self.of_functions:
-                self.of_functions[(reference[0], count)] = [self.parsed(text) for text in self.translation.fn_lines(trait, count)]
-            for line in self.of_functions[(reference[0], count)]:
-                children += self.by_line(line, reference) or []
+        for text in self.translation.all_fn_lines(trait):
+            children += self.by_line(self.parsed(text), reference) or []
         return children
 
     def by_assumed(self, reference: Reference_) -> list[Reference_]:
@@ -486,17 +533,39 @@ def view_of(world: World, crate: str) -> set[str]:
 
 def cone_of_questions(world: World, questions: list[Question], further: Sequence[Reference_] = ()) -> Translation:
     """The part of the crates that answers the questions and the further references, not yet built."""
-    scratch = Translation(world, cone=Chosen())
-    scratch.roots = [root for question in questions for root in question.roots()]
-    scratch.begin()
+    free = free_variables(questions)
+    while True:
+        scratch = Translation(world, cone=Chosen())
+        scratch.roots = [root for question in questions for root in question.roots()]
+        scratch.begin()
+        chosen, bound = closed(scratch, questions, further, free)
+        if not bound:
+            break
+        free -= bound
+    found = Translation(world, cone=chosen)
+    found.roots = scratch.roots
+    found.keep = {crate_name(question.of_crate) for question in questions}
+    return found
+
+
+def free_variables(questions: list[Question]) -> frozenset[str]:
+    """The variables that may be free: those of one question that stand in its subject alone, where it has no clauses by which they may be found out."""
+    if len(questions) != 1 or questions[0].params or questions[0].predicates:
+        return frozenset()
+    others = set().union(*map(unknowns_of, terms_of(questions[0].bound)))
+    return frozenset(unknowns_of(questions[0].subject) - others - {OWN})
+
+
+def closed(scratch: Translation, questions: list[Question], further: Sequence[Reference_], free: frozenset[str]) -> tuple[Chosen, set[str]]:
+    """What is chosen for the questions, and which variables are not free."""
     chosen = Chosen()
-    is_open = any(question.has_unknowns() for question in questions)
+    is_open = any(question.has_unknowns() and unknowns_in(question) - free for question in questions)
     lines: Lines = Lines(scratch)
     for _ in range(ROUNDS):
         scratch.renderer.grew = False
         seeds: list[Reference_] = []
         view: set[str] = set()
-        cone = Cone(scratch, view, is_open)
+        cone = Cone(scratch, view, is_open, free)
         cone.lines = lines.kept()
         writer = QuestionWriter(scratch)
         for question in questions:
@@ -504,16 +573,17 @@ def cone_of_questions(world: World, questions: list[Question], further: Sequence
                 writer.write(question)
             except Lossy:
                 continue
-            view |= view_of(world, question.of_crate)
+            view |= view_of(scratch.world, question.of_crate)
             seeds += [reference for asked in question.lines for reference in references_of(cone, asked.prove)]
         cone.close([*seeds, *further])
         chosen = cone.chosen
-        if not scratch.renderer.grew:
-            break
-    found = Translation(world, cone=chosen)
-    found.roots = scratch.roots
-    found.keep = {crate_name(question.of_crate) for question in questions}
-    return found
+        if cone.bound or not scratch.renderer.grew:
+            return chosen, cone.bound
+    return chosen, set()
+
+
+def unknowns_in(question: Question) -> set[str]:
+    return set().union(*(unknowns_of(term) for root in question.roots() for term in terms_of(root)))
 
 
 def references_of(cone: Cone, prove: str) -> list[Reference_]:

@@ -14,18 +14,21 @@ from typing import Optional
 from .html_docs import is_std_key
 from .impls import Line
 from .project import Goal, Projector
-from .render import CLAUSE, FIELD, MAXIMAL_CLAUSES, NEVER, Renderer, Scope, as_arguments, bracketed, is_packed, names_of, param_name, params_text, text_params
-from .terms import (Array, Declaration, Function, Lossy, Named, Never, Pointer, Primitive, Reference, Tuple, Type, parameters_of)
+from .render import (CLAUSE, FIELD, MAXIMAL_CLAUSES, NEVER, Renderer, Scope, as_arguments, bracketed, is_packed, is_sizedness, names_of, param_name,
+                     params_text, text_params)
+from .terms import (Array, Declaration, Function, Lossy, Named, Never, Pointer, Primitive, Projection, Reference, Tuple, Type, parameters_of)
 
 MAXIMAL_FIELDS = 64
 
 
 @dataclass
 class Cut:
-    """A struct that is written without its fields, and why. `tail_unsure`: whether it is sized is not known."""
+    """A struct that is written without its fields, and why. `tail_unsure`: whether it is sized is not known; `tail_by_bound`: it is, since
+    the last field is an associated type that its trait says to be."""
     declaration: Declaration
     reasons: list[str] = field(default_factory=list)
     tail_unsure: bool = False
+    tail_by_bound: bool = False
 
 
 class Declarer:
@@ -157,8 +160,23 @@ class Declarer:
             return "()", "()"
         if tail is not None:
             return tail, tail
+        if declaration.fields and self.is_sized_value(declaration, declaration.fields[-1]):
+            cut.tail_by_bound = True
+            return "()", "()"
         cut.tail_unsure = True
         return "()", "str"
+
+    def is_sized_value(self, declaration: Declaration, term: Type) -> bool:
+        """Whether the type is an associated type without `?Sized`. Then it unsizes to none that could stand in its place, which are sized too."""
+        if not isinstance(term, Projection):
+            return False
+        try:
+            place = self.renderer.resolved(term, Scope(FIELD, names_of(declaration.params), predicates=declaration.predicates))
+            assert isinstance(place, Projection) and place.bound is not None
+            trait = self.world.get(place.bound.key)
+            return not any(is_sizedness(bound) for bound in trait.item_bounds.get(place.name, []))
+        except Lossy:
+            return False
 
     def mentioned(self, declaration: Declaration) -> list[str]:
         """Fields that mention the parameters that all fields but the last one mention (of an enum: all fields)."""

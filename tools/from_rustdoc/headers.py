@@ -20,6 +20,11 @@ class NotUnderstood(Exception):
     """The text is not a header or type that this reader knows."""
 
 
+def qualifier(is_unsafe: bool, abi: str) -> str:
+    """What stands before the `fn` of a pointer; `abi` is empty for Rust's own."""
+    return ("unsafe " if is_unsafe else "") + (f'extern "{abi}" ' if abi else "")
+
+
 class Reader:
     """Reads tokens. `lookup` says what a path stands for: it gets the words of the path, or the number of a marked link."""
 
@@ -31,6 +36,8 @@ class Reader:
         self.text = text
         self.lookup = lookup
         self.params = params
+        # Whether the path that is read now is that of a trait, by where it stands.
+        self.wants_trait = False
         self.tokens: list[tuple[str, str]] = []
         self.places: list[int] = []
         self.at = 0
@@ -175,6 +182,7 @@ class Reader:
             # `?Sized`, in a text where `?name` is an unknown.
             maybe = True
             self.tokens[self.at] = ("word", self.peek()[1][1:])
+        self.wants_trait = True
         _, key, name = self.path()
         arguments, constraints = self.arguments()
         if inside:
@@ -337,12 +345,13 @@ class Reader:
         return Slice(element)
 
     def function(self) -> Type:
-        plain = True
+        before = ""
         while not self.eat("fn"):
-            plain = False
+            before += self.peek()[1]
             self.at += 1
             if self.at_end():
                 raise NotUnderstood("`fn` expected")
+        name = before.partition("extern")[2].strip('"') or ("C" if "extern" in before else "")
         self.need("(")
         inputs: list[Type] = []
         while not self.eat(")"):
@@ -352,13 +361,14 @@ class Reader:
                 raise NotUnderstood("a variadic fn")
             inputs.append(self.type())
             self.eat(",")
-        return Function(tuple(inputs), self.type() if self.eat("->") else UNIT, plain)
+        return Function(tuple(inputs), self.type() if self.eat("->") else UNIT, qualifier("unsafe" in before, name))
 
     def path_type(self) -> Type:
         kind, value = self.peek()
         if kind == "word" and self.peek(1)[1] == "::" and self.peek(2)[0] == "word" and (value == "Self" or value in self.scope()):
             self.at += 1
             return Parameter(value)
+        self.wants_trait = False
         what, key, name = self.path()
         if what == "word":
             if name in PRIMITIVES or name in FLOATS:
@@ -369,7 +379,7 @@ class Reader:
         if key is None:
             raise NotUnderstood(f"no page of `{name}`")
         if what == "trait":
-            raise NotUnderstood(f"the trait `{name}` as a type")
+            raise NotUnderstood(f"`{name}` is a trait, and a type is wanted; its objects are `dyn {name}`")
         arguments, _ = self.arguments()
         return Alias(key, tuple(arguments)) if what == "type" else Named(key, tuple(arguments))
 

@@ -160,6 +160,15 @@ class Pages:
                 return key
         return None
 
+    def key_of_re_export(self, words: list[str]) -> Optional[str]:
+        """The key of what a module of std has by a `pub use` that is documented as such."""
+        place = "/".join(words[:-1]) + "/index.html"
+        for attributes, name in re.findall(r"<code>pub use [^;]*?<a ([^>]*)>([^<]*)</a>;", self.read(place) or ""):
+            kind, target = re.search(r'class="([a-z]+)"', attributes), re.search(r'href="([^"#]*)"', attributes)
+            if name == words[-1] and kind and target and kind.group(1) in LINKED:
+                return self.key(os.path.normpath(os.path.join(os.path.dirname(place), target.group(1))))
+        return None
+
     def own_page(self, key: str) -> str:
         """The path of the item's page in the crate that declares it, where there is one."""
         path = self.first_page[key]

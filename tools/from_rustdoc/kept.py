@@ -22,7 +22,7 @@ from .html_docs import CRATES, Pages
 from .proved import SETTLED, cache_folder, tool_sum
 from .rustdoc_json import ItemName, JsonCrate, external_name, too_deep
 from .standard import Header, Standard
-from .terms import ANY_HEAD, Declaration, Impl, Named, Type, head_of
+from .terms import ANY_HEAD, Declaration, Impl, Type, head_of
 
 
 class Damaged(Exception):
@@ -140,6 +140,8 @@ class KeptCrate:
         self.std_version: str = data["std_version"]
         self.sources: list[str] = data["sources"]
         self.externals: list[tuple[str, str]] = data["externals"]
+        self.exports: dict[str, Optional[str]] = data["exports"]
+        self.modules: dict[str, list[str]] = data["modules"]
 
 
 def data_of(crate: JsonCrate) -> dict[str, Any]:
@@ -147,7 +149,7 @@ def data_of(crate: JsonCrate) -> dict[str, Any]:
             "declarations": {k: packed(replace(d, item={})) for k, d in crate.declarations.items()},
             "aliases": {k: packed(d) for k, d in crate.aliases.items()}, "impls": [packed(i) for i in crate.impls],
             "heads": crate.heads, "items": [(i.key, i.name, i.public_path) for i in crate.items], "std_version": crate.std_version,
-            "sources": crate.sources, "externals": crate.externals}
+            "sources": crate.sources, "externals": crate.externals, "exports": crate.exports, "modules": crate.modules}
 
 
 class Keeper:
@@ -370,14 +372,9 @@ class KeptStandard(Standard):
             self.store.put("autos", key, kept)
         return kept
 
-    def associated_type(self, impl: Impl, name: str) -> Optional[Type]:
-        if impl.source.startswith("std: ") and isinstance(impl.self_type, Named):
-            key = impl.self_type.key
-            if key not in self.values:
-                kept = self.store.get("values", key)
-                if kept is not None:
-                    self.values[key] = kept
-                else:
-                    super().associated_type(impl, name)
-                    self.store.put("values", key, self.values[key])
-        return super().associated_type(impl, name)
+    def read_values(self, key: str) -> dict[str, dict[str, Type]]:
+        kept: Optional[dict[str, dict[str, Type]]] = self.store.get("values", key)
+        if kept is None:
+            kept = super().read_values(key)
+            self.store.put("values", key, kept)
+        return kept

@@ -3,6 +3,7 @@ from __future__ import annotations
 
 import json
 import os
+import re
 import sys
 from dataclasses import dataclass, field
 from typing import Any, Iterable, Optional, TextIO
@@ -12,7 +13,24 @@ from .terms import Place
 FINE, BAD, NO_ANSWER, UNSETTLED = 0, 1, 3, 4
 # The level and the exit status of each word; what is not here is a note, and fine.
 WORDS = {"breaking": ("error", BAD), "not coherent": ("error", BAD), "not as expected": ("error", BAD), "not settled": ("warning", UNSETTLED),
-         "changed": ("warning", UNSETTLED), "not understood": ("error", NO_ANSWER)}
+         "changed": ("warning", UNSETTLED), "not understood": ("error", NO_ANSWER), "no answer": ("error", NO_ANSWER)}
+
+
+# What users read for words of the inside; those stand in JSON, and in what `--verbose` prints.
+PLAIN = (("by law", "certain"), ("argued: ", "not proved: "), ("the question has unknowns", "the question has variables"),
+         ("both texts leave open what the unknowns stand for", "it depends on what the variables are"),
+         ("a clause on an associated type is asked as a pattern", "a bound on an associated type was written in another form"),
+         ("the question leads to chains without end", "the goals that it leads to have no end"), ("the text cannot say the question", "it cannot be asked"),
+         ("the upper text has a proof, the lower one none", "it rests on a part that was left out"), ("neither text has a proof", "there is no proof"),
+         (": a fresh parameter stands for it", ""), (": any type in the upper text, none in the lower", ""), ("out of both texts: ", ""), (": header: ", ": "))
+
+
+def plain(text: str) -> str:
+    for inside, words in PLAIN:
+        text = text.replace(inside, words)
+    text = re.sub(r"the upper text says [a-z ]+, the lower one [a-z ]+", "a part that was left out may count", text)
+    # (The header is there already.)
+    return re.sub(r"` \(std: .*\) is written$", "` is written", text)
 
 
 @dataclass
@@ -26,7 +44,8 @@ class Span:
 
 @dataclass
 class Message:
-    """`code` is the class, as `bound-added`; `word` the answer; `basis` says on what it rests, `rests_on` on the loss of which impls."""
+    """`code` is the class, as `bound-added`; `word` the answer; `basis` says on what it rests, `rests_on` on the loss of which impls. `summary`
+    of a step says why by the part of it that is new; `values` are those of variables, as a question takes them."""
     text: str
     code: str = ""
     word: str = ""
@@ -36,6 +55,8 @@ class Message:
     basis: str = ""
     rests_on: list[str] = field(default_factory=list)
     kind: str = ""
+    summary: str = ""
+    values: list[tuple[str, str]] = field(default_factory=list)
 
     @property
     def level(self) -> str:
@@ -115,7 +136,7 @@ class Sources:
 
 
 # ---- as text
-def rendered(message: Message, sources: Sources) -> str:
+def rendered(message: Message, sources: Sources, is_verbose: bool = False) -> str:
     code = f"[{message.code}]" if message.code and message.level in ("error", "warning") else ""
     lines = [f"{message.level}{code}: {message.text}"] + spans_lines(message.spans, sources)
     width = max([len(str(s.place.line)) for s in message.spans] or [1])
@@ -124,9 +145,8 @@ def rendered(message: Message, sources: Sources) -> str:
             lines += [f"{child.level}: {child.text}"] + spans_lines(child.spans, sources)
         else:
             lines.append(f"{' ' * width} = {child.level}: {child.text}")
-    lines += [f"{' ' * width} = note: rests on {line}" for line in message.rests_on]
-    if message.basis:
-        lines.append(f"{' ' * width} = note: {message.basis}")
+    notes = [f"rests on {line}" for line in message.rests_on] + ([message.basis] if message.basis else [])
+    lines += [f"{' ' * width} = note: {note if is_verbose else plain(note)}" for note in notes]
     return "\n".join(lines) + "\n"
 
 
@@ -166,15 +186,16 @@ def message_json(message: Message, sources: Sources, is_child: bool = False) -> 
     if is_child:
         return found
     return {"$message_type": "diagnostic", **found, "class": message.code or None, "answer": message.word or None, "crate": message.crate or None,
-            "basis": message.basis or None, "rests_on": message.rests_on}
+            "basis": message.basis or None, "rests_on": message.rests_on, "values": [{"name": name, "type": value} for name, value in message.values]}
 
 
 class Output:
     """Standard output in one of both forms. `line` is for people alone, `fine` a message that needs one line there."""
 
-    def __init__(self, sources: Optional[Sources] = None, is_json: bool = False, stream: Optional[TextIO] = None) -> None:
+    def __init__(self, sources: Optional[Sources] = None, is_json: bool = False, stream: Optional[TextIO] = None, is_verbose: bool = False) -> None:
         self.sources = sources or Sources()
         self.is_json = is_json
+        self.is_verbose = is_verbose
         self.stream = stream or sys.stdout
 
     def write(self, text: str) -> None:
@@ -189,7 +210,7 @@ class Output:
         if self.is_json:
             self.write(json.dumps(message_json(message, self.sources)) + "\n")
         elif message.level in ("error", "warning"):
-            self.write(rendered(message, self.sources) + "\n")
+            self.write(rendered(message, self.sources, self.is_verbose) + "\n")
         else:
             self.write(self.in_a_line(message) + "\n")
 

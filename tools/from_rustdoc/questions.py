@@ -1,6 +1,7 @@
 """Questions as Rust writes them, as lines of both texts, and one answer made of what the program says to each."""
 from __future__ import annotations
 
+import re
 from dataclasses import dataclass, field, replace
 from typing import Callable, Optional
 
@@ -11,26 +12,20 @@ from .checker import check_texts
 from .headers import FLOATS, PRIMITIVES, Named_, NotUnderstood, Reader
 from .html_docs import is_std_key
 from .impls import ImplWriter
+from .names import Names, NotKnown
 from .negative import Negatives
 from .program import DEPTH, Answer, ask
 from .reach import BY_PARTS, Reach, Reacher, Reference_
 from .render import CLAUSE, MAXIMAL_PARAMS, QUESTION, THEN, Scope, bracketed, is_sizedness, names_of
-from .rustdoc_json import ItemName
 from .show import Show
 from .standard import FN_TRAITS
 from .terms import (Alias, BadInput, Bound, BoundsOf, Declaration, Dyn, Lossy, Param, Parameter, Predicate, Projection, Type, Unknown, Unsayable,
                     argument_values, keys_of, put, put_bound, rebuilt, rebuilt_bound, walk)
 from .text_form import Text, TextLine, read_text
+from .well_formed import Fitting
 from .world import World, crate_name
 
 MAXIMAL_ROUNDS = 6
-PRELUDE = {"core::marker": "Send Sync Unpin Copy Sized PhantomData", "core::clone": "Clone", "core::default": "Default", "core::fmt": "Debug Display",
-           "core::hash": "Hash Hasher BuildHasher", "core::cmp": "PartialEq Eq PartialOrd Ord Ordering", "core::option": "Option", "core::result": "Result",
-           "core::ops": "Drop Fn FnMut FnOnce Deref DerefMut Index IndexMut Add Sub Mul Div Rem Neg Not", "core::error": "Error",
-           "core::iter": "Iterator IntoIterator Extend DoubleEndedIterator ExactSizeIterator FromIterator", "core::convert": "AsRef AsMut From Into TryFrom TryInto",
-           "core::cell": "Cell RefCell", "core::panic": "UnwindSafe RefUnwindSafe", "core::pin": "Pin", "core::borrow": "Borrow BorrowMut",
-           "core::str": "FromStr", "alloc::vec": "Vec", "alloc::string": "String ToString", "alloc::boxed": "Box", "alloc::rc": "Rc", "alloc::sync": "Arc",
-           "alloc::borrow": "Cow ToOwned", "std::collections": "HashMap HashSet BTreeMap BTreeSet VecDeque", "std::sync": "Mutex RwLock", "std::path": "Path PathBuf"}
 
 
 # The unknown that the tool itself puts for a value that it asks for.
@@ -90,8 +85,9 @@ class InText:
 
 @dataclass
 class Verdict:
-    """`word` is yes, no, unproved or not settled; `basis` says on what it rests. `values` are those of unknowns as Rust writes them, `found`
-    as types. `asked` is the question as it was asked, of several that one that decides."""
+    """`word` is yes, no, unproved, maybe or not settled; `basis` says on what it rests. `values` are those of unknowns as Rust writes them, `found`
+    as types. `asked` is the question as it was asked, of several that one that decides. `because` is a reason that no explanation has; `is_explained` says that
+    the program's own counts beside it."""
     question: Question
     word: str
     basis: str = ""
@@ -99,6 +95,8 @@ class Verdict:
     values: str = ""
     found: dict[str, Type] = field(default_factory=dict)
     asked: Optional[InText] = None
+    because: str = ""
+    is_explained: bool = True
 
     def show(self) -> str:
         tail = (f" {self.values}" if self.values else "") + (f"   ({self.basis})" if self.basis else "")
@@ -106,6 +104,7 @@ class Verdict:
 
 
 BY_LAW = "by law"
+MAYBE = "both texts leave open what the unknowns stand for"
 
 
 class TooSmall(BadInput):
@@ -118,7 +117,7 @@ class TooSmall(BadInput):
 
 def joined(question: Question, verdicts: list[Verdict]) -> Verdict:
     """One verdict on a question that holds where all of these do: yes where all say so, else what the first says that makes it fail."""
-    for word in ("no", "unproved", "not settled"):
+    for word in ("no", "unproved", "not settled", "maybe"):
         for verdict in verdicts:
             if verdict.word == word:
                 return replace(verdict, question=question)
@@ -131,58 +130,33 @@ def joined(question: Question, verdicts: list[Verdict]) -> Verdict:
 class QuestionReader:
     def __init__(self, world: World) -> None:
         self.world = world
-        self.prelude = {name: module.split("::") + [name] for module, names in PRELUDE.items() for name in names.split()}
+        self.names = Names(world)
+        self.fitting = Fitting(world)
 
-    def lookup(self, words: list[str], params: set[str]) -> Named_:
+    def lookup(self, words: list[str], params: set[str], reader: Reader) -> Named_:
         if len(words) == 1 and (words[0] in params or words[0] in PRIMITIVES or words[0] in FLOATS or words[0] == "_"):
             return "word", None, words[0]
-        key = self.key([self.versioned(words[0]), *words[1:]])
-        if key is None:
-            raise BadInput(f"`{'::'.join(words)}` is not known: {self.instead(words)}")
+        try:
+            key = self.names.key(words, reader.wants_trait)
+        except NotKnown:
+            undeclared = self.undeclared(reader, params) if len(words) == 1 and not reader.wants_trait else []
+            if words[0] not in undeclared:
+                raise
+            raise BadInput(f"`{words[0]}` is not known: declare it: `{self.declared(reader.text, undeclared)}`")
         declaration = self.world.get(key)
         return ("trait" if declaration.is_trait else "type" if declaration.kind == "type" else "struct"), key, declaration.name
 
-    def instead(self, words: list[str]) -> str:
-        """What to write for a path that names nothing: public items of like names."""
-        import difflib
-        crates = [c for n, c in self.world.crates.items() if len(words) == 1 or n.partition("@")[0] == words[0].partition("@")[0]]
-        paths = {item.name: "::".join(item.public_path) for crate in crates for item in crate.items if item.public_path}
-        found = [f"`{paths[name]}`" for name in difflib.get_close_matches(words[-1], paths)]
-        return f"is it {' or '.join(found)}?" if found else "write its path, as `bytes::Bytes` or `std::vec::Vec`"
+    def undeclared(self, reader: Reader, params: set[str]) -> list[str]:
+        """Words that look like type parameters, and name nothing."""
+        words = dict.fromkeys(value for kind, value in reader.tokens if kind == "word" and re.fullmatch("[A-Z][A-Z0-9]?", value))
+        return [word for word in words if word not in params and not self.names.of_word(word)]
 
-    def versioned(self, name: str) -> str:
-        """The crate of a name: of one that is there in two versions it has to have the version, or how that begins."""
-        wanted, _, version = name.partition("@")
-        found = [c for c in self.world.crates if c == name or c.partition("@")[0] == wanted and c.partition("@")[2].startswith(version)]
-        if not version and wanted in self.world.crates:
-            return wanted
-        if version and wanted in self.world.crates and self.world.crates[wanted].version.startswith(version):
-            return wanted
-        if len(found) > 1:
-            raise BadInput(f"`{name}` may be any of {', '.join(f'`{c}`' for c in found)}")
-        return found[0] if found else name
-
-    def key(self, words: list[str]) -> Optional[str]:
-        if words[0] in self.world.crates:
-            found = self.world.crates[words[0]].items
-            tests: tuple[Callable[[ItemName], bool], ...] = (
-                lambda d: d.public_path == words, lambda d: d.key == "::".join(words), lambda d: d.name == words[-1] and d.public_path is not None,
-                lambda d: d.name == words[-1])
-            for test in tests:
-                keys = {d.key for d in found if test(d)}
-                if len(keys) == 1:
-                    return keys.pop()
-            return None
-        if words[0] in ("std", "core", "alloc", "proc_macro") and len(words) > 1:
-            # (`alloc::collections::BTreeMap` has no page of its own, as `std::collections::BTreeMap` has.)
-            return self.world.pages.key_of_any_kind(words) or self.world.pages.key_of_any_kind(["std", *words[1:]])
-        if len(words) == 1 and words[0] in self.prelude:
-            return self.world.pages.key_of_any_kind(self.prelude[words[0]])
-        if len(words) == 1:
-            own = {d.key for crate in self.world.crates.values() for d in crate.items if d.name == words[0] and d.public_path}
-            if len(own) == 1:
-                return own.pop()
-        return None
+    @staticmethod
+    def declared(written: str, names: list[str]) -> str:
+        """The question with further parameters."""
+        reader = Reader(written, lambda words: ("word", None, words[-1]), unknowns=True)
+        new = ", ".join(names)
+        return f"<{new}, {written.lstrip()[1:].lstrip()}" if reader.has_generics() else f"<{new}> {written.lstrip()}"
 
     def read(self, written: str) -> Question:
         """A question by one bound."""
@@ -194,11 +168,11 @@ class QuestionReader:
     def read_all(self, written: str) -> list[Question]:
         """`[<params>] type: bound [+ bound ..] [where clauses]`, with `?x` for unknowns: a question for each bound."""
         params: set[str] = set()
-        reader = Reader(written, lambda words: self.lookup(words, params), unknowns=True, params=params)
+        reader = Reader(written, lambda words: self.lookup(words, params, reader), unknowns=True, params=params)
         try:
             params |= self.parameter_names(written)
             generics, predicates = reader.generics() if reader.has_generics() else ([], [])
-            subject = self.plain(reader.type())
+            subject = reader.type()
             reader.need(":")
             start, bounds = reader.place(), self.bounds(reader)
             end = reader.place()
@@ -208,9 +182,10 @@ class QuestionReader:
                 raise NotUnderstood(f"`{reader.peek()[1]}` is too much")
         except NotUnderstood as error:
             raise BadInput(f"the question `{written}` is not understood: {error}")
-        predicates = [(self.plain(t), self.plain_bound(b)) for t, b in predicates]
-        return [Question(written if len(bounds) == 1 else f"{written[:start]}{text} {written[end:]}".strip(), subject, bound, generics, list(predicates))
-                for bound, text in bounds]
+        self.fitting.all(subject, [bound for bound, _ in bounds], predicates)
+        subject, predicates = self.plain(subject), [(self.plain(t), self.plain_bound(b)) for t, b in predicates]
+        return [Question(written if len(bounds) == 1 else f"{written[:start]}{text} {written[end:]}".strip(), subject, self.plain_bound(bound), generics,
+                         list(predicates)) for bound, text in bounds]
 
     def bounds(self, reader: Reader) -> list[tuple[Bound, str]]:
         """The bounds that are asked, each as it is written."""
@@ -223,7 +198,7 @@ class QuestionReader:
             if bound is not None and not self.world.get(bound.key).is_trait:
                 raise NotUnderstood(f"`{reader.text[place:reader.place()].strip()}` is no trait")
             if bound is not None:
-                found.append((self.plain_bound(bound), reader.text[place:reader.place()].strip()))
+                found.append((bound, reader.text[place:reader.place()].strip()))
             if not reader.eat("+"):
                 break
         if not found:
@@ -420,7 +395,7 @@ class Asker:
         if self.check:
             self.checked(texts)
         pieces = [p for p in self.translation.text("upper")[1] if p is not None]
-        reacher = Reacher(read_text(texts["upper"]), pieces)
+        reacher = Reacher(read_text(texts["upper"]), pieces, self.translation.cone.free if self.translation.cone else frozenset())
         self.text = reacher.text
         lines = {line.text: line for line in reacher.text.lines if line.kind == "question"}
         assumed = self.assumed(good, lines, reacher)
@@ -534,6 +509,8 @@ class Asker:
         if upper == "unproved" and question.whole and not unsure:
             more = "" if not question.refute else "; another crate, or a later version, may add an impl"
             return Verdict(question, "unproved", "neither text has a proof" + more)
+        if lower == upper == "maybe" and question.has_unknowns() and question.whole:
+            return Verdict(question, "maybe", MAYBE)
         reasons = lost + unsure
         if not question.whole:
             reasons.append("a where-clause of the question that the text cannot say")
@@ -547,6 +524,9 @@ class Asker:
         cut = self.cut_structs(reach)
         if cut:
             return f"argued: the auto traits of {cut[0]} are written by its fields"
+        bound = [cut.declaration for cut in self.translation.cuts if cut.tail_by_bound and self.translation.world.name(cut.declaration) in reach.structs]
+        if bound:
+            return f"argued: {self.show.item(bound[0])} is sized by the bound of the associated type that is its last field"
         return self.argued_of_all(reach) or BY_LAW
 
     def argued_of_all(self, reach: Reach) -> str:
@@ -593,6 +573,9 @@ class Asker:
                 found[f"{written.impl.source}: {self.show.header(written.impl)}: {'; '.join(written.losses[:2])}"] = None
             elif piece.written is not None and piece.lower is None:
                 found[f"{piece.written.impl.source}: {self.show.header(piece.written.impl)}: {'; '.join(piece.written.unknown[:2])}"] = None
+        for cut in self.translation.cuts:
+            if cut.tail_unsure and self.translation.world.name(cut.declaration) in reach.structs:
+                found[f"{cut.declaration.source}: {self.show.item(cut.declaration)}: whether its last field is sized"] = None
         return list(found)
 
     def unsure(self, reach: Reach) -> list[str]:

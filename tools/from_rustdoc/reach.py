@@ -70,8 +70,11 @@ def bind(pattern: Type, term: Type, params: set[str], values: dict[str, Type]) -
 
 
 class Reacher:
-    def __init__(self, text: Text, pieces: list[Piece]) -> None:
+    """`free` are variables of a question that stay unknown: a goal about one is undecided, whatever impls there are."""
+
+    def __init__(self, text: Text, pieces: list[Piece], free: frozenset[str] = frozenset()) -> None:
         self.text = text
+        self.free = free
         self.impls: dict[str, list[tuple[TextLine, Piece]]] = {}
         items = [line for line in text.lines if line.kind != "question"]
         for line, piece in zip(items, pieces):
@@ -102,11 +105,16 @@ class Reacher:
         found.references = set(length)
         return found
 
+    def is_free(self, term: Type) -> bool:
+        return isinstance(term, Unknown) and term.name in self.free
+
     def children(self, reference: Reference_, found: Reach) -> list[Reference_]:
         trait, arguments = reference
         found.traits.add(trait)
         found.references.add(reference)
         found.types |= {part.key for term in arguments for part in walk(term) if isinstance(part, Named)}
+        if self.is_free(arguments[0]):
+            return []
         children: list[Reference_] = []
         written_for: set[str] = set()
         for line, piece in self.impls.get(trait, []):

@@ -10,7 +10,7 @@ from dataclasses import dataclass, field
 from typing import Any, Optional
 
 from .assume import Assumed, Assumer, asked_goal
-from .back import Back
+from .back import Back, shortened
 from .build import Piece
 from .headers import Named_, NotUnderstood, Reader
 from .html_docs import is_std_key
@@ -18,7 +18,7 @@ from .messages import Message, at
 from .program import explain
 from .questions import InText, Verdict
 from .reach import Reach
-from .render import FIELD, Scope
+from .render import FIELD, Scope, names_of
 from .show import Show
 from .terms import BadInput, Bound, Declaration, Dyn, Impl, Lossy, Named, Parameter, Projection, Type, argument_values, put, rebuilt
 from .text_form import read_text
@@ -70,6 +70,7 @@ class Explainer:
         self.world = self.translation.world
         self.show = Show(self.world)
         self.back = Back(self.world)
+        self.askable = self.back.show
         lines, self.pieces = self.translation.text(mode)
         self.text = "\n".join(lines) + "\n"
         self.companions, self.thens = self.of_associated_types()
@@ -162,11 +163,7 @@ class Explainer:
 
     def shortened(self, term: Type) -> Type:
         term = rebuilt(term, self.shortened)
-        declaration = self.declaration(term)
-        given = list(term.arguments) if isinstance(term, Named) else []
-        while declaration is not None and given and len(given) <= len(declaration.params) and declaration.params[len(given) - 1].default == given[-1]:
-            given.pop()
-        return Named(term.key, tuple(given)) if isinstance(term, Named) else term
+        return shortened(self.world, term) if isinstance(term, Named) and term.key not in SPECIAL else term
 
     def shown_type(self, term: Type) -> str:
         return self.show.type(self.rust(term))
@@ -177,7 +174,8 @@ class Explainer:
     def without_cycle(self, told: Told) -> Optional[Told]:
         """A cycle is no reason by itself where something else of a type in it fails too: its fields are asked one by one."""
         for number, goal in enumerate(told.goals):
-            declaration = self.declaration(self.rust(goal.subject)) if goal.is_built_in else None
+            by_fields = goal.is_built_in or goal.piece is not None and goal.piece.cut is not None
+            declaration = self.declaration(self.rust(goal.subject)) if by_fields else None
             if declaration is None:
                 continue
             lines = [line for line in (self.field_line(goal, declaration, term) for term in declaration.fields) if line]
@@ -253,8 +251,8 @@ class Explainer:
         itself = self.rust(goal.subject)
         declaration = self.declaration(itself)
         if declaration is not None and isinstance(itself, Named) and (goal.is_built_in or (goal.piece is not None and goal.piece.cut is not None)):
-            its = self.field_of(declaration, itself, self.shown_type(inner.subject))
-            return Message(f"{text}: {its}" if its else text, kind="note", spans=at(declaration.place))
+            its = self.field_of(declaration, itself, self.shown_type(self.unfolded(inner)[0] if inner.bound.key in self.thens else inner.subject))
+            return Message(f"{text}: {its}" if its else text, kind="note", spans=at(declaration.place), summary=its)
         impl = goal.piece.written.impl if goal.piece is not None and goal.piece.written is not None else None
         if impl is not None and impl.trait is not None:
             return Message(f"{text}, by `{self.show.header(impl)}`" + ("" if impl.place else f" ({impl.source.split(':')[0]})"), kind="note", spans=at(impl.place))
@@ -264,9 +262,16 @@ class Explainer:
         """Which field of a type has the inner type."""
         values = argument_values(declaration.params, itself.arguments)
         for name, term in zip(declaration.field_names, declaration.fields):
-            if self.show.type(self.shortened(put(term, values))) == inner:
+            if self.show.type(self.shortened(put(self.resolved(declaration, term), values))) == inner:
                 return f"its field `{name}` is `{inner}`"
         return ""
+
+    def resolved(self, declaration: Declaration, term: Type) -> Type:
+        """A field with the traits of its associated types."""
+        try:
+            return self.translation.renderer.resolved(term, Scope(FIELD, names_of(declaration.params), predicates=declaration.predicates))
+        except Lossy:
+            return term
 
     def declaration(self, term: Type) -> Optional[Declaration]:
         try:
@@ -279,15 +284,24 @@ class Explainer:
         subject, bound = goal.subject, goal.bound
         if bound.key in self.companions:
             key, name = self.companions[bound.key]
-            count = len([p for p in self.world.get(key).params if p.kind == "type"])
-            others = tuple(map(self.rust, bound.arguments[:count] + bound.arguments[count + 1:]))
-            return f"{self.show.type(Projection(self.rust(subject), Bound(key, others), name))} == {self.shown_type(bound.arguments[count])}"
+            value, others = self.value_of(goal, key)
+            return f"{self.show.type(Projection(self.rust(subject), Bound(key, others), name))} == {self.show.type(value)}"
         if bound.key in self.thens:
-            unfolded = Unfolder(read_text(self.text), self.thens).unfold(subject, bound)
-            if unfolded.bound is None:
-                raise NotUnderstood("a pattern that is not all known")
-            return f"{self.shown_type(unfolded.subject)}: {self.shown_bound(unfolded.bound)}"
+            subject, bound = self.unfolded(goal)
         return f"{self.shown_type(subject)}: {self.shown_bound(bound)}"
+
+    def value_of(self, goal: Goal, key: str) -> tuple[Type, tuple[Type, ...]]:
+        """Of a goal that an associated type is a type: that type, and the arguments of the trait."""
+        count = len([p for p in self.world.get(key).params if p.kind == "type"])
+        arguments = tuple(map(self.rust, goal.bound.arguments))
+        return arguments[count], arguments[:count] + arguments[count + 1:]
+
+    def unfolded(self, goal: Goal) -> tuple[Type, Bound]:
+        """What a goal that asks a pattern asks of the associated type."""
+        found = Unfolder(read_text(self.text), self.thens).unfold(goal.subject, goal.bound)
+        if found.bound is None:
+            raise NotUnderstood("a pattern that is not all known")
+        return found.subject, found.bound
 
     # ---- a proof
     def proof(self) -> list[Message]:
@@ -320,7 +334,7 @@ class Explainer:
     def helps(self, goal: Goal, told: Told) -> list[Message]:
         """What may be done: a clause that the question has not, and the types of the crates that have the trait."""
         found = [text for text in told.helps if "where-clause" in text]
-        helps = [Message(f"ask it with `where {self.shown(goal)}`", kind="help")] if found else []
+        helps = [Message(f"ask it with `where {self.clause(goal)}`", kind="help")] if found else []
         key = self.world.named.get(goal.bound.key)
         if key is not None and not is_std_key(key):
             impls = self.nearest([i for i in self.world.impls_of(key, None) if not i.is_negative and i.trait is not None])
@@ -329,6 +343,18 @@ class Explainer:
             which = f"`{self.show.path(key)}` is implemented for {', '.join(names)}{more}" if impls else f"nothing that is seen implements `{self.show.path(key)}`"
             helps.append(Message(which, kind="help"))
         return helps
+
+    def clause(self, goal: Goal) -> str:
+        """A goal as a where-clause of a question."""
+        subject, bound = goal.subject, goal.bound
+        if bound.key in self.companions:
+            key, name = self.companions[bound.key]
+            value, others = self.value_of(goal, key)
+            return f"{self.askable.type(self.rust(subject))}: {self.askable.bound(Bound(key, others, ((name, value),)))}"
+        if bound.key in self.thens:
+            subject, bound = self.unfolded(goal)
+        arguments = tuple(map(self.rust, bound.arguments))
+        return f"{self.askable.type(self.rust(subject))}: {self.askable.bound(Bound(self.world.named.get(bound.key, bound.key), arguments))}"
 
     def nearest(self, impls: list[Impl]) -> list[Impl]:
         """Those of the crates that use others first, and in each crate types with a name before arrays, tuples and references."""

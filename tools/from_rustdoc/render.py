@@ -13,7 +13,7 @@ from .headers import FLOATS, PRIMITIVES
 from .html_docs import is_std_key
 from .objects import OBJECT, above, has_values, shape_of
 from .standard import FN_TRAITS
-from .terms import (Alias, Array, Bound, BoundsOf, Constant, Declaration, Dyn, Function, Lossy, Named, Never, Param, Parameter, Part, Pointer,
+from .terms import (FUNCTIONS, Alias, Array, Bound, BoundsOf, Constant, Declaration, Dyn, Function, Lossy, Named, Never, Param, Parameter, Part, Pointer,
                     Predicate, Primitive, Projection, Reference, Slice, Tuple, Type, Unknown, Unsayable, argument_values, put,
                     put_bound, rebuilt)
 from .world import World
@@ -238,8 +238,8 @@ class Renderer:
                 return f"[{self.type(element, scope)}; {self.constant(length, scope, of_array=True)}]"
             case Tuple(items):
                 return self.tuple_type(items, scope)
-            case Function(inputs, output, plain):
-                return self.function(inputs, output, plain, scope)
+            case Function(inputs, output, how):
+                return self.function(inputs, output, how, scope)
             case Dyn(bounds):
                 return self.dyn(bounds, scope)
             case Alias(key, arguments):
@@ -270,14 +270,16 @@ class Renderer:
         written = self.types(items, scope)
         return f"({written[0]},)" if len(written) == 1 else f"({', '.join(written)})"
 
-    def function(self, inputs: tuple[Type, ...], output: Type, plain: bool, scope: Scope) -> str:
+    def function(self, inputs: tuple[Type, ...], output: Type, how: str, scope: Scope) -> str:
         if scope.mode == FIELD:
             # Each auto trait holds of every fn pointer, and so does `Sized`: a field asks for no more.
             return "fn()"
-        if not plain:
-            raise Lossy("an unsafe or foreign fn")
+        if how and how not in FUNCTIONS:
+            raise Lossy(f"`{how}fn`")
         if scope.coarse:
             raise Lossy("more than 16 parameters")
+        if how:
+            return f"{self.need_special(FUNCTIONS[how])}<{self.tuple_type(inputs, scope)}, {self.type(output, scope)}>"
         if len(inputs) > MAXIMAL_ITEMS:
             raise Lossy("a fn of more than 12 inputs")
         written = self.types(inputs, scope)

@@ -8,6 +8,7 @@ from dataclasses import dataclass
 from typing import Any, Iterator, Optional
 
 from .formats import agreed, first_column
+from .headers import qualifier
 from .html_docs import Pages
 from .terms import (UNIT, Alias, Array, BadInput, Bound, BoundsOf, Constant, Declaration, Dyn, Function, Impl, Named, Never,
                     Param, Parameter, Place, Pointer, Predicate, Primitive, Projection, Reference, Slice, Tuple, Type, Unsayable,
@@ -42,6 +43,14 @@ def lifetimes_in(written: Any) -> Iterator[str]:
                 yield part
             else:
                 yield from lifetimes_in(part)
+
+
+def abi_of(written: Any) -> str:
+    """An ABI by its name; empty for Rust's own."""
+    if isinstance(written, str):
+        return "" if written == "Rust" else written
+    name, body = next(iter(written.items()))
+    return str(body) if name == "Other" else (name if name == "C" else name.lower()) + ("-unwind" if body.get("unwind") else "")
 
 
 def stem_of(crate: dict[str, Any]) -> str:
@@ -88,6 +97,9 @@ class JsonCrate:
         self.aliases: dict[str, Declaration] = {}
         self.impls: list[Impl] = []
         self.names_crates: dict[str, None] = {}
+        # What public paths name, from the crate's root on: items, and modules of other crates, whose items are there too.
+        self.exports: dict[str, Optional[str]] = {}
+        self.modules: dict[str, list[str]] = {}
 
     # ---- of all items at once, as `kept.KeptCrate` has it too
     @property
@@ -193,6 +205,7 @@ class JsonCrate:
                 alias.fields = [self.type(body["type"], None)]
                 self.aliases[key] = alias
         self.find_public_paths()
+        self.export_module(self.json["root"], (), set())
         for declaration in self.declarations.values():
             self.read_declaration(declaration)
         for item in self.index.values():
@@ -327,6 +340,42 @@ class JsonCrate:
         if declaration and (declaration.public_path is None or len(path) < len(declaration.public_path)):
             declaration.public_path = path
 
+    # ---- all public paths
+    def export_module(self, number: int, path: tuple[str, ...], seen: set[tuple[int, tuple[str, ...]]]) -> None:
+        module = self.item(number)
+        if module is None or (number, path) in seen or len(path) > 8:
+            return
+        seen.add((number, path))
+        inside = [item for item in map(self.item, module["inner"]["module"]["items"]) if item and item["visibility"] == "public"]
+        # What a glob brings gives way to what has the name itself.
+        for item in sorted(inside, key=lambda item: bool("use" in item["inner"] and item["inner"]["use"]["is_glob"])):
+            kind, body = kind_and_body(item)
+            if kind == "use":
+                self.export_use(body, path, seen)
+            elif kind == "extern_crate":
+                # (Of a renamed one `rename` is the crate's own name.)
+                crates = [self.external[int(n)] for n, crate in self.json["external_crates"].items() if crate["name"] == (body["rename"] or body["name"])]
+                self.modules.setdefault("::".join([*path, item["name"]]), []).extend(crates)
+            else:
+                self.export(item["id"], kind, path + (item["name"],), seen)
+
+    def export(self, number: int, kind: Optional[str], path: tuple[str, ...], seen: set[tuple[int, tuple[str, ...]]]) -> None:
+        if kind == "module":
+            self.export_module(number, path, seen)
+        elif kind in ITEMS or kind == "type_alias":
+            self.exports.setdefault("::".join(path), self.key(number))
+
+    def export_use(self, body: dict[str, Any], path: tuple[str, ...], seen: set[tuple[int, tuple[str, ...]]]) -> None:
+        place = path if body["is_glob"] else path + (body["name"],)
+        known = self.json["paths"].get(str(body["id"]))
+        kind = self.kind_of(body["id"]) if body["id"] is not None else None
+        if kind == "module" and self.item(body["id"]) is None and known is not None:
+            crate = self.external.get(known["crate_id"], "?")
+            self.names_crates[crate] = None
+            self.modules.setdefault("::".join(place), []).append("::".join([crate, *known["path"][1:]]))
+        elif kind == "module" or not body["is_glob"]:
+            self.export(body["id"], kind, place, seen)
+
     # ---- generics and bounds; `itself` is what `Self` stands for, None in a trait
     def generics(self, generics: dict[str, Any], itself: Optional[Type]) -> tuple[list[Param], list[Predicate]]:
         params: list[Param] = []
@@ -406,7 +455,7 @@ class JsonCrate:
                     return Unsayable("a variadic fn")
                 inputs = tuple(self.type(t, itself) for _, t in signature["inputs"])
                 output = self.type(signature["output"], itself) if signature["output"] else UNIT
-                return Function(inputs, output, not header["is_unsafe"] and header["abi"] == "Rust")
+                return Function(inputs, output, qualifier(header["is_unsafe"], abi_of(header["abi"])))
             case "tuple":
                 return Tuple(tuple(self.type(t, itself) for t in body))
             case "slice":

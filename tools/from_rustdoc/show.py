@@ -69,10 +69,8 @@ class Show:
                 return f"[{self.type(element)}; {length}]"
             case Tuple(items):
                 return f"({self.type(items[0])},)" if len(items) == 1 else f"({', '.join(map(self.type, items))})"
-            case Function(inputs, output, plain):
-                if not plain and self.exact:
-                    raise Lossy("an unsafe or foreign fn")
-                return f"{'' if plain else 'unsafe '}fn({', '.join(map(self.type, inputs))})" + ("" if output == UNIT else f" -> {self.type(output)}")
+            case Function(inputs, output, how):
+                return f"{how}fn({', '.join(map(self.type, inputs))})" + ("" if output == UNIT else f" -> {self.type(output)}")
             case Dyn(bounds):
                 return f"(dyn {self.bounds(bounds)})" if len(bounds) > 1 else f"dyn {self.bounds(bounds)}"
             case Named(key, arguments) if key in self.world.shape_of_key:

@@ -12,7 +12,7 @@ from typing import TYPE_CHECKING
 from .headers import FLOATS
 from .html_docs import is_std_key, kind_and_name, rust_crate_of
 from .render import is_sizedness
-from .terms import Array, Declaration, Function, Named, Never, Pointer, Primitive, Reference, Slice, Tuple, keys_of
+from .terms import FUNCTION_STRUCTS, Array, Declaration, Function, Named, Never, Pointer, Primitive, Reference, Slice, Tuple, keys_of
 
 if TYPE_CHECKING:
     from .build import CrateText, Piece
@@ -69,7 +69,8 @@ def is_special_impl(piece: Piece) -> bool:
     """An impl of an auto trait, or of a trait of the text's `core`, for what stands in for a built-in type: it has to stand in the
     crate of that."""
     if piece.source == "built in":
-        return piece.is_impl and piece.upper is not None and any(f" {trait} for Tuple" in piece.upper.text for trait in ("Clone", "Copy"))
+        return piece.is_impl and piece.upper is not None and any(
+            f" {trait} for {name}" in piece.upper.text for trait in ("Clone", "Copy") for name in ("Tuple", *FUNCTION_STRUCTS))
     impl = piece.written.impl if piece.is_impl and piece.written and not piece.cut else None
     if impl is None or impl.trait is None or not (isinstance(impl.self_type, (Reference, Pointer)) or impl.self_type in FLOAT_TYPES):
         return False

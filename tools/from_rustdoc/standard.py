@@ -10,8 +10,8 @@ from typing import Iterator, Optional
 
 from .html_docs import Pages, is_std_key, kind_and_name, rust_crate_of
 from .headers import NotUnderstood, Reader
-from .terms import (ANY_HEAD, Array, Bound, Declaration, Function, Impl, Named, Param, Parameter, Predicate, Primitive, Reference, Slice, Tuple, Type,
-                    head_of, parameters_of, put, put_bound, rebuilt, rebuilt_bound)
+from .terms import (ANY_HEAD, FUNCTIONS, Array, Bound, Declaration, Function, Impl, Named, Param, Parameter, Predicate, Primitive, Reference, Slice, Tuple,
+                    Type, head_of, parameters_of, put, put_bound, rebuilt, rebuilt_bound, walk)
 
 # Of core and alloc one crate is made: core's impls reason about alloc's types by negative impls, which a text has not.
 HOMES = {"core": "alloc", "alloc": "alloc"}
@@ -215,18 +215,23 @@ class Standard:
         return values
 
     def associated_type(self, impl: Impl, name: str) -> Optional[Type]:
-        """The value of an associated type of an impl of std, if the page of its type shows it."""
-        if not impl.source.startswith("std: ") or not isinstance(impl.self_type, Named):
+        """The value of an associated type of an impl of std, if the page of a type that its header names shows it: that of `Vec` has
+        `impl IntoIterator for &Vec<T, A>`."""
+        if not impl.source.startswith("std: ") or impl.trait is None:
             return None
-        key = impl.self_type.key
+        named = (part.key for term in (impl.self_type, *impl.trait.arguments) for part in walk(term) if isinstance(part, Named) and is_std_key(part.key))
+        return next((found[name] for found in (self.values_on(key).get(impl.source, {}) for key in dict.fromkeys(named)) if name in found), None)
+
+    def values_on(self, key: str) -> dict[str, dict[str, Type]]:
+        """The values of associated types that the page of a type shows, by the headers of the impls."""
         if key not in self.values:
-            self.values[key] = {}
-            page, text = self.pages.page(self.pages.own_page(key))
-            for fragment, rest in self.pages.impl_sections(text):
-                found = self.associated(rest, page)
-                if found:
-                    self.values[key]["std: " + Pages.plain(fragment)] = found
-        return self.values[key].get(impl.source, {}).get(name)
+            self.values[key] = self.read_values(key)
+        return self.values[key]
+
+    def read_values(self, key: str) -> dict[str, dict[str, Type]]:
+        page, text = self.pages.page(self.pages.own_page(key))
+        found = {"std: " + Pages.plain(fragment): self.associated(rest, page) for fragment, rest in self.pages.impl_sections(text)}
+        return {header: values for header, values in found.items() if values}
 
     # ---- headers that stand for many
     def expanded(self, fragment: str, page: str, rest: str, crate: str) -> Iterator[Impl]:
@@ -244,8 +249,9 @@ class Standard:
         impl = self.impl(fragment, page, rest, crate)
         if impl.trait is not None and isinstance(impl.self_type, Parameter) and any(
                 t == impl.self_type and b.key.endswith("trait.FnPtr") for t, b in impl.predicates):
-            for count in range(MAXIMAL_ITEMS + 1):
-                yield self.for_functions(impl, count)
+            for how in ("", *FUNCTIONS):
+                for count in range(MAXIMAL_ITEMS + 1):
+                    yield self.for_functions(impl, count, how)
             return
         yield impl
 
@@ -287,11 +293,11 @@ class Standard:
         impl.params = [p for p in impl.params if p.kind == "type"]
 
     @staticmethod
-    def for_functions(impl: Impl, count: int) -> Impl:
+    def for_functions(impl: Impl, count: int, how: str) -> Impl:
         """The impl for all `F: FnPtr` becomes that for fn pointers of `count` inputs."""
         assert impl.trait is not None and isinstance(impl.self_type, Parameter)
         names = [f"A{number}" for number in range(count)] + ["R"]
-        function = Function(tuple(Parameter(n) for n in names[:-1]), Parameter("R"))
+        function = Function(tuple(Parameter(n) for n in names[:-1]), Parameter("R"), how)
         special = impl.copy()
         special.params = [Param("type", n) for n in names]
         special.predicates = [(Parameter(n), Bound("?Sized", maybe=True)) for n in names]

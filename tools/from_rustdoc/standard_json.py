@@ -11,7 +11,7 @@ from typing import Any, Optional
 from .html_docs import CRATES, KINDS, LINKED, Pages, rust_crate_of
 from .rustdoc_json import JsonCrate, kind_and_body
 from .standard import TAILS, Header, Standard, home_of
-from .terms import BadInput, Declaration, Impl, Named, Parameter, Primitive, Tuple, Type
+from .terms import FUNCTIONS, BadInput, Declaration, Impl, Named, Parameter, Primitive, Tuple, Type
 
 
 class StdJsonCrate(JsonCrate):
@@ -104,7 +104,7 @@ class JsonStandard(Standard):
                 self.widen(found[-1], {inside.items[0].name}, count)
             return found
         if isinstance(inside, Parameter) and any(t == inside and b.key.endswith("trait.FnPtr") for t, b in impl.predicates):
-            return [self.for_functions(impl, count) for count in range(13)]
+            return [self.for_functions(impl, count, how) for how in ("", *FUNCTIONS) for count in range(13)]
         return [impl]
 
     def declaration(self, key: str) -> Declaration:

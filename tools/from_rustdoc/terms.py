@@ -74,10 +74,10 @@ class Tuple:
 
 @dataclass(frozen=True)
 class Function:
-    """`plain` is false for `unsafe fn`, `extern fn` and what else the text has not."""
+    """`how` is what stands before `fn`: nothing, one of `FUNCTIONS`, or what no text has."""
     inputs: tuple[Type, ...]
     output: Type
-    plain: bool = True
+    how: str = ""
 
 
 @dataclass(frozen=True)
@@ -145,6 +145,9 @@ class Unsayable:
 Type = Union[Primitive, Never, Parameter, Unknown, Reference, Pointer, Slice, Array, Tuple, Function, Dyn, Named, Alias,
              Projection, Part, Constant, BoundsOf, Unsayable]
 UNIT = Tuple(())
+# Fn pointers that are no plain ones, by what stands before `fn`: the struct of the text for them, of a tuple of the inputs and the output.
+FUNCTIONS = {"unsafe ": "FnUnsafe_", 'extern "C" ': "FnC_", 'unsafe extern "C" ': "FnUnsafeC_"}
+FUNCTION_STRUCTS = {name: how for how, name in FUNCTIONS.items()}
 ANY_HEAD = "_"
 
 
@@ -279,8 +282,8 @@ def rebuilt(term: Type, change: Callable[[Type], Type]) -> Type:
             return Array(change(t), n)
         case Tuple(items):
             return Tuple(tuple(map(change, items)))
-        case Function(inputs, output, plain):
-            return Function(tuple(map(change, inputs)), change(output), plain)
+        case Function(inputs, output, how):
+            return Function(tuple(map(change, inputs)), change(output), how)
         case Named(key, arguments):
             return Named(key, tuple(map(change, arguments)))
         case Alias(key, arguments):
@@ -339,6 +342,11 @@ def argument_values(params: list[Param], arguments: tuple[Type, ...]) -> dict[st
     return values
 
 
+def leaf_of(inputs: tuple[Type, ...], how: str) -> str:
+    """Which fn pointer it is, but for its types."""
+    return f"fn:{len(inputs)}" + (f":{how}" if how else "")
+
+
 def keys_of(term: Type) -> Iterator[str]:
     """The keys of all items that a type names, and `prim:`, `tuple:`, `fn:` words for what else impls are pruned by."""
     for part in walk(term):
@@ -347,8 +355,8 @@ def keys_of(term: Type) -> Iterator[str]:
                 yield "prim:" + name
             case Tuple(items) if items:
                 yield f"tuple:{len(items)}"
-            case Function(inputs, _, _):
-                yield f"fn:{len(inputs)}"
+            case Function(inputs, _, how):
+                yield leaf_of(inputs, how)
             case Named(key, _) | Alias(key, _):
                 yield key
             case Dyn(bounds) | BoundsOf(bounds):
@@ -388,8 +396,8 @@ def head_of(term: Type) -> str:
             return "[;]"
         case Tuple(items):
             return f"tuple:{len(items)}"
-        case Function(inputs, _, True):
-            return f"fn:{len(inputs)}"
+        case Function(inputs, _, how) if not how or how in FUNCTIONS:
+            return leaf_of(inputs, how)
         case Dyn(bounds) if not any(b.constraints for b in bounds):
             return "dyn"
     return ANY_HEAD

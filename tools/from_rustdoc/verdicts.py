@@ -4,7 +4,8 @@ from __future__ import annotations
 from dataclasses import dataclass
 from typing import Any, Optional
 
-from .messages import BAD, FINE, UNSETTLED, Message, Output, Span, at, worst
+from .back import Askable
+from .messages import BAD, FINE, UNSETTLED, Message, Output, Span, at, plain, worst
 from .program import Answer
 from .questions import Verdict
 from .reasons import why
@@ -12,7 +13,7 @@ from .report import PATTERNED, is_of
 from .terms import Lossy, Named, Place
 
 # Which answers are as expected: rustc refuses a bound that is `unproved` as it does one that is `no`.
-EXPECTED = {"yes": ("yes",), "no": ("no", "unproved")}
+EXPECTED = {"yes": ("yes",), "no": ("no", "unproved"), "maybe": ("maybe",)}
 # A list of a map: the source, the header, the losses, and the place of an impl.
 Entry = list[Any]
 
@@ -22,10 +23,19 @@ def answer_message(verdict: Verdict, expected: Optional[str], program: Optional[
     """An answer with the reason of it. `basis` and `rests_on` say what it rests on."""
     unexpected = expected is not None and verdict.word != "not settled" and verdict.word not in EXPECTED[expected]
     text = f"`{verdict.question.written}`: {verdict.word}" + (f" {verdict.values}" if verdict.values else "")
-    message = Message(f"{text}, where {expected} was expected" if unexpected else text, verdict.word.replace(" ", "-"),
-                      "not as expected" if unexpected else verdict.word, verdict.question.of_crate, place_of(verdict), why(verdict, program, with_proof),
-                      verdict.basis, verdict.rests_on)
-    return message
+    reasons = why(verdict, program, with_proof) if verdict.is_explained else []
+    if verdict.because:
+        reasons.append(Message(verdict.because, kind="note", summary=verdict.because))
+    return Message(f"{text}, where {expected} was expected" if unexpected else text, verdict.word.replace(" ", "-"),
+                   "not as expected" if unexpected else verdict.word, verdict.question.of_crate, place_of(verdict), reasons, verdict.basis, verdict.rests_on,
+                   values=values_of(verdict))
+
+
+def values_of(verdict: Verdict) -> list[tuple[str, str]]:
+    if verdict.asked is None or not verdict.found:
+        return []
+    show = Askable(verdict.asked.translation.world)
+    return [(name, show.type(value)) for name, value in verdict.found.items()]
 
 
 def place_of(verdict: Verdict) -> list[Span]:
@@ -44,10 +54,30 @@ def say_answer(message: Message, verdict: Verdict, output: Output) -> None:
     if output.is_json:
         output.message(message)
         return
-    output.line(verdict.show() + ("   not as expected" if message.word == "not as expected" else ""))
+    output.line((verdict.show() if output.is_verbose else shown(verdict, message)) + ("   not as expected" if message.word == "not as expected" else ""))
     for child in message.children:
+        if child.text == verdict.because and not output.is_verbose:
+            continue
         place = f" ({output.sources.shown(child.spans[0])}:{child.spans[0].place.line})" if child.spans else ""
         output.line(f"    {'help: ' if child.level == 'help' else ''}{child.text}{place}")
+
+
+def shown(verdict: Verdict, message: Message) -> str:
+    """The question and the answer, with what it rests on, in plain words."""
+    last = next((note.summary for note in reversed(message.children) if note.level == "note"), "")
+    how = "; ".join(filter(None, [last if verdict.word == "no" else "", plain(verdict.basis) if verdict.word != "unproved" else no_proof(verdict, last)]))
+    tail = (f" {verdict.values}" if verdict.values else "") + (f"   ({how})" if how else "")
+    return "\n    ".join([f"{verdict.question.written}    {verdict.word}{tail}", *(f"left out: {plain(line)}" for line in verdict.rests_on)])
+
+
+def no_proof(verdict: Verdict, because: str) -> str:
+    """What `unproved` says. Only the owner of a type or trait that is named can add an impl where the question leaves none open."""
+    question = verdict.question
+    params = [f"`{param.name}`" for param in question.params]
+    if params:
+        return f"there is no proof for every {', '.join(params)}"
+    who = "another crate, or a later version," if question.has_unknowns() else "a later version"
+    return f"does not hold{': ' if because else ''}{because}; {who} may add an impl"
 
 
 # ---- checks

@@ -26,9 +26,9 @@ from from_rustdoc.tests.pairs import all_pairs, library, rustdoc  # noqa: E402
 
 # Each with the crates that it uses.
 CRATES: dict[str, list[str]] = {"shapes": [], "before": [], "after": [], "ab": [], "user": ["ab"], "deep": ["ab"], "reasons": [],
-                                "formats": []}
+                                "names": ["ab"], "read": [], "formats": []}
 COMPARED = ("before", "after")
-READ = ("struct", "enum", "union", "variant", "struct_field", "trait", "impl", "assoc_type", "module", "use", "type_alias")
+READ = ("struct", "enum", "union", "variant", "struct_field", "trait", "impl", "assoc_type", "module", "use", "extern_crate", "type_alias")
 # Pages that no kept crate names, but the translator or a question does.
 MORE = ("core/marker/trait.Send.html core/marker/trait.Sync.html core/marker/trait.Unpin.html core/panic/unwind_safe/trait.UnwindSafe.html "
         "core/panic/unwind_safe/trait.RefUnwindSafe.html core/marker/trait.Sized.html core/marker/trait.PointeeSized.html core/marker/trait.MetaSized.html "

@@ -4,16 +4,22 @@ from __future__ import annotations
 
 import contextlib
 import io
+import json
 import os
 import tempfile
+import time
 import unittest
 from unittest import mock
 
 from ..answer import Answerer
+from ..back import Back
 from ..command import main
+from ..cone import TooLarge, cone_of_questions
+from ..messages import Output
 from ..proved import proved_program
 from ..questions import QuestionReader
 from ..terms import BadInput
+from ..verdicts import answer_message
 from .common import kept, world
 
 WIDE = "ab::Wide<" + "u8, " * 16
@@ -47,6 +53,27 @@ DEEP = {
     "deep::Chunk<u8>: Send": "yes", "deep::Node<u8>: Send": "unproved", "<A> deep::Chunk<A>: Sync": "unproved", "<A> deep::Chunk<A>: Sync where A: Sync": "yes",
     "deep::Pool<u8>: Sync": "no", "<A> deep::Pool<A>: Unpin": "yes", "<A> deep::Node<A>: Unpin": "unproved", "<A> deep::Node<A>: Unpin where A: Unpin": "yes",
     "<ab::Sb as deep::Length<u8>>::Array: Copy": "yes", "<T> [<ab::Sb as deep::Length<T>>::Array; 2]: Send": "yes"}
+
+# Fn pointers that are no plain ones, of the crate `read`.
+FUNCTIONS = {
+    "unsafe fn(u8): read::Call": "yes", "unsafe fn(u16): read::Call": "no", "fn(u8): read::Call": "no", "u8: read::Call": "no",
+    'extern "C" fn(u16) -> u8: read::Call': "yes", 'extern "C" fn(): read::Call': "no", 'unsafe extern "C" fn(): read::Call': "yes",
+    "unsafe fn(u8): Clone": "yes", "Option<unsafe fn(u8)>: Send": "yes", 'extern "C" fn(u8) -> u16: Fn(u8) -> u16': "no",
+    "unsafe fn(u8) -> u16: FnOnce(u8) -> u16": "no", 'extern "C" fn(): Sized': "yes", 'extern "system" fn(): Clone': "not settled"}
+
+# Structs whose last field is an associated type: sized, unless the trait has `?Sized` for it.
+LAST_FIELDS = {
+    "read::Date<read::Utc>: Sized": "yes", "Vec<read::Date<read::Utc>>: Clone": "yes", "<Z: read::Zone> Option<read::Inner<Z>>: Default": "yes",
+    "read::Listed<Vec<u8>>: Sized": "yes", "read::Date<read::Utc>: Copy": "no", "read::Ended<u8>: Sized": "not settled",
+    "Vec<read::Ended<u8>>: Default": "not settled"}
+
+# With variables: the word, and the values. With `no` the parts that are there of it decide.
+VARIABLES = {
+    "Vec<?x>: Clone": ("maybe", ""), "Vec<?x>: Debug": ("maybe", ""), "?x: Clone": ("maybe", ""), "(?x, u8): Send": ("maybe", ""),
+    "Vec<?x>: IntoIterator<Item = ?i>": ("yes", "?i = ?x"), "Vec<?x>: IntoIterator<IntoIter = ?i>": ("yes", "?i = alloc::vec::IntoIter<?x>"),
+    "ab::Here<?x>: Sized": ("yes", ""), "(?x, ab::Shared): Send": ("no", ""), "Vec<?x>: PartialEq<Vec<u8>>": ("maybe", ""),
+    "ab::Bits: core::ops::BitOr<?x>": ("yes", "?x = u8"), "Box<?x>: ab::Ta": ("yes", "?x = dyn Fn(u8) -> u8"), "?x: ab::Ta": ("maybe", ""),
+    "Vec<?x>: Iterator<Item = ?x>": ("unproved", "")}
 
 
 @unittest.skipUnless(proved_program(), "there is no proved program of these sources")
@@ -83,6 +110,25 @@ class Answers(unittest.TestCase):
     def test_names_aliases_and_many_parameters(self) -> None:
         self.answers(OTHERS)
 
+    def test_unsafe_and_foreign_fns_are_told_apart(self) -> None:
+        found = world("read")
+        reader, answerer = QuestionReader(found), Answerer(found)
+        for written, word in FUNCTIONS.items():
+            verdict = answerer.answer(reader.read(written))
+            self.assertEqual(verdict.word, word, verdict.show())
+        self.assertEqual(answerer.answer(reader.read("unsafe fn(?x): read::Call")).values, "?x = u8")
+        self.assertEqual(Back(found).values("?x = FnUnsafeC_<(u8,), ()>"), '?x = unsafe extern "C" fn(u8)')
+
+    def test_structs_that_end_with_an_associated_type(self) -> None:
+        found = world("read")
+        reader, answerer = QuestionReader(found), Answerer(found)
+        for written, word in LAST_FIELDS.items():
+            verdict = answerer.answer(reader.read(written))
+            self.assertEqual(verdict.word, word, verdict.show())
+        self.assertEqual(answerer.answer(reader.read("read::Date<read::Utc>: Sized")).basis,
+                         "argued: read::Date is sized by the bound of the associated type that is its last field")
+        self.assertEqual(answerer.answer(reader.read("read::Ended<u8>: Sized")).rests_on, ["read.rs:17: read::Ended: whether its last field is sized"])
+
     def test_deep_types_and_traits_of_crates_that_use_the_subjects(self) -> None:
         found = world("ab", "deep")
         reader, answerer = QuestionReader(found), Answerer(found)
@@ -96,6 +142,33 @@ class Answers(unittest.TestCase):
             verdict = self.answerer.answer(self.reader.read(written))
             self.assertEqual((verdict.word, verdict.values), ("yes", values), written)
 
+    def test_variables_are_answered_or_declined_at_once(self) -> None:
+        before = time.process_time()
+        for written, wanted in VARIABLES.items():
+            verdict = self.answerer.answer(self.reader.read(written))
+            self.assertEqual((verdict.word, verdict.values), wanted, verdict.show())
+        with mock.patch("from_rustdoc.cone.MOST_OPEN", 5), self.assertRaisesRegex(TooLarge, "write more of the types"):
+            cone_of_questions(self.reader.world, [self.reader.read("Option<?x>: From<?y>")])
+        self.assertLess(time.process_time() - before, 20.0)
+
+    def test_what_is_behind_a_free_variable_does_not_count(self) -> None:
+        """The same by all that an unknown type may lead to."""
+        for written in (*VARIABLES, "ab::Fixed<?x>: ab::Ta", "ab::Held<?x>: Send", "user::Mine<?x>: Clone", "user::Mine<?x>: ab::Ta", "ab::Pred<?x>: ab::Ta"):
+            verdict = self.answerer.by_part(self.reader.read(written))
+            with mock.patch("from_rustdoc.cone.free_variables", return_value=frozenset()):
+                whole = self.answerer.by_part(self.reader.read(written))
+            self.assertEqual((verdict.word, verdict.values), (whole.word, whole.values), written)
+        free = [cone_of_questions(self.reader.world, [self.reader.read(written)]).cone.free for written in ("Vec<?x>: Clone", "Box<?x>: ab::Ta", "Vec<?x>: PartialEq<?x>")]
+        self.assertEqual(free, [{"x"}, set(), set()])
+
+    def test_values_are_data_that_a_question_takes(self) -> None:
+        stream = io.StringIO()
+        verdict = self.answerer.answer(self.reader.read("Vec<?x>: IntoIterator<Item = ?i, IntoIter = ?t>"))
+        Output(is_json=True, stream=stream).message(answer_message(verdict, None, None, False))
+        values = json.loads(stream.getvalue())["values"]
+        self.assertEqual(values, [{"name": "i", "type": "?x"}, {"name": "t", "type": "alloc::vec::IntoIter<?x>"}])
+        self.assertEqual(self.answerer.answer(self.reader.read(f"{values[1]['type']}: Iterator<Item = ?i>")).values, "?i = ?x")
+
     def test_two_bounds_are_two_questions(self) -> None:
         questions = self.reader.read_all("ab::Around: Send + Sync")
         self.assertEqual([q.written for q in questions], ["ab::Around: Send", "ab::Around: Sync"])
@@ -105,19 +178,21 @@ class Answers(unittest.TestCase):
 
 
 class NoAnswers(unittest.TestCase):
+    def test_each_has_a_line_of_json(self) -> None:
+        for words in (["ask", "--project", "/nowhere", "--message-format", "json", "u8: Send"], ["read", "--message-format=json", "-o", "x", "/nowhere.json"]):
+            with contextlib.redirect_stdout(io.StringIO()) as said, contextlib.redirect_stderr(io.StringIO()) as errors:
+                status = main(words)
+            (line,) = said.getvalue().splitlines()
+            found = json.loads(line)
+            self.assertEqual((status, found["answer"], found["level"], f"from-rustdoc: {found['message']}\n"), (3, "no answer", "error", errors.getvalue()))
+
     def test_what_is_no_question_is_told_in_a_line(self) -> None:
         reader = QuestionReader(world("ab"))
         for written, why in (("ab::Sb: ?Sized", "asks nothing"), ("ab::Sb: Vec<u8>", "is no trait"), ("ab::Sb: 'static", "asks for no trait"),
                              ("<T: Send", "is not understood"), ("<T as", "is not understood"), ("ab::Sb", "`:` expected at the end"), ("ab::Sb:", "a path expected at the end"), ("", "a type expected at the end"),
-                             ("ab::Sx: Send", "is not known: write"), ("ab::Aroud: Send", "is it `ab::Around`?"), ("Vec<u8>::Item Send", "is not understood")):
+                             ("ab::Sx: Send", "is not known: write its path"), ("ab::Aroud: Send", "is it `ab::Around`?"), ("Vec<u8>::Item Send", "is not understood")):
             with self.assertRaisesRegex(BadInput, why, msg=written):
                 reader.read_all(written)
-
-    def test_items_that_core_and_alloc_document_elsewhere_are_found_in_std(self) -> None:
-        reader = QuestionReader(world("ab"))
-        with mock.patch.object(reader.world.pages, "key_of_any_kind", side_effect=lambda words: "a map" if words == ["std", "collections", "BTreeMap"] else None):
-            self.assertEqual([reader.key([crate, "collections", name]) for crate in ("std", "alloc") for name in ("BTreeMap", "None")],
-                             ["a map", None, "a map", None])
 
     @unittest.skipUnless(proved_program(), "there is no proved program of these sources")
     def test_an_alias_of_a_crate_that_is_not_given_is_a_loss(self) -> None:

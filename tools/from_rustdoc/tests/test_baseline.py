@@ -126,7 +126,7 @@ class Baseline(unittest.TestCase):
         self.assertEqual(status, 1, err)
         self.assertIn("to_draw 1.0.0 to 1.0.0: breaking (1 breaking)", out)
         status, out, _ = self.ended("cargo", "celtisdarts", "ask", "to_draw::S<u8>: to_draw::Draw", "--expect", "yes")
-        self.assertEqual((status, out), (0, "to_draw::S<u8>: to_draw::Draw    yes   (by law)\n"))
+        self.assertEqual((status, out), (0, "to_draw::S<u8>: to_draw::Draw    yes   (certain)\n"))
         # What is documented is so until a source is newer.
         words = ("cargo", "celtisdarts", "ask", "to_draw::S<u8>: to_draw::Draw")
         self.assertNotIn("Checking", self.ended(*words)[2])

@@ -147,7 +147,7 @@ class Errors(Ended):
             self.assertEqual(self.one_line("later", file, file), f"from-rustdoc: {file}: something in it is nested too deep to be read\n")
 
     def test_words_that_are_not_understood_end_with_status_2(self) -> None:
-        for words in (["nothing"], ["later", "--expect", "yes"], ["ask"], ["ask", "x", "y", "--expect", "maybe"]):
+        for words in (["nothing"], ["later", "--expect", "yes"], ["ask"], ["ask", "x", "y", "--expect", "perhaps"]):
             self.assertEqual(self.run_words(*words)[0], 2, words)
 
     def test_a_mistake_is_told_in_a_line_and_is_no_answer(self) -> None:

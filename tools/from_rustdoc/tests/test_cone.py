@@ -20,7 +20,7 @@ from .generated import TRAITS
 
 WRITTEN = ("shapes::Raw<u8>: Send", "shapes::Raw<&u8>: Sync", "shapes::NeverSent: Send", "shapes::B: Send", "shapes::B: Unpin",
            "<T> shapes::Tree<T>: Clone where T: Clone", "<S: shapes::Shape> shapes::Raw<S>: Debug", "<I: Iterator> shapes::Peeked<I>: Iterator",
-           "shapes::Tree<u8>: Unpin", "shapes::A: PartialEq<[u8; 4]>", "shapes::Free: Clone",
+           "shapes::Tree<u8>: Unpin", "shapes::A: PartialEq<[u8; 4]>", "shapes::counterexamples::Free: Clone",
            "<I: Iterator> shapes::Peeked<shapes::Peeked<I>>: Debug", "shapes::Peeked<shapes::Peeked<u8>>: Send",
            "<S: shapes::Shape> shapes::Raw<S>: Debug where S::Unit: Debug", "<I: Iterator> shapes::Peeked<I>: Send where I: Send, I::Item: Send")
 

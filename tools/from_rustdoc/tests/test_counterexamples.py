@@ -1,6 +1,6 @@
 """Texts that look right and let wrong answers through. The translator does not write them, and its checker refuses each.
 
-C8 to C10 are those of patterns; C1 to C7 as in docs/RUSTDOC.md: a supertrait dropped (twice: `Sup` and `Sized`), fields dropped, two impls with one line, an impl
+C8 to C10 are those of patterns, C11 is a struct that is sized; C1 to C7 as in docs/RUSTDOC.md: a supertrait dropped (twice: `Sup` and `Sized`), fields dropped, two impls with one line, an impl
 of an auto trait that the crate has not, a clause turned into its supertrait, a header widened though it can be said.
 """
 from __future__ import annotations
@@ -38,6 +38,17 @@ class Counterexamples(unittest.TestCase):
         for mode in ("upper", "lower"):
             self.refused(mode, "struct shapes__Tail<T>(u8, T)", "struct shapes__Tail<T>", "0 fields, where the crate has 2")
             self.refused(mode, "struct shapes__Tail<T>(u8, T)", "struct shapes__Tail<T>(T, u8)", "a field that is not the crate's")
+
+    def test_c11_a_struct_is_sized_though_its_last_field_may_not_be(self) -> None:
+        self.translation = translation("read")
+        self.good = texts(self.translation)
+        self.refused("lower", "struct read__Ended<Z>(u32, str)" if "struct read__Ended<Z>(u32, str)\n" in self.good["lower"] else "struct read__Ended<Z>(str)",
+                     "struct read__Ended<Z>(())", "sized, where its last field is an associated type that may be unsized")
+
+    def test_c11_a_struct_is_sized_though_its_last_field_may_not_be(self) -> None:
+        self.translation = translation("read")
+        self.good = texts(self.translation)
+        self.refused("lower", "struct read__Ended<Z>(str)", "struct read__Ended<Z>(())", "sized, where its last field is an associated type that may be unsized")
 
     def test_c4_two_impls_get_one_line(self) -> None:
         line = "impl<T> shapes__Local for shapes__Two<T> where T: Sized, T: shapes__Second, T: shapes__Second__Of__Then<Wrap_<Pat3_>>"

@@ -67,7 +67,7 @@ class InProcess(Room):
 
     def test_a_question_takes_no_program(self) -> None:
         shapes = world("shapes")
-        questions = [q for written in ("shapes::Tree: Send", "shapes::Tree: Copy") for q in QuestionReader(shapes).read_all(written)]
+        questions = [q for written in ("shapes::Tree<u8>: Send", "shapes::Tree<u8>: Copy") for q in QuestionReader(shapes).read_all(written)]
         with self.without_programs():
             verdicts = Asker(translation("shapes")).ask(questions)
         self.assertEqual([v.word for v in verdicts], [v.word for v in Asker(translation("shapes"), PROGRAM).ask(questions)])

@@ -378,7 +378,7 @@ class Projects(unittest.TestCase):
                                                            "dbl@0.2.0::A: Send", "dbl@0.1.0::More: Send")], ["yes", "no", "yes", "yes", "no", "no"])
         # What a build script finds of the compiler is as in any build.
         self.assertEqual([a.split(" ")[0] for a in self.ask(base, "u64: mid::Built", "u64: mid::Nightly")], ["yes", "no"])
-        self.assertEqual(self.ask(base, "u64: app::Mark"), ["yes (argued: items of app depend on `cfg(doc)`, which rustdoc sets (lib.rs:6))"])
+        self.assertEqual(self.ask(base, "u64: app::Mark"), ["yes (not proved: items of app depend on `cfg(doc)`, which rustdoc sets (lib.rs:6))"])
         status, _, errors = self.call("ask", os.path.join(self.folder, base), "dbl::A: Send")
         self.assertEqual(status, 3)
         self.assertIn("`dbl` may be any of `dbl@0.2.0`, `dbl@0.1.0`", errors)
@@ -388,7 +388,7 @@ class Projects(unittest.TestCase):
         with mock.patch.object(command, "check_project", side_effect=BadInput("the check is given up")):
             status, _, errors = self.project("app")
         self.assertEqual((status, errors.splitlines()[-1]), (3, "from-rustdoc: the check is given up"))
-        self.assertEqual(self.ask("target/from-rustdoc/app", "mid::M: dbl@0.1.0::T"), ["yes (by law)"])
+        self.assertEqual(self.ask("target/from-rustdoc/app", "mid::M: dbl@0.1.0::T"), ["yes (certain)"])
         status, said, _ = self.project("mid")
         self.assertEqual(status, 0)
         self.assertEqual([line.split(":")[0] for line in said.splitlines() if ": coherent" in line], ["dbl 0.1.0", "mid 0.1.0"])

@@ -11,7 +11,7 @@ from ..html_docs import Pages, json_folder, with_patterns
 from ..rustdoc_json import JsonCrate
 from ..standard import Standard
 from ..standard_json import JsonStandard
-from ..terms import (Array, BadInput, Bound, Dyn, Function, Named, Parameter, Pointer, Primitive, Projection, Reference, Tuple, Unknown)
+from ..terms import (Array, BadInput, Bound, Dyn, Function, Impl, Named, Parameter, Pointer, Primitive, Projection, Reference, Tuple, UNIT, Unknown)
 from .common import kept
 
 ITEMS = {"Vec": "struct", "Clone": "trait", "Iterator": "trait", "Send": "trait"}
@@ -34,7 +34,8 @@ class Headers(unittest.TestCase):
             ("Vec<?x>", Named("Vec", (Unknown("x"),))),
             ("(u8,)", Tuple((Primitive("u8"),))),
             ("(u8)", Primitive("u8")),
-            ("unsafe extern fn(x: u8) -> T", Function((Primitive("u8"),), Parameter("T"), False)),
+            ("unsafe extern fn(x: u8) -> T", Function((Primitive("u8"),), Parameter("T"), 'unsafe extern "C" ')),
+            ('extern "C-unwind" fn()', Function((), UNIT, 'extern "C-unwind" ')),
             ("<T as Iterator>::Item", Projection(Parameter("T"), Bound("Iterator"), "Item")),
             ("T::Item", Projection(Parameter("T"), None, "Item")),
             ("dyn for<'a> Iterator<Item = u8> + Send + 'static", Dyn((Bound("Iterator", (), (("Item", Primitive("u8")),)), Bound("Send")))),
@@ -98,6 +99,19 @@ class StdPages(unittest.TestCase):
         impl = self.standard.impl(header, "core/marker/trait.Unpin.html", "", "core")
         self.assertEqual((impl.source, impl.error), ("std: impl<T> X for *const T is !null", "a pattern type"))
         self.assertEqual(with_patterns(f"impl X&lt;T {held}&gt; for U {held.replace('NotNull', 'Or([])')}"), "impl X&lt;T is !null&gt; for U is _")
+
+    def test_values_of_references_stand_on_the_page_of_what_they_refer_to(self) -> None:
+        page = "alloc/vec/struct.Vec.html"
+        pages = Pages(kept("std"))
+        assert pages.archive is not None
+        header, value = "impl&lt;'a, T, A&gt; X for &amp;'a Vec&lt;T, A&gt;", "type Item = &amp;'a T"
+        pages.archive[page] += (f'<section id="impl-X" class="impl"><h3 class="code-header">{header}</h3></section>'
+                                f'<section id="associatedtype"><h4 class="code-header">{value}</h4></section>')
+        whole = Named(pages.key(page) or "", (Parameter("T"), Parameter("A")))
+        for impl in (Impl("alloc", f"std: {Pages.plain(header)}", Bound("X"), Reference(False, whole)),
+                     Impl("alloc", f"std: {Pages.plain(header)}", Bound("X", (whole,)), Parameter("T"))):
+            self.assertEqual(Standard(pages).associated_type(impl, "Item"), Reference(False, Parameter("T")))
+            self.assertIsNone(Standard(pages).associated_type(impl, "Other"))
 
     def test_boxed_slices_are_narrowed(self) -> None:
         page = "alloc/boxed/struct.Box.html"

@@ -42,6 +42,25 @@ class Reasons(unittest.TestCase):
             "`Rc<u8>: Send` does not hold: std has `impl<T, A> !Send for Rc<T, A>`",
             "required for `reasons::Cycle: Send`: its field `count` is `Rc<u8>` (line 7)"])
 
+    def test_types_that_name_each_other_are_no_reason(self) -> None:
+        """Whichever of the two is cut: `Near` and `Here` are."""
+        found = world("read")
+        rc = "`Rc<u8>: Sync` does not hold: std has `impl<T, A> !Sync for Rc<T, A>`"
+        far, here = (f"required for `read::{name}: Sync`: its field `count` is `Rc<u8>` (line {line})" for name, line in (("Far", 25), ("Here", 30)))
+        self.assertEqual(self.told("read::Far: Sync", of=found), [rc, far])
+        self.assertEqual(self.told("read::Here: Sync", of=found), [rc, here])
+        self.assertEqual(self.told("read::Near: Sync", of=found), [
+            rc, far, "required for `Box<read::Far>: Sync`, by `impl<T, A> Sync for Box<T, A>` (std)",
+            "required for `Option<Box<read::Far>>: Sync`, by `impl<T> Sync for Option<T>` (std)",
+            "required for `read::Near: Sync`: its field `next` is `Option<Box<read::Far>>` (line 24)"])
+        self.assertEqual(self.told("read::There: Sync", of=found), [
+            rc, here, "required for `Vec<read::Here>: Sync`, by `impl<T, A> Sync for Vec<T, A>` (std)",
+            "required for `read::There: Sync`: its field `all` is `Vec<read::Here>` (line 31)"])
+
+    def test_the_field_is_that_of_the_associated_type(self) -> None:
+        self.assertEqual(self.told("read::Cache<read::Local>: Sync", of=world("read"))[-1],
+                         "required for `read::Cache<read::Local>: Sync`: its field `conns` is `Vec<<read::Local as read::Backend>::Conn>` (line 29)")
+
     def test_impls_have_their_lines(self) -> None:
         self.assertEqual(self.told("Option<Vec<u16>>: reasons::Show")[:3], [
             "`u16: reasons::Show` does not hold",

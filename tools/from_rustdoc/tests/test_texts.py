@@ -47,10 +47,10 @@ class Texts(unittest.TestCase):
     def test_a_refusal_names_two_sources(self) -> None:
         found = translation("shapes")
         places = Report(found).places("upper")
-        number = next(n for n, place in enumerate(places["shapes"], 1) if "unsafe fn" in place[1])
+        number = next(n for n, place in enumerate(places["shapes"], 1) if "system" in place[1])
         told = rendered(refusal(f"overlap impl {number} with shapes 1", "shapes", places), Sources())
         self.assertIn("shapes.rs:", told)
-        self.assertIn("rests on header: an unsafe or foreign fn", told)
+        self.assertIn('rests on header: `extern "system" fn`', told)
 
     def test_a_dyn_of_a_trait_with_a_lost_supertrait_is_not_written(self) -> None:
         found = translation("shapes")

@@ -45,7 +45,7 @@ impl PartialEq<[u8; { 2 + 2 }]> for A { fn eq(&self, _: &[u8; 4]) -> bool { true
 impl Draw for dyn Debug + Send { fn draw(&self) {} }
 impl Draw for Box<dyn Iterator<Item = u8>> { fn draw(&self) {} }
 impl Draw for fn(u8, u8) -> bool { fn draw(&self) {} }
-impl Draw for unsafe fn(u8) { fn draw(&self) {} }
+impl Draw for unsafe fn(u8) { fn draw(&self) {} } impl Draw for extern "system" fn(u8) { fn draw(&self) {} }
 impl<T: Draw> Draw for (T, u8, u8, u8, u8, u8, u8, u8, u8, u8, u8, u8, T) { fn draw(&self) {} }
 impl<C0, C1, C2, C3, C4, C5, C6, C7, C8, C9, C10, C11, C12, C13, C14, C15, C16> Draw
     for Tree<(C0, C1, C2, C3, C4, C5, C6, C7, C8, C9, C10, C11, C12, C13, C14, C15, C16)> { fn draw(&self) {} }
