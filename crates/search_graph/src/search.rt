@@ -14,7 +14,7 @@ ghost use Rattle.search_graph.specs.Cache.{known_results, HasConflict, IsNumberO
 ghost use Rattle.search_graph.specs.Plain.{IsNotPlain};
 ghost use Rattle.search_graph.specs.Stack.{place_of, oldest_of, span_of_newest, IsStack, IsProvisional, IsUnread, IsSettled, AreCached, IsOnStack, IsClosedBy};
 ghost use Rattle.search_graph.specs.Provisional.{IsServingAt, IsEntryAt, NoneServes, AddsEntry, AreMoved};
-ghost use Rattle.search_graph.specs.Question.{AllDescendTo, AreEntriesOver, IsWithinAsEntries, EntriesStayWithin, IsResultOver, IsReplyOver, IsReadOver, IsInitial, IsFaithfulOver, IsKeptResult, IsNotPlainUnder, IsWithinAsCached, IsWithinAsStack, KeepsWithin};
+ghost use Rattle.search_graph.specs.Question.{AreEntriesOver, IsWithinAsEntries, EntriesStayWithin, IsResultOver, IsReplyOver, IsReadOver, IsInitial, IsFaithfulOver, IsKeptResult, IsWithinAsCached, IsWithinAsStack, KeepsWithin};
 
 use crate::cache::{Cached, CachedResults};
 use crate::delegate::{Cx, Delegate, InputOf, ResultOf};
@@ -275,14 +275,16 @@ impl<D: Delegate> Search<D> {
         requires entries { AreEntriesOver D.meaning cx.now self.now.stack.items cache.now.asked.items self.now.overflow_met self.now.entries.lists.items }
         requires place { (number : ℕ) × (depth : ℕ)
             × IsServingAt self.now.entries.lists.items self.now.stack.items number input.now step_kind depth at.0 at.1 }
-        ensures success { IfOk result (λ o. o.dependencies.encountered_overflow ≡ false) }
+        ensures overflow { IfOk result (λ o. (e : _) → IsEntryAt self.now.entries.lists.items at.0 at.1 e
+            → o.dependencies.encountered_overflow ≡ e.encountered_overflow) }
         ensures depth { IfOk result (λ o. (e : _) → IsEntryAt self.now.entries.lists.items at.0 at.1 e
             → o.dependencies.required_depth ≡ e.required_depth) }
         ensures heads { IfOk result (λ o. (e : _) → IsEntryAt self.now.entries.lists.items at.0 at.1 e → o.dependencies.heads.items ≡ e.heads.items) }
         ensures asked { IfOk result (λ o. (e : _) → IsEntryAt self.now.entries.lists.items at.0 at.1 e → UsesAlone e.asked o.dependencies.nested_goals) }
         ensures range { IfOk result (λ o. AreInRange cache.now.asked.items o.dependencies.nested_goals) }
         ensures answer { IfOk result (λ o. IsReplyOver D.meaning cx.now self.now.stack.items input.now step_kind o.dependencies.heads.items cx.now o.result) }
-        ensures faithful { IfOk result (λ o. (reach : ℕ) → IsFaithfulOver D.meaning cx.now self.now.stack.items input.now reach cx.now o) }
+        ensures faithful { IfOk result (λ o. (e : _) → IsEntryAt self.now.entries.lists.items at.0 at.1 e
+            → IsFaithfulOver D.meaning cx.now self.now.stack.items input.now (e.reach + 1) cx.now o) }
         ensures within { IfOk result (λ o. IsWithinAsEntries D.meaning cx.now self.now.entries.lists.items input.now o.result) }
         ensures no_conflict { result ≡ Err GraphFault.Conflict → ⊥ }
         ensures in_order { result ≡ Err GraphFault.Protocol → ⊥ }
@@ -292,6 +294,7 @@ impl<D: Delegate> Search<D> {
         let entry = &self.entries.lists[head][place];
         let answer = cx.copy_result(&entry.result)?;
         let mut dependencies = Dependencies::new(self.alloc);
+        dependencies.encountered_overflow = entry.encountered_overflow;
         dependencies.required_depth = entry.required_depth;
         dependencies.heads = Vec::from_slice(self.alloc, &entry.heads)?;
         let asked = entry.asked;
@@ -320,9 +323,7 @@ impl<D: Delegate> Search<D> {
         requires input { D.meaning.IsInput cx.now goal.input }
         requires nested { AreInRange cache.old.asked.items evaluation.dependencies.nested_goals }
         requires result { IsResultOver D.meaning cx.now self.old.stack.items goal.input goal.step_kind evaluation }
-        requires success { evaluation.dependencies.encountered_overflow ≡ false }
-        requires faithful { IsFaithfulOver D.meaning cx.now self.old.stack.items goal.input 0 cx.now evaluation }
-        requires descends { AllDescendTo D.meaning cx.now self.old.stack.items goal.input self.old.overflow_met }
+        requires faithful { IsFaithfulOver D.meaning cx.now self.old.stack.items goal.input (goal.depth + 1) cx.now evaluation }
         requires place { nearest < length self.old.stack.items }
         requires nearest { RestsOn evaluation.dependencies.heads.items nearest × AreBelow (nearest + 1) (indices evaluation.dependencies.heads.items) }
         ensures left { OnOk result ((e : _) × (e.result ≡ evaluation.result) × AddsEntry self.old.entries.lists.items self.new.entries.lists.items nearest e) }
@@ -359,19 +360,26 @@ impl<D: Delegate> Search<D> {
             number,
             input,
             step_kind,
-            ..
+            depth,
         } = goal;
         let kind = kind_of_path(&self.stack, nearest, step_kind);
         let result = cx.copy_result(&answer)?;
         let rests_on = Vec::from_slice(self.alloc, &heads)?;
         let asked = cache.list(number, nested_goals)?;
+        let least = if encountered_overflow {
+            0
+        } else {
+            required_depth
+        };
         let entry = ProvisionalEntry {
             input,
             number,
             result,
             heads: rests_on,
             kind,
-            required_depth,
+            encountered_overflow,
+            required_depth: least,
+            reach: reach_of(depth, encountered_overflow),
             asked,
         };
         self.entries.leave(nearest, entry)?;
@@ -390,31 +398,37 @@ impl<D: Delegate> Search<D> {
         })
     }
 
-    /// Moves the entries of a goal that ended to their next heads, if no overflow by depth was met in this call.
+    /// Moves the entries of a goal that ended to their next heads.
     ///
-    /// `ended` is the result of the goal, `step_kind` the kind of the step to it, and `asked` the index of its nested goals in the
-    /// cache. If memory is refused, some entries may be missing.
+    /// `ended` is the result of the goal, `step_kind` the kind of the step to it, `ended_reach` the greatest depth at which its result is
+    /// used, and `asked` the index of its nested goals in the cache. If memory is refused, some entries may be missing.
     pub(crate) fn move_entries(
         &mut self,
         left: Entries<D>,
         step_kind: PathKind,
         ended: &EvaluationResult<ResultOf<D>>,
+        ended_reach: usize,
         asked: usize,
     ) -> Result<(), AllocError>
         requires below { AreBelow (length self.old.stack.items) (indices ended.now.dependencies.heads.items) }
         requires rests { (place : ℕ) (e : _) → slice_get left.items place ≡ Some e → AreBelow (length self.old.stack.items + 1) (indices e.heads.items) }
-        ensures moved { OnOk result (AreMoved self.old.stack.items self.old.overflow_met left.items step_kind ended.now asked
+        ensures moved { OnOk result (AreMoved self.old.stack.items left.items step_kind ended.now ended_reach asked
             self.old.entries.lists.items self.new.entries.lists.items) }
         ensures stack { self.new.stack.items ≡ self.old.stack.items }
         ensures met { self.new.overflow_met ≡ self.old.overflow_met }
         ensures frames { self.new.frames ≡ self.old.frames }
         ensures limits { self.new.limits_met ≡ self.old.limits_met }
     {
-        if self.overflow_met {
-            return Ok(());
-        }
         let stack = &self.stack;
-        move_entries::<D>(&mut self.entries, stack, left, step_kind, ended, asked)
+        move_entries::<D>(
+            &mut self.entries,
+            stack,
+            left,
+            step_kind,
+            ended,
+            ended_reach,
+            asked,
+        )
     }
 
     /// Returns the cycle that the goal closes, if it is on the stack.
@@ -453,7 +467,6 @@ impl<D: Delegate> Search<D> {
             → IsInitial D.meaning cx.old input.now cycle cx.new r) }
         ensures reply { IfOk result (λ r. (e : _) → slice_get self.now.stack.items cycle.index ≡ Some e
             → IsReadOver D.meaning cx.old self.now.stack.items input.now step_kind cycle.index e cx.new r) }
-        ensures not_plain { IfOk result (λ r. IsNotPlainUnder D.meaning cx.old self.now.stack.items input.now cycle.index) }
         ensures within { IfOk result (λ r. IsWithinAsStack D.meaning cx.old self.now.stack.items input.now cx.new r) }
     {
         let entry = &self.stack[cycle.index];
@@ -567,6 +580,17 @@ pub fn nested_depth<D: Delegate>(depth: usize, overflowed: bool) -> usize
         depth / D::DIVIDE_AVAILABLE_DEPTH_ON_OVERFLOW
     } else {
         depth - 1
+    }
+}
+
+/// Returns the greatest depth at which a provisional result of a goal of this depth is used. Without overflow it is not limited.
+pub(crate) fn reach_of(depth: usize, encountered_overflow: bool) -> usize
+    ensures { encountered_overflow ≡ true → result ≡ depth }
+{
+    if encountered_overflow {
+        depth
+    } else {
+        usize::MAX
     }
 }
 
@@ -706,7 +730,7 @@ pub fn finish<D: Delegate>(
             dependencies,
         });
     }
-    // The result depends on goals of the stack, so it is not cached. After an overflow it is no provisional entry either.
+    // The result depends on goals of the stack, so it is not cached. After an overflow with many heads it is no provisional entry either.
     let mut nested_goals = nested_goals;
     nested_goals.add_goal(number)?;
     let dependencies = Dependencies {

@@ -1,4 +1,4 @@
-use Rattle.std.proofs.Common.{◌⊎◌, inl, inr, cond, false, true, rules, ◌≡◌, ℕ, ◌+◌, ◌*◌, ◌<◌, ◌≤◌, [], ◌∷◌, ◌++◌, length, max, sym, subst, ◌∙◌, ap, refl, arith}
+use Rattle.std.proofs.Common.{inl, inr, cond, true, rules, ◌≡◌, ℕ, ◌+◌, ◌*◌, ◌<◌, ◌≤◌, [], ◌∷◌, ◌++◌, length, max, sym, subst, ◌∙◌, ap, refl, arith}
 use Rattle.std.proofs.lemmas.Result.{IfOk-weaker, err_from_is_err_and}
 use Rattle.search_paths.specs.declared.path_kind.PathKind.TheVariants.{Inductive}
 use Rattle.search_graph.specs.declared.delegate.Request.TheVariants.{Evaluate, Done}
@@ -13,16 +13,15 @@ use Rattle.search_paths.specs.Heads.{AreHeadsBut}
 use Rattle.search_graph.specs.Stack.{question_of, steps_of, span_of_newest, IsUnread}
 use Rattle.search_graph.specs.Computed.{IsGivenWithin, nothing, also, below}
 use Rattle.search_graph.specs.Bound.{question_bound}
-use Rattle.search_graph.specs.Plain.{IsNotPlain}
 use Rattle.search_graph.specs.Cache.{HasConflict, known_results}
 use Rattle.search_graph.specs.Question.{IsFaithfulOver, IsNotPlainOver, IsWithinAsStack, AllStayWithin}
-use Rattle.search_graph.specs.Faithful.{HeadsDescend}
+use Rattle.search_graph.specs.Faithful.{NeedsHead}
 use Rattle.search_graph.proofs.Errors.{err_passed, fault_passed, fault_goes_on, stop_refused, ok_not_err, OnOk-always}
 use Rattle.search_graph.proofs.Refusals.{IfOk-err, OnOk-err, IfOk-or}
 use Rattle.search_graph.proofs.Orders.{from_zero, within_more, less_within, none_started, one_started, none_counted, one_counted, counted_later, not_less}
 use Rattle.search_paths.proofs.HeadFacts.{indices-none, both_kept, both_below, below_more, below_last, root_alone}
 use Rattle.search_graph.proofs.Graphs.{IsStack-now, steps-now, IsEntry-now, run_ended, next_entry, IsAnswer-then, answer_of_run, running_next_counted, running_begun, running_other, running_done, asked_now, hears_other, hears_next, misstep_now, due_next, due_other, Keeps-refl, Keeps-trans, IsStack-push, steps_pushed, length-steps_of, AreCached-later, provisional_alone, overflow_answers, overflow_stands}
-use Rattle.search_graph.proofs.Faithfuls.{or_first, or_second, asked_descends, not_plain_at_zero, all_heads_descend, run_heads_descend, ends_not_plain, conflict_up, plain_first, plain_next_at, plain_done, untouched_first, untouched_not_plain, faithful_not_plain, faithful_taken, faithful_at_zero, kept_of_faithful, IsFaithful-less, reach_within}
+use Rattle.search_graph.proofs.Faithfuls.{or_first, or_second, asked_descends, not_plain_at_zero, run_plain_head, needs_not_plain, ends_not_plain, conflict_up, plain_first, plain_next_at, plain_done, untouched_first, untouched_needs_head, faithful_needs_head, faithful_taken, faithful_at_zero, kept_of_faithful, IsFaithful-less, reach_within}
 use Rattle.search_graph.proofs.Limits.{unnoted, either_noted, not_both, told_within, AreLastWithin-now, AreLastWithin-push, AreCachedWithin-keeps}
 use Rattle.search_graph.proofs.Bounds.{frame_bound_runs, nested_within, one_more_run, runs_within, done_within, asked_within, asked_more}
 use Rattle.search_graph.proofs.Ends.{depth_after, held_after, answer_after, faithful_after, within_after}
@@ -327,11 +326,13 @@ evaluate_new-loop-run-preserved g t c =
     let input : c.in_ok-back.back.input ≡ c.args.input = ap (λ e. e.input) c.in_ok-back.ensures.entry ∙ inv.input in
     let kind : c.in_ok-back.back.step_kind ≡ c.args.step_kind = ap (λ e. e.step_kind) c.in_ok-back.ensures.entry ∙ inv.kind in
     let faithful = rw (inv.keeps.world, steps-now m first c.loop-run.cx es c.loop-run.search.stack.items inv.keeps inv.stack c.requires.stack, inv.input, goal_is) at c.in_ok-back.ensures.faithful in
-    let never : (limit : ℕ) → (limit ≤ c.args.depth + 1) ⊎ (c.in_ok-back.outcome.dependencies.encountered_overflow ≡ false) → HeadsDescend m w limit (indices less) steps x → IsNotPlain m w limit x
-    = (λ limit h d n b within p.
-    let told = faithful limit h (run_heads_descend m w limit (indices heads) (indices less) steps x ended.but d) n b within p in
-    let last = c.is_last_run.ensures.unread (subst (λ r. IsUnread r) (sym (c.take_head-read.ensures.unread (indices-none heads told.unread)).0) tt) in
-    true_not_false (sym last ∙ c.if-is_last_run.false)) in
+    let needs : NeedsHead m w (c.args.depth + 1) steps x c.in_ok-back.outcome.dependencies.encountered_overflow (indices less)
+    = (λ n b h p. elim (faithful n b h p) [
+      | inl told ↦
+          let last = c.is_last_run.ensures.unread (subst (λ r. IsUnread r) (sym (c.take_head-read.ensures.unread (indices-none heads told.unread)).0) tt) in
+          absurd (true_not_false (sym last ∙ c.if-is_last_run.false))
+      | inr y ↦ run_plain_head m w n (indices heads) (indices less) steps ended.but y
+    ]) in
     record {
       keeps = keeps;
       cache = c.run_once.ensures.cache;
@@ -350,7 +351,7 @@ evaluate_new-loop-run-preserved g t c =
       entry = next_entry m w steps c.run_once.new.cx c.in_ok-back.back c.in_ok-entry.entry c.args.input c.args.step_kind c.in_ok-back.outcome.result (indices less) c.in_ok-entry.ensures input kind (keeps.inputs c.args.input c.requires.input).0
           ended.within (rw (keeps.inputs c.args.input c.requires.input).1 now);
       below = ended.below;
-      untouched = untouched_not_plain m w (c.args.depth + 1) steps x c.in_ok-back.outcome.dependencies.encountered_overflow (indices less) never;
+      untouched = untouched_needs_head m w (c.args.depth + 1) steps x c.in_ok-back.outcome.dependencies.encountered_overflow (indices less) needs;
       frames = λ width h. one_more_run c.args.search.now.frames c.loop-run.search.frames c.run_once.new.search.frames c.loop-run._run (1 + width * question_bound limit width c.args.depth)
           (inv.frames width h) (c.run_once.ensures.frames width (rw (inv.keeps.world, inv.input, goal_is) h));
       rises = within_more _ _ _ inv.rises c.run_once.ensures.rises;
@@ -363,7 +364,7 @@ evaluate_new-loop-run-preserved g t c =
           c.loop-run.cache.entries.items c.run_once.new.cache.entries.items c.loop-run.search.entries.lists.items (c.run_once.new.search.entries.lists.items ++ c.in_ok-back.left ∷ []) (c.in_ok-back.ensures.within before no) last
           (inv.within before (unnoted c.loop-run.search.limits_met c.run_once.new.search.limits_met c.run_once.ensures.limits no) last cached) in
           ((told.0.0, entries_within_leave m w before c.run_once.new.cx c.run_once.new.search.entries.lists.items c.in_ok-back.left told.0.1), rw (c.in_ok-entry.ensures.result, c.in_ok-entry.ensures.input, input, (keeps.inputs c.args.input c.requires.input).1) told.1);
-      again = λ r. never;
+      again = λ r. needs;
     }
 
 pub evaluate_new-run_once-requires : goal.evaluate_new-run_once-requires
@@ -475,17 +476,6 @@ evaluate_new-conclude-requires-clause-left g t c =
     let now = rw (inv.keeps.world, steps-now m first c.loop-run.cx es c.loop-run.search.stack.items inv.keeps inv.stack c.requires.stack, inv.input, inv.kind, goal_is) at c.in_ok-back.ensures.left in
     rw (keeps.world, steps-now m first c.run_once.new.cx es c.run_once.new.search.stack.items keeps (c.in_ok-back.ensures.stack ∙ inv.stack) c.requires.stack, input, (keeps.inputs c.args.input c.requires.input).1) now
 
-pub evaluate_new-conclude-requires-clause-descends : goal.evaluate_new-conclude-requires-clause-descends
-evaluate_new-conclude-requires-clause-descends g t c =
-    let m = g.D.Delegate.meaning in
-    let inv = c.loop-run.invariant in
-    let first = c.args.cx.now in
-    let es = c.args.search.now.stack.items in
-    let keeps = Keeps-trans m first c.loop-run.cx c.run_once.new.cx inv.keeps c.run_once.ensures.keeps in
-    let input : c.into_input.result ≡ c.args.input = c.into_input.ensures ∙ ap (λ e. e.input) c.in_ok-back.ensures.entry ∙ inv.input in
-    rw (keeps.world, steps-now m first c.run_once.new.cx es c.run_once.new.search.stack.items keeps (c.in_ok-back.ensures.stack ∙ inv.stack) c.requires.stack, input, (keeps.inputs c.args.input c.requires.input).1)
-    (λ off. c.requires.descends (inv.calm (c.in_ok-back.ensures.calm off).0).0)
-
 pub evaluate_new-conclude-requires-clause-result : goal.evaluate_new-conclude-requires-clause-result
 evaluate_new-conclude-requires-clause-result g t c =
     let m = g.D.Delegate.meaning in
@@ -545,16 +535,6 @@ evaluate_new-conclude-requires-2-clause-entries g t c =
 pub evaluate_new-conclude-requires-2-clause-left : goal.evaluate_new-conclude-requires-2-clause-left
 evaluate_new-conclude-requires-2-clause-left g t c place e at = absurd (none-some e (rw c.new.ensures.items at at))
 
-pub evaluate_new-conclude-requires-2-clause-descends : goal.evaluate_new-conclude-requires-2-clause-descends
-evaluate_new-conclude-requires-2-clause-descends g t c =
-    let m = g.D.Delegate.meaning in
-    let inv = c.loop-run.invariant in
-    let first = c.args.cx.now in
-    let es = c.args.search.now.stack.items in
-    let keeps = Keeps-trans m first c.loop-run.cx c.fixpoint_overflow_result.new.cx inv.keeps c.fixpoint_overflow_result.ensures.keeps in
-    rw (keeps.world, steps-now m first c.fixpoint_overflow_result.new.cx es c.loop-run.search.stack.items keeps inv.stack c.requires.stack, c.into_input-2.ensures ∙ inv.input, (keeps.inputs c.args.input c.requires.input).1)
-    (λ off. c.requires.descends (inv.calm off).0)
-
 pub evaluate_new-conclude-requires-2-clause-result : goal.evaluate_new-conclude-requires-2-clause-result
 evaluate_new-conclude-requires-2-clause-result g t c =
     let m = g.D.Delegate.meaning in
@@ -585,7 +565,7 @@ evaluate_new-conclude-requires-2-clause-faithful g t c =
     let x = m.goal_of first c.args.input in
     let steps = steps_of m first es in
     let keeps = Keeps-trans m first c.loop-run.cx c.fixpoint_overflow_result.new.cx inv.keeps c.fixpoint_overflow_result.ensures.keeps in
-    let faithful = faithful_not_plain m w (c.args.depth + 1) steps x (m.answer_of c.fixpoint_overflow_result.new.cx c.in_ok-answer.answer) c.loop-run.dependencies.encountered_overflow (indices c.loop-run.dependencies.heads.items) (inv.again ran) in
+    let faithful = faithful_needs_head m w (c.args.depth + 1) steps x (m.answer_of c.fixpoint_overflow_result.new.cx c.in_ok-answer.answer) c.loop-run.dependencies.encountered_overflow (indices c.loop-run.dependencies.heads.items) (inv.again ran) in
     rw (keeps.world, steps-now m first c.fixpoint_overflow_result.new.cx es c.loop-run.search.stack.items keeps inv.stack c.requires.stack, c.into_input-2.ensures ∙ inv.input, (keeps.inputs c.args.input c.requires.input).1) faithful
 
 pub evaluate_new-conclude-requires-clause-nested : goal.evaluate_new-conclude-requires-clause-nested
@@ -763,7 +743,7 @@ evaluate_new-returns g t c =
     let steps = steps_of m first es in
     let goal_is = (inv.keeps.inputs c.args.input c.requires.input).1 in
     let is : m.answer_of c.fixpoint_overflow_result.new.cx c.in_ok-answer.answer ≡ m.fixpoint_overflow w x = rw (inv.keeps.world, inv.input, goal_is) at c.in_ok-answer.ensures.is.1 in
-    let faithful = faithful_not_plain m w (c.args.depth + 1) steps x (m.answer_of c.fixpoint_overflow_result.new.cx c.in_ok-answer.answer) c.loop-run.dependencies.encountered_overflow (indices c.loop-run.dependencies.heads.items) (inv.again ran) in
+    let faithful = faithful_needs_head m w (c.args.depth + 1) steps x (m.answer_of c.fixpoint_overflow_result.new.cx c.in_ok-answer.answer) c.loop-run.dependencies.encountered_overflow (indices c.loop-run.dependencies.heads.items) (inv.again ran) in
     let keeps = Keeps-trans m first c.loop-run.cx c.fixpoint_overflow_result.new.cx inv.keeps c.fixpoint_overflow_result.ensures.keeps in
     let claim = rw (keeps.world, c.into_input-2.ensures ∙ inv.input, (keeps.inputs c.args.input c.requires.input).1) at c.conclude-2.ensures.no_conflict in
     let limit : ℕ = max g.D.Delegate.FIXPOINT_STEP_LIMIT 1 in
@@ -788,7 +768,7 @@ evaluate_new-returns g t c =
       faithful = faithful_after m first c.fixpoint_overflow_result.new.cx es c.args.input c.conclude-2.result _ (c.args.depth + 1)
           faithful c.conclude-2.ensures.reply;
       no_conflict = λ h limit l d. claim h limit l;
-      exhausted = λ h limit l d. inv.again ran limit (inl l) (all_heads_descend m w limit (indices c.loop-run.dependencies.heads.items) steps x d);
+      exhausted = λ h. needs_not_plain m w (c.args.depth + 1) steps x c.loop-run.dependencies.encountered_overflow (indices c.loop-run.dependencies.heads.items) (inv.again ran);
       protocol = λ h. absurd (c.conclude-2.ensures.in_order h);
       conflict = c.conclude-2.ensures.conflict;
       frames = λ width h. rw (c.conclude-2.ensures.frames, frame_bound_runs limit width c.args.depth) (runs_within c.args.search.now.frames c.loop-run.search.frames c.loop-run._run limit (1 + width * question_bound limit width c.args.depth) counted (inv.frames width h));
@@ -797,7 +777,7 @@ evaluate_new-returns g t c =
       counted = OnOk-always c.conclude-2.result (rw c.conclude-2.ensures.frames (inv.counted ran));
       spent = λ h. rw c.conclude-2.ensures.frames (inv.counted ran);
       limits = λ h. c.conclude-2.ensures.limits;
-      no_limit = λ off on limit l d. inv.again ran limit (inl l) (all_heads_descend m w limit (indices c.loop-run.dependencies.heads.items) steps x d);
+      no_limit = λ off on. needs_not_plain m w (c.args.depth + 1) steps x c.loop-run.dependencies.encountered_overflow (indices c.loop-run.dependencies.heads.items) (inv.again ran);
       within = IfOk-weaker c.conclude-2.result _ _ (λ o s before no. absurd (true_not_false (sym c.conclude-2.ensures.limits ∙ no))) c.conclude-2.ensures.reply;
     }
 
@@ -837,7 +817,7 @@ evaluate_new-conclude-requires-2-clause-kept g t c =
     let x = m.goal_of first c.args.input in
     let steps = steps_of m first es in
     let keeps = Keeps-trans m first c.loop-run.cx c.fixpoint_overflow_result.new.cx inv.keeps c.fixpoint_overflow_result.ensures.keeps in
-    let faithful = faithful_not_plain m w (c.args.depth + 1) steps x (m.answer_of c.fixpoint_overflow_result.new.cx c.in_ok-answer.answer) c.loop-run.dependencies.encountered_overflow (indices c.loop-run.dependencies.heads.items) (inv.again ran) in
+    let faithful = faithful_needs_head m w (c.args.depth + 1) steps x (m.answer_of c.fixpoint_overflow_result.new.cx c.in_ok-answer.answer) c.loop-run.dependencies.encountered_overflow (indices c.loop-run.dependencies.heads.items) (inv.again ran) in
     λ h. rw (keeps.world, c.into_input-2.ensures ∙ inv.input, (keeps.inputs c.args.input c.requires.input).1)
     (kept_of_faithful m w c.args.depth steps x (m.answer_of c.fixpoint_overflow_result.new.cx c.in_ok-answer.answer) c.loop-run.dependencies.encountered_overflow (indices c.loop-run.dependencies.heads.items) (ap indices h) faithful)
 
@@ -879,7 +859,7 @@ evaluate_new-returns-in_err-answer-clause-no_limit g t c =
     let w = m.world first in
     let x = m.goal_of first c.args.input in
     let steps = steps_of m first c.args.search.now.stack.items in
-    λ off on limit l d. inv.again ran limit (inl l) (all_heads_descend m w limit (indices c.loop-run.dependencies.heads.items) steps x d)
+    λ off on. needs_not_plain m w (c.args.depth + 1) steps x c.loop-run.dependencies.encountered_overflow (indices c.loop-run.dependencies.heads.items) (inv.again ran)
 
 pub run_once-returns-in-End-clause-exhausted : goal.run_once-returns-in-End-clause-exhausted
 run_once-returns-in-End-clause-exhausted g t c =
