@@ -33,6 +33,10 @@ pub or_second : (a b : Bool) → (a || b) ≡ false → b ≡ false
 or_second true b h = let e : true ≡ false = h in absurd cc
 or_second false b h = h
 
+pub or_either : (a b : Bool) → (a || b) ≡ true → (a ≡ true) ⊎ (b ≡ true)
+or_either true b h = inl refl
+or_either false b h = inr h
+
 -- what stands in a longer list stood before, or is the last
 pub slice_get_last : {X : Type 0} (xs : List X) (y s : X) (place : ℕ) → slice_get (xs ++ y ∷ []) place ≡ Some s → (slice_get xs place ≡ Some s) ⊎ (y ≡ s)
 slice_get_last [] y s zero h = inr (let e : Some y ≡ Some s = h in cc)
@@ -223,6 +227,18 @@ module _ {C I R F : Type 0} (m : Meaning C I R F) where
   pub IsFaithful-less : (w : m.World) (reach less : ℕ) (steps : List (m.Goal × PathKind)) (g : m.Goal) (a : m.Answer) (overflowed : Bool) (heads : List ℕ) → less ≤ reach
       → IsFaithful m w reach steps g a overflowed heads → IsFaithful m w less steps g a overflowed heads
   IsFaithful-less w reach less steps g a overflowed heads h f n b k p = f n b (elim k [ inl l ↦ inl (omega (arith, l, h)) | inr y ↦ inr y ]) p
+
+  -- a result that rests on others, or came after an overflow, may be marked as one after an overflow
+  pub faithful_marked : (w : m.World) (reach : ℕ) (steps : List (m.Goal × PathKind)) (g : m.Goal) (a : m.Answer) (before after : Bool) (heads : List ℕ)
+      → (before ≡ true → after ≡ true) → (after ≡ true → (before ≡ true) ⊎ (heads ≡ [] → ⊥)) → IsFaithful m w reach steps g a before heads → IsFaithful m w reach steps g a after heads
+  faithful_marked w reach steps g a before true heads told due f n b h p =
+      let near : n ≤ reach = elim h [ inl l ↦ l | inr off ↦ absurd (true_not_false off) ] in
+      elim (f n b (inl near) p) [
+        | inl said ↦ absurd (elim (due refl) [ inl on ↦ true_not_false (sym on ∙ said.within) | inr rests ↦ rests said.unread ])
+        | inr x ↦ inr x
+      ]
+  faithful_marked w reach steps g a true false heads told due f n b h p = absurd (true_not_false (sym (told refl)))
+  faithful_marked w reach steps g a false false heads told due f n b h p = f n b h p
 
   -- at depth 0 no question is plain
   pub faithful_at_zero : (w : m.World) (before : Bool) (steps : List (m.Goal × PathKind)) (g : m.Goal) (a : m.Answer) (heads : List ℕ) → IsFaithful m w (cond before 0 0) steps g a true heads

@@ -9,13 +9,14 @@ ghost use Rattle.search_graph.specs.Chain.{AreInRange, AreInRanges, IsUsableAt, 
 ghost use Rattle.search_graph.specs.Meaning.{KeepsContext};
 ghost use Rattle.search_paths.specs.Heads.{RestsOn};
 ghost use Rattle.search_paths.specs.KeptPaths.{indices, AreBelow};
-ghost use Rattle.search_graph.specs.Bound.{uncached_questions_limit};
+ghost use Rattle.search_graph.specs.Bound.{uncached_questions_limit, local_questions_limit};
 ghost use Rattle.search_graph.specs.Cache.{known_results, HasConflict, IsNumberOf, KeepsResults, IsReplyOf, AddsAsked, AddsEvaluation, SaysSame};
 ghost use Rattle.search_graph.specs.Plain.{IsNotPlain};
 ghost use Rattle.search_graph.specs.Stack.{place_of, oldest_of, span_of_newest, IsStack, IsProvisional, IsUnread, IsSettled, AreCached, IsOnStack, IsClosedBy};
 ghost use Rattle.search_graph.specs.Provisional.{IsServingAt, IsEntryAt, NoneServes, AddsEntry, AreMoved};
 ghost use Rattle.search_graph.specs.Question.{AreEntriesOver, IsWithinAsEntries, EntriesStayWithin, IsResultOver, IsReplyOver, IsReadOver, IsInitial, IsFaithfulOver, IsKeptResult, IsWithinAsCached, IsWithinAsStack, KeepsWithin};
 
+use crate::budget::Budget;
 use crate::cache::{Cached, CachedResults};
 use crate::delegate::{Cx, Delegate, InputOf, ResultOf};
 use crate::fault::{GraphFault, Stop};
@@ -36,18 +37,6 @@ pub type Evaluation<D> = Result<EvaluationResult<ResultOf<D>>, GraphFault>;
 /// The same, if the call from outside may be given up during the evaluation.
 pub(crate) type Outcome<D> = Result<EvaluationResult<ResultOf<D>>, Stop>;
 
-/// A call from outside is given up when uncached goals have evaluated this many nested goals in it.
-///
-/// A goal is uncached if its result depends on goals of the stack, or if it met an overflow by depth. The goal is counted when it ends,
-/// with the nested goals of all its runs. Each counts once, and `Delegate::cost_of` times more for the goal's own types. The count
-/// begins anew with each call.
-///
-/// An uncached result is stored for one run of its nearest head at most. It is computed again if its goal is evaluated after that run.
-/// If goals reach each other by many paths, that may happen exponentially often in the number of goals. All other goals are cached, so
-/// this bounds the time of a call. Goals that form no cycle and whose chains fit the depth are never counted, whatever they cost. The
-/// number is far above the nested goals of types that grow at each step within a depth of 128.
-pub(crate) const UNCACHED_QUESTIONS_LIMIT: usize = 65536;
-
 /// The goals that are being evaluated, and what was counted.
 pub struct Search<D: Delegate> {
     /// The allocator.
@@ -61,15 +50,14 @@ pub struct Search<D: Delegate> {
     /// The results that depend on goals of the stack. Each goal of the stack has a list of the results whose nearest head it is.
     pub entries: ProvisionalEntries<D>,
     pub ghost listed: { length entries.lists.items ≡ length stack.items } by { Prim.hlevel props },
-    /// Whether the limit of the depth or of the runs gave a result, or a call was given up.
+    /// Whether the limit of the depth or of the runs gave a result, goals ran out, or a call was given up.
     pub limits_met: bool,
     /// Whether a nested goal reported an overflow by depth in this call from outside.
     pub(crate) overflow_met: bool,
     /// The number of frames that were started, at most `u64::MAX`.
     pub frames: u64,
-    /// The number of nested goals of the uncached goals that ended in this call from outside, as `UNCACHED_QUESTIONS_LIMIT` counts
-    /// them.
-    pub(crate) uncached_questions: usize,
+    /// What was counted in this call from outside, and how far it may go.
+    pub(crate) budget: Budget,
 }
 
 impl<D: Delegate> Drop for Search<D> {
@@ -82,7 +70,7 @@ impl<D: Delegate> Drop for Search<D> {
             limits_met: _,
             overflow_met: _,
             frames: _,
-            uncached_questions: _,
+            budget: _,
         } = self;
     }
 }
@@ -103,7 +91,7 @@ impl<D: Delegate> Search<D> {
             limits_met: false,
             overflow_met: false,
             frames: 0,
-            uncached_questions: 0,
+            budget: Budget::new(),
         }
     }
 
@@ -121,33 +109,37 @@ impl<D: Delegate> Search<D> {
 
     /// Begins a call from outside. No goal has ended in it, and no overflow was met.
     pub(crate) fn count_anew(&mut self)
-        ensures count { self.new.uncached_questions ≡ 0 }
+        ensures count { self.new.budget.counted ≡ 0 }
+        ensures whole { self.new.budget.allowance ≡ local_questions_limit }
+        ensures unshared { self.new.budget.sharing ≡ 0 }
         ensures calm { self.new.overflow_met ≡ false }
         ensures stack { self.new.stack.items ≡ self.old.stack.items }
         ensures entries { self.new.entries ≡ self.old.entries }
         ensures frames { self.new.frames ≡ self.old.frames }
         ensures limits { self.new.limits_met ≡ self.old.limits_met }
     {
-        self.uncached_questions = 0;
+        self.budget = Budget::new();
         self.overflow_met = false;
     }
 
-    /// Adds `cost` for a goal that ended, if the goal is uncached. Returns whether the call may continue.
+    /// Adds `cost` for a goal that ended, if the goal is uncached and has not run out. Returns whether the call may continue.
     pub(crate) fn count_end(&mut self, is_open: bool, cost: usize) -> bool
-        ensures limit { is_open ≡ true → result ≡ true → self.new.uncached_questions < uncached_questions_limit }
-        ensures count { is_open ≡ true → result ≡ true → self.new.uncached_questions ≡ self.old.uncached_questions + cost }
-        ensures uncounted { is_open ≡ false → (result ≡ true) × (self.new.uncached_questions ≡ self.old.uncached_questions) }
+        ensures limit { is_open ≡ true → self.old.budget.counted < self.old.budget.allowance → result ≡ true
+            → self.new.budget.counted < uncached_questions_limit }
+        ensures count { is_open ≡ true → self.old.budget.counted < self.old.budget.allowance → result ≡ true
+            → self.new.budget.counted ≡ self.old.budget.counted + cost }
+        ensures uncounted { is_open ≡ false → (result ≡ true) × (self.new.budget ≡ self.old.budget) }
+        ensures unwound { self.old.budget.allowance ≤ self.old.budget.counted → (result ≡ true) × (self.new.budget ≡ self.old.budget) }
+        ensures first { is_open ≡ true → self.old.budget.counted < self.old.budget.allowance → self.old.budget.sharing ≡ 0
+            → self.old.budget.allowance ≤ self.new.budget.counted → self.new.budget.sharing ≡ length self.old.stack.items }
         ensures stack { self.new.stack.items ≡ self.old.stack.items }
         ensures entries { self.new.entries ≡ self.old.entries }
         ensures met { self.new.overflow_met ≡ self.old.overflow_met }
         ensures frames { self.new.frames ≡ self.old.frames }
         ensures limits { self.new.limits_met ≡ self.old.limits_met }
     {
-        if !is_open {
-            return true;
-        }
-        self.uncached_questions = self.uncached_questions.saturating_add(cost);
-        self.uncached_questions < UNCACHED_QUESTIONS_LIMIT
+        let level = self.stack.len();
+        self.budget.count_end(level, is_open, cost)
     }
 
     /// Returns a range that contains the numbers of all goals of the stack.

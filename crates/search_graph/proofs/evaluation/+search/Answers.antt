@@ -1,4 +1,4 @@
-use Rattle.std.proofs.Common.{inl, inr, cond, true, rules, ◌≡◌, ℕ, ◌+◌, ◌*◌, ◌<◌, ◌≤◌, [], ◌∷◌, ◌++◌, length, max, sym, subst, ◌∙◌, ap, refl, arith}
+use Rattle.std.proofs.Common.{◌⊎◌, ◌||◌, inl, inr, cond, false, true, rules, ◌≡◌, ℕ, ◌+◌, ◌*◌, ◌<◌, ◌≤◌, [], ◌∷◌, ◌++◌, length, max, sym, subst, ◌∙◌, ap, refl, arith}
 use Rattle.std.proofs.lemmas.Result.{IfOk-weaker, err_from_is_err_and}
 use Rattle.search_paths.specs.declared.path_kind.PathKind.TheVariants.{Inductive}
 use Rattle.search_graph.specs.declared.delegate.Request.TheVariants.{Evaluate, Done}
@@ -21,7 +21,7 @@ use Rattle.search_graph.proofs.Refusals.{IfOk-err, OnOk-err, IfOk-or}
 use Rattle.search_graph.proofs.Orders.{from_zero, within_more, less_within, none_started, one_started, none_counted, one_counted, counted_later, not_less}
 use Rattle.search_paths.proofs.HeadFacts.{indices-none, both_kept, both_below, below_more, below_last, root_alone}
 use Rattle.search_graph.proofs.Graphs.{IsStack-now, steps-now, IsEntry-now, run_ended, next_entry, IsAnswer-then, answer_of_run, running_next_counted, running_begun, running_other, running_done, asked_now, hears_other, hears_next, misstep_now, due_next, due_other, Keeps-refl, Keeps-trans, IsStack-push, steps_pushed, length-steps_of, AreCached-later, provisional_alone, overflow_answers, overflow_stands}
-use Rattle.search_graph.proofs.Faithfuls.{or_first, or_second, asked_descends, not_plain_at_zero, run_plain_head, needs_not_plain, ends_not_plain, conflict_up, plain_first, plain_next_at, plain_done, untouched_first, untouched_needs_head, faithful_needs_head, faithful_taken, faithful_at_zero, kept_of_faithful, IsFaithful-less, reach_within}
+use Rattle.search_graph.proofs.Faithfuls.{or_first, or_second, or_either, faithful_marked, asked_descends, not_plain_at_zero, run_plain_head, needs_not_plain, ends_not_plain, conflict_up, plain_first, plain_next_at, plain_done, untouched_first, untouched_needs_head, faithful_needs_head, faithful_taken, faithful_at_zero, kept_of_faithful, IsFaithful-less, reach_within}
 use Rattle.search_graph.proofs.Limits.{unnoted, either_noted, not_both, told_within, AreLastWithin-now, AreLastWithin-push, AreCachedWithin-keeps}
 use Rattle.search_graph.proofs.Bounds.{frame_bound_runs, nested_within, one_more_run, runs_within, done_within, asked_within, asked_more}
 use Rattle.search_graph.proofs.Ends.{depth_after, held_after, answer_after, faithful_after, within_after}
@@ -30,13 +30,14 @@ use Rattle.search_graph.proofs.Entries.{runs_begin, runs_leave, runs_left, entri
 use Rattle.search_graph.proofs.evaluation.+search.Goals as goal
 use Rattle.type_terms.proofs.BooleanBasics.{true-false as true_not_false}
 
-pub ask-returns-then-depth-eq0 : goal.ask-returns-then-depth-eq0
-ask-returns-then-depth-eq0 g t c =
+pub ask-returns-in_default : goal.ask-returns-in_default
+ask-returns-in_default g t c =
     let m = g.D.Delegate.meaning in
     let first = c.args.cx.now in
     let es = c.args.search.now.stack.items in
     let w = m.world first in
     let x = m.goal_of first c.args.input in
+    let none : cond c.args.overflowed 0 c.args.depth ≡ 0 = rw c.in_default.is at c.depth_for.ensures.none in
     record {
       keeps = c.reply_with_overflow.ensures.keeps;
       stack = OnOk-always c.reply_with_overflow.result c.reply_with_overflow.ensures.stack;
@@ -49,7 +50,7 @@ ask-returns-then-depth-eq0 g t c =
       range = c.reply_with_overflow.ensures.range;
       depth = IfOk-weaker c.reply_with_overflow.result _ _ (λ o told off. absurd (true_not_false (sym told ∙ off))) c.reply_with_overflow.ensures.told;
       answer = c.reply_with_overflow.ensures.answer;
-      faithful = rw c.if-depth-eq0.true (IfOk-weaker c.reply_with_overflow.result (λ o. o.dependencies.encountered_overflow ≡ true) (IsFaithfulOver m first es c.args.input (cond c.args.overflowed 0 0) c.reply_with_overflow.new.cx) (λ o told. rw told (faithful_at_zero m w c.args.overflowed (steps_of m first es) x (m.answer_of c.reply_with_overflow.new.cx o.result) (indices o.dependencies.heads.items))) c.reply_with_overflow.ensures.told);
+      faithful = rw none (IfOk-weaker c.reply_with_overflow.result (λ o. o.dependencies.encountered_overflow ≡ true) (IsFaithfulOver m first es c.args.input 0 c.reply_with_overflow.new.cx) (λ o told. rw told (faithful_at_zero m w false (steps_of m first es) x (m.answer_of c.reply_with_overflow.new.cx o.result) (indices o.dependencies.heads.items))) c.reply_with_overflow.ensures.told);
       no_conflict = λ h. absurd (c.reply_with_overflow.ensures.no_conflict h);
       exhausted = λ h. absurd (c.reply_with_overflow.ensures.goes_on h);
       protocol = λ h. absurd (c.reply_with_overflow.ensures.in_order h);
@@ -58,8 +59,39 @@ ask-returns-then-depth-eq0 g t c =
       full = c.reply_with_overflow.ensures.full;
       rises = none_counted _ _ c.reply_with_overflow.ensures.frames;
       limits = c.reply_with_overflow.ensures.limits;
-      no_limit = λ off on limit l d. not_plain_at_zero m (m.world first) c.args.overflowed limit (m.goal_of first c.args.input) (rw c.if-depth-eq0.true at l);
+      no_limit = λ off on limit l d. not_plain_at_zero m w false limit x (rw none at l);
       within = IfOk-weaker c.reply_with_overflow.result _ _ (λ o noted before no last cached. absurd (true_not_false (sym noted ∙ no))) c.reply_with_overflow.ensures.noted;
+    }
+
+pub ask-returns-in_err-reply : goal.ask-returns-in_err-reply
+ask-returns-in_err-reply g t c =
+    let p = err_from_is_err_and c.from_residual.result c.from_residual.ensures.1 in
+    let failed = c.in_err-reply.ensures in
+    let reach = reach_within c.args.overflowed c.args.depth c.in-Some.nested c.in-Some.ensures.less in
+    let limit : ℕ = max g.D.Delegate.FIXPOINT_STEP_LIMIT 1 in
+    record {
+      keeps = c.evaluate.ensures.keeps;
+      stack = OnOk-err _ _ _ p.1;
+      cache = c.evaluate.ensures.cache;
+      entries = OnOk-err _ _ _ p.1;
+      calm = OnOk-err _ _ _ p.1;
+      goals = c.evaluate.ensures.goals;
+      results = c.evaluate.ensures.results;
+      asked_before = c.evaluate.ensures.asked_before;
+      range = IfOk-err _ _ _ p.1;
+      depth = IfOk-err _ _ _ p.1;
+      answer = IfOk-err _ _ _ p.1;
+      faithful = IfOk-err _ _ _ p.1;
+      no_conflict = λ h limit l d. failed.no_conflict (err_passed _ _ _ _ p.1 p.2 h) limit (omega (arith, reach, l)) d;
+      exhausted = λ h limit l d. failed.exhausted (err_passed _ _ _ _ p.1 p.2 h) limit (omega (arith, reach, l)) d;
+      protocol = λ h. failed.protocol (err_passed _ _ _ _ p.1 p.2 h);
+      conflict = λ h. failed.conflict (err_passed _ _ _ _ p.1 p.2 h);
+      frames = λ width h. let within = nested_within limit width c.in-Some.nested c.args.depth c.in-Some.ensures.falls in let run = c.evaluate.ensures.frames width h in omega arith;
+      full = λ h. failed.full (err_passed _ _ _ _ p.1 p.2 h);
+      rises = c.evaluate.ensures.rises;
+      limits = c.evaluate.ensures.limits;
+      no_limit = λ off on limit l d. c.evaluate.ensures.no_limit off on limit (omega (arith, reach, l)) d;
+      within = IfOk-err _ _ _ p.1;
     }
 
 pub ask-returns : goal.ask-returns
@@ -67,32 +99,47 @@ ask-returns g t c =
     let m = g.D.Delegate.meaning in
     let first = c.args.cx.now in
     let es = c.args.search.now.stack.items in
-    let reach = reach_within c.args.overflowed c.args.depth c.nested_depth-nested.result c.nested_depth-nested.ensures.less in
+    let w = m.world first in
+    let x = m.goal_of first c.args.input in
+    let steps = steps_of m first es in
+    let reply = c.in_ok-reply.reply in
+    let replied = c.in_ok-reply.ensures in
+    let found = reply.dependencies in
+    let marked = c.end_nested-marked.result in
+    let told = c.is_met-told.result in
+    let answer = m.answer_of c.evaluate.new.cx reply.result in
+    let near : ℕ = cond c.args.overflowed 0 c.args.depth in
+    let reach = reach_within c.args.overflowed c.args.depth c.in-Some.nested c.in-Some.ensures.less in
     let limit : ℕ = max g.D.Delegate.FIXPOINT_STEP_LIMIT 1 in
+    let faithful = IsFaithful-less m w (c.in-Some.nested + 1) near steps x answer found.encountered_overflow (indices found.heads.items) reach replied.faithful in
+    let rests : marked ≡ true → indices found.heads.items ≡ [] → ⊥ = λ on none. c.end_nested-marked.ensures.rests on (indices-none found.heads.items none) in
+    let due : told ≡ true → (found.encountered_overflow ≡ true) ⊎ (indices found.heads.items ≡ [] → ⊥) = λ on. elim (or_either found.encountered_overflow marked (sym c.is_met-told.ensures ∙ on)) [ inl before ↦ inl before | inr now ↦ inr (rests now) ] in
     record {
       keeps = c.evaluate.ensures.keeps;
-      stack = c.evaluate.ensures.stack;
+      stack = replied.stack;
       cache = c.evaluate.ensures.cache;
-      entries = c.evaluate.ensures.entries;
-      calm = c.evaluate.ensures.calm;
+      entries = replied.entries;
+      calm = replied.calm;
       goals = c.evaluate.ensures.goals;
       results = c.evaluate.ensures.results;
       asked_before = c.evaluate.ensures.asked_before;
-      range = c.evaluate.ensures.range;
-      depth = IfOk-weaker c.evaluate.result _ _ (λ o within off. depth_below o.dependencies.required_depth c.nested_depth-nested.result c.args.depth (within off) c.nested_depth-nested.ensures.falls) c.evaluate.ensures.depth;
-      answer = c.evaluate.ensures.answer;
-      faithful = IfOk-weaker c.evaluate.result (IsFaithfulOver m first es c.args.input (c.nested_depth-nested.result + 1) c.evaluate.new.cx) (IsFaithfulOver m first es c.args.input (cond c.args.overflowed 0 c.args.depth) c.evaluate.new.cx) (λ o f. IsFaithful-less m (m.world first) (c.nested_depth-nested.result + 1) (cond c.args.overflowed 0 c.args.depth) (steps_of m first es) (m.goal_of first c.args.input) (m.answer_of c.evaluate.new.cx o.result) o.dependencies.encountered_overflow (indices o.dependencies.heads.items) reach f)
-          c.evaluate.ensures.faithful;
-      no_conflict = λ h limit l d. c.evaluate.ensures.no_conflict h limit (omega (arith, reach, l)) d;
-      exhausted = λ h limit l d. c.evaluate.ensures.exhausted h limit (omega (arith, reach, l)) d;
-      protocol = c.evaluate.ensures.protocol;
-      conflict = c.evaluate.ensures.conflict;
-      frames = λ width h. let within = nested_within limit width c.nested_depth-nested.result c.args.depth c.nested_depth-nested.ensures.falls in let run = c.evaluate.ensures.frames width h in omega arith;
-      full = c.evaluate.ensures.full;
+      range = replied.range;
+      depth = λ off. let within = replied.depth (or_first found.encountered_overflow marked (sym c.is_met-told.ensures ∙ off)) in let falls = c.in-Some.ensures.falls in omega (arith, within, falls);
+      answer = replied.answer;
+      faithful = faithful_marked m w near steps x answer found.encountered_overflow told (indices found.heads.items) (λ on. c.is_met-told.ensures ∙ ap (λ before. before || marked) on) due faithful;
+      no_conflict = λ h. absurd {A = IsNotPlainOver m first es c.args.input near} (ok_not_err _ _ h);
+      exhausted = λ h. absurd {A = IsNotPlainOver m first es c.args.input near} (ok_not_err _ _ h);
+      protocol = λ h. absurd (ok_not_err _ _ h);
+      conflict = λ h. absurd (ok_not_err _ _ h);
+      frames = λ width h. let within = nested_within limit width c.in-Some.nested c.args.depth c.in-Some.ensures.falls in let run = c.evaluate.ensures.frames width h in omega arith;
+      full = λ h. absurd (ok_not_err _ _ h);
       rises = c.evaluate.ensures.rises;
-      limits = c.evaluate.ensures.limits;
-      no_limit = λ off on limit l d. c.evaluate.ensures.no_limit off on limit (omega (arith, reach, l)) d;
-      within = c.evaluate.ensures.within;
+      limits = λ on. c.is_met-search.ensures ∙ ap (λ met. met || marked) (c.evaluate.ensures.limits on);
+      no_limit = λ off on limit l d. elim (or_either c.evaluate.new.search.limits_met marked (sym c.is_met-search.ensures ∙ on)) [
+        | inl met ↦ c.evaluate.ensures.no_limit off met limit (omega (arith, reach, l)) d
+        | inr now ↦ ends_not_plain m w near steps x answer found.encountered_overflow (indices found.heads.items) (inr (rests now)) faithful limit l d
+      ];
+      within = λ before no last kept. replied.within before (or_first c.evaluate.new.search.limits_met marked (sym c.is_met-search.ensures ∙ no)) last kept;
     }
 
 pub evaluate-returns-in_err-number : goal.evaluate-returns-in_err-number
