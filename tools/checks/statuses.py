@@ -161,7 +161,7 @@ class Script(Cases):
         self.built, self.released = self.at / "crates/celtisdarts/out/celtisdarts", self.at / "release/celtisdarts"
         self.source, self.calls = self.at / "crates/type_terms/src/laws.rt", room / "calls"
         (self.at / "tools").mkdir(parents=True)
-        for name in ("celtisdarts", "crates.txt", "tools/program.sh", "tools/release", "tools/library"):
+        for name in ("celtisdarts", "crates.txt", "test", "tools/program.sh", "tools/release", "tools/library"):
             shutil.copy2(TOP / name, self.at / name)
         shutil.copytree(TOP / "tools" / "command", self.at / "tools" / "command")
         for folder in (TOP / "crates").iterdir():
@@ -436,6 +436,12 @@ def try_without_rt(script: Script, env: dict[str, str]) -> None:
     script.said("none, and no toolchain, told", "the toolchain's command 'rt' is not on the PATH")
     script.run("--help")
     script.printed("none, and no toolchain, in the help", "no command 'rt' on the PATH")
+    script.run("--build")
+    script.gave("no toolchain, and --build", 3)
+    script.said("no toolchain, and --build, told", "nothing can be built: .* 'rt' .* README.md names the kit that has it")
+    script.last = run([script.at / "test"], env=env)
+    script.expect("no toolchain, and the gate", script.last.status == 1 and script.last.output.endswith(b"\n0 passed, 1 failed\n"))
+    script.printed("no toolchain, and the gate, told", "test: the command 'rt' is not on the PATH")
     env["PATH"] = path
 
 
