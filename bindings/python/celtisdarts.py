@@ -547,7 +547,7 @@ class Workspace:
 
 
 class Session:
-    """Asks in one crate of a text. What is found is kept for later questions.
+    """Asks in one crate of a text. What the crate sees is kept between calls. What a search finds is dropped behind each.
 
     After any call, one that raised an error too, it can be asked again, and answers as before. Threads may share it: one call is made at a
     time.

@@ -84,7 +84,7 @@ pub(crate) fn ascii(bytes: &[u8]) -> &str {
     std::str::from_utf8(bytes).expect("the library writes ASCII")
 }
 
-/// Asks in one crate of a text. What is found is kept for later questions.
+/// Asks in one crate of a text. What the crate sees is kept between calls. What a search finds is dropped behind each.
 ///
 /// After any call, one that ended with an error too, it can be asked again, and answers as before. It may be moved to another thread. One
 /// call is made at a time.
