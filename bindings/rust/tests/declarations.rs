@@ -150,7 +150,8 @@ fn rust() -> Calls {
 
 fn c() -> Calls {
     let text = read("bindings/c/celtisdarts.h");
-    let declared = text
+    let (declared, _) = text.split_once("/* ---- null with length 0").unwrap();
+    let declared = declared
         .split('\n')
         .filter(|line| line.contains(" celtisdarts_") && line.ends_with(");"));
     let one = |line: &str| {
