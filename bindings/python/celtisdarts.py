@@ -42,11 +42,13 @@ T = TypeVar("T")
 
 HERE = Path(__file__).resolve().parent
 
-# The depth up to which a call runs on the caller's thread: it takes 0.4 MiB of stack there.
+# As rustc's recursion_limit.
 DEFAULT_DEPTH = 128
+# The stack that a level of a search takes at most, and that which a call takes beside, in bytes.
+LEVEL, CALL = 3 << 10, 64 << 10
 # The version of the library's calls.
 ABI_VERSION = 1
-# The stack on which a deeper call runs, in bytes. At depth 255 it takes some 0.7 MiB.
+# The stack of a thread that is kept for calls which the caller's is too small for, in bytes. At depth 255 a call takes some 0.7 MiB.
 DEEP_STACK = 8 << 20
 # How long a buffer for an answer is at first. A longer answer is asked for once more, in a longer one.
 FIRST_ROOM = 1024
@@ -58,7 +60,7 @@ class WithoutTruthValue:
     """What is no condition: an answer of three kinds is compared."""
 
     def __bool__(self) -> NoReturn:
-        raise TypeError(f"an answer, as `{self}` is, has no truth value: compare it, or write `isinstance(answer, {type(self).__name__})`")
+        raise TypeError(f"the answer `{self}` has no truth value: compare it, as by `isinstance(answer, {type(self).__name__})`")
 
 
 @dataclass(frozen=True)
@@ -364,6 +366,18 @@ STACKS = threading.Lock()
 KEPT = threading.local()
 
 
+def stack_size() -> int:
+    """How large this thread's stack is, in bytes; 0 where that is not known."""
+    if not hasattr(KEPT, "stack"):
+        libc = ctypes.CDLL(None)
+        attributes, lowest, size = ctypes.create_string_buffer(64), c_void_p(), c_size_t(0)  # (pthread_attr_t has 56 bytes)
+        if libc.pthread_getattr_np(c_void_p(threading.get_ident()), attributes) == 0:
+            libc.pthread_attr_getstack(attributes, byref(lowest), byref(size))
+            libc.pthread_attr_destroy(attributes)
+        KEPT.stack = size.value
+    return KEPT.stack  # type: ignore[no-any-return]
+
+
 def deep_thread() -> ThreadPoolExecutor:
     """The thread with a large stack that makes the calls of this thread. It is kept, and ends with this one. (A fork has no thread of
     before.)"""
@@ -383,8 +397,8 @@ def deep_thread() -> ThreadPoolExecutor:
 
 
 def on_stack(depth: int, call: Callable[[], T]) -> T:
-    """Makes a call that searches to this depth, on a stack that is large enough."""
-    return call() if depth <= DEFAULT_DEPTH else deep_thread().submit(call).result()
+    """Makes a call that searches to this depth, on a stack that is large enough: the caller's, if three quarters of that may be in use."""
+    return call() if 4 * (depth * LEVEL + CALL) <= stack_size() else deep_thread().submit(call).result()
 
 
 def to_bytes(text: Union[str, bytes]) -> bytes:
@@ -575,8 +589,9 @@ class Asker:
 class Workspace:
     """A text of crates that was read, to be asked to a depth from 1 to 255. It holds the text and no more, so there is nothing to close.
 
-    Raises TextFault, with the text's first faulty line, OutOfMemory, and ValueError where the depth is another. A call at a depth of more
-    than 128 runs on another thread, with 8 MiB of stack, of which each thread that calls keeps one.
+    Raises TextFault, with the text's first faulty line, OutOfMemory, and ValueError where the depth is another. A call runs on the caller's
+    thread if the stack of that is large enough, 1.8 MiB at depth 128. Else it runs on another thread, with 8 MiB, of which each thread that
+    needs it keeps one.
     """
 
     def __init__(self, text: Union[str, bytes], depth: int = DEFAULT_DEPTH) -> None:

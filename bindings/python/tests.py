@@ -219,33 +219,31 @@ class Calls(unittest.TestCase):
         asker = Asker(TEXT.encode(), 8)
         del asker, other
 
-    def test_a_deep_thread_is_kept(self) -> None:
-        session = Workspace(TEXT, 255).session("a")
-        before = threading.active_count()
-        for _ in range(50):
-            self.assertEqual(session.prove("u8: Show"), Yes({}))
-            self.assertEqual(celtisdarts.run(TEXT, 129).text, "crate base: accepted\ncrate a: accepted\n")
-        self.assertLessEqual(threading.active_count(), before + 1)
-        if not os.fork():  # a child has none of them
-            os._exit(0 if session.prove("u8: Show") == Yes({}) else 1)
-        self.assertEqual(os.wait()[1], 0)
-        kept: list[threading.Thread] = []
+    def test_a_thread_with_a_small_stack_keeps_one_thread(self) -> None:
+        session, before, kept = Workspace(TEXT, 255).session("a"), threading.active_count(), []
 
         def ask() -> None:
-            session.prove("u8: Show")
+            for _ in range(50):
+                self.assertEqual(session.prove("u8: Show"), Yes({}))
+                self.assertEqual(celtisdarts.run(TEXT).text, "crate base: accepted\ncrate a: accepted\n")
+            self.assertEqual(threading.active_count(), before + 2)
+            if not os.fork():  # a child has none of them
+                os._exit(0 if session.prove("u8: Show") == Yes({}) else 1)
+            self.assertEqual(os.wait()[1], 0)
             kept.extend(celtisdarts.KEPT.deep._threads)
 
-        on_thread(1 << 20, ask)
+        on_thread(256 << 10, ask)
         for thread in kept:
             thread.join(10)
         self.assertEqual([thread.is_alive() for thread in kept], [False])
 
     def test_stacks(self) -> None:
         found: list[object] = []
-        for stack, depth in ((2 << 20, 128), (256 << 10, 255)):
+        sizes = [(stack, depth) for stack in (256 << 10, 1 << 20, 2 << 20, 8 << 20) for depth in (8, 128, 255)]
+        for stack, depth in sizes:
             on_thread(stack, lambda: found.append(celtisdarts.run(DEEPEST, depth).text))
             on_thread(stack, lambda: found.append(Workspace(DEEPEST, depth).session("a").prove("E: T")))
-        self.assertEqual(found, ["crate a: accepted\nprove 1: maybe\n", Maybe()] * 2)
+        self.assertEqual(found, ["crate a: accepted\nprove 1: maybe\n", Maybe()] * len(sizes))
 
     def test_threads(self) -> None:
         # Four have a session each, and four more share one.
