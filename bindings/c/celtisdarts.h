@@ -85,7 +85,8 @@ static inline uint32_t celtisdarts_run_(const uint8_t *text, size_t text_length,
     return celtisdarts_run(celtisdarts_bytes_(text, text_length), text_length, depth, celtisdarts_room_(buffer, room), room, needed);
 }
 
-static inline uint32_t celtisdarts_read_(celtisdarts_handle *handle, const uint8_t *text, size_t text_length, uint32_t depth, uint32_t *line, uint32_t *number) {
+static inline uint32_t celtisdarts_read_(celtisdarts_handle *handle, const uint8_t *text, size_t text_length, uint32_t depth, uint32_t *line,
+                                         uint32_t *number) {
     return celtisdarts_read(handle, celtisdarts_bytes_(text, text_length), text_length, depth, line, number);
 }
 
@@ -97,7 +98,8 @@ static inline uint32_t celtisdarts_check_(celtisdarts_handle *handle, uint32_t n
     return celtisdarts_check(handle, number, celtisdarts_room_(buffer, room), room, needed);
 }
 
-static inline uint32_t celtisdarts_ask_(celtisdarts_handle *handle, const uint8_t *line, size_t line_length, uint8_t *buffer, size_t room, size_t *needed, uint32_t *number) {
+static inline uint32_t celtisdarts_ask_(celtisdarts_handle *handle, const uint8_t *line, size_t line_length, uint8_t *buffer, size_t room,
+                                        size_t *needed, uint32_t *number) {
     return celtisdarts_ask(handle, celtisdarts_bytes_(line, line_length), line_length, celtisdarts_room_(buffer, room), room, needed, number);
 }
 

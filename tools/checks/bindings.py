@@ -162,6 +162,10 @@ def try_c(tally: Tally, room: Path, env: Mapping[str, str]) -> None:
 def try_prefix(tally: Tally, room: Path, env: Mapping[str, str]) -> None:
     """What is installed below a prefix, and a program over it: by the shared object, and by the archive."""
     prefix = room / "prefix"
+    for words, status in ((["--install"], 2), (["--install", "prefix"], 1), (["--wheel"], 2), (["--other"], 2), (["--release", "more"], 2)):
+        ended = run([TOP / "tools/library", *words], cwd=room)
+        is_refused = (ended.status, ended.output) == (status, b"") and ended.said.count(b"\n") == 1
+        tally.expect(f"tools/library {' '.join(words)}", is_refused and not prefix.exists(), f"{ended}")
     if not succeeds(tally, "bindings/c: tools/library --install", [TOP / "tools/library", "--install", prefix], env):
         return
     lib, here = prefix / "lib", {**env, "PKG_CONFIG_PATH": str(prefix / "lib/pkgconfig"), "LD_LIBRARY_PATH": str(prefix / "lib")}
