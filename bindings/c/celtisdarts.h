@@ -30,6 +30,13 @@ extern "C" {
 #define CELTISDARTS_ABI_VERSION 1
 extern const uint32_t celtisdarts_abi_version;
 
+/* The library itself takes no null pointer, which compilers and their checks of memory are told. */
+#ifdef __GNUC__
+#define CELTISDARTS_NONNULL __attribute__((nonnull))
+#else
+#define CELTISDARTS_NONNULL
+#endif
+
 enum {
     CELTISDARTS_DONE = 0,
     CELTISDARTS_FAULT = 1,         /* the text, or the line, has a fault */
@@ -50,23 +57,29 @@ typedef struct {
 } celtisdarts_handle;
 
 /* A whole text in one call: writes the output of the program `celtisdarts`. At CELTISDARTS_FAULT that is the line of the text's first fault. */
+CELTISDARTS_NONNULL
 uint32_t celtisdarts_run(const uint8_t *text, size_t text_length, uint32_t depth, uint8_t *buffer, size_t room, size_t *needed);
 
 /* Makes a handle: writes handle.at. celtisdarts_close lets it go, and has to be called once. */
+CELTISDARTS_NONNULL
 uint32_t celtisdarts_new(void **at);
 void celtisdarts_close(celtisdarts_handle handle);
 
 /* Reads a text, to be asked at this depth, in the place of the one that was read before. At CELTISDARTS_FAULT *line and *number are those of
  * its first fault. */
+CELTISDARTS_NONNULL
 uint32_t celtisdarts_read(celtisdarts_handle *handle, const uint8_t *text, size_t text_length, uint32_t depth, uint32_t *line, uint32_t *number);
 
 /* Writes the name of a crate. That of `core` is number 0; the others count from 1, in the order of the text. */
+CELTISDARTS_NONNULL
 uint32_t celtisdarts_name(celtisdarts_handle *handle, uint32_t number, uint8_t *buffer, size_t room, size_t *needed);
 
 /* Writes the line of a crate, with its end: accepted, or why it is not. */
+CELTISDARTS_NONNULL
 uint32_t celtisdarts_check(celtisdarts_handle *handle, uint32_t number, uint8_t *buffer, size_t room, size_t *needed);
 
 /* Writes the answer to a line `prove in ..` or `refute in ..`, with its end. At CELTISDARTS_FAULT *number is the line's fault. */
+CELTISDARTS_NONNULL
 uint32_t celtisdarts_ask(celtisdarts_handle *handle, const uint8_t *line, size_t line_length, uint8_t *buffer, size_t room, size_t *needed, uint32_t *number);
 
 /* ---- null with length 0: calls by these names go through here */

@@ -150,7 +150,7 @@ def try_c(tally: Tally, room: Path, env: Mapping[str, str]) -> None:
     """Two drivers with the compiler's checks of memory, and the program of the page."""
     folder = TOP / "bindings/c"
     for name, words in (("driver", []), ("refused", ["-Wl,--wrap=malloc,--wrap=realloc"])):
-        if compile_c(tally, folder / f"{name}.c", room / name, "-fsanitize=address,undefined", *words):
+        if compile_c(tally, folder / f"{name}.c", room / name, "-fsanitize=address,undefined", "-fno-sanitize-recover=all", *words):
             ended = run([room / name], env=env)
             said = (ended.output + ended.said).decode("utf-8", "replace")
             tally.expect(f"bindings/c: {name}.c", ended.status == 0, f"status {ended.status}: {said[-4000:]}")
