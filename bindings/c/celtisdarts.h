@@ -1,4 +1,4 @@
-/* The calls of libceltisdarts.a: texts of crates are judged, and queries are answered, in process.
+/* The calls of libceltisdarts: texts of crates are judged, and queries are answered, in process.
  *
  * What each call does, and what it promises, stands where it is defined: crates/celtisdarts_c/src/. A test of bindings/rust compares the
  * declarations here with those there. Link with -lceltisdarts; the library calls malloc, realloc and free, and nothing else of the C library
@@ -7,8 +7,10 @@
  * Each call but celtisdarts_close returns a word (CELTISDARTS_..). After another word than CELTISDARTS_DONE all is as before, and
  * the call can be made again.
  *
- * No pointer may be null, not even one to no bytes. A buffer may overlap nothing else that a call is given. Two calls may run at once where
- * they have no handle in common. A call takes up to 3 KiB of stack for each level of the depth, and 64 KiB more.
+ * A text, a line or a buffer may be null if its length is 0, and no other pointer may be. (The library takes no null pointer: the functions
+ * at the end of this file pass another one. Where it is loaded at run time, by dlsym, nothing does.) A buffer may overlap nothing else that a
+ * call is given. Two calls may run at once where they have no handle in common: the library writes to no global data. A call takes up to 3 KiB
+ * of stack for each level of the depth, and 64 KiB more.
  */
 #ifndef CELTISDARTS_H
 #define CELTISDARTS_H
@@ -18,6 +20,21 @@
 
 #ifdef __cplusplus
 extern "C" {
+#endif
+
+/* The version of all bindings. */
+#define CELTISDARTS_VERSION "0.1.0"
+
+/* The version of the calls below. It rises where a program that was compiled before does not fit any more; so it is in the name of the shared
+ * object too. What the library was built with is celtisdarts_abi_version, which says so where it is loaded at run time. */
+#define CELTISDARTS_ABI_VERSION 1
+extern const uint32_t celtisdarts_abi_version;
+
+/* The library itself takes no null pointer, which compilers and their checks of memory are told. */
+#ifdef __GNUC__
+#define CELTISDARTS_NONNULL __attribute__((nonnull))
+#else
+#define CELTISDARTS_NONNULL
 #endif
 
 enum {
@@ -40,24 +57,70 @@ typedef struct {
 } celtisdarts_handle;
 
 /* A whole text in one call: writes the output of the program `celtisdarts`. At CELTISDARTS_FAULT that is the line of the text's first fault. */
+CELTISDARTS_NONNULL
 uint32_t celtisdarts_run(const uint8_t *text, size_t text_length, uint32_t depth, uint8_t *buffer, size_t room, size_t *needed);
 
 /* Makes a handle: writes handle.at. celtisdarts_close lets it go, and has to be called once. */
+CELTISDARTS_NONNULL
 uint32_t celtisdarts_new(void **at);
 void celtisdarts_close(celtisdarts_handle handle);
 
 /* Reads a text, to be asked at this depth, in the place of the one that was read before. At CELTISDARTS_FAULT *line and *number are those of
  * its first fault. */
+CELTISDARTS_NONNULL
 uint32_t celtisdarts_read(celtisdarts_handle *handle, const uint8_t *text, size_t text_length, uint32_t depth, uint32_t *line, uint32_t *number);
 
 /* Writes the name of a crate. That of `core` is number 0; the others count from 1, in the order of the text. */
+CELTISDARTS_NONNULL
 uint32_t celtisdarts_name(celtisdarts_handle *handle, uint32_t number, uint8_t *buffer, size_t room, size_t *needed);
 
 /* Writes the line of a crate, with its end: accepted, or why it is not. */
+CELTISDARTS_NONNULL
 uint32_t celtisdarts_check(celtisdarts_handle *handle, uint32_t number, uint8_t *buffer, size_t room, size_t *needed);
 
 /* Writes the answer to a line `prove in ..` or `refute in ..`, with its end. At CELTISDARTS_FAULT *number is the line's fault. */
+CELTISDARTS_NONNULL
 uint32_t celtisdarts_ask(celtisdarts_handle *handle, const uint8_t *line, size_t line_length, uint8_t *buffer, size_t room, size_t *needed, uint32_t *number);
+
+/* ---- null with length 0: calls by these names go through here */
+
+static inline const uint8_t *celtisdarts_bytes_(const uint8_t *bytes, size_t length) {
+    static const uint8_t none = 0;
+    return bytes == NULL && length == 0 ? &none : bytes;
+}
+
+static inline uint8_t *celtisdarts_room_(uint8_t *buffer, size_t room) {
+    static uint8_t none;
+    return buffer == NULL && room == 0 ? &none : buffer;
+}
+
+static inline uint32_t celtisdarts_run_(const uint8_t *text, size_t text_length, uint32_t depth, uint8_t *buffer, size_t room, size_t *needed) {
+    return celtisdarts_run(celtisdarts_bytes_(text, text_length), text_length, depth, celtisdarts_room_(buffer, room), room, needed);
+}
+
+static inline uint32_t celtisdarts_read_(celtisdarts_handle *handle, const uint8_t *text, size_t text_length, uint32_t depth, uint32_t *line,
+                                         uint32_t *number) {
+    return celtisdarts_read(handle, celtisdarts_bytes_(text, text_length), text_length, depth, line, number);
+}
+
+static inline uint32_t celtisdarts_name_(celtisdarts_handle *handle, uint32_t number, uint8_t *buffer, size_t room, size_t *needed) {
+    return celtisdarts_name(handle, number, celtisdarts_room_(buffer, room), room, needed);
+}
+
+static inline uint32_t celtisdarts_check_(celtisdarts_handle *handle, uint32_t number, uint8_t *buffer, size_t room, size_t *needed) {
+    return celtisdarts_check(handle, number, celtisdarts_room_(buffer, room), room, needed);
+}
+
+static inline uint32_t celtisdarts_ask_(celtisdarts_handle *handle, const uint8_t *line, size_t line_length, uint8_t *buffer, size_t room,
+                                        size_t *needed, uint32_t *number) {
+    return celtisdarts_ask(handle, celtisdarts_bytes_(line, line_length), line_length, celtisdarts_room_(buffer, room), room, needed, number);
+}
+
+#define celtisdarts_run celtisdarts_run_
+#define celtisdarts_read celtisdarts_read_
+#define celtisdarts_name celtisdarts_name_
+#define celtisdarts_check celtisdarts_check_
+#define celtisdarts_ask celtisdarts_ask_
 
 #ifdef __cplusplus
 }

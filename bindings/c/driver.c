@@ -104,6 +104,19 @@ static void asks(celtisdarts_handle *handle) {
     refuses("two lines", (call){ASK, handle, 0, "prove in a u8: Show\n"}, CELTISDARTS_SEVERAL_LINES, 0);
 }
 
+/* Texts, lines and buffers of length 0, which are null. */
+static void takes_null(celtisdarts_handle *handle) {
+    size_t needed = 0;
+    uint32_t line = 0, number = 0;
+    expect("no text, and no buffer", celtisdarts_run(NULL, 0, 8, NULL, 0, &needed), CELTISDARTS_DONE);
+    expect("a text, and no buffer", celtisdarts_run((const uint8_t *)"crate a", 7, 8, NULL, 0, &needed), CELTISDARTS_TOO_SHORT);
+    expect("how long its output is", (uint32_t)needed, 18);
+    expect("no text is read", celtisdarts_read(handle, NULL, 0, 8, &line, &number), CELTISDARTS_DONE);
+    expect("the name of core, and no buffer", celtisdarts_name(handle, 0, NULL, 0, &needed), CELTISDARTS_TOO_SHORT);
+    expect("core is checked, and no buffer", celtisdarts_check(handle, 0, NULL, 0, &needed), CELTISDARTS_TOO_SHORT);
+    expect("no line, and no buffer", celtisdarts_ask(handle, NULL, 0, NULL, 0, &needed, &number), CELTISDARTS_NOT_A_QUERY);
+}
+
 static celtisdarts_handle opened(void) {
     celtisdarts_handle handle = {NULL};
     expect("a handle is made", celtisdarts_new(&handle.at), CELTISDARTS_DONE);
@@ -135,6 +148,8 @@ int main(void) {
         asks(&handle);
         asks_a_long_line(&handle);
     }
+    takes_null(&handle);
+    expect("the version of the calls", celtisdarts_abi_version, CELTISDARTS_ABI_VERSION);
     celtisdarts_close(handle);
     for (int times = 0; times < 200; times++) {
         celtisdarts_handle one = opened(), other = opened();

@@ -9,8 +9,11 @@
 A text of crates is read once, as a `Workspace`, and then asked at run time, by a `Session` for a crate. `run` answers a whole text in one
 call. The language of texts and the meaning of each answer stand in docs/FORMAT.md of the repository.
 
-It loads a shared object: that which the variable CELTISDARTS_LIB names, or libceltisdarts.so beside this file. That is made of the archive
-of release/ by
+An answer has no truth value, since `Unproved` and `Maybe` do not say that a reference does not hold: `if session.prove(..)` raises TypeError.
+Compare answers, or write `isinstance(answer, Yes)` or `match`.
+
+It loads a shared object: that which the variable CELTISDARTS_LIB names, or libceltisdarts.so beside this file, which a wheel has. In the
+repository it is made of the archive of release/ by
 
     python3 celtisdarts.py --make [ARCHIVE [SHARED_OBJECT]]
 
@@ -25,20 +28,27 @@ import functools
 import os
 import subprocess
 import sys
-import tempfile
 import threading
+from concurrent.futures import ThreadPoolExecutor
 from ctypes import POINTER, byref, c_char, c_char_p, c_size_t, c_uint32, c_void_p
 from dataclasses import dataclass
 from pathlib import Path
-from typing import Any, Callable, Iterator, Optional, Sequence, TypeVar, Union
+from types import TracebackType
+from typing import Any, Callable, Iterator, NoReturn, Optional, Sequence, TypeVar, Union
+
+__version__ = "0.1.0"
 
 T = TypeVar("T")
 
 HERE = Path(__file__).resolve().parent
 
-# The depth up to which a call runs on the caller's thread: it takes 0.4 MiB of stack there.
+# As rustc's recursion_limit.
 DEFAULT_DEPTH = 128
-# The stack on which a deeper call runs, in bytes. At depth 255 it takes some 0.7 MiB.
+# The stack that a level of a search takes at most, and that which a call takes beside, in bytes.
+LEVEL, CALL = 3 << 10, 64 << 10
+# The version of the library's calls.
+ABI_VERSION = 1
+# The stack of a thread that is kept for calls which the caller's is too small for, in bytes. At depth 255 a call takes some 0.7 MiB.
 DEEP_STACK = 8 << 20
 # How long a buffer for an answer is at first. A longer answer is asked for once more, in a longer one.
 FIRST_ROOM = 1024
@@ -46,8 +56,15 @@ FIRST_ROOM = 1024
 # ---- what is answered; each is printed as the program prints it
 
 
+class WithoutTruthValue:
+    """What is no condition: an answer of three kinds is compared."""
+
+    def __bool__(self) -> NoReturn:
+        raise TypeError(f"the answer `{self}` has no truth value: compare it, as by `isinstance(answer, {type(self).__name__})`")
+
+
 @dataclass(frozen=True)
-class Accepted:
+class Accepted(WithoutTruthValue):
     """Every header keeps the orphan rule, and no two impls that the crate brings together overlap."""
 
     def __str__(self) -> str:
@@ -55,7 +72,7 @@ class Accepted:
 
 
 @dataclass(frozen=True)
-class Orphan:
+class Orphan(WithoutTruthValue):
     """The header of this impl of the crate breaks the orphan rule: a parameter comes before the first local type, or, where there is none,
     no type of it is local. Impls count from 1."""
 
@@ -69,7 +86,7 @@ class Orphan:
 
 
 @dataclass(frozen=True)
-class Overlap:
+class Overlap(WithoutTruthValue):
     """This impl of the crate and that one of another, or of the same, apply to one type."""
 
     number: int
@@ -81,10 +98,13 @@ class Overlap:
 
 
 @dataclass(frozen=True)
-class Yes:
+class Yes(WithoutTruthValue):
     """The reference has a proof, with these values for its variables, by their names; one without a value is not listed."""
 
     values: dict[str, str]
+
+    def __hash__(self) -> int:
+        return hash(frozenset(self.values.items()))
 
     def __str__(self) -> str:
         values = ", ".join(f"?{variable} = {value}" for variable, value in self.values.items())
@@ -92,7 +112,7 @@ class Yes:
 
 
 @dataclass(frozen=True)
-class Maybe:
+class Maybe(WithoutTruthValue):
     """Whether it has a proof is not settled."""
 
     def __str__(self) -> str:
@@ -100,7 +120,7 @@ class Maybe:
 
 
 @dataclass(frozen=True)
-class Unproved:
+class Unproved(WithoutTruthValue):
     """No proof was found."""
 
     def __str__(self) -> str:
@@ -108,7 +128,7 @@ class Unproved:
 
 
 @dataclass(frozen=True)
-class No:
+class No(WithoutTruthValue):
     """No crate that may be linked can give the reference a proof."""
 
     def __str__(self) -> str:
@@ -116,7 +136,7 @@ class No:
 
 
 @dataclass(frozen=True)
-class Open:
+class Open(WithoutTruthValue):
     """Whether one can is not settled."""
 
     def __str__(self) -> str:
@@ -124,7 +144,7 @@ class Open:
 
 
 @dataclass(frozen=True)
-class Compatible:
+class Compatible(WithoutTruthValue):
     """The impls of a section `later` may be added."""
 
     def __str__(self) -> str:
@@ -132,7 +152,7 @@ class Compatible:
 
 
 @dataclass(frozen=True)
-class Breaking:
+class Breaking(WithoutTruthValue):
     """The impl of that number in the section is the first that may not."""
 
     number: int
@@ -142,7 +162,7 @@ class Breaking:
 
 
 @dataclass(frozen=True)
-class Held:
+class Held(WithoutTruthValue):
     """Each supertrait of the crate's impl headers has a proof."""
 
     def __str__(self) -> str:
@@ -150,7 +170,7 @@ class Held:
 
 
 @dataclass(frozen=True)
-class Missing:
+class Missing(WithoutTruthValue):
     """Of this supertrait of this impl's header no proof was found."""
 
     number: int
@@ -161,7 +181,7 @@ class Missing:
 
 
 @dataclass(frozen=True)
-class Undecided:
+class Undecided(WithoutTruthValue):
     """Of this supertrait of this impl's header that is not settled."""
 
     number: int
@@ -239,7 +259,7 @@ class NotAQuery(CeltisdartsError):
 
 
 class SeveralLines(CeltisdartsError):
-    """The question holds a line feed."""
+    """The question holds a line feed before its end."""
 
 
 class TooLong(CeltisdartsError):
@@ -265,7 +285,7 @@ REFUSALS: dict[int, tuple[type[CeltisdartsError], str]] = {
     3: (OutOfMemory, "out of memory"),
     4: (TableFull, "a table is full"),
     6: (NotAQuery, "the line asks nothing"),
-    7: (SeveralLines, "the question holds a line feed"),
+    7: (SeveralLines, "the question is several lines"),
     8: (TooLong, "text and question are longer than 1,048,576 bytes"),
     9: (NoSuchCrate, "the text declares no such crate"),
 }
@@ -304,6 +324,12 @@ def library() -> ctypes.CDLL:
     if not os.path.isfile(path):
         raise ImportError(f"there is no {path}: `python3 {HERE / 'celtisdarts.py'} --make` makes it, or CELTISDARTS_LIB names another")
     found = ctypes.CDLL(path)
+    try:
+        version = c_uint32.in_dll(found, "celtisdarts_abi_version").value
+    except ValueError:
+        version = 0
+    if version != ABI_VERSION:
+        raise ImportError(f"{path} has version {version} of the calls, and this module is for {ABI_VERSION}")
     for name, (params, result) in CALLS.items():
         call = getattr(found, name)
         call.argtypes, call.restype = params, result
@@ -311,12 +337,9 @@ def library() -> ctypes.CDLL:
 
 
 def make(archive: Path, shared: Path) -> None:
-    """Makes the shared object of the archive. It offers the library's calls alone."""
-    with tempfile.NamedTemporaryFile("w", suffix=".map") as offered:
-        offered.write("{ global: celtisdarts_*; local: *; };\n")
-        offered.flush()
-        words = ["cc", "-shared", "-o", str(shared), f"-Wl,--version-script={offered.name}"]
-        subprocess.run([*words, "-Wl,--whole-archive", str(archive), "-Wl,--no-whole-archive"], check=True)
+    """Makes the shared object of the archive. It offers the library's calls alone, as that does."""
+    words = ["cc", "-shared", "-o", str(shared), "-Wl,-z,defs,-z,relro,-z,now"]
+    subprocess.run([*words, "-Wl,--whole-archive", str(archive), "-Wl,--no-whole-archive"], check=True)
 
 
 Buffer = Any  # an array of c_char
@@ -340,42 +363,68 @@ class Room:
 
 
 STACKS = threading.Lock()
+KEPT = threading.local()
 
 
-def on_stack(depth: int, call: Callable[[], T]) -> T:
-    """Makes a call that searches to this depth, on a stack that is large enough."""
-    if depth <= DEFAULT_DEPTH:
-        return call()
-    ended: list[Any] = []
+def stack_size() -> int:
+    """How large this thread's stack is, in bytes; 0 where that is not known."""
+    if not hasattr(KEPT, "stack"):
+        libc = ctypes.CDLL(None)
+        attributes, lowest, size = ctypes.create_string_buffer(64), c_void_p(), c_size_t(0)  # (pthread_attr_t has 56 bytes)
+        if libc.pthread_getattr_np(c_void_p(threading.get_ident()), attributes) == 0:
+            libc.pthread_attr_getstack(attributes, byref(lowest), byref(size))
+            libc.pthread_attr_destroy(attributes)
+        KEPT.stack = size.value
+    return KEPT.stack  # type: ignore[no-any-return]
 
-    def deep() -> None:
-        try:
-            ended.append((call(), None))
-        except BaseException as error:  # it is raised by the thread that waits
-            ended.append((None, error))
 
-    thread = threading.Thread(target=deep)
+def deep_thread() -> ThreadPoolExecutor:
+    """The thread with a large stack that makes the calls of this thread. It is kept, and ends with this one. (A fork has no thread of
+    before.)"""
+    if getattr(KEPT, "process", None) == os.getpid():
+        return KEPT.deep  # type: ignore[no-any-return]
+    deep = ThreadPoolExecutor(1, "celtisdarts")
     with STACKS:
         before = threading.stack_size(DEEP_STACK)
         try:
-            thread.start()
+            deep.submit(int)  # starts it
         except RuntimeError as error:
             raise OutOfMemory("no thread could be started") from error
         finally:
             threading.stack_size(before)
-    thread.join()
-    answer, error = ended[0]
-    if error is not None:
-        raise error
-    return answer  # type: ignore[no-any-return]
+    KEPT.deep, KEPT.process = deep, os.getpid()
+    return deep
+
+
+def on_stack(depth: int, call: Callable[[], T]) -> T:
+    """Makes a call that searches to this depth, on a stack that is large enough: the caller's, if three quarters of that may be in use."""
+    return call() if 4 * (depth * LEVEL + CALL) <= stack_size() else deep_thread().submit(call).result()
 
 
 def to_bytes(text: Union[str, bytes]) -> bytes:
     # (A byte of 128 or more is a fault of the line, whatever it is.)
-    return text.encode("utf-8", "surrogateescape") if isinstance(text, str) else bytes(text)
+    if isinstance(text, str):
+        return text.encode("utf-8", "surrogateescape")
+    if isinstance(text, (bytes, bytearray, memoryview)):
+        return bytes(text)
+    raise TypeError(f"a text is str or bytes, and not {type(text).__name__}")
+
+
+def to_line(line: Union[str, bytes]) -> bytes:
+    """A line, without the line feed with which it may end."""
+    found = to_bytes(line)
+    return found[:-1] if found.endswith(b"\n") else found
+
+
+def to_question(question: str) -> str:
+    if not isinstance(question, str):
+        raise TypeError(f"a question is str, and not {type(question).__name__}")
+    return question
 
 
 def as_depth(depth: int) -> int:
+    if not isinstance(depth, int):
+        raise TypeError(f"a depth is int, and not {type(depth).__name__}")
     if not 1 <= depth <= 255:
         raise ValueError(f"a depth is from 1 to 255, and not {depth}")
     return depth
@@ -471,7 +520,7 @@ def run(text: Union[str, bytes], depth: int = DEFAULT_DEPTH) -> Output:
 
 
 class Asker:
-    """A text that the library has read, to be asked by one call at a time."""
+    """A text that the library has read, to be asked by one call at a time. It cannot be copied, since it closes its handle once."""
 
     def __init__(self, text: bytes, depth: int) -> None:
         self.handle, self.depth, self.room, self.lock = Handle(), depth, Room(), threading.Lock()
@@ -488,9 +537,16 @@ class Asker:
             raise refusal(word)
 
     def call(self, call: Callable[[Buffer, c_size_t, Any], int]) -> tuple[int, str]:
-        """Makes a call that writes. (A call lets other threads run: the lock keeps these from the handle.)"""
-        with self.lock:
-            return on_stack(self.depth, lambda: self.room.written(call))
+        """Makes a call that writes. (A call lets other threads run: the lock keeps these from the handle. It is the calling thread's, so that
+        it stays where who waits for that one is interrupted.)"""
+
+        def locked() -> tuple[int, str]:
+            with self.lock:
+                if not self.handle.at:
+                    raise ValueError("the session is closed")
+                return self.room.written(call)
+
+        return on_stack(self.depth, locked)
 
     def name(self, number: int) -> Optional[str]:
         word, name = self.call(lambda at, size, needed: library().celtisdarts_name(self.handle, number, at, size, needed))
@@ -515,16 +571,27 @@ class Asker:
             raise refusal(word)
         return answer
 
+    def close(self) -> None:
+        """Lets the text go. Nothing can be asked behind it, and it may be called again."""
+        with self.lock:
+            handle, self.handle = self.handle, Handle()
+            if handle.at:
+                library().celtisdarts_close(handle)
+
     def __del__(self) -> None:
-        if self.handle.at:
-            library().celtisdarts_close(self.handle)
+        if hasattr(self, "lock"):
+            self.close()
+
+    def __reduce__(self) -> NoReturn:
+        raise TypeError("what was read cannot be copied: make another session of the workspace")
 
 
 class Workspace:
-    """A text of crates that was read, to be asked to a depth from 1 to 255.
+    """A text of crates that was read, to be asked to a depth from 1 to 255. It holds the text and no more, so there is nothing to close.
 
-    Raises TextFault, with the text's first faulty line, OutOfMemory, and ValueError where the depth is another. A call at a depth of more
-    than 128 runs on a thread of its own, with 8 MiB of stack.
+    Raises TextFault, with the text's first faulty line, OutOfMemory, and ValueError where the depth is another. A call runs on the caller's
+    thread if the stack of that is large enough, 1.8 MiB at depth 128. Else it runs on another thread, with 8 MiB, of which each thread that
+    needs it keeps one.
     """
 
     def __init__(self, text: Union[str, bytes], depth: int = DEFAULT_DEPTH) -> None:
@@ -541,22 +608,35 @@ class Workspace:
 
     def session(self, name: str) -> Session:
         """A session for a crate of the text, or for `core`. The text is read again for it. Raises NoSuchCrate and OutOfMemory."""
+        if not isinstance(name, str):
+            raise TypeError(f"the name of a crate is str, and not {type(name).__name__}")
         if name not in self.all_crates:
             raise refusal(NO_CRATE)
         return Session(self, name)
 
 
 class Session:
-    """Asks in one crate of a text. What is found is kept for later questions.
+    """Asks in one crate of a text. What the crate sees is kept between calls. What a search finds is dropped behind each.
 
     After any call, one that raised an error too, it can be asked again, and answers as before. Threads may share it: one call is made at a
-    time.
+    time. `close`, or the end of a `with` block, lets its memory go at once; a call behind that raises ValueError. A copy of it shares what
+    was read.
     """
 
     def __init__(self, workspace: Workspace, name: str) -> None:
         self.crate_name = name
         self.number = workspace.all_crates.index(name)
         self.asker = Asker(workspace.text, workspace.depth)
+
+    def close(self) -> None:
+        """Lets what was read go. Nothing can be asked behind it, and it may be called again."""
+        self.asker.close()
+
+    def __enter__(self) -> Session:
+        return self
+
+    def __exit__(self, kind: Optional[type[BaseException]], error: Optional[BaseException], trace: Optional[TracebackType]) -> None:
+        self.close()
 
     def check_crate(self) -> Verdict:
         """Whether the crate is coherent with those that it uses. Raises OutOfMemory and TableFull."""
@@ -565,20 +645,20 @@ class Session:
     def prove(self, question: str) -> ProveAnswer:
         """Whether a reference has a proof by the rules that the crate sees.
 
-        The question is what stands behind `prove in NAME` in a text: `[params] type: bound [where]`. Raises QuestionFault, SeveralLines,
-        TooLong, OutOfMemory and TableFull.
+        The question is what stands behind `prove in NAME` in a text: `[params] type: bound [where]`, with a line feed at its end or none.
+        Raises QuestionFault, SeveralLines, TooLong, OutOfMemory and TableFull.
         """
-        return self.ask(f"prove in {self.crate_name} {question}")  # type: ignore[return-value]
+        return self.ask(f"prove in {self.crate_name} {to_question(question)}")  # type: ignore[return-value]
 
     def refute(self, question: str) -> RefuteAnswer:
         """Whether no crate that may be linked with this one can give a reference a proof. The question is what stands behind `refute in
         NAME` in a text: `type: bound`. Raises what `prove` raises."""
-        return self.ask(f"refute in {self.crate_name} {question}")  # type: ignore[return-value]
+        return self.ask(f"refute in {self.crate_name} {to_question(question)}")  # type: ignore[return-value]
 
     def ask(self, line: Union[str, bytes]) -> Union[ProveAnswer, RefuteAnswer]:
         """The answer to a whole query line, which may ask in another crate of the text: what the program `celtisdarts` answers last to the
         text with this line behind it. Raises what `prove` raises, and NotAQuery."""
-        return read_line(self.asker.ask(to_bytes(line))).answer  # type: ignore[return-value]
+        return read_line(self.asker.ask(to_line(line))).answer  # type: ignore[return-value]
 
 
 def main(words: Sequence[str]) -> None:

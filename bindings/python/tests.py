@@ -4,18 +4,20 @@ CELTISDARTS_TEXTS may name a folder of further texts, `*.txt`, whose queries are
 """
 from __future__ import annotations
 
+import copy
 import os
+import pickle
 import re
 import subprocess
 import sys
 import threading
 import unittest
 from pathlib import Path
-from typing import Callable, Iterator, NamedTuple, Optional
+from typing import Any, Callable, Iterator, NamedTuple, Optional
 
 import celtisdarts
-from celtisdarts import (Accepted, CeltisdartsError, Maybe, No, NoSuchCrate, NotAQuery, Open, Orphan, Overlap, QuestionFault, Session, SeveralLines,
-                         TextFault, TooLong, Unproved, Workspace, Yes)
+from celtisdarts import (Accepted, Asker, Breaking, CeltisdartsError, Compatible, Held, Maybe, Missing, No, NoSuchCrate, NotAQuery, Open, Orphan,
+                         Overlap, QuestionFault, Session, SeveralLines, TextFault, TooLong, Undecided, Unproved, Workspace, Yes)
 
 TOP = Path(__file__).resolve().parents[2]
 # Its search goes down to the depth limit at whatever depth, by the largest frames that were found.
@@ -130,7 +132,8 @@ class Calls(unittest.TestCase):
                     session.prove(question)
                 self.assertEqual(raised.exception.number, number, question)
             refused: list[tuple[str, type[CeltisdartsError]]] = [
-                ("prove in a u8: Show\n", SeveralLines), ("prove in a u8: Show" + " " * 1_048_576, TooLong), ("", NotAQuery), ("struct W", NotAQuery),
+                ("prove in a u8: Show\n\n", SeveralLines), ("prove in a u8: Show\nstruct W", SeveralLines),
+                ("prove in a u8: Show" + " " * 1_048_576, TooLong), ("", NotAQuery), ("struct W", NotAQuery),
                 ("supers in a", NotAQuery), ("// prove in a u8: Show", NotAQuery),
             ]
             for line, kind in refused:
@@ -138,6 +141,9 @@ class Calls(unittest.TestCase):
                     session.ask(line)
             self.assertEqual(session.prove("V<V<u8>>: Show"), Yes({}))
             self.assertEqual(session.prove("bool: Show"), Unproved())
+            self.assertEqual(session.prove("u8: Show\n"), Yes({}))
+            self.assertEqual(session.refute("V<u8>: Clone\n"), No())
+            self.assertEqual(session.ask(b"prove in a u8: Show\n"), Yes({}))
             self.assertEqual(session.prove("?x: Show"), Maybe())
             self.assertEqual(session.refute("V<bool>: Show"), Open())
             self.assertEqual(session.refute("V<u8>: Clone"), No())
@@ -163,12 +169,81 @@ class Calls(unittest.TestCase):
         wanted = {"x": "P<u8, str>", "y": "bool", "z": "fn(P<u8, str>, u8) -> [P<u8, str>]"}
         self.assertEqual(session.prove("P<?x, ?y>: Conv<(P<u8, str>, ?z)>"), Yes(wanted))
 
+    def test_words_of_another_type(self) -> None:
+        workspace, anything = Workspace(TEXT), celtisdarts
+        session = workspace.session("a")
+        wrong: Any
+        for wrong in (None, 5, 1.5, ["u8: Show"], anything):
+            for call in (Workspace, celtisdarts.run, workspace.session, session.prove, session.refute, session.ask):
+                with self.assertRaises(TypeError, msg=f"{call}({wrong})"):
+                    call(wrong)
+        for wrong in (None, "8", 8.0):
+            with self.assertRaises(TypeError):
+                Workspace("", wrong)
+        wrong = b"u8: Show"
+        with self.assertRaises(TypeError):
+            session.prove(wrong)
+        self.assertEqual(session.ask(bytearray(b"prove in a u8: Show")), Yes({}))
+
+    def test_answers_are_keys_and_no_conditions(self) -> None:
+        answers = [Accepted(), Orphan(1), Orphan(1, "T", "B"), Overlap(2, "d", 1), Yes({}), Yes({"x": "u8", "y": "u8"}), Maybe(), Unproved(), No(), Open(),
+                   Compatible(), Breaking(1), Held(), Missing(1, 2), Undecided(1, 2)]
+        self.assertEqual(len({*answers, *answers, Yes({"y": "u8", "x": "u8"})}), len(answers))
+        for answer in answers:
+            with self.assertRaisesRegex(TypeError, "has no truth value"):
+                bool(answer)
+            self.assertEqual(pickle.loads(pickle.dumps(answer)), answer)
+
+    def test_a_session_is_closed(self) -> None:
+        workspace = Workspace(TEXT)
+        with workspace.session("a") as session:
+            self.assertEqual(session.prove("u8: Show"), Yes({}))
+        for call in (lambda: session.prove("u8: Show"), session.check_crate):
+            with self.assertRaisesRegex(ValueError, "closed"):
+                call()
+        session.close()
+        self.assertEqual(workspace.session("a").prove("u8: Show"), Yes({}))
+
+    def test_a_copy_shares_what_was_read(self) -> None:
+        session = Workspace(TEXT).session("a")
+        other = copy.copy(session)
+        self.assertIs(other.asker, session.asker)
+        for refused in (copy.copy, copy.deepcopy, pickle.dumps):
+            with self.assertRaises(TypeError):
+                refused(session.asker)
+        for refused in (copy.deepcopy, pickle.dumps):
+            with self.assertRaises(TypeError):
+                refused(session)
+        del session
+        self.assertEqual(other.prove("u8: Show"), Yes({}))
+        asker = Asker(TEXT.encode(), 8)
+        del asker, other
+
+    def test_a_thread_with_a_small_stack_keeps_one_thread(self) -> None:
+        session, before, kept = Workspace(TEXT, 255).session("a"), threading.active_count(), []
+
+        def ask() -> None:
+            for _ in range(50):
+                self.assertEqual(session.prove("u8: Show"), Yes({}))
+                self.assertEqual(celtisdarts.run(TEXT).text, "crate base: accepted\ncrate a: accepted\n")
+            self.assertEqual(threading.active_count(), before + 2)
+            if not os.fork():  # a child has none of them
+                os._exit(0 if session.prove("u8: Show") == Yes({}) else 1)
+            self.assertEqual(os.wait()[1], 0)
+            kept.extend(celtisdarts.KEPT.deep._threads)
+
+        on_thread(256 << 10, ask)
+        for thread in kept:
+            thread.join(10)
+        self.assertEqual([thread.is_alive() for thread in kept], [False])
+
     def test_stacks(self) -> None:
         found: list[object] = []
-        for stack, depth in ((2 << 20, 128), (256 << 10, 255)):
+        sizes = [(stack, depth) for stack in (256 << 10, 1 << 20, 2 << 20, 8 << 20) for depth in (8, 128, 255)]
+        for stack, depth in sizes:
             on_thread(stack, lambda: found.append(celtisdarts.run(DEEPEST, depth).text))
             on_thread(stack, lambda: found.append(Workspace(DEEPEST, depth).session("a").prove("E: T")))
-        self.assertEqual(found, ["crate a: accepted\nprove 1: maybe\n", Maybe()] * 2)
+        self.assertEqual(found, ["crate a: accepted\nprove 1: maybe\n", Maybe()] * len(sizes))
 
     def test_threads(self) -> None:
         # Four have a session each, and four more share one.
@@ -193,6 +268,12 @@ class Calls(unittest.TestCase):
         ended = subprocess.run(words, cwd=Path(celtisdarts.__file__).parent, env=env, capture_output=True, text=True, check=False)
         self.assertEqual(ended.returncode, 1)
         self.assertIn("there is no /nowhere.so", ended.stderr)
+
+    def test_a_library_of_another_version(self) -> None:
+        words = [sys.executable, "-B", "-c", "import celtisdarts; celtisdarts.ABI_VERSION = 7; celtisdarts.run('')"]
+        ended = subprocess.run(words, cwd=Path(celtisdarts.__file__).parent, capture_output=True, text=True, check=False)
+        self.assertEqual(ended.returncode, 1)
+        self.assertIn(" has version 1 of the calls, and this module is for 7", ended.stderr)
 
 
 if __name__ == "__main__":

@@ -37,6 +37,15 @@ FORMS = [
 ]
 
 
+EDITOR = """\
+#!/bin/sh
+# Stands for rlwrap: says what it was given, and passes one line, or fails.
+echo "$*" >> {calls}
+[ {status} -ne 0 ] || head -n 1
+exit {status}
+"""
+
+
 def number_free(line: str) -> str:
     return re.sub(r"^(prove|refute) \d+: ", r"\1: ", line)
 
@@ -82,6 +91,10 @@ def try_reasons(tally: Tally, room: Path) -> None:
               "error: a name is not known", " --> text.txt:8:12", "8 | prove in a W: Show"]
     tally.expect("with reasons, in their order", [row for row in rows if row in wanted] == wanted and ended.status == 0, f"found: {ended}")
     tally.expect("with reasons, of these lines alone", not any(row.startswith(("crate", "prove 1")) for row in rows), f"found: {ended}")
+    ended = run(["--explain", "--with", "text.txt", "--ask", "behind.txt", "b"], "V<u8>: Show\nW: Show\n", room)
+    rows = ended.output.splitlines()
+    wanted = [" --> behind.txt:2:12", "2 | prove in b V<u8>: Show", "  = proof: V<u8>: Show    impl at line 6 of text.txt", " --> behind.txt:2:12", "2 | prove in b W: Show"]
+    tally.expect("with reasons, by the lines of the text itself", [row for row in rows if row in wanted] == wanted and ended.status == 0, f"found: {ended}")
     ended = run(["--explain", "--color", "always", "--file", "name", "--ask", "text.txt", "a"], "V<u8>: Show\n", room)
     tally.expect("with colours", ended.output.startswith("prove 2: yes\n\x1b[") and "name:8:12\n" in ended.output, f"found: {ended}")
 
@@ -105,7 +118,11 @@ def try_mistakes(tally: Tally, room: Path) -> None:
         ended = refused(room, words)
         tally.expect(f"'{words}'", ended.is_like(3, "", f"celtisdarts: {said}\n"), f"found: {ended}")
     ended = refused(room, "--ask fault.txt a")
-    tally.expect("a text with a fault", ended.is_like(1, "line 3: fault 2\n"), f"found: {ended}")
+    tally.expect("a text with a fault", ended.is_like(1, "line 3: fault 2\n", "celtisdarts: fault.txt: --explain has the reason\n"), f"found: {ended}")
+    ended = refused(room, "--with text.txt --ask fault.txt a")
+    tally.expect("a text with a fault behind another", ended.output == "line 1: fault 4\n" and ended.status == 1, f"found: {ended}")
+    ended = refused(room, "--with fault.txt --ask text.txt a")
+    tally.expect("a text with a fault in front", ended.output == "fault.txt: line 3: fault 2\n" and ended.status == 1, f"found: {ended}")
     ended = refused(room, "--ask text.txt b")
     tally.expect("a crate that is not there", ended.is_like(0, "fault 5\n"), f"found: {ended}")
     reader, writer = os.pipe()
@@ -120,11 +137,28 @@ def try_terminal(tally: Tally, room: Path) -> None:
     tally.expect("a terminal", status == 0 and "`?` lists what can be asked" in shown and "> prove 2: yes\n> " in shown, f"found: {shown!r}")
 
 
+def try_history(tally: Tally, room: Path) -> None:
+    """On a terminal rlwrap reads the lines, where it is on the PATH and does not fail. In a file nothing of it is seen."""
+    (room / "bin").mkdir()
+    for status, times in ((0, 4), (255, 1)):
+        calls = room / f"calls{status}"
+        (room / "bin/rlwrap").write_text(EDITOR.format(calls=calls, status=status))
+        (room / "bin/rlwrap").chmod(0o755)
+        env = {"PATH": f"{room / 'bin'}:{os.environ['PATH']}"}
+        ended, shown = at_terminal(["--ask", "text.txt", "a"], ("stdin", "stdout", "stderr"), cwd=room, typed=b"u8: Show\n\n?x: Show\n\x04", env=env)
+        is_good = ended == 0 and "prove 2: yes\n" in shown and "prove 2: maybe\n" in shown and "fault" not in shown
+        tally.expect(f"an editor of lines with status {status}", is_good, f"found: {shown!r}")
+        called = calls.read_text().splitlines()
+        tally.expect(f"an editor of lines with status {status}, its calls", called == ["-C celtisdarts -S >  -o cat"] * times, f"found: {called}")
+    ended = run(["--ask", "text.txt", "a"], "u8: Show\n", room, env=env)
+    tally.expect("an editor of lines, and no terminal", ended.is_like(0, "prove 2: yes\n") and calls.read_text().count("\n") == 1, f"found: {ended}")
+
+
 def check(tally: Tally, _: argparse.Namespace) -> None:
     with tempfile.TemporaryDirectory() as folder:
         room = Path(folder)
         for name, text in (("text.txt", TEXT), ("behind.txt", "crate b uses a\n"), ("fault.txt", "crate a\n\nstruct\n")):
             (room / name).write_text(text)
         try_examples(tally)
-        for part in (try_forms, try_reasons, try_mistakes, try_terminal):
+        for part in (try_forms, try_reasons, try_mistakes, try_terminal, try_history):
             part(tally, room)

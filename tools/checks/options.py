@@ -247,12 +247,18 @@ def try_refused_files(tally: Tally, room: Room) -> None:
     tally.expect("a name with an escape", ended.is_like(3, "", "celtisdarts: ?[31m??: no such file\n"), ended)
     for words in ("zero", "--check zero", "-"):
         ended = room.run(words, (room.path / "zero").read_text())
-        name = "standard input" if words == "-" and not ended.said else "zero"
-        said = "" if words == "-" else f"celtisdarts: {name}: is no text: it has a byte 0\n"
+        name = "standard input" if words == "-" else "zero"
+        said = f"celtisdarts: {name}: {'--explain has the reason' if words == '-' else 'is no text: it has a byte 0'}\n"
         tally.expect(f"bytes that are no text, '{words}'", ended.is_like(1, "line 2: fault 2\n", said), ended)
     with open(room.path / "zero", "rb") as source:
         ended = room.run("8", stdin=source.fileno())
     tally.expect("bytes that are no text, as the input", ended.is_like(1, "line 2: fault 2\n", "celtisdarts: standard input: is no text: it has a byte 0\n"), ended)
+    for words, said in {"fault.txt": "celtisdarts: fault.txt: --explain has the reason\n", "--check fault.txt": "", "--check --explain fault.txt": "",
+                        "--explain fault.txt": "", "--explain --json fault.txt": "", "--proof dot fault.txt": "", "good.txt": ""}.items():
+        ended = room.run(words)
+        tally.expect(f"what is said, '{words}'", ended.said == said, ended)
+        is_answered = ended.status == (0 if words == "good.txt" else 1) and (said == "" or ended.output == "line 3: fault 2\n")
+        tally.expect(f"what is said, '{words}', beside the answer", is_answered, ended)
     several = room.run("good.txt nosuch 8")
     wanted = "== good.txt\ncrate a: accepted\n== nosuch\n== 8\ncrate b: accepted\n"
     tally.expect("one missing file of several", several.is_like(3, wanted, "celtisdarts: nosuch: no such file\n"), several)
@@ -426,9 +432,9 @@ def try_with(tally: Tally, room: Room) -> None:
     ended = room.run("--with front.txt --with more.txt --check good.txt")
     tally.expect("an expectation in a file in front", ended.said == "more.txt:3: prove 1: expected `no`, found `yes`\n", ended)
     ended = room.run("--with front.txt --with more.txt fault.txt")
-    tally.expect("a fault behind", ended.is_like(1, "line 3: fault 2\n"), ended)
+    tally.expect("a fault behind", ended.is_like(1, "line 3: fault 2\n", "celtisdarts: fault.txt: --explain has the reason\n"), ended)
     ended = room.run("--with front.txt --with fault.txt good.txt")
-    tally.expect("a fault in front", ended.is_like(1, "fault.txt: line 3: fault 2\n"), ended)
+    tally.expect("a fault in front", ended.is_like(1, "fault.txt: line 3: fault 2\n", "celtisdarts: good.txt: --explain has the reason\n"), ended)
     ended = room.run("--explain --with front.txt --with fault.txt good.txt")
     wanted = "fault.txt: line 3: fault 2\nerror: "
     tally.expect("a fault in front, explained", ended.status == 1 and ended.output.startswith(wanted) and "\n  --> fault.txt:3:7\n" in ended.output
@@ -535,7 +541,7 @@ def try_terminal(tally: Tally, room: Room) -> None:
     tally.expect("no colours in a file", "\x1b" not in room.run("--explain mixed.txt").output, "colours")
     status, shown = at_terminal([], ("stdin", "stderr"))
     tally.expect("no word at a terminal", (status, shown) == (2, "celtisdarts: there is no text: name a file" + HELP_OFFERED), (status, shown))
-    for given, said in ((["fault.txt"], "celtisdarts: fault.txt: --explain says more of this fault\n"), (["--explain", "fault.txt"], ""), (["good.txt"], "")):
+    for given, said in ((["fault.txt"], "celtisdarts: fault.txt: --explain has the reason\n"), (["--explain", "fault.txt"], ""), (["good.txt"], "")):
         shown = at_terminal(given, ("stderr",), cwd=room.path)[1]
         tally.expect(f"a fault at a terminal, {given}", shown == said, shown)
     status, shown = at_terminal(["8"], ("stdin", "stdout", "stderr"), typed=b"crate a\n\x04")

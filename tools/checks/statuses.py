@@ -161,9 +161,10 @@ class Script(Cases):
         self.built, self.released = self.at / "crates/celtisdarts/out/celtisdarts", self.at / "release/celtisdarts"
         self.source, self.calls = self.at / "crates/type_terms/src/laws.rt", room / "calls"
         (self.at / "tools").mkdir(parents=True)
-        for name in ("celtisdarts", "crates.txt", "tools/program.sh", "tools/release", "tools/library"):
+        for name in ("celtisdarts", "crates.txt", "test", "tools/program.sh", "tools/release", "tools/library"):
             shutil.copy2(TOP / name, self.at / name)
         shutil.copytree(TOP / "tools" / "command", self.at / "tools" / "command")
+        shutil.copytree(TOP / "bindings" / "c", self.at / "bindings" / "c")
         for folder in (TOP / "crates").iterdir():
             for part in ("src", "specs", "proofs"):
                 if (folder / part).is_dir():
@@ -436,6 +437,12 @@ def try_without_rt(script: Script, env: dict[str, str]) -> None:
     script.said("none, and no toolchain, told", "the toolchain's command 'rt' is not on the PATH")
     script.run("--help")
     script.printed("none, and no toolchain, in the help", "no command 'rt' on the PATH")
+    script.run("--build")
+    script.gave("no toolchain, and --build", 3)
+    script.said("no toolchain, and --build, told", "nothing can be built: .* 'rt' .* README.md names the kit that has it")
+    script.last = run([script.at / "test"], env=env)
+    script.expect("no toolchain, and the gate", script.last.status == 1 and script.last.output.endswith(b"\n0 passed, 1 failed\n"))
+    script.printed("no toolchain, and the gate, told", "test: the command 'rt' is not on the PATH")
     env["PATH"] = path
 
 
@@ -448,12 +455,12 @@ def try_release(script: Script, env: dict[str, str]) -> None:
 
 
 def try_library(script: Script, env: dict[str, str]) -> None:
-    """The library for C, which tools/library puts together of two archives, and when the gate refuses it."""
+    """The library for C, which tools/library makes one object of two archives, and when the gate refuses it."""
     script.what, release = "the library", Release(script)
     script.drop_programs()
     for name in ("c", "glue"):
         (script.room / name).mkdir()
-    (script.room / "glue/heap.pic.o").write_text("the toolchain's own")
+    run(["as", "-o", "heap.pic.o"], b".globl rattle_alloc\nrattle_alloc: ret\n", cwd=script.room / "glue")
     run(["ar", "rcD", "../c/liblibc_c.a", "heap.pic.o"], cwd=script.room / "glue")
     archive = script.released.with_name("libceltisdarts.a")
 
@@ -471,8 +478,16 @@ def try_library(script: Script, env: dict[str, str]) -> None:
     env["EDITS"] = ""
     script.expect("none that is released", not archive.exists())
     made("made", 0, 1)
-    script.expect("made of two archives", run(["ar", "t", archive]).output.split() == [b"one.o", b"heap.pic.o"])
+    symbols = [line.split()[-2:] for line in run(["nm", "--extern-only", archive]).output.splitlines() if line.count(b" ") > 1]
+    wanted = [[b"R", b"celtisdarts_abi_version"], [b"T", b"celtisdarts_run"]]
+    script.expect("made one object, which offers its calls alone", run(["ar", "t", archive]).output == b"celtisdarts.o\n" and symbols == wanted)
     made("made already", 0, 0)
+    one = script.at / "crates/celtisdarts_c/out/libceltisdarts.a"
+    run(["ar", "rcD", "other.a", "one.o"], cwd=one.parent)
+    os.replace(one.parent / "other.a", one)
+    note = Path(f"{one}.proved")
+    note.write_text(re.sub("program .*", f"program {hashlib.sha256(one.read_bytes()).hexdigest()}", note.read_text()))
+    made("made, where what was built has its objects apart", 0, 1)
     release.checked("of what was built", "1 passed, 0 failed")
     change_back = script.change_source()
     release.checked("a source that changed, not compared", "0 passed, 0 failed")

@@ -276,12 +276,12 @@ say_why() {
     esac
 }
 
-# Says of a text with a fault that it is none, if so; and else, to who sits at a terminal, what says more.
+# Says of a text with a fault that it is none, if so; and else, where nothing explains or compares it, what has the reason.
 say_of_fault() {
     if find_again && [ "$(tr -dc '\000' < "$again" | head -c 1 | wc -c)" -ne 0 ]; then
         say "$label: is no text: it has a byte 0"
-    elif [ -z "$explains" ] && [ -t 2 ]; then
-        say "$label: --explain says more of this fault"
+    elif [ -z "$explains$checks" ]; then
+        say "$label: --explain has the reason"
     fi
 }
 
@@ -315,7 +315,7 @@ answer_texts() {
         of_program celtisdarts_explain
         choose_colors
     fi
-    find_program || need_toolchain
+    find_program || need_toolchain "there is no proved program of these sources"
     [ "$inputs" -eq 0 ] || [ ! -t 0 ] || say "reading the text from the terminal, until Ctrl-D on a line by itself"
     if [ -z "$program" ] || [ -n "$checks" ] || [ -n "$fronts" ] || [ -n "$proof" ]; then keep_texts "$@"; fi
     [ -n "$program" ] || [ -n "$explains" ] || [ -z "$(ls "$room/texts")" ] || try_unproved "$room/texts" "$depth"

@@ -57,7 +57,7 @@ answer_line() {
     print_answer 2> /dev/null || end_output
 }
 
-# run_program FILE: what the program answers to the file, in `answer`
+# run_program FILE: what the program answers to the file, in `answer`. Lines count in their own files.
 run_program() {
     if [ -n "$explains" ]; then
         "$program" "$depth" --color "$color" --file "$title" < "$1" > "$room/answer" &
@@ -65,6 +65,9 @@ run_program() {
         "$program" "$depth" < "$1" > "$room/answer" &
     fi
     await
+    [ -s "$room/parts" ] || return
+    name_files > "$room/named" || exit 3
+    mv "$room/named" "$room/answer"
 }
 
 # Keeps the text, as whole lines, behind those of --with. Ends the call where it is none that can be asked.
@@ -77,6 +80,7 @@ keep_asked() {
     done
     keep_texts "$@"
     title=$(name_of "${title:-$file}")
+    { cat "$room/parts" && note_part "$title"; } > "$room/parts.here"
     [ -f "$room/texts/1" ] || {
         say "$label: ${reason:-could not be read or kept}"
         exit 3
@@ -88,6 +92,7 @@ keep_asked() {
         0) ;;
         1)
             cat "$room/answer"
+            [ -n "$explains" ] || say "$label: --explain has the reason"
             exit 1
             ;;
         *)
@@ -95,6 +100,19 @@ keep_asked() {
             exit 3
             ;;
     esac
+}
+
+# next_line: reads the next `line`, after the prompt. At a terminal rlwrap edits it and keeps a history, where it is installed and can.
+next_line() {
+    # (The dot keeps the end of an empty line, which the end of the input has not.)
+    if [ -n "$editor" ] && line=$("$editor" -C celtisdarts -S "$prompt" -o cat && echo .); then
+        line=${line%.}
+        [ -n "$line" ] && line=$(printf '%s' "$line" | tr -d '\r')
+        return
+    fi
+    editor=
+    printf '%s' "$prompt"
+    read -r line || [ -n "$line" ]
 }
 
 # answer_lines WORD ..: answers the lines of standard input, behind the text that is `named`, where `asker` may be the crate
@@ -109,18 +127,18 @@ answer_lines() {
     }
     keep_asked "$@"
     prompt=
+    editor=
     if [ -t 0 ] && [ -t 1 ]; then
         prompt="> "
+        editor=$(command -v rlwrap)
         echo "\`?\` lists what can be asked, and Ctrl-D ends."
     fi
-    printf '%s' "$prompt"
-    while read -r line || [ -n "$line" ]; do
+    while next_line; do
         set -f
         # (The words of the line, without their spaces.)
         # shellcheck disable=SC2086
         answer_line $line
         set +f
-        printf '%s' "$prompt"
     done
     [ -z "$prompt" ] || echo
     exit 0

@@ -102,7 +102,7 @@ make_programs() {
         say "the programs are proved and built already"
         exit 0
     fi
-    need_toolchain
+    need_toolchain "nothing can be built"
     make_room
     build "$@"
     exit 0

@@ -21,7 +21,7 @@ fn main() -> Result<(), Box<dyn Error>> {
     let workspace = Workspace::parse(&text, Depth::default())?;
     println!("read: {:?}", begin.elapsed());
 
-    let mut sessions: HashMap<&str, Session<'_>> = HashMap::new();
+    let mut sessions: HashMap<&str, Session> = HashMap::new();
     for name in workspace.crates() {
         sessions.insert(name, workspace.session(name)?);
     }

@@ -1,18 +1,19 @@
 //! How deep a search goes, and the stack that this takes.
 
-use std::{io, panic, thread};
+use crate::error::Error;
+use crate::stack;
 
-/// The depth to which a thread of 2 MiB of stack is enough, as Rust's threads have.
+/// The greatest depth of [`Depth::new`].
 const DEFAULT_DEPTH: u8 = 128;
 
-/// The stack on which deeper searches are run, in bytes. At depth 255 a search takes some 0.7 MiB.
-const DEEP_STACK: usize = 8 << 20;
+/// The stack that a level of a search takes at most, and that which a call takes beside, in bytes.
+const LEVEL: usize = 3 << 10;
+const CALL: usize = 64 << 10;
 
 /// How many levels a search may go down, as rustc's `recursion_limit`.
 ///
-/// A level takes some 3 KiB of stack. At depth 128 that is 0.4 MiB at most, and a call runs on the caller's thread: each thread that Rust
-/// starts has 2 MiB. A call at a greater depth, which only [`Depth::deep`] makes, runs on a thread of its own with 8 MiB, which is started
-/// for the call.
+/// A level takes some 3 KiB of stack: 0.4 MiB at depth 128. A call runs on the caller's thread if so much is left there, as on each thread that
+/// Rust starts, which has 2 MiB. Else it runs on another thread, with 8 MiB, of which each thread that needs it keeps one.
 #[derive(Clone, Copy, Debug, PartialEq, Eq, PartialOrd, Ord, Hash)]
 pub struct Depth(u8);
 
@@ -26,7 +27,7 @@ impl Depth {
         }
     }
 
-    /// A depth from 1 to 255; none at 0. At more than 128 each call starts a thread.
+    /// A depth from 1 to 255; none at 0.
     pub const fn deep(levels: u8) -> Option<Depth> {
         if levels == 0 {
             None
@@ -40,19 +41,12 @@ impl Depth {
         self.0
     }
 
-    /// Makes a call that searches to this depth, on a stack that is large enough. The error is that no thread could be started.
-    pub(crate) fn with_stack<T: Send>(self, call: impl FnOnce() -> T + Send) -> io::Result<T> {
-        if self.0 <= DEFAULT_DEPTH {
-            return Ok(call());
-        }
-        thread::scope(|scope| {
-            let deep = thread::Builder::new()
-                .stack_size(DEEP_STACK)
-                .spawn_scoped(scope, call)?;
-            Ok(deep
-                .join()
-                .unwrap_or_else(|panicked| panic::resume_unwind(panicked)))
-        })
+    /// Makes a call that searches to this depth, on a stack that is large enough. Where no thread can be started, the error is `Memory`.
+    pub(crate) fn with_stack<T: Send + 'static>(
+        self,
+        call: impl FnOnce() -> Result<T, Error> + Send + 'static,
+    ) -> Result<T, Error> {
+        stack::with_stack(usize::from(self.0) * LEVEL + CALL, call).unwrap_or(Err(Error::Memory))
     }
 }
 

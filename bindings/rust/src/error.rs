@@ -66,7 +66,7 @@ pub enum Error {
     Question(FaultKind),
     /// The line has no fault, but asks nothing: it is a declaration, a check, a comment or empty.
     NotAQuery,
-    /// The question holds a line feed.
+    /// The question holds a line feed before its end.
     SeveralLines,
     /// Text and question together are longer than a text may be, 1,048,576 bytes.
     TooLong,
@@ -84,7 +84,7 @@ impl fmt::Display for Error {
             Error::Text { line, kind } => write!(f, "line {line}: {kind}"),
             Error::Question(kind) => write!(f, "the question has {kind}"),
             Error::NotAQuery => f.write_str("the line asks nothing"),
-            Error::SeveralLines => f.write_str("the question holds a line feed"),
+            Error::SeveralLines => f.write_str("the question is several lines"),
             Error::TooLong => f.write_str("text and question are longer than 1,048,576 bytes"),
             Error::NoSuchCrate => f.write_str("the text declares no such crate"),
             Error::Memory => f.write_str("out of memory"),

@@ -7,14 +7,22 @@
 //!
 //! The answers are proved, up to the functions that the library exports for C. What is here is tested and not proved: that calls are declared
 //! as the library defines them, that lines are read back right, and that stacks are large enough.
+//!
+//! The library itself is in the package `celtisdarts-sys`, for Linux on x86-64 with glibc. That it has the version of the calls that are declared
+//! there is looked at before the first call, which panics if not. No other call panics.
+//!
+//! A [`Session`] is `Send`, and asks by `&mut`: one call is made at a time. That what it holds may move to another thread is proved, and the
+//! library has no data that threads share.
 #![deny(missing_docs, unsafe_code)]
+#![warn(clippy::missing_errors_doc)]
 
 mod answers;
+mod calls;
 mod depth;
 mod error;
 mod output;
 mod reading;
-mod sys;
+mod stack;
 mod workspace;
 
 pub use answers::{

@@ -1,10 +1,10 @@
 //! Whole texts, each in one call.
 
 use crate::answers::Line;
+use crate::calls;
 use crate::depth::Depth;
 use crate::error::Error;
 use crate::reading;
-use crate::sys;
 use crate::workspace::ascii;
 
 /// All that a text is told: what the program `celtisdarts` writes for it.
@@ -29,7 +29,10 @@ impl Output {
 
 /// Judges all crates of a text and answers all its queries, to this depth.
 ///
-/// For one text and all its answers that is the shortest way; who asks again makes a [`Workspace`](crate::Workspace). The error is
+/// For one text and all its answers that is the shortest way; who asks again makes a [`Workspace`](crate::Workspace).
+///
+/// # Errors
+///
 /// [`Error::Text`], with the text's first faulty line, [`Error::Memory`] or [`Error::Full`].
 ///
 /// ```
@@ -41,18 +44,19 @@ impl Output {
 /// # Ok::<(), celtisdarts::Error>(())
 /// ```
 pub fn run(text: impl AsRef<[u8]>, depth: Depth) -> Result<Output, Error> {
-    let text = text.as_ref();
-    // A guess, so that a second call is rare: a line of answers for each line.
-    let lines = text.iter().filter(|byte| **byte == b'\n').count() + 1;
-    let mut buffer = Vec::with_capacity(64 * lines);
-    let called = depth.with_stack(|| sys::run(text, depth.levels(), &mut buffer));
-    let is_answered = called.unwrap_or(Err(Error::Memory))?;
-    let written = ascii(&buffer);
-    if is_answered {
-        Ok(Output {
-            text: written.to_string(),
-        })
-    } else {
-        Err(reading::fault(written.trim_end()).expect("the line of a fault"))
-    }
+    let text = text.as_ref().to_vec();
+    depth.with_stack(move || {
+        // A guess, so that a second call is rare: a line of answers for each line.
+        let lines = text.iter().filter(|byte| **byte == b'\n').count() + 1;
+        let mut buffer = Vec::with_capacity(64 * lines);
+        let is_answered = calls::run(&text, depth.levels(), &mut buffer)?;
+        let written = ascii(&buffer);
+        if is_answered {
+            Ok(Output {
+                text: written.to_string(),
+            })
+        } else {
+            Err(reading::fault(written.trim_end()).expect("the line of a fault"))
+        }
+    })
 }

@@ -21,7 +21,7 @@ fn text_fault(text: &str) -> (u32, u8) {
     }
 }
 
-fn question_fault(session: &mut Session<'_>, question: &str) -> u8 {
+fn question_fault(session: &mut Session, question: &str) -> u8 {
     match session.prove(question) {
         Err(Error::Question(kind)) => kind.number(),
         other => panic!("{other:?}"),
@@ -79,7 +79,13 @@ fn a_question_with_a_fault_changes_nothing() {
             session.refute("<T> T: Show").map_err(|it| it.to_string()),
             Err("the question has fault 14: parameters in a refute line".into())
         );
-        assert_eq!(session.prove("u8: Show\n"), Err(Error::SeveralLines));
+        assert_eq!(session.prove("u8: Show\n"), Ok(ProveAnswer::Yes(vec![])));
+        assert_eq!(session.refute("V<u8>: Clone\n"), Ok(RefuteAnswer::No));
+        assert_eq!(
+            session.ask("prove in a u8: Show\n").unwrap().to_string(),
+            "yes"
+        );
+        assert_eq!(session.prove("u8: Show\n\n"), Err(Error::SeveralLines));
         assert_eq!(
             session.prove("u8: Show\nstruct W"),
             Err(Error::SeveralLines)
@@ -218,29 +224,98 @@ fn on_stack<T: Send>(bytes: usize, call: impl FnOnce() -> T + Send) -> T {
     })
 }
 
-#[test]
-fn depth_128_takes_less_than_2_mib_of_stack() {
-    let output = on_stack(2 << 20, || run(DEEPEST, Depth::new(128).unwrap())).unwrap();
+/// The threads of this process.
+fn threads() -> usize {
+    std::fs::read_dir("/proc/self/task").unwrap().count()
+}
+
+/// Each call, to the depth.
+fn asks_the_deepest(depth: Depth) {
+    let output = run(DEEPEST, depth).unwrap();
     assert_eq!(output.text(), "crate a: accepted\nprove 1: maybe\n");
-    let answer = on_stack(2 << 20, || {
-        workspace(DEEPEST).session("a").unwrap().prove("E: T")
-    });
-    assert_eq!(answer, Ok(ProveAnswer::Maybe));
+    let workspace = Workspace::parse(DEEPEST, depth).unwrap();
+    let mut session = workspace.session("a").unwrap();
+    assert_eq!(session.check_crate(), Ok(Verdict::Accepted));
+    assert_eq!(session.prove("E: T"), Ok(ProveAnswer::Maybe));
 }
 
 #[test]
-fn depth_255_runs_on_a_stack_of_its_own() {
-    let deep = Depth::deep(255).unwrap();
-    let output = on_stack(256 << 10, || run(DEEPEST, deep)).unwrap();
-    assert_eq!(output.text(), "crate a: accepted\nprove 1: maybe\n");
-    let answer = on_stack(256 << 10, || {
-        Workspace::parse(DEEPEST, deep)
-            .unwrap()
-            .session("a")
-            .unwrap()
-            .prove("E: T")
+fn a_stack_of_any_size_is_enough() {
+    for bytes in [64 << 10, 256 << 10, 512 << 10, 700 << 10, 2 << 20, 8 << 20] {
+        for levels in [1, 8, 64, 128, 255] {
+            on_stack(bytes, || asks_the_deepest(Depth::deep(levels).unwrap()));
+        }
+    }
+}
+
+#[test]
+fn a_thread_with_a_small_stack_keeps_one_thread() {
+    // (A test of its own process counts threads: others run beside this one.)
+    let name = "a_thread_with_a_small_stack_keeps_one_thread";
+    if std::env::var_os("COUNTS_THREADS").is_none() {
+        let test = std::env::current_exe().unwrap();
+        let ended = std::process::Command::new(test)
+            .args(["--exact", name, "--test-threads=1"])
+            .env("COUNTS_THREADS", "1")
+            .output()
+            .unwrap();
+        assert!(ended.status.success(), "{ended:?}");
+        return;
+    }
+    let before = threads();
+    on_stack(256 << 10, move || {
+        for _ in 0..20 {
+            asks_the_deepest(Depth::default());
+            assert_eq!(threads(), before + 2);
+        }
     });
-    assert_eq!(answer, Ok(ProveAnswer::Maybe));
+    // It ends with the thread that kept it.
+    for _ in 0..1_000 {
+        if threads() == before {
+            return;
+        }
+        thread::sleep(std::time::Duration::from_millis(10));
+    }
+    panic!("{} threads are left of {before}", threads());
+}
+
+/// A workspace and a session stand in one struct, and move.
+struct Checker {
+    workspace: Workspace,
+    session: Session,
+}
+
+#[test]
+fn a_struct_holds_a_workspace_and_its_session() {
+    fn is_send<T: Send>(it: T) -> T {
+        it
+    }
+    fn is_shared<T: Send + Sync + Clone>(it: T) -> T {
+        it
+    }
+    let made = || -> Result<Checker, Error> {
+        let workspace = is_shared(Workspace::parse(TEXT, Depth::default())?);
+        let session = is_send(workspace.session("a")?);
+        Ok(Checker { workspace, session })
+    };
+    let mut checker = thread::spawn(made).join().unwrap().unwrap();
+    assert_eq!(checker.session.crate_name(), "a");
+    assert_eq!(checker.session.workspace(), &checker.workspace);
+    drop(checker.workspace);
+    assert_eq!(
+        checker.session.prove("u8: Show"),
+        Ok(ProveAnswer::Yes(vec![]))
+    );
+}
+
+#[test]
+fn the_linked_archive_is_named() {
+    assert_eq!(celtisdarts_sys::ARCHIVE_SHA256.len(), 64);
+    assert_eq!(celtisdarts_sys::SOURCES_SHA256.len(), 64);
+    assert!(celtisdarts_sys::TOOLCHAIN.contains("logic"));
+    // SAFETY: it is a constant of the library.
+    let linked = unsafe { celtisdarts_sys::celtisdarts_abi_version };
+    assert_eq!(linked, celtisdarts_sys::ABI_VERSION);
 }
 
 #[test]

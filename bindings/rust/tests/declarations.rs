@@ -1,4 +1,4 @@
-//! The calls that are declared in `src/sys.rs`, in `bindings/c/celtisdarts.h` and in `bindings/python/celtisdarts.py` are those that the library
+//! The calls that are declared in `sys/src/lib.rs`, in `bindings/c/celtisdarts.h` and in `bindings/python/celtisdarts.py` are those that the library
 //! defines: nothing else compares them.
 
 use std::collections::BTreeMap;
@@ -76,7 +76,7 @@ fn of_rust(ty: &str) -> Vec<Crossing> {
         "&mut Handle" => vec![HandlePlace],
         "&mut u32" => vec![U32Place],
         "Handle" => vec![Handle],
-        _ => panic!("a parameter `{ty}` in src/sys.rs"),
+        _ => panic!("a parameter `{ty}` in sys/src/lib.rs"),
     }
 }
 
@@ -138,7 +138,7 @@ fn library() -> Calls {
 }
 
 fn rust() -> Calls {
-    let text = read("bindings/rust/src/sys.rs");
+    let text = read("bindings/rust/sys/src/lib.rs");
     let (_, block) = text.split_once("extern \"C\" {\n").unwrap();
     let (block, _) = block.split_once("\n}\n").unwrap();
     block
@@ -150,7 +150,8 @@ fn rust() -> Calls {
 
 fn c() -> Calls {
     let text = read("bindings/c/celtisdarts.h");
-    let declared = text
+    let (declared, _) = text.split_once("/* ---- null with length 0").unwrap();
+    let declared = declared
         .split('\n')
         .filter(|line| line.contains(" celtisdarts_") && line.ends_with(");"));
     let one = |line: &str| {
@@ -232,10 +233,64 @@ fn the_handle_is_declared_as_the_library_defines_it() {
     // (A `Global` takes no bytes.)
     assert_eq!(handle, ["at: *mut u8", "alloc: Global"]);
     assert_eq!(
-        fields(&read("bindings/rust/src/sys.rs"), "struct Handle {\n"),
+        fields(&read("bindings/rust/sys/src/lib.rs"), "struct Handle {\n"),
         ["at: NonNull<u8>"]
     );
     assert!(read("bindings/c/celtisdarts.h")
         .contains("typedef struct {\n    void *at;\n} celtisdarts_handle;\n"));
     assert!(read("bindings/python/celtisdarts.py").contains("_fields_ = [(\"at\", c_void_p)]\n"));
+}
+
+/// The constants that lines of the text define, by their names.
+fn constants<'t>(text: &'t str, before: &str, between: &str) -> BTreeMap<&'t str, u32> {
+    let one = |line: &'t str| {
+        let (name, rest) = line.trim().strip_prefix(before)?.split_once(between)?;
+        let number: String = rest.chars().take_while(char::is_ascii_digit).collect();
+        Some((name, number.parse().ok()?))
+    };
+    text.lines().filter_map(one).collect()
+}
+
+#[test]
+fn words_and_the_version_of_the_calls_are_the_same_everywhere() {
+    let (c, rust) = (
+        read("bindings/c/celtisdarts.h"),
+        read("bindings/rust/sys/src/lib.rs"),
+    );
+    let words = constants(&c, "CELTISDARTS_", " = ");
+    assert_eq!(words.len(), 11);
+    let mut found = constants(&rust, "pub const ", ": u32 = ");
+    let version = found.remove("ABI_VERSION").unwrap();
+    assert_eq!(found, words);
+    assert_eq!(
+        constants(&c, "#define CELTISDARTS_", " ")["ABI_VERSION"],
+        version
+    );
+    let python = read("bindings/python/celtisdarts.py");
+    assert_eq!(constants(&python, "", " = ")["ABI_VERSION"], version);
+}
+
+#[test]
+fn all_bindings_have_one_version() {
+    let version = env!("CARGO_PKG_VERSION");
+    let line = |path: &str, wanted: &str| {
+        let found = read(path).lines().any(|line| line == wanted);
+        assert!(found, "{path}: no line `{wanted}`");
+    };
+    line(
+        "bindings/c/celtisdarts.h",
+        &format!("#define CELTISDARTS_VERSION \"{version}\""),
+    );
+    line(
+        "bindings/python/celtisdarts.py",
+        &format!("__version__ = \"{version}\""),
+    );
+    for path in ["python/pyproject.toml", "rust/sys/Cargo.toml"] {
+        line(
+            &format!("bindings/{path}"),
+            &format!("version = \"{version}\""),
+        );
+    }
+    let needed = format!("celtisdarts-sys = {{ version = \"={version}\", path = \"sys\" }}");
+    line("bindings/rust/Cargo.toml", &needed);
 }

@@ -58,11 +58,11 @@ fn asker(line: &str) -> &str {
         .unwrap()
 }
 
-fn session<'s, 'w>(
-    sessions: &'s mut HashMap<String, Session<'w>>,
-    workspace: &'w Workspace,
+fn session<'s>(
+    sessions: &'s mut HashMap<String, Session>,
+    workspace: &Workspace,
     name: &str,
-) -> &'s mut Session<'w> {
+) -> &'s mut Session {
     sessions
         .entry(name.to_string())
         .or_insert_with(|| workspace.session(name).unwrap())

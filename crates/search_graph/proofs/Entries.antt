@@ -9,15 +9,14 @@ use Rattle.search_graph.specs.declared.provisional.ProvisionalEntry.{Provisional
 use Rattle.search_paths.specs.KeptPaths.{kind_of, indices, AreBelow}
 use Rattle.search_graph.specs.Cache.{KeepsResults}
 use Rattle.search_graph.specs.Meaning.{Meaning, KeepsContext}
-use Rattle.search_graph.specs.Plain.{IsNotPlain}
 use Rattle.search_paths.specs.declared.dependencies.CycleHead.{CycleHead}
 use Rattle.search_graph.specs.declared.stack.StackEntry.{StackEntry}
 use Rattle.search_paths.specs.Heads.{RestsOn}
 use Rattle.search_paths.specs.Path.{greater}
 use Rattle.search_graph.specs.Stack.{steps_of, kind_after, IsAnswer, IsProvisional, IsWithin}
-use Rattle.search_graph.specs.Question.{AllDescendTo, AreEntriesOver}
+use Rattle.search_graph.specs.Question.{AreEntriesOver}
 use Rattle.search_graph.specs.Rests.{ShownFor}
-use Rattle.search_graph.specs.Faithful.{HeadsDescend, IsFaithful}
+use Rattle.search_graph.specs.Faithful.{HasPlainHead, NeedsHead, IsFaithful}
 use Rattle.search_paths.specs.Heads.{IsHead}
 use Rattle.search_graph.specs.Provisional.{IsEntryAt, IsServingAt, AreEntriesWithin, NoneIsLeft, AddsEntry, IsProvisionalEntry, AreProvisional, AreLeft}
 use Rattle.search_graph.proofs.Keeping.{entries_serve, entries_are_left, runs_answer}
@@ -25,7 +24,7 @@ use Rattle.search_paths.proofs.HeadFacts.{below_head, below_more}
 use Rattle.search_graph.proofs.Graphs.{length-steps_of}
 use Rattle.search_graph.proofs.Chains.{push_cases}
 use Rattle.search_graph.proofs.Ranges.{at_end}
-use Rattle.search_graph.proofs.Faithfuls.{all_heads_descend}
+use Rattle.search_graph.proofs.Faithfuls.{faithful_needs_head}
 use Rattle.search_graph.proofs.Caches.{KeepsResults-push}
 
 -- what stands in a longer list stood before, or is the last
@@ -54,7 +53,7 @@ set_other (x ∷ xs) (suc i) zero v h = refl
 set_other (x ∷ xs) (suc i) (suc j) v h = set_other xs i j v (λ e. h (ap (λ k. suc k) e))
 
 -- what stands among the first stands there in all
-slice_get-take : {X : Type 0} (n : ℕ) (xs : List X) (i : ℕ) → i < n → slice_get (take n xs) i ≡ slice_get xs i
+pub slice_get-take : {X : Type 0} (n : ℕ) (xs : List X) (i : ℕ) → i < n → slice_get (take n xs) i ≡ slice_get xs i
 slice_get-take zero xs i h = absurd (omega (arith, h))
 slice_get-take (suc n) [] i h = refl
 slice_get-take (suc n) (x ∷ xs) zero h = refl
@@ -133,7 +132,16 @@ module _ {I R : Type 0} where
           | inr own ↦ inr (same, own)
         ]
 
+-- within the depth of a goal, if it met an overflow
+pub within_depth : (n : ℕ) (overflowed : Bool) (depth reach : ℕ) → (overflowed ≡ true → reach ≡ depth) → (n ≤ reach + 1) ⊎ (overflowed ≡ false) → (n ≤ depth + 1) ⊎ (overflowed ≡ false)
+within_depth n true depth reach far h = elim h [ inl l ↦ inl (let is = far refl in omega (arith, l, is)) | inr off ↦ inr off ]
+within_depth n false depth reach far h = inr refl
+
 module _ {C I R F : Type 0} (m : Meaning C I R F) where
+  -- a head that is plain is so over other goals of the stack too, if it is among them
+  pub plain_head_there : (w : m.World) (n : ℕ) (heads : List ℕ) (steps others : List (m.Goal × PathKind)) (x : HasPlainHead m w n heads steps) → slice_get others x.place ≡ Some x.step → HasPlainHead m w n heads others
+  plain_head_there w n heads steps others x at = record { place = x.place; step = x.step; head = x.head; there = at; chain = x.chain; answer = x.answer; within = x.within; plain = x.plain }
+
   -- the entries that are there stay as they are where a goal without entries is put on the stack
   pub runs_begin : (w : m.World) (met : Bool) (c : C) (asked : List Asked) (steps : List (m.Goal × PathKind)) (s : m.Goal × PathKind) (lists : List (Vec (ProvisionalEntry I R))) (none : Vec (ProvisionalEntry I R))
       → length lists ≡ length steps → none.items ≡ [] → AreProvisional m w met c asked steps lists → AreProvisional m w met c asked (steps ++ s ∷ []) (lists ++ none ∷ [])
@@ -161,7 +169,7 @@ module _ {C I R F : Type 0} (m : Meaning C I R F) where
       → (more ≡ false → met ≡ false) → AreProvisional m w met c asked steps lists → AreProvisional m w more c asked steps lists
   entries_met w met more c asked steps lists calm all head place e at =
       let h = all head place e at in
-      record { input = h.input; known = h.known; fair = h.fair; source = h.source; some = h.some; below = h.below; yes = h.yes; not_plain = h.not_plain; never = λ off. h.never (calm off); listed = h.listed }
+      record { input = h.input; known = h.known; fair = h.fair; source = h.source; some = h.some; below = h.below; yes = h.yes; needs = h.needs; listed = h.listed }
 
   -- in a later context, with more listed that was asked
   pub entries_keep : (w : m.World) (met : Bool) (c d : C) (asked more : List Asked) (steps : List (m.Goal × PathKind)) (lists : List (Vec (ProvisionalEntry I R)))
@@ -178,8 +186,7 @@ module _ {C I R F : Type 0} (m : Meaning C I R F) where
         some = h.some;
         below = h.below;
         yes = λ y. rw input.1 (h.yes (rw result.1 at y));
-        not_plain = rw input.1 h.not_plain;
-        never = λ calm. rw input.1 (h.never calm);
+        needs = rw input.1 h.needs;
         listed = (h.listed.0, grows e.asked h.listed.0 h.listed.1);
       }
 
@@ -227,13 +234,13 @@ module _ {C I R F : Type 0} (m : Meaning C I R F) where
         subst (λ l. ShownFor m.Goal (m.Follows w) (indices e.heads.items) l (m.goal_of c e.input) k) (take-append-drop (head + 1) steps)
         (entries_serve (m.Follows w) (indices e.heads.items) (take (head + 1) steps) (drop (head + 1) steps) (m.goal_of c e.input) e.kind k (sym kind) ((all head place e at).yes holds))
 
-    -- no entry answers a goal that plain recursion answers
-    pub entry_not_plain : (limit : ℕ) → HeadsDescend m w limit (indices e.heads.items) steps (m.goal_of c e.input) → IsNotPlain m w limit (m.goal_of c e.input)
-    entry_not_plain limit down =
+    -- an entry answers a goal that plain recursion answers only if it answers a head
+    pub entry_needs : NeedsHead m w (e.reach + 1) steps (m.goal_of c e.input) e.encountered_overflow (indices e.heads.items)
+    entry_needs n b h p =
         let entry = all head place e at in
-        entry.not_plain limit (λ i s is there.
-        let low : i < head + 1 = let l = below_head (length (take (head + 1) steps)) i (indices e.heads.items) entry.below is in let t = length-take-within (head + 1) steps in omega (arith, l, t) in
-        down i s is (sym (slice_get-take (head + 1) steps i low) ∙ there))
+        let x = entry.needs n b h p in
+        let low : x.place < head + 1 = let l = below_head (length (take (head + 1) steps)) x.place (indices e.heads.items) entry.below x.head in let t = length-take-within (head + 1) steps in omega (arith, l, t) in
+        plain_head_there w n (indices e.heads.items) (take (head + 1) steps) steps x (sym (slice_get-take (head + 1) steps x.place low) ∙ x.there)
 
   -- the kind of the steps to the goals of a stack
   pub kind_steps : (c : C) (n : ℕ) (es : List (StackEntry I R)) (k : PathKind) → kind_of (drop n (steps_of m c es)) k ≡ kind_after (drop n es) k
@@ -260,14 +267,12 @@ module _ {C I R F : Type 0} (m : Meaning C I R F) where
           yes = entry_shown (m.world c) met c asked (steps_of m c es) lists all head place e at.1 k kind;
         })
 
-    pub entry_faithful : (reach : ℕ) (overflowed : Bool) → IsFaithful m (m.world c) reach (steps_of m c es) (m.goal_of c input) (m.answer_of c at.0.result) overflowed (indices at.0.heads.items)
-    entry_faithful reach overflowed limit h down n b within p =
+    pub entry_faithful : IsFaithful m (m.world c) (at.0.reach + 1) (steps_of m c es) (m.goal_of c input) (m.answer_of c at.0.result) at.0.encountered_overflow (indices at.0.heads.items)
+    entry_faithful =
         let e : ProvisionalEntry I R = at.0 in
-        let never : HeadsDescend m (m.world c) limit (indices e.heads.items) (steps_of m c es) (m.goal_of c input) → IsNotPlain m (m.world c) limit (m.goal_of c input) =
-        subst (λ i. HeadsDescend m (m.world c) limit (indices e.heads.items) (steps_of m c es) (m.goal_of c i) → IsNotPlain m (m.world c) limit (m.goal_of c i)) at.2.same
-        (entry_not_plain (m.world c) met c asked (steps_of m c es) lists all head place e at.1 limit)
-        in
-        absurd (never down n b within p)
+        faithful_needs_head m (m.world c) (e.reach + 1) (steps_of m c es) (m.goal_of c input) (m.answer_of c e.result) e.encountered_overflow (indices e.heads.items)
+        (subst (λ i. NeedsHead m (m.world c) (e.reach + 1) (steps_of m c es) (m.goal_of c i) e.encountered_overflow (indices e.heads.items)) at.2.same
+        (entry_needs (m.world c) met c asked (steps_of m c es) lists all head place e at.1))
 
     -- no limit had a part in it if none had in the entries
     pub entry_within : (before : List (m.Goal × m.Answer)) → AreEntriesWithin m (m.world c) before c lists → IsWithin m (m.world c) before (m.goal_of c input) (m.answer_of c at.0.result)
@@ -275,13 +280,13 @@ module _ {C I R F : Type 0} (m : Meaning C I R F) where
 
   module _ (c : C) (es : List (StackEntry I R)) (k : PathKind) (nearest : ℕ) (heads : List CycleHead) (inside : nearest < length es) (rests : RestsOn heads nearest) (low : AreBelow (nearest + 1) (indices heads)) where
     -- a result over the stack leaves an entry in the list of its nearest head
-    pub left_entry : (asked : List Asked) (met : Bool) (input : I) (r : R) (e : ProvisionalEntry I R) (a : Asked)
+    pub left_entry : (asked : List Asked) (met : Bool) (input : I) (depth : ℕ) (overflowed : Bool) (r : R) (e : ProvisionalEntry I R) (a : Asked)
         → e.input ≡ input → e.result ≡ r → e.heads.items ≡ heads → e.kind ≡ kind_after (drop (nearest + 1) es) k → slice_get asked e.asked ≡ Some a
+        → e.encountered_overflow ≡ overflowed → (overflowed ≡ true → e.reach ≡ depth)
         → m.IsInput c input → IsProvisional m (m.world c) (steps_of m c es) (m.goal_of c input, k) (indices heads) c r
-        → IsFaithful m (m.world c) 0 (steps_of m c es) (m.goal_of c input) (m.answer_of c r) false (indices heads)
-        → AllDescendTo m c es input met
+        → IsFaithful m (m.world c) (depth + 1) (steps_of m c es) (m.goal_of c input) (m.answer_of c r) overflowed (indices heads)
         → IsProvisionalEntry m (m.world c) met c asked (take (nearest + 1) (steps_of m c es)) e
-    left_entry asked met input r e a same copy on kind at known result faithful descends =
+    left_entry asked met input depth overflowed r e a same copy on kind at met_is far known result faithful =
         let w = m.world c in
         let g = m.goal_of c input in
         let steps = steps_of m c es in
@@ -301,12 +306,9 @@ module _ {C I R F : Type 0} (m : Meaning C I R F) where
               let over : ShownFor m.Goal (m.Follows w) (indices heads) steps g k = runs_answer (m.Follows w) (indices heads) steps g k (result.yes (rw copy at y)) in
               let split : ShownFor m.Goal (m.Follows w) (indices heads) (before ++ between) g k = subst (λ l. ShownFor m.Goal (m.Follows w) (indices heads) l g k) (sym (take-append-drop (nearest + 1) steps)) over in
               rw (same, on, ← step) (entries_are_left (m.Follows w) (indices heads) before between g k below split);
-          not_plain = rw (same, on) (λ limit down n b within p.
-              let there : HeadsDescend m w limit (indices heads) steps g = λ i s is place. down i s is (slice_get-take (nearest + 1) steps i (below_head (nearest + 1) i (indices heads) low is) ∙ place) in
-              let told = faithful limit (inr refl) there n b within p in
-              subst (IsHead nearest) told.unread rests);
-          never = λ calm. rw same (λ limit n b within p.
-              let told = faithful limit (inr refl) (all_heads_descend m w limit (indices heads) steps g (descends calm limit)) n b within p in
-              subst (IsHead nearest) told.unread rests);
+          needs = rw (same, on, met_is) (λ n b h p. elim (faithful n b (within_depth n overflowed depth e.reach far h) p) [
+            | inl told ↦ absurd (subst (IsHead nearest) told.unread rests)
+            | inr x ↦ plain_head_there w n (indices heads) steps before x (slice_get-take (nearest + 1) steps x.place (below_head (nearest + 1) x.place (indices heads) low x.head) ∙ x.there)
+          ]);
           listed = (a, at);
         }

@@ -18,10 +18,6 @@ module _ {C I R F : Type 0} (m : Meaning C I R F) where
   IsPlain w zero g a = ⊥
   IsPlain w (suc n) g a = (rest : List (Reply m.Answer)) × Completes w (IsPlain w n) g (Begin ∷ []) rest a
 
-  -- each answer of plain recursion in chains of fewer than `limit` nested goals is a
-  abbrev pub IsExact : m.World → ℕ → m.Goal → m.Answer → Type 0
-  IsExact w limit g a = (n : ℕ) (b : m.Answer) → n ≤ limit → IsPlain w n g b → b ≡ a
-
   abbrev pub IsNotPlain : m.World → ℕ → m.Goal → Type 0
   IsNotPlain w limit g = (n : ℕ) (b : m.Answer) → n ≤ limit → IsPlain w n g b → ⊥
 
@@ -29,6 +25,6 @@ module _ {C I R F : Type 0} (m : Meaning C I R F) where
   abbrev pub Descends : m.World → ℕ → m.Goal → m.Goal → Type 0
   Descends w limit h g = (n : ℕ) (b : m.Answer) → n ≤ limit → IsPlain w n h b → (k : ℕ) × (c : m.Answer) × (k < n) × IsPlain w k g c
 
-  -- the replies are those of plain recursion
-  abbrev pub IsOnTrack : m.World → ℕ → m.Goal → List (Reply m.Answer) → Type 0
-  IsOnTrack w limit g heard = (n : ℕ) (a : m.Answer) → suc n ≤ limit → IsPlain w (suc n) g a → (rest : List (Reply m.Answer)) × Completes w (IsPlain w n) g heard rest a
+  -- the replies are the first ones of plain recursion that ends with a, in chains of at most n nested goals
+  abbrev pub IsOnTrack : m.World → ℕ → m.Goal → List (Reply m.Answer) → m.Answer → Type 0
+  IsOnTrack w n g heard a = (rest : List (Reply m.Answer)) × Completes w (IsPlain w n) g heard rest a

@@ -1,5 +1,5 @@
 -- Provisional entries: results that depend on goals of the stack, stored during the runs of those goals.
-use Rattle.std.specs.Prelude.{◌≡◌, ◌≤◌, ◌+◌, ◌↔◌, ◌⊎◌, ℕ, Bool, true, false, length, take, drop, List, [], ◌∷◌, ◌++◌, Option, Some, slice_get}
+use Rattle.std.specs.Prelude.{◌≡◌, ◌≤◌, ◌+◌, ◌↔◌, ◌||◌, ◌⊎◌, ℕ, Bool, true, length, min, take, drop, List, [], ◌∷◌, ◌++◌, Option, Some, slice_get}
 use Rattle.std.specs.Global.{Vec}
 use Rattle.search_paths.specs.declared.path_kind.PathKind.{PathKind}
 use Rattle.search_paths.specs.declared.path_kind.PathKind.TheVariants.{ForcedAmbiguity}
@@ -13,18 +13,18 @@ use Rattle.search_graph.specs.declared.provisional.ProvisionalEntry.{Provisional
 use Rattle.search_paths.specs.KeptPaths.{indices, AreBelow}
 use Rattle.search_graph.specs.Meaning.{Meaning, IsFair}
 use Rattle.search_graph.specs.Computed.{IsComputed, IsGiven}
-use Rattle.search_graph.specs.Plain.{IsNotPlain}
 use Rattle.search_graph.specs.Stack.{kind_after, IsWithin, AreCachedWithin}
 use Rattle.search_graph.specs.Rests.{ShownFor}
-use Rattle.search_graph.specs.Faithful.{HeadsDescend}
+use Rattle.search_graph.specs.Faithful.{NeedsHead}
 
 module _ {I R : Type 0} where
-  -- the entry is of this goal, for a path of this kind, and needed at most this depth
+  -- the entry is of this goal, for a path of this kind, and is used at this depth
   pub record IsServing (number : ℕ) (input : I) (path : PathKind) (depth : ℕ) (e : ProvisionalEntry I R) : Type 0 where
     pub numbered : e.number ≡ number
     pub same : e.input ≡ input
     pub alike : e.kind ≡ path
     pub within : e.required_depth ≤ depth
+    pub reached : depth ≤ e.reach
 
   -- the entry has the index `place` in the list of the goal with the index `head` in the stack
   abbrev pub IsEntryAt : List (Vec (ProvisionalEntry I R)) → ℕ → ℕ → ProvisionalEntry I R → Type 0
@@ -50,12 +50,16 @@ module _ {I R : Type 0} where
     pub goals : length new ≡ length old
 
   -- An entry moves from the list of the goal that ended over this stack to that of the goal with the index `next`. The goal
-  -- that ended was reached by a step of the kind j. Its nested goals have the index `asked` in the cache
-  pub record IsMoved (stack : List (StackEntry I R)) (j : PathKind) (ended : EvaluationResult R) (asked next : ℕ) (old new : ProvisionalEntry I R) : Type 0 where
+  -- that ended was reached by a step of the kind j, and its result is used up to `reach`. Its nested goals have the index
+  -- `asked` in the cache
+  pub record IsMoved (stack : List (StackEntry I R)) (j : PathKind) (ended : EvaluationResult R) (reach asked next : ℕ) (old new : ProvisionalEntry I R) : Type 0 where
     pub input : new.input ≡ old.input
     pub number : new.number ≡ old.number
     pub result : new.result ≡ old.result
     pub depth : new.required_depth ≡ old.required_depth
+    -- it met each overflow that either met, and is used as far as both are
+    pub overflow : new.encountered_overflow ≡ (old.encountered_overflow || ended.dependencies.encountered_overflow)
+    pub reached : new.reach ≡ min old.reach reach
     pub asked_under : new.asked ≡ asked
     -- the entry's result is that of the goal that ended
     pub same : old.result ≡ ended.result
@@ -69,17 +73,17 @@ module _ {I R : Type 0} where
     pub kind : new.kind ≡ kind_after (drop (next + 1) stack) (greater j old.kind)
     pub free : new.kind ≡ ForcedAmbiguity → ⊥
 
-  -- some of these entries moved into the lists, if no overflow was met, and nothing else was added
-  abbrev pub AreMoved : List (StackEntry I R) → Bool → List (ProvisionalEntry I R) → PathKind → EvaluationResult R → ℕ → List (Vec (ProvisionalEntry I R)) → List (Vec (ProvisionalEntry I R)) → Type 0
-  AreMoved stack met left j ended asked old new =
+  -- some of these entries moved into the lists, and nothing else was added
+  abbrev pub AreMoved : List (StackEntry I R) → List (ProvisionalEntry I R) → PathKind → EvaluationResult R → ℕ → ℕ → List (Vec (ProvisionalEntry I R)) → List (Vec (ProvisionalEntry I R)) → Type 0
+  AreMoved stack left j ended reach asked old new =
       (head place : ℕ) (e : ProvisionalEntry I R) → IsEntryAt new head place e
-      → IsEntryAt old head place e ⊎ ((met ≡ false) × (i : ℕ) × (from : ProvisionalEntry I R) × (slice_get left i ≡ Some from) × IsMoved stack j ended asked head from e)
+      → IsEntryAt old head place e ⊎ ((i : ℕ) × (from : ProvisionalEntry I R) × (slice_get left i ≡ Some from) × IsMoved stack j ended reach asked head from e)
 
 module _ {C I R F : Type 0} (m : Meaning C I R F) where
   -- An entry over the goals of the stack up to its nearest head, the oldest first. It is a result of its goal, and depends
   -- on its heads alone: a yes is shown for the goal as a nested goal of the newest of these goals, by a step of the entry's
-  -- kind. Plain recursion has no answer for the goal, if that on the heads descends to it, or if no overflow was met in the
-  -- call. Its nested goals are listed in the cache
+  -- kind. Plain recursion, as far as the entry is used, answers the goal only if it answers a head. Its nested goals are listed
+  -- in the cache
   pub record IsProvisionalEntry (w : m.World) (met : Bool) (c : C) (asked : List Asked) (before : List (m.Goal × PathKind)) (e : ProvisionalEntry I R) : Type 0 where
     pub input : m.IsInput c e.input
     pub known : m.IsResult c e.result
@@ -88,8 +92,7 @@ module _ {C I R F : Type 0} (m : Meaning C I R F) where
     pub some : e.heads.items ≡ [] → ⊥
     pub below : AreBelow (length before) (indices e.heads.items)
     pub yes : m.is_yes (m.answer_of c e.result) ≡ true → ShownFor m.Goal (m.Follows w) (indices e.heads.items) before (m.goal_of c e.input) e.kind
-    pub not_plain : (limit : ℕ) → HeadsDescend m w limit (indices e.heads.items) before (m.goal_of c e.input) → IsNotPlain m w limit (m.goal_of c e.input)
-    pub never : met ≡ false → (limit : ℕ) → IsNotPlain m w limit (m.goal_of c e.input)
+    pub needs : NeedsHead m w (e.reach + 1) before (m.goal_of c e.input) e.encountered_overflow (indices e.heads.items)
     pub listed : (a : Asked) × (slice_get asked e.asked ≡ Some a)
 
   -- the same of each entry in the list of a goal of the stack, over the stack up to that goal

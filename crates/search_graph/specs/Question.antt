@@ -14,7 +14,7 @@ use Rattle.search_graph.specs.Provisional.{AreProvisional, AreLeft, AreEntriesWi
 use Rattle.search_graph.specs.Meaning.{Meaning}
 use Rattle.search_graph.specs.Cache.{KnownResult, answers_in}
 use Rattle.search_graph.specs.Plain.{IsNotPlain}
-use Rattle.search_graph.specs.Faithful.{AllDescend, HeadsDescend, IsFaithful, IsUntouched, IsKept}
+use Rattle.search_graph.specs.Faithful.{AllDescend, IsFaithful, IsUntouched, IsKept}
 use Rattle.search_paths.specs.KeptPaths.{AreBelow, indices}
 use Rattle.search_paths.specs.Heads.{AreHeadsBut}
 use Rattle.search_graph.specs.Stack.{question_of, steps_of, IsAnswer, IsProvisional, IsWithin, IsLastWithin, AreLastWithin, AreCachedWithin}
@@ -59,11 +59,6 @@ module _ {C I R F : Type 0} (m : Meaning C I R F) where
   -- it has none up to `reach`, whatever the stack
   abbrev pub IsNotPlainUpTo : C → I → ℕ → Type 0
   IsNotPlainUpTo c input reach = (limit : ℕ) → limit ≤ reach → IsNotPlain m (m.world c) limit (m.goal_of c input)
-
-  -- it has none if that on the goal with this index descends to it
-  abbrev pub IsNotPlainUnder : C → List (StackEntry I R) → I → ℕ → Type 0
-  IsNotPlainUnder c es input place =
-      (limit : ℕ) → HeadsDescend m (m.world c) limit (place ∷ []) (steps_of m c es) (m.goal_of c input) → IsNotPlain m (m.world c) limit (m.goal_of c input)
 
   -- it has none up to the depth, nor beyond it if there was no overflow
   abbrev pub IsNotPlainAt : C → I → ℕ → Bool → Type 0

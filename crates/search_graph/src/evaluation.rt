@@ -19,7 +19,7 @@ use crate::delegate::{Cx, Delegate, InputOf, ResultOf};
 use crate::fault::{GraphFault, Stop};
 use crate::provisional::Entries;
 use crate::reads::CandidateReads;
-use crate::search::{Evaluation, Outcome, Search, is_last_run, nested_depth, run_limit};
+use crate::search::{Evaluation, Outcome, Search, is_last_run, run_limit};
 use crate::stack::{NestedGoal, StackEntry};
 use crate::steps::{
     conclude, give_up, hear, is_met, look_up, reply_in_cycle, reply_with_overflow, start_run,
@@ -37,7 +37,7 @@ pub(crate) fn evaluate_root<D: Delegate>(
     depth: usize,
 ) -> Evaluation<D>
     requires empty { search.old.stack.items ≡ [] }
-    requires uncounted { search.old.uncached_questions ≡ 0 }
+    requires uncounted { search.old.budget.counted ≡ 0 }
     requires cache { AreCached D.meaning (D.meaning.world cx.old) cx.old cache.old.entries.items }
     requires input { D.meaning.IsInput cx.old input }
     ensures keeps { KeepsContext D.meaning cx.old cx.new }
@@ -367,9 +367,14 @@ fn ask<D: Delegate>(
         → IsNotPlainOver D.meaning cx.old search.old.stack.items input (cond overflowed 0 depth) }
     ensures within { IfOk result (λ o. SearchStaysWithin D.meaning cx.old search.old cache.old input cx.new search.new cache.new o.result) }
 {
-    if depth == 0 {
+    let level = search.stack.len();
+    let Some(nested) = search.budget.depth_for::<D>(level, depth, overflowed) else {
         return reply_with_overflow(search, cache, cx, input, step_kind);
-    }
-    let nested = nested_depth::<D>(depth, overflowed);
-    evaluate(search, cache, cx, input, step_kind, nested)
+    };
+    let mut reply = evaluate(search, cache, cx, input, step_kind, nested)?;
+    let marked = search.budget.end_nested(level, &reply.dependencies);
+    let told = is_met(reply.dependencies.encountered_overflow, marked);
+    search.limits_met = is_met(search.limits_met, marked);
+    reply.dependencies.encountered_overflow = told;
+    Ok(reply)
 }

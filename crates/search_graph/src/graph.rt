@@ -85,8 +85,8 @@ impl<D: Delegate> SearchGraph<D> {
         self.search.frames
     }
 
-    /// Returns whether a limit was met since `new`: a goal of depth 0 had a nested goal, the limit of runs gave a result, or a call was
-    /// given up.
+    /// Returns whether a limit was met since `new`: a goal of depth 0 had a nested goal, goals ran out, the limit of runs gave a result, or
+    /// a call was given up.
     pub fn limits_met(&self) -> bool
         ensures { result ≡ self.now.limits_met }
     {
@@ -95,10 +95,11 @@ impl<D: Delegate> SearchGraph<D> {
 
     /// Returns the result of a root goal. The kind of the step has no effect, since the root has no parent.
     ///
-    /// The call is given up when uncached goals have evaluated 65,536 nested goals in it. A goal is uncached if its result depends on
-    /// goals that are still evaluated, or if it met an overflow by depth. A nested goal of a large goal counts more than once
-    /// (`Delegate::cost_of`). The result is then `stack_overflow_result`, which rustc does not return, and `limits_met` is set. A goal
-    /// that plain recursion answers within the depth never sets `limits_met`.
+    /// The goals that are evaluated run out when uncached goals have evaluated 61,440 nested goals in the call. A goal is uncached if its
+    /// result depends on goals that are still evaluated, or if it met an overflow by depth. A nested goal of a large goal counts more than
+    /// once (`Delegate::cost_of`). Goals that have run out have met an overflow by depth, and `limits_met` is set. Each continues with its
+    /// other nested goals. At 65,536 the call is given up: its result is `stack_overflow_result`. rustc has no such limit. A goal that plain
+    /// recursion answers within the depth never sets `limits_met`.
     ///
     /// The call fails in these cases:
     ///

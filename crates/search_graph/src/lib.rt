@@ -1,9 +1,11 @@
 //! The search graph: goals that evaluate nested goals, with cycles, reruns, a limit on the depth and a cache.
 //!
 //! A port of `rustc_type_ir::search_graph`. Paths and what a result depends on are in `search_paths`. From the lowest module up: the
-//! delegate of a search, its stack, its provisional entries and its cache, the steps that evaluate no nested goal, and the evaluation.
+//! delegate of a search, its budget, its stack, its provisional entries and its cache, the steps that evaluate no nested goal, and the
+//! evaluation.
 #![tactic(auto)]
 
+mod budget;
 mod cache;
 mod candidates;
 mod delegate;

@@ -19,17 +19,28 @@ pub struct ProvisionalEntry<I, R> {
     pub input: I,
     /// The number of the goal.
     pub number: usize,
-    /// The result of the goal. It met no overflow by depth.
+    /// The result of the goal.
     pub result: R,
     /// The goals of the stack that the result depends on, and the kinds of the paths by which it read them.
     pub heads: Vec<CycleHead>,
     /// The kind of the path from its nearest head to the goal.
     pub kind: PathKind,
-    /// The depth that the goal needed.
+    /// Whether the goal met an overflow by depth, or a goal that the entry moved over did.
+    pub encountered_overflow: bool,
+    /// The least depth at which the result is used: what the goal needed if it met no overflow by depth, else 0.
     pub required_depth: usize,
+    /// The greatest depth at which the result is used: what the goal had if it met an overflow by depth, else `usize::MAX`. If the entry
+    /// moved over goals that met one, it is at most what each of these had.
+    pub reach: usize,
     /// The index of its nested goals in the cache.
     pub asked: usize,
 }
+
+/// A result that met an overflow by depth becomes an entry if it depends on at most this many goals of the stack.
+///
+/// An entry moves each time that its nearest head ends, and lists of heads are merged then. If each of a thousand goals reaches most
+/// others, there are many such results with hundreds of heads, and few are ever used.
+pub(crate) const OVERFLOW_HEADS_LIMIT: usize = 64;
 
 /// The list of the entries whose nearest head is one goal of the stack.
 pub(crate) type Entries<D> = Vec<ProvisionalEntry<InputOf<D>, ResultOf<D>>>;
@@ -100,7 +111,7 @@ impl<D: Delegate> ProvisionalEntries<D> {
     /// Returns the position of an entry that may be used for a goal over this stack: the index of its nearest head, and its index in
     /// that head's list.
     ///
-    /// The path from the nearest head to the goal has the entry's kind, and the entry needed at most this depth.
+    /// The path from the nearest head to the goal has the entry's kind, and the entry is used at this depth.
     /// `lookup_provisional_cache` of `rustc_type_ir::search_graph`.
     pub fn find(
         &self,
@@ -147,7 +158,7 @@ impl<D: Delegate> ProvisionalEntries<D> {
     }
 }
 
-/// Returns the index of an entry of the goal for a path of this kind that needed at most this depth.
+/// Returns the index of an entry of the goal for a path of this kind that is used at this depth.
 pub(crate) fn find_among<D: Delegate>(
     entries: &[ProvisionalEntry<InputOf<D>, ResultOf<D>>],
     number: usize,
@@ -168,7 +179,7 @@ pub(crate) fn find_among<D: Delegate>(
     None
 }
 
-/// Returns whether the entry is of the goal, for a path of this kind, and needed at most this depth.
+/// Returns whether the entry is of the goal, for a path of this kind, and is used at this depth.
 fn serves<D: Delegate>(
     entry: &ProvisionalEntry<InputOf<D>, ResultOf<D>>,
     number: usize,
@@ -182,7 +193,7 @@ fn serves<D: Delegate>(
     if entry.number != number || entry.kind != kind {
         return false;
     }
-    if entry.required_depth > depth {
+    if entry.required_depth > depth || depth > entry.reach {
         return false;
     }
     entry.input == *input

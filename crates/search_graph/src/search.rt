@@ -9,13 +9,14 @@ ghost use Rattle.search_graph.specs.Chain.{AreInRange, AreInRanges, IsUsableAt, 
 ghost use Rattle.search_graph.specs.Meaning.{KeepsContext};
 ghost use Rattle.search_paths.specs.Heads.{RestsOn};
 ghost use Rattle.search_paths.specs.KeptPaths.{indices, AreBelow};
-ghost use Rattle.search_graph.specs.Bound.{uncached_questions_limit};
+ghost use Rattle.search_graph.specs.Bound.{uncached_questions_limit, local_questions_limit};
 ghost use Rattle.search_graph.specs.Cache.{known_results, HasConflict, IsNumberOf, KeepsResults, IsReplyOf, AddsAsked, AddsEvaluation, SaysSame};
 ghost use Rattle.search_graph.specs.Plain.{IsNotPlain};
 ghost use Rattle.search_graph.specs.Stack.{place_of, oldest_of, span_of_newest, IsStack, IsProvisional, IsUnread, IsSettled, AreCached, IsOnStack, IsClosedBy};
 ghost use Rattle.search_graph.specs.Provisional.{IsServingAt, IsEntryAt, NoneServes, AddsEntry, AreMoved};
-ghost use Rattle.search_graph.specs.Question.{AllDescendTo, AreEntriesOver, IsWithinAsEntries, EntriesStayWithin, IsResultOver, IsReplyOver, IsReadOver, IsInitial, IsFaithfulOver, IsKeptResult, IsNotPlainUnder, IsWithinAsCached, IsWithinAsStack, KeepsWithin};
+ghost use Rattle.search_graph.specs.Question.{AreEntriesOver, IsWithinAsEntries, EntriesStayWithin, IsResultOver, IsReplyOver, IsReadOver, IsInitial, IsFaithfulOver, IsKeptResult, IsWithinAsCached, IsWithinAsStack, KeepsWithin};
 
+use crate::budget::Budget;
 use crate::cache::{Cached, CachedResults};
 use crate::delegate::{Cx, Delegate, InputOf, ResultOf};
 use crate::fault::{GraphFault, Stop};
@@ -36,18 +37,6 @@ pub type Evaluation<D> = Result<EvaluationResult<ResultOf<D>>, GraphFault>;
 /// The same, if the call from outside may be given up during the evaluation.
 pub(crate) type Outcome<D> = Result<EvaluationResult<ResultOf<D>>, Stop>;
 
-/// A call from outside is given up when uncached goals have evaluated this many nested goals in it.
-///
-/// A goal is uncached if its result depends on goals of the stack, or if it met an overflow by depth. The goal is counted when it ends,
-/// with the nested goals of all its runs. Each counts once, and `Delegate::cost_of` times more for the goal's own types. The count
-/// begins anew with each call.
-///
-/// An uncached result is stored for one run of its nearest head at most. It is computed again if its goal is evaluated after that run.
-/// If goals reach each other by many paths, that may happen exponentially often in the number of goals. All other goals are cached, so
-/// this bounds the time of a call. Goals that form no cycle and whose chains fit the depth are never counted, whatever they cost. The
-/// number is far above the nested goals of types that grow at each step within a depth of 128.
-pub(crate) const UNCACHED_QUESTIONS_LIMIT: usize = 65536;
-
 /// The goals that are being evaluated, and what was counted.
 pub struct Search<D: Delegate> {
     /// The allocator.
@@ -61,15 +50,14 @@ pub struct Search<D: Delegate> {
     /// The results that depend on goals of the stack. Each goal of the stack has a list of the results whose nearest head it is.
     pub entries: ProvisionalEntries<D>,
     pub ghost listed: { length entries.lists.items ≡ length stack.items } by { Prim.hlevel props },
-    /// Whether the limit of the depth or of the runs gave a result, or a call was given up.
+    /// Whether the limit of the depth or of the runs gave a result, goals ran out, or a call was given up.
     pub limits_met: bool,
     /// Whether a nested goal reported an overflow by depth in this call from outside.
     pub(crate) overflow_met: bool,
     /// The number of frames that were started, at most `u64::MAX`.
     pub frames: u64,
-    /// The number of nested goals of the uncached goals that ended in this call from outside, as `UNCACHED_QUESTIONS_LIMIT` counts
-    /// them.
-    pub(crate) uncached_questions: usize,
+    /// What was counted in this call from outside, and how far it may go.
+    pub(crate) budget: Budget,
 }
 
 impl<D: Delegate> Drop for Search<D> {
@@ -82,7 +70,7 @@ impl<D: Delegate> Drop for Search<D> {
             limits_met: _,
             overflow_met: _,
             frames: _,
-            uncached_questions: _,
+            budget: _,
         } = self;
     }
 }
@@ -103,7 +91,7 @@ impl<D: Delegate> Search<D> {
             limits_met: false,
             overflow_met: false,
             frames: 0,
-            uncached_questions: 0,
+            budget: Budget::new(),
         }
     }
 
@@ -121,33 +109,37 @@ impl<D: Delegate> Search<D> {
 
     /// Begins a call from outside. No goal has ended in it, and no overflow was met.
     pub(crate) fn count_anew(&mut self)
-        ensures count { self.new.uncached_questions ≡ 0 }
+        ensures count { self.new.budget.counted ≡ 0 }
+        ensures whole { self.new.budget.allowance ≡ local_questions_limit }
+        ensures unshared { self.new.budget.sharing ≡ 0 }
         ensures calm { self.new.overflow_met ≡ false }
         ensures stack { self.new.stack.items ≡ self.old.stack.items }
         ensures entries { self.new.entries ≡ self.old.entries }
         ensures frames { self.new.frames ≡ self.old.frames }
         ensures limits { self.new.limits_met ≡ self.old.limits_met }
     {
-        self.uncached_questions = 0;
+        self.budget = Budget::new();
         self.overflow_met = false;
     }
 
-    /// Adds `cost` for a goal that ended, if the goal is uncached. Returns whether the call may continue.
+    /// Adds `cost` for a goal that ended, if the goal is uncached and has not run out. Returns whether the call may continue.
     pub(crate) fn count_end(&mut self, is_open: bool, cost: usize) -> bool
-        ensures limit { is_open ≡ true → result ≡ true → self.new.uncached_questions < uncached_questions_limit }
-        ensures count { is_open ≡ true → result ≡ true → self.new.uncached_questions ≡ self.old.uncached_questions + cost }
-        ensures uncounted { is_open ≡ false → (result ≡ true) × (self.new.uncached_questions ≡ self.old.uncached_questions) }
+        ensures limit { is_open ≡ true → self.old.budget.counted < self.old.budget.allowance → result ≡ true
+            → self.new.budget.counted < uncached_questions_limit }
+        ensures count { is_open ≡ true → self.old.budget.counted < self.old.budget.allowance → result ≡ true
+            → self.new.budget.counted ≡ self.old.budget.counted + cost }
+        ensures uncounted { is_open ≡ false → (result ≡ true) × (self.new.budget ≡ self.old.budget) }
+        ensures unwound { self.old.budget.allowance ≤ self.old.budget.counted → (result ≡ true) × (self.new.budget ≡ self.old.budget) }
+        ensures first { is_open ≡ true → self.old.budget.counted < self.old.budget.allowance → self.old.budget.sharing ≡ 0
+            → self.old.budget.allowance ≤ self.new.budget.counted → self.new.budget.sharing ≡ length self.old.stack.items }
         ensures stack { self.new.stack.items ≡ self.old.stack.items }
         ensures entries { self.new.entries ≡ self.old.entries }
         ensures met { self.new.overflow_met ≡ self.old.overflow_met }
         ensures frames { self.new.frames ≡ self.old.frames }
         ensures limits { self.new.limits_met ≡ self.old.limits_met }
     {
-        if !is_open {
-            return true;
-        }
-        self.uncached_questions = self.uncached_questions.saturating_add(cost);
-        self.uncached_questions < UNCACHED_QUESTIONS_LIMIT
+        let level = self.stack.len();
+        self.budget.count_end(level, is_open, cost)
     }
 
     /// Returns a range that contains the numbers of all goals of the stack.
@@ -275,14 +267,16 @@ impl<D: Delegate> Search<D> {
         requires entries { AreEntriesOver D.meaning cx.now self.now.stack.items cache.now.asked.items self.now.overflow_met self.now.entries.lists.items }
         requires place { (number : ℕ) × (depth : ℕ)
             × IsServingAt self.now.entries.lists.items self.now.stack.items number input.now step_kind depth at.0 at.1 }
-        ensures success { IfOk result (λ o. o.dependencies.encountered_overflow ≡ false) }
+        ensures overflow { IfOk result (λ o. (e : _) → IsEntryAt self.now.entries.lists.items at.0 at.1 e
+            → o.dependencies.encountered_overflow ≡ e.encountered_overflow) }
         ensures depth { IfOk result (λ o. (e : _) → IsEntryAt self.now.entries.lists.items at.0 at.1 e
             → o.dependencies.required_depth ≡ e.required_depth) }
         ensures heads { IfOk result (λ o. (e : _) → IsEntryAt self.now.entries.lists.items at.0 at.1 e → o.dependencies.heads.items ≡ e.heads.items) }
         ensures asked { IfOk result (λ o. (e : _) → IsEntryAt self.now.entries.lists.items at.0 at.1 e → UsesAlone e.asked o.dependencies.nested_goals) }
         ensures range { IfOk result (λ o. AreInRange cache.now.asked.items o.dependencies.nested_goals) }
         ensures answer { IfOk result (λ o. IsReplyOver D.meaning cx.now self.now.stack.items input.now step_kind o.dependencies.heads.items cx.now o.result) }
-        ensures faithful { IfOk result (λ o. (reach : ℕ) → IsFaithfulOver D.meaning cx.now self.now.stack.items input.now reach cx.now o) }
+        ensures faithful { IfOk result (λ o. (e : _) → IsEntryAt self.now.entries.lists.items at.0 at.1 e
+            → IsFaithfulOver D.meaning cx.now self.now.stack.items input.now (e.reach + 1) cx.now o) }
         ensures within { IfOk result (λ o. IsWithinAsEntries D.meaning cx.now self.now.entries.lists.items input.now o.result) }
         ensures no_conflict { result ≡ Err GraphFault.Conflict → ⊥ }
         ensures in_order { result ≡ Err GraphFault.Protocol → ⊥ }
@@ -292,6 +286,7 @@ impl<D: Delegate> Search<D> {
         let entry = &self.entries.lists[head][place];
         let answer = cx.copy_result(&entry.result)?;
         let mut dependencies = Dependencies::new(self.alloc);
+        dependencies.encountered_overflow = entry.encountered_overflow;
         dependencies.required_depth = entry.required_depth;
         dependencies.heads = Vec::from_slice(self.alloc, &entry.heads)?;
         let asked = entry.asked;
@@ -320,9 +315,7 @@ impl<D: Delegate> Search<D> {
         requires input { D.meaning.IsInput cx.now goal.input }
         requires nested { AreInRange cache.old.asked.items evaluation.dependencies.nested_goals }
         requires result { IsResultOver D.meaning cx.now self.old.stack.items goal.input goal.step_kind evaluation }
-        requires success { evaluation.dependencies.encountered_overflow ≡ false }
-        requires faithful { IsFaithfulOver D.meaning cx.now self.old.stack.items goal.input 0 cx.now evaluation }
-        requires descends { AllDescendTo D.meaning cx.now self.old.stack.items goal.input self.old.overflow_met }
+        requires faithful { IsFaithfulOver D.meaning cx.now self.old.stack.items goal.input (goal.depth + 1) cx.now evaluation }
         requires place { nearest < length self.old.stack.items }
         requires nearest { RestsOn evaluation.dependencies.heads.items nearest × AreBelow (nearest + 1) (indices evaluation.dependencies.heads.items) }
         ensures left { OnOk result ((e : _) × (e.result ≡ evaluation.result) × AddsEntry self.old.entries.lists.items self.new.entries.lists.items nearest e) }
@@ -359,19 +352,26 @@ impl<D: Delegate> Search<D> {
             number,
             input,
             step_kind,
-            ..
+            depth,
         } = goal;
         let kind = kind_of_path(&self.stack, nearest, step_kind);
         let result = cx.copy_result(&answer)?;
         let rests_on = Vec::from_slice(self.alloc, &heads)?;
         let asked = cache.list(number, nested_goals)?;
+        let least = if encountered_overflow {
+            0
+        } else {
+            required_depth
+        };
         let entry = ProvisionalEntry {
             input,
             number,
             result,
             heads: rests_on,
             kind,
-            required_depth,
+            encountered_overflow,
+            required_depth: least,
+            reach: reach_of(depth, encountered_overflow),
             asked,
         };
         self.entries.leave(nearest, entry)?;
@@ -390,31 +390,37 @@ impl<D: Delegate> Search<D> {
         })
     }
 
-    /// Moves the entries of a goal that ended to their next heads, if no overflow by depth was met in this call.
+    /// Moves the entries of a goal that ended to their next heads.
     ///
-    /// `ended` is the result of the goal, `step_kind` the kind of the step to it, and `asked` the index of its nested goals in the
-    /// cache. If memory is refused, some entries may be missing.
+    /// `ended` is the result of the goal, `step_kind` the kind of the step to it, `ended_reach` the greatest depth at which its result is
+    /// used, and `asked` the index of its nested goals in the cache. If memory is refused, some entries may be missing.
     pub(crate) fn move_entries(
         &mut self,
         left: Entries<D>,
         step_kind: PathKind,
         ended: &EvaluationResult<ResultOf<D>>,
+        ended_reach: usize,
         asked: usize,
     ) -> Result<(), AllocError>
         requires below { AreBelow (length self.old.stack.items) (indices ended.now.dependencies.heads.items) }
         requires rests { (place : ℕ) (e : _) → slice_get left.items place ≡ Some e → AreBelow (length self.old.stack.items + 1) (indices e.heads.items) }
-        ensures moved { OnOk result (AreMoved self.old.stack.items self.old.overflow_met left.items step_kind ended.now asked
+        ensures moved { OnOk result (AreMoved self.old.stack.items left.items step_kind ended.now ended_reach asked
             self.old.entries.lists.items self.new.entries.lists.items) }
         ensures stack { self.new.stack.items ≡ self.old.stack.items }
         ensures met { self.new.overflow_met ≡ self.old.overflow_met }
         ensures frames { self.new.frames ≡ self.old.frames }
         ensures limits { self.new.limits_met ≡ self.old.limits_met }
     {
-        if self.overflow_met {
-            return Ok(());
-        }
         let stack = &self.stack;
-        move_entries::<D>(&mut self.entries, stack, left, step_kind, ended, asked)
+        move_entries::<D>(
+            &mut self.entries,
+            stack,
+            left,
+            step_kind,
+            ended,
+            ended_reach,
+            asked,
+        )
     }
 
     /// Returns the cycle that the goal closes, if it is on the stack.
@@ -453,7 +459,6 @@ impl<D: Delegate> Search<D> {
             → IsInitial D.meaning cx.old input.now cycle cx.new r) }
         ensures reply { IfOk result (λ r. (e : _) → slice_get self.now.stack.items cycle.index ≡ Some e
             → IsReadOver D.meaning cx.old self.now.stack.items input.now step_kind cycle.index e cx.new r) }
-        ensures not_plain { IfOk result (λ r. IsNotPlainUnder D.meaning cx.old self.now.stack.items input.now cycle.index) }
         ensures within { IfOk result (λ r. IsWithinAsStack D.meaning cx.old self.now.stack.items input.now cx.new r) }
     {
         let entry = &self.stack[cycle.index];
@@ -567,6 +572,17 @@ pub fn nested_depth<D: Delegate>(depth: usize, overflowed: bool) -> usize
         depth / D::DIVIDE_AVAILABLE_DEPTH_ON_OVERFLOW
     } else {
         depth - 1
+    }
+}
+
+/// Returns the greatest depth at which a provisional result of a goal of this depth is used. Without overflow it is not limited.
+pub(crate) fn reach_of(depth: usize, encountered_overflow: bool) -> usize
+    ensures { encountered_overflow ≡ true → result ≡ depth }
+{
+    if encountered_overflow {
+        depth
+    } else {
+        usize::MAX
     }
 }
 
@@ -706,7 +722,7 @@ pub fn finish<D: Delegate>(
             dependencies,
         });
     }
-    // The result depends on goals of the stack, so it is not cached. After an overflow it is no provisional entry either.
+    // The result depends on goals of the stack, so it is not cached. After an overflow with many heads it is no provisional entry either.
     let mut nested_goals = nested_goals;
     nested_goals.add_goal(number)?;
     let dependencies = Dependencies {

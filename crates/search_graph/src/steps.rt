@@ -9,15 +9,15 @@ ghost use Rattle.search_graph.specs.Chain.{AreInRange};
 ghost use Rattle.search_paths.specs.Nested.{covered, one_goal, AsksAlone};
 ghost use Rattle.search_graph.specs.Cache.{known_results, HasConflict, HoldsResult, IsNumberOf, KeepsNumbers, KeepsResults, AddsEvaluation, SaysSame};
 ghost use Rattle.search_graph.specs.Stack.{span_of_newest, IsStack, IsProvisional, AreCached, IsClosedBy, IfUsable, HasBegun};
-ghost use Rattle.search_graph.specs.Question.{AllDescendTo, AreEntriesOver, AreLeftOver, IsResultOver, EntriesStayWithin, IsWithinAsKept, IsReplyOver, IsFaithfulOver, IsKeptResult, IsNotPlainUpTo, IsWithinAsCached, IsWithinAsStack, KeepsWithin};
+ghost use Rattle.search_graph.specs.Question.{AreEntriesOver, AreLeftOver, IsResultOver, EntriesStayWithin, IsWithinAsKept, IsReplyOver, IsFaithfulOver, IsKeptResult, IsNotPlainUpTo, IsWithinAsCached, IsWithinAsStack, KeepsWithin};
 
 use crate::cache::CachedResults;
 use crate::candidates::{Candidates, Turn};
 use crate::delegate::{Delegate, InputOf, Reply, Request, ResultOf};
 use crate::fault::{GraphFault, Stop};
-use crate::provisional::Entries;
+use crate::provisional::{Entries, OVERFLOW_HEADS_LIMIT};
 use crate::reads::CandidateReads;
-use crate::search::{Evaluation, Outcome, Search, finish};
+use crate::search::{Evaluation, Outcome, Search, finish, reach_of};
 use crate::stack::{Cycle, NestedGoal, StackEntry};
 use search_paths::{Dependencies, EvaluationResult, PathKind, PathsToNested, nearest_head};
 
@@ -257,8 +257,8 @@ pub(crate) fn is_met(before: bool, told: bool) -> bool
 
 /// Ends the evaluation of a goal: counts it, and stores its result.
 ///
-/// If the result depends on goals of the stack and met no overflow by depth, it becomes a provisional entry, and the entries `left` of
-/// the goal's last run move to their next heads. Otherwise `finish` stores it.
+/// If the result depends on goals of the stack, it becomes a provisional entry, and the entries `left` of the goal's last run move to
+/// their next heads. If it met an overflow by depth, that is so up to `OVERFLOW_HEADS_LIMIT` goals. Otherwise `finish` stores it.
 pub(crate) fn conclude<D: Delegate>(
     search: &mut Search<D>,
     cache: &mut CachedResults<D>,
@@ -278,7 +278,6 @@ pub(crate) fn conclude<D: Delegate>(
     requires entries { AreEntriesOver D.meaning cx.now search.old.stack.items cache.old.asked.items search.old.overflow_met search.old.entries.lists.items }
     requires left { AreLeftOver D.meaning cx.now search.old.stack.items goal.input goal.step_kind cx.now cache.old.asked.items
         search.old.overflow_met left.items }
-    requires descends { AllDescendTo D.meaning cx.now search.old.stack.items goal.input search.old.overflow_met }
     requires result { IsResultOver D.meaning cx.now search.old.stack.items goal.input goal.step_kind evaluation }
     requires below { AreBelow (length search.old.stack.items) (indices evaluation.dependencies.heads.items) }
     requires faithful { IsFaithfulOver D.meaning cx.now search.old.stack.items goal.input (goal.depth + 1) cx.now evaluation }
@@ -316,11 +315,12 @@ pub(crate) fn conclude<D: Delegate>(
         return Err(Stop::Exhausted);
     }
     let step_kind = goal.step_kind;
-    if !found.encountered_overflow {
+    if !found.encountered_overflow || found.heads.len() <= OVERFLOW_HEADS_LIMIT {
         if let Some(nearest) = nearest_head(&found.heads) {
+            let reach = reach_of(goal.depth, found.encountered_overflow);
             let asked = cache.asked.len();
             let reply = search.leave(cache, cx, nearest, goal, evaluation)?;
-            search.move_entries(left, step_kind, &reply, asked)?;
+            search.move_entries(left, step_kind, &reply, reach, asked)?;
             return Ok(reply);
         }
     }

@@ -59,7 +59,7 @@ pub fn further() -> Vec<Text> {
         depths: vec![128],
         expected: None,
     };
-    let is_text = |file: &PathBuf| file.extension().is_some_and(|it| it == "txt");
+    let is_text = |file: &PathBuf| file.extension().map_or(false, |it| it == "txt");
     folders(Path::new(&top))
         .into_iter()
         .filter(is_text)

@@ -1,4 +1,4 @@
-use Rattle.std.proofs.Common.{◌⊎◌, inl, inr, cond, false, true, rules, ◌≡◌, ℕ, ◌+◌, ◌*◌, ◌<◌, ◌≤◌, [], ◌∷◌, ◌++◌, length, max, sym, subst, ◌∙◌, ap, refl, arith}
+use Rattle.std.proofs.Common.{◌⊎◌, ◌||◌, inl, inr, cond, false, true, rules, ◌≡◌, ℕ, ◌+◌, ◌*◌, ◌<◌, ◌≤◌, [], ◌∷◌, ◌++◌, length, max, sym, subst, ◌∙◌, ap, refl, arith}
 use Rattle.std.proofs.lemmas.Result.{IfOk-weaker, err_from_is_err_and}
 use Rattle.search_paths.specs.declared.path_kind.PathKind.TheVariants.{Inductive}
 use Rattle.search_graph.specs.declared.delegate.Request.TheVariants.{Evaluate, Done}
@@ -13,16 +13,15 @@ use Rattle.search_paths.specs.Heads.{AreHeadsBut}
 use Rattle.search_graph.specs.Stack.{question_of, steps_of, span_of_newest, IsUnread}
 use Rattle.search_graph.specs.Computed.{IsGivenWithin, nothing, also, below}
 use Rattle.search_graph.specs.Bound.{question_bound}
-use Rattle.search_graph.specs.Plain.{IsNotPlain}
 use Rattle.search_graph.specs.Cache.{HasConflict, known_results}
 use Rattle.search_graph.specs.Question.{IsFaithfulOver, IsNotPlainOver, IsWithinAsStack, AllStayWithin}
-use Rattle.search_graph.specs.Faithful.{HeadsDescend}
+use Rattle.search_graph.specs.Faithful.{NeedsHead}
 use Rattle.search_graph.proofs.Errors.{err_passed, fault_passed, fault_goes_on, stop_refused, ok_not_err, OnOk-always}
 use Rattle.search_graph.proofs.Refusals.{IfOk-err, OnOk-err, IfOk-or}
 use Rattle.search_graph.proofs.Orders.{from_zero, within_more, less_within, none_started, one_started, none_counted, one_counted, counted_later, not_less}
 use Rattle.search_paths.proofs.HeadFacts.{indices-none, both_kept, both_below, below_more, below_last, root_alone}
 use Rattle.search_graph.proofs.Graphs.{IsStack-now, steps-now, IsEntry-now, run_ended, next_entry, IsAnswer-then, answer_of_run, running_next_counted, running_begun, running_other, running_done, asked_now, hears_other, hears_next, misstep_now, due_next, due_other, Keeps-refl, Keeps-trans, IsStack-push, steps_pushed, length-steps_of, AreCached-later, provisional_alone, overflow_answers, overflow_stands}
-use Rattle.search_graph.proofs.Faithfuls.{or_first, or_second, asked_descends, not_plain_at_zero, all_heads_descend, run_heads_descend, ends_not_plain, conflict_up, plain_first, plain_next_at, plain_done, untouched_first, untouched_not_plain, faithful_not_plain, faithful_taken, faithful_at_zero, kept_of_faithful, IsFaithful-less, reach_within}
+use Rattle.search_graph.proofs.Faithfuls.{or_first, or_second, or_either, faithful_marked, asked_descends, not_plain_at_zero, run_plain_head, needs_not_plain, ends_not_plain, conflict_up, plain_first, plain_next_at, plain_done, untouched_first, untouched_needs_head, faithful_needs_head, faithful_taken, faithful_at_zero, kept_of_faithful, IsFaithful-less, reach_within}
 use Rattle.search_graph.proofs.Limits.{unnoted, either_noted, not_both, told_within, AreLastWithin-now, AreLastWithin-push, AreCachedWithin-keeps}
 use Rattle.search_graph.proofs.Bounds.{frame_bound_runs, nested_within, one_more_run, runs_within, done_within, asked_within, asked_more}
 use Rattle.search_graph.proofs.Ends.{depth_after, held_after, answer_after, faithful_after, within_after}
@@ -31,13 +30,14 @@ use Rattle.search_graph.proofs.Entries.{runs_begin, runs_leave, runs_left, entri
 use Rattle.search_graph.proofs.evaluation.+search.Goals as goal
 use Rattle.type_terms.proofs.BooleanBasics.{true-false as true_not_false}
 
-pub ask-returns-then-depth-eq0 : goal.ask-returns-then-depth-eq0
-ask-returns-then-depth-eq0 g t c =
+pub ask-returns-in_default : goal.ask-returns-in_default
+ask-returns-in_default g t c =
     let m = g.D.Delegate.meaning in
     let first = c.args.cx.now in
     let es = c.args.search.now.stack.items in
     let w = m.world first in
     let x = m.goal_of first c.args.input in
+    let none : cond c.args.overflowed 0 c.args.depth ≡ 0 = rw c.in_default.is at c.depth_for.ensures.none in
     record {
       keeps = c.reply_with_overflow.ensures.keeps;
       stack = OnOk-always c.reply_with_overflow.result c.reply_with_overflow.ensures.stack;
@@ -50,7 +50,7 @@ ask-returns-then-depth-eq0 g t c =
       range = c.reply_with_overflow.ensures.range;
       depth = IfOk-weaker c.reply_with_overflow.result _ _ (λ o told off. absurd (true_not_false (sym told ∙ off))) c.reply_with_overflow.ensures.told;
       answer = c.reply_with_overflow.ensures.answer;
-      faithful = rw c.if-depth-eq0.true (IfOk-weaker c.reply_with_overflow.result (λ o. o.dependencies.encountered_overflow ≡ true) (IsFaithfulOver m first es c.args.input (cond c.args.overflowed 0 0) c.reply_with_overflow.new.cx) (λ o told. rw told (faithful_at_zero m w c.args.overflowed (steps_of m first es) x (m.answer_of c.reply_with_overflow.new.cx o.result) (indices o.dependencies.heads.items))) c.reply_with_overflow.ensures.told);
+      faithful = rw none (IfOk-weaker c.reply_with_overflow.result (λ o. o.dependencies.encountered_overflow ≡ true) (IsFaithfulOver m first es c.args.input 0 c.reply_with_overflow.new.cx) (λ o told. rw told (faithful_at_zero m w false (steps_of m first es) x (m.answer_of c.reply_with_overflow.new.cx o.result) (indices o.dependencies.heads.items))) c.reply_with_overflow.ensures.told);
       no_conflict = λ h. absurd (c.reply_with_overflow.ensures.no_conflict h);
       exhausted = λ h. absurd (c.reply_with_overflow.ensures.goes_on h);
       protocol = λ h. absurd (c.reply_with_overflow.ensures.in_order h);
@@ -59,8 +59,39 @@ ask-returns-then-depth-eq0 g t c =
       full = c.reply_with_overflow.ensures.full;
       rises = none_counted _ _ c.reply_with_overflow.ensures.frames;
       limits = c.reply_with_overflow.ensures.limits;
-      no_limit = λ off on limit l d. not_plain_at_zero m (m.world first) c.args.overflowed limit (m.goal_of first c.args.input) (rw c.if-depth-eq0.true at l);
+      no_limit = λ off on limit l d. not_plain_at_zero m w false limit x (rw none at l);
       within = IfOk-weaker c.reply_with_overflow.result _ _ (λ o noted before no last cached. absurd (true_not_false (sym noted ∙ no))) c.reply_with_overflow.ensures.noted;
+    }
+
+pub ask-returns-in_err-reply : goal.ask-returns-in_err-reply
+ask-returns-in_err-reply g t c =
+    let p = err_from_is_err_and c.from_residual.result c.from_residual.ensures.1 in
+    let failed = c.in_err-reply.ensures in
+    let reach = reach_within c.args.overflowed c.args.depth c.in-Some.nested c.in-Some.ensures.less in
+    let limit : ℕ = max g.D.Delegate.FIXPOINT_STEP_LIMIT 1 in
+    record {
+      keeps = c.evaluate.ensures.keeps;
+      stack = OnOk-err _ _ _ p.1;
+      cache = c.evaluate.ensures.cache;
+      entries = OnOk-err _ _ _ p.1;
+      calm = OnOk-err _ _ _ p.1;
+      goals = c.evaluate.ensures.goals;
+      results = c.evaluate.ensures.results;
+      asked_before = c.evaluate.ensures.asked_before;
+      range = IfOk-err _ _ _ p.1;
+      depth = IfOk-err _ _ _ p.1;
+      answer = IfOk-err _ _ _ p.1;
+      faithful = IfOk-err _ _ _ p.1;
+      no_conflict = λ h limit l d. failed.no_conflict (err_passed _ _ _ _ p.1 p.2 h) limit (omega (arith, reach, l)) d;
+      exhausted = λ h limit l d. failed.exhausted (err_passed _ _ _ _ p.1 p.2 h) limit (omega (arith, reach, l)) d;
+      protocol = λ h. failed.protocol (err_passed _ _ _ _ p.1 p.2 h);
+      conflict = λ h. failed.conflict (err_passed _ _ _ _ p.1 p.2 h);
+      frames = λ width h. let within = nested_within limit width c.in-Some.nested c.args.depth c.in-Some.ensures.falls in let run = c.evaluate.ensures.frames width h in omega arith;
+      full = λ h. failed.full (err_passed _ _ _ _ p.1 p.2 h);
+      rises = c.evaluate.ensures.rises;
+      limits = c.evaluate.ensures.limits;
+      no_limit = λ off on limit l d. c.evaluate.ensures.no_limit off on limit (omega (arith, reach, l)) d;
+      within = IfOk-err _ _ _ p.1;
     }
 
 pub ask-returns : goal.ask-returns
@@ -68,32 +99,47 @@ ask-returns g t c =
     let m = g.D.Delegate.meaning in
     let first = c.args.cx.now in
     let es = c.args.search.now.stack.items in
-    let reach = reach_within c.args.overflowed c.args.depth c.nested_depth-nested.result c.nested_depth-nested.ensures.less in
+    let w = m.world first in
+    let x = m.goal_of first c.args.input in
+    let steps = steps_of m first es in
+    let reply = c.in_ok-reply.reply in
+    let replied = c.in_ok-reply.ensures in
+    let found = reply.dependencies in
+    let marked = c.end_nested-marked.result in
+    let told = c.is_met-told.result in
+    let answer = m.answer_of c.evaluate.new.cx reply.result in
+    let near : ℕ = cond c.args.overflowed 0 c.args.depth in
+    let reach = reach_within c.args.overflowed c.args.depth c.in-Some.nested c.in-Some.ensures.less in
     let limit : ℕ = max g.D.Delegate.FIXPOINT_STEP_LIMIT 1 in
+    let faithful = IsFaithful-less m w (c.in-Some.nested + 1) near steps x answer found.encountered_overflow (indices found.heads.items) reach replied.faithful in
+    let rests : marked ≡ true → indices found.heads.items ≡ [] → ⊥ = λ on none. c.end_nested-marked.ensures.rests on (indices-none found.heads.items none) in
+    let due : told ≡ true → (found.encountered_overflow ≡ true) ⊎ (indices found.heads.items ≡ [] → ⊥) = λ on. elim (or_either found.encountered_overflow marked (sym c.is_met-told.ensures ∙ on)) [ inl before ↦ inl before | inr now ↦ inr (rests now) ] in
     record {
       keeps = c.evaluate.ensures.keeps;
-      stack = c.evaluate.ensures.stack;
+      stack = replied.stack;
       cache = c.evaluate.ensures.cache;
-      entries = c.evaluate.ensures.entries;
-      calm = c.evaluate.ensures.calm;
+      entries = replied.entries;
+      calm = replied.calm;
       goals = c.evaluate.ensures.goals;
       results = c.evaluate.ensures.results;
       asked_before = c.evaluate.ensures.asked_before;
-      range = c.evaluate.ensures.range;
-      depth = IfOk-weaker c.evaluate.result _ _ (λ o within off. depth_below o.dependencies.required_depth c.nested_depth-nested.result c.args.depth (within off) c.nested_depth-nested.ensures.falls) c.evaluate.ensures.depth;
-      answer = c.evaluate.ensures.answer;
-      faithful = IfOk-weaker c.evaluate.result (IsFaithfulOver m first es c.args.input (c.nested_depth-nested.result + 1) c.evaluate.new.cx) (IsFaithfulOver m first es c.args.input (cond c.args.overflowed 0 c.args.depth) c.evaluate.new.cx) (λ o f. IsFaithful-less m (m.world first) (c.nested_depth-nested.result + 1) (cond c.args.overflowed 0 c.args.depth) (steps_of m first es) (m.goal_of first c.args.input) (m.answer_of c.evaluate.new.cx o.result) o.dependencies.encountered_overflow (indices o.dependencies.heads.items) reach f)
-          c.evaluate.ensures.faithful;
-      no_conflict = λ h limit l d. c.evaluate.ensures.no_conflict h limit (omega (arith, reach, l)) d;
-      exhausted = λ h limit l d. c.evaluate.ensures.exhausted h limit (omega (arith, reach, l)) d;
-      protocol = c.evaluate.ensures.protocol;
-      conflict = c.evaluate.ensures.conflict;
-      frames = λ width h. let within = nested_within limit width c.nested_depth-nested.result c.args.depth c.nested_depth-nested.ensures.falls in let run = c.evaluate.ensures.frames width h in omega arith;
-      full = c.evaluate.ensures.full;
+      range = replied.range;
+      depth = λ off. let within = replied.depth (or_first found.encountered_overflow marked (sym c.is_met-told.ensures ∙ off)) in let falls = c.in-Some.ensures.falls in omega (arith, within, falls);
+      answer = replied.answer;
+      faithful = faithful_marked m w near steps x answer found.encountered_overflow told (indices found.heads.items) (λ on. c.is_met-told.ensures ∙ ap (λ before. before || marked) on) due faithful;
+      no_conflict = λ h. absurd {A = IsNotPlainOver m first es c.args.input near} (ok_not_err _ _ h);
+      exhausted = λ h. absurd {A = IsNotPlainOver m first es c.args.input near} (ok_not_err _ _ h);
+      protocol = λ h. absurd (ok_not_err _ _ h);
+      conflict = λ h. absurd (ok_not_err _ _ h);
+      frames = λ width h. let within = nested_within limit width c.in-Some.nested c.args.depth c.in-Some.ensures.falls in let run = c.evaluate.ensures.frames width h in omega arith;
+      full = λ h. absurd (ok_not_err _ _ h);
       rises = c.evaluate.ensures.rises;
-      limits = c.evaluate.ensures.limits;
-      no_limit = λ off on limit l d. c.evaluate.ensures.no_limit off on limit (omega (arith, reach, l)) d;
-      within = c.evaluate.ensures.within;
+      limits = λ on. c.is_met-search.ensures ∙ ap (λ met. met || marked) (c.evaluate.ensures.limits on);
+      no_limit = λ off on limit l d. elim (or_either c.evaluate.new.search.limits_met marked (sym c.is_met-search.ensures ∙ on)) [
+        | inl met ↦ c.evaluate.ensures.no_limit off met limit (omega (arith, reach, l)) d
+        | inr now ↦ ends_not_plain m w near steps x answer found.encountered_overflow (indices found.heads.items) (inr (rests now)) faithful limit l d
+      ];
+      within = λ before no last kept. replied.within before (or_first c.evaluate.new.search.limits_met marked (sym c.is_met-search.ensures ∙ no)) last kept;
     }
 
 pub evaluate-returns-in_err-number : goal.evaluate-returns-in_err-number
@@ -327,11 +373,13 @@ evaluate_new-loop-run-preserved g t c =
     let input : c.in_ok-back.back.input ≡ c.args.input = ap (λ e. e.input) c.in_ok-back.ensures.entry ∙ inv.input in
     let kind : c.in_ok-back.back.step_kind ≡ c.args.step_kind = ap (λ e. e.step_kind) c.in_ok-back.ensures.entry ∙ inv.kind in
     let faithful = rw (inv.keeps.world, steps-now m first c.loop-run.cx es c.loop-run.search.stack.items inv.keeps inv.stack c.requires.stack, inv.input, goal_is) at c.in_ok-back.ensures.faithful in
-    let never : (limit : ℕ) → (limit ≤ c.args.depth + 1) ⊎ (c.in_ok-back.outcome.dependencies.encountered_overflow ≡ false) → HeadsDescend m w limit (indices less) steps x → IsNotPlain m w limit x
-    = (λ limit h d n b within p.
-    let told = faithful limit h (run_heads_descend m w limit (indices heads) (indices less) steps x ended.but d) n b within p in
-    let last = c.is_last_run.ensures.unread (subst (λ r. IsUnread r) (sym (c.take_head-read.ensures.unread (indices-none heads told.unread)).0) tt) in
-    true_not_false (sym last ∙ c.if-is_last_run.false)) in
+    let needs : NeedsHead m w (c.args.depth + 1) steps x c.in_ok-back.outcome.dependencies.encountered_overflow (indices less)
+    = (λ n b h p. elim (faithful n b h p) [
+      | inl told ↦
+          let last = c.is_last_run.ensures.unread (subst (λ r. IsUnread r) (sym (c.take_head-read.ensures.unread (indices-none heads told.unread)).0) tt) in
+          absurd (true_not_false (sym last ∙ c.if-is_last_run.false))
+      | inr y ↦ run_plain_head m w n (indices heads) (indices less) steps ended.but y
+    ]) in
     record {
       keeps = keeps;
       cache = c.run_once.ensures.cache;
@@ -350,7 +398,7 @@ evaluate_new-loop-run-preserved g t c =
       entry = next_entry m w steps c.run_once.new.cx c.in_ok-back.back c.in_ok-entry.entry c.args.input c.args.step_kind c.in_ok-back.outcome.result (indices less) c.in_ok-entry.ensures input kind (keeps.inputs c.args.input c.requires.input).0
           ended.within (rw (keeps.inputs c.args.input c.requires.input).1 now);
       below = ended.below;
-      untouched = untouched_not_plain m w (c.args.depth + 1) steps x c.in_ok-back.outcome.dependencies.encountered_overflow (indices less) never;
+      untouched = untouched_needs_head m w (c.args.depth + 1) steps x c.in_ok-back.outcome.dependencies.encountered_overflow (indices less) needs;
       frames = λ width h. one_more_run c.args.search.now.frames c.loop-run.search.frames c.run_once.new.search.frames c.loop-run._run (1 + width * question_bound limit width c.args.depth)
           (inv.frames width h) (c.run_once.ensures.frames width (rw (inv.keeps.world, inv.input, goal_is) h));
       rises = within_more _ _ _ inv.rises c.run_once.ensures.rises;
@@ -363,7 +411,7 @@ evaluate_new-loop-run-preserved g t c =
           c.loop-run.cache.entries.items c.run_once.new.cache.entries.items c.loop-run.search.entries.lists.items (c.run_once.new.search.entries.lists.items ++ c.in_ok-back.left ∷ []) (c.in_ok-back.ensures.within before no) last
           (inv.within before (unnoted c.loop-run.search.limits_met c.run_once.new.search.limits_met c.run_once.ensures.limits no) last cached) in
           ((told.0.0, entries_within_leave m w before c.run_once.new.cx c.run_once.new.search.entries.lists.items c.in_ok-back.left told.0.1), rw (c.in_ok-entry.ensures.result, c.in_ok-entry.ensures.input, input, (keeps.inputs c.args.input c.requires.input).1) told.1);
-      again = λ r. never;
+      again = λ r. needs;
     }
 
 pub evaluate_new-run_once-requires : goal.evaluate_new-run_once-requires
@@ -475,17 +523,6 @@ evaluate_new-conclude-requires-clause-left g t c =
     let now = rw (inv.keeps.world, steps-now m first c.loop-run.cx es c.loop-run.search.stack.items inv.keeps inv.stack c.requires.stack, inv.input, inv.kind, goal_is) at c.in_ok-back.ensures.left in
     rw (keeps.world, steps-now m first c.run_once.new.cx es c.run_once.new.search.stack.items keeps (c.in_ok-back.ensures.stack ∙ inv.stack) c.requires.stack, input, (keeps.inputs c.args.input c.requires.input).1) now
 
-pub evaluate_new-conclude-requires-clause-descends : goal.evaluate_new-conclude-requires-clause-descends
-evaluate_new-conclude-requires-clause-descends g t c =
-    let m = g.D.Delegate.meaning in
-    let inv = c.loop-run.invariant in
-    let first = c.args.cx.now in
-    let es = c.args.search.now.stack.items in
-    let keeps = Keeps-trans m first c.loop-run.cx c.run_once.new.cx inv.keeps c.run_once.ensures.keeps in
-    let input : c.into_input.result ≡ c.args.input = c.into_input.ensures ∙ ap (λ e. e.input) c.in_ok-back.ensures.entry ∙ inv.input in
-    rw (keeps.world, steps-now m first c.run_once.new.cx es c.run_once.new.search.stack.items keeps (c.in_ok-back.ensures.stack ∙ inv.stack) c.requires.stack, input, (keeps.inputs c.args.input c.requires.input).1)
-    (λ off. c.requires.descends (inv.calm (c.in_ok-back.ensures.calm off).0).0)
-
 pub evaluate_new-conclude-requires-clause-result : goal.evaluate_new-conclude-requires-clause-result
 evaluate_new-conclude-requires-clause-result g t c =
     let m = g.D.Delegate.meaning in
@@ -545,16 +582,6 @@ evaluate_new-conclude-requires-2-clause-entries g t c =
 pub evaluate_new-conclude-requires-2-clause-left : goal.evaluate_new-conclude-requires-2-clause-left
 evaluate_new-conclude-requires-2-clause-left g t c place e at = absurd (none-some e (rw c.new.ensures.items at at))
 
-pub evaluate_new-conclude-requires-2-clause-descends : goal.evaluate_new-conclude-requires-2-clause-descends
-evaluate_new-conclude-requires-2-clause-descends g t c =
-    let m = g.D.Delegate.meaning in
-    let inv = c.loop-run.invariant in
-    let first = c.args.cx.now in
-    let es = c.args.search.now.stack.items in
-    let keeps = Keeps-trans m first c.loop-run.cx c.fixpoint_overflow_result.new.cx inv.keeps c.fixpoint_overflow_result.ensures.keeps in
-    rw (keeps.world, steps-now m first c.fixpoint_overflow_result.new.cx es c.loop-run.search.stack.items keeps inv.stack c.requires.stack, c.into_input-2.ensures ∙ inv.input, (keeps.inputs c.args.input c.requires.input).1)
-    (λ off. c.requires.descends (inv.calm off).0)
-
 pub evaluate_new-conclude-requires-2-clause-result : goal.evaluate_new-conclude-requires-2-clause-result
 evaluate_new-conclude-requires-2-clause-result g t c =
     let m = g.D.Delegate.meaning in
@@ -585,7 +612,7 @@ evaluate_new-conclude-requires-2-clause-faithful g t c =
     let x = m.goal_of first c.args.input in
     let steps = steps_of m first es in
     let keeps = Keeps-trans m first c.loop-run.cx c.fixpoint_overflow_result.new.cx inv.keeps c.fixpoint_overflow_result.ensures.keeps in
-    let faithful = faithful_not_plain m w (c.args.depth + 1) steps x (m.answer_of c.fixpoint_overflow_result.new.cx c.in_ok-answer.answer) c.loop-run.dependencies.encountered_overflow (indices c.loop-run.dependencies.heads.items) (inv.again ran) in
+    let faithful = faithful_needs_head m w (c.args.depth + 1) steps x (m.answer_of c.fixpoint_overflow_result.new.cx c.in_ok-answer.answer) c.loop-run.dependencies.encountered_overflow (indices c.loop-run.dependencies.heads.items) (inv.again ran) in
     rw (keeps.world, steps-now m first c.fixpoint_overflow_result.new.cx es c.loop-run.search.stack.items keeps inv.stack c.requires.stack, c.into_input-2.ensures ∙ inv.input, (keeps.inputs c.args.input c.requires.input).1) faithful
 
 pub evaluate_new-conclude-requires-clause-nested : goal.evaluate_new-conclude-requires-clause-nested
@@ -763,7 +790,7 @@ evaluate_new-returns g t c =
     let steps = steps_of m first es in
     let goal_is = (inv.keeps.inputs c.args.input c.requires.input).1 in
     let is : m.answer_of c.fixpoint_overflow_result.new.cx c.in_ok-answer.answer ≡ m.fixpoint_overflow w x = rw (inv.keeps.world, inv.input, goal_is) at c.in_ok-answer.ensures.is.1 in
-    let faithful = faithful_not_plain m w (c.args.depth + 1) steps x (m.answer_of c.fixpoint_overflow_result.new.cx c.in_ok-answer.answer) c.loop-run.dependencies.encountered_overflow (indices c.loop-run.dependencies.heads.items) (inv.again ran) in
+    let faithful = faithful_needs_head m w (c.args.depth + 1) steps x (m.answer_of c.fixpoint_overflow_result.new.cx c.in_ok-answer.answer) c.loop-run.dependencies.encountered_overflow (indices c.loop-run.dependencies.heads.items) (inv.again ran) in
     let keeps = Keeps-trans m first c.loop-run.cx c.fixpoint_overflow_result.new.cx inv.keeps c.fixpoint_overflow_result.ensures.keeps in
     let claim = rw (keeps.world, c.into_input-2.ensures ∙ inv.input, (keeps.inputs c.args.input c.requires.input).1) at c.conclude-2.ensures.no_conflict in
     let limit : ℕ = max g.D.Delegate.FIXPOINT_STEP_LIMIT 1 in
@@ -788,7 +815,7 @@ evaluate_new-returns g t c =
       faithful = faithful_after m first c.fixpoint_overflow_result.new.cx es c.args.input c.conclude-2.result _ (c.args.depth + 1)
           faithful c.conclude-2.ensures.reply;
       no_conflict = λ h limit l d. claim h limit l;
-      exhausted = λ h limit l d. inv.again ran limit (inl l) (all_heads_descend m w limit (indices c.loop-run.dependencies.heads.items) steps x d);
+      exhausted = λ h. needs_not_plain m w (c.args.depth + 1) steps x c.loop-run.dependencies.encountered_overflow (indices c.loop-run.dependencies.heads.items) (inv.again ran);
       protocol = λ h. absurd (c.conclude-2.ensures.in_order h);
       conflict = c.conclude-2.ensures.conflict;
       frames = λ width h. rw (c.conclude-2.ensures.frames, frame_bound_runs limit width c.args.depth) (runs_within c.args.search.now.frames c.loop-run.search.frames c.loop-run._run limit (1 + width * question_bound limit width c.args.depth) counted (inv.frames width h));
@@ -797,7 +824,7 @@ evaluate_new-returns g t c =
       counted = OnOk-always c.conclude-2.result (rw c.conclude-2.ensures.frames (inv.counted ran));
       spent = λ h. rw c.conclude-2.ensures.frames (inv.counted ran);
       limits = λ h. c.conclude-2.ensures.limits;
-      no_limit = λ off on limit l d. inv.again ran limit (inl l) (all_heads_descend m w limit (indices c.loop-run.dependencies.heads.items) steps x d);
+      no_limit = λ off on. needs_not_plain m w (c.args.depth + 1) steps x c.loop-run.dependencies.encountered_overflow (indices c.loop-run.dependencies.heads.items) (inv.again ran);
       within = IfOk-weaker c.conclude-2.result _ _ (λ o s before no. absurd (true_not_false (sym c.conclude-2.ensures.limits ∙ no))) c.conclude-2.ensures.reply;
     }
 
@@ -837,7 +864,7 @@ evaluate_new-conclude-requires-2-clause-kept g t c =
     let x = m.goal_of first c.args.input in
     let steps = steps_of m first es in
     let keeps = Keeps-trans m first c.loop-run.cx c.fixpoint_overflow_result.new.cx inv.keeps c.fixpoint_overflow_result.ensures.keeps in
-    let faithful = faithful_not_plain m w (c.args.depth + 1) steps x (m.answer_of c.fixpoint_overflow_result.new.cx c.in_ok-answer.answer) c.loop-run.dependencies.encountered_overflow (indices c.loop-run.dependencies.heads.items) (inv.again ran) in
+    let faithful = faithful_needs_head m w (c.args.depth + 1) steps x (m.answer_of c.fixpoint_overflow_result.new.cx c.in_ok-answer.answer) c.loop-run.dependencies.encountered_overflow (indices c.loop-run.dependencies.heads.items) (inv.again ran) in
     λ h. rw (keeps.world, c.into_input-2.ensures ∙ inv.input, (keeps.inputs c.args.input c.requires.input).1)
     (kept_of_faithful m w c.args.depth steps x (m.answer_of c.fixpoint_overflow_result.new.cx c.in_ok-answer.answer) c.loop-run.dependencies.encountered_overflow (indices c.loop-run.dependencies.heads.items) (ap indices h) faithful)
 
@@ -879,7 +906,7 @@ evaluate_new-returns-in_err-answer-clause-no_limit g t c =
     let w = m.world first in
     let x = m.goal_of first c.args.input in
     let steps = steps_of m first c.args.search.now.stack.items in
-    λ off on limit l d. inv.again ran limit (inl l) (all_heads_descend m w limit (indices c.loop-run.dependencies.heads.items) steps x d)
+    λ off on. needs_not_plain m w (c.args.depth + 1) steps x c.loop-run.dependencies.encountered_overflow (indices c.loop-run.dependencies.heads.items) (inv.again ran)
 
 pub run_once-returns-in-End-clause-exhausted : goal.run_once-returns-in-End-clause-exhausted
 run_once-returns-in-End-clause-exhausted g t c =

@@ -1,4 +1,4 @@
-use Rattle.std.proofs.Common.{◌<◌, ◌⊎◌, true, false, List, ◌≡◌, ◌≤◌, length, max, ℕ, ◌+◌, ◌*◌, [], ◌∷◌, ◌++◌}
+use Rattle.std.proofs.Common.{◌<◌, true, false, List, ◌≡◌, ◌≤◌, length, max, ℕ, ◌+◌, ◌*◌, [], ◌∷◌, ◌++◌}
 use Rattle.search_graph.specs.Meaning.{KeepsContext, has_open_candidate, finished, answer_count}
 use Rattle.search_paths.specs.KeptPaths.{AreBelow, indices}
 use Rattle.search_paths.specs.Nested.{covered, one_goal}
@@ -7,7 +7,7 @@ use Rattle.search_graph.specs.Cache.{KeepsNumbers, KeepsResults}
 use Rattle.search_graph.specs.Computed.{Hears, IsGivenWithin}
 use Rattle.search_graph.specs.Stack.{question_of, steps_of, span_of_newest, IsEntry, IsRunning, AreCached, IsLastWithin, AreLastWithin}
 use Rattle.search_graph.specs.Plain.{IsNotPlain}
-use Rattle.search_graph.specs.Faithful.{AllDescend, HeadsDescend, IsOnPlainTrack, IsUntouched}
+use Rattle.search_graph.specs.Faithful.{AllDescend, NeedsHead, IsOnPlainTrack, IsUntouched}
 use Rattle.search_graph.specs.Bound.{question_bound, IsCounted}
 use Rattle.search_graph.specs.Provisional.{AreProvisional, AreKeptWithin}
 use Rattle.search_graph.proofs.evaluation.+search.Given as goal
@@ -54,8 +54,7 @@ invariant-evaluate_new-loop-run g l =
           → AllDescend m (m.world l.fn.cx) limit (steps_of m l.fn.cx l.fn.search.stack.items) (m.goal_of l.fn.cx l.fn.input) → IsNotPlain m (m.world l.fn.cx) limit (m.goal_of l.fn.cx l.fn.input);
       within : (before : List (m.Goal × m.Answer)) → l.search.limits_met ≡ false → AreLastWithin m (m.world l.fn.cx) before l.fn.cx l.fn.search.stack.items → AreKeptWithin m (m.world l.fn.cx) before l.fn.cx l.fn.cache.entries.items l.fn.search.entries.lists.items
           → AreKeptWithin m (m.world l.fn.cx) before l.cx l.cache.entries.items l.search.entries.lists.items × IsLastWithin m (m.world l.fn.cx) before l.cx l.entry;
-      again : 0 < l._run → (limit : ℕ) → (limit ≤ l.depth + 1) ⊎ (l.dependencies.encountered_overflow ≡ false)
-          → HeadsDescend m (m.world l.fn.cx) limit (indices l.dependencies.heads.items) (steps_of m l.fn.cx l.fn.search.stack.items) (m.goal_of l.fn.cx l.fn.input) → IsNotPlain m (m.world l.fn.cx) limit (m.goal_of l.fn.cx l.fn.input);
+      again : 0 < l._run → NeedsHead m (m.world l.fn.cx) (l.depth + 1) (steps_of m l.fn.cx l.fn.search.stack.items) (m.goal_of l.fn.cx l.fn.input) l.dependencies.encountered_overflow (indices l.dependencies.heads.items);
     }
 
 abbrev pub invariant-run_once-loop-candidates : goal.invariant-run_once-loop-candidates

@@ -20,7 +20,7 @@ loop-entry-preserved-in-Continue-1 g c =
     record {
       goals = c.in_ok-move_entry.ensures.goals ∙ inv.goals;
       rest = λ place e at. inv.rest place e (rw c.in-Some.ensures.items (KeepsResults-push c.pop.new.self.items c.in-Some.entry place e at));
-      moved = moved_on c.args.stack.now c.args.step_kind c.args.ended.now c.args.asked c.args.left.items (length c.pop.new.self.items) c.in-Some.entry c.args.entries.now.lists.items c.loop-entry.entries.lists.items c.move_entry.new.entries.lists.items
+      moved = moved_on c.args.stack.now c.args.step_kind c.args.ended.now c.args.ended_reach c.args.asked c.args.left.items (length c.pop.new.self.items) c.in-Some.entry c.args.entries.now.lists.items c.loop-entry.entries.lists.items c.move_entry.new.entries.lists.items
           (inv.rest (length c.pop.new.self.items) c.in-Some.entry there) inv.moved c.in_ok-move_entry.ensures.moved;
     }
 

@@ -12,8 +12,8 @@ kind_of_path-kind-requires g c =
     let rests = moved_rests (length c.args.stack.now) c.args.entry.heads.items c.take_head.new.heads.items c.args.ended.now.dependencies.heads.items c.rest_through.new.heads.items c.take_head.ensures.rests (rw c.deref.ensures.value at c.in_ok-rest_through.ensures.rests) in
     moved_below (length c.args.stack.now) c.args.entry.heads.items c.args.ended.now.dependencies.heads.items c.rest_through.new.heads.items rests c.requires.rests c.requires.below c.in-Some.next (rw c.deref-2.ensures.value at c.in-Some.ensures.head)
 
-pub index-requires : goal.index-requires
-index-requires g c =
+pub index-list-requires : goal.index-list-requires
+index-list-requires g c =
     let rests = moved_rests (length c.args.stack.now) c.args.entry.heads.items c.take_head.new.heads.items c.args.ended.now.dependencies.heads.items c.rest_through.new.heads.items c.take_head.ensures.rests (rw c.deref.ensures.value at c.in_ok-rest_through.ensures.rests) in
     let low = moved_below (length c.args.stack.now) c.args.entry.heads.items c.args.ended.now.dependencies.heads.items c.rest_through.new.heads.items rests c.requires.rests c.requires.below c.in-Some.next (rw c.deref-2.ensures.value at c.in-Some.ensures.head) in
     omega (arith, low, c.requires.listed, c.args.entries.now.lists.ok.0)
@@ -35,12 +35,14 @@ returns-clause-moved g c =
     let taken = c.take_head.new.heads.items in
     let new = c.rest_through.new.heads.items in
     let first = first_read old (length stack) c.take_head.result c.empty.result c.unwrap_or-read.result c.take_head.ensures.taken c.take_head.ensures.absent (c.empty.ensures tt) c.unwrap_or-read.ensures in
-    moved_there stack c.args.step_kind c.args.ended.now c.args.asked next c.args.entry _ c.args.entries.now.lists.items c.leave.new.self.lists.items (omega (arith, low, c.requires.listed)) c.in_ok-leave.ensures.added
+    moved_there stack c.args.step_kind c.args.ended.now c.args.ended_reach c.args.asked next c.args.entry _ c.args.entries.now.lists.items c.leave.new.self.lists.items (omega (arith, low, c.requires.listed)) c.in_ok-leave.ensures.added
     (record {
       input = refl;
       number = refl;
       result = refl;
       depth = refl;
+      overflow = c.is_met-encountered_overflow.ensures;
+      reached = c.min-reach.ensures;
       asked_under = refl;
       same = c.requires.same;
       rests = rests;

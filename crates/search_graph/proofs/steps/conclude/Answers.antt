@@ -2,10 +2,10 @@ use Rattle.std.proofs.Common.{◌≡◌, ◌<◌, ◌∙◌, ◌∷◌, [], Some
 use Rattle.std.specs.Prelude.{◌==◌}
 use Rattle.std.proofs.lemmas.List.{length-append}
 use Rattle.std.proofs.lemmas.Result.{err_from_is_err_and}
+use Rattle.search_paths.specs.Heads.{RestsOn}
 use Rattle.search_paths.specs.KeptPaths.{indices, AreBelow}
 use Rattle.search_graph.specs.declared.cache.Asked.{Asked}
 use Rattle.search_graph.specs.Stack.{steps_of}
-use Rattle.search_graph.specs.Question.{IsFaithfulOver}
 use Rattle.search_graph.proofs.Errors.{fault_passed}
 use Rattle.search_paths.proofs.HeadFacts.{below_head}
 use Rattle.search_graph.proofs.Graphs.{Keeps-refl, length-steps_of}
@@ -27,17 +27,8 @@ leave-requires-clause-entries g c = rw (c.count_end.ensures.stack, c.count_end.e
 pub leave-requires-clause-result : goal.leave-requires-clause-result
 leave-requires-clause-result g c = rw c.count_end.ensures.stack c.requires.result
 
-pub leave-requires-clause-descends : goal.leave-requires-clause-descends
-leave-requires-clause-descends g c = rw (c.count_end.ensures.stack, c.count_end.ensures.met) c.requires.descends
-
 pub leave-requires-clause-faithful : goal.leave-requires-clause-faithful
-leave-requires-clause-faithful g c =
-    let m = g.D.Delegate.meaning in
-    let cx = c.args.cx.now in
-    let within : IsFaithfulOver m cx c.args.search.now.stack.items c.args.goal.input 0 cx c.args.evaluation =
-    λ limit h down n b less p. c.requires.faithful limit (elim h [ inl l ↦ inl (omega (arith, l)) | inr y ↦ inr y ]) down n b less p
-    in
-    rw c.count_end.ensures.stack within
+leave-requires-clause-faithful g c = rw c.count_end.ensures.stack c.requires.faithful
 
 pub leave-requires-clause-place : goal.leave-requires-clause-place
 leave-requires-clause-place g c =
@@ -68,10 +59,11 @@ returns-in-Some-clause-entries g c =
     let listed : Asked = record { number = c.args.goal.number; nested_goals = c.args.evaluation.dependencies.nested_goals } in
     let place : c.len-asked.result ≡ length old = c.len-asked.ensures ∙ c.args.cache.now.asked.ok.0 in
     let here : slice_get asked c.len-asked.result ≡ Some listed = rw (c.in_ok-reply.ensures.listed, place) (at_end old listed) in
-    entries_moved m cx es c.args.goal.input c.args.goal.step_kind c.in_ok-reply.reply asked old c.len-asked.result listed c.args.search.now.overflow_met
-    here (rw reply.heads c.requires.below) (rw (reply.heads, reply.result) c.requires.result)
+    entries_moved m cx es c.args.goal.input c.args.goal.step_kind c.in_ok-reply.reply c.args.goal.depth c.reach_of-reach.result asked old c.len-asked.result listed c.args.search.now.overflow_met
+    here (rw reply.heads c.requires.below) (λ none. subst (λ l. RestsOn l c.in-Some.nearest) (sym (ap (λ v. v.items) reply.heads) ∙ none) (rw c.deref.ensures.value at c.in-Some.ensures.head)) (rw (reply.heads, reply.result) c.requires.result)
+    (rw reply.overflow c.reach_of-reach.ensures) (rw (reply.heads, reply.result, reply.overflow) c.requires.faithful)
     c.args.left.items c.leave.new.self.entries.lists.items c.move_entries.new.self.entries.lists.items c.requires.left
-    (rw (c.leave.ensures.stack ∙ c.count_end.ensures.stack, c.leave.ensures.met ∙ c.count_end.ensures.met) at c.in_ok-move_entries.ensures.moved)
+    (rw (c.leave.ensures.stack ∙ c.count_end.ensures.stack) at c.in_ok-move_entries.ensures.moved)
     (rw (c.count_end.ensures.stack, c.count_end.ensures.met) at c.in_ok-reply.ensures.entries)
 
 pub returns-in-Some-clause-entries_within : goal.returns-in-Some-clause-entries_within
@@ -80,7 +72,7 @@ returns-in-Some-clause-entries_within g c before stay is =
     let cx = c.args.cx.now in
     let lists = c.args.search.now.entries.lists.items in
     let kept = rw c.count_end.ensures.entries at c.in_ok-reply.ensures.within in
-    entries_within_moved m (m.world cx) before cx c.leave.new.self.stack.items c.args.goal.step_kind c.in_ok-reply.reply c.len-asked.result c.leave.new.self.overflow_met c.args.left lists c.leave.new.self.entries.lists.items c.move_entries.new.self.entries.lists.items
+    entries_within_moved m (m.world cx) before cx c.leave.new.self.stack.items c.args.goal.step_kind c.in_ok-reply.reply c.reach_of-reach.result c.len-asked.result c.args.left lists c.leave.new.self.entries.lists.items c.move_entries.new.self.entries.lists.items
     c.in_ok-move_entries.ensures.moved stay (kept before (entries_within_leave m (m.world cx) before cx lists c.args.left stay) is)
 
 pub returns-clause-entries : goal.returns-clause-entries

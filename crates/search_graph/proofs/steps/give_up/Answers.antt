@@ -35,5 +35,5 @@ returns-clause-faithful g c =
     let told = c.in_ok-overflow.ensures.told in
     faithful_after m first c.overflow.new.cx [] c.args.input c.finish.result found (c.args.depth + 1)
     (faithful_not_plain m (m.world first) (c.args.depth + 1) [] (m.goal_of first c.args.input) (m.answer_of c.overflow.new.cx found.result) found.dependencies.encountered_overflow (indices found.dependencies.heads.items)
-    (λ limit h d. c.requires.not_plain limit (elim h [ inl x ↦ x | inr y ↦ absurd (true_not_false (sym told ∙ y)) ])))
+    (λ limit h. c.requires.not_plain limit (elim h [ inl x ↦ x | inr y ↦ absurd (true_not_false (sym told ∙ y)) ])))
     c.finish.ensures.reply

@@ -1,4 +1,7 @@
-use Rattle.std.proofs.Common.{◌+◌, ◌≡◌, ◌∙◌, sym, ap, subst, Some, slice_get}
+use Rattle.std.proofs.Common.{◌+◌, ◌≡◌, ◌∙◌, sym, ap, subst, Some, slice_get, arith}
+use Rattle.search_paths.specs.KeptPaths.{indices}
+use Rattle.search_graph.specs.Stack.{steps_of}
+use Rattle.search_graph.proofs.Faithfuls.{IsFaithful-less}
 use Rattle.search_graph.specs.Cache.{IsNumberOf}
 use Rattle.search_graph.specs.Chain.{IsAskedUnder}
 use Rattle.search_graph.proofs.Numbers.{one_number}
@@ -67,4 +70,11 @@ pub returns-in-Some-clause-range : goal.returns-in-Some-clause-range
 returns-in-Some-clause-range g c = rw c.number_of.ensures.asked at c.in_ok-reply.ensures.range
 
 pub returns-in-Some-clause-faithful : goal.returns-in-Some-clause-faithful
-returns-in-Some-clause-faithful g c = c.in_ok-reply.ensures.faithful (c.args.depth + 1)
+returns-in-Some-clause-faithful g c =
+    let m = g.D.Delegate.meaning in
+    let cx = c.args.cx.now in
+    let at = c.in-Some.ensures.found in
+    let o = c.in_ok-reply.reply in
+    let reached = at.2.reached in
+    IsFaithful-less m (m.world cx) (at.0.reach + 1) (c.args.depth + 1) (steps_of m cx c.args.search.now.stack.items) (m.goal_of cx c.args.input.now) (m.answer_of cx o.result) o.dependencies.encountered_overflow (indices o.dependencies.heads.items)
+    (omega (arith, reached)) (c.in_ok-reply.ensures.faithful at.0 at.1)

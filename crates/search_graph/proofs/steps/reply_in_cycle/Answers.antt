@@ -1,10 +1,10 @@
-use Rattle.std.proofs.Common.{◌≡◌, ◌∙◌, ◌++◌, ◌∷◌, ap, [], inl, inr, Some, slice_get}
+use Rattle.std.proofs.Common.{◌≡◌, ◌∙◌, ◌++◌, ◌∷◌, ap, refl, [], inl, Some, slice_get}
 use Rattle.std.proofs.lemmas.Option.{get_or_from_slice_get}
 use Rattle.search_paths.specs.declared.nested_goals.NestedGoals.{NestedGoals}
 use Rattle.search_paths.specs.Nested.{covered, one_goal}
 use Rattle.search_paths.specs.KeptPaths.{indices}
 use Rattle.search_graph.specs.Stack.{steps_of}
-use Rattle.search_graph.proofs.Faithfuls.{faithful_not_plain}
+use Rattle.search_graph.proofs.Faithfuls.{cycle_needs_head, faithful_needs_head}
 use Rattle.search_graph.proofs.steps.reply_in_cycle.Goals as goal
 
 pub close_cycle-requires-clause-cycle : goal.close_cycle-requires-clause-cycle
@@ -31,7 +31,8 @@ returns-clause-answer g c =
 pub returns-clause-faithful : goal.returns-clause-faithful
 returns-clause-faithful g c = λ reach.
     let m = g.D.Delegate.meaning in
+    let cycle = c.requires.cycle in
     let first = c.args.cx.now in
     let es = c.args.search.now.stack.items in
-    faithful_not_plain m (m.world first) reach (steps_of m first es) (m.goal_of first c.args.input.now) (m.answer_of c.close_cycle.new.cx c.in_ok-answer.answer) c.read_head.new.self.encountered_overflow (indices c.read_head.new.self.heads.items)
-    (λ limit h d. c.in_ok-answer.ensures.not_plain limit (λ place s head at. d place s (rw c.in_ok-read_head.ensures.heads (elim head [ inl is ↦ inl is | inr none ↦ absurd none ])) at))
+    faithful_needs_head m (m.world first) reach (steps_of m first es) (m.goal_of first c.args.input.now) (m.answer_of c.close_cycle.new.cx c.in_ok-answer.answer) c.read_head.new.self.encountered_overflow (indices c.read_head.new.self.heads.items)
+    (cycle_needs_head m (m.world first) first reach es c.args.cycle.index cycle.0 c.args.input.now c.read_head.new.self.encountered_overflow (indices c.read_head.new.self.heads.items) cycle.1 cycle.2 (rw c.in_ok-read_head.ensures.heads (inl refl)))

@@ -40,7 +40,7 @@ returns-clause-plain g c =
     let m = g.D.Delegate.meaning in
     let depth : c.self.inside.root_depth ≡ c.args.self.now.root_depth = ap (λ s. s.root_depth) c.self.view_is in
     elim c.match-evaluate_root.branch [
-      | in-Ok w ↦ rw w.result-is (λ a plain. (w.in-Ok.ensures.faithful (c.args.self.now.root_depth + 1) (inl (omega arith)) (λ place s head at. absurd (none-some s at)) (c.args.self.now.root_depth + 1) a (omega arith) plain).same)
+      | in-Ok w ↦ rw w.result-is (λ a plain. elim (w.in-Ok.ensures.faithful (c.args.self.now.root_depth + 1) a (inl (omega arith)) plain) [ inl told ↦ told.same | inr x ↦ absurd (none-some x.step x.there) ])
       | in-Err w ↦ rw w.result-is tt
     ]
 

@@ -3,7 +3,6 @@ use Rattle.std.proofs.lemmas.Option.{get_or_from_slice_get, MatchOption-at_some,
 use Rattle.search_graph.specs.Stack.{IsWithin}
 use Rattle.search_graph.proofs.Graphs.{Keeps-refl, last_answers, initial_answers}
 use Rattle.search_graph.proofs.Limits.{AreLastWithin-at}
-use Rattle.search_graph.proofs.Faithfuls.{cycle_not_plain}
 use Rattle.search_graph.proofs.search.Search.close_cycle.Goals as goal
 
 pub returns-in_ok-answer-in-Some-clause-reply : goal.returns-in_ok-answer-in-Some-clause-reply
@@ -28,20 +27,6 @@ returns-in_ok-answer-in-None-clause-reply g c =
     let input : e.input ≡ c.args.input.now = rw same at cycle.2 in
     initial_answers m g.met.D.Delegate.lawful (m.world first) first c.initial_provisional_result.new.cx es c.args.cycle.index e c.args.input.now c.args.cycle.path_kind c.args.step_kind c.in_ok-answer-in-None.answer
     at input cycle.3 c.requires.stack c.in_ok-answer-in-None.ensures.is.0 c.in_ok-answer-in-None.ensures.is.1
-
-pub returns-in_ok-answer-in-Some-clause-not_plain : goal.returns-in_ok-answer-in-Some-clause-not_plain
-returns-in_ok-answer-in-Some-clause-not_plain g c =
-    let m = g.D.Delegate.meaning in
-    let cycle = c.requires.cycle in
-    let first = c.args.cx.now in
-    λ limit d. cycle_not_plain m (m.world first) first limit c.args.self.now.stack.items c.args.cycle.index cycle.0 c.args.input.now cycle.1 cycle.2 d
-
-pub returns-in_ok-answer-in-None-clause-not_plain : goal.returns-in_ok-answer-in-None-clause-not_plain
-returns-in_ok-answer-in-None-clause-not_plain g c =
-    let m = g.D.Delegate.meaning in
-    let cycle = c.requires.cycle in
-    let first = c.args.cx.now in
-    λ limit d. cycle_not_plain m (m.world first) first limit c.args.self.now.stack.items c.args.cycle.index cycle.0 c.args.input.now cycle.1 cycle.2 d
 
 pub returns-in_ok-answer-in-Some-clause-within : goal.returns-in_ok-answer-in-Some-clause-within
 returns-in_ok-answer-in-Some-clause-within g c =

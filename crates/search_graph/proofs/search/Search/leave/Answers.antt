@@ -25,7 +25,7 @@ returns-clause-entries g c =
     let on = c.in_ok-rests_on.ensures.items ∙ c.deref-2.ensures.value in
     entries_left m (m.world cx) c.args.self.now.overflow_met cx asked (steps_of m cx es) lists c.leave.new.self.lists.items c.args.nearest _ c.in_ok-leave.ensures.added inside
     (left_entry m cx es c.args.goal.step_kind c.args.nearest c.args.evaluation.dependencies.heads.items c.requires.place c.requires.nearest.0 c.requires.nearest.1
-    asked c.args.self.now.overflow_met c.args.goal.input c.args.evaluation.result _ here refl c.in_ok-result.ensures.copy on kind at c.requires.input c.requires.result (rw c.requires.success at c.requires.faithful) c.requires.descends)
+    asked c.args.self.now.overflow_met c.args.goal.input c.args.goal.depth c.args.evaluation.dependencies.encountered_overflow c.args.evaluation.result _ here refl c.in_ok-result.ensures.copy on kind at refl c.reach_of.ensures c.requires.input c.requires.result c.requires.faithful)
     (entries_keep m (m.world cx) c.args.self.now.overflow_met cx cx old asked (steps_of m cx es) lists (Keeps-refl m cx) c.list.ensures.asked c.requires.entries)
 
 pub returns-clause-within : goal.returns-clause-within

@@ -1,78 +1,34 @@
-//! The library's calls: all that is `unsafe` here.
-//!
-//! What each call promises is proved where it is defined, in `crates/celtisdarts_c`. That it is declared here as it is there is compared by
-//! a test (`tests/declarations.rs`).
+//! The library's calls made safe: with the stack of [`crate::stack`], all that is `unsafe` here.
 #![allow(unsafe_code)]
 
 use crate::error::{Error, FaultKind};
+use celtisdarts_sys::{
+    celtisdarts_abi_version, celtisdarts_ask, celtisdarts_check, celtisdarts_close,
+    celtisdarts_name, celtisdarts_new, celtisdarts_read, celtisdarts_run, Handle, ABI_VERSION,
+    DONE, FAULT, FULL, MEMORY, NOT_A_QUERY, NO_CRATE, SEVERAL_LINES, TOO_LONG, TOO_SHORT,
+};
 use std::mem::ManuallyDrop;
 use std::ptr::{self, NonNull};
 
-// The words with which a call ends; what they say stands in `crates/celtisdarts_c/src/lib.rt`.
-const DONE: u32 = 0;
-const FAULT: u32 = 1;
-const TOO_SHORT: u32 = 5;
-
-/// What is asked, behind a pointer that the library made. (The allocator that stands beside it there takes no bytes.)
-#[repr(C)]
-struct Handle {
-    at: NonNull<u8>,
-}
-
-// The library's `&[u8]` is a pointer and a length here, and its `Global` is no parameter.
-extern "C" {
-    fn celtisdarts_run(
-        text: *const u8,
-        text_length: usize,
-        depth: u32,
-        buffer: *mut u8,
-        room: usize,
-        needed: &mut usize,
-    ) -> u32;
-    fn celtisdarts_new(at: &mut *mut u8) -> u32;
-    fn celtisdarts_close(handle: Handle);
-    fn celtisdarts_read(
-        handle: &mut Handle,
-        text: *const u8,
-        text_length: usize,
-        depth: u32,
-        line: &mut u32,
-        number: &mut u32,
-    ) -> u32;
-    fn celtisdarts_name(
-        handle: &mut Handle,
-        number: u32,
-        buffer: *mut u8,
-        room: usize,
-        needed: &mut usize,
-    ) -> u32;
-    fn celtisdarts_check(
-        handle: &mut Handle,
-        number: u32,
-        buffer: *mut u8,
-        room: usize,
-        needed: &mut usize,
-    ) -> u32;
-    fn celtisdarts_ask(
-        handle: &mut Handle,
-        line: *const u8,
-        line_length: usize,
-        buffer: *mut u8,
-        room: usize,
-        needed: &mut usize,
-        number: &mut u32,
-    ) -> u32;
+/// Refuses a library of another version, before its first call.
+fn require_version() {
+    // SAFETY: it is a constant of the library, which nothing writes.
+    let linked = unsafe { celtisdarts_abi_version };
+    assert!(
+        linked == ABI_VERSION,
+        "libceltisdarts.a has version {linked} of the calls, and {ABI_VERSION} is declared here"
+    );
 }
 
 /// The error of a call that ended with this word, which is not that of a fault.
 fn error_of(word: u32) -> Error {
     match word {
-        3 => Error::Memory,
-        4 => Error::Full,
-        6 => Error::NotAQuery,
-        7 => Error::SeveralLines,
-        8 => Error::TooLong,
-        9 => Error::NoSuchCrate,
+        MEMORY => Error::Memory,
+        FULL => Error::Full,
+        NOT_A_QUERY => Error::NotAQuery,
+        SEVERAL_LINES => Error::SeveralLines,
+        TOO_LONG => Error::TooLong,
+        NO_CRATE => Error::NoSuchCrate,
         _ => unreachable!("the call ends with no word {word}"),
     }
 }
@@ -102,6 +58,7 @@ fn into_buffer(
 /// Writes the output for a text into the buffer, and tells whether it is answers; else it is the line of the text's first fault. The error is
 /// `Memory` or `Full`.
 pub(crate) fn run(text: &[u8], depth: u8, buffer: &mut Vec<u8>) -> Result<bool, Error> {
+    require_version();
     let word = into_buffer(buffer, |at, room, needed| {
         // SAFETY: the declaration is the library's. `text` and the buffer are two blocks of so many bytes, which are borrowed here.
         unsafe {
@@ -127,13 +84,10 @@ pub(crate) struct Asker {
     handle: ManuallyDrop<Handle>,
 }
 
-// SAFETY: that what stands behind a handle may move is proved in `crates/celtisdarts_c/src/crossing.rt`. It is plain data in blocks of
-// `malloc`, which any thread may free, and no two values share a block. Each call takes it by `&mut`, so one thread at a time asks it.
-unsafe impl Send for Asker {}
-
 impl Asker {
     /// Reads a text. The error is `Text` or `Memory`.
     pub(crate) fn read(text: &[u8], depth: u8) -> Result<Asker, Error> {
+        require_version();
         let mut at = ptr::null_mut();
         // SAFETY: the declaration is the library's, and `at` may be written.
         let word = unsafe { celtisdarts_new(&mut at) };

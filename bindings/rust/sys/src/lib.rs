@@ -1,0 +1,124 @@
+//! The calls of `libceltisdarts`, a proved trait solver and coherence checker, as C has them. The crate `celtisdarts` makes them safe.
+//!
+//! The package has the library itself, for Linux on x86-64 with glibc: `lib/libceltisdarts.a`, or that of the folder which the variable
+//! `CELTISDARTS_LIB_DIR` names. [`ARCHIVE_SHA256`] says which it is. What each call promises is proved where it is defined, in
+//! `crates/celtisdarts_c` of the repository. That it is declared here as it is there is compared by a test (`tests/declarations.rs` of
+//! `celtisdarts`).
+//!
+//! # Safety
+//!
+//! Each pointer to bytes is to as many as the length behind it says, and not null, not even where that is 0. A buffer that is written overlaps
+//! nothing else that the call is given. A [`Handle`] is what [`celtisdarts_new`] wrote; it is closed once, and not used behind that. A call takes
+//! up to 3 KiB of stack for each level of the depth, and 64 KiB more.
+//!
+//! Two calls may run at once where they have no handle in common, and a handle may move to another thread. The library has no data that it
+//! writes but what is behind handles, no locks and no threads. What is behind a handle is plain data in blocks of `malloc`, which any thread
+//! may free. (That it may move is proved, in `crates/celtisdarts_c/src/crossing.rt`.)
+#![no_std]
+#![deny(missing_docs)]
+
+use core::ptr::NonNull;
+
+/// The version of the calls that are declared here. It is that of the linked library if it is [`celtisdarts_abi_version`].
+pub const ABI_VERSION: u32 = 1;
+
+/// The SHA-256 sum of the archive that is linked, as it is noted beside it; `unknown` where nothing is.
+pub const ARCHIVE_SHA256: &str = env!("CELTISDARTS_ARCHIVE_SHA256");
+
+/// The SHA-256 sum of the sources from which it was built, as `tools/program.sh` of the repository takes it.
+pub const SOURCES_SHA256: &str = env!("CELTISDARTS_SOURCES_SHA256");
+
+/// The toolchain that proved and built it.
+pub const TOOLCHAIN: &str = env!("CELTISDARTS_TOOLCHAIN");
+
+/// The call has done what it says.
+pub const DONE: u32 = 0;
+/// The text, or the line, has a fault.
+pub const FAULT: u32 = 1;
+/// The depth is not from 1 to 255.
+pub const NO_DEPTH: u32 = 2;
+/// A request for memory was refused.
+pub const MEMORY: u32 = 3;
+/// A table of terms, of goals or of answers was full.
+pub const FULL: u32 = 4;
+/// The buffer is too short: `needed` is how long it has to be.
+pub const TOO_SHORT: u32 = 5;
+/// The line has no fault, but asks nothing.
+pub const NOT_A_QUERY: u32 = 6;
+/// The line holds a line feed.
+pub const SEVERAL_LINES: u32 = 7;
+/// The text and the line together are longer than 1,048,576 bytes.
+pub const TOO_LONG: u32 = 8;
+/// The text has no crate of that number.
+pub const NO_CRATE: u32 = 9;
+/// No text was read.
+pub const NO_TEXT: u32 = 10;
+
+/// What is asked, behind a pointer that the library made. (The allocator that stands beside it there takes no bytes.)
+#[repr(C)]
+#[derive(Debug)]
+pub struct Handle {
+    /// What [`celtisdarts_new`] wrote.
+    pub at: NonNull<u8>,
+}
+
+// SAFETY: what is behind it may move to another thread, as is said above.
+unsafe impl Send for Handle {}
+
+// The library's `&[u8]` is a pointer and a length here, and its `Global` is no parameter.
+extern "C" {
+    /// Judges all crates of a text and answers all its queries: writes the output of the program `celtisdarts`. At [`FAULT`] that is the line of
+    /// the text's first fault.
+    pub fn celtisdarts_run(
+        text: *const u8,
+        text_length: usize,
+        depth: u32,
+        buffer: *mut u8,
+        room: usize,
+        needed: &mut usize,
+    ) -> u32;
+    /// Makes a handle, without a text.
+    pub fn celtisdarts_new(at: &mut *mut u8) -> u32;
+    /// Lets a handle go.
+    pub fn celtisdarts_close(handle: Handle);
+    /// Reads a text, in the place of the one that was read before. At [`FAULT`] `line` and `number` are those of its first fault.
+    pub fn celtisdarts_read(
+        handle: &mut Handle,
+        text: *const u8,
+        text_length: usize,
+        depth: u32,
+        line: &mut u32,
+        number: &mut u32,
+    ) -> u32;
+    /// Writes the name of a crate. That of `core` is number 0.
+    pub fn celtisdarts_name(
+        handle: &mut Handle,
+        number: u32,
+        buffer: *mut u8,
+        room: usize,
+        needed: &mut usize,
+    ) -> u32;
+    /// Writes the line of a crate, with its end: accepted, or why it is not.
+    pub fn celtisdarts_check(
+        handle: &mut Handle,
+        number: u32,
+        buffer: *mut u8,
+        room: usize,
+        needed: &mut usize,
+    ) -> u32;
+    /// Writes the answer to a query line, with its end. At [`FAULT`] `number` is the line's fault.
+    pub fn celtisdarts_ask(
+        handle: &mut Handle,
+        line: *const u8,
+        line_length: usize,
+        buffer: *mut u8,
+        room: usize,
+        needed: &mut usize,
+        number: &mut u32,
+    ) -> u32;
+}
+
+extern "C" {
+    /// The version of the calls that the library was built with. (A library without it is older, and cannot be linked.)
+    pub static celtisdarts_abi_version: u32;
+}
