@@ -17,7 +17,7 @@ from .surface import Item
 from .terms import Array, Bound, Function, Impl, Named, Never, Parameter, Pointer, Primitive, Reference, Slice, Tuple, Type, parts, put, walk
 from .versions import Gone, all_keys, names_private, parameter_order, unsure
 from .world import World
-from .written import ATTRIBUTES, Form, attributes, clauses
+from .written import ATTRIBUTES, Form, attributes, clauses, text
 
 FORM_NAMES = {"unit": "without fields", "tuple": "a tuple", "plain": "with named fields"}
 COPY = "core/marker/trait.Copy.html"
@@ -140,13 +140,16 @@ class MemberChanges:
         """What is asked of bounds is asked up to lifetimes, so other lifetimes in them are counted."""
         (before, erased_before), (after, _) = self.bounds(old, 0), self.bounds(new, 1)
         if any(unit not in before and erased in erased_before for unit, erased in after.items()):
-            self.count(f"{new.kind}'s lifetime", new.shown(), "a bound has other lifetimes", new.place)
+            self.count(f"{new.kind}'s lifetime", new.shown(), "a bound or type has other lifetimes", new.place)
 
     def bounds(self, item: Item, version: int) -> tuple[dict[str, str], set[str]]:
         """Each bound of an item as it is written, with that without lifetimes."""
         assert item.crate is not None
         body, names = kind_and_body(item.read)[1], [*item.lifetimes, *(p.name for p in item.params)]
         found = clauses(item.crate, self.common(version), body, names)
+        if item.kind == "alias":
+            full, erased = (text(Form(item.crate, self.common(version), names, erased).of(body["type"])) for erased in (False, True))
+            found[full] = erased
         for inside in filter(None, map(item.crate.item, body["items"] if item.kind == "trait" else [])):
             kind, its = kind_and_body(inside)
             if kind == "assoc_type":
@@ -253,12 +256,12 @@ class MemberChanges:
         why = "a `const fn` cannot take one any more" if owns is False else \
             "what it borrows has to live longer" if old.lifetimes or old.params else ""
         fields = [term for (kind, _), members in new.members.items() if kind == "field" for m in members if m.is_public for term in terms_of(m)]
-        text, span = f"{new.shown()} has a destructor now", at(impl.place)
+        told, span = f"{new.shown()} has a destructor now", at(impl.place)
         if why or not fields and owns is None:
-            self.tell("drop-added", text, span, word="breaking" if why else "changed").note(why or "whether it had something to drop before is not known")
+            self.tell("drop-added", told, span, word="breaking" if why else "changed").note(why or "whether it had something to drop before is not known")
         elif fields:
             copy = Bound(self.versions.new.pages.key(COPY) or "")
-            self.items.claim("drop-added", f"{text}: its fields cannot be moved out", span, [], [], Tuple(tuple(fields)), copy)
+            self.items.claim("drop-added", f"{told}: its fields cannot be moved out", span, [], [], Tuple(tuple(fields)), copy)
 
     def dropped(self, world: World, key: str) -> Optional[Impl]:
         return next((i for i in self.versions.impls(world) if i.trait is not None and is_std_key(i.trait.key) and i.trait.key.endswith("trait.Drop")
