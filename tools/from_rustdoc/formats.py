@@ -155,6 +155,10 @@ class Agreement:
 
     def item_function(self, body: Any) -> None:
         self.fields({k: v for k, v in body.items() if k == "has_body"}, "function", has_body=self.of_kind(bool))
+        if "sig" in body:
+            flags = {name: self.of_kind(bool) for name in ("is_const", "is_unsafe", "is_async")}
+            self.fields(body, "function", has_body=self.of_kind(bool), sig=self.signature, generics=self.generics,
+                        header=lambda header: self.fields(header, "header", abi=self.of_kind(str, dict), **flags))
 
     def item_assoc_const(self, body: Any) -> None:
         self.fields({k: v for k, v in body.items() if k == "value"}, "associated constant", value=self.maybe(self.of_kind(str)))

@@ -6,14 +6,13 @@ told where nothing is lost.
 from __future__ import annotations
 
 from collections import Counter
-from typing import Iterator, Optional
+from typing import Callable, Iterator, Optional
 
 from .claims import Claim
 from .html_docs import is_std_key
 from .messages import Message, Span, at
 from .questions import Question
 from .render import is_sizedness
-from .rustdoc_json import STD_CRATES
 from .surface import Associated, Generics, Item
 from .terms import (Bound, Declaration, Lossy, Param, Parameter, Place, Predicate, Projection, Type, argument_values, parameters_of, put,
                     put_bound, walk)
@@ -23,10 +22,11 @@ ITSELF = "Self_"
 SIZED = "core/marker/trait.Sized.html"
 MAXIMAL_DEPTH = 8
 # What rustc says of a crate that a change breaks.
-RUSTC = {"item-removed": "E0425 or E0432", "alias-removed": "E0425 or E0432", "kind-changed": "E0404, E0423, E0530, E0532 or E0782", "alias-retargeted": "E0277 or E0308",
+RUSTC = {"item-removed": "E0425 or E0432", "alias-removed": "E0425 or E0432", "alias-retargeted": "E0277 or E0308",
+         "kind-changed": "E0404, E0423, E0530, E0532 or E0782",
          "parameter-added": "E0107", "parameter-removed": "E0107", "parameter-kind-changed": "E0308 or E0747", "default-removed": "E0107",
          "default-changed": "E0308", "lifetime-added": "E0106", "lifetime-removed": "E0107", "bound-added": "E0271, E0277, E0308 or E0599",
-         "lifetime-bound-added": "E0310 or E0477", "supertrait-added": "E0271 or E0277", "supertrait-removed": "E0277, E0308 or E0599",
+         "lifetime-bound-added": "E0310, E0477, E0521 or E0597", "supertrait-added": "E0271 or E0277", "supertrait-removed": "E0277, E0308 or E0599",
          "associated-type-added": "E0046 or E0191", "associated-type-removed": "E0220", "associated-type-bound-added": "E0277",
          "associated-type-bound-removed": "E0277, E0308 or E0599", "associated-type-changed": "E0107 or E0049", "required-item-added": "E0046",
          "trait-item-removed": "E0407 or E0599", "trait-made-unsafe": "E0200", "trait-made-safe": "E0199", "trait-made-auto": "E0119",
@@ -35,7 +35,9 @@ RUSTC = {"item-removed": "E0425 or E0432", "alias-removed": "E0425 or E0432", "k
          "constant-borrow-lost": "E0492 or E0716", "sized-lost": "E0277 or E0599", "unsizing-lost": "E0277, E0308 or E0605",
          "annotations-needed": "E0277, E0282, E0283, E0284 or E0308",
          "function-removed": "E0425 or E0432", "constant-removed": "E0425 or E0432", "static-removed": "E0425 or E0432", "macro-removed": "E0432 or E0433",
-         "module-removed": "E0432 or E0433", "method-removed": "E0599 or E0624", "associated-constant-removed": "E0599 or E0624", "field-removed": "E0026, E0560 or E0609",
+         "module-removed": "E0432 or E0433",
+         "glob-re-export-removed": "E0405, E0412, E0425, E0432 or E0433", "extern-type-removed": "E0412 or E0432",
+         "method-removed": "E0599 or E0624", "associated-constant-removed": "E0599 or E0624", "field-removed": "E0026, E0560 or E0609",
          "field-made-private": "E0451 or E0616", "field-added": "E0023, E0027, E0061, E0063, E0423, E0451 or E0532", "field-type-changed": "E0308",
          "form-changed": "E0308, E0423, E0532, E0533 or E0618", "non-exhaustive-added": "E0004, E0603, E0638 or E0639", "variant-removed": "E0599",
          "variant-added": "E0004", "discriminant-changed": "E0308", "repr-changed": "E0793", "constant-type-changed": "E0308",
@@ -58,11 +60,13 @@ def is_unsized(generics: Generics, name: str) -> bool:
 
 
 class ItemChanges:
-    """`messages` are told as they are; `claims` are to be asked in the new version; `not_judged` counts what is neither. `troubled` are items, by their old keys, whose impls
-    cannot be compared: they are gone, or take other arguments."""
+    """`messages` are told as they are; `claims` are to be asked in the new version; `not_judged` counts what is neither. `troubled` are items,
+    by their old keys, whose impls cannot be compared: they are gone, or take other arguments. `is_same` says whether all sources are the
+    same."""
 
-    def __init__(self, versions: Versions) -> None:
+    def __init__(self, versions: Versions, is_same: Callable[[], bool] = lambda: False) -> None:
         self.versions = versions
+        self.is_same = is_same
         self.messages: list[Message] = []
         self.claims: list[Claim] = []
         self.troubled: dict[str, Message] = {}
@@ -80,16 +84,8 @@ class ItemChanges:
                 elif [p.kind for p in before.params] != [p.kind for p in after.params] or before.is_type != after.is_type:
                     self.count("type without a path", after.shown(), "has other parameters", after.place)
                     self.troubled[old_key] = self.unjudged[-1]
-        self.not_given()
         self.aliased()
         self.find_new()
-
-    def not_given(self) -> None:
-        """What is exported of crates that were not given may have changed."""
-        for path, key in self.versions.before.by_path.items():
-            crate, is_other, _ = key.partition("other:")[2].partition("::")
-            if is_other and key in self.versions.newer and crate not in STD_CRATES:
-                self.count("re-export", path, f"the crate `{crate}` was not given")
 
     def tell(self, code: str, text: str, new: list[Span], old: Optional[list[Span]] = None, word: str = "breaking") -> Message:
         self.messages.append(change(code, text, new, old, word))

@@ -3,6 +3,7 @@ from __future__ import annotations
 
 from collections import Counter
 from dataclasses import dataclass, field
+from typing import Callable
 
 from .auto_changes import AutoChanges
 from .claims import Judge, Programs, worst_first
@@ -55,9 +56,11 @@ class Release:
         return f"not judged: {', '.join(counts)}" if counts else ""
 
 
-def compared(old: World, new: World, crate: str, with_private: bool = False, programs: Programs = Programs()) -> Release:
+def compared(old: World, new: World, crate: str, with_private: bool = False, programs: Programs = Programs(),
+             is_same: Callable[[], bool] = lambda: False) -> Release:
+    """`is_same` says whether all sources are the same, on which it depends what no document tells."""
     versions = Versions(old, new, crate)
-    items = ItemChanges(versions)
+    items = ItemChanges(versions, is_same)
     items.run()
     impls = ImplChanges(versions, items.troubled, with_private, programs)
     impls.run()

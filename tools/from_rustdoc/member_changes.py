@@ -10,11 +10,12 @@ from .html_docs import is_std_key
 from .item_changes import ItemChanges
 from .members import Member, Shape, shape_of
 from .messages import at
-from .rustdoc_json import kind_and_body
+from .reached import terms_of
+from .rustdoc_json import STD_CRATES, JsonCrate, kind_and_body
 from .signature_changes import SignatureChanges
-from .surface import Item, terms_of
-from .terms import Array, Bound, Function, Impl, Named, Never, Pointer, Primitive, Reference, Slice, Tuple, Type, parts
-from .versions import Unsure, compared_types
+from .surface import Item
+from .terms import Array, Bound, Function, Impl, Named, Never, Parameter, Pointer, Primitive, Reference, Slice, Tuple, Type, parts, put, walk
+from .versions import Gone, all_keys, names_private, parameter_order, unsure
 from .world import World
 from .written import ATTRIBUTES, Form, attributes, clauses
 
@@ -43,21 +44,58 @@ class MemberChanges:
                 lost.setdefault((old.kind, id(old.item) if old.item else old.other), []).append(old)
             else:
                 self.member(old, new)
-        for members in lost.values():
+        for members in sorted(lost.values(), key=lambda its: its[0].kind == "module"):
             self.removed(sorted(members, key=lambda m: (m.path.count("::"), m.path)))
+        self.impls()
+        self.outside()
         for old_key, new_key in self.versions.newer.items():
             item, later = before.items.get(old_key), after.items.get(new_key)
             if item is not None and later is not None and old_key not in self.items.troubled:
                 self.item(item, later)
 
+    # ---- what is the same but for lifetimes, or is elsewhere
+    def impls(self) -> None:
+        """Impls with one header and one set of clauses in both versions, but with other lifetimes, or values of constants."""
+        found: list[dict[object, tuple[Impl, Any, Any]]] = [{}, {}]
+        for version, (world, surface) in enumerate(((self.versions.old, self.versions.before), (self.versions.new, self.versions.after))):
+            for crate in surface.walked:
+                for impl, body in zip(crate.impls, crate.impl_bodies()):
+                    keys = [] if impl.trait is None else [impl.trait.key, *all_keys(impl.self_type)]
+                    if not names_private(world, surface, keys) and any(world.key_of(key) in surface.items for key in keys):
+                        found[version][self.versions.header(world, impl)] = (impl, *self.of_impl(crate, impl, body, version))
+        for key, (_, form, values) in found[0].items():
+            impl, later, others = found[1].get(key, (None, form, values))
+            changed = [name for name, value in values.items() if others.get(name, value) != value]
+            if impl is not None and (form != later or changed):
+                why = f"its `{changed[0]}` is another one" if changed else "has other lifetimes"
+                self.count("impl", f"`{self.versions.show_new.header(impl)}`", why, impl.place)
+
+    def of_impl(self, crate: JsonCrate, impl: Impl, body: dict[str, Any], version: int) -> tuple[Any, dict[str, Any]]:
+        """What is written of an impl, and its constants."""
+        names, common = parameter_order(impl), self.common(version)
+        header = Form(crate, common, names)
+        found = [header.of([body["trait"], body["for"]]), set(clauses(crate, common, body, names, header.met))]
+        inside = {i["name"]: kind_and_body(i) for i in map(crate.item, body["items"]) if i is not None}
+        return found, {name: its["value"] for name, (kind, its) in inside.items() if kind == "assoc_const"}
+
+    def outside(self) -> None:
+        """What is exported of crates that were not given: if these are not the very same, it is not known what has changed."""
+        before, after = self.versions.before, self.versions.after
+        shown = {path: key[len("other:"):] for path, key in before.by_path.items() if key.startswith("other:") and path in after.by_path}
+        shown |= {path: m.other for (kind, path), m in before.values.items() if not m.item and m.other and (kind, path) in after.values}
+        for path, other in shown.items():
+            name = other.split("::")[0]
+            if name not in STD_CRATES and (not before.outside.get(name) or before.outside.get(name) != after.outside.get(name)):
+                self.count("re-export", path, f"is of {name}, which was not given")
+
     # ---- what is gone
     def removed(self, members: list[Member]) -> None:
         """One item, by all paths by which it is gone."""
         old, after = members[0], self.versions.after
-        if old.kind == "module" and any(m.text.startswith(tuple(f"{w} `{old.path}::" for w in ("struct", "enum", "union", "trait", "type", "function",
-                                                                                               "constant", "static"))) for m in self.items.messages):
+        told = [m.text.split("`")[1] for m in self.items.messages if m.code.endswith("-removed") and "`" in m.text]
+        if old.kind == "module" and any(path.startswith(old.path + "::") or old.path.startswith(path + "::") for path in told):
             return
-        now = next((kind for kind, path in after.values if path == old.path and {kind, old.kind} == {"constant", "static"}), None)
+        now = next((kind for kind in ("constant", "static") if kind != old.kind in ("constant", "static") and (kind, old.path) in after.values), None)
         if now == "constant":
             self.count(old.kind, old.shown(), "is a constant now")
             return
@@ -92,7 +130,8 @@ class MemberChanges:
         before, after = attributes(old.read, *ATTRIBUTES), attributes(new.read, *ATTRIBUTES)
         if before == after:
             return
-        if re.search(PACKED, str(after)) and not re.search(PACKED, str(before)) and any(m.is_public for (k, _), i in old.members.items() if k == "field" for m in i):
+        has_fields = any(m.is_public for (kind, _), members in old.members.items() if kind == "field" for m in members)
+        if re.search(PACKED, str(after)) and not re.search(PACKED, str(before)) and has_fields:
             self.tell("repr-changed", f"{new.shown()} is packed now, so that nobody can refer to its fields", at(new.place))
         else:
             self.count("attribute", new.shown(), "its attributes have changed", new.place)
@@ -114,7 +153,7 @@ class MemberChanges:
                 own = [f"{inside['name']}::{p['name']}" for p in its["generics"]["params"]]
                 found |= {f"{inside['name']}: {unit}": f"{inside['name']}: {erased}"
                           for unit, erased in clauses(item.crate, self.common(version), its, names + own).items()}
-        return found, set(found.values())
+        return found, set(found.values()) - {""}
 
     # ---- fields and variants
     def form_of(self, old: Item, new: Item) -> None:
@@ -174,20 +213,29 @@ class MemberChanges:
         """The type of a field, constant or static."""
         if any(not isinstance(m.body, (dict, str)) or (kind != "field" and "type" not in m.body) for m in (old, new)):
             return
-        types = [m.body if kind == "field" else m.body["type"] for m in (old, new)]
-        names = [self.names(m, owner) for m, owner in zip((old, new), owners)]
-        forms = [[Form(m.crate, self.common(v), names[v], erased).of(types[v]) for erased in (False, True)] for v, m in enumerate((old, new)) if m.crate]
+        forms, types = [], []
+        for version, (member, owner) in enumerate(zip((old, new), owners)):
+            assert member.crate is not None
+            written, names = member.body if kind == "field" else member.body["type"], self.names(member, owner)
+            form = Form(member.crate, self.common(version), names)
+            forms.append((form.of(written), form.tokens))
+            itself = member.crate.type(member.impl["for"], None) if "for" in member.impl else owner.itself() if owner is not None and owner.is_type else None
+            types.append(put(member.crate.type(written, itself), {name: Parameter(f"P{number}") for number, name in enumerate(names)}))
         if forms[0][0] == forms[1][0]:
             return
-        if forms[0][1] == forms[1][1]:
-            self.count(kind, what, "its type has other lifetimes", new.place)
-            return
         try:
-            before, after = compared_types(self.versions, (old.crate, types[0], names[0]), (new.crate, types[1], names[1]))
-        except Unsure as unsure:
-            self.count(kind, what, f"its type is another one, or not: {unsure}", new.place)
-            return
-        self.tell(f"{kind.replace(' ', '-')}-type-changed", f"{what} is of another type: `{after}`, and was `{before}`", at(new.place))
+            before, after = self.versions.old_type(types[0]), self.versions.new_type(types[1])
+        except Gone as gone:
+            return self.count(kind, what, f"its type names `{gone}`, which is gone", new.place)
+        inside = [part for term in (before, after) for part in walk(term)]
+        why = next(filter(None, (unsure(self.versions.new, part) for part in inside)), "")
+        if before == after and (why or forms[0][1] != forms[1][1] or any(isinstance(part, Function) for part in inside)):
+            self.count(kind, what, "its type has other lifetimes, or what is not read", new.place)
+        elif before != after and why:
+            self.count(kind, what, f"its type is another one, or not: {why}", new.place)
+        elif before != after:
+            shown = [self.versions.show_new.type(term) for term in (after, before)]
+            self.tell(f"{kind.replace(' ', '-')}-type-changed", f"{what} is of another type: `{shown[0]}`, and was `{shown[1]}`", at(new.place))
 
     @staticmethod
     def names(member: Member, owner: Optional[Item]) -> list[str]:
@@ -209,7 +257,8 @@ class MemberChanges:
         if why or not fields and owns is None:
             self.tell("drop-added", text, span, word="breaking" if why else "changed").note(why or "whether it had something to drop before is not known")
         elif fields:
-            self.items.claim("drop-added", f"{text}: its fields cannot be moved out", span, [], [], Tuple(tuple(fields)), Bound(self.versions.new.pages.key(COPY) or ""))
+            copy = Bound(self.versions.new.pages.key(COPY) or "")
+            self.items.claim("drop-added", f"{text}: its fields cannot be moved out", span, [], [], Tuple(tuple(fields)), copy)
 
     def dropped(self, world: World, key: str) -> Optional[Impl]:
         return next((i for i in self.versions.impls(world) if i.trait is not None and is_std_key(i.trait.key) and i.trait.key.endswith("trait.Drop")
@@ -255,6 +304,8 @@ class MemberChanges:
         if old.kind in ("function", "method"):
             if "sig" in old.body and "sig" in new.body:
                 self.signatures.compare(old, new, owners)
+            elif max(map(len, (old.body, new.body))) > 1:
+                self.count("function signature", new.shown(), "it is not read", new.place)
         elif old.kind in ("constant", "associated constant", "static"):
             self.value(old, new, owners)
         elif self.form(old, 0, before) != self.form(new, 1, after):
@@ -286,7 +337,7 @@ def discriminants(variants: Iterable[Member]) -> Optional[dict[str, int]]:
         shape = shape_of(variant.crate, variant.item)
         if shape.fields or not shape.is_exhaustive:
             return None
-        following = int(written["value"]) if written else following
+        following = int("".join(re.findall(r"^-?\d+", written["value"]))) if written else following
         found[variant.name] = following
         following += 1
     return found

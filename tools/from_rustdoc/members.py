@@ -102,15 +102,16 @@ def shape_of(crate: JsonCrate, item: dict[str, Any]) -> Shape:
     form = body.get("kind", "plain")
     word = {"plain": "unit" if kind == "variant" else "plain", "struct": "plain"}.get(form, form) if isinstance(form, str) else next(iter(form))
     numbers = crate.field_numbers("enum", {"variants": [item["id"]]}) if kind == "variant" else crate.field_numbers(kind, body)
-    fields = {inside["name"]: Member("field", inside["name"], inside["name"], crate, inside) for inside in filter(None, map(crate.item, numbers))}
-    return Shape({"struct": "plain"}.get(word, word), not any("non_exhaustive" in str(a) for a in item["attrs"]), crate.place(item), fields)
+    fields = {found["name"]: Member("field", found["name"], found["name"], crate, found) for found in filter(None, map(crate.item, numbers))}
+    is_exhaustive = not any("non_exhaustive" in str(attribute) for attribute in item["attrs"])
+    return Shape({"struct": "plain"}.get(word, word), is_exhaustive, crate.place(item), fields)
 
 
 @dataclass
 class Signature:
     """A function's parameters and result. `params` are those of its impl or trait, its own, and one for each `impl Trait` among its
-    parameters; `own` are its own that can be named, `made` counts the `impl Trait`s. `results` are the bounds of each `impl Trait` of the result, which stands in
-    `output` as a parameter. `written` is the whole as JSON."""
+    parameters; `own` are its own that can be named, `made` counts the `impl Trait`s. `results` are the bounds of each `impl Trait` of the
+    result, which stands in `output` as a parameter. `written` is the whole as JSON."""
     generics: dict[str, Any]
     written: dict[str, Any]
     inputs: list[Type]

@@ -179,6 +179,11 @@ class JsonCrate:
         """Impls of traits as they are written: neither the computed ones of auto traits, nor instances of blanket impls."""
         return body["trait"] is not None and not body["is_synthetic"] and body["blanket_impl"] is None
 
+    def impl_bodies(self) -> list[dict[str, Any]]:
+        """What the JSON says of each of `impls`."""
+        bodies = [kind_and_body(item) for item in self.index.values() if item["crate_id"] == 0]
+        return [body for kind, body in bodies if kind == "impl" and self.is_read(body)]
+
     def read_declaration(self, declaration: Declaration) -> None:
         kind, body = kind_and_body(declaration.item)
         declaration.params, declaration.predicates = self.generics(body["generics"], None)

@@ -5,15 +5,15 @@ from __future__ import annotations
 from dataclasses import dataclass, field
 from typing import Any, Iterator, Optional
 
+from .build import AUTO_TRAITS
 from .item_changes import ITSELF, ItemChanges, split
 from .members import Member, Signature, signature_of
 from .messages import at
 from .render import is_sizedness
 from .surface import Item
-from .terms import (UNIT, Array, Bound, Constant, Dyn, Named, Param, Parameter, Predicate, Primitive, Projection, Reference, Slice, Type, Unsayable, parts,
-                    put, put_bound, rebuilt, rebuilt_bound, walk)
-from .versions import Gone, Unsure, expanded, plain_params, rekeyed, rekeyed_bound, unsure
-from .world import World
+from .terms import (UNIT, Array, Bound, Constant, Dyn, Function, Named, Param, Parameter, Predicate, Primitive, Projection, Reference, Slice, Type,
+                    Unsayable, parts, put, put_bound, rebuilt, rebuilt_bound, walk)
+from .versions import Gone, Unsure, plain_params, rekeyed_bound, unsure
 from .written import STATIC, Form, attributes, clauses
 
 Owners = tuple[Optional[Item], Optional[Item]]
@@ -75,18 +75,27 @@ class SignatureChanges:
         is_trait = "for" not in old.impl and owners[0] is not None
         is_implemented = is_trait and owners[0] is not None and not self.versions.is_sealed(self.versions.old, self.versions.old.get(owners[0].key))
         self.header(old, new, before, after, is_implemented)
+        if self.hides(before) and (not self.hides(after) or not self.items.is_same()):
+            self.count("hidden type", new.shown(), "which auto traits its result has is not known", new.place)
         forms = [self.form(member, signature, version) for version, (member, signature) in enumerate(((old, before), (new, after)))]
         if forms[0][:2] == forms[1][:2]:
             return
         try:
-            told = len(self.items.messages) + len(self.items.claims)
+            told = len(self.items.messages)
+            if any(not erased and unit not in forms[0][1] for unit, erased in forms[1][1].items()):
+                self.tell(new, "lifetime-bound-added", "has a new bound on lifetimes", "changed")
             self.judge(new, before, after, owners, is_implemented)
-            if told == len(self.items.messages) + len(self.items.claims) and not self.same_lifetimes(forms[0], forms[1]):
+            if told == len(self.items.messages) and not self.same_lifetimes(forms[0], forms[1]):
                 self.count("function signature", new.shown(), "its lifetimes have changed", new.place)
         except Unsure as why:
             self.count("function signature", new.shown(), str(why), new.place)
         except Gone as gone:
             self.count("function signature", new.shown(), f"it names `{gone}`, which is gone", new.place)
+
+    def hides(self, signature: Signature) -> bool:
+        """Whether the result is of a type that rustdoc does not tell, and of which auto traits are not asked by name."""
+        named = [{bound.key.split("trait.")[-1].split(".")[0] for bound in bounds} for bounds in signature.results.values()]
+        return bool(signature.header["is_async"]) or any(not set(AUTO_TRAITS) <= names for names in named)
 
     # ---- what is written
     def form(self, member: Member, signature: Signature, version: int) -> tuple[Any, Any, list[str], int]:
@@ -101,12 +110,12 @@ class SignatureChanges:
         written = form.of([signature.written, {"for": member.impl.get("for")}, signature.own])
         inputs = Form(member.crate, common, signature.names)
         inputs.of([{**signature.written, "output": None}])
-        return written, clauses(member.crate, common, {"generics": signature.generics}, signature.names), form.tokens, len(inputs.tokens)
+        return written, clauses(member.crate, common, {"generics": signature.generics}, signature.names, form.met), form.tokens, len(inputs.tokens)
 
     @staticmethod
     def same_lifetimes(old: tuple[Any, Any, list[str], int], new: tuple[Any, Any, list[str], int]) -> bool:
         """Whether lifetimes tie nothing, or the same in both versions."""
-        if any(unit not in old[1] and erased in old[1].values() for unit, erased in new[1].items()):
+        if any(erased and unit not in old[1] and erased in old[1].values() for unit, erased in new[1].items()):
             return False
         tied = [bool(tokens[count:]) or len(set(tokens)) < len(tokens) or STATIC in tokens for _, _, tokens, count in (old, new)]
         return old[2] == new[2] or not any(tied)
@@ -119,8 +128,11 @@ class SignatureChanges:
             self.tell(new, "function-made-unsafe", "is `unsafe` now")
         elif was["is_unsafe"] and not now["is_unsafe"] and is_implemented:
             self.tell(new, "signature-changed", "is not `unsafe` any more, and may not be so in an impl")
-        elif attributes(new.item, "target_feature") != attributes(old.item, "target_feature"):
-            self.tell(new, "function-made-unsafe", "needs other features of the processor")
+        features = [attributes(member.item, "target_feature") for member in (old, new)]
+        if features[1] and not features[0]:
+            self.tell(new, "function-made-unsafe", "needs features of the processor")
+        elif features[1] and features[0] != features[1]:
+            self.count("attribute", new.shown(), "needs other features of the processor", new.place)
         if was["is_async"] != now["is_async"]:
             self.tell(new, "signature-changed", f"is {'' if now['is_async'] else 'not '}`async` now")
         if was["abi"] != now["abi"] or before.written["is_c_variadic"] != after.written["is_c_variadic"]:
@@ -139,18 +151,23 @@ class SignatureChanges:
             return self.other(new, "is for another type", self.old_terms([before.itself], owners)[0], self.new_terms([after.itself], after, owners)[0])
         own = {f"{NEW}{name}" for name in after.own}
         terms = list(zip(self.old_terms(before.inputs, owners), self.new_terms(after.inputs, after, owners)))
-        for number, (old_type, new_type) in enumerate(terms):
-            what = f"has another parameter `{before.written['inputs'][number][0]}`"
-            if not match.holds(new_type, old_type):
-                if isinstance(old_type, Reference) and isinstance(new_type, Reference) and old_type.mutable and match.holds(new_type.target, old_type.target):
-                    self.tell(new, "signature-changed", "takes a `&` where it took a `&mut`: calls go on, and pointers to it are of another type", "changed")
-                    continue
-                return self.other(new, what, old_type, put(new_type, match.values))
+        for (name, _), (old_type, new_type) in zip(before.written["inputs"], terms):
+            if match.holds(new_type, old_type):
+                continue
+            both = isinstance(old_type, Reference) and isinstance(new_type, Reference)
+            if not both or not old_type.mutable or not match.holds(new_type.target, old_type.target):
+                return self.other(new, f"has another parameter `{name}`", old_type, put(new_type, match.values))
+            self.tell(new, "signature-changed", "takes a `&` where it took a `&mut`: calls go on, and pointers to it are of another type", "changed")
         given = list(match.values.values())
-        if is_implemented and (match.equations or len(set(given)) < len(given) or not all(isinstance(value, (Parameter, Constant)) for value in given)):
+        if any(isinstance(part, Unsayable) or isinstance(part, Function) and not part.plain for pair in terms for term in pair for part in walk(term)):
+            raise Unsure("it names a type that is not read whole")
+        if is_implemented and match.equations:
+            raise Unsure("it names another associated type, or the same")
+        if is_implemented and (len(set(given)) < len(given) or not all(isinstance(value, (Parameter, Constant)) for value in given)):
             return self.tell(new, "signature-changed", "is more general now, as an impl may not be")
         if own - set(match.values):
-            return self.tell(new, "signature-changed", f"has a new generic parameter that no argument tells: `{sorted(own - set(match.values))[0][1:]}`")
+            name = min(own - set(match.values))[1:]
+            return self.tell(new, "signature-changed", f"has a new generic parameter that no argument tells: `{name}`")
         self.result(new, before, after, owners, match, is_implemented)
         self.bounds(new, before, after, owners, match, is_implemented)
 
@@ -169,7 +186,7 @@ class SignatureChanges:
 
     def old_terms(self, terms: list[Type], owners: Owners) -> list[Type]:
         """Types of the old version, by the new one's keys."""
-        return [self.versions.to_new(put(whole(expanded(self.versions.old, term), owners[0]), {"Self": Parameter(ITSELF)})) for term in terms]
+        return [self.versions.old_type(put(whole(term, owners[0]), {"Self": Parameter(ITSELF)})) for term in terms]
 
     def old_bound(self, bound: Bound, owners: Owners) -> Bound:
         return self.versions.bound_to_new(put_bound(rebuilt_bound(bound, lambda term: whole(term, owners[0])), {"Self": Parameter(ITSELF)}))
@@ -185,7 +202,7 @@ class SignatureChanges:
 
     def new_terms(self, terms: list[Type], signature: Signature, owners: Owners) -> list[Type]:
         names = self.fresh(signature, owners)
-        return [rekeyed(put(whole(expanded(self.versions.new, term), owners[1]), names), self.versions.new.key_of) for term in terms]
+        return [self.versions.new_type(put(whole(term, owners[1]), names)) for term in terms]
 
     def new_bound(self, bound: Bound, signature: Signature, owners: Owners) -> Bound:
         names = self.fresh(signature, owners)
@@ -211,14 +228,16 @@ class SignatureChanges:
         if not found.holds(old, now):
             return self.other(new, "has another result", old, now)
         match.equations += found.equations
-        known: list[Predicate] = [(Parameter(f"New{n}"), put_bound(self.new_bound(b, after, owners), match.values)) for n, bounds in after.results.items() for b in bounds]
-        had = [(found.values.get(n, Parameter(n)), put_bound(self.old_bound(b, owners), found.values)) for n, bounds in before.results.items() for b in bounds]
+        known: list[Predicate] = [(Parameter(f"New{n}"), put_bound(self.new_bound(b, after, owners), match.values))
+                                  for n, bounds in after.results.items() for b in bounds]
+        had = [(found.values.get(n, Parameter(n)), put_bound(self.old_bound(b, owners), found.values))
+               for n, bounds in before.results.items() for b in bounds]
         params = [Param("type", f"New{name}") for name in after.results]
         for subject, bound in had:
             if (subject, bound) not in known and not is_sizedness(bound):
                 for _, goal in split((subject, bound)):
-                    self.claim(new, "result-bound-removed", f"has lost a bound of its result: `{self.versions.show_new.bound(goal)}`", before, owners, subject, goal,
-                               known, params)
+                    text = f"has lost a bound of its result: `{self.versions.show_new.bound(goal)}`"
+                    self.claim(new, "result-bound-removed", text, before, owners, subject, goal, known, params)
         if is_implemented and set(known) - set(had):
             self.tell(new, "signature-changed", "asks for more of its result")
 
@@ -235,8 +254,8 @@ class SignatureChanges:
             self.claim(new, "bound-added", f"has a new bound: `{self.items.shown((subject, bound))}`", before, owners, subject, bound)
         if is_implemented:
             for subject, bound in [g for p in has if p not in asks and not is_sizedness(p[1]) for g in split(p)]:
-                self.claim(new, "signature-changed", f"asks less of its callers than an impl may do: `{self.items.shown((subject, bound))}`", before, owners,
-                           subject, bound, asks, instead=True)
+                text = f"asks less of its callers than an impl may do: `{self.items.shown((subject, bound))}`"
+                self.claim(new, "signature-changed", text, before, owners, subject, bound, asks, instead=True)
 
     def to_be_sized(self, before: Signature, after: Signature, values: dict[str, Type]) -> Iterator[Type]:
         """What stands for a parameter that is `Sized`, and may not be so."""

@@ -4,10 +4,10 @@ from __future__ import annotations
 from dataclasses import dataclass, field
 from typing import Any, Optional
 
-from .members import INSIDE, VALUES, Member, Members, inherent_impls, members_of
+from .members import VALUES, Member, Members, inherent_impls, members_of
 from .reached import Reached, bound_terms, terms_of
-from .rustdoc_json import ITEMS, STD_CRATES, JsonCrate, kind_and_body
-from .terms import BadInput, Bound, Constant, Impl, Named, Param, Parameter, Place, Predicate, Type, keys_of, put
+from .rustdoc_json import ITEMS, STD_CRATES, JsonCrate, kind_and_body, stem_of
+from .terms import BadInput, Bound, Constant, Impl, Named, Param, Parameter, Place, Predicate, Type, put
 from .world import World
 
 KINDS = {**{kind: kind for kind in ITEMS}, "type_alias": "alias"}
@@ -80,7 +80,8 @@ class Item(Generics):
 class Surface:
     """`by_path` has the key of what each public path names; `items` those that are read; `behind` the types that aliases are other names
     of; `closed` are the globs of crates that were not given. `values` are the public items that are no types or traits, by kind and path, and
-    `reached` the types without a path that others can have all the same, by what is public; `computed` is what rustdoc found of auto traits."""
+    `reached` the types without a path that others can have all the same, by what is public. `walked` are the crates that were read for it,
+    and `outside` the compiled files of those that are named; `computed` is what rustdoc found of auto traits."""
     items: dict[str, Item] = field(default_factory=dict)
     by_path: dict[str, str] = field(default_factory=dict)
     kinds: dict[str, str] = field(default_factory=dict)
@@ -89,6 +90,8 @@ class Surface:
     computed: list[Impl] = field(default_factory=list)
     values: dict[tuple[str, str], Member] = field(default_factory=dict)
     reached: dict[str, Item] = field(default_factory=dict)
+    walked: list[JsonCrate] = field(default_factory=list)
+    outside: dict[str, str] = field(default_factory=dict)
 
 
 class SurfaceReader:
@@ -120,6 +123,7 @@ class SurfaceReader:
         for item in self.surface.items.values():
             self.find_members(item)
         self.find_reached()
+        self.surface.outside = {other["name"]: stem_of(other) for other in top.json["external_crates"].values()}
 
     def crate(self, name: str) -> Optional[JsonCrate]:
         if name not in self.crates:
@@ -225,7 +229,7 @@ class SurfaceReader:
             item.members = members_of(item.crate, item.read, item.paths[0] if item.paths else item.key, self.inherent[item.crate.name].get(item.key, []))
 
     def find_reached(self) -> None:
-        crates = [crate for crate in self.crates.values() if crate is not None]
+        crates = self.surface.walked = [crate for crate in self.crates.values() if crate is not None]
         terms = [term for member in self.surface.values.values() for term in terms_of(member)]
         terms += [term for item in self.surface.items.values() for term in terms_of_item(item)]
         Reached(crates, set(self.surface.kinds), self.world.key_of, self.without_path).by(terms)

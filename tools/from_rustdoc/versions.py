@@ -5,12 +5,11 @@ that one version alone has.
 """
 from __future__ import annotations
 
-from typing import Any, Callable, Iterator, Optional
+from typing import Callable, Iterator
 
 from .html_docs import is_std_key
 from .open_walk import is_sealed
 from .reached import terms_of
-from .rustdoc_json import JsonCrate
 from .show import Show
 from .surface import Surface, surface_of
 from .terms import (Alias, Bound, BoundsOf, Constant, Declaration, Dyn, Impl, Lossy, Named, Param, Parameter, Predicate, Projection, Type, Unsayable,
@@ -144,6 +143,13 @@ class Versions:
     def predicates_to_new(self, predicates: list[Predicate]) -> list[Predicate]:
         return [(self.to_new(t), self.bound_to_new(b)) for t, b in predicates]
 
+    def old_type(self, term: Type) -> Type:
+        """A type of the old version as one of the new version that is written otherwise, but is the same."""
+        return settled(self.new, self.to_new(settled(self.old, term)))
+
+    def new_type(self, term: Type) -> Type:
+        return settled(self.new, rekeyed(settled(self.new, term), self.new.key_of))
+
     def to_old(self, term: Type) -> Type:
         return rekeyed(term, self.old_key)
 
@@ -216,27 +222,6 @@ def in_order(term: Type) -> list[str]:
 
 
 # ---- types that are written otherwise
-Written = tuple[Optional[JsonCrate], Any, list[str]]
-
-
-def compared_types(versions: Versions, old: Written, new: Written) -> tuple[str, str]:
-    """Two types that are not written alike, as they are shown, if they are two types for certain; each as its JSON, with the names of the
-    parameters around it."""
-    found, shown = [], []
-    for world, show, (crate, written, names) in ((versions.old, versions.show_old, old), (versions.new, versions.show_new, new)):
-        assert crate is not None
-        term = expanded(world, crate.type(written, None))
-        shown.append(show.type(term))
-        found.append(versions.common(world, put(term, {name: Parameter(f"P{number}") for number, name in enumerate(names)})))
-        for part in walk(term):
-            why = unsure(world, part)
-            if why:
-                raise Unsure(why)
-    if found[0] == found[1]:
-        raise Unsure("they differ in what is not read")
-    return shown[0], shown[1]
-
-
 def unsure(world: World, part: Type) -> str:
     """Why a part of a type may be the same as one that is written otherwise; empty if it cannot."""
     if isinstance(part, Projection):
@@ -250,15 +235,25 @@ def unsure(world: World, part: Type) -> str:
     return ""
 
 
-def expanded(world: World, term: Type) -> Type:
-    """The type with what aliases of std stand for."""
+def settled(world: World, term: Type) -> Type:
+    """The type with what aliases of std stand for, with omitted arguments, and with the bounds of a `dyn` in one order."""
     if isinstance(term, Alias):
         try:
             declaration = world.get(term.key)
-            return expanded(world, put(declaration.fields[0], argument_values(declaration.params, term.arguments)))
+            return settled(world, put(declaration.fields[0], argument_values(declaration.params, term.arguments)))
         except (Lossy, IndexError):
             return term
-    return rebuilt(term, lambda part: expanded(world, part))
+    term = rebuilt(term, lambda part: settled(world, part))
+    if isinstance(term, Dyn):
+        return Dyn(tuple(sorted(term.bounds, key=lambda bound: bound.key)))
+    if isinstance(term, Named):
+        try:
+            params = world.get(term.key, "struct", term.arguments).params
+        except Lossy:
+            return term
+        values = argument_values(params, term.arguments)
+        return Named(term.key, tuple(values[param.name] for param in params)) if len(term.arguments) < len(params) else term
+    return term
 
 
 # ---- who can name what

@@ -18,12 +18,12 @@ class Form:
     """The forms of what stands in one item. `erased` leaves lifetimes out. Names of parameters are given by their places; a lifetime that is
     not among them goes by its place among those that occur, where an elided one of a result is what Rust takes it for."""
 
-    def __init__(self, crate: JsonCrate, common: Callable[[str], str], names: list[str], erased: bool = False) -> None:
+    def __init__(self, crate: JsonCrate, common: Callable[[str], str], names: list[str], erased: bool = False, met: Optional[dict[str, str]] = None) -> None:
         self.crate = crate
         self.common = common
         self.names = {name: f"P{number}" for number, name in enumerate(names)}
         self.erased = erased
-        self.met: dict[str, str] = {}
+        self.met: dict[str, str] = dict(met or {})
         self.tokens: list[str] = []
         self.elided: Optional[str] = None
 
@@ -90,23 +90,28 @@ def text(form: Any) -> str:
     return json.dumps(form, sort_keys=True)
 
 
-def clauses(crate: JsonCrate, common: Callable[[str], str], body: dict[str, Any], names: list[str]) -> dict[str, str]:
-    """The bounds by traits that stand in an item's body, in its list of parameters and behind it, in their form, each with that without
-    lifetimes."""
+def clauses(crate: JsonCrate, common: Callable[[str], str], body: dict[str, Any], names: list[str], met: Optional[dict[str, str]] = None) -> dict[str, str]:
+    """The bounds that stand in an item's body, in its list of parameters and behind it, in their form, each with that without lifetimes: empty
+    for one that speaks of what outlives what. `met` are the places of lifetimes by what stands before."""
     generics = body["generics"]
     found: list[tuple[Any, Any]] = [({"generic": "Self"}, bound) for bound in body.get("bounds", [])]
     for param in generics["params"]:
         kind, inside = next(iter(param["kind"].items()))
-        found += [({"generic": param["name"]}, b) for b in inside.get("bounds", [])]
-        found += [({"generic": param["name"]}, inside["default"])] if inside.get("default") else []
+        subject = {"lifetime" if kind == "lifetime" else "generic": param["name"]}
+        found += [(subject, bound) for bound in inside.get("bounds", inside.get("outlives", []))]
+        found += [(subject, inside["default"])] if inside.get("default") else []
     for predicate in generics["where_predicates"]:
         kind, inside = next(iter(predicate.items()))
-        found += [(inside["type"], b) for b in inside["bounds"]] if kind == "bound_predicate" else [(predicate, None)] if kind == "eq_predicate" else []
+        subject = inside["type"] if kind == "bound_predicate" else {"lifetime": inside.get("lifetime")}
+        found += [(subject, bound) for bound in inside.get("bounds", inside.get("outlives", []))] if kind != "eq_predicate" else [(predicate, None)]
 
-    def both(pair: tuple[Any, Any]) -> tuple[str, str]:
-        return text(Form(crate, common, names).of(list(pair))), text(Form(crate, common, names, True).of(list(pair)))
+    def both(subject: Any, bound: Any) -> tuple[str, str]:
+        if "lifetime" in subject or isinstance(bound, dict) and {"outlives", "use"} & set(bound):
+            bound = bound if isinstance(bound, dict) else {"outlives": bound}
+            return text(Form(crate, common, names, met=met).of([subject, bound])), ""
+        return text(Form(crate, common, names, met=met).of([subject, bound])), text(Form(crate, common, names, True).of([subject, bound]))
 
-    return dict(both((subject, bound)) for subject, bound in found if not isinstance(bound, dict) or not {"outlives", "use"} & set(bound))
+    return dict(both(*pair) for pair in found)
 
 
 def attributes(item: dict[str, Any], *words: str) -> list[str]:

@@ -52,7 +52,7 @@ def trimmed(data: dict[str, Any], is_compared: bool, whole: bool = False) -> dic
     of_impls = {number for item in data["index"].values() if item["inner"].get("impl", {}).get("trait") for number in item["inner"]["impl"]["items"]}
     for number, item in data["index"].items():
         kind, body = next(iter(item["inner"].items()))
-        if whole and item["crate_id"] == 0 and kind != "impl" and int(number) not in of_impls:
+        if whole and item["crate_id"] == 0 and kind != "impl" and not (kind == "function" and int(number) in of_impls):
             pass
         elif int(number) in of_traits and kind in ("function", "assoc_const"):
             item["inner"] = {kind: {name: body[name] for name in ("has_body", "value") if name in body}}

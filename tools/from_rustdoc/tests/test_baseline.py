@@ -103,6 +103,16 @@ class Baseline(unittest.TestCase):
         self.assertEqual(status, 1, err)
         self.assertIn("another crate may have `impl to_draw::shapes::Draw for &Mine`", out)
 
+    def test_what_no_document_tells_is_the_same_in_the_same_sources(self) -> None:
+        older, newer = os.path.join(self.room, "waits"), os.path.join(self.room, "waits-too")
+        for folder in (older, newer):
+            self.write(folder, "pub async fn wait() {}\n")
+        status, out, err = self.later("--strict", "--baseline", older, newer)
+        self.assertEqual((status, out), (0, "to_draw 1.0.0 to 1.0.0: compatible (nothing public has changed)\n"), err)
+        self.write(newer, "pub async fn wait() { let _ = std::rc::Rc::new(1); }\n")
+        status, out, err = self.later("--strict", "--baseline", older, newer)
+        self.assertEqual((status, out.splitlines()[-2:]), (4, ["not judged: 1 hidden type", "to_draw 1.0.0 to 1.0.0: no break found in what was judged"]), err)
+
     def test_what_is_no_version_is_told(self) -> None:
         for words, why in [(["--baseline", "v9"], "v9 is no folder with a Cargo.toml, and no revision of"), (["--baseline", self.room], "has no Cargo.toml"),
                            (["--baseline", "HEAD", "-p", "other"], "the older version has no library other; it has to_draw")]:

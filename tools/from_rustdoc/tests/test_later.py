@@ -2,6 +2,7 @@
 releases/pairs.txt: what is told of each stands there, and rustc, where it is there, says the same of crates that use them."""
 from __future__ import annotations
 
+import io
 import json
 import os
 import re
@@ -12,7 +13,8 @@ from collections import Counter
 
 from ..claims import Programs
 from ..later import Release, compared
-from ..messages import Message
+from ..later_command import told as say
+from ..messages import Message, Output
 from ..show import Show
 from ..world import World
 from .common import PROGRAM, WHY_NO_PROGRAM, kept, pages, world
@@ -139,6 +141,17 @@ class NotJudged(unittest.TestCase):
         self.assertEqual((release.answer, release.status, release.strict_status()), ("no break found in what was judged", 0, 4))
         self.assertEqual(release.summary(), "a 1.0.0 to 1.1.0: no break found in what was judged")
         self.assertEqual(release.uncovered(), "not judged: 1 field, 3 function signatures")
+
+    def test_it_has_a_line_and_a_key(self) -> None:
+        release = Release("a", ("1.0.0", "1.1.0"), [], Counter({"hidden type": 2}))
+        for is_strict, status in [(False, 0), (True, 4)]:
+            said = io.StringIO()
+            self.assertEqual(say(release, Output(stream=said), is_strict), status)
+            self.assertEqual(said.getvalue(), "not judged: 2 hidden types\na 1.0.0 to 1.1.0: no break found in what was judged\n")
+            said = io.StringIO()
+            say(release, Output(stream=said, is_json=True), is_strict)
+            found = json.loads(said.getvalue())
+            self.assertEqual((found["not_judged"], found["status"], found["answer"]), ({"hidden type": 2}, status, "no break found in what was judged"))
 
     def test_a_break_stays_one(self) -> None:
         release = Release("a", ("1.0.0", "1.1.0"), [Message("x", word="breaking")], Counter({"field": 1}))
