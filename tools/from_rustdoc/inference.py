@@ -40,7 +40,8 @@ class Inference:
         before = [(one, tuple(written_arguments(trait, one))) for one in self.candidates(trait.key)]
         for one, terms in before:
             known = tuple(common(a, b) for a, b in zip(added, terms))
-            if isinstance(one.self_type, Parameter) or known[0] == ANY or not any(has_unknown(t) for t in known) or id(one) in self.told:
+            is_known = known[0] in (INTEGER, FLOAT) or not has_unknown(known[0])
+            if isinstance(one.self_type, Parameter) or not is_known or not any(has_unknown(t) for t in known) or id(one) in self.told:
                 continue
             if [other for other, its in before if fits(known, its, other)] == [one]:
                 self.told.add(id(one))
