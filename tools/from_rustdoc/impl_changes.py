@@ -78,8 +78,8 @@ class ImplChanges:
 
     def run(self) -> None:
         versions = self.versions
-        old, new = self.of(versions.old, versions.impls(versions.old)), self.of(versions.new, versions.impls(versions.new))
-        self.lost({**self.of(versions.old, self.exported(versions.old)), **old}, {**self.of(versions.new, self.exported(versions.new)), **new})
+        old, new = ({**self.of(world, self.exported(world)), **self.of(world, versions.impls(world))} for world in (versions.old, versions.new))
+        self.lost(old, new)
         self.new_ones(old, new)
         for key, count in self.uncompared.items():
             self.troubled[key].note(f"its impls are not compared: {count}")

@@ -264,8 +264,9 @@ class MemberChanges:
             self.items.claim("drop-added", f"{told}: its fields cannot be moved out", span, [], [], Tuple(tuple(fields)), copy)
 
     def dropped(self, world: World, key: str) -> Optional[Impl]:
-        return next((i for i in self.versions.impls(world) if i.trait is not None and is_std_key(i.trait.key) and i.trait.key.endswith("trait.Drop")
-                     and isinstance(i.self_type, Named) and world.key_of(i.self_type.key) == key), None)
+        home = world.homes.get(key)
+        return next((i for i in (home.impls if home is not None else []) if i.trait is not None and is_std_key(i.trait.key)
+                     and i.trait.key.endswith("trait.Drop") and isinstance(i.self_type, Named) and world.key_of(i.self_type.key) == key), None)
 
     def owns(self, term: Type, above: tuple[str, ...] = ()) -> Optional[bool]:
         """Whether a type of the old version has something to drop; None where that is not known."""
@@ -275,10 +276,9 @@ class MemberChanges:
             return False
         if isinstance(term, Named):
             key = world.key_of(term.key)
-            home = world.homes.get(key)
             if key in above or term.key.endswith(OWNING):
                 return key not in above
-            if home is None or home.name != self.versions.crate:
+            if key not in world.homes:
                 return None
             if above and self.dropped(world, key) is not None:
                 return True

@@ -10,6 +10,7 @@ import shutil
 import tempfile
 import unittest
 from collections import Counter
+from typing import Any, Callable
 
 from ..claims import Programs
 from ..later import Release, compared
@@ -111,24 +112,41 @@ class Later(unittest.TestCase):
 
 @unittest.skipIf(WHY_NO_PROGRAM, WHY_NO_PROGRAM)
 class Exported(unittest.TestCase):
-    def test_an_impl_that_a_type_of_another_crate_loses(self) -> None:
-        """`user` exports `ab::Sb`. Its new version uses one of `ab` in which that has no impl of `Ta`."""
+    def judged(self, change: Callable[[World, dict[str, Any]], None]) -> list[tuple[str, str]]:
+        """What is told of `user`, which exports `ab::Sb`, if its new version uses another one of `ab`."""
         old = world("ab", "user")
         with tempfile.TemporaryDirectory() as folder:
             with open(kept("ab"), encoding="utf-8") as handle:
                 data = json.load(handle)
             data["crate_version"] = "2.0.0"
-            lost = next(i for i in old.crates["ab"].impls if Show(old).header(i) == "impl ab::Ta for ab::Sb")
-            assert lost.place is not None
-            data["index"] = {n: i for n, i in data["index"].items() if "impl" not in i["inner"] or i["span"]["begin"][0] != lost.place.line}
+            change(old, data)
             file = os.path.join(folder, "ab.json")
             with open(file, "w", encoding="utf-8") as handle:
                 json.dump(data, handle)
             new = World(pages())
             new.load([file, kept("user")])
             release = compared(old, new, "user", programs=Programs(PROGRAM))
-        self.assertEqual([(m.text, m.word) for m in release.messages], [("`impl ab::Ta for ab::Sb` is removed", "breaking")])
-        self.assertEqual(compared(old, old, "user", programs=Programs(PROGRAM)).messages, [])
+        return [(m.text, m.word) for m in release.messages]
+
+    def test_an_impl_that_a_type_of_another_crate_loses(self) -> None:
+        def change(old: World, data: dict[str, Any]) -> None:
+            lost = next(i for i in old.crates["ab"].impls if Show(old).header(i) == "impl ab::Ta for ab::Sb")
+            assert lost.place is not None
+            data["index"] = {n: i for n, i in data["index"].items() if "impl" not in i["inner"] or i["span"]["begin"][0] != lost.place.line}
+
+        self.assertEqual(self.judged(change), [("`impl ab::Ta for ab::Sb` is removed", "breaking")])
+        self.assertEqual(self.judged(lambda old, data: None), [])
+
+    def test_a_destructor_and_an_impl_that_a_type_of_another_crate_gets(self) -> None:
+        def change(old: World, data: dict[str, Any]) -> None:
+            core = next(int(number) for number, crate in data["external_crates"].items() if crate["name"] == "core")
+            model = next(i for i in data["index"].values() if i["inner"].get("impl", {}).get("for", {}).get("resolved_path", {}).get("path") == "Sb")
+            for number, (kind, path) in enumerate([("Drop", ["core", "ops", "drop", "Drop"]), ("Clone", ["core", "clone", "Clone"])], 90000):
+                data["paths"][str(number)] = {"crate_id": core, "path": path, "kind": "trait"}
+                body = {**model["inner"]["impl"], "items": [], "trait": {"args": None, "id": number, "path": kind}}
+                data["index"][str(number + 10)] = {**model, "id": number + 10, "inner": {"impl": body}, "span": {**model["span"], "begin": [number, 1]}}
+
+        self.assertEqual(self.judged(change), [("struct user::Sb has a destructor now", "breaking"), ("`impl Clone for ab::Sb`", "compatible")])
 
 
 class NotJudged(unittest.TestCase):
