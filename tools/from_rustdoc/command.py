@@ -47,7 +47,8 @@ that are here), --metadata FILE (what `cargo metadata --format-version 1` printe
 the traits that are named), --jobs N (processes of a project's check), --quiet,
 --verbose (what answers rest on, in the words of docs/RUSTDOC.md).
 
-Status: 0 fine, 1 not coherent, breaking or not as expected, 4 not settled or a changed bound, 3 no answer, 2 the words are not understood."""
+Status: 0 fine, 1 not coherent, breaking or not as expected, 4 not settled, changed or, with --strict, not judged, 3 no answer, 2 the words are not
+understood."""
 USAGE_OF_CARGO = """cargo celtisdarts: real crates, judged by Celtisdarts. It documents the project that stands here, and takes all flags of tools/from-rustdoc.
 
   cargo celtisdarts later [--baseline REV|FOLDER] [-p NAME]    what breaks crates that use this library? (REV: the latest tag, if none is given)
