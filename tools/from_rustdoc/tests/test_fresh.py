@@ -97,23 +97,23 @@ class Fresh(unittest.TestCase):
         self.assertEqual(self.ask(*types)[0], ["yes"] * 3)
 
     def test_what_sources_read_of_files_and_variables_is_looked_at(self) -> None:
-        self.ask("Out")
+        self.ask("out::Out")
         self.write("app/src/text.txt", "another text")
-        self.assertTrue(self.ask("Out")[1])
+        self.assertTrue(self.ask("out::Out")[1])
         with mock.patch.dict(os.environ, {"READ_BY_THE_SOURCE": "x"}):
-            self.assertTrue(self.ask("Out")[1])
-            self.assertFalse(self.ask("Out")[1])
+            self.assertTrue(self.ask("out::Out")[1])
+            self.assertFalse(self.ask("out::Out")[1])
 
     def test_documents_that_were_removed_are_made_again(self) -> None:
-        self.ask("Out")
+        self.ask("out::Out")
         place = os.path.join(self.room, "app", "target", "from-rustdoc")
         for name in os.listdir(place):
             if name.startswith("json-"):
                 shutil.rmtree(os.path.join(place, name))
-        self.assertEqual(self.ask("Out"), (["yes"], True))
+        self.assertEqual(self.ask("out::Out"), (["yes"], True))
 
     def test_a_map_is_of_the_documents_that_it_names(self) -> None:
-        self.ask("Out")
+        self.ask("out::Out")
         base = os.path.join(self.room, "app", "target", "from-rustdoc", "app")
         with contextlib.redirect_stdout(io.StringIO()) as said:
             self.assertEqual(main(["ask", base, "app::out::Out: Send"]), 0)
@@ -121,7 +121,7 @@ class Fresh(unittest.TestCase):
         self.write("elsewhere/out.rs", HELD.format("Out", "*const u8"))
         map_before = os.path.join(self.room, "before.map")
         shutil.copy(base + ".map", map_before)
-        self.ask("Out")
+        self.ask("out::Out")
         with contextlib.redirect_stderr(io.StringIO()) as errors:
             self.assertEqual(main(["ask", map_before.removesuffix(".map"), "app::out::Out: Send"]), 3)
         self.assertIn("were made again since", errors.getvalue())
