@@ -12,6 +12,7 @@ from .claims import Claim
 from .html_docs import is_std_key
 from .messages import Message, Span, at
 from .questions import Question
+from .reached import bound_terms
 from .render import is_sizedness
 from .surface import Associated, Generics, Item
 from .terms import (Bound, Declaration, Lossy, Param, Parameter, Place, Predicate, Projection, Type, argument_values, parameters_of, put,
@@ -422,10 +423,6 @@ class ItemChanges:
             if name not in old.required and not sealed:
                 what = "has a new required item" if name not in old.provided else "provides an item no more"
                 self.tell("required-item-added", f"{new.shown()} {what}: `{name}`", at(place))
-
-
-def bound_terms(bound: Bound) -> list[Type]:
-    return [*bound.arguments, *(value for _, value in bound.constraints)]
 
 
 def split(predicate: Predicate) -> list[Predicate]:

@@ -156,9 +156,6 @@ class Versions:
     def bound_to_old(self, bound: Bound) -> Bound:
         return rekeyed_bound(bound, self.old_key)
 
-    def predicates_to_old(self, predicates: list[Predicate]) -> list[Predicate]:
-        return [(self.to_old(t), self.bound_to_old(b)) for t, b in predicates]
-
     # ---- what is equal in both
     def common_key(self, world: World, key: str) -> str:
         """One key for both versions: that of the old one, where there is one. What is declared in a body goes by its name."""
