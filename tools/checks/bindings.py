@@ -96,7 +96,9 @@ def try_rust(tally: Tally, room: Path, env: Mapping[str, str]) -> None:
 
 
 def try_packages(tally: Tally, room: Path, env: Mapping[str, str]) -> None:
-    """Both packages are verified with the archive that is in one of them, that of release/, and a project of its own is built over them."""
+    """Both packages are verified with the archive that is put into one of them, and a project of its own is built over them."""
+    if not succeeds(tally, "tools/library --rust", [TOP / "tools/library", "--rust"], env):
+        return
     words = ["--offline", "--manifest-path", TOP / "bindings/rust/Cargo.toml", "--target-dir", room / "target"]
     if not succeeds(tally, "bindings/rust: cargo package", ["cargo", "package", "--workspace", "--allow-dirty", *words], env):
         return

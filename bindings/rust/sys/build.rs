@@ -1,4 +1,5 @@
-//! Links `libceltisdarts.a`: that of the folder `CELTISDARTS_LIB_DIR`, or else the package's own. What is noted beside it becomes constants.
+//! Links `libceltisdarts.a`: that of the folder `CELTISDARTS_LIB_DIR`, or else that of the repository or the package. What is noted beside it
+//! becomes constants.
 
 use std::path::{Path, PathBuf};
 use std::{env, fs};
@@ -23,15 +24,21 @@ fn require_target() {
     );
 }
 
+/// The folder of the archive: `release/` in the repository, which `tools/library --rust` copies to `lib/` in the package.
+fn own_folder() -> PathBuf {
+    let own = PathBuf::from(env::var_os("CARGO_MANIFEST_DIR").expect("cargo sets it"));
+    let released = own.join("../../../release");
+    if released.join("libceltisdarts.a").is_file() {
+        released
+    } else {
+        own.join("lib")
+    }
+}
+
 fn main() {
     println!("cargo:rerun-if-env-changed=CELTISDARTS_LIB_DIR");
     require_target();
-    let folder = match env::var_os("CELTISDARTS_LIB_DIR") {
-        Some(folder) => PathBuf::from(folder),
-        None => {
-            PathBuf::from(env::var_os("CARGO_MANIFEST_DIR").expect("cargo sets it")).join("lib")
-        }
-    };
+    let folder = env::var_os("CELTISDARTS_LIB_DIR").map_or_else(own_folder, PathBuf::from);
     let archive = folder.join("libceltisdarts.a");
     assert!(
         archive.is_file(),
