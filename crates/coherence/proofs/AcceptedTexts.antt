@@ -9,7 +9,6 @@ use Rattle.sessions.specs.CoherentTexts.{AcceptedTextsAreCoherent}
 use Rattle.coherence.specs.Promised.CrateAnswers.{crate_text}
 use Rattle.coherence.specs.Promised.Told.{crate_topic, check_topic, topics, line_of_crate, TellsTopic, AllSayAccepted, AllSayHeld, SupertraitsStand, AcceptedTextsHold}
 use Rattle.coherence.proofs.CheckAnswersHold.{held-answer}
-use Rattle.coherence.proofs.SolvedQuestions.{text-holds}
 use Rattle.coherence.proofs.CrateAnswersHold.{accepted-answer}
 use Rattle.coherence.proofs.Topics.{at-one-place}
 
@@ -31,8 +30,8 @@ module _ (limit : ℕ) (d : Declarations) (ls : List (List ℕ)) (told : AllZip 
 
 pub accepted-texts-hold : AcceptedTextsAreCoherent → AcceptedTextsHold SupertraitsStand
 accepted-texts-hold coherent limit bytes d ls says told accepted supers =
-    text-holds limit d (coherent d (bytes, says) (all-accepted limit d ls told accepted) supers limit)
+    coherent d (bytes, says) (all-accepted limit d ls told accepted) supers limit
 
 pub held-texts-hold : HeldTextsAreCoherent → AcceptedTextsHold AllSayHeld
 held-texts-hold coherent limit bytes d ls says told accepted held =
-    text-holds limit d (coherent d (bytes, says) (all-accepted limit d ls told accepted) (all-held limit d ls told held) limit)
+    coherent d (bytes, says) (all-accepted limit d ls told accepted) (all-held limit d ls told held) limit

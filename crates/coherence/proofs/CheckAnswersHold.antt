@@ -25,10 +25,9 @@ use Rattle.sessions.proofs.OpaqueTerms.{reference-opaque-erased}
 use Rattle.coherence.specs.Promised.CheckAnswers.{header_supers, StopsWith, CheckAnswer, says_compatible, says_breaking, says_held, says_stopped}
 use Rattle.coherence.specs.Promised.CrateAnswers.{crate_text, number_in_crate}
 use Rattle.coherence.specs.Lines.{IsCheckLine, of_version, of_headers, IsQuestionLine, of_prove, of_refute}
-use Rattle.coherence.specs.Promised.ProvedAnswers.{QuestionAnswer, says_yes, says_unproved, says_maybe, says_no, says_open}
+use Rattle.coherence.specs.Promised.ProvedAnswers.{QuestionAnswer, says_proved, says_refuted}
 use Rattle.coherence.proofs.AskedHeaders.{supers-are-asked}
 use Rattle.coherence.proofs.ImplPlaces.{HaveNumbers, impls-have-numbers}
-use Rattle.coherence.proofs.SolvedQuestions.{to-yes, to-no}
 use Rattle.sessions.proofs.GivenTexts.{text-given}
 
 -- ---- texts
@@ -151,18 +150,14 @@ held-answer limit d c _ (says_stopped _ k j w i s) e =
 module _ (limit : ℕ) (d : Declarations) (n : ℕ) (q : Question) where
   question-told : (l : Answer) → IsQuestionLine limit d n q l → QuestionAnswer limit d n q (answer_text l)
   question-told _ (of_prove (answers.yes ts) e h) =
-      subst (λ t. QuestionAnswer limit d n q (t ++ values_text (answer_values d q ts))) (sym (append_assoc (codes "prove " ++ decimal n) (codes ": ") (codes "yes")))
-      (subst (λ v. QuestionAnswer limit d n q (codes "prove " ++ decimal n ++ codes ": yes" ++ v)) (yes-values-text-is d q ts)
-      (says_yes ts (to-yes limit d q.asker (map (λ v. v.kind) q.variables) (map erased_reference q.clauses) (erased_reference q.asked) ts h.0 h.1 h.2) e))
-  question-told _ (of_prove answers.unproved e h) =
-      subst (QuestionAnswer limit d n q) (sym (append_assoc (codes "prove " ++ decimal n) (codes ": ") (codes "unproved"))) (says_unproved (λ x. h.0 x.0 x.1) e)
-  question-told _ (of_prove answers.maybe e h) =
-      subst (QuestionAnswer limit d n q) (sym (append_assoc (codes "prove " ++ decimal n) (codes ": ") (codes "maybe"))) (says_maybe h.0 e)
-  question-told _ (of_refute answers.no e h) =
-      subst (QuestionAnswer limit d n q) (sym (append_assoc (codes "refute " ++ decimal n) (codes ": ") (codes "no")))
-      (says_no (to-no limit d q.asker (map (λ v. v.kind) q.variables) (erased_reference q.asked) h) e)
-  question-told _ (of_refute answers.unrefuted e h) =
-      subst (QuestionAnswer limit d n q) (sym (append_assoc (codes "refute " ++ decimal n) (codes ": ") (codes "open"))) (says_open h e)
+      let start : List ℕ = codes "prove " ++ decimal n ++ codes ": " in
+      subst (QuestionAnswer limit d n q)
+      (ap (λ v. start ++ (codes "yes" ++ v)) (yes-values-text-is d q ts) ∙ sym (append_assoc start (codes "yes") (values_text (answer_values d q ts))))
+      (says_proved (answers.yes ts) e h)
+  question-told _ (of_prove answers.unproved e h) = says_proved answers.unproved e h
+  question-told _ (of_prove answers.maybe e h) = says_proved answers.maybe e h
+  question-told _ (of_refute answers.no e h) = says_refuted answers.no e h
+  question-told _ (of_refute answers.unrefuted e h) = says_refuted answers.unrefuted e h
 
 pub question-answer : (limit : ℕ) (d : Declarations) (n : ℕ) (q : Question) (l : Answer) → IsQuestionLine limit d n q l → QuestionAnswer limit d n q (answer_text l)
 question-answer limit d n q l h = question-told limit d n q l h

@@ -1,5 +1,5 @@
 -- The line of a crate, and what it promises, as a verdict has it.
-use Rattle.std.proofs.Common.{◌≡◌, inl, inr, ℕ, zero, suc, ◌+◌, ◌≤◌, Bool, true, false, ◌&&◌, ◌==◌, not, cond, List, [], ◌∷◌, ◌++◌, filter, Some, None, Ok, codes, append_assoc, refl, sym, ap, ◌∙◌, subst, arith}
+use Rattle.std.proofs.Common.{◌≡◌, ℕ, zero, suc, ◌+◌, ◌≤◌, Bool, true, false, ◌&&◌, ◌==◌, not, cond, List, [], ◌∷◌, ◌++◌, filter, Some, None, Ok, codes, append_assoc, refl, sym, ap, ◌∙◌, subst, arith}
 use Rattle.std.specs.Prelude.{find, slice_get}
 use Rattle.std.specs.Fmt.{decimal}
 use Rattle.std.specs.Option.{option_map, option_map_or}
@@ -188,7 +188,7 @@ module _ (d : Declarations) (c : ℕ) (text : IsOfText d) where
       let w = erased d c o.earlier text o.pair.partner in
       let line : List ℕ → List ℕ → List ℕ → List ℕ = λ m n r. crate_start (crate_text d c) ++ (codes "overlap impl " ++ m ++ codes " with " ++ n ++ codes " " ++ r) in (
         codes "overlap impl " ++ decimal (number_in_crate d o.later.name) ++ codes " with " ++ crate_text d o.earlier.home ++ codes " " ++ decimal (number_in_crate d o.earlier.name),
-        is_overlap o.later o.earlier (kept keeps) o.pair (o.real.common, λ k r f b. o.real.no_impossible r (elim f [ inl x ↦ inl (k, x) | inr x ↦ inr (k, x) ]) b),
+        is_overlap o.later o.earlier (kept keeps) o.pair o.real,
         overlap-text k j
             ∙ ap (λ m. line (decimal (number_in_crate d m)) (crate_text d (impl_home d j)) (decimal (number_in_crate d j))) (sym o.later_number)
             ∙ ap (λ m. line (decimal (number_in_crate d o.later.name)) (crate_text d (impl_home d m)) (decimal (number_in_crate d m))) (sym o.earlier_number)

@@ -23,7 +23,6 @@ pub mod CrateAnswersHold
 pub mod SupersInTurn
 pub mod OpaqueHeaders
 pub mod AskedHeaders
-pub mod SolvedQuestions
 pub mod CheckAnswersHold
 pub mod AcceptedTexts
 pub mod Told

@@ -1,21 +1,19 @@
 -- The line of a crate, and what it promises. V is the view of the crate c, without lifetimes.
-use Rattle.std.specs.Prelude.{◌≡◌, ◌⊎◌, ℕ, true, Bool, ◌&&◌, ◌==◌, not, if◌then◌else◌, List, [], ◌∷◌, ◌++◌, map, find, Option, Some, None, slice_get, codes, suc, take, count_by}
+use Rattle.std.specs.Prelude.{◌≡◌, ℕ, true, Bool, ◌&&◌, ◌==◌, not, if◌then◌else◌, List, [], ◌∷◌, ◌++◌, map, find, Option, Some, None, slice_get, codes, suc, take, count_by}
 use Rattle.std.specs.Fmt.{decimal}
 use Rattle.std.specs.List.{list_any}
 use Rattle.std.specs.Option.{option_map_or}
-use Rattle.sessions.specs.TypeTerms.Promised.Answers.{CommonInstance, is_bounded, is_possible}
-use Rattle.sessions.specs.TypeTerms.Promised.Proofs.{HasElaboratedProof, In, HasProof}
+use Rattle.sessions.specs.TypeTerms.Promised.Answers.{IsRealOverlap}
 use Rattle.sessions.specs.TypeTerms.Promised.Label.{adt, ref}
 use Rattle.sessions.specs.TypeTerms.Promised.LinkedSet.{IsPair}
-use Rattle.sessions.specs.TypeTerms.Promised.Renumbering.{renumbered_impl}
 use Rattle.sessions.specs.TypeTerms.Promised.Supers.{opaque}
 use Rattle.sessions.specs.TypeTerms.Promised.Trees.{Trees, none, tree}
 use Rattle.sessions.specs.TypeTerms.Promised.Versions.{is_open_place}
 use Rattle.sessions.specs.TypeTerms.Promised.Walks.{Met, struct_is, visited, ends_local, keeps_orphan_rule}
-use Rattle.sessions.specs.TypeTerms.Promised.Worlds.{World, Reference, ImplDecl, with_args, core}
+use Rattle.sessions.specs.TypeTerms.Promised.Worlds.{World, ImplDecl, core}
 use Rattle.sessions.specs.TextLanguage.Promised.Declarations.{Declarations}
 use Rattle.sessions.specs.TextLanguage.Promised.PrintedTypes.{final_text, printed_trees}
-use Rattle.sessions.specs.TypeTerms.Promised.Verdicts.{ClausesNeverMeet, InEverySetWith}
+use Rattle.sessions.specs.TypeTerms.Promised.Verdicts.{IsCleared}
 use Rattle.sessions.specs.Promised.Promises.{view_in}
 
 -- ---- an orphan
@@ -46,20 +44,6 @@ orphan_reason d c i =
 abbrev pub first_orphan : World → ℕ → Option ImplDecl
 first_orphan V c = find (λ i. (i.home == c) && not (keeps_orphan_rule V c i.header)) V.impls
 
--- No linked set with the view has a concrete common instance of the pair with proofs of both lists of where-clauses. Nor has the view alone
--- one, by proofs that hold the supertraits of all that they conclude. The view is named because no linked set holds some views:
--- `trait Sup; trait Sub: Sup; impl Sub for u8`.
-abbrev pub NoConflict : World → ℕ → ImplDecl → ImplDecl → Type 0
-NoConflict V c i j =
-    ClausesNeverMeet (HasElaboratedProof V []) i j × InEverySetWith V c (λ W ρ. ClausesNeverMeet (HasProof W []) (renumbered_impl ρ i) (renumbered_impl ρ j))
-
--- The pair has a common instance. A where-clause that is one trait reference r at each common instance is possible, if r is bounded.
-abbrev pub ReallyOverlap : ℕ → World → ℕ → ImplDecl → ImplDecl → Type 0
-ReallyOverlap limit V c i j =
-    CommonInstance i j × ((k r : Reference)
-    → (In k i.clauses × ((m : CommonInstance i j) → with_args m.left k ≡ r)) ⊎ (In k j.clauses × ((m : CommonInstance i j) → with_args m.right k ≡ r))
-    → is_bounded limit V c r ≡ true → is_possible limit V c r ≡ true)
-
 -- ---- the line of a crate
 abbrev pub crate_text : Declarations → ℕ → List ℕ
 crate_text d c = option_map_or (λ n. n.text) (slice_get d.crates c) []
@@ -74,8 +58,8 @@ number_in_crate d k = count_by (λ i. i.item.home == impl_home d k) (take (suc k
 
 -- What comes after `crate N: `, and what it promises. All headers are judged before any pair that the crate brings together.
 pub data CrateAnswer (limit : ℕ) (d : Declarations) (c : ℕ) : List ℕ → Type 0 where
-  is_accepted : first_orphan (view_in d c) c ≡ None → ((i j : ImplDecl) → IsPair (view_in d c) c i j → NoConflict (view_in d c) c i j)
+  is_accepted : first_orphan (view_in d c) c ≡ None → ((i j : ImplDecl) → IsPair (view_in d c) c i j → IsCleared (view_in d c) c i j)
       → CrateAnswer limit d c (codes "accepted")
   is_orphan : (i : ImplDecl) → first_orphan (view_in d c) c ≡ Some i → CrateAnswer limit d c (codes "orphan impl " ++ decimal (number_in_crate d i.name) ++ orphan_reason d c i)
-  is_overlap : (i j : ImplDecl) → first_orphan (view_in d c) c ≡ None → IsPair (view_in d c) c i j → ReallyOverlap limit (view_in d c) c i j
+  is_overlap : (i j : ImplDecl) → first_orphan (view_in d c) c ≡ None → IsPair (view_in d c) c i j → IsRealOverlap limit (view_in d c) c i j
       → CrateAnswer limit d c (codes "overlap impl " ++ decimal (number_in_crate d i.name) ++ codes " with " ++ crate_text d j.home ++ codes " " ++ decimal (number_in_crate d j.name))

@@ -9,10 +9,10 @@ use Rattle.std.specs.Io.KnownBytes.{Appends, Keeps}
 use Rattle.sessions.specs.TypeTerms.Promised.LinkedSet.{HeadersHaveSupertraits}
 use Rattle.sessions.specs.TypeTerms.Promised.Worlds.{core}
 use Rattle.sessions.specs.TextLanguage.Promised.TextSays.{TextSays}
-use Rattle.sessions.specs.Promised.CoherentTexts.{text_world}
+use Rattle.sessions.specs.Promised.CoherentTexts.{text_world, TextIsCoherent}
 use Rattle.coherence.specs.Promised.CheckAnswers.{CheckAnswer}
 use Rattle.coherence.specs.Promised.CrateAnswers.{CrateAnswer, crate_text}
-use Rattle.coherence.specs.Promised.ProvedAnswers.{QuestionAnswer, TextHolds}
+use Rattle.coherence.specs.Promised.ProvedAnswers.{QuestionAnswer}
 use Rattle.coherence.specs.Promised.Streams.{AppendsPrefix}
 
 -- `Done` for a text without fault, else `TextFault`.
@@ -89,4 +89,4 @@ SupertraitsStand d ls = HeadersHaveSupertraits (text_world d)
 abbrev pub AcceptedTextsHold : (Declarations → List (List ℕ) → Type 0) → Type 0
 AcceptedTextsHold P =
     (limit : ℕ) (bytes : List ℕ) (d : Declarations) (ls : List (List ℕ)) → TextSays bytes (Ok d) → AllZip (TellsTopic limit) (topics (Ok d)) ls → AllSayAccepted d ls → P d ls
-    → TextHolds limit d
+    → TextIsCoherent limit d
