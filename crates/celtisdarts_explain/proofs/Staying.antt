@@ -1,8 +1,8 @@
 -- Calls of a session, one after the other.
 use Rattle.std.proofs.Common.{◌≡◌, ◌∙◌, ℕ, Bool, ap, sym, subst}
-use Rattle.explain_faults.specs.Sessions.Checking.{HasJudged, IsJudgedAt}
-use Rattle.explain_faults.specs.Sessions.Promised.Promises.{view_in}
-use Rattle.explain_faults.specs.Sessions.Promised.Subjects.{Subject, StaysOn}
+use Rattle.explain_texts.specs.Sessions.Checking.{HasJudged, IsJudgedAt}
+use Rattle.explain_texts.specs.Sessions.Promised.Promises.{view_in}
+use Rattle.explain_texts.specs.Sessions.Promised.Subjects.{Subject, StaysOn}
 
 -- what a crate sees
 pub same-view : (a b : Subject) → StaysOn a b → view_in a.declarations a.of_crate ≡ view_in b.declarations b.of_crate

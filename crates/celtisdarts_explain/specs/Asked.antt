@@ -1,9 +1,9 @@
 -- The checks of a crate, as its session takes them.
 use Rattle.std.specs.Prelude.{ℕ}
-use Rattle.explain_faults.specs.TextLanguage.Promised.Declarations.{Declarations}
-use Rattle.explain_faults.specs.Sessions.Promised.Releases.{IsSectionOf}
-use Rattle.explain_faults.specs.Workspace.declared.declared.Check.{Check}
-use Rattle.explain_faults.specs.Workspace.declared.declared.Check.TheVariants.{Later, Supers}
+use Rattle.explain_texts.specs.TextLanguage.Promised.Declarations.{Declarations}
+use Rattle.explain_texts.specs.Sessions.Promised.Releases.{IsSectionOf}
+use Rattle.explain_texts.specs.Workspace.declared.declared.Check.{Check}
+use Rattle.explain_texts.specs.Workspace.declared.declared.Check.TheVariants.{Later, Supers}
 
 -- A check is of crate c: a section is one of c.
 abbrev pub IsCheckOf : Declarations → ℕ → Check → Type 0

@@ -1,15 +1,15 @@
 -- What the texts state as checked, in addition to the claims of traces.
 use Rattle.std.specs.Prelude.{◌≡◌, ℕ, true}
-use Rattle.explain_faults.specs.TypeTerms.declared.ImplId.{ImplId}
-use Rattle.explain_faults.specs.TextLanguage.Promised.Declarations.{Question}
-use Rattle.explain_faults.specs.ProofChecker.Steps.{term_of}
-use Rattle.explain_faults.specs.Sessions.Checking.{HasJudged}
-use Rattle.explain_faults.specs.Sessions.Promised.Promises.{view_in}
-use Rattle.explain_faults.specs.Sessions.Shown.{AreProofOfQuestion}
-use Rattle.explain_faults.specs.Sessions.Promised.Subjects.{Subject, AsksProof}
-use Rattle.explain_faults.specs.ExplainSessions.Rules.{HasRulesByBoth}
-use Rattle.explain_faults.specs.ExplainSessions.declared.walks.PairWalk.{PairWalk}
-use Rattle.explain_faults.specs.ExplainSessions.declared.walks.ProofWalk.{ProofWalk}
+use Rattle.explain_texts.specs.TypeTerms.declared.ImplId.{ImplId}
+use Rattle.explain_texts.specs.TextLanguage.Promised.Declarations.{Question}
+use Rattle.explain_texts.specs.ProofChecker.Steps.{term_of}
+use Rattle.explain_texts.specs.Sessions.Checking.{HasJudged}
+use Rattle.explain_texts.specs.Sessions.Promised.Promises.{view_in}
+use Rattle.explain_texts.specs.Sessions.Shown.{AreProofOfQuestion}
+use Rattle.explain_texts.specs.Sessions.Promised.Subjects.{Subject, AsksProof}
+use Rattle.explain_texts.specs.ExplainSessions.Rules.{HasRulesByBoth}
+use Rattle.explain_texts.specs.ExplainSessions.declared.walks.PairWalk.{PairWalk}
+use Rattle.explain_texts.specs.ExplainSessions.declared.walks.ProofWalk.{ProofWalk}
 
 -- Steps that are displayed as checked are a proof of the bound of the query with this number.
 abbrev pub ShowsProofOf : Subject → ℕ → ProofWalk → Type 0

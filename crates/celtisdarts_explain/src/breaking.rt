@@ -1,12 +1,10 @@
 //! The text for a section that is breaking.
 
-use explain_faults::explain_diagnostics::{Diagnostic, Level};
-use explain_faults::explain_sessions::BreakingCause;
-use explain_faults::explain_texts::{
-    Piece, Sentence, Telling, Texts, crate_name, is_fundamental, plain, trait_name, with_one,
-    with_two,
-};
-use explain_faults::type_terms::{CrateId, TraitId};
+use explain_texts::explain_diagnostics::{Diagnostic, Level};
+use explain_texts::explain_sessions::BreakingCause;
+use explain_texts::messages::{Piece, Sentence, Telling, plain, with_one, with_two};
+use explain_texts::type_terms::{CrateId, TraitId};
+use explain_texts::{Texts, crate_name, is_fundamental, trait_name};
 use std::alloc::{AllocError, Global};
 
 /// The trait of the impl of a section with this number.

@@ -1,17 +1,17 @@
 //! Explanations of checks.
 
 ghost use Rattle.celtisdarts_explain.specs.Asked.{IsCheckOf};
-ghost use Rattle.explain_faults.specs.Sessions.Promised.Releases.{IsSectionOf};
-ghost use Rattle.explain_faults.specs.Sessions.Promised.Subjects.{StaysOn};
+ghost use Rattle.explain_texts.specs.Sessions.Promised.Releases.{IsSectionOf};
+ghost use Rattle.explain_texts.specs.Sessions.Promised.Subjects.{StaysOn};
 
 use crate::breaking::breaking;
 use crate::supertraits::supertraits;
-use explain_faults::explain_diagnostics::Diagnostic;
-use explain_faults::explain_sessions::explain_breaking;
-use explain_faults::explain_texts::Texts;
-use explain_faults::sessions::{LaterAnswer, Session};
-use explain_faults::type_terms::{CrateId, Fault, ImplId};
-use explain_faults::workspace::Check;
+use explain_texts::Texts;
+use explain_texts::explain_diagnostics::Diagnostic;
+use explain_texts::explain_sessions::explain_breaking;
+use explain_texts::sessions::{LaterAnswer, Session};
+use explain_texts::type_terms::{CrateId, Fault, ImplId};
+use explain_texts::workspace::Check;
 use std::alloc::Global;
 
 /// Explains the answer for a section: why the first breaking impl may not be added. `None` if the section is compatible.

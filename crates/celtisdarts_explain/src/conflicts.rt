@@ -2,20 +2,18 @@
 
 ghost use Rattle.std.specs.Prelude.{◌≡◌, true, IfOk};
 ghost use Rattle.celtisdarts_explain.specs.Told.{ShowsCommonOf, ShowsOverlap};
-ghost use Rattle.explain_faults.specs.ExplainSessions.Walked.{PairWalkHeld};
-ghost use Rattle.explain_faults.specs.Sessions.Promised.Subjects.{StaysOn};
+ghost use Rattle.explain_texts.specs.ExplainSessions.Walked.{PairWalkHeld};
+ghost use Rattle.explain_texts.specs.Sessions.Promised.Subjects.{StaysOn};
 
 use crate::spending::Spending;
-use explain_faults::explain_diagnostics::LIST_LIMIT;
-use explain_faults::explain_sessions::{PairWalk, explain_overlap, impls_overlap};
-use explain_faults::explain_texts::{
-    Piece, Sentence, Spoken, Telling, Texts, impl_line, plain, speak, with_four, with_three,
-    with_two,
-};
-use explain_faults::sessions::Session;
-use explain_faults::text_printer::ShownNames;
-use explain_faults::type_terms::{Fault, ImplId};
-use explain_faults::workspace::ImplEntry;
+use explain_texts::explain_diagnostics::LIST_LIMIT;
+use explain_texts::explain_sessions::{PairWalk, explain_overlap, impls_overlap};
+use explain_texts::messages::{Piece, Sentence, Telling, plain, with_four, with_three, with_two};
+use explain_texts::sessions::Session;
+use explain_texts::text_printer::ShownNames;
+use explain_texts::type_terms::{Fault, ImplId};
+use explain_texts::workspace::ImplEntry;
+use explain_texts::{Spoken, Texts, impl_line, speak};
 use std::alloc::{AllocError, Global};
 
 /// How many pairs of a crate are compared at most after the first that overlaps.

@@ -5,9 +5,9 @@
 
 ghost use Rattle.std.specs.Prelude.{◌≡◌};
 ghost use Rattle.coherence.specs.Groups.{IsCheckedIn};
-ghost use Rattle.explain_faults.specs.Sessions.Promised.Given.{AnswerValuesHeld, VerdictHeld};
-ghost use Rattle.explain_faults.specs.Sessions.Promised.Subjects.{AsksProof, AsksRefutation, StaysOn};
-ghost use Rattle.explain_faults.specs.TextLanguage.Promised.Declarations.{Question};
+ghost use Rattle.explain_texts.specs.Sessions.Promised.Given.{AnswerValuesHeld, VerdictHeld};
+ghost use Rattle.explain_texts.specs.Sessions.Promised.Subjects.{AsksProof, AsksRefutation, StaysOn};
+ghost use Rattle.explain_texts.specs.TextLanguage.Promised.Declarations.{Question};
 
 use crate::checks::explain_checked;
 use crate::conflicts::Pair;
@@ -17,13 +17,13 @@ use crate::printed::Lack;
 use crate::questions::{Questioned, explain_proved, explain_refuted};
 use crate::spending::{Next, Spending, too_long};
 use coherence::{Listener, TextFault};
-use explain_faults::explain_diagnostics::{Diagnostic, SourceFile};
-use explain_faults::explain_sessions::impl_header;
-use explain_faults::explain_texts::{ItemLines, Texts, item_lines, orphan};
-use explain_faults::sessions::{ProveAnswer, RefuteAnswer, Session, Verdict};
-use explain_faults::type_terms::{CrateId, Fault, ImplId};
-use explain_faults::workspace::Workspace;
 use explain_faults::{FurtherFault, fault_diagnostic, further_faults};
+use explain_texts::explain_diagnostics::{Diagnostic, SourceFile};
+use explain_texts::explain_sessions::impl_header;
+use explain_texts::sessions::{ProveAnswer, RefuteAnswer, Session, Verdict};
+use explain_texts::type_terms::{CrateId, Fault, ImplId};
+use explain_texts::workspace::Workspace;
+use explain_texts::{ItemLines, Texts, item_lines, orphan};
 use std::alloc::{AllocError, Global};
 
 /// Room for this many diagnostics, with none in it.

@@ -33,7 +33,7 @@ use crate::input::read_text;
 use crate::printed::{Explanations, Lack, Shown, Told, write_told};
 use crate::words::{ColorConfig, Options, read_words};
 use coherence::{Limits, RunFault, Status, answer_text, run};
-use explain_faults::explain_diagnostics::SourceFile;
+use explain_texts::explain_diagnostics::SourceFile;
 use std::alloc::{AllocError, Global};
 use std::fs::File;
 use std::io::IsTerminal;

@@ -2,24 +2,22 @@
 
 ghost use Rattle.std.specs.Prelude.{◌≡◌, IfOk};
 ghost use Rattle.celtisdarts_explain.specs.Told.{ShowsCommonOf};
-ghost use Rattle.explain_faults.specs.Sessions.Promised.Subjects.{StaysOn};
-ghost use Rattle.explain_faults.specs.ExplainSessions.Claims.{ClaimsHold};
-ghost use Rattle.explain_faults.specs.ExplainSessions.Walked.{PairWalkHeld};
+ghost use Rattle.explain_texts.specs.Sessions.Promised.Subjects.{StaysOn};
+ghost use Rattle.explain_texts.specs.ExplainSessions.Claims.{ClaimsHold};
+ghost use Rattle.explain_texts.specs.ExplainSessions.Walked.{PairWalkHeld};
 
 use crate::conflicts::{NOT_CHECKED, Pair, pair_said, tell_later_pairs};
 use crate::explaining::seen_impls;
 use crate::spending::Spending;
-use explain_faults::explain_diagnostics::{Diagnostic, ErrCode, Level, Span};
-use explain_faults::explain_sessions::{
+use explain_texts::explain_diagnostics::{Diagnostic, ErrCode, Level, Span};
+use explain_texts::explain_sessions::{
     Claims, PairWalk, explain_overlap, impl_header, pair_claims,
 };
-use explain_faults::explain_texts::{
-    Asking, Sentence, Spoken, Story, Telling, Texts, impl_line, plain, speak, tell, tell_clause,
-    with_one,
-};
-use explain_faults::sessions::Session;
-use explain_faults::text_printer::ShownNames;
-use explain_faults::type_terms::{Fault, ImplId};
+use explain_texts::messages::{Sentence, Telling, plain, with_one};
+use explain_texts::sessions::Session;
+use explain_texts::text_printer::ShownNames;
+use explain_texts::type_terms::{Fault, ImplId};
+use explain_texts::{Asking, Spoken, Story, Texts, impl_line, speak, tell, tell_clause};
 use std::alloc::{AllocError, Global};
 
 /// A where-clause of one of the impls.

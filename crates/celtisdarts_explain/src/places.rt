@@ -4,7 +4,7 @@ ghost use Rattle.std.specs.Prelude.{ℕ};
 ghost use Rattle.celtisdarts_explain.specs.Asked.{IsCheckOf};
 ghost use Rattle.coherence.specs.Groups.{IsCheckedIn};
 
-use explain_faults::workspace::{Check, Workspace};
+use explain_texts::workspace::{Check, Workspace};
 
 /// The check at this index of the text.
 pub(crate) fn check_at(workspace: &Workspace, place: usize) -> Check

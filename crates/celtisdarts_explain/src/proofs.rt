@@ -2,19 +2,17 @@
 
 ghost use Rattle.std.specs.Prelude.{ℕ};
 ghost use Rattle.celtisdarts_explain.specs.Told.{ShowsProofOf};
-ghost use Rattle.explain_faults.specs.ExplainSessions.Claims.{ClaimsHold};
-ghost use Rattle.explain_faults.specs.ExplainSessions.Walked.{AllStepsHeld, ProofWalkHeld};
+ghost use Rattle.explain_texts.specs.ExplainSessions.Claims.{ClaimsHold};
+ghost use Rattle.explain_texts.specs.ExplainSessions.Walked.{AllStepsHeld, ProofWalkHeld};
 
-use explain_faults::explain_diagnostics::{Diagnostic, Level, Span};
-use explain_faults::explain_sessions::{Claims, ProofWalk, Step, Way};
-use explain_faults::explain_texts::{
-    Piece, Sentence, Spoken, Story, Telling, Texts, impl_piece, plain, source_piece, speak, tell,
-    with_one,
-};
-use explain_faults::sessions::Session;
-use explain_faults::text_printer::ShownNames;
-use explain_faults::type_terms::ImplId;
-use explain_faults::type_terms::interner::Interner;
+use explain_texts::explain_diagnostics::{Diagnostic, Level, Span};
+use explain_texts::explain_sessions::{Claims, ProofWalk, Step, Way};
+use explain_texts::messages::{Piece, Sentence, Telling, plain, with_one};
+use explain_texts::sessions::Session;
+use explain_texts::text_printer::ShownNames;
+use explain_texts::type_terms::ImplId;
+use explain_texts::type_terms::interner::Interner;
+use explain_texts::{Spoken, Story, Texts, impl_piece, source_piece, speak, tell};
 use std::alloc::{AllocError, Global};
 
 /// How many rows a proof has at most.

@@ -2,26 +2,26 @@
 
 ghost use Rattle.std.specs.Prelude.{◌≡◌, ℕ};
 ghost use Rattle.celtisdarts_explain.specs.Told.{ShowsProofOf};
-ghost use Rattle.explain_faults.specs.ExplainSessions.Claims.{ClaimsHold};
-ghost use Rattle.explain_faults.specs.ExplainSessions.Walked.{ProofWalkHeld, WalkHeld};
-ghost use Rattle.explain_faults.specs.Sessions.Promised.Given.{AnswerValuesHeld};
-ghost use Rattle.explain_faults.specs.Sessions.Promised.Subjects.{AsksProof, AsksRefutation, StaysOn};
-ghost use Rattle.explain_faults.specs.TextLanguage.Promised.Declarations.{Question};
-ghost use Rattle.explain_faults.specs.TypeTerms.Promised.Handles.{ArgsHeld};
+ghost use Rattle.explain_texts.specs.ExplainSessions.Claims.{ClaimsHold};
+ghost use Rattle.explain_texts.specs.ExplainSessions.Walked.{ProofWalkHeld, WalkHeld};
+ghost use Rattle.explain_texts.specs.Sessions.Promised.Given.{AnswerValuesHeld};
+ghost use Rattle.explain_texts.specs.Sessions.Promised.Subjects.{AsksProof, AsksRefutation, StaysOn};
+ghost use Rattle.explain_texts.specs.TextLanguage.Promised.Declarations.{Question};
+ghost use Rattle.explain_texts.specs.TypeTerms.Promised.Handles.{ArgsHeld};
 
 use crate::proofs::{proved, tell_proof};
 use crate::spending::Spending;
-use explain_faults::explain_diagnostics::{Diagnostic, Span};
-use explain_faults::explain_sessions::{
+use explain_texts::explain_diagnostics::{Diagnostic, Span};
+use explain_texts::explain_sessions::{
     Claims, GoalWalk, ProofWalk, explain_proof, explain_question, explain_refutation, no_claims,
     question_claims, refutation_claims,
 };
-use explain_faults::explain_texts::{Asking, Texts, left_open, refuted, tell, unproved, unsettled};
-use explain_faults::sessions::{ProveAnswer, RefuteAnswer, Session};
-use explain_faults::text_printer::ShownNames;
-use explain_faults::type_terms::kinds::GenericArgKind;
-use explain_faults::type_terms::{Fault, ImplId};
-use explain_faults::workspace::Param;
+use explain_texts::sessions::{ProveAnswer, RefuteAnswer, Session};
+use explain_texts::text_printer::ShownNames;
+use explain_texts::type_terms::kinds::GenericArgKind;
+use explain_texts::type_terms::{Fault, ImplId};
+use explain_texts::workspace::Param;
+use explain_texts::{Asking, Texts, left_open, refuted, tell, unproved, unsettled};
 use std::alloc::{AllocError, Global};
 
 /// A query of a text, by its index there.

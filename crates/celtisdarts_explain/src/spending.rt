@@ -2,8 +2,8 @@
 
 ghost use Rattle.std.specs.Prelude.{◌≡◌, ◌≤◌, ◌+◌, false};
 
-use explain_faults::explain_diagnostics::{Diagnostic, Level};
-use explain_faults::explain_texts::{Telling, plain};
+use explain_texts::explain_diagnostics::{Diagnostic, Level};
+use explain_texts::messages::{Telling, plain};
 use std::alloc::{AllocError, Global};
 
 /// How many frames explanations may take in any case.

@@ -1,17 +1,17 @@
 //! The text for an unproved supertrait.
 
 ghost use Rattle.std.specs.Prelude.{◌≡◌};
-ghost use Rattle.explain_faults.specs.ExplainSessions.Claims.{ClaimsHold};
-ghost use Rattle.explain_faults.specs.ExplainSessions.Walked.{WalkHeld};
-ghost use Rattle.explain_faults.specs.Sessions.Promised.Subjects.{StaysOn};
+ghost use Rattle.explain_texts.specs.ExplainSessions.Claims.{ClaimsHold};
+ghost use Rattle.explain_texts.specs.ExplainSessions.Walked.{WalkHeld};
+ghost use Rattle.explain_texts.specs.Sessions.Promised.Subjects.{StaysOn};
 
-use explain_faults::explain_diagnostics::{Diagnostic, Place, Span, on_line};
-use explain_faults::explain_sessions::{Claims, GoalWalk, explain_supertrait, question_claims};
-use explain_faults::explain_texts::{Asking, Texts, impl_line, tell, unproved, unsettled};
-use explain_faults::sessions::{Session, SupersAnswer};
-use explain_faults::text_printer::ShownNames;
-use explain_faults::type_terms::{Fault, ImplId};
-use explain_faults::workspace::Param;
+use explain_texts::explain_diagnostics::{Diagnostic, Place, Span, on_line};
+use explain_texts::explain_sessions::{Claims, GoalWalk, explain_supertrait, question_claims};
+use explain_texts::sessions::{Session, SupersAnswer};
+use explain_texts::text_printer::ShownNames;
+use explain_texts::type_terms::{Fault, ImplId};
+use explain_texts::workspace::Param;
+use explain_texts::{Asking, Texts, impl_line, tell, unproved, unsettled};
 use std::alloc::AllocError;
 
 /// A supertrait of the header of an impl that is not proved, by its number from 1.

@@ -1,12 +1,12 @@
 //! The text for a fault of a text.
 
 use crate::offending::tell_offence;
-use explain_texts::explain_diagnostics::{Diagnostic, ErrCode, Level, SourceFile};
-use explain_texts::explain_sessions::workspace::Workspace;
-use explain_texts::text_parser::text_names::FaultKind;
-use explain_texts::text_parser::{TEXT_LIMIT, TextError, TextFault, parse};
-use explain_texts::{Piece, Telling, plain, with_one};
+use explain_diagnostics::{Diagnostic, ErrCode, Level, SourceFile};
+use messages::{Piece, Telling, plain, with_one};
 use std::alloc::{AllocError, Global};
+use text_names::FaultKind;
+use text_parser::{TEXT_LIMIT, TextError, TextFault, parse};
+use workspace::Workspace;
 
 /// The message for a fault.
 fn message(kind: FaultKind) -> &'static str {

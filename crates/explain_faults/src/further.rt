@@ -4,20 +4,20 @@
 //! reported.
 
 ghost use Rattle.std.specs.Prelude.{Err, IfOk, IfSome};
-ghost use Rattle.explain_texts.specs.TextLanguage.Text.{TextGives};
-ghost use Rattle.explain_texts.specs.TextNames.FaultNumbers.{fault_number};
+ghost use Rattle.text_language.specs.Text.{TextGives};
+ghost use Rattle.text_names.specs.FaultNumbers.{fault_number};
 
 use crate::faults::{lines_above, tell_fault};
 use crate::grammar::{Word, read_words};
 use crate::offending::{Faulty, reading};
 use crate::similar::similar_word;
-use explain_texts::explain_diagnostics::{Diagnostic, SourceFile, text_of, token_places};
-use explain_texts::explain_sessions::text_lines::Statement;
-use explain_texts::explain_sessions::workspace::Workspace;
-use explain_texts::text_parser::text_names::FaultKind;
-use explain_texts::text_parser::{TEXT_LIMIT, TextError, TextFault, parse};
-use explain_texts::{Piece, sentence_text, with_two};
+use explain_diagnostics::{Diagnostic, SourceFile, text_of, token_places};
+use messages::{Piece, sentence_text, with_two};
 use std::alloc::{AllocError, Global};
+use text_lines::Statement;
+use text_names::FaultKind;
+use text_parser::{TEXT_LIMIT, TextError, TextFault, parse};
+use workspace::Workspace;
 
 /// How many faulty lines after the first one are read at most.
 const FAULTS: usize = 100;

@@ -1,9 +1,9 @@
 //! The grammar of lines as a table, by which a faulty line is read: what each token is used as, and the first token at which no line can
 //! go on, with what could stand there. That a line has a fault is said by the answer, and no more is claimed of this reading.
 
-use explain_texts::explain_diagnostics::{Place, text_of, token_places};
-use explain_texts::explain_sessions::text_lines::{Token, tokens};
+use explain_diagnostics::{Place, text_of, token_places};
 use std::alloc::{AllocError, Global};
+use text_lines::{Token, tokens};
 
 /// Each way in which a part of a line is written, behind the name of the part: the statements of docs/FORMAT.md.
 ///

@@ -13,10 +13,3 @@ mod sorts;
 
 pub use faults::fault_diagnostic;
 pub use further::{FurtherFault, further_faults};
-
-// The crates below whose names the crates above need too: these list this crate alone.
-pub use explain_texts;
-pub use explain_texts::{
-    explain_diagnostics, explain_sessions, sessions, text_parser, text_printer, type_terms,
-    workspace,
-};

@@ -5,16 +5,16 @@ use crate::hints::hint_for;
 use crate::passed::tell_passed;
 use crate::similar::{similar_name, similar_word};
 use crate::sorts::tell_other_sort;
-use explain_texts::explain_diagnostics::{SourceFile, Span, TextWriter, on_line, parts_of_impl};
-use explain_texts::explain_sessions::text_lines::{LineRead, Statement};
-use explain_texts::explain_sessions::type_terms::CrateId;
-use explain_texts::explain_sessions::workspace::{Known, Workspace};
-use explain_texts::text_parser::text_names::FaultKind;
-use explain_texts::text_parser::{LineForm, TEXT_LIMIT, TextFault, line_form};
-use explain_texts::{
+use explain_diagnostics::{SourceFile, Span, TextWriter, on_line, parts_of_impl};
+use messages::{
     Piece, Telling, name_in, name_of, plain, whole_line, with_one, with_three, with_two,
 };
 use std::alloc::{AllocError, Global};
+use text_lines::{LineRead, Statement};
+use text_names::FaultKind;
+use text_parser::{LineForm, TEXT_LIMIT, TextFault, line_form};
+use type_terms::CrateId;
+use workspace::{Known, Workspace};
 
 /// What a line says, if the grammar has it.
 pub(crate) fn reading(alloc: Global, line: &[u8]) -> Result<Option<LineRead<'_>>, AllocError> {

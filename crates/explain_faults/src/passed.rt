@@ -3,8 +3,8 @@
 use crate::grammar::Word;
 use crate::offending::{Faulty, reading};
 use crate::sorts::list_items;
-use explain_texts::explain_diagnostics::{Span, on_line};
-use explain_texts::{Piece, Telling, plain, whole_line, with_three};
+use explain_diagnostics::{Span, on_line};
+use messages::{Piece, Telling, plain, whole_line, with_three};
 use std::alloc::{AllocError, Global};
 
 /// How many of something there are, and how many there may be.

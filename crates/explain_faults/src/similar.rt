@@ -1,10 +1,10 @@
 //! Names that are similar to one that is not declared.
 
-use explain_texts::explain_diagnostics::{TYPE_LIMIT, cut_text};
-use explain_texts::explain_sessions::workspace::Workspace;
-use explain_texts::{Name, name_of};
+use explain_diagnostics::{TYPE_LIMIT, cut_text};
+use messages::{Name, name_of};
 use std::alloc::{AllocError, Global};
 use strsim::osa_distance;
+use workspace::Workspace;
 
 /// How many edits a name that is alike may be away: one for each three bytes, and at least one, as in the original. One letter is like nothing.
 fn near(name: &str) -> usize {

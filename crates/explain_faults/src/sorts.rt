@@ -2,10 +2,10 @@
 
 use crate::grammar::Word;
 use crate::offending::{Faulty, kind_of, line_declaring};
-use explain_texts::explain_diagnostics::on_line;
-use explain_texts::explain_sessions::workspace::{Known, ParamKind};
-use explain_texts::{Piece, Telling, name_of, plain, whole_line, with_four, with_two};
+use explain_diagnostics::on_line;
+use messages::{Piece, Telling, name_of, plain, whole_line, with_four, with_two};
 use std::alloc::{AllocError, Global};
+use workspace::{Known, ParamKind};
 
 /// What a place needs, by what is used there.
 fn needed(used_as: &str) -> &'static str {

@@ -6,13 +6,12 @@ use crate::failures::{Asking, tell_implemented};
 use crate::items::{Texts, impl_line, mark_parts};
 use crate::links::{last_of, tell_links, tell_supertrait};
 use crate::open_questions::chance;
-use crate::sentences::{Piece, Sentence, plain, with_one, with_two};
 use crate::sources::source_piece;
 use crate::story::{Story, unsure_premise};
-use crate::telling::Telling;
 use explain_diagnostics::{Diagnostic, ErrCode, LIST_LIMIT, Level};
 use explain_sessions::explain_traces::{Answer, CandidateNode};
 use explain_sessions::goal_evaluator::{CandidateSource, MaybeCause};
+use messages::{Piece, Sentence, Telling, plain, with_one, with_two};
 use std::alloc::{AllocError, Global};
 
 /// Why a goal is ambiguous.

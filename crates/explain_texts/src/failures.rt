@@ -4,13 +4,12 @@ use crate::items::{Texts, has_rules, impl_line, impl_piece, is_auto, trait_name,
 use crate::lines::ImplLine;
 use crate::links::{impl_above, last_of, tell_links, tell_supertrait};
 use crate::refused::{Refusal, tell_refused};
-use crate::sentences::{Piece, Sentence, plain, with_one, with_two};
 use crate::spoken::SubjectKind;
 use crate::story::{Story, refused_premise};
-use crate::telling::Telling;
 use explain_diagnostics::{Diagnostic, ErrCode, LIST_LIMIT, Level, Span};
 use explain_sessions::explain_traces::Standing;
 use explain_sessions::type_terms::{ImplId, TraitId};
+use messages::{Piece, Sentence, Telling, plain, with_one, with_two};
 use std::alloc::{AllocError, Global};
 
 /// What requires a goal: a query, or the header of an impl.

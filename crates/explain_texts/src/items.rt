@@ -1,11 +1,10 @@
 //! The names of items, and where they are in the text.
 
 use crate::lines::{ImplLine, ItemLines};
-use crate::sentences::Piece;
-use crate::telling::Telling;
 use explain_diagnostics::{Place, SourceFile, Span, on_line, text_of};
 use explain_sessions::type_terms::{AdtId, CrateId, ImplId, TraitId};
 use explain_sessions::workspace::Workspace;
+use messages::{Name, Piece, Telling, name_in, name_of};
 
 /// A text, with what it declares and where that is.
 #[derive(Clone, Copy)]
@@ -47,32 +46,11 @@ pub fn impl_piece(texts: Texts<'_>, id: ImplId) -> Piece<'static> {
     }
 }
 
-/// A name. It is displayed as `cut_text` displays a text.
-#[derive(Clone, Copy)]
-pub struct Name<'w> {
-    /// The whole name, uncut.
-    pub bytes: &'w [u8],
-}
-
-/// A name of a text.
-pub fn name_of(bytes: &[u8]) -> Name<'_> {
-    Name { bytes }
-}
-
 /// The name of a trait.
 pub fn trait_name<'w>(texts: Texts<'w>, id: TraitId) -> Name<'w> {
     match texts.workspace.traits().get(id.index as usize) {
         Some(entry) => name_of(&entry.name),
         None => name_of(&[]),
-    }
-}
-
-/// The name of a crate of a workspace.
-pub fn name_in(workspace: &Workspace, id: CrateId) -> Name<'_> {
-    if (id.index as usize) < workspace.crates().len() {
-        name_of(workspace.crate_name(id))
-    } else {
-        name_of(&[])
     }
 }
 

@@ -15,34 +15,27 @@ mod orphans;
 mod reasons;
 mod refused;
 mod refutations;
-mod sentences;
 mod sources;
 mod spoken;
 mod story;
-mod telling;
 mod words;
 
 pub use doubts::unsettled;
 pub use failures::{Asking, unproved};
-pub use items::{
-    Name, Texts, crate_name, impl_line, impl_piece, is_fundamental, name_in, name_of, trait_name,
-};
-pub use lines::{ImplLine, ItemLines, item_lines, whole_line};
+pub use items::{Texts, crate_name, impl_line, impl_piece, is_fundamental, trait_name};
+pub use lines::{ImplLine, ItemLines, item_lines};
 pub use open_questions::left_open;
 pub use orphans::orphan;
 pub use reasons::tell_clause;
 pub use refutations::refuted;
-pub use sentences::{
-    Piece, Sentence, plain, sentence_text, with_four, with_one, with_three, with_two,
-};
 pub use sources::source_piece;
 pub use spoken::{Spoken, speak};
 pub use story::{Story, tell};
-pub use telling::Telling;
 
 // The crates below whose names the crates above need too: these list this crate alone.
 pub use explain_diagnostics;
 pub use explain_sessions;
 pub use explain_sessions::{sessions, type_terms, workspace};
+pub use messages;
 pub use text_parser;
 pub use text_printer;

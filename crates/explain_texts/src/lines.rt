@@ -4,6 +4,7 @@ use explain_diagnostics::{
     LineParts, Place, SourceFile, Span, on_line, parts_of_impl, parts_of_question,
 };
 use explain_sessions::text_lines::Statement;
+use messages::whole_line;
 use std::alloc::{AllocError, Global};
 use text_parser::{LineForm, line_form};
 
@@ -54,14 +55,6 @@ impl Drop for ItemLines {
             questions: _,
             in_section: _,
         } = self;
-    }
-}
-
-/// The whole line.
-pub fn whole_line(line: &[u8]) -> Place {
-    Place {
-        start: 0,
-        end: line.len(),
     }
 }
 

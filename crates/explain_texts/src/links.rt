@@ -1,14 +1,13 @@
 //! What requires the goals of a path.
 
 use crate::items::{impl_line, mark_parts, struct_line};
-use crate::sentences::{Piece, Sentence, plain, with_one, with_three, with_two};
 use crate::sources::source_piece;
 use crate::spoken::SubjectKind;
 use crate::story::Story;
-use crate::telling::Telling;
 use explain_sessions::explain_traces::CandidateNode;
 use explain_sessions::goal_evaluator::CandidateSource;
 use explain_sessions::type_terms::ImplId;
+use messages::{Piece, Sentence, Telling, plain, with_one, with_three, with_two};
 
 /// The last goal of a path.
 pub(crate) fn last_of(path: &[usize]) -> usize {

@@ -2,14 +2,13 @@
 
 use crate::failures::Asking;
 use crate::reasons::{Reason, is_left, open_path, reason_of, tell_limit, tell_path};
-use crate::sentences::{Sentence, plain, with_one};
 use crate::sources::source_piece;
 use crate::spoken::SubjectKind;
 use crate::story::Story;
-use crate::telling::Telling;
 use explain_diagnostics::{Diagnostic, LIST_LIMIT, Level};
 use explain_sessions::explain_traces::{Answer, CandidateNode};
 use explain_sessions::goal_evaluator::Certainty;
+use messages::{Sentence, Telling, plain, with_one};
 use std::alloc::{AllocError, Global};
 
 /// The sentence for a candidate that may apply, which says so if that was not checked.

@@ -5,9 +5,7 @@ ghost use Rattle.explain_sessions.specs.TypeTerms.Promised.Handles.{Has, types};
 ghost use Rattle.explain_sessions.specs.OrphanCheck.Promised.Errors.{ErrorHeld, LeavesHeld, TypeHeld};
 
 use crate::failures::has_params;
-use crate::items::{Texts, crate_name, impl_line, name_of, trait_home, trait_owner};
-use crate::sentences::{NONE, Piece, Sentence, plain, with_one, with_three, with_two};
-use crate::telling::Telling;
+use crate::items::{Texts, crate_name, impl_line, trait_home, trait_owner};
 use crate::words::type_text;
 use explain_diagnostics::{Diagnostic, ErrCode, LIST_LIMIT, Level, on_line};
 use explain_sessions::orphan_check::errors::{IsFirstInputType, OrphanCheckErr, UncoveredTyParams};
@@ -17,6 +15,7 @@ use explain_sessions::type_terms::kinds::{Ty, TyKind};
 use explain_sessions::type_terms::{AdtId, CrateId, ImplId};
 use explain_sessions::workspace::{ImplEntry, TermCell};
 use explain_sessions::{breaks_orphan_rule, impl_header};
+use messages::{NONE, Piece, Sentence, Telling, name_of, plain, with_one, with_three, with_two};
 use std::alloc::{AllocError, Global};
 use text_printer::HeaderNames;
 

@@ -6,16 +6,15 @@ use crate::items::{
     Texts, crate_name, impl_line, impl_piece, is_auto, trait_home, trait_name, written,
 };
 use crate::links::{last_of, tell_links};
-use crate::sentences::{Piece, Sentence, with_four, with_one, with_three, with_two};
 use crate::sources::source_piece;
 use crate::spoken::{Spoken, SubjectKind};
 use crate::story::Story;
-use crate::telling::Telling;
 use explain_sessions::Adder;
 use explain_sessions::explain_traces::{Answer, CandidateNode};
 use explain_sessions::goal_evaluator::{CandidateSource, MaybeCause};
 use explain_sessions::orphan_check::errors::Conflict;
 use explain_sessions::type_terms::ImplId;
+use messages::{Piece, Sentence, Telling, with_four, with_one, with_three, with_two};
 use std::alloc::{AllocError, Global};
 
 /// Why a goal is not refused, where no goal below it tells.

@@ -1,12 +1,11 @@
 //! Why the candidates of a goal are refused.
 
-use crate::sentences::{Piece, Sentence, plain, with_one, with_three, with_two};
 use crate::sources::source_piece;
 use crate::story::{Story, refused_premise};
-use crate::telling::Telling;
 use explain_diagnostics::LIST_LIMIT;
 use explain_sessions::explain_traces::CandidateNode;
 use explain_sessions::goal_evaluator::CandidateSource;
+use messages::{Piece, Sentence, Telling, plain, with_one, with_three, with_two};
 
 /// In which sense goals are refused.
 #[derive(Clone, Copy)]

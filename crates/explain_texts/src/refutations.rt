@@ -2,13 +2,12 @@
 
 use crate::items::{Texts, has_rules, is_fundamental, trait_name};
 use crate::refused::{Refusal, tell_refused};
-use crate::sentences::{Piece, Sentence, plain, with_one, with_three, with_two};
 use crate::spoken::Spoken;
 use crate::story::Story;
-use crate::telling::Telling;
 use explain_diagnostics::{Diagnostic, Level, Span};
 use explain_sessions::Adder;
 use explain_sessions::orphan_check::errors::Conflict;
+use messages::{Piece, Sentence, Telling, plain, with_one, with_three, with_two};
 use std::alloc::{AllocError, Global};
 
 /// The sentence that nothing fits. It says so if that was not checked.

@@ -1,8 +1,8 @@
 //! The sources of candidates, in words.
 
 use crate::items::{Texts, impl_piece};
-use crate::sentences::Piece;
 use explain_sessions::goal_evaluator::{BuiltinImplSource, CandidateSource};
+use messages::Piece;
 
 /// What a built-in rule is called.
 fn rule_name(source: BuiltinImplSource) -> &'static str {

@@ -5,14 +5,13 @@ ghost use Rattle.explain_sessions.specs.TypeTerms.Promised.Handles.{ArgHeld};
 ghost use Rattle.explain_sessions.specs.TypeTerms.Promised.Handles.{Has, types};
 ghost use Rattle.explain_sessions.specs.TypeTerms.Terms.{args_lists};
 
-use crate::items::Name;
-use crate::sentences::Piece;
 use crate::words::type_text;
 use explain_diagnostics::{TYPE_LIMIT, cut_text};
 use explain_sessions::term_folds::predicate::TraitRef;
 use explain_sessions::type_terms::interner::Interner;
 use explain_sessions::type_terms::kinds::{GenericArgKind, Ty, TyKind};
 use explain_sessions::type_terms::{AdtId, TraitId};
+use messages::{Name, Piece};
 use std::alloc::{AllocError, Global};
 use text_printer::{PrintNames, ShownNames, print_const, print_type_within};
 

@@ -5,7 +5,6 @@ ghost use Rattle.explain_sessions.specs.Claims.{ClaimsHold};
 ghost use Rattle.explain_sessions.specs.Walked.{WalkHeld};
 
 use crate::items::Texts;
-use crate::sentences::{NONE, Piece};
 use crate::spoken::{Spoken, SubjectKind, speak};
 use explain_sessions::explain_traces::{Answer, CandidateNode, GoalWalk, Standing};
 use explain_sessions::orphan_check::errors::Conflict;
@@ -13,6 +12,7 @@ use explain_sessions::sessions::Session;
 use explain_sessions::term_folds::predicate::TraitRef;
 use explain_sessions::type_terms::interner::Interner;
 use explain_sessions::{Adder, Claims};
+use messages::{NONE, Piece};
 use std::alloc::{AllocError, Global};
 use text_printer::ShownNames;
 

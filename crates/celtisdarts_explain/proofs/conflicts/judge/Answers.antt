@@ -1,5 +1,5 @@
 use Rattle.std.proofs.Common.{true, subst}
-use Rattle.explain_faults.specs.Sessions.Checking.{HasJudged}
+use Rattle.explain_texts.specs.Sessions.Checking.{HasJudged}
 use Rattle.celtisdarts_explain.proofs.Staying.{judged-after}
 use Rattle.celtisdarts_explain.proofs.conflicts.judge.Goals as goal
 

@@ -1,8 +1,8 @@
 use Rattle.std.proofs.Common.{◌≡◌, true, subst}
 use Rattle.std.specs.Prelude.{IfSome}
-use Rattle.explain_faults.specs.ProofChecker.Steps.{term_of}
-use Rattle.explain_faults.specs.Sessions.Promised.Promises.{view_in}
-use Rattle.explain_faults.specs.ExplainSessions.Rules.{HasRulesByBoth}
+use Rattle.explain_texts.specs.ProofChecker.Steps.{term_of}
+use Rattle.explain_texts.specs.Sessions.Promised.Promises.{view_in}
+use Rattle.explain_texts.specs.ExplainSessions.Rules.{HasRulesByBoth}
 use Rattle.celtisdarts_explain.proofs.Staying.{judged-after, same-view}
 use Rattle.celtisdarts_explain.proofs.conflicts.tell_later_pair.Goals as goal
 

@@ -1,4 +1,4 @@
-use Rattle.explain_faults.specs.Sessions.Promised.Subjects.{StaysOn}
+use Rattle.explain_texts.specs.Sessions.Promised.Subjects.{StaysOn}
 use Rattle.celtisdarts_explain.proofs.conflicts.tell_pairs.Given as goal
 
 abbrev pub invariant-loop-pair : goal.invariant-loop-pair

@@ -1,10 +1,10 @@
 use Rattle.std.proofs.Common.{◌≡◌, true, ◌∙◌, sym, subst}
 use Rattle.std.specs.Prelude.{IfSome}
-use Rattle.explain_faults.specs.ProofChecker.Steps.{term_of}
-use Rattle.explain_faults.proofs.ProofChecker.Later.{term-same}
-use Rattle.explain_faults.specs.Sessions.Promised.Promises.{view_in}
-use Rattle.explain_faults.specs.ExplainSessions.Rules.{HasRulesByBoth}
-use Rattle.explain_faults.specs.ExplainSessions.Walked.{PairWalkHeld}
+use Rattle.explain_texts.specs.ProofChecker.Steps.{term_of}
+use Rattle.explain_texts.proofs.ProofChecker.Later.{term-same}
+use Rattle.explain_texts.specs.Sessions.Promised.Promises.{view_in}
+use Rattle.explain_texts.specs.ExplainSessions.Rules.{HasRulesByBoth}
+use Rattle.explain_texts.specs.ExplainSessions.Walked.{PairWalkHeld}
 use Rattle.celtisdarts_explain.proofs.Staying.{same-view, stays-after}
 use Rattle.celtisdarts_explain.proofs.overlaps.overlap.Goals as goal
 

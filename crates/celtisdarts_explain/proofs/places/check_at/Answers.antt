@@ -1,8 +1,8 @@
 use Rattle.std.proofs.Common.{◌<◌, refl, length, subst}
 use Rattle.std.proofs.lemmas.Option.{slice_get_within}
-use Rattle.explain_faults.specs.TextLanguage.Promised.Declarations.{of_later}
-use Rattle.explain_faults.specs.Workspace.declared.declared.Check.TheVariants.{Later}
-use Rattle.explain_faults.specs.Sessions.Promised.Releases.{IsSectionOf}
+use Rattle.explain_texts.specs.TextLanguage.Promised.Declarations.{of_later}
+use Rattle.explain_texts.specs.Workspace.declared.declared.Check.TheVariants.{Later}
+use Rattle.explain_texts.specs.Sessions.Promised.Releases.{IsSectionOf}
 use Rattle.coherence.proofs.Grouping.{one-checked}
 use Rattle.coherence.proofs.Places.{check-at}
 use Rattle.celtisdarts_explain.proofs.places.check_at.Goals as goal

@@ -1,6 +1,6 @@
 use Rattle.std.proofs.Common.{sym, subst}
-use Rattle.explain_faults.specs.Sessions.Shown.{AreProofOfQuestion}
-use Rattle.explain_faults.specs.Sessions.Promised.Subjects.{AsksProof}
+use Rattle.explain_texts.specs.Sessions.Shown.{AreProofOfQuestion}
+use Rattle.explain_texts.specs.Sessions.Promised.Subjects.{AsksProof}
 use Rattle.celtisdarts_explain.proofs.questions.explain_yes.Goals as goal
 
 pub tell_proved-requires-clause-proof : goal.tell_proved-requires-clause-proof

@@ -3,7 +3,7 @@
 //! A sentence borrows its parts and owns nothing. So choosing one takes no memory and cannot fail. `Telling` takes sentences and writes
 //! them.
 
-use crate::items::Name;
+use crate::names::Name;
 use explain_diagnostics::{TYPE_LIMIT, TextWriter};
 use std::alloc::{AllocError, Global};
 
@@ -30,7 +30,7 @@ pub struct Sentence<'t> {
 }
 
 /// The part for a `{}` that has none.
-pub(crate) const NONE: Piece<'static> = Piece::Text("");
+pub const NONE: Piece<'static> = Piece::Text("");
 
 /// A sentence without parts.
 pub fn plain(template: &'static str) -> Sentence<'static> {

@@ -181,14 +181,14 @@ impl Telling {
     }
 
     /// Marks another part in the last child, with a label.
-    pub(crate) fn mark_child_beside(&mut self, span: Span, label: Sentence<'_>)
+    pub fn mark_child_beside(&mut self, span: Span, label: Sentence<'_>)
         ensures { self.new.is_refused ≡ false → self.old.is_refused ≡ false }
     {
         self.mark_last(span, false, label);
     }
 
     /// Appends to the message of the last child.
-    pub(crate) fn extend_child(&mut self, more: Sentence<'_>)
+    pub fn extend_child(&mut self, more: Sentence<'_>)
         ensures { self.new.is_refused ≡ false → self.old.is_refused ≡ false }
     {
         if let Some(more) = self.text_of(more) {
