@@ -11,7 +11,8 @@
 - `copies_of_lemmas`: lemmas of proofs/ that say the same as another, with what they stand under, whatever they are called.
 - `lines_of_...`: lines without blank ones and comments. `files`: those that they stand in.
 
-The figures stand in tools/checks/shape.txt. A case is a figure that is as it stands there, or less.
+The figures stand in tools/checks/shape.txt. A case is a figure that is as it stands there, or less, and a line of crates.txt of which
+each word is a library that the crate's files name. (The toolchain refuses a name of a library that the line does not list.)
 """
 from __future__ import annotations
 
@@ -35,6 +36,8 @@ BLOCK = re.compile(r"(?:pub )?(?:module |(?:abbrev )?mutual$)")
 PREFIX = re.compile(r"(?:(?:pub|abbrev|unfoldable) )+")
 NO_LEMMA = re.compile(r"(?:pub )?(?:abbrev|unfoldable|record|data|use|infixl|infixr) ")
 GOES_ON = re.compile(r"[)\]}]|unfolding ")
+# Words of crates.txt that go once the crate, and so all above it, has to be proved anew for another reason.
+WAITING = {"solver_graph": ["indexmap"]}
 
 
 def folder_files(folder: str, crate: str = "*") -> list[Path]:
@@ -45,6 +48,16 @@ def lines_of(path: Path, comment: str) -> list[str]:
     """The lines of a file without blank ones and comments."""
     lines = path.read_text(encoding="utf-8").split("\n")
     return [it for it in lines if it.strip() and not it.lstrip().startswith(comment)]
+
+
+# ---- crates.txt
+
+
+def unused_libraries(crate: str, listed: list[str]) -> list[str]:
+    """The libraries of a line of crates.txt that no file of the crate names: as the first word of a path in code, behind `Rattle.` elsewhere."""
+    paths = [(it, comment) for folder, (_, comment) in FOLDERS.items() for it in folder_files(folder, crate)]
+    text = "\n".join(line for path, comment in paths for line in lines_of(path, comment))
+    return [it for it in listed if not re.search(rf"(?<!\w)(?<!\w::){it}::|\buse {it}\b|\bRattle\.{it}\b", text)]
 
 
 # ---- what promises rest on
@@ -216,6 +229,9 @@ def check(tally: Tally, given: argparse.Namespace) -> None:
     found = figures()
     if given.write:
         write(found)
+    for name, listed in crates().items():
+        unused = [it for it in unused_libraries(name, listed) if it not in WAITING.get(name, [])]
+        tally.expect(f"crates.txt, {name}", not unused, f"no file of the crate names {', '.join(unused)}: take it out of the line")
     kept = kept_figures()
     for name, number in found.items():
         print(f"{name} {number}")
