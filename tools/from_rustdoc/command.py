@@ -11,22 +11,22 @@ import sys
 from dataclasses import replace
 from typing import TYPE_CHECKING, Any, Callable, Iterator, Optional
 
-from . import cargo
-from .answer import Answerer
-from .baseline import named
-from .build import Translation
-from .html_docs import Pages, json_folder
-from .kept import Damaged, KeptPages, KeptStandard, remove_stores
-from .messages import NO_ANSWER, Message, Output, Sources, worst
-from .program import binding, run
-from .proved import tool_sum
-from .questions import QuestionReader
-from .terms import BadInput, Lossy
-from .verdicts import Checked, answer_message, check_verdicts, say_answer, say_checks
-from .world import World
+from .ask.answer import Answerer
+from .ask.program import binding, run
+from .ask.questions import QuestionReader
+from .ask.verdicts import Checked, answer_message, check_verdicts, say_answer, say_checks
+from .later.baseline import named
+from .model.world import World
+from .read import cargo
+from .read.html_docs import Pages, json_folder
+from .read.kept import Damaged, KeptPages, KeptStandard, remove_stores
+from .read.proved import tool_sum
+from .read.terms import BadInput, Lossy
+from .report.messages import NO_ANSWER, Message, Output, Sources, worst
+from .write.build import Translation
 
 if TYPE_CHECKING:
-    from .report import Report
+    from .report.items import Report
 
 USAGE = """from-rustdoc: a translator of crates to texts for this program, and of its answers back. It is not proved: docs/RUSTDOC.md.
 
@@ -64,7 +64,7 @@ def new_world(docs: Optional[str]) -> World:
     std = json_folder(folder)
     if std:
         # (Imported here, as below what a question does not need: to load it takes long beside an answer.)
-        from .standard_json import JsonStandard
+        from .read.standard_json import JsonStandard
         return World(Pages(folder), JsonStandard(std))
     pages = KeptPages(folder)
     return World(pages, KeptStandard(pages))
@@ -99,8 +99,8 @@ def translated(world: World, arguments: argparse.Namespace) -> Translation:
 
 # ---- the commands
 def read(arguments: argparse.Namespace) -> int:
-    from .crate_check import texts_of
-    from .report import Report
+    from .report.items import Report
+    from .write.texts import texts_of
     links = links_of(arguments.metadata)
     world = world_of(arguments.json, arguments.docs, links)
     inputs = inputs_of(world, arguments.json, links)
@@ -114,7 +114,7 @@ def read(arguments: argparse.Namespace) -> int:
 
 
 def std(arguments: argparse.Namespace) -> int:
-    from .std_text import std_text
+    from .write.std_text import std_text
     world = new_world(arguments.docs)
     text = std_text(world)
     keep(world)
@@ -305,7 +305,7 @@ def checked(world: World, arguments: argparse.Namespace) -> Iterator[Judged]:
 
 
 def check_shared(name: str) -> Judged:
-    from .crate_check import check_crate
+    from .ask.crate_check import check_crate
     world, arguments = SHARED[0]
     return (*check_crate(world, name, arguments.program), set(world.missing))
 
@@ -360,7 +360,7 @@ def run_command(arguments: argparse.Namespace, extra: list[str]) -> int:
     if arguments.command == "project":
         return project(arguments.folder, extra, arguments)
     if arguments.command == "later":
-        from .later_command import later
+        from .later.command import later
         return later(arguments, extra, world_of, links_of(arguments.metadata))
     if arguments.command == "ask":
         if arguments.project is None:
