@@ -51,10 +51,12 @@ def place_of(verdict: Verdict) -> list[Span]:
 
 def say_answer(message: Message, verdict: Verdict, output: Output) -> None:
     """For people: the question, the answer, and a line for each step of the reason."""
-    if output.is_json:
+    if output.takes(message):
         output.message(message)
         return
     output.line((verdict.show() if output.is_verbose else shown(verdict, message)) + ("   not as expected" if message.word == "not as expected" else ""))
+    if not output.has_details:
+        return
     for child in message.children:
         if child.text == verdict.because and not output.is_verbose:
             continue

@@ -11,12 +11,13 @@ import hashlib
 import json
 import os
 import subprocess
-import sys
 from dataclasses import dataclass, field
 from typing import Any, Iterator, Sequence
 
 from ..read import cargo
 from ..read.proved import cache_folder, keep
+from ..read.console import console
+from ..read.selection import Selection
 from ..read.terms import BadInput
 
 # Neither hooks nor a program that watches files.
@@ -42,21 +43,30 @@ class Older:
 
 @dataclass
 class Documented:
-    """Both versions, each with the JSON of its crates, and what they are called."""
+    """Both versions, each with the JSON of its crates, what they are called, and the packages of their libraries."""
     old: cargo.Project
     new: cargo.Project
     names: tuple[str, str] = ("", "")
+    packages: tuple[dict[str, str], dict[str, str]] = field(default_factory=lambda: ({}, {}))
 
-    def members(self, wanted: list[str]) -> list[str]:
-        """The libraries that are compared: those of the older version, or the ones that are named."""
-        known = [n for n in self.old.members if n in self.old.files]
-        names = [name.replace("-", "_") for name in wanted]
-        for name in names:
-            if name not in known:
-                raise BadInput(f"the older version has no library {name}" + (f"; it has {', '.join(known)}" if known else ""))
-        if not known:
-            raise BadInput("the older version has no library that is documented")
-        return names or known
+    def libraries(self, wanted: list[str], chosen: Selection) -> list[str]:
+        """The libraries that are compared: those of the older version that are of these packages, and if all are compared those that are gone."""
+        old, new = self.packages
+        there = [package["name"] for package in chosen.data["packages"]]
+        is_whole = chosen.is_whole() and wanted == chosen.names()
+        found = [name for name, package in old.items() if package in wanted or is_whole and package not in there]
+        for package in wanted:
+            if package not in old.values() and package in chosen.named:
+                raise NothingOlder(f"the older version has no library of {package}" + (f"; it has {', '.join(old)}" if old else ""))
+            if package not in old.values() and package in new.values() and found:
+                console.note(f"the older version has no {package}: it is not compared")
+        if not found:
+            raise NothingOlder(f"the older version has no library of {', '.join(wanted)}")
+        return found
+
+
+class NothingOlder(BadInput):
+    """There is nothing to compare with."""
 
 
 # ---- git
@@ -298,31 +308,63 @@ def told_of(run: Run, name: str) -> str:
 
 # ---- the documents of both
 @contextlib.contextmanager
-def documented(one: Older, folder: str, data: dict[str, Any], extra: list[str], quiet: bool, runs_nothing: bool = False) -> Iterator[Documented]:
-    """Documents both versions, as cargo would in the newer one's folder, of which `data` is the metadata. The older one's sources are there while
-    this lasts."""
+def documented(one: Older, chosen: Selection, words: list[str], quiet: bool, runs_nothing: bool = False) -> Iterator[Documented]:
+    """Documents both versions, as cargo would in the newer one's folder, by cargo's words. The older one's sources are there while this lasts."""
+    folder, data = chosen.folder, chosen.data
     home = cargo.target_of(data)
     with files_of(one, folder) as there:
         # Each has a place of its own for its documents, so that cargo takes no others for them.
         target = os.path.join(home, f"baseline-{one.commit[:12] or sum_of(there)}")
         manifest = os.path.join(there, "Cargo.toml")
         cargo.has_manifest(folder, manifest)
+        before = cargo.metadata(folder, words, ["--manifest-path", manifest])
+        words_before = older_words(words, before, one.name)
         if runs_nothing or not os.path.isdir(target):
-            runs = [run_by(cargo.whole_metadata(folder, extra, of)) for of in (["--manifest-path", manifest], [])]
+            runs = [run_by(cargo.whole_metadata(folder, own, of)) for own, of in ((words_before, ["--manifest-path", manifest]), (words, []))]
             said = told_of(only_older(runs[0], runs[1]), one.name)
             if said and runs_nothing:
                 raise BadInput(f"{said}, which --no-build-scripts forbids")
-            if said and not quiet:
-                print(f"from-rustdoc: {said} (--no-build-scripts refuses that)", file=sys.stderr, flush=True)
+            if said:
+                console.note(f"{said} (--no-build-scripts refuses that)")
         remember(one, folder, os.path.join(home, "baselines.json"))
-        old = cargo.document(folder, extra, quiet, manifest, target)
+        old = cargo.document(folder, words_before, quiet, manifest, target, data=before)
         os.utime(target)
         keep_newest(home, "baseline-")
-        new = cargo.document(folder, extra, quiet, data=data)
+        new = cargo.document(folder, words, quiet, data=data)
         cargo.align(old, new)
         for project in (old, new):
             cargo.recall_doc_cfgs(project, folder)
-        yield Documented(old, new, (one.shown(), revision_of(folder) or folder))
+        yield Documented(old, new, (one.shown(), revision_of(folder) or folder), (packages_of(old, before), packages_of(new, data)))
+
+
+def packages_of(project: cargo.Project, data: dict[str, Any]) -> dict[str, str]:
+    """The packages of a project's own libraries."""
+    names = {package["id"]: package["name"] for package in data["packages"]}
+    return {library: names[project.units[library].package] for library in project.members if library in project.files}
+
+
+def older_words(words: list[str], data: dict[str, Any], name: str) -> list[str]:
+    """Cargo's words for the older version: without the packages and features that it does not have."""
+    packages = [package["name"] for package in data["packages"]]
+    features = {feature for package in data["packages"] for feature in package["features"]}
+    found: list[str] = []
+    rest = iter(words)
+    for word in rest:
+        flag, equals, value = word.partition("=")
+        if flag == "-p":
+            package = next(rest)
+            found += [flag, package] if package in packages else []
+        elif flag in ("--features", "-F"):
+            asked = (value if equals else next(rest, "")).replace(",", " ").split()
+            known = [one for one in asked if one in features or "/" in one]
+            if known != asked:
+                console.note(f"{name} has no feature {', '.join(one for one in asked if one not in known)}: it is documented without")
+            found += ["--features", ",".join(known)] if known else []
+        else:
+            found.append(word)
+    if "-p" in words and "-p" not in found:
+        raise NothingOlder(f"{name} has no package {', '.join(p for w, p in zip(words, words[1:]) if w == '-p')}; it has {', '.join(packages)}")
+    return found
 
 
 def revision_of(folder: str) -> str:
@@ -341,6 +383,6 @@ def remember(one: Older, folder: str, file: str) -> None:
     with contextlib.suppress(OSError, ValueError), open(file, encoding="utf-8") as handle:
         known = dict(json.load(handle))
     if known.get(one.name, one.commit) != one.commit:
-        print(f"from-rustdoc: the tag {one.name} has moved: it was {known[one.name][:SHORT]}, and is {one.commit[:SHORT]} now", file=sys.stderr, flush=True)
+        console.warn(f"the tag {one.name} has moved: it was {known[one.name][:SHORT]}, and is {one.commit[:SHORT]} now")
     if known.get(one.name) != one.commit:
         keep(file, {**known, one.name: one.commit})

@@ -94,7 +94,7 @@ class ItemChanges:
     def count(self, kind: str, what: str, why: str, place: Optional[Place] = None) -> None:
         """What changed and has no class, by kind."""
         self.not_judged[kind] += 1
-        self.unjudged.append(Message(f"{what}: {why}", "not-judged", "not judged", spans=at(place)))
+        self.unjudged.append(Message(f"{what}: {why}", "not-judged", "not judged", spans=at(place), counted_as=kind))
 
     # ---- paths
     def removed_paths(self) -> None:

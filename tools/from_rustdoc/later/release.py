@@ -8,6 +8,7 @@ from typing import Callable
 from ..model.world import World
 from ..report.messages import BAD, FINE, UNSETTLED, Message, worst
 from .auto_changes import AutoChanges
+from .bump import MAJOR
 from .claims import Judge, Programs, worst_first
 from .constant_changes import ConstantChanges
 from .impl_changes import ImplChanges
@@ -19,15 +20,22 @@ from .versions import Versions
 ANSWERS = {FINE: "compatible", UNSETTLED: "not settled", BAD: "breaking"}
 # What is said in place of `compatible` if something that changed is not judged.
 IN_WHAT_WAS_JUDGED = "no break found in what was judged"
+# And if something is waived.
+BUT_WAIVED = "no break but what is waived"
+NOT_JUDGED = "not judged"
+ORDER = ("breaking", "not settled", "changed", "compatible", "new", "sealed", "private")
 
 
 @dataclass
 class Release:
-    """What is told of a release, worst first. `not_judged` counts what changed and has no class, by kind."""
+    """What is told of a release, worst first. `not_judged` counts what changed and has no class, by kind. `kind` is a major, minor or patch
+    release, or none, `is_given` says that this is not by the versions' numbers."""
     crate: str
     versions: tuple[str, str]
     messages: list[Message] = field(default_factory=list)
     not_judged: Counter[str] = field(default_factory=Counter)
+    kind: str = ""
+    is_given: bool = False
 
     @property
     def status(self) -> int:
@@ -35,20 +43,45 @@ class Release:
 
     @property
     def answer(self) -> str:
-        return IN_WHAT_WAS_JUDGED if self.status == FINE and self.not_judged else ANSWERS[self.status]
+        if self.status == FINE and self.not_judged:
+            return IN_WHAT_WAS_JUDGED
+        return BUT_WAIVED if self.status == FINE and self.waived() else ANSWERS[self.status]
+
+    @property
+    def may_break(self) -> bool:
+        return self.kind == MAJOR
 
     def strict_status(self) -> int:
         """The status where what is not judged is not settled."""
         return worst([self.status, UNSETTLED]) if self.not_judged else self.status
 
+    def exit_status(self, is_strict: bool) -> int:
+        """What breaks in a major release is what its number says."""
+        if self.may_break:
+            return FINE
+        return self.strict_status() if is_strict else self.status
+
     def count(self, word: str) -> int:
-        return sum(m.word == word for m in self.messages)
+        """Of what is not waived."""
+        return sum(m.word == word and not m.waived for m in self.messages)
+
+    def waived(self) -> Counter[str]:
+        return Counter(m.word for m in self.messages if m.waived)
+
+    def raise_levels(self, is_strict: bool) -> None:
+        """The levels say what the status says: a break that may be is a warning, and so is what is not judged if that counts."""
+        for message in self.messages:
+            if self.may_break and message.level == "error" or is_strict and not self.may_break and message.word == NOT_JUDGED:
+                message.kind = "warning"
 
     def summary(self) -> str:
-        counts = [f"{self.count(word)} {word}" for word in ("breaking", "not settled", "changed", "compatible", "new", "sealed", "private") if self.count(word)]
+        waived = self.waived()
+        counts = [f"{self.count(word)} {word}" for word in ORDER if self.count(word)] + [f"{count} {word} waived" for word, count in waived.items()]
         old, new = (v or "?" for v in self.versions)
+        kind = f" ({self.kind}{', as given' if self.is_given else ''})" if self.kind else ""
         nothing = "" if self.not_judged else " (nothing public has changed)"
-        return f"{self.crate} {old} to {new}: {self.answer}" + (f" ({', '.join(counts)})" if counts else nothing)
+        allowed = f", as a {MAJOR} release may be" if self.may_break and self.status != FINE else ""
+        return f"{self.crate} {old} to {new}{kind}: {self.answer}{allowed}" + (f" ({', '.join(counts)})" if counts else nothing)
 
     def uncovered(self) -> str:
         """How much is not judged; empty where all is."""

@@ -12,6 +12,7 @@ from dataclasses import dataclass, field
 from typing import Any, Iterable, Iterator, Sequence
 
 from . import proved
+from .console import console
 from .doc_cfg import Cfgs
 from .terms import BadInput
 
@@ -243,8 +244,9 @@ def document(folder: str, extra: list[str], quiet: bool = False, manifest: str |
     if not any(library_name(package) for package in data["packages"]):
         raise BadInput(f"{folder} has no library that is documented: a project of programs or procedural macros alone has nothing to read")
     place = os.path.join(target, f"json-{made_by()}")
-    words = ["cargo", "check", "--lib", "--target-dir", target, "--message-format", "json-render-diagnostics", *of, *flags_of_check(extra)]
-    told = "" if quiet else f"from-rustdoc: documenting {manifest or 'the project'} and what it uses"
+    words = ["cargo", "check", "--lib", *["--quiet"] * (quiet or "--quiet" in extra or "-q" in extra), "--target-dir", target,
+             "--message-format", "json-render-diagnostics", *of, *flags_of_check(extra)]
+    told = "" if quiet else f"documenting {manifest or 'the project'} and what it uses"
     units, missing = units_of(messages(words, folder, environment(place, shared), told), place)
     if missing:
         # Someone has removed documents, or they were made by another version of this tool: then cargo is to find nothing fresh.
@@ -288,7 +290,7 @@ def environment(place: str, shared: str) -> dict[str, str]:
 
 def flags_of_check(extra: list[str]) -> list[str]:
     """Cargo's flags, without those that `cargo check --lib` does not take twice, or not at all."""
-    return [word for word in extra if word not in ("--lib", "--no-deps")]
+    return [word for word in extra if word not in ("--lib", "--no-deps", "--quiet", "-q")]
 
 
 def messages(words: list[str], folder: str, environment: dict[str, str], told: str) -> Iterator[dict[str, Any]]:
@@ -297,20 +299,22 @@ def messages(words: list[str], folder: str, environment: dict[str, str], told: s
     import tempfile
     with tempfile.TemporaryFile() as said:
         try:
-            # (Where its words are passed on to a terminal they have its colours.)
-            colour = {"CARGO_TERM_COLOR": "always"} if sys.stderr.isatty() and "CARGO_TERM_COLOR" not in os.environ else {}
-            started = subprocess.Popen(words, cwd=folder, env={**os.environ, **colour, **environment}, stdout=said, stderr=subprocess.PIPE, text=True,
+            started = subprocess.Popen(words, cwd=folder, env={**os.environ, **passed_on(), **environment}, stdout=said, stderr=subprocess.PIPE, text=True,
                                        errors="replace")
         except OSError as error:
             raise BadInput(f"`{words[0]}` cannot be run: {error}")
         assert started.stderr is not None
         with started:
             for line in started.stderr:
-                if line.strip() and not is_no_work(line):
-                    if told:
-                        print(told, file=sys.stderr)
+                at_work = progress_of(line)
+                if told and line.strip() and not is_no_work(line):
+                    console.note(told)
                     told = ""
-                    print(line, end="", file=sys.stderr, flush=True)
+                if at_work:
+                    console.progress("documenting {1} of {2}: {3}".format(*at_work.group(0, 1, 2, 3)))
+                elif line.strip() and not is_no_work(line):
+                    console.write(line)
+        console.clear()
         if started.returncode:
             raise BadInput(f"`{' '.join(words)}` failed" + pinned(folder))
         said.seek(0)
@@ -319,9 +323,23 @@ def messages(words: list[str], folder: str, environment: dict[str, str], told: s
                 yield json.loads(line)
 
 
+def passed_on() -> dict[str, str]:
+    """Has cargo say what is passed on as it does on a terminal: with its colours and its progress."""
+    found = {"CARGO_TERM_COLOR": "always"} if console.is_coloured else {}
+    return {**found, "CARGO_TERM_PROGRESS_WHEN": "always", "CARGO_TERM_PROGRESS_WIDTH": "200"} if console.has_progress else found
+
+
+def progress_of(line: str) -> re.Match[str] | None:
+    """How many units are done of how many, and which are at work, where a line of cargo says it."""
+    return re.match(r" *Building \[[=> ]*\] (\d+)/(\d+): (.*\S)", plain(line))
+
+
+def plain(line: str) -> str:
+    return re.sub(r"\x1b\[[0-9;]*[mK]", "", line)
+
+
 def is_no_work(line: str) -> bool:
-    words = re.sub(r"\x1b\[[0-9;]*m", "", line).split()
-    return words[:1] == [NO_WORK]
+    return plain(line).split()[:1] == [NO_WORK]
 
 
 def units_of(said: Iterable[dict[str, Any]], place: str) -> tuple[list[Unit], list[str]]:
@@ -400,16 +418,22 @@ def metadata(folder: str, extra: Sequence[str], of: Sequence[str] = ()) -> dict[
 def whole_metadata(folder: str, extra: list[str], of: Sequence[str]) -> dict[str, Any]:
     """Of all packages that are used."""
     host = next(line.split()[1] for line in command(["rustc", "-vV"], folder).splitlines() if line.startswith("host:"))
-    words = ["cargo", "metadata", "--format-version", "1", "--filter-platform", host, *of, *configured(extra), *chosen(extra)]
+    target = next((value for word, value in zip(extra, extra[1:]) if word == "--target"), host)
+    words = ["cargo", "metadata", "--format-version", "1", "--filter-platform", target, *of, *configured(extra), *chosen(extra)]
     found: dict[str, Any] = json.loads(command(words, folder))
     return found
 
 
-def chosen(extra: list[str]) -> list[str]:
+def chosen(extra: Sequence[str]) -> list[str]:
     """Those of cargo's flags that choose what is used."""
-    found = []
+    return [word for word in extra if word in ("--offline", "--locked", "--frozen")] + features(extra)
+
+
+def features(extra: Sequence[str]) -> list[str]:
+    """Those of cargo's flags that choose features."""
+    found: list[str] = []
     for number, word in enumerate(extra):
-        if word in ("--offline", "--locked", "--frozen", "--all-features", "--no-default-features") or word.startswith("--features="):
+        if word in ("--all-features", "--no-default-features") or word.startswith("--features="):
             found.append(word)
         elif word in ("--features", "-F"):
             found += extra[number:number + 2]

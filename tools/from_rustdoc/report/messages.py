@@ -13,7 +13,7 @@ from ..read.terms import Place
 FINE, BAD, NO_ANSWER, UNSETTLED = 0, 1, 3, 4
 # The level and the exit status of each word; what is not here is a note, and fine.
 WORDS = {"breaking": ("error", BAD), "not coherent": ("error", BAD), "not as expected": ("error", BAD), "not settled": ("warning", UNSETTLED),
-         "changed": ("warning", UNSETTLED), "not understood": ("error", NO_ANSWER), "no answer": ("error", NO_ANSWER)}
+         "changed": ("warning", UNSETTLED), "waives nothing": ("warning", FINE), "not understood": ("error", NO_ANSWER), "no answer": ("error", NO_ANSWER)}
 
 
 # What users read for words of the inside; those stand in JSON, and in what `--verbose` prints.
@@ -45,7 +45,8 @@ class Span:
 @dataclass
 class Message:
     """`code` is the class, as `bound-added`; `word` the answer; `basis` says on what it rests, `rests_on` on the loss of which impls. `summary`
-    of a step says why by the part of it that is new; `values` are those of variables, as a question takes them."""
+    of a step says why by the part of it that is new; `values` are those of variables, as a question takes them. `waived` is the reason why a
+    change may be, `counted_as` the kind of what is not judged."""
     text: str
     code: str = ""
     word: str = ""
@@ -57,14 +58,16 @@ class Message:
     kind: str = ""
     summary: str = ""
     values: list[tuple[str, str]] = field(default_factory=list)
+    waived: str = ""
+    counted_as: str = ""
 
     @property
     def level(self) -> str:
-        return self.kind or WORDS.get(self.word, ("note", FINE))[0]
+        return "note" if self.waived else self.kind or WORDS.get(self.word, ("note", FINE))[0]
 
     @property
     def status(self) -> int:
-        return WORDS.get(self.word, ("note", FINE))[1]
+        return FINE if self.waived else WORDS.get(self.word, ("note", FINE))[1]
 
     def note(self, text: str, *spans: Optional[Span]) -> Message:
         """Adds a note; returns the message itself."""
@@ -186,11 +189,15 @@ def message_json(message: Message, sources: Sources, is_child: bool = False) -> 
     if is_child:
         return found
     return {"$message_type": "diagnostic", **found, "class": message.code or None, "answer": message.word or None, "crate": message.crate or None,
-            "basis": message.basis or None, "rests_on": message.rests_on, "values": [{"name": name, "type": value} for name, value in message.values]}
+            "basis": message.basis or None, "rests_on": message.rests_on, "waived": message.waived or None, "values": [{"name": name, "type": value} for name, value in message.values]}
 
 
 class Output:
-    """Standard output in one of both forms. `line` is for people alone, `fine` a message that needs one line there."""
+    """Standard output, for people or as JSON; `outputs` has the other forms. `line` is for people alone. `features` says which were asked for, where
+    there are several sets; `has_details` whether people see the reasons of answers."""
+
+    features = ""
+    has_details = True
 
     def __init__(self, sources: Optional[Sources] = None, is_json: bool = False, stream: Optional[TextIO] = None, is_verbose: bool = False) -> None:
         self.sources = sources or Sources()
@@ -206,9 +213,13 @@ class Output:
         if not self.is_json:
             self.write(text + "\n")
 
+    def takes(self, message: Message) -> bool:
+        """Whether an answer is said as a message, and not in lines for people."""
+        return self.is_json
+
     def message(self, message: Message) -> None:
         if self.is_json:
-            self.write(json.dumps(message_json(message, self.sources)) + "\n")
+            self.write(json.dumps({**message_json(message, self.sources), "features": self.features or None}) + "\n")
         elif message.level in ("error", "warning"):
             self.write(rendered(message, self.sources, self.is_verbose) + "\n")
         else:
@@ -217,11 +228,14 @@ class Output:
     def in_a_line(self, message: Message) -> str:
         place = f" ({self.sources.shown(message.spans[0])}:{message.spans[0].place.line})" if message.spans else ""
         notes = "".join(f"; {child.text}" for child in message.children)
+        if message.waived:
+            return f"waived, {message.word}: {message.text}{place}{f' [{message.code}]' if message.code else ''}; {message.waived}"
         return f"{message.word or message.level}: {message.text}{place}{notes}"
 
     def summary(self, text: str, crate: str, answer: str, status: int, **more: Any) -> None:
         """The last word on a crate, or on all."""
         if self.is_json:
-            self.write(json.dumps({"$message_type": "summary", "message": text, "crate": crate or None, "answer": answer, "status": status, **more}) + "\n")
+            self.write(json.dumps({"$message_type": "summary", "message": text, "crate": crate or None, "answer": answer, "status": status, **more,
+                                   "features": self.features or None}) + "\n")
         else:
             self.write(text + "\n")

@@ -1,12 +1,12 @@
 """The translation: what the text needs, gathered until nothing is added, and the lines of each crate in both texts."""
 from __future__ import annotations
 
-import sys
 from dataclasses import dataclass, field
 from typing import TYPE_CHECKING, Iterable, Iterator, Optional
 
 from ..model.objects import is_object
 from ..model.world import STD_TEXTS, World, crate_name
+from ..read.console import console
 from ..read.headers import PRIMITIVES
 from ..read.html_docs import is_std_key
 from ..read.standard import FN_TRAITS, Header, Standard
@@ -88,7 +88,7 @@ class Translation:
 
     def say(self, text: str) -> None:
         if not self.quiet:
-            print(f"from-rustdoc: {text}", file=sys.stderr, flush=True)
+            console.note(text)
 
     # ---- what is needed
     def begin(self) -> None:
