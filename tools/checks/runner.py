@@ -22,7 +22,7 @@ from .common import Missing, Tally
 
 # By group, in the order of the gate: what needs no program, what tries the built programs, and what is run by hand.
 GROUPS = {
-    "sources": ["promises", "documents", "reading", "shape"],
+    "sources": ["promises", "documents", "reading", "shape", "packages"],
     "programs": [
         "examples", "slips", "explanations", "explained_words", "statuses", "options", "asking", "transcripts", "limits", "prefixes", "orders",
         "monotone", "hostile", "tests", "walks", "refused_growth", "rustdoc_cases", "survey_cases", "bindings", "driven",

@@ -11,23 +11,29 @@ import sys
 from dataclasses import replace
 from typing import TYPE_CHECKING, Any, Callable, Iterator, Optional
 
-from . import cargo
-from .answer import Answerer
-from .baseline import named
-from .build import Translation
-from .html_docs import Pages, json_folder
-from .kept import Damaged, KeptPages, KeptStandard, remove_stores
-from .messages import NO_ANSWER, Message, Output, Sources, worst
-from .program import binding, run
-from .proved import tool_sum
-from .questions import QuestionReader
-from .terms import BadInput, Lossy
-from .verdicts import Checked, answer_message, check_verdicts, say_answer, say_checks
-from .world import World
+from . import flags
+from .ask.answer import Answerer
+from .ask.program import binding, run
+from .ask.questions import QuestionReader
+from .ask.verdicts import Checked, answer_message, check_verdicts, say_answer, say_checks
+from .later.baseline import named
+from .later.bump import RELEASE_TYPES
+from .model.world import World
+from .read import cargo
+from .read.console import AUTO, COLOURS, console
+from .read.html_docs import Pages, json_folder
+from .read.kept import Damaged, KeptPages, KeptStandard, remove_stores
+from .read.proved import TOP, tool_sum
+from .read.terms import BadInput, Lossy
+from .report.messages import FINE, NO_ANSWER, Message, Output, Sources, worst
+from .report.outputs import FORMATS, HUMAN, Reporter, reporter_of
+from .write.build import Translation
 
 if TYPE_CHECKING:
-    from .report import Report
+    from .report.items import Report
 
+# The status of words that are not understood.
+WRONG_WORDS = 2
 USAGE = """from-rustdoc: a translator of crates to texts for this program, and of its answers back. It is not proved: docs/RUSTDOC.md.
 
   from-rustdoc PROJECT [-- CARGO'S FLAGS]                documents the folder's project and what it uses, and checks each crate
@@ -40,22 +46,16 @@ USAGE = """from-rustdoc: a translator of crates to texts for this program, and o
   from-rustdoc std -o FILE                               the part of std that people name, as a text to stand in front of others
 
 ask: --expect yes|no|maybe (another answer is status 1), --why (the proof too, where there is one).
-later: --strict (status 4 if something that changed is not judged), --private (private and sealed impls too), -p NAME (this library alone),
+later: --strict (status 4 if something that changed is not judged), --private (private and sealed impls too), -p NAME, --workspace, --exclude NAME
+(as cargo has them), --release-type major|minor|patch (in place of what the versions' numbers say),
 --no-build-scripts (refuses an older version that runs some, or procedural macros, of its own), --with CRATE.json (crates that both files use).
-All: --message-format human|json, --docs DIR (std's documents), --program FILE and --program-that-explains FILE (default: the proved ones
+All: --message-format human|short|json|github|sarif, --color auto|always|never, --docs DIR (std's documents), --program FILE and --program-that-explains FILE (default: the proved ones
 that are here), --metadata FILE (what `cargo metadata --format-version 1` printed; read and later), --all-std (read: all of std that is about
-the traits that are named), --jobs N (processes of a project's check), --quiet,
---verbose (what answers rest on, in the words of docs/RUSTDOC.md).
+the traits that are named), --jobs N (processes of a project's check), -q, --quiet,
+-v, --verbose (what answers rest on, in the words of docs/RUSTDOC.md).
 
 Status: 0 fine, 1 not coherent, breaking or not as expected, 4 not settled, changed or, with --strict, not judged, 3 no answer, 2 the words are not
 understood."""
-USAGE_OF_CARGO = """cargo celtisdarts: real crates, judged by Celtisdarts. It documents the project that stands here, and takes all flags of tools/from-rustdoc.
-
-  cargo celtisdarts later [--baseline REV|FOLDER] [-p NAME]    what breaks crates that use this library? (REV: the latest tag, if none is given)
-  cargo celtisdarts ask 'mine::Pool: Send' ..                  does the bound hold, and why not?
-  cargo celtisdarts check                                      is each crate coherent?
-
---manifest-path FILE names another project; behind `--` stand flags for cargo."""
 
 
 def new_world(docs: Optional[str]) -> World:
@@ -64,7 +64,7 @@ def new_world(docs: Optional[str]) -> World:
     std = json_folder(folder)
     if std:
         # (Imported here, as below what a question does not need: to load it takes long beside an answer.)
-        from .standard_json import JsonStandard
+        from .read.standard_json import JsonStandard
         return World(Pages(folder), JsonStandard(std))
     pages = KeptPages(folder)
     return World(pages, KeptStandard(pages))
@@ -99,8 +99,8 @@ def translated(world: World, arguments: argparse.Namespace) -> Translation:
 
 # ---- the commands
 def read(arguments: argparse.Namespace) -> int:
-    from .crate_check import texts_of
-    from .report import Report
+    from .report.items import Report
+    from .write.texts import texts_of
     links = links_of(arguments.metadata)
     world = world_of(arguments.json, arguments.docs, links)
     inputs = inputs_of(world, arguments.json, links)
@@ -114,7 +114,7 @@ def read(arguments: argparse.Namespace) -> int:
 
 
 def std(arguments: argparse.Namespace) -> int:
-    from .std_text import std_text
+    from .write.std_text import std_text
     world = new_world(arguments.docs)
     text = std_text(world)
     keep(world)
@@ -140,11 +140,10 @@ def world_again(known: dict[str, Any], arguments: argparse.Namespace) -> World:
 def warn(world: World) -> None:
     """Told once, where the crates are read."""
     for name in world.doubled:
-        print(f"from-rustdoc: warning: more than one version of {name} is used, and one is given: what others use of it is taken as unknown. "
-              "(Of a project, each version is read.)", file=sys.stderr, flush=True)
+        console.warn(f"more than one version of {name} is used, and one is given: what others use of it is taken as unknown. (Of a project, each version is read.)")
     for name, places in world.doc_cfgs.items():
-        print(f"from-rustdoc: warning: rustdoc sets `cfg(doc)`, on which items of {name} depend ({', '.join(places)}): what rests on them may be "
-              "there for rustdoc alone, or be hidden from it", file=sys.stderr, flush=True)
+        console.warn(f"rustdoc sets `cfg(doc)`, on which items of {name} depend ({', '.join(places)}): what rests on them may be there for rustdoc "
+                     "alone, or be hidden from it")
 
 
 def write_map(base: str, found: dict[str, Any]) -> None:
@@ -182,7 +181,8 @@ def kept(base: str) -> dict[str, Any]:
 def check(arguments: argparse.Namespace) -> int:
     known = kept(arguments.base)
     if "sums" not in known:
-        return check_project(arguments.base, known["inputs"], world_again(known, arguments), arguments)
+        world = world_again(known, arguments)
+        return check_project(arguments.base, known["inputs"], world, arguments, list(world.crates))
     answers = {}
     for mode in ("upper", "lower"):
         with open(f"{arguments.base}.{mode}.txt", encoding="utf-8") as handle:
@@ -199,7 +199,7 @@ def check(arguments: argparse.Namespace) -> int:
 def output_of(arguments: argparse.Namespace, inputs: dict[str, Any]) -> Output:
     """Standard output, with the sources that places name."""
     folders = [inputs["links"]["root"]] if inputs["links"]["root"] else [os.path.dirname(file) for file in inputs["json"]]
-    return Output(Sources({"": folders}), arguments.message_format == "json", is_verbose=arguments.verbose)
+    return reporter_of(arguments).output(Sources({"": folders}))
 
 
 def ask(arguments: argparse.Namespace) -> int:
@@ -210,20 +210,24 @@ def ask(arguments: argparse.Namespace) -> int:
 def answered(inputs: dict[str, Any], world: World, arguments: argparse.Namespace) -> int:
     """Each question by itself, so that one that is not understood spoils none."""
     reader, answerer, output = QuestionReader(world), Answerer(world, arguments.program), output_of(arguments, inputs)
+    output.features = getattr(arguments, "told_features", "")
+    if output.features:
+        output.line(f"with {output.features}:")
     statuses = []
-    for written in arguments.questions:
+    for written, expected in arguments.questions:
         try:
             for question in reader.read_all(written):
                 verdict = answerer.answer(question)
-                message = answer_message(verdict, arguments.expect, arguments.program_that_explains, arguments.why)
+                message = answer_message(verdict, expected or arguments.expect, arguments.program_that_explains, arguments.why)
                 say_answer(message, verdict, output)
                 statuses.append(message.status)
         except (BadInput, Lossy) as error:
             statuses.append(NO_ANSWER)
-            if output.is_json:
-                output.message(Message(f"no answer to `{written}`: {error}", "not-understood", "not understood"))
+            message = Message(f"no answer to `{written}`: {error}", "not-understood", "not understood")
+            if output.takes(message):
+                output.message(message)
             else:
-                print(f"from-rustdoc: no answer to `{written}`: {error}", file=sys.stderr, flush=True)
+                console.fail(message.text)
     keep(world)
     return worst(statuses)
 
@@ -240,7 +244,9 @@ def documents(folder: str, extra: list[str], arguments: argparse.Namespace) -> t
     crates = found.closure(found.members)
     if not crates:
         raise BadInput(f"{folder} has no library that is documented: a project of programs or procedural macros alone has nothing to read")
-    base, files = os.path.join(found.folder, crates[0]), [found.files[c] for c in crates]
+    # (Of several sets of features each has its own.)
+    told = getattr(arguments, "told_features", "")
+    base, files = os.path.join(found.folder, crates[0] + (f"-{hashlib.sha256(told.encode()).hexdigest()[:8]}" if told else "")), [found.files[c] for c in crates]
     known = {"documents": cargo.states(files), "made_by": made_by(found, files, arguments.docs)}
     with contextlib.suppress(OSError, ValueError):
         before = map_of(base)
@@ -265,14 +271,16 @@ def project(folder: str, extra: list[str], arguments: argparse.Namespace) -> int
     """Checks a project, of which cargo documents first what has changed."""
     base, inputs, world = documents(folder, extra, arguments)
     output_of(arguments, inputs).line(f"what `from-rustdoc ask {base} ..` needs is written: {base}.map")
-    return check_project(base, inputs, world, arguments)
+    return check_project(base, inputs, world, arguments, list(world.crates))
 
 
-def check_project(base: str, inputs: dict[str, Any], world: World, arguments: argparse.Namespace) -> int:
-    """Judges each crate by a text of what its check looks at, so that no text grows with the project."""
+def check_project(base: str, inputs: dict[str, Any], world: World, arguments: argparse.Namespace, names: list[str]) -> int:
+    """Judges each of these crates by a text of what its check looks at, so that no text grows with the project."""
     output = output_of(arguments, inputs)
+    output.features = getattr(arguments, "told_features", "")
     statuses, reports, missing = [], [], set()
-    for checks, report, not_given in checked(world, arguments):
+    for number, (checks, report, not_given) in enumerate(checked(world, arguments, names), 1):
+        console.progress(f"judged {number} of {len(names)}: {names[number - 1]}")
         statuses.append(say_checks(checks, output))
         reports += report
         missing |= not_given
@@ -288,11 +296,11 @@ Judged = tuple[list[Checked], list[str], set[str]]
 SHARED: list[tuple[World, argparse.Namespace]] = []
 
 
-def checked(world: World, arguments: argparse.Namespace) -> Iterator[Judged]:
+def checked(world: World, arguments: argparse.Namespace, names: list[str]) -> Iterator[Judged]:
     """The crates' checks, by as many processes as are asked for, in the order of the crates."""
     SHARED[:] = [(world, arguments)]
-    if arguments.jobs == 1 or len(world.crates) == 1:
-        yield from map(check_shared, world.crates)
+    if arguments.jobs == 1 or len(names) == 1:
+        yield from map(check_shared, names)
         return
     import multiprocessing
     from concurrent.futures import ProcessPoolExecutor
@@ -301,11 +309,11 @@ def checked(world: World, arguments: argparse.Namespace) -> Iterator[Judged]:
         binding()
     reopen = getattr(getattr(world.pages, "store", None), "reopen", None)
     with ProcessPoolExecutor(arguments.jobs, multiprocessing.get_context("fork"), reopen) as pool:
-        yield from pool.map(check_shared, world.crates)
+        yield from pool.map(check_shared, names)
 
 
 def check_shared(name: str) -> Judged:
-    from .crate_check import check_crate
+    from .ask.crate_check import check_crate
     world, arguments = SHARED[0]
     return (*check_crate(world, name, arguments.program), set(world.missing))
 
@@ -317,9 +325,10 @@ def parser(prog: str = "from-rustdoc") -> argparse.ArgumentParser:
     common.add_argument("--docs")
     common.add_argument("--program")
     common.add_argument("--program-that-explains")
-    common.add_argument("--quiet", action="store_true")
-    common.add_argument("--verbose", action="store_true")
-    common.add_argument("--message-format", choices=("human", "json"), default="human")
+    common.add_argument("-q", "--quiet", action="store_true")
+    common.add_argument("-v", "--verbose", action="store_true")
+    common.add_argument("--color", choices=COLOURS, default=AUTO)
+    common.add_argument("--message-format", choices=FORMATS, default=HUMAN)
     common.add_argument("--jobs", type=int, default=os.cpu_count() or 1)
     top = argparse.ArgumentParser(prog=prog, usage=USAGE, add_help=True, allow_abbrev=False)
     commands = top.add_subparsers(dest="command", required=True)
@@ -344,7 +353,10 @@ def parser(prog: str = "from-rustdoc") -> argparse.ArgumentParser:
     four.add_argument("--baseline", type=named)
     four.add_argument("--no-build-scripts", action="store_true")
     four.set_defaults(of_project=False)
+    four.add_argument("--release-type", choices=RELEASE_TYPES)
     four.add_argument("-p", "--package", action="append", default=[])
+    four.add_argument("--workspace", action="store_true")
+    four.add_argument("--exclude", action="append", default=[])
     four.add_argument("files", nargs="*")
     five = commands.add_parser("project", parents=[common], usage=USAGE, allow_abbrev=False)
     five.add_argument("folder")
@@ -360,13 +372,14 @@ def run_command(arguments: argparse.Namespace, extra: list[str]) -> int:
     if arguments.command == "project":
         return project(arguments.folder, extra, arguments)
     if arguments.command == "later":
-        from .later_command import later
+        from .later.command import later
         return later(arguments, extra, world_of, links_of(arguments.metadata))
     if arguments.command == "ask":
         if arguments.project is None:
-            arguments.base, *arguments.questions = arguments.words
+            arguments.base, *words = arguments.words
+            arguments.questions = [(word, None) for word in words]
             return ask(arguments)
-        arguments.questions = arguments.words
+        arguments.questions = [(word, None) for word in arguments.words]
         return ask_project(arguments, extra)
     return {"read": read, "check": check, "std": std}[arguments.command](arguments)
 
@@ -375,44 +388,75 @@ def main(words: list[str]) -> int:
     words, extra = divided(words)
     if words and words[0] not in ("read", "check", "ask", "later", "std", "project") and os.path.isdir(words[0]):
         words = ["project", *words]
-    return guarded("from-rustdoc", lambda: run_command(parser().parse_args(words), extra), wants_json(words))
+    console.begin("from-rustdoc", is_quiet="--quiet" in words or "-q" in words)
+
+    def run_it(reporter: Reporter) -> int:
+        arguments = parser().parse_args(words)
+        begin(arguments, reporter)
+        return run_command(arguments, extra)
+    return guarded(run_it, Reporter(format_of(words)))
 
 
-def wants_json(words: list[str]) -> bool:
-    """Whether messages are JSON, by the words alone: so that what goes wrong anywhere has a line."""
-    return "--message-format=json" in words or ("--message-format", "json") in zip(words, words[1:])
+def begin(arguments: argparse.Namespace, reporter: Reporter) -> None:
+    reporter.color, reporter.is_verbose = arguments.color, arguments.verbose
+    arguments.reporter = reporter
+    console.begin(console.name, arguments.color, arguments.quiet)
+
+
+def format_of(words: list[str]) -> str:
+    """The form of messages, by the words alone: so that what goes wrong anywhere has a line."""
+    found = [word.partition("=")[2] for word in words if word.startswith("--message-format=")]
+    found += [value for word, value in zip(words, words[1:]) if word == "--message-format"]
+    return found[0] if found and found[0] in FORMATS else HUMAN
 
 
 def main_of_cargo(words: list[str]) -> int:
-    """`cargo celtisdarts check|ask|later`, in the project that stands here or that `--manifest-path` names."""
+    """`cargo celtisdarts`, in the project of this folder or of one above, or in that which `--manifest-path` names."""
     words, extra = divided(words[1:] if words[:1] == ["celtisdarts"] else words)
-    # (`--flag=value` as `--flag value`.)
-    words = [part for word in words for part in (word.split("=", 1) if word.startswith("--manifest-path=") else [word])]
-    folder = "."
-    if "--manifest-path" in words[:-1]:
-        at = words.index("--manifest-path")
-        folder = os.path.dirname(words[at + 1]) or "."
-        words = words[:at] + words[at + 2:]
-    if not words or words[0] not in ("check", "ask", "later"):
-        print(USAGE_OF_CARGO, file=sys.stderr if words[:1] != ["--help"] else sys.stdout)
-        return 0 if words[:1] == ["--help"] else 2
-    return guarded("cargo celtisdarts", lambda: run_in_project(words, folder, extra), wants_json(words))
+    console.begin(flags.CALLED, is_quiet="--quiet" in words or "-q" in words)
+    return guarded(lambda reporter: run_for_cargo(words, extra, reporter), Reporter(format_of(words)))
 
 
-def run_in_project(words: list[str], folder: str, extra: list[str]) -> int:
-    """The command for the words behind `cargo celtisdarts`."""
-    before = {"check": ["project", folder], "ask": ["ask", "--project", folder], "later": ["later"]}[words[0]]
-    arguments = parser("cargo celtisdarts").parse_args([*before, *words[1:]])
-    if arguments.command == "later":
-        arguments.of_project, arguments.files = True, [folder, *arguments.files]
-    return run_command(arguments, extra)
+def run_for_cargo(words: list[str], extra: list[str], reporter: Reporter) -> int:
+    if words[:1] == ["help"]:
+        words = [*words[1:], "--help"]
+    command, words = flags.command_of(words)
+    if command is None:
+        return say_help(words)
+    arguments = flags.read(command, words)
+    begin(arguments, reporter)
+    if arguments.h or arguments.help:
+        print(flags.short_help(command) if arguments.h else flags.long_help(command), end="")
+        return FINE
+    # (Imported here, since it stands on this module.)
+    from .subcommands import run
+    return run(command.name, arguments, [*arguments.extra, *extra])
 
 
-def guarded(name: str, run_it: Callable[[], int], is_json: bool = False) -> int:
+def say_help(words: list[str]) -> int:
+    """Where no command is named."""
+    if not words:
+        print(flags.short_help(), end="", file=sys.stderr)
+        return WRONG_WORDS
+    print(f"cargo-celtisdarts {version()}" if words[0] in ("-V", "--version") else flags.short_help().rstrip() if words[0] == "-h" else flags.long_help().rstrip())
+    return FINE
+
+
+def version() -> str:
+    """As the program has it: the commit of the sources."""
+    said = cargo.command([os.path.join(TOP, "celtisdarts"), "--version"], ".").splitlines()
+    return said[0].partition(" ")[2] if said else ""
+
+
+def guarded(run_it: Callable[[Reporter], int], reporter: Reporter) -> int:
     """The command's status. Whatever goes wrong ends with a line and the status of no answer, so that none is taken for an answer."""
     sys.setrecursionlimit(20000)
+    status = NO_ANSWER
     try:
-        return run_it()
+        status = run_it(reporter)
+        complaint = ""
+    except flags.WrongWords as error:
+        complaint, status = str(error), WRONG_WORDS
     except (Damaged, sqlite3.DatabaseError) as error:
         complaint = f"what was kept of std is damaged ({error}); it is removed, and made anew by the next call"
         remove_stores()
@@ -424,6 +468,7 @@ def guarded(name: str, run_it: Callable[[], int], is_json: bool = False) -> int:
     except OSError as error:
         complaint = f"{error.filename or 'a file'}: {error.strerror or error}"
     except KeyboardInterrupt:
+        console.clear()
         return 130
     except Exception as error:
         if os.environ.get("FROM_RUSTDOC_TRACE"):
@@ -431,7 +476,10 @@ def guarded(name: str, run_it: Callable[[], int], is_json: bool = False) -> int:
         import traceback
         last = traceback.extract_tb(error.__traceback__)[-1]
         complaint = f"a mistake of the translator: {type(error).__name__}: {' '.join(str(error).split())} ({os.path.basename(last.filename)}:{last.lineno})"
-    print(f"{name}: {complaint}", file=sys.stderr)
-    if is_json:
-        Output(is_json=True).message(Message(complaint, "no-answer", "no answer"))
-    return NO_ANSWER
+    if complaint:
+        reporter.fail(complaint)
+    reporter.end(status)
+    console.clear()
+    if complaint:
+        console.fail(complaint)
+    return status

@@ -6,7 +6,7 @@ import os
 import sys
 from typing import Callable
 
-from from_rustdoc.terms import BadInput
+from from_rustdoc.read.terms import BadInput
 
 from . import database, figures, registry, results, steps
 from .registry import Package

@@ -7,7 +7,7 @@ import subprocess
 from dataclasses import dataclass, field
 from typing import Any, Callable
 
-from from_rustdoc.terms import BadInput
+from from_rustdoc.read.terms import BadInput
 
 from .generate import Asked
 

@@ -6,7 +6,7 @@ import os
 import sqlite3
 from typing import Any, Iterator
 
-from from_rustdoc.terms import BadInput
+from from_rustdoc.read.terms import BadInput
 
 from . import results
 from .registry import Package

@@ -6,7 +6,7 @@ import re
 from dataclasses import dataclass
 from typing import Iterable, Optional
 
-from from_rustdoc.terms import BadInput
+from from_rustdoc.read.terms import BadInput
 
 
 @dataclass(frozen=True)

@@ -8,7 +8,7 @@ import time
 from dataclasses import dataclass, field
 from typing import Any, Callable, Iterator
 
-from from_rustdoc.terms import BadInput, Lossy
+from from_rustdoc.read.terms import BadInput, Lossy
 
 Line = dict[str, Any]
 DONE, FAILED, SKIPPED = "done", "failed", "skipped"

@@ -14,9 +14,9 @@ from collections import Counter
 from dataclasses import asdict, dataclass
 from typing import Any, Iterator, Optional
 
-from from_rustdoc.cargo import TAKEN, Links, Project
-from from_rustdoc.terms import BadInput
-from from_rustdoc.unit import copied
+from from_rustdoc.read.cargo import TAKEN, Links, Project
+from from_rustdoc.read.terms import BadInput
+from from_rustdoc.read.unit import copied
 
 from . import compare, results, translator
 from .compiler import OPEN, REJECTED, Compiler, Held

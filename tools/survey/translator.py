@@ -10,12 +10,13 @@ import sys
 from dataclasses import dataclass, field
 from typing import Any, Optional, Sequence
 
-from from_rustdoc import cargo, command
-from from_rustdoc.cargo import Links, Project
-from from_rustdoc.crate_check import check_crate
-from from_rustdoc.proved import TOP
-from from_rustdoc.terms import BadInput
-from from_rustdoc.world import World
+from from_rustdoc import command
+from from_rustdoc.ask.crate_check import check_crate
+from from_rustdoc.model.world import World
+from from_rustdoc.read import cargo
+from from_rustdoc.read.cargo import Links, Project
+from from_rustdoc.read.proved import TOP
+from from_rustdoc.read.terms import BadInput
 
 from .generate import Asked
 

@@ -5,10 +5,10 @@ import functools
 import os
 import sys
 
-from ..build import Translation
-from ..html_docs import Pages
-from ..proved import proved_program
-from ..world import World
+from ..model.world import World
+from ..read.html_docs import Pages
+from ..read.proved import proved_program
+from ..write.build import Translation
 
 HERE = os.path.dirname(os.path.abspath(__file__))
 PROGRAM = os.environ.get("FROM_RUSTDOC_PROGRAM")

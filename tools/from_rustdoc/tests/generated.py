@@ -8,12 +8,12 @@ import subprocess
 from dataclasses import dataclass
 from typing import Any, Callable, Optional
 
-from ..html_docs import Pages
-from ..questions import Question
-from ..rustdoc_json import JsonCrate, kind_and_body
-from ..show import Show
-from ..terms import Array, Bound, Declaration, Function, Lossy, Named, Param, Parameter, Pointer, Predicate, Primitive, Reference, Slice, Tuple, Type
-from ..world import World
+from ..ask.questions import Question
+from ..model.show import Show
+from ..model.world import World
+from ..read.html_docs import Pages
+from ..read.rustdoc_json import JsonCrate, kind_and_body
+from ..read.terms import Array, Bound, Declaration, Function, Lossy, Named, Param, Parameter, Pointer, Predicate, Primitive, Reference, Slice, Tuple, Type
 
 TRAITS = {"Clone": "core/clone/trait.Clone.html", "Copy": "core/marker/trait.Copy.html", "Default": "core/default/trait.Default.html",
           "Debug": "core/fmt/trait.Debug.html", "Send": "core/marker/trait.Send.html", "Sync": "core/marker/trait.Sync.html",

@@ -17,12 +17,12 @@ from typing import Any
 HERE = os.path.dirname(os.path.abspath(__file__))
 sys.path.insert(0, os.path.dirname(os.path.dirname(HERE)))
 
-from from_rustdoc.build import AUTO_TRAITS  # noqa: E402
-from from_rustdoc.cargo import FLAGS, docs_folder  # noqa: E402
-from from_rustdoc.constant_changes import FREEZE  # noqa: E402
-from from_rustdoc.html_docs import Pages  # noqa: E402
-from from_rustdoc.standard import COMPUTED  # noqa: E402
+from from_rustdoc.later.constant_changes import FREEZE  # noqa: E402
+from from_rustdoc.read.cargo import FLAGS, docs_folder  # noqa: E402
+from from_rustdoc.read.html_docs import Pages  # noqa: E402
+from from_rustdoc.read.standard import COMPUTED  # noqa: E402
 from from_rustdoc.tests.pairs import all_pairs, library, rustdoc  # noqa: E402
+from from_rustdoc.write.build import AUTO_TRAITS  # noqa: E402
 
 # Each with the crates that it uses.
 CRATES: dict[str, list[str]] = {"shapes": [], "before": [], "after": [], "ab": [], "user": ["ab"], "deep": ["ab"], "reasons": [],

@@ -7,7 +7,7 @@ import re
 import subprocess
 from dataclasses import dataclass, field
 
-from ..messages import Message
+from ..report.messages import Message
 
 HERE = os.path.dirname(os.path.abspath(__file__))
 LIBRARY = "pairs"

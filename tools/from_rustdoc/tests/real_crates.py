@@ -14,18 +14,18 @@ import unittest
 from collections import Counter
 from typing import Optional
 
-from ..build import Translation
-from ..cargo import Project, docs_folder, document
-from ..checker import check_texts
-from ..html_docs import Pages
-from ..program import run
-from ..proved import proved_program
-from ..questions import Asker
-from ..messages import Sources, rendered
-from ..report import Report
-from ..terms import BadInput
-from ..verdicts import refusal
-from ..world import World
+from ..ask.program import run
+from ..ask.questions import Asker
+from ..ask.verdicts import refusal
+from ..model.world import World
+from ..read.cargo import Project, docs_folder, document
+from ..read.html_docs import Pages
+from ..read.proved import proved_program
+from ..read.terms import BadInput
+from ..report.items import Report
+from ..report.messages import Sources, rendered
+from ..write.build import Translation
+from ..write.checker import check_texts
 from .generated import compiled, questions
 
 REGISTRY = "/usr/share/cargo/registry"

@@ -18,15 +18,15 @@ from collections import Counter
 from itertools import product
 from typing import Iterator, Optional
 
-from ..cargo import Project, docs_folder, document
-from ..kept import KeptPages, KeptStandard
-from ..claims import Programs
-from ..later import compared
-from ..messages import Message
-from ..proved import proved_program
-from ..show import Show
-from ..terms import BadInput, Bound, Impl, Lossy, Parameter, Place, Type, put, put_bound
-from ..world import World
+from ..later.claims import Programs
+from ..later.release import compared
+from ..model.show import Show
+from ..model.world import World
+from ..read.cargo import Project, docs_folder, document
+from ..read.kept import KeptPages, KeptStandard
+from ..read.proved import proved_program
+from ..read.terms import BadInput, Bound, Impl, Lossy, Parameter, Place, Type, put, put_bound
+from ..report.messages import Message
 from .pairs import written_out
 from .real_crates import REGISTRY
 

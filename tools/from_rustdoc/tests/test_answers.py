@@ -11,15 +11,15 @@ import time
 import unittest
 from unittest import mock
 
-from ..answer import Answerer
-from ..back import Back
+from ..ask.answer import Answerer
+from ..ask.back import Back
+from ..ask.cone import TooLarge, cone_of_questions
+from ..ask.questions import QuestionReader
+from ..ask.verdicts import answer_message
 from ..command import main
-from ..cone import TooLarge, cone_of_questions
-from ..messages import Output
-from ..proved import proved_program
-from ..questions import QuestionReader
-from ..terms import BadInput
-from ..verdicts import answer_message
+from ..read.proved import proved_program
+from ..read.terms import BadInput
+from ..report.messages import Output
 from .common import kept, world
 
 WIDE = "ab::Wide<" + "u8, " * 16
@@ -147,7 +147,7 @@ class Answers(unittest.TestCase):
         for written, wanted in VARIABLES.items():
             verdict = self.answerer.answer(self.reader.read(written))
             self.assertEqual((verdict.word, verdict.values), wanted, verdict.show())
-        with mock.patch("from_rustdoc.cone.MOST_OPEN", 5), self.assertRaisesRegex(TooLarge, "write more of the types"):
+        with mock.patch("from_rustdoc.ask.cone.MOST_OPEN", 5), self.assertRaisesRegex(TooLarge, "write more of the types"):
             cone_of_questions(self.reader.world, [self.reader.read("Option<?x>: From<?y>")])
         self.assertLess(time.process_time() - before, 20.0)
 
@@ -155,7 +155,7 @@ class Answers(unittest.TestCase):
         """The same by all that an unknown type may lead to."""
         for written in (*VARIABLES, "ab::Fixed<?x>: ab::Ta", "ab::Held<?x>: Send", "user::Mine<?x>: Clone", "user::Mine<?x>: ab::Ta", "ab::Pred<?x>: ab::Ta"):
             verdict = self.answerer.by_part(self.reader.read(written))
-            with mock.patch("from_rustdoc.cone.free_variables", return_value=frozenset()):
+            with mock.patch("from_rustdoc.ask.cone.free_variables", return_value=frozenset()):
                 whole = self.answerer.by_part(self.reader.read(written))
             self.assertEqual((verdict.word, verdict.values), (whole.word, whole.values), written)
         free = [cone_of_questions(self.reader.world, [self.reader.read(written)]).cone.free for written in ("Vec<?x>: Clone", "Box<?x>: ab::Ta", "Vec<?x>: PartialEq<?x>")]

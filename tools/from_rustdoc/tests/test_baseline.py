@@ -7,8 +7,8 @@ import subprocess
 import tempfile
 import unittest
 
-from ..cargo import docs_folder
-from ..terms import BadInput
+from ..read.cargo import docs_folder
+from ..read.terms import BadInput
 from .common import HERE, WHY_NO_PROGRAM
 
 TOOLS = os.path.dirname(os.path.dirname(HERE))

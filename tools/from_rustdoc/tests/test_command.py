@@ -11,8 +11,8 @@ from typing import Any
 from unittest import mock
 
 from .. import command
-from ..messages import Message, Output, Sources, Span, rendered, span_json, worst
-from ..terms import Place
+from ..read.terms import Place
+from ..report.messages import Message, Output, Sources, Span, rendered, span_json, worst
 from .common import PROGRAM, WHY_NO_PROGRAM, kept
 
 # rustc's keys, of `rustc --error-format json`.

@@ -7,14 +7,14 @@ import unittest
 from typing import Callable, Iterator
 from unittest import mock
 
-from ..build import Translation
-from ..cone import Chosen, cone_of_crate, cone_of_questions
-from ..kept import Damaged, KeptPages, KeptStandard, packed, unpacked
-from ..questions import Question, QuestionReader, QuestionWriter
-from ..reach import BY_PARTS, Reacher
-from ..terms import UNIT, Array, Bound, Declaration, Named, Param, Parameter, Predicate, Type, Unknown
-from ..text_form import read_text
-from ..world import World
+from ..ask.cone import Chosen, cone_of_crate, cone_of_questions
+from ..ask.questions import Question, QuestionReader, QuestionWriter
+from ..ask.reach import BY_PARTS, Reacher
+from ..model.world import World
+from ..read.kept import Damaged, KeptPages, KeptStandard, packed, unpacked
+from ..read.terms import UNIT, Array, Bound, Declaration, Named, Param, Parameter, Predicate, Type, Unknown
+from ..write.build import Translation
+from ..write.text_form import read_text
 from .common import kept, texts, world
 from .generated import TRAITS
 
@@ -138,7 +138,7 @@ class Kept(unittest.TestCase):
         plain = Translation(world("shapes"))
         plain.build()
         self.assertEqual(self.read()[1], texts(plain))
-        with mock.patch("from_rustdoc.kept.JsonCrate", side_effect=AssertionError("read anew")):
+        with mock.patch("from_rustdoc.read.kept.JsonCrate", side_effect=AssertionError("read anew")):
             self.assertEqual(self.read()[1], texts(plain))
 
     def test_what_is_damaged_is_made_anew(self) -> None:
@@ -160,7 +160,7 @@ class Kept(unittest.TestCase):
         def put(text: str, age: float) -> str:
             with open(file, "w", encoding="utf-8") as handle:
                 handle.write(text)
-            with mock.patch("from_rustdoc.kept.time.time", return_value=os.stat(file).st_ctime + age):
+            with mock.patch("from_rustdoc.read.kept.time.time", return_value=os.stat(file).st_ctime + age):
                 return store.sum_of(file)
 
         sums = [put("one", 9.0), put("two", 9.0), put("one", 0.1)]
@@ -174,8 +174,8 @@ class Kept(unittest.TestCase):
 
     def test_another_version_reads_anew(self) -> None:
         self.read()
-        with mock.patch("from_rustdoc.kept.tool_sum", return_value="another"):
-            with mock.patch("from_rustdoc.kept.JsonCrate", side_effect=AssertionError("read anew")):
+        with mock.patch("from_rustdoc.read.kept.tool_sum", return_value="another"):
+            with mock.patch("from_rustdoc.read.kept.JsonCrate", side_effect=AssertionError("read anew")):
                 self.assertRaises(AssertionError, self.read)
 
     def test_nothing_but_terms_is_loaded(self) -> None:

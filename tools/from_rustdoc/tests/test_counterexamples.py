@@ -7,7 +7,7 @@ from __future__ import annotations
 
 import unittest
 
-from ..checker import check_texts
+from ..write.checker import check_texts
 from .common import crate_part, texts, translation
 
 

@@ -10,10 +10,10 @@ import tempfile
 import unittest
 from typing import Any, Callable
 
-from ..rustdoc_json import JsonCrate
-from ..surface import surface_of
-from ..terms import BadInput, Declaration, Impl
-from ..world import World
+from ..model.surface import surface_of
+from ..model.world import World
+from ..read.rustdoc_json import JsonCrate
+from ..read.terms import BadInput, Declaration, Impl
 from .common import kept, pages
 
 

@@ -12,12 +12,12 @@ import unittest
 from collections import Counter
 from typing import Any, Callable
 
-from ..claims import Programs
-from ..later import Release, compared
-from ..later_command import told as say
-from ..messages import Message, Output
-from ..show import Show
-from ..world import World
+from ..later.claims import Programs
+from ..later.command import told as say
+from ..later.release import Release, compared
+from ..model.show import Show
+from ..model.world import World
+from ..report.messages import Message, Output
 from .common import PROGRAM, WHY_NO_PROGRAM, kept, pages, world
 from .pairs import Compiler, Pair, all_pairs, pairs_of, written_out
 

@@ -12,11 +12,12 @@ import unittest
 from typing import Any
 from unittest import mock
 
-from .. import library, program, proved
-from ..program import ask, run
-from ..proved import LIBRARY, TOP, proved_program
-from ..questions import Asker, QuestionReader
-from ..terms import BadInput
+from ..ask import library, program
+from ..ask.program import ask, run
+from ..ask.questions import Asker, QuestionReader
+from ..read import proved
+from ..read.proved import LIBRARY, TOP, proved_program
+from ..read.terms import BadInput
 from .common import texts, translation, world
 
 PROGRAM = proved_program()

@@ -4,13 +4,13 @@ from __future__ import annotations
 import io
 import unittest
 
-from ..answer import Answerer
-from ..messages import Output, plain
-from ..proved import proved_program
-from ..questions import QuestionReader
-from ..terms import BadInput
-from ..verdicts import answer_message, say_answer
-from ..world import World
+from ..ask.answer import Answerer
+from ..ask.questions import QuestionReader
+from ..ask.verdicts import answer_message, say_answer
+from ..model.world import World
+from ..read.proved import proved_program
+from ..read.terms import BadInput
+from ..report.messages import Output, plain
 from .common import world
 
 # What is wrong with each, of the crates `ab` and `deep`.

@@ -5,11 +5,11 @@ import os
 import unittest
 from unittest import mock
 
-from ..cargo import Links, docs_folder
-from ..html_docs import LINKED, Pages
-from ..names import PRELUDES, Names, paths_of, prelude
-from ..questions import QuestionReader
-from ..terms import BadInput
+from ..ask.names import PRELUDES, Names, paths_of, prelude
+from ..ask.questions import QuestionReader
+from ..read.cargo import Links, docs_folder
+from ..read.html_docs import LINKED, Pages
+from ..read.terms import BadInput
 from .common import world
 
 OF_STD = {"Option": "std:src/core/option.rs", "Box": "std:src/alloc/boxed.rs", "Rc": "std:src/alloc/rc.rs", "alloc::rc::Rc": "std:src/alloc/rc.rs"}

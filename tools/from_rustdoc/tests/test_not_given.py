@@ -7,8 +7,8 @@ import tempfile
 import unittest
 from typing import Any
 
-from ..later import Release, compared
-from ..world import World
+from ..later.release import Release, compared
+from ..model.world import World
 from .common import kept, pages
 
 

@@ -11,9 +11,9 @@ import unittest
 from typing import Any
 from unittest import mock
 
-from ..baseline import Older, Run, by_default, check_out, older, only_older, run_by, told_of
 from ..command import main, main_of_cargo
-from ..terms import BadInput
+from ..later.baseline import Older, Run, by_default, check_out, older, only_older, run_by, told_of
+from ..read.terms import BadInput
 from .common import WHY_NO_PROGRAM, kept
 
 NAMED = {"GIT_AUTHOR_NAME": "n", "GIT_AUTHOR_EMAIL": "e@example.org", "GIT_COMMITTER_NAME": "n", "GIT_COMMITTER_EMAIL": "e@example.org",

@@ -15,14 +15,14 @@ from typing import Any
 from unittest import mock
 
 from .. import command
-from ..cargo import HERE, Project, Unit, align, chosen, configured, docs_folder, is_no_work, pinned, project_of, read_metadata, units_of
 from ..command import main
-from ..doc_cfg import lines
-from ..proved import proved_program
-from ..rustdoc_json import external_name
-from ..terms import BadInput, keys_of
-from ..unit import Depends, add_depends, is_documented, read_depends, words_of_rustdoc
-from ..world import World
+from ..model.world import World
+from ..read.cargo import HERE, Project, Unit, align, chosen, configured, docs_folder, is_no_work, pinned, project_of, read_metadata, units_of
+from ..read.doc_cfg import lines
+from ..read.proved import proved_program
+from ..read.rustdoc_json import external_name
+from ..read.terms import BadInput, keys_of
+from ..read.unit import Depends, add_depends, is_documented, read_depends, words_of_rustdoc
 from .common import kept, pages
 
 

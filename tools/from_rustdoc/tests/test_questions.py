@@ -4,14 +4,14 @@ from __future__ import annotations
 import unittest
 from unittest import mock
 
-from ..back import Back
-from ..build import Translation
-from ..cone import cone_of_questions
-from ..program import Answer, read_answer
-from ..proved import proved_program
-from ..questions import Asker, Question, QuestionReader, QuestionWriter, Verdict
-from ..terms import BadInput, Lossy
-from ..text_form import read_text
+from ..ask.back import Back
+from ..ask.cone import cone_of_questions
+from ..ask.program import Answer, read_answer
+from ..ask.questions import Asker, Question, QuestionReader, QuestionWriter, Verdict
+from ..read.proved import proved_program
+from ..read.terms import BadInput, Lossy
+from ..write.build import Translation
+from ..write.text_form import read_text
 from .common import texts, world
 
 

@@ -6,12 +6,12 @@ import os
 import tempfile
 import unittest
 
-from ..headers import Named_, NotUnderstood, Reader
-from ..html_docs import Pages, json_folder, with_patterns
-from ..rustdoc_json import JsonCrate
-from ..standard import Standard
-from ..standard_json import JsonStandard
-from ..terms import (Array, BadInput, Bound, Dyn, Function, Impl, Named, Parameter, Pointer, Primitive, Projection, Reference, Tuple, UNIT, Unknown)
+from ..read.headers import Named_, NotUnderstood, Reader
+from ..read.html_docs import Pages, json_folder, with_patterns
+from ..read.rustdoc_json import JsonCrate
+from ..read.standard import Standard
+from ..read.standard_json import JsonStandard
+from ..read.terms import Array, BadInput, Bound, Dyn, Function, Impl, Named, Parameter, Pointer, Primitive, Projection, Reference, Tuple, UNIT, Unknown
 from .common import kept
 
 ITEMS = {"Vec": "struct", "Clone": "trait", "Iterator": "trait", "Send": "trait"}
@@ -118,7 +118,7 @@ class StdPages(unittest.TestCase):
         key = self.standard.pages.key(page) or ""
         impl = self.standard.impl("impl&lt;T&gt; X for T", page, "", "alloc")
         impl.trait = Bound("std:src/core/iter/traits/collect.rs.html#1@trait.IntoIterator")
-        from ..terms import Slice
+        from ..read.terms import Slice
         impl.self_type = Reference(False, Named(key, (Slice(Parameter("T")), Parameter("A"))))
         self.standard.narrow(impl)
         self.assertTrue(impl.narrowed)

@@ -5,11 +5,11 @@ from __future__ import annotations
 import unittest
 from typing import Optional
 
-from ..answer import Answerer
-from ..proved import proved_program
-from ..questions import QuestionReader
-from ..reasons import why
-from ..world import World
+from ..ask.answer import Answerer
+from ..ask.questions import QuestionReader
+from ..ask.reasons import why
+from ..model.world import World
+from ..read.proved import proved_program
 from .common import PROGRAM, world
 
 NO_PROGRAM = "" if proved_program("celtisdarts_explain") else "there is no proved program that explains"

@@ -5,16 +5,16 @@ import os
 import unittest
 from unittest import mock
 
-from .. import split, std_text
-from ..build import Translation
-from ..checker import check_texts
-from ..messages import Sources, rendered
-from ..program import run
-from ..proved import proved_program
-from ..report import Report
-from ..terms import BadInput
-from ..verdicts import refusal
-from ..world import World
+from ..ask.program import run
+from ..ask.verdicts import refusal
+from ..model.world import World
+from ..read.proved import proved_program
+from ..read.terms import BadInput
+from ..report.items import Report
+from ..report.messages import Sources, rendered
+from ..write import split, std_text
+from ..write.build import Translation
+from ..write.checker import check_texts
 from .common import HERE, crate_part, pages, texts, translation, world
 
 

@@ -19,9 +19,9 @@ import unittest
 from collections import Counter
 from typing import Any, Optional
 
-from from_rustdoc.cargo import docs_folder
-from from_rustdoc.proved import TOP
-from from_rustdoc.terms import BadInput
+from from_rustdoc.read.cargo import docs_folder
+from from_rustdoc.read.proved import TOP
+from from_rustdoc.read.terms import BadInput
 
 from .. import registry, results, steps
 from ..compare import COUNTED, NOT_READ, NOT_SETTLED, WRONG

@@ -5,7 +5,7 @@ import json
 import unittest
 from typing import Any
 
-from from_rustdoc.terms import BadInput
+from from_rustdoc.read.terms import BadInput
 
 from ..compare import compared, foundation
 from ..compiler import FAILS, HEAD, HOLDS, LIFETIMES, OPEN, REJECTED, Held, settle

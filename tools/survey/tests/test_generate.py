@@ -5,7 +5,7 @@ import os
 import unittest
 from typing import Any
 
-from from_rustdoc.proved import TOP
+from from_rustdoc.read.proved import TOP
 
 from ..documents import Crate, std_path
 from ..generate import Asked, Generator

@@ -12,9 +12,9 @@ from collections import Counter
 from typing import Any
 from unittest import mock
 
-from from_rustdoc.cargo import Project
-from from_rustdoc.proved import TOP, proved_program
-from from_rustdoc.terms import BadInput
+from from_rustdoc.read.cargo import Project
+from from_rustdoc.read.proved import TOP, proved_program
+from from_rustdoc.read.terms import BadInput
 from from_rustdoc.tests.common import kept, world
 
 from .. import database, figures, registry, results, steps, translator
