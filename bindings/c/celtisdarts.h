@@ -46,7 +46,7 @@ enum {
     CELTISDARTS_TOO_SHORT = 5,     /* the buffer is too short: *needed is how long it has to be */
     CELTISDARTS_NOT_A_QUERY = 6,   /* the line has no fault, but asks nothing */
     CELTISDARTS_SEVERAL_LINES = 7, /* the line holds a line feed */
-    CELTISDARTS_TOO_LONG = 8,      /* the text and the line together are longer than 1,048,576 bytes */
+    CELTISDARTS_TOO_LONG = 8,      /* the text and the line together are longer than 67,108,864 bytes */
     CELTISDARTS_NO_CRATE = 9,      /* the text has no crate of that number */
     CELTISDARTS_NO_TEXT = 10       /* no text was read */
 };

@@ -125,7 +125,7 @@ static celtisdarts_handle opened(void) {
 }
 
 static void asks_a_long_line(celtisdarts_handle *handle) {
-    size_t length = 1048576;
+    size_t length = 67108864;
     char *line = malloc(length + 1);
     if (line == NULL) abort();
     memset(line, ' ', length);

@@ -263,7 +263,7 @@ class SeveralLines(CeltisdartsError):
 
 
 class TooLong(CeltisdartsError):
-    """Text and question together are longer than a text may be, 1,048,576 bytes."""
+    """Text and question together are longer than a text may be, 67,108,864 bytes."""
 
 
 class NoSuchCrate(CeltisdartsError):
@@ -286,7 +286,7 @@ REFUSALS: dict[int, tuple[type[CeltisdartsError], str]] = {
     4: (TableFull, "a table is full"),
     6: (NotAQuery, "the line asks nothing"),
     7: (SeveralLines, "the question is several lines"),
-    8: (TooLong, "text and question are longer than 1,048,576 bytes"),
+    8: (TooLong, "text and question are longer than 67,108,864 bytes"),
     9: (NoSuchCrate, "the text declares no such crate"),
 }
 

@@ -109,7 +109,7 @@ class Calls(unittest.TestCase):
     def test_faults_of_texts(self) -> None:
         self.assertEqual(self.fault("crate a\n\nstruct A;\n"), (3, 2))
         self.assertEqual(self.fault("crate a\ntrait T\u00e9\n"), (2, 1))
-        self.assertEqual(self.fault("\n" * 1_048_577), (1_048_577, 16))
+        self.assertEqual(self.fault("\n" * 67_108_865), (67_108_865, 16))
         for depth in (0, 256, -1):
             with self.assertRaises(ValueError):
                 Workspace("", depth)
@@ -133,7 +133,7 @@ class Calls(unittest.TestCase):
                 self.assertEqual(raised.exception.number, number, question)
             refused: list[tuple[str, type[CeltisdartsError]]] = [
                 ("prove in a u8: Show\n\n", SeveralLines), ("prove in a u8: Show\nstruct W", SeveralLines),
-                ("prove in a u8: Show" + " " * 1_048_576, TooLong), ("", NotAQuery), ("struct W", NotAQuery),
+                ("prove in a u8: Show" + " " * 67_108_864, TooLong), ("", NotAQuery), ("struct W", NotAQuery),
                 ("supers in a", NotAQuery), ("// prove in a u8: Show", NotAQuery),
             ]
             for line, kind in refused:

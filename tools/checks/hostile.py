@@ -21,7 +21,7 @@ for each line of its answer. What is tried of each text beyond that:
 The kinds of texts: `crates` (whole ones, as the rules want them), `mutated` (these and the examples with lines and words changed),
 `deep` and `doubling` (types at the limits of depth, types and clauses that grow), `colliding` (names that meet), `bytes` (no text at
 all), `cyclic` (impls that need each other), `growing` (types that grow in several ways at once), `growing_premises` (types that grow by
-two or three premises), and once each the `wide` ones (as many items of a kind as a limit allows, and one more). With `--waiting` there are
+two or three premises), and once each the `wide` ones (some thousand items of a kind, and long lines). With `--waiting` there are
 `multiplying` and `endless` (supertraits that multiply, some thousand or far too many, of a `dyn`, a where-clause and an impl), `asked` and
 `stepping` (impls that need each other, of which all are asked), `wide_clauses` (impls with up to 64 where-clauses that lead back or to
 larger types) and `costly` (types that grow beside many impls or where-clauses, in width, or with lifetimes); and types that grow are asked
@@ -56,7 +56,7 @@ LIMITS = Limits(seconds=10, memory=256 * 1024 * 1024)
 SMALL = 1024
 # Of a text that works the search hard each line of the answer may take a second, up to this size.
 SMALL_AND_HARD = 10240
-TEXT_LIMIT = 1048576
+TEXT_LIMIT = 67108864
 # A text with more lines is only answered.
 MOST_LINES = 1500
 # Of these kinds another answer may leave a question open.

@@ -8,6 +8,8 @@ from typing import Callable, Iterator, NamedTuple
 from .common import Tally, program, run
 from .makers import many, repeated
 
+# The most bytes of a text, and the most items of a crate or impls of a section.
+TEXT_LIMIT, ITEM_LIMIT = 67108864, 65535
 BASE = "crate base\ntrait Show\n"
 ACCEPTED, REFUSED = "crate base: accepted", "line 3: fault 16"
 # Where a name is declared, and that of a variable: @ stands for it. In the middle is what is answered last where it is not too long.
@@ -72,30 +74,31 @@ def line_pair(name: str, most: int, line: Callable[[int], str], taken: str = ACC
 
 
 def text_cases() -> Iterator[Case]:
-    yield from pair("# line ends", 1048576, lambda count: "\n" * count, "", "line 1048577: fault 16")
-    yield Case("a line without end", "a" * 1100000, "line 1: fault 16")
-    yield Case("a byte too many behind two line ends", " " * 1048574 + "\n\nx", "line 3: fault 16")
-    yield from pair("# crates", 255, lambda count: numbered("crate c#", count), "crate c255: accepted", "line 256: fault 16")
+    yield from pair("# line ends", TEXT_LIMIT, lambda count: "\n" * count, "", f"line {TEXT_LIMIT + 1}: fault 16")
+    yield Case("a byte too many behind two line ends", " " * (TEXT_LIMIT - 2) + "\n\nx", "line 3: fault 16")
+    yield from pair("# crates", 4095, lambda count: numbered("crate c#", count), "crate c4095: accepted", "line 4096: fault 16")
     yield from pair("# questions", 65536, lambda count: "crate b\ntrait S\n" + "prove in b!:S\n" * count, "prove 65536: unproved", "line 65539: fault 16")
 
 
 def item_cases() -> Iterator[Case]:
-    structs = numbered("struct s#", 4096)
-    yield from pair("# structs", 4096, lambda count: "crate base\n" + numbered("struct s#", count), refused="line 4098: fault 16")
-    mixed = numbered("struct s#", 2048) + numbered("trait t#", 2047) + "impl t1 for s1\nimpl t1 for s2\n"
-    yield Case("structs, traits and impls count together", "crate base\n" + mixed, "line 4098: fault 16")
+    structs = numbered("struct s#", ITEM_LIMIT)
+    past = f"line {ITEM_LIMIT + 2}: fault 16"
+    yield from pair("# structs", ITEM_LIMIT, lambda count: "crate base\n" + numbered("struct s#", count), refused=past)
+    mixed = numbered("struct s#", 32768) + numbered("trait t#", 32766) + "impl t1 for s1\nimpl t1 for s2\n"
+    yield Case("structs, traits and impls count together", "crate base\n" + mixed, past)
     other = structs.replace("struct s", "struct r")
-    yield Case("4,096 structs in each of two crates", f"crate base\n{structs}crate other\n{other}", "crate other: accepted")
+    yield Case(f"{ITEM_LIMIT:,} structs in each of two crates", f"crate base\n{structs}crate other\n{other}", "crate other: accepted")
 
 
 def section_cases() -> Iterator[Case]:
     """A section has its own count of impls, and there is none of sections."""
     head, arrays = "crate base\ntrait t\n", "impl t for [u8; #]"
-    yield from pair("# impls in a section", 4096, lambda count: f"{head}later base\n{numbered(arrays, count)}", "later base: compatible", "line 4100: fault 16")
-    full, section = head + numbered(arrays, 4095), "later base\n" + numbered(arrays, 4096)
-    yield Case("4,096 impls in each of two sections of a crate of 4,096", full + section * 2, "later base: compatible")
-    behind = "later base\ncrate other\nsupers in other\ncrate third\n" + numbered("struct s#", 4097)
-    yield Case("4,097 structs behind a section", full + behind, f"line {4 + 4095 + 2 + 4097}: fault 16")
+    past = f"line {3 + ITEM_LIMIT + 1}: fault 16"
+    yield from pair("# impls in a section", ITEM_LIMIT, lambda count: f"{head}later base\n{numbered(arrays, count)}", "later base: compatible", past)
+    full, section = head + numbered(arrays, ITEM_LIMIT - 1), "later base\n" + numbered(arrays, ITEM_LIMIT)
+    yield Case(f"{ITEM_LIMIT:,} impls in each of two sections of a crate of as many items", full + section * 2, "later base: compatible")
+    behind = "later base\ncrate other\nsupers in other\ncrate third\n" + numbered("struct s#", ITEM_LIMIT + 1)
+    yield Case(f"{ITEM_LIMIT + 1:,} structs behind a section", full + behind, f"line {4 + ITEM_LIMIT - 1 + 2 + ITEM_LIMIT + 1}: fault 16")
     yield Case("30,000 sections", "crate base\n" + "later base\n" * 30000, "later base: compatible")
     yield Case("30,000 lines supers", "crate base\n" + "supers in base\n" * 30000, "supers base: held")
 
@@ -109,17 +112,18 @@ def name_cases() -> Iterator[Case]:
 
 def parameter_cases() -> Iterator[Case]:
     """Parameters of each kind of line, of one sort and of all three."""
-    yield from line_pair("# parameters", 16, lambda count: f"struct Q<{listed('T', count)}>")
-    yield from line_pair("# parameters of a trait", 16, lambda count: f"trait Many<{listed('T', count)}>")
-    both = "impl<{}> Show for (({}), fn({}))"
-    yield from line_pair("# parameters of an impl", 16, lambda count: both.format(listed("T", count), listed("T", 12), listed("T", count, 13)))
+    yield from line_pair("# parameters", 64, lambda count: f"struct Q<{listed('T', count)}>")
+    yield from line_pair("# parameters of a trait", 64, lambda count: f"trait Many<{listed('T', count)}>")
+    twelves = [listed("T", first + 11, first) for first in range(1, 61, 12)]
+    both = "impl<{}> Show for (" + ", ".join(f"({it})" for it in twelves) + ", fn({}))"
+    yield from line_pair("# parameters of an impl", 64, lambda count: both.format(listed("T", count), listed("T", count, 61)))
     for kind in ("struct", "trait"):
-        yield from line_pair(f"# parameters of all sorts of a {kind}", 16, partial(all_sorts, f"{kind} Q<@>"))
+        yield from line_pair(f"# parameters of all sorts of a {kind}", 64, partial(all_sorts, f"{kind} Q<@>"))
     lifetimes = "impl<{}, T> Show for &'a1 T"
-    yield from line_pair("# lifetimes and a type of an impl", 15, lambda count: lifetimes.format(listed("'a", count)))
+    yield from line_pair("# lifetimes and a type of an impl", 63, lambda count: lifetimes.format(listed("'a", count)))
     asked = "prove in base <{}> T1: Show"
-    yield from line_pair("# parameters of a question", 16, lambda count: asked.format(listed("T", count)), "prove 1: unproved")
-    yield from line_pair("# parameters of all sorts of a question", 16, partial(all_sorts, asked.format("@")), "prove 1: unproved")
+    yield from line_pair("# parameters of a question", 64, lambda count: asked.format(listed("T", count)), "prove 1: unproved")
+    yield from line_pair("# parameters of all sorts of a question", 64, partial(all_sorts, asked.format("@")), "prove 1: unproved")
     variables = f"trait Many<{listed('T', 12)}>"
     question = "prove in base ({}): Many<{}>"
     yield from line_pair("# variables", 16, lambda count: question.format(listed("?x", count - 12), listed("?y", 12)), "prove 1: unproved", before=f"crate base\n{variables}\n")

@@ -30,7 +30,7 @@ FILES = [str(it.folder / "input.txt") for it in (TEXT, FAULTY)]
 # Words that are no depth limit, and no file for the script.
 BAD_WORDS = ("0", "000", "256", "999", "0008", "", "-1")
 LONG = b"crate base\ntrait Show\nimpl Show for u8\n" + b"prove in base u8: Show\n" * 200
-TOO_LONG = b"a" * 3000000
+TOO_LONG = b"a" * 70000000
 # A trait with a million supertraits.
 ENDLESS = b"crate a\ntrait A<t>\n" + b"".join(b"trait %c<t>: %c<[t]> + %c<(t,)>\n" % (it + 1, it, it) for it in range(65, 84)) + b"prove in a dyn T<u8>: T<u8>\n"
 # The commands that the script takes where it has a program.
@@ -242,7 +242,7 @@ def try_messages(script: Script) -> None:
     script.expect("no message before the input has ended", not Path(f"{said}.before").read_bytes())
     script.run("8", text=TOO_LONG)
     script.gave("a text without end", 1, b"line 1: fault 16\n")
-    script.expect("no more of it kept than decides", int(Path(f"{script.calls}.bytes").read_text(encoding="utf-8")) == 1048577)
+    script.expect("no more of it kept than decides", int(Path(f"{script.calls}.bytes").read_text(encoding="utf-8")) == 67108865)
 
 
 def try_files(script: Script, what: str, calls: int) -> None:

@@ -6,7 +6,7 @@
 # shellcheck shell=sh disable=SC2154
 
 # How many bytes of a text are kept: one more than it may have. The program reads no more either.
-text_limit=1048577
+text_limit=67108865
 
 # How long a kept answer may be, in blocks of 512 bytes: 256 MiB. (A text can have an answer that no disk holds.)
 answer_limit=524288

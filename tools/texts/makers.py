@@ -6,7 +6,7 @@ from typing import Callable
 Lines = list[str]
 Maker = Callable[[int], Lines]
 SHOW = ["crate base", "trait Show"]
-# Items of a crate that a large base has, under the limit of 4,096.
+# Items of a crate that a large base has.
 ITEMS = 4000
 
 

@@ -68,7 +68,7 @@ pub enum Error {
     NotAQuery,
     /// The question holds a line feed before its end.
     SeveralLines,
-    /// Text and question together are longer than a text may be, 1,048,576 bytes.
+    /// Text and question together are longer than a text may be, 67,108,864 bytes.
     TooLong,
     /// The text declares no crate of that name.
     NoSuchCrate,
@@ -85,7 +85,7 @@ impl fmt::Display for Error {
             Error::Question(kind) => write!(f, "the question has {kind}"),
             Error::NotAQuery => f.write_str("the line asks nothing"),
             Error::SeveralLines => f.write_str("the question is several lines"),
-            Error::TooLong => f.write_str("text and question are longer than 1,048,576 bytes"),
+            Error::TooLong => f.write_str("text and question are longer than 67,108,864 bytes"),
             Error::NoSuchCrate => f.write_str("the text declares no such crate"),
             Error::Memory => f.write_str("out of memory"),
             Error::Full => f.write_str("a table is full"),

@@ -43,7 +43,7 @@ fn faults_of_texts_are_told_by_line_and_number() {
     assert_eq!(text_fault("crate a\n\nstruct A;\n"), (3, 2));
     assert_eq!(text_fault("struct A\n"), (1, 3));
     assert_eq!(text_fault("crate a\ntrait T\u{e9}\n"), (2, 1));
-    assert_eq!(text_fault(&"\n".repeat(1_048_577)), (1_048_577, 16));
+    assert_eq!(text_fault(&"\n".repeat(67_108_865)), (67_108_865, 16));
     let error = Workspace::parse("crate a\nimpl T for u8\n", Depth::default()).unwrap_err();
     assert_eq!(
         error.to_string(),
@@ -91,7 +91,7 @@ fn a_question_with_a_fault_changes_nothing() {
             Err(Error::SeveralLines)
         );
         assert_eq!(
-            session.prove(&format!("u8: Show{}", " ".repeat(1_048_576))),
+            session.prove(&format!("u8: Show{}", " ".repeat(67_108_864))),
             Err(Error::TooLong)
         );
         for line in [

@@ -7,7 +7,7 @@ use std::alloc::Global;
 use std::io::Read;
 
 /// How many bytes are read at most: one more than a text may have, so that a text that is too long can be detected.
-pub const READ_LIMIT: usize = 1_048_577;
+pub const READ_LIMIT: usize = 67_108_865;
 
 /// What a reader gives, up to `READ_LIMIT` bytes. Fails with `Read` or `Memory`.
 pub fn read_text<R: Read>(alloc: Global, reader: &mut R) -> Result<Vec<u8>, RunFault>

@@ -49,7 +49,7 @@ pub record HasRoom (d : Declarations) (lines : KeptLines) : Type 0 where
 pub record KeepsAnswers (limit handles n : ℕ) (a : TextAnswers) : Type 0 where
   pub parsed : IsOfText a.workspace
   pub numbered : IsNumbered a.workspace
-  pub few : IsFew a.workspace 1048640
+  pub few : IsFew a.workspace 67108928
   pub groups : AreGroups (length a.workspace.checks) (length a.workspace.questions) a.workspace a.groups.items
   pub kept : KeepsLines limit a.workspace (n + 1) a.kept
   pub view : IfSome a.view (IsLeftView a.workspace handles)

@@ -21,7 +21,7 @@ pub struct Output {
 /// The output for a text. It is the line of the text's first fault. Without a fault it is a line for each crate but `core`, then one for
 /// each check (`later` or `supers`), and then one for each query.
 ///
-/// Fails with `Memory` if memory is refused, or with `Full` if a table is full. A text of more than 1,048,576 bytes has a fault.
+/// Fails with `Memory` if memory is refused, or with `Full` if a table is full. A text of more than 67,108,864 bytes has a fault.
 pub fn answer(alloc: Global, text: &[u8], limits: Limits) -> Result<Output, RunFault>
     ensures whole { IfOk result (λ output. IsToldText limits.depth text.now output.status output.text.items) }
     ensures fault { IfErr result (λ fault. (fault ≡ RunFault.Memory) ⊎ (fault ≡ RunFault.Full)) }

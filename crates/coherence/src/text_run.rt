@@ -37,7 +37,7 @@ pub fn answer_text<W: Write, L: Listener>(
 /// Reads a text, and writes its output, each line when it is ready. The output is the line of the text's first fault. Without a fault it is
 /// a line for each crate but `core`, then one for each check (`later` or `supers`), and then one for each query.
 ///
-/// At most 1,048,577 bytes are read, one more than a text may have. What was written before a `RunFault` is a prefix of the output.
+/// At most 67,108,865 bytes are read, one more than a text may have. What was written before a `RunFault` is a prefix of the output.
 pub fn run<R: Read, W: Write>(
     alloc: Global,
     reader: &mut R,

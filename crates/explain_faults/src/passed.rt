@@ -79,12 +79,12 @@ fn tell_large(span: Span, it: Count, telling: &mut Telling) -> bool {
 /// What else a line may pass, by its first word.
 fn other_limit(line: Faulty<'_>) -> &'static str {
     match line.words.first() {
-        Some(word) if word.text == b"crate".as_slice() => "255 crates beside `core`, at most",
+        Some(word) if word.text == b"crate".as_slice() => "4095 crates beside `core`, at most",
         Some(word) if matches!(word.text, b"prove" | b"refute") => {
             "65536 questions, 64 bits of a number, types 64 deep, 64 bounds of a `dyn`, at most"
         }
         _ =>
-            "4096 items of a crate, 64 bits of a number, types 64 deep, 64 bounds of a `dyn`, at most",
+            "65535 items of a crate, 64 bits of a number, types 64 deep, 64 bounds of a `dyn`, at most",
     }
 }
 
@@ -104,7 +104,7 @@ pub(crate) fn tell_passed(line: Faulty<'_>, telling: &mut Telling) -> bool {
     let parts = count_parts(telling.alloc(), line);
     let parts = telling.granted(parts).unwrap_or(0);
     for (of, count, limit) in [
-        ("parameters", params, 16),
+        ("parameters", params, 64),
         ("variables", variables, 16),
         ("bounds or clauses", parts, 64),
     ] {

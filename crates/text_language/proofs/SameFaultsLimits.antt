@@ -173,10 +173,10 @@ abbrev kind_passes : Declarations → Line → Bool
 kind_passes d l = is_full d l || (option_map_or is_long (declared_name l) false || nat_lt 64 (parts l))
 
 kind-passes : (d : Declarations) (l : Line) → holds 16 (faults_by_kind d l) ≡ kind_passes d l
-kind-passes d (crate_line n us) = two (is_long n) (nat_lt 255 (length d.crates))
-kind-passes d (struct_line f n ps fs) = ap (λ k. (is_long n || nat_le 4096 (last_items d)) || (nat_lt 64 k || false)) (types-counted d [] 1 fs) ∙ three (is_long n) (nat_le 4096 (last_items d)) (nat_lt 64 (types_count fs))
-kind-passes d (trait_line f a n ps bs) = three (is_long n) (nat_le 4096 (last_items d)) (nat_lt 64 (length bs))
-kind-passes d (impl_line ps h ks) = or-false (nat_le 4096 (if d.in_section then last_later d else last_items d) || nat_lt 64 (length ks))
+kind-passes d (crate_line n us) = two (is_long n) (nat_lt 4095 (length d.crates))
+kind-passes d (struct_line f n ps fs) = ap (λ k. (is_long n || nat_le 65535 (last_items d)) || (nat_lt 64 k || false)) (types-counted d [] 1 fs) ∙ three (is_long n) (nat_le 65535 (last_items d)) (nat_lt 64 (types_count fs))
+kind-passes d (trait_line f a n ps bs) = three (is_long n) (nat_le 65535 (last_items d)) (nat_lt 64 (length bs))
+kind-passes d (impl_line ps h ks) = or-false (nat_le 65535 (if d.in_section then last_later d else last_items d) || nat_lt 64 (length ks))
 kind-passes d (prove_line c ps a ks) = or-false (nat_le 65536 (length d.questions) || nat_lt 64 (length ks))
 kind-passes d (refute_line c ps a) = refl
 kind-passes d (later_line n) = refl
@@ -250,7 +250,7 @@ same-length [] (t ∷ ts) cs = ap suc (same-length [] ts cs)
 same-length (l ∷ ls) ts cs = ap suc (same-length ls ts cs)
 
 abbrev pub passes_params : Line → Bool
-passes_params l = list_any (λ n. nat_lt 64 (length n)) (names_of (line_params l)) || nat_lt 16 (length (names_of (line_params l)))
+passes_params l = list_any (λ n. nat_lt 64 (length n)) (names_of (line_params l)) || nat_lt 64 (length (names_of (line_params l)))
 
 abbrev pub passes_variables : Declarations → Line → Bool
 passes_variables d l = nat_lt 16 (length (fold with_name [] (asked-variables d l)))
@@ -258,13 +258,13 @@ passes_variables d l = nat_lt 16 (length (fold with_name [] (asked-variables d l
 abbrev passes_line : Declarations → Line → Bool
 passes_line d l = passes_params l || (passes_variables d l || false)
 
-line-passes : (d : Declarations) (l : Line) → passes_line d l ≡ (list_any is_long (names_of (params_of l)) || nat_lt 16 (length (kinds_of (params_of l)))) || (nat_lt 16 (length (once (variables_in (asked_uses d l)))) || false)
+line-passes : (d : Declarations) (l : Line) → passes_line d l ≡ (list_any is_long (names_of (params_of l)) || nat_lt 64 (length (kinds_of (params_of l)))) || (nat_lt 16 (length (once (variables_in (asked_uses d l)))) || false)
 line-passes d l =
     let ps : Params = params_of l in
     let v : Bool = nat_lt 16 (length (fold with_name [] (asked-variables d l))) in
-    ap (λ ps. (list_any is_long (names_of ps) || nat_lt 16 (length (names_of ps))) || (v || false)) (params-same l)
-    ∙ ap (λ n. (list_any is_long (names_of ps) || nat_lt 16 n) || (v || false)) (same-length ps.lifetimes ps.types ps.consts)
-    ∙ ap (λ n. (list_any is_long (names_of ps) || nat_lt 16 (length (kinds_of ps))) || (nat_lt 16 n || false)) (ap (λ vs. length (fold with_name [] vs)) (asked-are d l) ∙ once-counted (variables_in (asked_uses d l)))
+    ap (λ ps. (list_any is_long (names_of ps) || nat_lt 64 (length (names_of ps))) || (v || false)) (params-same l)
+    ∙ ap (λ n. (list_any is_long (names_of ps) || nat_lt 64 n) || (v || false)) (same-length ps.lifetimes ps.types ps.consts)
+    ∙ ap (λ n. (list_any is_long (names_of ps) || nat_lt 64 (length (kinds_of ps))) || (nat_lt 16 n || false)) (ap (λ vs. length (fold with_name [] vs)) (asked-are d l) ∙ once-counted (variables_in (asked_uses d l)))
 
 -- the same tests in another order
 other-order : (f n p u dp m k v : Bool) → (f || (n || p)) || ((u || dp) || ((m || k) || (v || false))) ≡ f || ((n || m) || (k || (p || (dp || (v || u)))))
@@ -296,4 +296,4 @@ passes-is d l s b =
     ∙ ap (λ x. kind_passes d l || (x || passes_line d l)) (mentions-pass d l s b)
     ∙ ap (λ x. kind_passes d l || ((us || dp) || x)) (line-passes d l)
     ∙ other-order (is_full d l) (option_map_or is_long (declared_name l) false) (nat_lt 64 (parts l)) us dp (list_any is_long (names_of (params_of l)))
-    (nat_lt 16 (length (kinds_of (params_of l)))) (nat_lt 16 (length (once (variables_in (asked_uses d l)))))
+    (nat_lt 64 (length (kinds_of (params_of l)))) (nat_lt 16 (length (once (variables_in (asked_uses d l)))))

@@ -238,16 +238,16 @@ abbrev pub name_limit : ℕ
 name_limit = 64
 
 abbrev pub crate_limit : ℕ
-crate_limit = 255
+crate_limit = 4095
 
 abbrev pub item_limit : ℕ
-item_limit = 4096
+item_limit = 65535
 
 abbrev pub question_limit : ℕ
 question_limit = 65536
 
 abbrev pub param_limit : ℕ
-param_limit = 16
+param_limit = 64
 
 abbrev pub variable_limit : ℕ
 variable_limit = 16

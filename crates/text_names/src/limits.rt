@@ -16,14 +16,14 @@ use std::alloc::{AllocError, Global};
 use text_lines::{LineRead, Statement};
 
 /// The crates of a text, with `core`.
-const CRATE_LIMIT: usize = 256;
+const CRATE_LIMIT: usize = 4_096;
 
 const QUESTION_LIMIT: usize = 65_536;
 
 /// The structs, traits and impls of a crate, or the impls of a section.
-const ITEM_LIMIT: usize = 4_096;
+const ITEM_LIMIT: usize = 65_535;
 
-const PARAM_LIMIT: usize = 16;
+const PARAM_LIMIT: usize = 64;
 
 /// Fields, bounds or where-clauses.
 const PART_LIMIT: usize = 64;

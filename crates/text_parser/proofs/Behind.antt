@@ -81,7 +81,7 @@ one-more-line bytes line one = ap (λ (ls : List (List ℕ)). lines_of bytes ++ 
 
 short-enough : (bytes line : List ℕ) → FitsBehind bytes line → length (behind bytes line) ≤ text_limit
 short-enough bytes line h =
-    let room : length bytes + 1 + length line ≤ 1048576 = h in
+    let room : length bytes + 1 + length line ≤ 67108864 = h in
     omega (arith, room, length-append bytes (10 ∷ line))
 
 pub declared-behind : (bytes line : List ℕ) (d e : Declarations) → TextGives bytes (Ok d) → IsOneLine line → FitsBehind bytes line → LineGives d line (Ok e) → TextGives (behind bytes line) (Ok e)
@@ -119,10 +119,10 @@ lines-few d e k j (l ∷ ls) (goes_on _ c _ _ _ _ first rest) few =
 nothing-few : IsFew nothing_declared 50
 nothing-few = record { few_crates = search rules; few_structs = search rules; few_traits = search rules; few_impls = search rules; few_questions = search rules; few_sections = search rules; few_later = search rules }
 
-pub texts-few : (bytes : List ℕ) (d : Declarations) → TextGives bytes (Ok d) → IsFew d 1048640
+pub texts-few : (bytes : List ℕ) (d : Declarations) → TextGives bytes (Ok d) → IsFew d 67108928
 texts-few bytes d t =
-    let short : length bytes ≤ 1048576 = text-short bytes d t in
-    few-weaken d (50 + length (lines_of bytes)) 1048640 (omega (arith, few-lines bytes, short)) (lines-few nothing_declared d 1 50 (lines_of bytes) (lines-given bytes d t) nothing-few)
+    let short : length bytes ≤ 67108864 = text-short bytes d t in
+    few-weaken d (50 + length (lines_of bytes)) 67108928 (omega (arith, few-lines bytes, short)) (lines-few nothing_declared d 1 50 (lines_of bytes) (lines-given bytes d t) nothing-few)
 
 -- ---- whether bytes are one line, where this is their first and this is what stands behind its end, if anything does
 pub is-alone : (bytes first : List ℕ) (rest : Option (Bor (List ℕ))) (b : Bool) → lines_of bytes ≡ first ∷ lines_behind rest → is_some rest ≡ not b → b ≡ true → IsOneLine bytes

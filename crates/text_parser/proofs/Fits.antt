@@ -155,7 +155,7 @@ every-small : {A : Type 0} (xs : List A) (number : A → ℕ) → ((k : ℕ) (x 
 every-small {A} xs number h g =
     Every-from_Each {P = λ k x. number x < MAX_INDEX} xs (λ k x q. q) (λ k x e. omega (arith, h k x e, g, slice_get_within xs k x e))
 
-pub numbers-fit : (d : Declarations) (l : Line) → IsNumbered d → IsFew d 1048640 → NumbersFit (with_own d l)
+pub numbers-fit : (d : Declarations) (l : Line) → IsNumbered d → IsFew d 67108928 → NumbersFit (with_own d l)
 numbers-fit d l i f = by l
   where
     structs : Every (λ s. s.item.name < MAX_INDEX) d.structs

@@ -80,7 +80,7 @@ pub record Known (d : Declarations) (read : LineRead) (v : Sight) (l : Line) (fo
   pub others : EachOf (IsReadAs v) (other_parts l) found.others.parts.items
   pub variables : map variable_in found.asked.variables.items ≡ variables_in (asked_uses d l)
 
-pub line-known : (d : Declarations) (read : LineRead) (v : Sight) (found : LineFound) → IsSightOfRead d read v → IsFaultless d read → length read.cells.items ≤ 1048576 → IsFoundOf d read found → (l : Line) → ReadsLine l read → Known d read v l found
+pub line-known : (d : Declarations) (read : LineRead) (v : Sight) (found : LineFound) → IsSightOfRead d read v → IsFaultless d read → length read.cells.items ≤ 67108864 → IsFoundOf d read found → (l : Line) → ReadsLine l read → Known d read v l found
 line-known d read v found s f short finds l r =
     let is : IsLineFound v l found = subst (λ x. IsLineFound x l found) (sym (same-sight d read v s)) (finds l r) in
     let at = places_in (statement_of read.statement) in
@@ -112,7 +112,7 @@ fields-at d read v (struct_line g m qs fs) found out known says means =
     (h.0 ∙ ap (λ e. field_trees e fs) (item-means d v l 0 known.items_are known.params_are), h.1)
 fields-at d read v l found out known says means = absurd says
 
-pub fields-are : (d : Declarations) (read : LineRead) (v : Sight) (found : LineFound) (out : List TermCell) → IsSightOfRead d read v → IsFaultless d read → length read.cells.items ≤ 1048576
+pub fields-are : (d : Declarations) (read : LineRead) (v : Sight) (found : LineFound) (out : List TermCell) → IsSightOfRead d read v → IsFaultless d read → length read.cells.items ≤ 67108864
     → IsFoundOf d read found → IsStruct (statement_of read.statement) → MeansFields v (Item 0) found.others.parts.items out → (l : Line) → ReadsLine l read → AreFields d l (trees_of (cells_of out)) × AreMade is_type out
 fields-are d read v found out s none short finds says means l r =
     fields-at d read v l found out (line-known d read v found s none short finds l r) (subst IsStruct r.0 says) means
@@ -126,7 +126,7 @@ bounds-at d read v (trait_line g b m qs bs) found out known says means =
     (h.0 ∙ ap (λ e. map (bound_with_self e (leaf (param of_type 0))) bs) (item-means d v l 1 known.items_are known.params_are), h.1)
 bounds-at d read v l found out known says means = absurd says
 
-pub bounds-are : (d : Declarations) (read : LineRead) (v : Sight) (found : LineFound) (out : List ReferenceCells) → IsSightOfRead d read v → IsFaultless d read → length read.cells.items ≤ 1048576
+pub bounds-are : (d : Declarations) (read : LineRead) (v : Sight) (found : LineFound) (out : List ReferenceCells) → IsSightOfRead d read v → IsFaultless d read → length read.cells.items ≤ 67108864
     → IsFoundOf d read found → IsTrait (statement_of read.statement) → MeansBounds v found.others.parts.items out → (l : Line) → ReadsLine l read → AreBoundsOfLine d l (map reference_of out) × ReferencesMade out
 bounds-are d read v found out s none short finds says means l r =
     bounds-at d read v l found out (line-known d read v found s none short finds l r) (subst IsTrait r.0 says) means
@@ -153,7 +153,7 @@ header-at d read v (impl_line qs h ks) found b s rest out known says same means 
 header-at d read v l found b s rest out known says same means = absurd says
 
 pub header-is : (d : Declarations) (read : LineRead) (v : Sight) (found : LineFound) (b s : ResolvedPart) (rest : List ResolvedPart) (out : ReferenceCells) → IsSightOfRead d read v → IsFaultless d read
-    → length read.cells.items ≤ 1048576 → IsFoundOf d read found → IsImpl (statement_of read.statement) → found.others.parts.items ≡ b ∷ s ∷ rest → MeansClause v (Item 0) s b out
+    → length read.cells.items ≤ 67108864 → IsFoundOf d read found → IsImpl (statement_of read.statement) → found.others.parts.items ≡ b ∷ s ∷ rest → MeansClause v (Item 0) s b out
     → (l : Line) → ReadsLine l read → IsMain d l (reference_of out) × ReferenceMade out
 header-is d read v found b s rest out sight none short finds says same means l r =
     header-at d read v l found b s rest out (line-known d read v found sight none short finds l r) (subst IsImpl r.0 says) same means
@@ -169,7 +169,7 @@ clauses-at d read v (impl_line qs h ks) found b s rest out known says same means
 clauses-at d read v l found b s rest out known says same means = absurd says
 
 pub clauses-are : (d : Declarations) (read : LineRead) (v : Sight) (found : LineFound) (b s : ResolvedPart) (rest : List ResolvedPart) (out : List ReferenceCells) → IsSightOfRead d read v → IsFaultless d read
-    → length read.cells.items ≤ 1048576 → IsFoundOf d read found → IsImpl (statement_of read.statement) → found.others.parts.items ≡ b ∷ s ∷ rest → MeansClauses v (Item 0) rest out
+    → length read.cells.items ≤ 67108864 → IsFoundOf d read found → IsImpl (statement_of read.statement) → found.others.parts.items ≡ b ∷ s ∷ rest → MeansClauses v (Item 0) rest out
     → (l : Line) → ReadsLine l read → AreClauses d l (map reference_of out) × ReferencesMade out
 clauses-are d read v found b s rest out sight none short finds says same means l r =
     clauses-at d read v l found b s rest out (line-known d read v found sight none short finds l r) (subst IsImpl r.0 says) same means
@@ -181,7 +181,7 @@ unfolding made
 question-means d v l vs i p e =
     ap (λ x. made x (params v) 0 placeholder (map variable_in vs.now)) i ∙ ap (λ x. made d x 0 placeholder (map variable_in vs.now)) p ∙ ap (made d (params_of l) 0 placeholder) e
 
-pub variables-are : (d : Declarations) (read : LineRead) (v : Sight) (found : LineFound) (vs : List Variable) → IsSightOfRead d read v → IsFaultless d read → length read.cells.items ≤ 1048576 → IsFoundOf d read found
+pub variables-are : (d : Declarations) (read : LineRead) (v : Sight) (found : LineFound) (vs : List Variable) → IsSightOfRead d read v → IsFaultless d read → length read.cells.items ≤ 67108864 → IsFoundOf d read found
     → map variable_in vs ≡ once (map variable_in found.asked.variables.items) → (l : Line) → ReadsLine l read → AreVariables d l (map variable_in vs)
 variables-are d read v found vs s none short finds is l r = is ∙ ap once (line-known d read v found s none short finds l r).variables
 
@@ -224,21 +224,21 @@ given-at d read v (refute_line a qs k) found true c ps vs out known asks are mea
 given-at d read v l found q c ps vs out known asks are means = absurd asks
 
 pub asked-is : (d : Declarations) (read : LineRead) (v : Sight) (found : LineFound) (q : Bool) (c : List ℕ) (ps : List said.Param) (s b : ResolvedPart) (rest : List ResolvedPart) (vs : Bor (List Variable)) (out : ReferenceCells) → IsSightOfRead d read v → IsFaultless d read
-    → length read.cells.items ≤ 1048576 → IsFoundOf d read found → AsksQuestion (statement_of read.statement) q c ps → map variable_in vs.now ≡ once (map variable_in found.asked.variables.items) → found.asked.parts.items ≡ s ∷ b ∷ rest
+    → length read.cells.items ≤ 67108864 → IsFoundOf d read found → AsksQuestion (statement_of read.statement) q c ps → map variable_in vs.now ≡ once (map variable_in found.asked.variables.items) → found.asked.parts.items ≡ s ∷ b ∷ rest
     → MeansClause v (Question vs) s b out → (l : Line) → ReadsLine l read → IsMain d l (reference_of out) × ReferenceMade out
 asked-is d read v found q c ps s b rest vs out sight none short finds asks is same means l r =
     asked-at d read v l found q c ps s b rest vs out (line-known d read v found sight none short finds l r) (subst (λ x. AsksQuestion x q c ps) r.0 asks)
     (variables-are d read v found vs.now sight none short finds is l r) same means
 
 pub given-are : (d : Declarations) (read : LineRead) (v : Sight) (found : LineFound) (q : Bool) (c : List ℕ) (ps : List said.Param) (vs : Bor (List Variable)) (out : List ReferenceCells) → IsSightOfRead d read v → IsFaultless d read
-    → length read.cells.items ≤ 1048576 → IsFoundOf d read found → AsksQuestion (statement_of read.statement) q c ps → map variable_in vs.now ≡ once (map variable_in found.asked.variables.items)
+    → length read.cells.items ≤ 67108864 → IsFoundOf d read found → AsksQuestion (statement_of read.statement) q c ps → map variable_in vs.now ≡ once (map variable_in found.asked.variables.items)
     → MeansClauses v (Question vs) found.others.parts.items out → (l : Line) → ReadsLine l read → AreClauses d l (map reference_of out) × ReferencesMade out
 given-are d read v found q c ps vs out sight none short finds asks is means l r =
     given-at d read v l found q c ps vs out (line-known d read v found sight none short finds l r) (subst (λ x. AsksQuestion x q c ps) r.0 asks)
     (variables-are d read v found vs.now sight none short finds is l r) means
 
 -- ---- what is needed of numbers
-ready : (d : Declarations) (read : LineRead) (v : Sight) (n : Numbering) → IsNumbered d → IsFew d 1048640 → IsSightOfRead d read v → IsFaultless d read → NumberingFits n → HasSmallNumbers v n
+ready : (d : Declarations) (read : LineRead) (v : Sight) (n : Numbering) → IsNumbered d → IsFew d 67108928 → IsSightOfRead d read v → IsFaultless d read → NumberingFits n → HasSmallNumbers v n
 ready d read v n numbered few s f fits =
     let (l, r) = f.0 in
     let limits = faultless-limits d l (f.1 l r) in
@@ -248,10 +248,10 @@ ready d read v n numbered few s f fits =
       numbering = fits;
     }
 
-pub ready-item : (d : Declarations) (read : LineRead) (v : Sight) (k : ℕ) → IsNumbered d → IsFew d 1048640 → IsSightOfRead d read v → IsFaultless d read → k ≤ 1 → HasSmallNumbers v (Item k)
+pub ready-item : (d : Declarations) (read : LineRead) (v : Sight) (k : ℕ) → IsNumbered d → IsFew d 67108928 → IsSightOfRead d read v → IsFaultless d read → k ≤ 1 → HasSmallNumbers v (Item k)
 ready-item d read v k numbered few s f h = ready d read v (Item k) numbered few s f h
 
-pub ready-question : (d : Declarations) (read : LineRead) (v : Sight) (vs : Bor (List Variable)) → IsNumbered d → IsFew d 1048640 → IsSightOfRead d read v → IsFaultless d read
+pub ready-question : (d : Declarations) (read : LineRead) (v : Sight) (vs : Bor (List Variable)) → IsNumbered d → IsFew d 67108928 → IsSightOfRead d read v → IsFaultless d read
     → ((l : Line) → ReadsLine l read → AreVariables d l (map variable_in vs.now)) → HasSmallNumbers v (Question vs)
 ready-question d read v vs numbered few s f are =
     let (l, r) = f.0 in

@@ -55,7 +55,7 @@ pub fn small_numbers()
     ensures { NumbersAreSmall ENTRY_LIMIT }
 {}
 
-/// A text gives what its first 1,048,577 bytes give. So a reader can stop after the first byte too many.
+/// A text gives what its first 67,108,865 bytes give. So a reader can stop after the first byte too many.
 pub fn first_bytes()
     ensures { FirstBytesDecide }
 {}

@@ -6,7 +6,7 @@ ghost use Rattle.text_parser.specs.Behind.{IsOneLine};
 ghost use Rattle.text_parser.specs.Lines.{lines_behind, line_too_far};
 
 /// The greatest length of a text, in bytes.
-pub const TEXT_LIMIT: usize = 1_048_576;
+pub const TEXT_LIMIT: usize = 67_108_864;
 
 fn line_end(bytes: &[u8]) -> usize
     ensures { result ≡ length (take_while (λ b. not (b == 10)) bytes.now) }

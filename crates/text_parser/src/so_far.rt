@@ -31,7 +31,7 @@ impl<'w> Model for SoFar<'w> {
 
     ghost view = { λ s. declared s.tables.now };
 
-    ghost invariant = { λ s. IsConsistent s.tables.now × IsFew (declared s.tables.now) 1048640 };
+    ghost invariant = { λ s. IsConsistent s.tables.now × IsFew (declared s.tables.now) 67108928 };
 }
 
 impl<'w> SoFar<'w> {

@@ -26,7 +26,7 @@ use std::collections::HashMap;
 use type_terms::{AdtId, CrateId, ImplId, TraitId};
 
 /// No list of a text's declarations is as long. A text has at most one line more than bytes, and `core` comes first.
-pub const ENTRY_LIMIT: usize = 1_048_640;
+pub const ENTRY_LIMIT: usize = 67_108_928;
 
 /// The declarations and queries of the lines so far, in the order of the text, `core` first, and indices to search them quickly.
 ///

@@ -47,7 +47,7 @@ impl Model for Workspace {
 
     ghost view = { λ w. declared w.tables };
 
-    ghost invariant = { λ w. IsConsistent w.tables × IsFew (declared w.tables) 1048640 };
+    ghost invariant = { λ w. IsConsistent w.tables × IsFew (declared w.tables) 67108928 };
 }
 
 impl Workspace {

@@ -17,7 +17,7 @@ from ..write.text_form import TextLine
 from .reach import Reacher, bind
 
 # What stands in for types of the language: nobody but core has impls of auto traits for them.
-OF_STD = ("alloc", "std", "core_ops")
+OF_STD = ("alloc", "std")
 OF_LANGUAGE = ("Ref_", "RefMut_", "PtrConst_", "PtrMut_")
 
 

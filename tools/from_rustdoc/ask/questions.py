@@ -254,7 +254,7 @@ class QuestionWriter:
         types = [names[p.name] for p in question.params if p.kind == "type"] + scope.fresh
         params = types + ["const " + names[p.name] for p in question.params if p.kind == "const"]
         if len(params) > MAXIMAL_PARAMS:
-            raise Lossy("more than 16 parameters")
+            raise Lossy("more than 64 parameters")
         where = f" where {', '.join(dict.fromkeys(clauses))}" if clauses else ""
         question.of_crate = question.of_crate or question.crate or self.asker(question)
         question.crate = crate_name(question.of_crate)

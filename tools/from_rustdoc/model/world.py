@@ -89,7 +89,7 @@ class World:
             raise BadInput("two of the files are of crates with one name; give one version of a crate at a time")
         for crate in read:
             self.same_std(crate)
-            if crate.name in STD_TEXTS or crate.name.startswith("core_ops"):
+            if crate.name in STD_TEXTS:
                 raise BadInput(f"{crate.file}: the text has a crate of its own with that name, for std")
             if isinstance(crate, JsonCrate):
                 crate.load()

@@ -47,7 +47,7 @@ NEGATIVE = {
 OTHERS = {
     "ab::Sb: ab::Ta": "yes", "ab::Kept<u8>: Send": "yes", "core::fmt::Result: Send": "yes", "user::Mine<ab::Kept<u8>>: ab::Ta": "yes",
     "user::Mine<ab::Sb>: Clone": "yes", "for<'a> fn(&'a u8): Send": "yes",
-    WIDE + "u16>: ab::Ta": "yes", WIDE + "u8>: ab::Ta": "no", WIDE + "u16>: Send": "not settled"}
+    WIDE + "u16>: ab::Ta": "yes", WIDE + "u8>: ab::Ta": "no", WIDE + "u16>: Send": "yes"}
 
 DEEP = {
     "deep::Chunk<u8>: Send": "yes", "deep::Node<u8>: Send": "unproved", "<A> deep::Chunk<A>: Sync": "unproved", "<A> deep::Chunk<A>: Sync where A: Sync": "yes",

@@ -1,10 +1,11 @@
-"""What is written of the crate `shapes`, one item for each encoding and each loss; and std in more crates than one."""
+"""What is written of the crate `shapes`, one item for each encoding and each loss; and std."""
 from __future__ import annotations
 
 import os
 import unittest
 from unittest import mock
 
+from ..ask import questions
 from ..ask.program import run
 from ..ask.verdicts import refusal
 from ..model.world import World
@@ -12,7 +13,7 @@ from ..read.proved import proved_program
 from ..read.terms import BadInput
 from ..report.items import Report
 from ..report.messages import Sources, rendered
-from ..write import split, std_text
+from ..write import impls, project, render, std_text
 from ..write.build import Translation
 from ..write.checker import check_texts
 from .common import HERE, crate_part, pages, texts, translation, world
@@ -33,9 +34,24 @@ class Texts(unittest.TestCase):
         found = translation("shapes")
         lines = Report(found).item_lines()
         self.assertEqual(sum(": impl" in line for line in lines), len(found.of_crates))
-        losses = [line for line in lines if line.startswith("loss") and ": impl" in line]
-        self.assertEqual(len(losses), 2)
+        self.losses(found, 1)
+
+    def losses(self, found: Translation, count: int) -> None:
+        losses = [line for line in Report(found).item_lines() if line.startswith("loss") and ": impl" in line]
+        self.assertEqual(len(losses), count)
         self.assertTrue(all("the upper text has it more often" in line for line in losses))
+
+    def test_an_impl_of_more_parameters_than_a_line_may_have_holds_more_often(self) -> None:
+        for module in (render, impls, project, questions):
+            patch = mock.patch.object(module, "MAXIMAL_PARAMS", 16)
+            patch.start()
+            self.addCleanup(patch.stop)
+        found = Translation(world("shapes"))
+        found.build()
+        written = texts(found)
+        self.assertIn("\nimpl<X1_, X2_> shapes__Draw for shapes__Tree<Tuple17_<X1_, X2_>>\n", written["upper"])
+        self.assertNotIn("shapes__Tree<Tuple17_<", written["lower"])
+        self.losses(found, 2)
 
     def test_each_header_of_std_has_a_fate(self) -> None:
         for name in ("shapes", "before", "after"):
@@ -85,24 +101,14 @@ class Std(unittest.TestCase):
             std_text.std_text(World(pages()))
 
 
-class Split(unittest.TestCase):
-    """As much of std as can goes before `alloc`: no impl becomes one that only another crate may have."""
-
-    def setUp(self) -> None:
-        with mock.patch.object(split, "AT_MOST", 0):
-            self.found = Translation(world("ab", "user"), whole_std=True)
-            self.found.build()
-
-    def test_a_trait_stays_with_an_impl_that_only_its_crate_may_have(self) -> None:
-        text = texts(self.found)["upper"]
-        before, after = text[:text.index("crate alloc ")], text[text.index("crate alloc "):]
-        self.assertIn("\ntrait BitAnd<p_Rhs>\n", before)
-        self.assertIn("\ntrait BitOr<p_Rhs>\n", after)
-        self.assertIn("\nimpl<T> BitOr<NonZero<T>> for T where ", after)
+class WholeStd(unittest.TestCase):
+    """All of std that is about the crates, in one crate `alloc` and one crate `std`."""
 
     @unittest.skipUnless(proved_program(), "there is no proved program of these sources")
     def test_all_crates_are_accepted(self) -> None:
-        for mode, text in texts(self.found).items():
+        found = Translation(world("ab", "user"), whole_std=True)
+        found.build()
+        for mode, text in texts(found).items():
             answer = run(text)
-            self.assertIn("core_ops", answer.crates)
+            self.assertIn("alloc", answer.crates)
             self.assertEqual(answer.refusals(), {}, mode)

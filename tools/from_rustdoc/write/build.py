@@ -15,7 +15,6 @@ from .declare import Cut, Declarer
 from .impls import ImplWriter, Line, Written
 from .project import APPLY, WRAP
 from .render import ALWAYS, FIELD, MAXIMAL_ITEMS, Renderer, Scope, names_of
-from .split import split
 
 if TYPE_CHECKING:
     from ..ask.cone import Chosen
@@ -46,9 +45,6 @@ class CrateText:
     name: str
     uses: list[str]
     pieces: list[Piece] = field(default_factory=list)
-
-    def items(self) -> int:
-        return len(self.pieces)
 
 
 def without_empty(crates: list[CrateText], keep: set[str]) -> list[CrateText]:
@@ -343,7 +339,7 @@ class Translation:
             if name == "alloc":
                 text.pieces += self.specials()
             self.declarations(text, [d for d in items if d.crate == name], impls.get(name, []))
-            self.crates += split(text, CrateText) if name == "alloc" else [text]
+            self.crates.append(text)
         if self.cone is not None:
             self.crates = without_empty(self.crates, self.keep)
 

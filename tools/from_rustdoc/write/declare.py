@@ -113,7 +113,7 @@ class Declarer:
             self.cuts.append(Cut(declaration, ["an item that is not documented"], tail_unsure=True))
             self.add(head, head + "(str)", declaration)
             return True
-        fields, reasons = self.fields(declaration) if not is_packed(declaration.params) else ([], ["more than 16 parameters"])
+        fields, reasons = self.fields(declaration) if not is_packed(declaration.params) else ([], ["more than 64 parameters"])
         for text in fields:
             for word in self.words(text or ""):
                 self.visit(word)
@@ -226,7 +226,7 @@ class Declarer:
         if declaration.is_opaque or is_std_key(declaration.key):
             return Line(header, "fields"), void, ["an item that is not documented"]
         if is_packed(declaration.params):
-            return Line(header, "fields"), void, ["more than 16 parameters"]
+            return Line(header, "fields"), void, ["more than 64 parameters"]
         clauses: list[str] = []
         lost: list[str] = []
         for term in declaration.fields:

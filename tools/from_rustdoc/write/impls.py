@@ -223,7 +223,7 @@ class ImplWriter:
                 few = [p for p in coarse if len(p.params) <= MAXIMAL_PARAMS] or coarse
                 parts = next((p for p in few if not p.is_blanket()), few[0])
             if len(parts.params) > MAXIMAL_PARAMS:
-                return Written(impl, losses=["more than 16 parameters"])
+                return Written(impl, losses=["more than 64 parameters"])
         except Lossy as error:
             return Written(impl, losses=[f"header: {error}"])
         return self.lines(impl, trait, parts)
@@ -242,7 +242,7 @@ class ImplWriter:
 
     # ---- header and clauses
     def parts(self, impl: Impl, trait: Declaration, coarse_arguments: bool = False, coarse_self: bool = False) -> Parts:
-        """Where the header has more than 16 parameters, fresh ones stand for tuples in the trait's arguments, in the self type, or both."""
+        """Where the header has more than 64 parameters, fresh ones stand for tuples in the trait's arguments, in the self type, or both."""
         assert impl.trait is not None
         names = names_of(impl.params)
         consts = {p.name for p in impl.params if p.kind == "const"}
@@ -351,7 +351,7 @@ class ImplWriter:
         kinds = [self.companion_line] if (trait.key, name) in self.renderer.companions else []
         kinds += [self.then_line] if (trait.key, name) in self.renderer.thens else []
         for write in kinds:
-            line, lost = None, "more than 16 parameters"
+            line, lost = None, "more than 64 parameters"
             if value is not None:
                 try:
                     line, lost = write(impl, trait, name, parts, value)
@@ -438,6 +438,6 @@ class ImplWriter:
         params = types + fresh + [p for p in parts.params if p.startswith("const ")]
         clauses = list(dict.fromkeys(parts.clauses + more))
         if len(params) > MAXIMAL_PARAMS or len(clauses) > MAXIMAL_CLAUSES:
-            raise Lossy("more than 16 parameters, or 64 clauses")
+            raise Lossy("more than 64 parameters, or 64 clauses")
         arguments = self.renderer.with_value(trait, parts.arguments, argument)
         return Line(self.line(params, f"{name}{bracketed(arguments)}", parts.self_type, clauses), "companion")

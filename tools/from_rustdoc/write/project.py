@@ -249,7 +249,7 @@ class Projector:
         types, consts = list(change.types.values()), list(change.consts.values())
         free = list(change.names.values()) if form is not None else [HOLE]
         if len(types + free + consts) > MAXIMAL_PARAMS:
-            raise Lossy("a clause of more than 16 parameters")
+            raise Lossy("a clause of more than 64 parameters")
         inside = Scope(CLAUSE, {n: n for n in types + free + consts}, const_params=set(consts))
         clause = f" where {self.text(inner, inside)}" if inner is not None else ""
         params = bracketed(types + free + ["const " + n for n in consts])

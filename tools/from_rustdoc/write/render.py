@@ -20,7 +20,7 @@ from ..read.terms import (FUNCTIONS, Alias, Array, Bound, BoundsOf, Constant, De
 HEADER, CLAUSE, FIELD, QUESTION = "header", "clause", "field", "question"
 ALWAYS = {"Ref_": "fundamental struct Ref_<T>(T, ())", "RefMut_": "fundamental struct RefMut_<T>(T, ())",
           "PtrConst_": "struct PtrConst_<T>(T, ())", "PtrMut_": "struct PtrMut_<T>(T, ())", "f32": "struct f32", "f64": "struct f64"}
-MAXIMAL_PARAMS, MAXIMAL_ITEMS, MAXIMAL_CLAUSES = 16, 12, 64
+MAXIMAL_PARAMS, MAXIMAL_ITEMS, MAXIMAL_CLAUSES = 64, 12, 64
 NEVER = "u8: Never_"
 # What a text needs: a kind ("need", "special", "companion", "then", "any"), the key of an item, and a name.
 Need = tuple[str, str, str]
@@ -124,7 +124,7 @@ class Renderer:
         declaration = self.world.get(key, kind, arguments)
         kept = self.traits if declaration.is_trait else self.structs
         if declaration.is_trait and is_packed(declaration.params):
-            raise Lossy(f"the trait `{declaration.name}` of more than 16 parameters")
+            raise Lossy(f"the trait `{declaration.name}` of more than 64 parameters")
         if self.log is not None:
             self.log.append(("need", declaration.key, ""))
         if declaration.key not in kept:
@@ -261,7 +261,7 @@ class Renderer:
 
     def tuple_type(self, items: tuple[Type, ...], scope: Scope) -> str:
         if scope.coarse and len(items) > 1 and len(items) <= MAXIMAL_ITEMS:
-            raise Lossy("more than 16 parameters")
+            raise Lossy("more than 64 parameters")
         if len(items) > MAXIMAL_ITEMS:
             parts = [items[n:n + MAXIMAL_ITEMS] for n in range(0, len(items), MAXIMAL_ITEMS)]
             name = self.need_special(f"Tuple{len(items)}_")
@@ -276,7 +276,7 @@ class Renderer:
         if how and how not in FUNCTIONS:
             raise Lossy(f"`{how}fn`")
         if scope.coarse:
-            raise Lossy("more than 16 parameters")
+            raise Lossy("more than 64 parameters")
         if how:
             return f"{self.need_special(FUNCTIONS[how])}<{self.tuple_type(inputs, scope)}, {self.type(output, scope)}>"
         if len(inputs) > MAXIMAL_ITEMS:

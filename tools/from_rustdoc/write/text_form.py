@@ -9,7 +9,7 @@ from ..read.headers import FLOATS, Named_, NotUnderstood, Reader
 from ..read.terms import (Array, Bound, Constant, Dyn, Function, Named, Never, Param, Parameter, Predicate, Primitive, Slice, Tuple, Type, UNIT, Unknown, parts,
                           walk)
 
-MAXIMAL = {"bytes": 1048576, "crates": 255, "items": 4096, "name": 64, "params": 16, "fields": 64, "clauses": 64, "bounds": 64, "depth": 64}
+MAXIMAL = {"bytes": 67108864, "crates": 4095, "items": 65535, "name": 64, "params": 64, "fields": 64, "clauses": 64, "bounds": 64, "depth": 64}
 
 
 @dataclass
@@ -96,7 +96,7 @@ class TextReader:
 
     def read(self, text: str) -> Text:
         if len(text) > MAXIMAL["bytes"]:
-            self.problem(0, f"the text has {len(text)} bytes, 1,048,576 are allowed: give fewer crates at once")
+            self.problem(0, f"the text has {len(text)} bytes, 67,108,864 are allowed: give fewer crates at once")
         for number, line in enumerate(text.split("\n"), 1):
             if line.strip() and not line.strip().startswith("//"):
                 try:
@@ -105,7 +105,7 @@ class TextReader:
                     self.problem(number, f"{error} in `{line[:80]}`")
         for crate, count in self.counts.items():
             if count > MAXIMAL["items"]:
-                self.problem(0, f"crate {crate} has {count} items, 4,096 are allowed: give fewer crates at once")
+                self.problem(0, f"crate {crate} has {count} items, 65,535 are allowed: give fewer crates at once")
         return self.text
 
     def problem(self, number: int, what: str) -> None:

@@ -11,7 +11,7 @@ def texts_of(translation: Translation, modes: tuple[str, ...] = ("upper", "lower
     texts = {}
     for mode in modes:
         text = "\n".join(translation.text(mode, comments=True)[0]) + "\n"
-        texts[mode] = text if len(text) < 1 << 20 else "\n".join(translation.text(mode)[0]) + "\n"
+        texts[mode] = text if len(text) < 1 << 26 else "\n".join(translation.text(mode)[0]) + "\n"
     problems = check_texts(translation, texts)
     if problems:
         raise BadInput("the texts break the rules of docs/RUSTDOC.md, so they are not written: " + "; ".join(problems[:3]))

@@ -47,7 +47,7 @@ pub const TOO_SHORT: u32 = 5;
 pub const NOT_A_QUERY: u32 = 6;
 /// The line holds a line feed.
 pub const SEVERAL_LINES: u32 = 7;
-/// The text and the line together are longer than 1,048,576 bytes.
+/// The text and the line together are longer than 67,108,864 bytes.
 pub const TOO_LONG: u32 = 8;
 /// The text has no crate of that number.
 pub const NO_CRATE: u32 = 9;

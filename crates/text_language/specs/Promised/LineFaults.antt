@@ -46,19 +46,19 @@ abbrev pub heads_own_struct : Declarations → TypeTree → Bool
 heads_own_struct d (named n args) = stands_for d n (λ k. elim k [ a_struct _ home _ ↦ home == impl_owner d | _ ↦ false ])
 heads_own_struct d _ = false
 
--- The tests for a struct or trait with this name. Limits: 64 bytes for a name; 4096 structs, traits and impls of a
+-- The tests for a struct or trait with this name. Limits: 64 bytes for a name; 65535 structs, traits and impls of a
 -- crate together.
 abbrev pub item_faults : Declarations → List ℕ → List (ℕ × Bool)
-item_faults d n = (3, d.in_section || nat_le (length d.crates) 1) ∷ (4, is_some (known d n)) ∷ (16, nat_lt 64 (length n) || nat_le 4096 (last_items d)) ∷ []
+item_faults d n = (3, d.in_section || nat_le (length d.crates) 1) ∷ (4, is_some (known d n)) ∷ (16, nat_lt 64 (length n) || nat_le 65535 (last_items d)) ∷ []
 
 -- The tests that depend on the kind of line. Limits:
--- - 255 crates without `core`
--- - 4096 impls of a section
+-- - 4095 crates without `core`
+-- - 65535 impls of a section
 -- - 65536 queries
 -- - 64 fields of a struct, 64 bounds of a trait, 64 where-clauses
 -- A section may precede all crates. For example, `later core` followed by `impl Clone for str`.
 abbrev pub faults_by_kind : Declarations → Line → List (ℕ × Bool)
-faults_by_kind d (crate_line n us) = (4, is_some (known d n)) ∷ (16, nat_lt 64 (length n) || nat_lt 255 (length d.crates)) ∷ []
+faults_by_kind d (crate_line n us) = (4, is_some (known d n)) ∷ (16, nat_lt 64 (length n) || nat_lt 4095 (length d.crates)) ∷ []
 faults_by_kind d (struct_line f n ps fs) = item_faults d n ++ (16, nat_lt 64 (length (types_mentions d [] 1 fs))) ∷ []
 faults_by_kind d (trait_line f a n ps bs) =
     item_faults d n ++ (9, is_among n (names_among (flat_map (bound_mentions d) bs)))
@@ -67,7 +67,7 @@ faults_by_kind d (impl_line ps h ks) =
     (3, not d.in_section && nat_le (length d.crates) 1) ∷ (8, list_any (λ n. not (is_among n (names_among (header_mentions d h)))) (ps.types ++ ps.consts))
     ∷ (11, is_auto_name d h.bound.trait && not (heads_own_struct d h.subject))
     ∷ (12, stands_for d h.bound.trait (λ k. elim k [ a_trait i _ _ _ ↦ list_any (λ t. t == i) built_in_traits | _ ↦ false ]))
-    ∷ (16, nat_le 4096 (if d.in_section then last_later d else last_items d) || nat_lt 64 (length ks)) ∷ []
+    ∷ (16, nat_le 65535 (if d.in_section then last_later d else last_items d) || nat_lt 64 (length ks)) ∷ []
 faults_by_kind d (prove_line c ps a ks) = (16, nat_le 65536 (length d.questions) || nat_lt 64 (length ks)) ∷ []
 faults_by_kind d (refute_line c ps a) = (14, nat_lt 0 (length (kinds_of ps))) ∷ (16, nat_le 65536 (length d.questions)) ∷ []
 faults_by_kind d _ = []
@@ -137,7 +137,7 @@ mention_faults d l (type_mention k) = (16, nat_lt 64 k) ∷ []
 abbrev pub variables_among : List Mention → List (List ℕ × Sort)
 variables_among ms = flat_map (λ m. elim m [ variable_mention p n ↦ (n, p) ∷ [] | _ ↦ [] ]) ms
 
--- The smallest number of a test that is true. Limits: 64 bytes for a name, 16 parameters, and 16 variables, each of
+-- The smallest number of a test that is true. Limits: 64 bytes for a name, 64 parameters, and 16 variables, each of
 -- which is counted once.
 abbrev pub line_fault : Declarations → Line → Option ℕ
 line_fault d l =
@@ -148,5 +148,5 @@ line_fault d l =
     ++ (4, repeats (lifetimes_in_scope l []) || repeats (ps.types ++ ps.consts) || list_any (λ n. is_some (known e n)) (ps.types ++ ps.consts))
     ∷ (13, nat_lt (length asked) (length (variables_among (line_mentions e l))))
     ∷ (13, list_any (λ v. list_any (λ w. bytes_eq v.0 w.0 && not (is_sort v.1 w.1)) asked) asked)
-    ∷ (16, list_any (λ n. nat_lt 64 (length n)) (names_of ps) || nat_lt 16 (length (names_of ps)))
+    ∷ (16, list_any (λ n. nat_lt 64 (length n)) (names_of ps) || nat_lt 64 (length (names_of ps)))
     ∷ (16, nat_lt 16 (length (fold (λ ns v. if is_among v.0 ns then ns else v.0 ∷ ns) [] asked))) ∷ []))))

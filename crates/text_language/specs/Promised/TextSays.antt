@@ -26,7 +26,7 @@ pub data LinesSay : Declarations → ℕ → List (List ℕ) → Result Declarat
       → LinesSay d k (l ∷ ls) r
 
 -- The meaning of a text: declarations, or the first faulty line with the smallest fault that applies. A text of more
--- than 1 MiB has fault 16, on the line with the first byte that exceeds the limit.
+-- than 64 MiB has fault 16, on the line with the first byte that exceeds the limit.
 pub data TextSays (bytes : List ℕ) : Result Declarations (ℕ × ℕ) → Type 0 where
   overlong : text_limit < length bytes → TextSays bytes (Err (long_line bytes, 16))
   of_lines : (r : Result Declarations (ℕ × ℕ)) → length bytes ≤ text_limit → LinesSay core_declared 1 (text_lines bytes) r → TextSays bytes r

@@ -19,13 +19,13 @@ overflow_cast-place c =
     let d = c.args.workspace.now in
     let q = question_of c.args.entry in
     let few = c.texts_are_few.ensures c.requires.parsed.0 (with_question d q) (text-given (with_question d q) c.requires.parsed) in
-    omega (arith, few-questions d q 1048640 few, as-many d c.questions.result.now c.questions.ensures)
+    omega (arith, few-questions d q 67108928 few, as-many d c.questions.result.now c.questions.ensures)
 
 pub add_question-requires-clause-room : goal.add_question-requires-clause-room
 add_question-requires-clause-room c =
     let d = c.args.workspace.now in
     let q = question_of c.args.entry in
-    few-questions d q 1048640 (c.texts_are_few.ensures c.requires.parsed.0 (with_question d q) (text-given (with_question d q) c.requires.parsed))
+    few-questions d q 67108928 (c.texts_are_few.ensures c.requires.parsed.0 (with_question d q) (text-given (with_question d q) c.requires.parsed))
 
 pub returns-in_err-add_question-clause-fault : goal.returns-in_err-add_question-clause-fault
 returns-in_err-add_question-clause-fault c = handed-shortage c.from_residual.result Memory c.from_residual.ensures.1 tt
@@ -36,7 +36,7 @@ question_answer-answer-requires-clause-parsed c = subst IsOfText (sym c.in_ok-ad
 pub question_answer-answer-requires-clause-few : goal.question_answer-answer-requires-clause-few
 question_answer-answer-requires-clause-few c =
     let e = with_question c.args.workspace.now (question_of c.args.entry) in
-    subst (λ (d : Declarations). IsFew d 1048640) (sym c.in_ok-add_question.ensures.added) (c.texts_are_few.ensures c.requires.parsed.0 e (text-given e c.requires.parsed))
+    subst (λ (d : Declarations). IsFew d 67108928) (sym c.in_ok-add_question.ensures.added) (c.texts_are_few.ensures c.requires.parsed.0 e (text-given e c.requires.parsed))
 
 pub question_answer-answer-requires-clause-declared : goal.question_answer-answer-requires-clause-declared
 question_answer-answer-requires-clause-declared c =

@@ -6,7 +6,7 @@ use Rattle.coherence.proofs.Asking.{handed-shortage, query-at, shortages-are}
 use Rattle.coherence.proofs.asker.query_behind.Goals as goal
 
 pub read_query-requires-clause-few : goal.read_query-requires-clause-few
-read_query-requires-clause-few c = subst (λ (d : Declarations). IsFew d 1048640) (sym c.tables.ensures.declared) c.tables.ensures.few
+read_query-requires-clause-few c = subst (λ (d : Declarations). IsFew d 67108928) (sym c.tables.ensures.declared) c.tables.ensures.few
 
 pub returns-in_err-entry-clause-fault : goal.returns-in_err-entry-clause-fault
 returns-in_err-entry-clause-fault c =

@@ -15,7 +15,7 @@ returns-in_err-extend_from_slice-clause-bounded g c =
 pub returns-clause-text : goal.returns-clause-text
 returns-clause-text g c =
     elim c.loop-buffer-test.branch [
-      | else-loop-buffer-test w ↦ all_read _ _ c.loop-buffer.text.items 1048577 (omega (arith, w.loop-buffer-test.false, c.len.ensures)) c.loop-buffer.invariant.taken
+      | else-loop-buffer-test w ↦ all_read _ _ c.loop-buffer.text.items 67108865 (omega (arith, w.loop-buffer-test.false, c.len.ensures)) c.loop-buffer.invariant.taken
       | then-loop-buffer-test+in-Ok+then-count-eq0 w ↦
-          end_read _ _ _ c.loop-buffer.text.items (take w.in-Ok.count w.read.new.buf) 1048577 c.loop-buffer.invariant.bounded (ap (λ n. take n w.read.new.buf) w.if-count-eq0.true) c.loop-buffer.invariant.taken w.in-Ok.ensures.bytes.0 (w.in-Ok.ensures.bytes.1 w.if-count-eq0.true (grind (arith, common_steps)))
+          end_read _ _ _ c.loop-buffer.text.items (take w.in-Ok.count w.read.new.buf) 67108865 c.loop-buffer.invariant.bounded (ap (λ n. take n w.read.new.buf) w.if-count-eq0.true) c.loop-buffer.invariant.taken w.in-Ok.ensures.bytes.0 (w.in-Ok.ensures.bytes.1 w.if-count-eq0.true (grind (arith, common_steps)))
     ]

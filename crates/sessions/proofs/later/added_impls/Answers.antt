@@ -18,4 +18,4 @@ pub returns-clause-held : goal.returns-clause-held
 returns-clause-held c = c.lower_later-impls.ensures.held
 
 pub returns-clause-few : goal.returns-clause-few
-returns-clause-few c = few-ok c.lower_later-impls.new.cx.entries c.args.workspace.now c.args.section 1048640 c.crates.ensures.few.few_later c.lower_later-impls.result c.lower_later-impls.ensures.impls
+returns-clause-few c = few-ok c.lower_later-impls.new.cx.entries c.args.workspace.now c.args.section 67108928 c.crates.ensures.few.few_later c.lower_later-impls.result c.lower_later-impls.ensures.impls

@@ -14,7 +14,7 @@ pub returns-in-Blank : goal.returns-in-Blank
 returns-in-Blank c = (declared c.args.tables.now, blank_gives _ _ _ c.in_ok-line_form.ensures c.in-Blank.is, refl)
 
 pub read_line_behind-requires-clause-short : goal.read_line_behind-requires-clause-short
-read_line_behind-requires-clause-short c = read_short c.args.line.now _ c.in-Read.read 1048576 c.in_ok-line_form.ensures c.in-Read.is c.requires.short
+read_line_behind-requires-clause-short c = read_short c.args.line.now _ c.in-Read.read 67108864 c.in_ok-line_form.ensures c.in-Read.is c.requires.short
 
 pub returns-in-Read : goal.returns-in-Read
 returns-in-Read c = read-given _ _ _ c.in-Read.read _ c.in_ok-line_form.ensures c.in-Read.is c.read_line_behind.ensures

@@ -11,7 +11,7 @@ pub returns-in-Blank-clause-gives : goal.returns-in-Blank-clause-gives
 returns-in-Blank-clause-gives g c = blank_gives _ _ _ c.in_ok-line_form.ensures c.in-Blank.is
 
 pub take_read-requires-clause-short : goal.take_read-requires-clause-short
-take_read-requires-clause-short g c = read_short c.args.line.now _ c.in-Read.read 1048576 c.in_ok-line_form.ensures c.in-Read.is c.requires.short
+take_read-requires-clause-short g c = read_short c.args.line.now _ c.in-Read.read 67108864 c.in_ok-line_form.ensures c.in-Read.is c.requires.short
 
 pub returns-in-Read-clause-gives : goal.returns-in-Read-clause-gives
 returns-in-Read-clause-gives g c = read_gives _ _ _ _ c.in-Read.read _ c.in_ok-line_form.ensures c.in-Read.is c.take_read.ensures.finds c.take_read.ensures.added

@@ -19,7 +19,7 @@ returns-in-None-clause-taken g c =
 pub returns-in-None-clause-few : goal.returns-in-None-clause-few
 returns-in-None-clause-few g c =
     let given = rw c.in_default.is at c.in_ok-kind.ensures.gives in
-    few-weaken _ (c.lines.place + 49 + 1) 1048640 (omega (arith, c.lines.invariant.short)) (given-few _ _ _ (c.lines.place + 49) given c.lines.invariant.few)
+    few-weaken _ (c.lines.place + 49 + 1) 67108928 (omega (arith, c.lines.invariant.short)) (given-few _ _ _ (c.lines.place + 49) given c.lines.invariant.few)
 
 pub lines-preserved : goal.lines-preserved
 lines-preserved g c =

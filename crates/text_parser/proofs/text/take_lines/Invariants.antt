@@ -9,7 +9,7 @@ invariant-lines g l = record {
   agrees : g.D.Declares.agrees l.tables;
   few : IsFew (g.D.Declares.so_far l.tables) (l.place + 49);
   counted : 1 ≤ l.place;
-  short : l.place + length l.rest ≤ 1048577;
+  short : l.place + length l.rest ≤ 67108865;
   so_far : (r : Result Declarations (ℕ × ℕ)) → LinesGive (g.D.Declares.so_far l.tables) l.place (lines_of l.rest) r → LinesGive (g.D.Declares.so_far l.fn.tables) 1 (lines_of l.bytes) r;
 }
 
