@@ -26,7 +26,7 @@ from . import reading
 from .common import TOP, Tally, crates
 
 FIGURES = Path(__file__).with_suffix(".txt")
-NO_PRODUCT = ("test_", "bench_")
+NO_PRODUCT = "test_"
 MANY = 7
 FOLDERS = {"src": (".rt", "//"), "specs": (".antt", "--"), "proofs": (".antt", "--")}
 
