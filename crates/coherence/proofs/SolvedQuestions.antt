@@ -12,9 +12,12 @@ use Rattle.sessions.specs.TextLanguage.Promised.Declarations.{Declarations}
 use Rattle.sessions.specs.QuestionAnswers.{FitKinds, of_kind, filled, filled_reference, SolutionBy, IsProveAnswer, yes, IsRefuteAnswer, no}
 use Rattle.sessions.specs.Promised.CoherentTexts.{TextIsCoherent}
 use Rattle.sessions.specs.Promised.CoherentTexts.{text_world}
+use Rattle.sessions.specs.Promised.Entailment.{Entails}
 use Rattle.sessions.specs.Promised.OwnValues.{SpeakOfOwn}
 use Rattle.sessions.specs.Promised.Promises.{AreForced, view_in}
 use Rattle.coherence.specs.Promised.ProvedAnswers.{with_values, reference_with, SolvedBy, YesTells, NoTells, TextHolds}
+use Rattle.sessions.specs.Verdicts.{placed}
+use Rattle.sessions.proofs.Entailment.{yes-holds}
 use Rattle.sessions.proofs.ProvedQuestions.{inner as node}
 
 -- ---- values put in
@@ -70,6 +73,9 @@ module _ (limit : ℕ) (d : Declarations) (c : ℕ) (ks : List Sort) where
     λ x. to-solved (HasProof (view_in d c) E) ks r (h.2 x),
     own,
     λ alone s only. forced alone (of-solved (HasProof (view_in d c) E) ks r s) (λ x. only (to-solved (HasProof (view_in d c) E) ks r x)),
+    λ W vs rank l ρ v.
+        subst (λ x. Entails W (map (renumbered_reference ρ) E) (renumbered_reference ρ x)) (reference-same ks ts r)
+        (yes-holds W vs rank l (placed (view_in d c) c ρ) v limit ks ts E r h),
   )
 
   of-yes : (E : List Reference) (r : Reference) (ts : List Trees) → YesTells d c ks E r ts → IsProveAnswer limit (view_in d c) ks E r (yes ts)
@@ -96,6 +102,6 @@ pub text-holds : (limit : ℕ) (d : Declarations) → TextIsCoherent limit d →
 text-holds limit d h = record {
   one_impl = h.one_impl;
   no_holds = λ c ks r n x. h.no_holds c ks r (of-no limit d c ks r n) (of-solved (HasProof (text_world d) []) ks r x);
-  yes_holds = λ c ks ts r y. subst (HasProof (text_world d) []) (reference-same ks ts r) (h.yes_holds c ks ts r (of-yes limit d c ks [] r ts y));
+  yes_holds = λ c ks ts E r y. subst (Entails (text_world d) E) (reference-same ks ts r) (h.yes_holds c ks ts E r (of-yes limit d c ks E r ts y));
   no_or_yes = λ c e ks ts r alone n y. h.no_or_yes c e ks ts r alone (of-no limit d c ks r n) (of-yes limit d e ks [] r ts y) y.3;
 }

@@ -15,6 +15,7 @@ use Rattle.sessions.specs.TextLanguage.Promised.Declarations.{Declarations, Ques
 use Rattle.sessions.specs.TextLanguage.Promised.PrintedTypes.{yes_values_text}
 use Rattle.sessions.specs.QuestionAnswers.{HoldUnknownsAlone}
 use Rattle.sessions.specs.Promised.CoherentTexts.{text_world}
+use Rattle.sessions.specs.Promised.Entailment.{Entails}
 use Rattle.sessions.specs.Promised.OwnValues.{HasNoParameter, SpeakOfOwn}
 use Rattle.sessions.specs.Promised.Promises.{view_in}
 
@@ -39,10 +40,12 @@ ForcedBy H ks r ts = HoldUnknownsAlone ts → (s : SolvedBy H ks r) → ((x : So
 -- What `yes` with values tells in crate c: with them the reference has a proof by what the crate sees and the where-clauses E; unknowns that are
 -- left, and parameters, stand for themselves. Where the values hold unknowns alone, there are closed ones with which it has a proof. They name
 -- what the crate sees, and their open places are unknowns and parameters that the question names. Where it has one solution alone, they are it.
+-- In each linked set with the crate, the where-clauses entail the reference with them.
 abbrev pub YesTells : Declarations → ℕ → List Sort → List Reference → Reference → List Trees → Type 0
 YesTells d c ks E r ts =
     AllZip IsA ks ts × HasProof (view_in d c) E (reference_with ks ts r) × (HoldUnknownsAlone ts → SolvedBy (HasProof (view_in d c) E) ks r)
     × SpeakOfOwn (view_in d c) E r ts × ForcedBy (HasProof (view_in d c) E) ks r ts
+    × InEverySetWith (view_in d c) c (λ W ρ. Entails W (map (renumbered_reference ρ) E) (renumbered_reference ρ (reference_with ks ts r)))
 
 -- What `no` says in crate c. No concrete values give the trait reference a proof by what the crate sees alone, with the supertraits of all
 -- that the proof concludes, nor in a linked set with the crate. A bounded trait reference gets this answer exactly if it is not possible.
@@ -73,7 +76,7 @@ pub record TextHolds (limit : ℕ) (d : Declarations) : Type 0 where
   pub one_impl : (r : Reference) → IsTrue (is_closed r.args) → (n k : ℕ) → HasProofByImpl (text_world d) [] r n → HasProofByImpl (text_world d) [] r k → n ≡ k
   -- what is answered `no` in some crate has no solution
   pub no_holds : (c : ℕ) (ks : List Sort) (r : Reference) → NoTells limit d c ks r → SolvedBy (HasProof (text_world d) []) ks r → ⊥
-  -- what is answered `yes` without where-clauses has a proof
-  pub yes_holds : (c : ℕ) (ks : List Sort) (ts : List Trees) (r : Reference) → YesTells d c ks [] r ts → HasProof (text_world d) [] (reference_with ks ts r)
+  -- what is answered `yes` in some crate is entailed by the where-clauses
+  pub yes_holds : (c : ℕ) (ks : List Sort) (ts : List Trees) (E : List Reference) (r : Reference) → YesTells d c ks E r ts → Entails (text_world d) E (reference_with ks ts r)
   -- what is answered `no` in some crate is not answered `yes` without where-clauses in any; a `refute` question has no parameters
   pub no_or_yes : (c e : ℕ) (ks : List Sort) (ts : List Trees) (r : Reference) → HasNoParameter r → NoTells limit d c ks r → YesTells d e ks [] r ts → ⊥
