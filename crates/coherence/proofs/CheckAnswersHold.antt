@@ -17,6 +17,9 @@ use Rattle.sessions.specs.TextLanguage.Names.{answer_values}
 use Rattle.sessions.specs.TextLanguage.Output.{Answer, answer_text, values_text}
 use Rattle.sessions.proofs.TextLanguage.SamePrinted.{yes-values-text-is}
 use Rattle.sessions.specs.QuestionAnswers as answers
+use Rattle.sessions.specs.TextQuestions.{variable_kinds}
+use Rattle.sessions.specs.Verdicts.{placed}
+use Rattle.sessions.proofs.Entailment.{yes-holds}
 use Rattle.sessions.specs.Promised.Promises.{view_in}
 use Rattle.sessions.specs.Promised.Releases as releases
 use Rattle.sessions.specs.Promised.Releases.{StopsAt, asked_supers, given_clauses}
@@ -153,9 +156,10 @@ module _ (limit : ℕ) (d : Declarations) (n : ℕ) (q : Question) where
       let start : List ℕ = codes "prove " ++ decimal n ++ codes ": " in
       subst (QuestionAnswer limit d n q)
       (ap (λ v. start ++ (codes "yes" ++ v)) (yes-values-text-is d q ts) ∙ sym (append_assoc start (codes "yes") (values_text (answer_values d q ts))))
-      (says_proved (answers.yes ts) e h)
-  question-told _ (of_prove answers.unproved e h) = says_proved answers.unproved e h
-  question-told _ (of_prove answers.maybe e h) = says_proved answers.maybe e h
+      (says_proved (answers.yes ts) e h (λ W vs rank l ρ v.
+      yes-holds W vs rank l (placed (view_in d q.asker) q.asker ρ) v limit (variable_kinds q) ts (map erased_reference q.clauses) (erased_reference q.asked) h.0))
+  question-told _ (of_prove answers.unproved e h) = says_proved answers.unproved e h tt
+  question-told _ (of_prove answers.maybe e h) = says_proved answers.maybe e h tt
   question-told _ (of_refute answers.no e h) = says_refuted answers.no e h
   question-told _ (of_refute answers.unrefuted e h) = says_refuted answers.unrefuted e h
 

@@ -6,24 +6,34 @@ use Rattle.type_terms.specs.Promised.Trees.{Trees}
 use Rattle.type_terms.specs.Promised.Worlds.{World, ImplDecl, Reference, core}
 use Rattle.type_terms.specs.Promised.Proofs.{In, HasProof}
 use Rattle.type_terms.specs.Promised.Supers.{IsHeld}
-use Rattle.type_terms.specs.Promised.Renumbering.{View}
-use Rattle.type_terms.specs.Renumbering.{view_at}
+use Rattle.type_terms.specs.Promised.Renumbering.{View, HoldsView, renumbered_reference}
+use Rattle.type_terms.specs.Renumbering.{as_they_are, view_at}
 use Rattle.type_terms.specs.Promised.LinkedSet.{JoinedSet, LinkedSet, HeadersHaveSupertraits, IsOfAnAnsweredCrate}
 use Rattle.type_terms.proofs.Members.{in-map, here}
 use Rattle.type_terms.proofs.SameNumbers.{reference-same}
 use Rattle.type_terms.proofs.HeldSets.{held-linked}
+use Rattle.type_terms.proofs.NoHolds.{every-member}
 use Rattle.type_terms.specs.Promised.Verdicts.{IsAccepted}
 use Rattle.type_terms.specs.Promised.SetLaws.{HeadlineHolds, AnswersHold, AnswersHoldEverywhere}
 use Rattle.type_terms.specs.Promised.Questions.{filled_reference, SolutionBy, Solution, yes, IsProveAnswer, no, IsRefuteAnswer}
 use Rattle.text_language.specs.Promised.Declarations.{Declarations}
 use Rattle.sessions.specs.Promised.CoherentTexts.{text_world}
+use Rattle.sessions.specs.Promised.Entailment.{Entails}
 use Rattle.sessions.specs.Promised.Promises.{view_in}
 use Rattle.sessions.specs.Promised.CoherentTexts.{CratesAreAccepted, CratesAreHeld, TextIsCoherent, HeldTextsAreCoherent}
 use Rattle.sessions.specs.CoherentTexts.{AcceptedTextsAreCoherent}
+use Rattle.sessions.proofs.Entailment.{yes-holds as yes-in-sets}
 use Rattle.sessions.proofs.OwnValues.{solved}
 use Rattle.sessions.proofs.KeptTexts.{AllKept, texts-are-kept}
 use Rattle.sessions.proofs.JoinedTexts.{joined, home-below, of-core, core-or-later, map-at}
 use Rattle.text_language.proofs.SameTexts.{text-gives}
+
+references-same : (rs : List Reference) → map (renumbered_reference as_they_are) rs ≡ rs
+references-same [] = refl
+references-same (r ∷ rs) = both (reference-same r) (references-same rs)
+  where
+    both : {a b : Reference} {c d : List Reference} → a ≡ b → c ≡ d → a ∷ c ≡ b ∷ d
+    both p q = cc
 
 -- the numbers from 1 up to n
 abbrev up_to : ℕ → List ℕ
@@ -104,9 +114,11 @@ module _ (d : Declarations) (a : AllKept d) (accepted : CratesAreAccepted d) whe
     no-holds : (limit c : ℕ) (ks : List Sort) (r : Reference) → IsRefuteAnswer limit (view_in d c) c ks r no → Solution W ks r → ⊥
     no-holds limit c ks r h s = (asked limit c).no_holds (view_at W c) (here (view_at W c) []) ks r h (subst (Solution W ks) (sym (reference-same r)) s)
 
-    yes-holds : (limit c : ℕ) (ks : List Sort) (ts : List Trees) (r : Reference) → IsProveAnswer limit (view_in d c) ks [] r (yes ts) → HasProof W [] (filled_reference ks ts r)
-    yes-holds limit c ks ts r h =
-        subst (HasProof W []) (reference-same (filled_reference ks ts r)) ((asked limit c).yes_holds (view_at W c) (here (view_at W c) []) ks ts r h)
+    yes-holds : (limit c : ℕ) (ks : List Sort) (ts : List Trees) (E : List Reference) (r : Reference) → IsProveAnswer limit (view_in d c) ks E r (yes ts) → Entails W E (filled_reference ks ts r)
+    yes-holds limit c ks ts E r h =
+        subst (λ F. Entails W F (filled_reference ks ts r)) (references-same E)
+        (subst (Entails W (map (renumbered_reference as_they_are) E)) (reference-same (filled_reference ks ts r))
+        (yes-in-sets W (view_at W c ∷ []) (λ n. n) (linked (c ∷ [])) (view_at W c) (every-member (HoldsView W) (view_at W c ∷ []) (view_at W c) (set (c ∷ [])).as_answered (here (view_at W c) [])) limit ks ts E r h))
 
     -- a solution by what a crate sees is one of the text
     solved-there : (limit e : ℕ) (ks : List Sort) (r : Reference) → SolutionBy (HasProof (view_in d e) []) ks r → Solution W ks r
@@ -114,7 +126,7 @@ module _ (d : Declarations) (a : AllKept d) (accepted : CratesAreAccepted d) whe
       values = s.values;
       fitting = s.fitting;
       closed = s.closed;
-      proved = yes-holds limit e ks s.values r (s.fitting, s.proved, λ _. s);
+      proved = (yes-holds limit e ks s.values [] r (s.fitting, s.proved, λ _. s)).generic;
     }
 
     pub coherent : (limit : ℕ) → TextIsCoherent limit d

@@ -90,6 +90,8 @@ pub mod JoinedTexts
 pub mod OwnValues
 pub mod HandedOn
 pub mod Foreign
+pub mod Entailment
+pub mod LostImpls
 pub mod CoherentTexts
 mod ArrangedItems
 mod AnsweredInOrder

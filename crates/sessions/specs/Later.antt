@@ -1,6 +1,10 @@
 -- The check of a later version, impl by impl. V is what the crate c sees.
 use Rattle.std.specs.Prelude.{◌≡◌, ◌≤◌, ◌-◌, ℕ, true, false, List, map, take, Some, slice_get}
+use Rattle.type_terms.specs.Promised.Label.{Sort}
 use Rattle.type_terms.specs.Promised.Proofs.{Every}
+use Rattle.type_terms.specs.Promised.Questions.{Solution, IsRefuted}
+use Rattle.type_terms.specs.Promised.Renumbering.{View, HoldsView, renumbered_reference}
+use Rattle.type_terms.specs.Wider.{IsBelow, anything}
 use Rattle.type_terms.specs.Promised.Erased.{erased_reference, erased_impl}
 use Rattle.type_terms.specs.Promised.Versions.{is_addable}
 use Rattle.type_terms.specs.Promised.Worlds.{World, Reference}
@@ -34,3 +38,10 @@ pub record IsFirstRefused (V : World) (c : ℕ) (hs : List Reference) (n : ℕ) 
 abbrev pub IsAnswerOn : World → ℕ → List Reference → LaterAnswer → Type 0
 IsAnswerOn V c hs compatible = Every (MayAdd V c) hs
 IsAnswerOn V c hs (breaking n) = IsFirstRefused V c hs n
+
+-- A release that only loses impls, or gives them more where-clauses, turns no `no`. V is a set with the old version, and W one with the new
+-- version, which has some of V's rules.
+abbrev pub OldRefutationsStay : World → List View → Type 0
+OldRefutationsStay V vs =
+    (v : View) → HoldsView V v → (ks : List Sort) (r : Reference) → IsRefuted v.world v.asker ks r → (W : World) → IsBelow anything W V
+    → Solution W ks (renumbered_reference v.numbers r) → ⊥

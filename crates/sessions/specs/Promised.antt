@@ -1,6 +1,7 @@
 -- What the promises of the calls rest on.
 pub mod AnsweredSets
 pub mod CoherentTexts
+pub mod Entailment
 pub mod FrameBounds
 pub mod Given
 pub mod OwnValues

@@ -17,8 +17,8 @@ ghost use Rattle.declarations.specs.Promised.Elaboration.{Each};
 ghost use Rattle.workspace.specs.declared.tables.TheConstants.{ENTRY_LIMIT};
 ghost use Rattle.sessions.specs.Checking.{IsReadySolver, SolverStaysReady, rules_in};
 ghost use Rattle.sessions.specs.Promised.Given.{later_of};
-ghost use Rattle.sessions.specs.Later.{IsAnswerOn, header_in, section_headers};
-ghost use Rattle.sessions.specs.Promised.Releases.{AddedImplsBreakNoUser};
+ghost use Rattle.sessions.specs.Later.{IsAnswerOn, OldRefutationsStay, header_in, section_headers};
+ghost use Rattle.sessions.specs.Promised.Releases.{AddedImplsBreakNoUser, OldProofsStay};
 ghost use Rattle.sessions.specs.Promised.Subjects.{IsOfText};
 
 use crate::answers::LaterAnswer;
@@ -49,6 +49,16 @@ pub fn added_impls_break_no_user()
     later_versions_break_no_user();
     later_impls_conclude_nothing_known();
 }
+
+/// What was answered of an old version, and holds with the new one.
+///
+/// - If the new version proves the header of each old impl from its where-clauses, and auto traits stay, each bound without parameters that
+///   had a proof has one. So an impl may go or change.
+/// - If the new version only loses impls, or gives them more where-clauses, what had no solution has none.
+pub fn old_answers_stay()
+    ensures yes { InEveryLinkedSet OldProofsStay }
+    ensures no { InEveryLinkedSet OldRefutationsStay }
+{}
 
 /// Whether users may rely on the trait not being implemented: it is fundamental or auto.
 pub fn trait_is_relied_on(declarations: &Declarations, id: TraitId) -> bool

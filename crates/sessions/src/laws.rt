@@ -1,6 +1,7 @@
 //! Laws of sessions, with no code to run: what the calls promise of texts without a fault, and what follows from it.
 
 ghost use Rattle.std.specs.Prelude.{Option};
+ghost use Rattle.type_terms.specs.Promised.LinkedSet.{InEveryLinkedSet};
 ghost use Rattle.infer_table.specs.Responses.{AnswerTrees};
 ghost use Rattle.goal_evaluator.specs.Tables.{frame_tables};
 ghost use Rattle.goal_frames.specs.Searches.{Handles, GoalInMode};
@@ -27,6 +28,7 @@ ghost use Rattle.sessions.specs.Promised.AnsweredSets.{AnsweredSetsAreCoherent, 
 ghost use Rattle.sessions.specs.AnsweredSets.{AnsweredSetsInAnyOrder, TextsObeyTheirRules};
 ghost use Rattle.sessions.specs.CoherentTexts.{AcceptedTextsAreCoherent};
 ghost use Rattle.sessions.specs.Promised.CoherentTexts.{HeldTextsAreCoherent};
+ghost use Rattle.sessions.specs.Promised.Entailment.{YesHolds};
 ghost use Rattle.sessions.specs.JoinedSets.{HeldCratesAreLinked, JoinedSetsAreFourRecords};
 ghost use Rattle.sessions.specs.JoinedTexts.{TextsAreJoined, TextsListInOrder};
 ghost use Rattle.sessions.specs.ScopedTexts.{ImplsAreInScope};
@@ -208,6 +210,12 @@ pub fn ready_impls_are_written_well()
 pub fn joined_sets_are_four_records()
     ensures same { JoinedSetsAreFourRecords }
     ensures held { HeldCratesAreLinked }
+{}
+
+/// In each linked set, the where-clauses of a query that was answered `yes` by a view that the set holds entail the query's trait reference
+/// with the values.
+pub(crate) fn yes_holds_in_linked_sets()
+    ensures { InEveryLinkedSet YesHolds }
 {}
 
 /// For linkers: a finite set of crates of any texts, closed under uses, that fit together, and each of which is accepted and held, is a

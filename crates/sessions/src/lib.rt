@@ -36,7 +36,7 @@ pub use answers::{LaterAnswer, ProveAnswer, RefuteAnswer, SupersAnswer, Verdict}
 pub use asked::lower_in;
 pub use checked::{intersection_at, overlap_at};
 pub use impossible::is_impossible;
-pub use later::{added_impls, added_impls_break_no_user, trait_is_relied_on};
+pub use later::{added_impls, added_impls_break_no_user, old_answers_stay, trait_is_relied_on};
 pub use laws::{
     SolverSearch, accepted_texts_are_coherent, answered_sets_are_linked, clauses_apply,
     crates_of_two_texts_are_a_set, decided_are_answered, formed_questions_are_goals,

@@ -15,12 +15,13 @@ ghost use Rattle.text_language.specs.Promised.Declarations.{Question};
 ghost use Rattle.sessions.specs.Promised.AnsweredSets.{AnsweredSetsAreCoherent, AnsweredSetsAreLinked};
 ghost use Rattle.sessions.specs.ByTrait.{ListsSeen, HavePartnersSeen};
 ghost use Rattle.sessions.specs.Promised.CoherentTexts.{HeldTextsAreCoherent};
+ghost use Rattle.sessions.specs.Promised.Entailment.{YesHolds};
 ghost use Rattle.sessions.specs.Checking.{HasOrphan, HasJudged, HasPartner, HasOverlap};
 ghost use Rattle.sessions.specs.FixedGoals.{AreRefutedInSession};
 ghost use Rattle.sessions.specs.Promised.FrameBounds.{ProvesInFrames, RefutesInFrames};
 ghost use Rattle.sessions.specs.Promised.Given.{AnswerValuesHeld, VerdictHeld, answer_in, later_of, refutation_of, supers_answer_of, verdict_in};
 ghost use Rattle.sessions.specs.Promised.Promises.{IsProved, IsRefutation, IsVerdictOf};
-ghost use Rattle.sessions.specs.Promised.Releases.{AddedImplsBreakNoUser, IsSectionOf, IsLaterAnswer, IsSupersAnswer};
+ghost use Rattle.sessions.specs.Promised.Releases.{AddedImplsBreakNoUser, IsSectionOf, IsLaterAnswer, IsSupersAnswer, OldProofsStay};
 ghost use Rattle.sessions.specs.SeenViews.{IsLeftView, IsViewOf};
 ghost use Rattle.sessions.specs.Shown.{AreProofOfQuestion};
 ghost use Rattle.sessions.specs.Promised.Shortages.{SessionFullAtLimit};
@@ -32,10 +33,10 @@ use crate::asked::rest_laws;
 use crate::by_trait::ImplsByTrait;
 use crate::checked::{first_broken_header, overlaps_by_goals};
 use crate::fixed_goals::FixedAnswers;
-use crate::later::{added_impls_break_no_user, later_answer};
+use crate::later::{added_impls_break_no_user, later_answer, old_answers_stay};
 use crate::laws::{
     answered_sets_are_linked, clauses_apply, held_texts_are_coherent, impls_apply,
-    other_answers_are_right, yes_is_proved,
+    other_answers_are_right, yes_holds_in_linked_sets, yes_is_proved,
 };
 use crate::limits::Limits;
 use crate::proving::prove_question;
@@ -416,7 +417,8 @@ impl<'w> Session<'w> {
     /// An impl may be added if it keeps the crate's orphan rule, its trait is neither fundamental nor auto, and its open walk meets no
     /// parameter. `Compatible` says that no crate that uses this one, seen or unseen, can have an impl that overlaps one of them. None of
     /// their instances is knowable in a crate that this one does not see. `Breaking` names the first impl for which that does not hold,
-    /// counted from 1. Supertraits are not looked at: see `check_supertraits`.
+    /// counted from 1. Supertraits are not looked at: see `check_supertraits`. Whether an impl may go or change, `prove` answers in the new
+    /// version, asked for the impl's header under its where-clauses.
     ///
     /// No goal is evaluated. Fails with `Memory` if memory is refused, or with `Full` if a table of the session is full.
     ///
@@ -426,6 +428,9 @@ impl<'w> Session<'w> {
 
         // In each linked set, what a later version may add breaks no user.
         ensures users { InEveryLinkedSet AddedImplsBreakNoUser }
+
+        // An impl may go or change if the new version proves its header from its where-clauses: then what had a proof has one.
+        ensures lost { InEveryLinkedSet OldProofsStay }
         ensures answer { IfOk result (λ a. IsLaterAnswer self.old.declarations self.old.of_crate section (later_of a)) }
         ensures stays { StaysOn self.old self.new }
         ensures frames { self.new.frames ≡ self.old.frames }
@@ -433,6 +438,7 @@ impl<'w> Session<'w> {
     {
         rest_laws::<Solver>();
         added_impls_break_no_user();
+        old_answers_stay();
         later_answer(&mut self.search.cx, self.workspace, section)
     }
 
@@ -454,9 +460,9 @@ impl<'w> Session<'w> {
         ensures one_impl { AnsweredSetsAreCoherent }
         ensures coherent { HeldTextsAreCoherent }
 
-        // In each linked set with a crate that answered, what got `no` has no solution, and what got `yes` without where-clauses has a
-        // proof.
+        // In each linked set with a crate that answered, what got `no` has no solution, and the where-clauses of what got `yes` entail it.
         ensures everywhere { AnswersHoldEverywhere }
+        ensures entailed { InEveryLinkedSet YesHolds }
         ensures answer { IfOk result (λ a. IsSupersAnswer self.old.depth self.old.declarations self.old.of_crate (supers_answer_of a)) }
         ensures stays { StaysOn self.old self.new }
         ensures full { IfErr result (SessionFullAtLimit self.new) }
@@ -464,6 +470,7 @@ impl<'w> Session<'w> {
         answered_sets_are_linked();
         held_texts_are_coherent();
         answers_hold_in_linked_sets();
+        yes_holds_in_linked_sets();
         let end = self.impl_end();
         for number in 0..end {
             let id = ImplId { index: number };

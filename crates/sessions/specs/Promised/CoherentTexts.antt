@@ -3,12 +3,13 @@ use Rattle.std.specs.Prelude.{◌≡◌, ℕ, ◌<◌, IsTrue, List, [], length}
 use Rattle.type_terms.specs.Promised.Label.{Sort}
 use Rattle.type_terms.specs.Promised.Trees.{Trees}
 use Rattle.type_terms.specs.Promised.Worlds.{Reference, core, World}
-use Rattle.type_terms.specs.Promised.Proofs.{HasProof, HasProofByImpl}
+use Rattle.type_terms.specs.Promised.Proofs.{HasProofByImpl}
 use Rattle.type_terms.specs.Promised.Answers.{is_closed}
 use Rattle.type_terms.specs.Promised.Supers.{IsHeld}
 use Rattle.text_language.specs.Promised.Declarations.{Declarations, world_of}
 use Rattle.type_terms.specs.Promised.Verdicts.{IsAccepted}
 use Rattle.type_terms.specs.Promised.Questions.{filled_reference, Solution, yes, IsProveAnswer, no, IsRefuteAnswer}
+use Rattle.sessions.specs.Promised.Entailment.{Entails}
 use Rattle.sessions.specs.Promised.OwnValues.{HasNoParameter, SpeakOfOwn}
 use Rattle.sessions.specs.Promised.Promises.{view_in}
 use Rattle.sessions.specs.Promised.Subjects.{IsOfText}
@@ -32,8 +33,9 @@ pub record TextIsCoherent (limit : ℕ) (d : Declarations) : Type 0 where
   pub one_impl : (r : Reference) → IsTrue (is_closed r.args) → (n k : ℕ) → HasProofByImpl (text_world d) [] r n → HasProofByImpl (text_world d) [] r k → n ≡ k
   -- what is answered `no` in some crate has no solution
   pub no_holds : (c : ℕ) (ks : List Sort) (r : Reference) → IsRefuteAnswer limit (view_in d c) c ks r no → Solution (text_world d) ks r → ⊥
-  -- what is answered `yes` without where-clauses has a proof
-  pub yes_holds : (c : ℕ) (ks : List Sort) (ts : List Trees) (r : Reference) → IsProveAnswer limit (view_in d c) ks [] r (yes ts) → HasProof (text_world d) [] (filled_reference ks ts r)
+  -- what is answered `yes` in some crate is entailed by the where-clauses
+  pub yes_holds : (c : ℕ) (ks : List Sort) (ts : List Trees) (E : List Reference) (r : Reference) → IsProveAnswer limit (view_in d c) ks E r (yes ts)
+      → Entails (text_world d) E (filled_reference ks ts r)
   -- what is answered `no` in some crate is not answered `yes` without where-clauses in any; a `refute` question has no parameters
   pub no_or_yes : (c e : ℕ) (ks : List Sort) (ts : List Trees) (r : Reference) → HasNoParameter r → IsRefuteAnswer limit (view_in d c) c ks r no
       → IsProveAnswer limit (view_in d e) ks [] r (yes ts) → SpeakOfOwn (view_in d e) [] r ts → ⊥

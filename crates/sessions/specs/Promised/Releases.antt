@@ -1,13 +1,15 @@
 -- What the answers to `later` and `supers` promise.
-use Rattle.std.specs.Prelude.{◌≡◌, ◌≤◌, ◌<◌, ◌-◌, ℕ, true, false, IsTrue, List, map, take, Some, slice_get}
+use Rattle.std.specs.Prelude.{◌≡◌, ◌≤◌, ◌<◌, ◌-◌, ℕ, true, false, IsTrue, List, [], map, take, Some, slice_get}
 use Rattle.type_terms.specs.Promised.Erased.{erased_reference, erased_impl}
 use Rattle.type_terms.specs.Promised.Trees.{Trees, Fits}
 use Rattle.type_terms.specs.Promised.Worlds.{World, Reference, ImplDecl, sees, view_of, with_args}
+use Rattle.type_terms.specs.Promised.Rules.{is_auto, is_coinductive}
 use Rattle.type_terms.specs.Promised.Walks.{keeps_orphan_rule, is_known}
-use Rattle.type_terms.specs.Promised.Answers.{IsDeterminate, Overlaps}
+use Rattle.type_terms.specs.Promised.Answers.{is_closed, IsDeterminate, Overlaps}
 use Rattle.type_terms.specs.Promised.Proofs.{In, Every, HasProof}
 use Rattle.type_terms.specs.Promised.Supers.{opaque_reference, SupersHold, IsHeld}
 use Rattle.type_terms.specs.Promised.Renumbering.{View, HoldsView, asker_in_set, renumbered_impl}
+use Rattle.type_terms.specs.Promised.LinkedSet.{JoinedSet}
 use Rattle.type_terms.specs.Promised.Versions.{Added, is_addable, in_scope}
 use Rattle.text_language.specs.Promised.Declarations.{Declarations, NamedImpl, section_impls, world_of}
 use Rattle.declarations.specs.Promised.Elaboration.{supertraits}
@@ -86,3 +88,21 @@ abbrev pub IsSupersAnswer : ℕ → Declarations → ℕ → SupersAnswer → Ty
 IsSupersAnswer limit d c held = IsHeld (view_in d c) c
 IsSupersAnswer limit d c (missing k j) = StopsAt limit d c k j
 IsSupersAnswer limit d c (undecided k j) = StopsAt limit d c k j
+
+-- ---- removed and changed impls
+-- V is what a crate saw when it used the old version of another one, U what it sees now, and W a set with the new version.
+pub record KeepsWhatHeld (V U W : World) : Type 0 where
+  -- The structs and traits are the same. New ones may be written into the old text, which has no impls for them.
+  pub structs : U.structs ≡ V.structs
+  pub traits : U.traits ≡ V.traits
+  -- Each impl of a trait that is not auto has a proof of its header from its where-clauses, also an impl that is gone or has changed. This is
+  -- what `prove` answers of it in the new text.
+  pub impls : (i : ImplDecl) → In i V.impls → is_auto V i.header.trait ≡ false → HasProof W (map opaque_reference i.clauses) (opaque_reference i.header)
+  -- What is `Sized` or has an auto trait still is or has.
+  pub autos : (r : Reference) → IsTrue (is_closed r.args) → is_coinductive V r.trait ≡ true → HasProof V [] r → HasProof W [] r
+
+-- Then each closed trait reference that had a proof has one.
+abbrev pub OldProofsStay : World → List View → Type 0
+OldProofsStay W us =
+    (V : World) (vs : List View) (rank : ℕ → ℕ) → JoinedSet V vs rank → (c : ℕ) → KeepsWhatHeld (view_of V c) (view_of W c) W
+    → (r : Reference) → IsTrue (is_closed r.args) → HasProof (view_of V c) [] r → HasProof W [] r

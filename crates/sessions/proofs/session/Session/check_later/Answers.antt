@@ -50,3 +50,6 @@ returns-clause-stays c =
     let i = c.self.inside in
     subst (λ (s : Subject). StaysOn s (record { declarations = i.workspace.now; of_crate = i.crate_id.index; depth = i.limits.depth; handles = i.limits.handles; terms = c.later_answer.new.cx.interner.entries; goals = length (kept_inputs c.later_answer.new.cx.store); answers = length (kept_responses c.later_answer.new.cx.store); frames = i.search.graph.frames })) c.self.view_is
     (record { declarations = refl; of_crate = refl; depth = refl; handles = refl; terms = c.later_answer.ensures.advances.entries })
+
+pub returns-clause-lost : goal.returns-clause-lost
+returns-clause-lost c = c.old_answers_stay.ensures.yes
