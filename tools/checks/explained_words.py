@@ -9,7 +9,8 @@ Of each `prove` and `refute` question, and each supertrait of a header that is n
 is not cut:
 
     a reference that "was not proved", also one that a candidate needs    `prove` does not answer `yes`
-    each row of a proof                                                   `prove` answers `yes`
+    each row of a proof                                                   `prove` answers `yes`; and an own checker of proofs finds its rule
+                                                                          (explained_proofs.py)
     what "no such crate can give", and what no crate can make hold        `refute` answers `no`
     "the impl at line N fits", "applies", "may apply"                     its header and the goal can be one reference
     "no impl of .. fits"                                                  no impl that the crate sees can be the goal
@@ -18,10 +19,12 @@ is not cut:
     an overlap for a type                                                 both headers that are marked can be that
     a where-clause of such impls, or an open goal, that "holds"           `prove` answers `yes`
     "downstream crates may implement" a trait                             a new crate that uses the asker writes the impl, with a struct of its
-                                                                          own for unknowns: no fault 6, 11 or 12, and it is no orphan;
-                                                                          and `prove` does not answer `yes`, if all crates are accepted
+                                                                          own for unknowns: no fault 6, 11 or 12, it is accepted, and so is each
+                                                                          crate that was; and `prove` does not answer `yes`, if all are accepted
     "upstream crates may add a new impl"                                  a section of the crate of the trait has it: none of these faults, and
-                                                                          it is `compatible`; and `prove` does not answer `yes`, if so
+                                                                          it is `compatible`; and that crate has it, with a struct of its own for
+                                                                          unknowns: each crate that was accepted is, but for pairs of other impls
+                                                                          that only its absence keeps apart; and `prove` as before
 
 What is asked is asked of the other program, whose answers are proved. A case is a text. The line before the last tells how many claims of
 each kind there were.
@@ -39,6 +42,7 @@ from typing import Any, Callable, Iterator, NamedTuple, Optional, Sequence
 from .answers import first_word
 from .common import Limits, Tally, examples, program, run
 from .explained_json import read_lines
+from .explained_proofs import CUT, Declared, Header, Query, Wrongs
 from .terms import Reader, Term, Unread, Values, owned, reference_of, unify
 from .makers import PlainText
 
@@ -58,6 +62,7 @@ ROW = re.compile(r"[|` -]*(.*?)  +(\S.*)$")
 HOLE = re.compile(r"\b_\b")
 QUESTION = re.compile(r"(prove|refute) (\d+): (.*)$")
 ANSWERED = re.compile(r"(prove|refute) \d+: (.*)$")
+OVERLAPPED = re.compile(r"crate (\w+): overlap impl (\d+) with (\w+) (\d+)$")
 FAULT = re.compile(r"line (\d+): fault")
 Is = Callable[[str], bool]
 
@@ -128,13 +133,16 @@ class Text:
         self.impls: dict[int, Optional[Impl]] = {}
         self.uses: dict[str, list[str]] = {"core": []}
         self.questions: list[Asker] = []
+        self.references: list[str] = []
         self.others: list[str] = []
         crate, in_section = "core", False
         for number, line in enumerate(lines, 1):
             words = line.split()
             first = words[0] if words else ""
             if first in ("prove", "refute"):
-                self.questions.append(asker_of(words[2], line.strip().split(None, 2)[2].removeprefix(words[2])))
+                asked = line.strip().split(None, 2)[2].removeprefix(words[2])
+                self.questions.append(asker_of(words[2], asked))
+                self.references.append(params_before(asked.partition(" where ")[0])[2].strip())
                 continue
             self.others.append(line)
             if first == "crate":
@@ -186,28 +194,64 @@ def goal_of(text: str, asker: Asker) -> Optional[Term]:
 
 
 class Written(NamedTuple):
-    """An impl that may be written, as it was said: the lines of a crate or a section with it, and what is said of these where it may."""
+    """An impl that may be written, as it was said: its lines, the crate at whose end they stand (none: behind all), what is said of them
+    where it may, and the sentence."""
 
     lines: list[str]
+    home: str
     answer: str
     said: str
 
 
-def filled(text: str, value: str) -> str:
-    """With this type for each unknown, and 1 for unknown lengths."""
-    return UNKNOWN.sub(value, LENGTH.sub("; 1", text))
+def filled(bound: str, subject: str, value: Callable[[str], str]) -> str:
+    """The line of an impl, with a type for each unknown, and a length that no impl names for unknown ones."""
+    bound, subject = (UNKNOWN.sub(lambda it: value(it[0]), LENGTH.sub("; 65521", it)) for it in (bound, subject))
+    return f"impl {bound} for {subject}"
 
 
-def written(crate: str, found: re.Match[str]) -> Optional[Written]:
-    """What a crate is told that others may write; none where it is cut."""
+def with_own(bound: str, subject: str, are_same: bool) -> list[str]:
+    """The lines of an impl with structs of its own, one for each unknown that has a name; those without are the same one, or not."""
+    names: list[str] = []
+
+    def own(name: str) -> str:
+        if name not in names or name == "_" and not are_same:
+            names.append(name)
+        return f"Adder{len(names) - 1 - names[::-1].index(name)}"
+
+    line = filled(bound, subject, own)
+    return [*(f"struct Adder{number}" for number in range(len(names))), line]
+
+
+def written(crate: str, found: re.Match[str]) -> Iterator[list[Written]]:
+    """What a crate is told that others may write, in the forms of which one has to be right; nothing where it is cut."""
     way, bound, subject, home = found.groups()
     if ".." in bound + subject:
-        return None
+        return
+    forms = [with_own(bound, subject, are_same) for are_same in (False, True)[: 2 if (bound + subject).count("_") > 1 else 1]]
     if way == "down":
-        lines = [f"crate Added uses {crate}", "struct Adder", f"impl {filled(bound, 'Adder')} for {filled(subject, 'Adder')}"]
-        return Written(lines, "crate Added: (?!orphan)", found[0])
-    lines = [f"later {home}", f"impl {filled(bound, 'u8')} for {filled(subject, 'u8')}"]
-    return Written(lines, f"later {home}: compatible$", found[0]) if home else None
+        yield [Written([f"crate Added uses {crate}", *own], "", "crate Added: accepted$", found[0]) for own in forms]
+    elif home:
+        yield [Written([f"later {home}", filled(bound, subject, lambda _: "u8")], "", f"later {home}: compatible$", found[0])]
+    if way == "up" and home and home != "core":
+        yield [Written(own, home, "", found[0]) for own in forms]
+
+
+def behind_crate(lines: list[str], home: str) -> int:
+    """Where the crate of this name ends."""
+    at = next(number for number, line in enumerate(lines, 1) if line.split()[:2] == ["crate", home])
+    return next((number for number, line in enumerate(lines) if number >= at and line.split()[:1] in (["crate"], ["later"])), len(lines))
+
+
+def line_of_impl(lines: list[str], crate: str, number: int) -> int:
+    """Where the impl of a crate with this number is."""
+    at = next(place for place, line in enumerate(lines) if line.split()[:2] == ["crate", crate])
+    own = (place for place in range(at, behind_crate(lines, crate)) if re.match(r" *impl\b", lines[place]))
+    return next(itertools.islice(own, number - 1, None))
+
+
+def accepted(said: Sequence[str]) -> set[str]:
+    """The crates that are accepted."""
+    return {it for it in said if it.startswith("crate ") and it.endswith(": accepted")}
 
 
 class Claims:
@@ -216,8 +260,10 @@ class Claims:
     def __init__(self, text: Text) -> None:
         self.text = text
         self.asked: list[Claim] = []
-        self.written: list[Written] = []
+        self.written: list[list[Written]] = []
         self.are_accepted = True
+        self.accepted = set[str]()
+        self.declared = Declared(text.others)
         self.wrong: list[str] = []
         self.held: Counter[str] = Counter()
 
@@ -248,7 +294,7 @@ class Claims:
         message = it["message"]
         added, open_goal = ADDED.match(message), HOLDS.match(message) or NOT_REFUSED.match(message)
         if added:
-            self.written.extend(filter(None, [written(asker.crate, added)]))
+            self.written += written(asker.crate, added)
             if self.are_accepted:
                 self.ask("prove", asker, f"{added[3]}: {added[2]}", is_not_yes, message)
             return f"{added[3]}: {added[2]}"
@@ -323,6 +369,27 @@ class Claims:
             if found and "not checked" not in row and "assumed" not in row:
                 self.ask("prove", asker, found[1], is_yes, row)
 
+    def check_proof(self, asker: Asker, reference: str, parts: Any, message: Any) -> None:
+        """The proof of a query is one, by an own checker."""
+        for tree in message["proof"]:
+            is_cut = any(CUT in it["message"] for it in message["children"])
+            try:
+                clauses = list(read_clauses(asker.clauses, asker.names))
+                query = Query(goal_of(reference, asker), clauses, asker.names, self.seen_by(asker.crate))
+            except Unread:
+                return
+            wrongs = Wrongs(self.declared, query)
+            wrongs.root(tree, parts["values"])
+            wrongs.row(tree, [], is_cut)
+            self.held["proofs"] += not wrongs.wrong
+            self.held["rows of proofs"] += wrongs.rows - wrongs.unread
+            self.wrong += wrongs.wrong
+
+    def seen_by(self, crate: str) -> dict[int, Optional[Header]]:
+        """The impls that a crate sees, by their lines."""
+        seen = {number: it for number, it in self.text.impls.items() if not it or self.text.sees(crate, it.home)}
+        return {number: it and Header(it.header, it.clauses) for number, it in seen.items()}
+
     def told(self, answer: str, message: Any) -> None:
         """What is said behind a line of the answer."""
         overlap = re.match(r"crate (\w+): overlap impl ", answer)
@@ -334,7 +401,10 @@ class Claims:
             self.question(asker_of(supers[1], line), "unproved" if supers[2] == "missing" else "maybe", message)
         question = QUESTION.match(answer)
         if question:
-            self.question(self.text.questions[int(question[2]) - 1], question[3], message)
+            asker = self.text.questions[int(question[2]) - 1]
+            self.question(asker, question[3], message)
+            if question[3].startswith("yes"):
+                self.check_proof(asker, self.text.references[int(question[2]) - 1], message["parts"], message)
 
     def ask_again(self, answering: str, depth: str) -> None:
         """Asks all that is to be asked, behind the other lines of the text."""
@@ -349,15 +419,35 @@ class Claims:
             # printed types have no lifetimes: some can't be asked so
             del self.asked[int(fault[1]) - len(self.text.others) - 1]
 
-    def write(self, answering: str, depth: str) -> None:
-        """Writes each impl that may be written, so it was said, behind the other lines of the text."""
-        for it in self.written:
-            ended = run([answering, depth], "\n".join([*self.text.others, *it.lines]).encode("latin-1"), LIMITS)
+    def is_written(self, it: Written, answering: str, depth: str) -> Optional[str]:
+        """Whether an impl may be written: what is wrong, nothing where it may; none where it cannot be told."""
+        lines = list(self.text.others)
+        at = behind_crate(lines, it.home) if it.home else len(lines)
+        lines[at:at] = it.lines
+        while True:
+            ended = run([answering, depth], "\n".join(lines).encode("latin-1"), LIMITS)
             said = ended.output.decode("latin-1").splitlines()
             if ended.status and said and not CANNOT.match(said[0]):
-                continue  # printed types have no lifetimes: some can't be written so
-            is_so = any(re.match(it.answer, line) for line in said)
-            self.hold(f"written: {it.answer.split()[0]}", is_so, f"{it.said} -- {it.lines[-1]} -- {said[:1] if ended.status else said[-1:]}")
+                return None  # printed types have no lifetimes: some can't be written so
+            if any(re.match(it.answer, line) for line in said) and self.accepted <= accepted(said):
+                return ""
+            pair = next(filter(None, map(OVERLAPPED.match, said)), None)
+            other = line_of_impl(lines, pair[1], int(pair[2])) if pair and f"crate {pair[1]}: accepted" in self.accepted else -1
+            earlier = line_of_impl(lines, pair[3], int(pair[4])) if pair and other >= 0 and pair[3] != "core" else -1
+            if other < 0 or it.lines[-1] in (lines[other], lines[earlier]):
+                return f"{it.said} -- {it.lines[-1]} -- {said[:1] if ended.status else said}"
+            # two others, which only the absence of this impl keeps apart
+            self.held["others kept apart"] += 1
+            lines[other] = ""
+
+    def write(self, answering: str, depth: str) -> None:
+        """Writes each impl that may be written, so it was said, behind the other lines of the text or in its crate."""
+        for forms in self.written:
+            found = [self.is_written(it, answering, depth) for it in forms]
+            wrong = [it for it in found if it is not None]
+            if wrong:
+                answer = forms[0].answer
+                self.hold(f"written: {answer.split()[0] if answer else 'in its crate'}", "" in wrong, wrong[0])
 
     def compare(self, status: int, said: list[str]) -> None:
         rows = [(row, found) for row in said if (found := ANSWERED.match(row))]
@@ -371,8 +461,9 @@ class Claims:
 class Words:
     """Both programs, and how many claims of each kind were held."""
 
-    def __init__(self) -> None:
-        self.answering, self.explaining = program("celtisdarts"), program("celtisdarts_explain")
+    def __init__(self, given: argparse.Namespace) -> None:
+        self.answering = given.answering or program("celtisdarts")
+        self.explaining = given.explaining or program("celtisdarts_explain")
         self.kinds: Counter[str] = Counter()
 
     def fault_of(self, text: bytes, depth: str) -> Optional[str]:
@@ -383,6 +474,7 @@ class Words:
         claims = Claims(Text(text.decode("latin-1").split("\n")))
         lines = read_lines(output)
         claims.are_accepted = all(it.answer.endswith(": accepted") for it in lines if it.answer.startswith("crate "))
+        claims.accepted = accepted([it.answer for it in lines])
         for it in lines:
             if it.message:
                 claims.told(it.answer, it.message)
@@ -411,10 +503,12 @@ def add_words(reader: argparse.ArgumentParser) -> None:
     reader.add_argument("--texts", type=int, default=400)
     reader.add_argument("--seed", type=int, default=1)
     reader.add_argument("--show", type=int)
+    reader.add_argument("--answering")
+    reader.add_argument("--explaining")
 
 
 def check(tally: Tally, given: argparse.Namespace) -> None:
-    words = Words()
+    words = Words(given)
     if given.show is not None:
         text = made(given, given.show)
         print(text.decode() + run([words.explaining, "8"], text).output.decode())

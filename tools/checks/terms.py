@@ -92,7 +92,7 @@ class Reader:
         items = [self.item()]
         while self.passes("+"):
             items.append(self.item())
-        return Term("dyn", tuple(sorted(it for it in items if it)))
+        return Term("dyn", tuple(sorted({it for it in items if it})))
 
     def bracketed(self) -> Term:
         inner = self.type()

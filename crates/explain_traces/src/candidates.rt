@@ -12,13 +12,14 @@ use crate::asking::{answer_in, result_of};
 use crate::effort::Effort;
 use crate::frames::{FrameWalk, Turn};
 use crate::nodes::GoalWalk;
-use crate::opening::open_candidate;
+use crate::opening::{are_unbound, open_candidate};
 use goal_evaluator::{CandidateSource, Certainty, Goal, TypingMode};
 use goal_frames::GoalHandler;
 use goal_frames::store::InputId;
 use infer_table::infer_ctxt::InferCtxt;
 use solver_graph::{Search, SolverCx, context_laws};
 use type_terms::Fault;
+use type_terms::interner::Interner;
 use type_terms::kinds::GenericArgKind;
 
 /// Goes on with the open candidate of a frame, up to its end: each goal that it asks has the answer of the search. `None` where the
@@ -67,17 +68,38 @@ fn try_candidate<H: GoalHandler>(
     }
 }
 
-/// Opens the candidate that a frame is to enter over the table of the parent goal, and returns its nested goals. `None` if it does not fit.
+/// The nested goals of a candidate that was opened over the table of the parent goal. `None` if the parent goal holds and the candidate gives
+/// its variables values that the answer does not give: the answer comes from another candidate.
+///
+/// For `&?x: Show` under the where-clause `&char: Show` an `impl<T> Show for T` gives the answer, and leaves `?x` open.
+fn own_goals(
+    cx: &Interner,
+    table: &InferCtxt,
+    goal: OpenedGoal<'_>,
+    opened: Result<Option<Vec<Goal>>, Fault>,
+) -> Result<Option<Vec<Goal>>, Fault>
+    requires table { Ready cx.now.entries table.now }
+    requires values { ArgsHeld cx.now.entries goal.values.now }
+    ensures { (es : List Entry) → IfOk opened (λ o. IfSome o (λ gs. GoalsHeld es gs.items)) → IfOk result (λ o. IfSome o (λ gs. GoalsHeld es gs.items)) }
+{
+    if goal.holds && !are_unbound(cx, table, goal.values) {
+        return Ok(None);
+    }
+    opened
+}
+
+/// Opens the candidate that a frame is to enter over the table of the parent goal, and returns its nested goals. `None` if it does not fit,
+/// or is not the one that gave the answer.
 fn open_next<H: GoalHandler>(
     cx: &mut SolverCx<H>,
     table: &mut InferCtxt,
-    values: &[GenericArgKind],
+    goal: OpenedGoal<'_>,
     frame: &FrameWalk,
 ) -> Result<Option<Vec<Goal>>, Fault>
     requires ready { IsReady H.meaning.IsReady cx.old }
     requires walked { IsWalked H.meaning cx.old frame.now }
     requires table { Ready cx.old.interner.entries table.old }
-    requires values { ArgsHeld cx.old.interner.entries values.now }
+    requires values { ArgsHeld cx.old.interner.entries goal.values.now }
     ensures advances { Advances H.meaning.IsReady cx.old cx.new }
     ensures table { Ready cx.new.interner.entries table.new }
     ensures grows { Grows table.old table.new }
@@ -87,9 +109,9 @@ fn open_next<H: GoalHandler>(
     let Some(spec) = frame.candidate(cx) else {
         return Ok(None);
     };
-    let opened = open_candidate(cx.alloc, &mut cx.interner, table, values, spec);
+    let opened = open_candidate(cx.alloc, &mut cx.interner, table, goal.values, spec);
     cx.interner.lawful();
-    opened
+    own_goals(&cx.interner, table, goal, opened)
 }
 
 /// A goal of a trace whose candidates are traced.
@@ -101,6 +123,8 @@ pub(crate) struct OpenedGoal<'v> {
     pub(crate) input: InputId,
     /// The values of the form's variables.
     pub(crate) values: &'v [GenericArgKind],
+    /// Whether it holds, with the values that the table has.
+    pub(crate) holds: bool,
     /// The mode in which the search is asked.
     pub(crate) mode: TypingMode,
     /// How deep the nested goals of its candidates are traced.
@@ -142,7 +166,7 @@ pub(crate) fn try_next<H: GoalHandler>(
 {
     context_laws::<H>();
     let Visit { goal, frame } = visit;
-    let opened = open_next(&mut search.cx, table, goal.values, &frame)?;
+    let opened = open_next(&mut search.cx, table, goal, &frame)?;
     let tried = try_candidate(search, frame, effort)?;
     match tried {
         Some(frame) => Ok(Some(Tried { frame, opened })),

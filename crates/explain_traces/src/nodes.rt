@@ -334,6 +334,14 @@ impl GoalWalk {
         }
     }
 
+    /// Whether the goal at this index holds.
+    pub(crate) fn holds(&self, place: usize) -> bool {
+        match self.nodes.get(place) {
+            Some(node) => node.answer == Answer::Yes,
+            None => false,
+        }
+    }
+
     /// Whether the goal at this index is refused.
     pub(crate) fn is_refused(&self, place: usize) -> bool {
         match self.nodes.get(place) {

@@ -19,7 +19,7 @@ use std::alloc::Global;
 use term_folds::foldable::TypeFoldable;
 use type_terms::Fault;
 use type_terms::interner::Interner;
-use type_terms::kinds::GenericArgKind;
+use type_terms::kinds::{ConstKind, GenericArgKind, TyKind};
 
 /// The term with these values for its canonical variables.
 fn fill(
@@ -149,4 +149,64 @@ pub(crate) fn open_candidate(
     }
     let goals = fill_goals(alloc, cx, &all, &spec.nested_goals)?;
     Ok(Some(goals))
+}
+
+/// The term at the end of a leaf's chain of values. A lifetime is its own end.
+fn end_of(cx: &Interner, table: &InferCtxt, leaf: GenericArgKind) -> GenericArgKind
+    requires leaf { ArgHeld cx.now.entries leaf }
+    requires ready { Ready cx.now.entries table.now }
+    ensures { ArgHeld cx.now.entries result }
+{
+    match leaf {
+        GenericArgKind::Ty(ty) => GenericArgKind::Ty(table.shallow_resolve(cx, ty)),
+        GenericArgKind::Const(constant) => {
+            GenericArgKind::Const(table.shallow_resolve_const(cx, constant))
+        }
+        GenericArgKind::Lifetime(region) => GenericArgKind::Lifetime(region),
+    }
+}
+
+/// Whether a term is a variable for types or constants.
+fn is_variable(cx: &Interner, term: GenericArgKind) -> bool
+    requires { ArgHeld cx.now.entries term }
+{
+    match term {
+        GenericArgKind::Ty(ty) => matches!(cx.kind(ty), TyKind::Infer(_)),
+        GenericArgKind::Const(constant) => matches!(cx.const_kind(constant), ConstKind::Infer(_)),
+        GenericArgKind::Lifetime(_) => false,
+    }
+}
+
+/// Whether one of these leaves has this end.
+fn has_end(cx: &Interner, table: &InferCtxt, leaves: &[GenericArgKind], end: GenericArgKind) -> bool
+    requires leaves { ArgsHeld cx.now.entries leaves.now }
+    requires ready { Ready cx.now.entries table.now }
+{
+    let mut left = leaves;
+    'leaves: while let Some((leaf, others)) = left.split_first() {
+        if end_of(cx, table, *leaf) == end {
+            return true;
+        }
+        left = others;
+    }
+    false
+}
+
+/// Whether a table leaves the variables for types and constants among these leaves open: each is a variable still, and another one than the
+/// others.
+pub(crate) fn are_unbound(cx: &Interner, table: &InferCtxt, leaves: &[GenericArgKind]) -> bool
+    requires leaves { ArgsHeld cx.now.entries leaves.now }
+    requires ready { Ready cx.now.entries table.now }
+{
+    let mut left = leaves;
+    'leaves: while let Some((leaf, others)) = left.split_first() {
+        if is_variable(cx, *leaf) {
+            let end = end_of(cx, table, *leaf);
+            if !is_variable(cx, end) || has_end(cx, table, others, end) {
+                return false;
+            }
+        }
+        left = others;
+    }
+    true
 }

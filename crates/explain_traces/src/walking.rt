@@ -61,6 +61,7 @@ pub fn walk_goal<H: GoalHandler>(
         place,
         input,
         values: &values,
+        holds: walk.holds(place),
         mode: traced.mode,
         depth: traced.depth - 1,
     };
