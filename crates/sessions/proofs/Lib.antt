@@ -2,6 +2,7 @@ pub mod Basics
 mod ClosedValues
 pub mod GivenTexts
 pub mod LeftViews
+pub mod LeftSessions
 pub mod ShortCalls
 mod FramesStarted
 mod ErasedWidths

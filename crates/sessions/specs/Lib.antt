@@ -14,6 +14,7 @@ pub mod Subjects
 pub mod Resting
 pub mod Sessions
 pub mod SeenViews
+pub mod LeftSessions
 pub mod Frames
 pub mod Readying
 pub mod Numbers

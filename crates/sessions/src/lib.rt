@@ -18,6 +18,7 @@ mod fixed_goals;
 mod impossible;
 mod later;
 pub mod laws;
+mod left_session;
 mod limits;
 mod obligations;
 mod own_values;
@@ -46,6 +47,7 @@ pub use laws::{
     ready_impls_are_written_well, references_are_goals, refusals_are_exact, sorts_tell_fits,
     texts_are_formed, texts_are_joined, texts_list_in_order,
 };
+pub use left_session::LeftSession;
 pub use limits::Limits;
 pub use obligations::has_impossible_obligation;
 pub use orphan_check::errors::{OrphanCheckErr, UncoveredTyParams};

@@ -21,6 +21,7 @@ ghost use Rattle.sessions.specs.Promised.FrameBounds.{ProvesInFrames, RefutesInF
 ghost use Rattle.sessions.specs.Promised.Given.{AnswerValuesHeld, VerdictHeld, answer_in, later_of, refutation_of, supers_answer_of, verdict_in};
 ghost use Rattle.sessions.specs.Promised.Promises.{IsProved, IsRefutation, IsVerdictOf};
 ghost use Rattle.sessions.specs.Promised.Releases.{AddedImplsBreakNoUser, IsSectionOf, IsLaterAnswer, IsSupersAnswer};
+ghost use Rattle.sessions.specs.LeftSessions.{IsLeftSession};
 ghost use Rattle.sessions.specs.SeenViews.{IsLeftView, IsViewOf};
 ghost use Rattle.sessions.specs.Shown.{AreProofOfQuestion};
 ghost use Rattle.sessions.specs.Promised.Shortages.{SessionFullAtLimit};
@@ -37,6 +38,7 @@ use crate::laws::{
     answered_sets_are_linked, clauses_apply, held_texts_are_coherent, impls_apply,
     other_answers_are_right, yes_is_proved,
 };
+use crate::left_session::LeftSession;
 use crate::limits::Limits;
 use crate::proving::prove_question;
 use crate::refuted::refute_question;
@@ -44,7 +46,6 @@ use crate::seen_view::SeenView;
 use crate::shown::is_proof_of_question;
 use crate::supertraits::{HeaderAnswer, header_answer_at};
 use candidate_assembly::solver::Solver;
-use declarations::declarations::Declarations;
 use orphan_check::errors::OrphanCheckErr;
 use overlap_check::{accepted_sets_have_one_impl, answers_hold_in_linked_sets};
 use proof_checker::steps::Step;
@@ -52,7 +53,6 @@ use search_graph::{GlobalCache, SearchGraph};
 use solver_graph::{Search, SolverCx};
 use std::alloc::{AllocError, Global};
 use std::marker::Model;
-use std::mem;
 use type_terms::interner::Interner;
 use type_terms::kinds::{GenericArgKind, Ty};
 use type_terms::{CrateId, Fault, ImplId};
@@ -228,28 +228,86 @@ impl<'w> Session<'w> {
         })
     }
 
-    /// What the session leaves for the session of another crate: the view of its crate, with the terms that its calls made. Goals, answers
-    /// and the cache are dropped.
-    pub fn into_view(self) -> SeenView
-        ensures view { IsViewOf self.entry.declarations self.entry.of_crate self.entry.handles result }
+    /// A session for a crate of a text that goes on where an earlier one stopped, if there is one (`leave`).
+    ///
+    /// If that was of this crate, its view, terms, goals, answers and results stay, and nothing is lowered. If it was of another crate, its
+    /// view alone goes over, as `behind` says. Each call promises the same as of a session that `new` makes.
+    ///
+    /// The text may have other queries than that of the earlier session. Fails with `Memory` if memory is refused, and with `Full` as
+    /// `new` and `behind` do.
+    pub fn after(
+        alloc: Global,
+        workspace: &'w Workspace,
+        crate_id: CrateId,
+        limits: Limits,
+        left: Option<LeftSession>,
+    ) -> Result<Self, Fault>
+        requires parsed { IsOfText workspace.now }
+        requires declared { crate_id.index < length workspace.now.crates }
+
+        // A session with the same limits left it, on a text with the same declarations.
+        requires left { IfSome left (IsLeftSession workspace.now limits.depth limits.handles) }
+        ensures declarations { IfOk result (λ session. session.declarations ≡ workspace.now) }
+        ensures of_crate { IfOk result (λ session. session.of_crate ≡ crate_id.index) }
+        ensures depth { IfOk result (λ session. session.depth ≡ limits.depth) }
+        ensures handles { IfOk result (λ session. session.handles ≡ limits.handles) }
+    {
+        let Some(left) = left else {
+            return Session::new(alloc, workspace, crate_id, limits);
+        };
+        if left.crate_id.index == crate_id.index {
+            return Ok(Session::resumed(workspace, limits, left));
+        }
+        let view = left.into_view();
+        Session::behind(alloc, workspace, crate_id, limits, view)
+    }
+
+    /// The session of the same crate that goes on with what one left.
+    fn resumed(workspace: &'w Workspace, limits: Limits, left: LeftSession) -> Self
+        requires parsed { IsOfText workspace.now }
+        requires left { IsLeftSession workspace.now limits.depth limits.handles left }
+        ensures declarations { result.declarations ≡ workspace.now }
+        ensures of_crate { result.of_crate ≡ left.crate_id.index }
+        ensures depth { result.depth ≡ limits.depth }
+        ensures handles { result.handles ≡ limits.handles }
+    {
+        let crate_id = left.crate_id;
+        let (search, frames_before) = left.into_parts();
+        Session {
+            workspace,
+            crate_id,
+            limits,
+            search,
+            frames_before,
+        }
+    }
+
+    /// What the session leaves for the next one of its crate: all but the text.
+    pub fn leave(self) -> LeftSession
+        ensures left { IsLeftSession self.entry.declarations self.entry.depth self.entry.handles result }
+        ensures of_crate { result.crate_id.index ≡ self.entry.of_crate }
     {
         let Session {
             workspace: _,
             crate_id,
             limits: _,
-            mut search,
+            search,
             frames_before,
         } = self;
-        let no_terms = Interner::new(search.cx.alloc, 0);
-        let nothing = Solver::new(Declarations::new(search.cx.alloc, crate_id));
-        let interner = mem::replace(&mut search.cx.interner, no_terms);
-        let solver = mem::replace(&mut search.cx.handler, nothing);
-        SeenView {
+        LeftSession {
             crate_id,
-            interner,
-            declarations: solver.declarations,
-            frames: frames_before.saturating_add(search.graph.frames()),
+            search,
+            frames_before,
         }
+    }
+
+    /// What the session leaves for the session of another crate: the view of its crate, with the terms that its calls made. Goals, answers
+    /// and the cache are dropped.
+    pub fn into_view(self) -> SeenView
+        ensures view { IsViewOf self.entry.declarations self.entry.of_crate self.entry.handles result }
+    {
+        let left = self.leave();
+        left.into_view()
     }
 
     /// The verdict of the crate: whether each of its impls keeps the orphan rule, and whether it brings two impls together that overlap.
