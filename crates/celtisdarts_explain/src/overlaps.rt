@@ -8,7 +8,7 @@ ghost use Rattle.explain_faults.specs.ExplainSessions.Walked.{PairWalkHeld};
 
 use crate::conflicts::{NOT_CHECKED, Pair, pair_said, tell_later_pairs};
 use crate::explaining::seen_impls;
-use crate::spending::Spending;
+use crate::spending::{Spending, may_run_out};
 use explain_faults::explain_diagnostics::{Diagnostic, ErrCode, Level, Span};
 use explain_faults::explain_sessions::{
     Claims, PairWalk, explain_overlap, impl_header, pair_claims,
@@ -44,6 +44,8 @@ struct Conflicting<'w> {
     header: Option<Spoken>,
     /// The depth limit with which the where-clauses were asked.
     depth: u32,
+    /// Whether the search for the verdict may have evaluated as many nested goals as it may.
+    may_run_out: bool,
     /// The impls that the crate sees.
     seen: Vec<ImplId>,
 }
@@ -59,6 +61,7 @@ impl Drop for Conflicting<'_> {
             clauses: _,
             header: _,
             depth: _,
+            may_run_out: _,
             seen: _,
         } = self;
     }
@@ -136,6 +139,7 @@ fn tell_pair<'w>(
         clauses,
         header,
         depth: session.limits.depth,
+        may_run_out: may_run_out(0, session.frames()),
         seen: seen_impls(alloc, texts.workspace, session)?,
     })
 }
@@ -162,6 +166,7 @@ fn tell_one(
     let asking = Asking {
         span: span_of(found.story.texts, clause),
         depth: found.depth,
+        may_run_out: found.may_run_out,
         seen: &found.seen,
         supertrait: None,
     };
