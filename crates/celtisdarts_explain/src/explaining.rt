@@ -15,7 +15,7 @@ use crate::overlaps::overlap;
 use crate::places::check_at;
 use crate::printed::Lack;
 use crate::questions::{Questioned, explain_proved, explain_refuted};
-use crate::spending::{Next, Spending, too_long};
+use crate::spending::{Next, Spending, may_run_out, too_long};
 use coherence::{Listener, TextFault};
 use explain_faults::{FurtherFault, fault_diagnostic, further_faults};
 use explain_texts::explain_diagnostics::{Diagnostic, SourceFile};
@@ -114,11 +114,13 @@ impl Known<'_> {
         workspace: &'s Workspace,
         place: usize,
         depth: u32,
+        may_run_out: bool,
     ) -> Questioned<'s> {
         Questioned {
             texts: self.texts(workspace),
             place,
             depth,
+            may_run_out,
             seen: &self.seen,
         }
     }
@@ -261,8 +263,8 @@ impl<'f> Explaining<'f> {
         self.begin(workspace)?;
         self.known.see(self.alloc, session, workspace)?;
         let check = check_at(workspace, place);
-        let known = self.known.question(workspace, place, session.limits.depth);
-        explain_checked(self.alloc, known.texts, session, check, known.seen)
+        let texts = self.known.texts(workspace);
+        explain_checked(self.alloc, texts, session, check, &self.known.seen)
     }
 
     fn explain_proved(
@@ -278,12 +280,14 @@ impl<'f> Explaining<'f> {
     {
         self.begin(workspace)?;
         self.known.see(self.alloc, session, workspace)?;
+        let may_run_out = may_run_out(self.frames, session.frames());
         match self.next(session) {
             Next::Silent => Ok(None),
             Next::Told => Ok(Some(too_long(self.alloc)?)),
             Next::Explained => {
                 let place = (number as usize).saturating_sub(1);
-                let question = self.known.question(workspace, place, session.limits.depth);
+                let depth = session.limits.depth;
+                let question = self.known.question(workspace, place, depth, may_run_out);
                 explain_proved(
                     self.alloc,
                     question,
@@ -308,12 +312,14 @@ impl<'f> Explaining<'f> {
     {
         self.begin(workspace)?;
         self.known.see(self.alloc, session, workspace)?;
+        let may_run_out = may_run_out(self.frames, session.frames());
         match self.next(session) {
             Next::Silent => Ok(None),
             Next::Told => Ok(Some(too_long(self.alloc)?)),
             Next::Explained => {
                 let place = (number as usize).saturating_sub(1);
-                let question = self.known.question(workspace, place, session.limits.depth);
+                let depth = session.limits.depth;
+                let question = self.known.question(workspace, place, depth, may_run_out);
                 explain_refuted(
                     self.alloc,
                     question,

@@ -8,7 +8,7 @@ ghost use Rattle.explain_texts.specs.ExplainSessions.Walked.{PairWalkHeld};
 
 use crate::conflicts::{NOT_CHECKED, Pair, pair_said, tell_later_pairs};
 use crate::explaining::seen_impls;
-use crate::spending::Spending;
+use crate::spending::{Spending, may_run_out};
 use explain_texts::explain_diagnostics::{Diagnostic, ErrCode, Level, Span};
 use explain_texts::explain_sessions::{
     Claims, PairWalk, explain_overlap, impl_header, pair_claims,
@@ -42,6 +42,8 @@ struct Conflicting<'w> {
     header: Option<Spoken>,
     /// The depth limit with which the where-clauses were asked.
     depth: u32,
+    /// Whether the search for the verdict may have evaluated as many nested goals as it may.
+    may_run_out: bool,
     /// The impls that the crate sees.
     seen: Vec<ImplId>,
 }
@@ -57,6 +59,7 @@ impl Drop for Conflicting<'_> {
             clauses: _,
             header: _,
             depth: _,
+            may_run_out: _,
             seen: _,
         } = self;
     }
@@ -134,6 +137,7 @@ fn tell_pair<'w>(
         clauses,
         header,
         depth: session.limits.depth,
+        may_run_out: may_run_out(0, session.frames()),
         seen: seen_impls(alloc, texts.workspace, session)?,
     })
 }
@@ -160,6 +164,7 @@ fn tell_one(
     let asking = Asking {
         span: span_of(found.story.texts, clause),
         depth: found.depth,
+        may_run_out: found.may_run_out,
         seen: &found.seen,
         supertrait: None,
     };

@@ -6,6 +6,7 @@ ghost use Rattle.explain_texts.specs.ExplainSessions.Claims.{ClaimsHold};
 ghost use Rattle.explain_texts.specs.ExplainSessions.Walked.{AllStepsHeld, ProofWalkHeld};
 
 use explain_texts::explain_diagnostics::{Diagnostic, Level, Span};
+use explain_texts::explain_sessions::goal_evaluator::CandidateSource;
 use explain_texts::explain_sessions::{Claims, ProofWalk, Step, Way};
 use explain_texts::messages::{Piece, Sentence, Telling, plain, with_one};
 use explain_texts::sessions::Session;
@@ -246,9 +247,30 @@ impl ToldProof<'_> {
         Ok(())
     }
 
+    /// Whether a step is assumed that is no built-in rule's: the checker has rules for all impls and where-clauses.
+    fn is_doubtful(&self, step: usize) -> bool {
+        let Reason::Searched(place) = self.reason_by(step) else {
+            return false;
+        };
+        match self.story.candidates(place).first() {
+            Some(candidate) => !matches!(candidate.source, CandidateSource::BuiltinImpl(_)),
+            None => false,
+        }
+    }
+
+    /// Whether the proof was checked, and only built-in rules are assumed in it.
+    fn is_own(&self) -> bool {
+        for step in 0..self.proof.steps.len() {
+            if self.is_doubtful(step) {
+                return false;
+            }
+        }
+        self.proof.is_checked
+    }
+
     /// The last step of the proof, if the proof was checked.
     fn last_step(&self) -> Option<usize> {
-        if self.proof.is_checked {
+        if self.is_own() {
             self.proof.steps.len().checked_sub(1)
         } else {
             None

@@ -30,6 +30,8 @@ pub(crate) struct Questioned<'s> {
     pub texts: Texts<'s>,
     pub place: usize,
     pub depth: u32,
+    /// Whether its search may have evaluated as many nested goals as it may.
+    pub may_run_out: bool,
     /// The impls that its crate sees.
     pub seen: &'s [ImplId],
 }
@@ -83,6 +85,7 @@ impl<'s> Questioned<'s> {
         Asking {
             span: self.span(),
             depth: self.depth,
+            may_run_out: self.may_run_out,
             seen: self.seen,
             supertrait: None,
         }

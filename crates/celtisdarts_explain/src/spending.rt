@@ -63,6 +63,17 @@ impl Spending {
     }
 }
 
+/// In fewer frames no search evaluates 65,536 nested goals, unless its goals have more than thirty each.
+const RUN_OUT: u64 = 2048;
+
+/// Whether the search for an answer may have evaluated as many nested goals as it may. The answer took the frames from one count to another.
+/// One that took none was stored before.
+pub(crate) fn may_run_out(from: u64, to: u64) -> bool {
+    let own = to.saturating_sub(from);
+    let frames = if own == 0 { to } else { own };
+    frames >= RUN_OUT
+}
+
 /// What is to be done with a query.
 #[derive(Clone, Copy)]
 pub(crate) enum Next {

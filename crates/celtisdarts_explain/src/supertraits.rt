@@ -5,6 +5,7 @@ ghost use Rattle.explain_texts.specs.ExplainSessions.Claims.{ClaimsHold};
 ghost use Rattle.explain_texts.specs.ExplainSessions.Walked.{WalkHeld};
 ghost use Rattle.explain_texts.specs.Sessions.Promised.Subjects.{StaysOn};
 
+use crate::spending::may_run_out;
 use explain_texts::explain_diagnostics::{Diagnostic, Place, Span, on_line};
 use explain_texts::explain_sessions::{Claims, GoalWalk, explain_supertrait, question_claims};
 use explain_texts::sessions::{Session, SupersAnswer};
@@ -77,6 +78,7 @@ fn explain_walk(
     let asking = Asking {
         span: header_span(texts, unheld.id),
         depth: session.limits.depth,
+        may_run_out: may_run_out(0, session.frames()),
         seen,
         supertrait: Some(unheld.number),
     };

@@ -15,7 +15,8 @@ use Rattle.sessions.specs.ProofChecker.Steps.{term_of, terms_of}
 use Rattle.sessions.proofs.ProofChecker.Later.{term-same, terms-same}
 use Rattle.sessions.specs.Promised.Promises.{view_in}
 use Rattle.sessions.specs.Promised.Subjects.{Subject, StaysOn}
-use Rattle.explain_sessions.specs.Claims.{AddersHold, ClaimsHold, IsUnseenAt, MayAddAt, UnseenHold}
+use Rattle.explain_sessions.specs.Adding.{HasFreeInstance}
+use Rattle.explain_sessions.specs.Claims.{AddersHold, ClaimsHold, FreeHold, IsFreeAt, IsUnseenAt, MayAddAt, UnseenHold}
 use Rattle.explain_sessions.specs.Refusals.{HoldsAt, IsRefusedAt, IsRefusedGoal}
 use Rattle.explain_sessions.specs.Rules.{AreChecked, IsRuleAt, MayApplyAt, HasNoImplAt, HasNoImpl, MayHaveRule}
 use Rattle.explain_sessions.specs.declared.walks.CheckedCandidates.{CheckedCandidates}
@@ -77,6 +78,9 @@ module _ (es now : List Entry) (k : Keeps es now) (V : World) (c : ℕ) (w : Goa
   holds-later : (p : ℕ) → HoldsAt es V rs p → HoldsAt now V rs p
   holds-later p x = (x.0, x.1, subst (HasProof V []) (same p x.0 x.1) x.2)
 
+  free-later : (p : ℕ) → IsFreeAt es V rs p → IsFreeAt now V rs p
+  free-later p x = (x.0, x.1, subst (HasFreeInstance V) (same p x.0 x.1) x.2)
+
   no-impl-later : HasNoImplAt es V rs 0 → HasNoImplAt now V rs 0
   no-impl-later x = (x.0, x.1, subst (HasNoImpl V) (same 0 x.0 x.1) x.2)
 
@@ -96,6 +100,9 @@ module _ (s t : Subject) (on : StaysOn s t) (w : GoalWalk) (held : ReferencesHel
 
   pub holds-on : (ps : List ℕ) → Each (HoldsAt s.terms V w.references.items) ps → Each (HoldsAt t.terms (view_in t.declarations t.of_crate) w.references.items) ps
   holds-on ps h = moved (λ d k. Each (HoldsAt t.terms (view_in d k) w.references.items) ps) (each-map _ _ (holds-later s.terms t.terms on.terms V s.of_crate w held) ps h)
+
+  pub free-on : (ps : List ℕ) → FreeHold s w ps → FreeHold t w ps
+  free-on ps h = moved (λ d k. Each (IsFreeAt t.terms (view_in d k) w.references.items) ps) (each-map _ _ (free-later s.terms t.terms on.terms V s.of_crate w held) ps h)
 
   pub no-impl-on : HasNoImplAt s.terms V w.references.items 0 → HasNoImplAt t.terms (view_in t.declarations t.of_crate) w.references.items 0
   no-impl-on h = moved (λ d k. HasNoImplAt t.terms (view_in d k) w.references.items 0) (no-impl-later s.terms t.terms on.terms V s.of_crate w held h)

@@ -12,6 +12,7 @@ mod OwnTerms
 mod RefusedGoals
 mod HeldGoals
 mod ClaimsLater
+mod FreeGoals
 mod HeadersApart
 mod PassedImpls
 -- The crates below whose names the crates above need too: these list this crate alone.

@@ -9,7 +9,7 @@ ghost use Rattle.sessions.specs.TypeTerms.Promised.Worlds.{Reference};
 ghost use Rattle.sessions.specs.Declarations.Held.{ReferenceHeld};
 ghost use Rattle.sessions.specs.Declarations.Items.{declared, reference_in};
 ghost use Rattle.sessions.specs.Promised.Promises.{view_in};
-ghost use Rattle.explain_sessions.specs.Adding.{MayAdd, may_have_impls};
+ghost use Rattle.explain_sessions.specs.Adding.{MayWrite, may_have_impls};
 ghost use Rattle.explain_sessions.specs.Unseen.{IsUnseen};
 
 use built_in_candidates::built_in_rules::is_auto;
@@ -19,7 +19,7 @@ use sessions::orphan_check::errors::Conflict;
 use sessions::term_folds::predicate::TraitRef;
 use sessions::type_terms::binders::Binders;
 use sessions::type_terms::interner::Interner;
-use sessions::type_terms::kinds::{Const, Ty, TyKind};
+use sessions::type_terms::kinds::{BoundsData, Const, Ty, TyKind};
 use sessions::type_terms::once::Once;
 use sessions::type_terms::region::Region;
 use sessions::type_terms::visit::{Seen, TypeVisitor, visit_args};
@@ -79,7 +79,7 @@ fn other_home(declarations: &Declarations, reference: TraitRef) -> Option<CrateI
 /// Who may write an impl for a reference that is not known.
 fn adder_of(declarations: &Declarations, reference: TraitRef, conflict: Conflict) -> Option<Adder>
     ensures { (es : List Entry) → IsUnseen (declared es declarations.now) declarations.now.local (reference_in es reference) (Some conflict)
-        → IfSome result (MayAdd (declared es declarations.now) declarations.now.local (reference_in es reference)) }
+        → IfSome result (MayWrite (declared es declarations.now) declarations.now.local (reference_in es reference)) }
 {
     if !may_have_impls(declarations, reference.def_id) {
         return None;
@@ -93,7 +93,7 @@ fn adder_of(declarations: &Declarations, reference: TraitRef, conflict: Conflict
     }
 }
 
-/// Breaks at a struct that a crate does not see. Of the principal trait of a `dyn` nothing is asked.
+/// Breaks at a struct, or a trait of a `dyn`, that a crate does not see.
 #[derive(Clone, Copy)]
 struct FindsHidden<'a> {
     workspace: &'a Workspace,
@@ -102,14 +102,38 @@ struct FindsHidden<'a> {
 }
 
 impl FindsHidden<'_> {
+    /// Whether the crate sees what another one declares.
+    fn sees_crate(&self, home: CrateId) -> bool {
+        let count = self.workspace.crates().len();
+        (self.seeing.index as usize) < count && self.workspace.sees(self.seeing, home)
+    }
+
     /// Whether the crate sees a struct.
     fn sees(&self, id: AdtId) -> bool {
-        let count = self.workspace.crates().len();
         match self.declarations.adt_def(id) {
-            Some(def) => {
-                (self.seeing.index as usize) < count && self.workspace.sees(self.seeing, def.home)
-            }
+            Some(def) => self.sees_crate(def.home),
             None => false,
+        }
+    }
+
+    /// Whether the crate sees a trait.
+    fn sees_trait(&self, id: TraitId) -> bool {
+        match self.declarations.trait_def(id) {
+            Some(def) => self.sees_crate(def.home),
+            None => false,
+        }
+    }
+
+    /// Whether the crate sees the traits of a `dyn`.
+    fn sees_bounds(&self, data: &BoundsData) -> bool {
+        for id in &data.autos {
+            if !self.sees_trait(*id) {
+                return false;
+            }
+        }
+        match data.principal {
+            Some(principal) => self.sees_trait(principal.def_id),
+            None => true,
         }
     }
 }
@@ -126,6 +150,7 @@ impl TypeVisitor for FindsHidden<'_> {
     fn visit_ty(&mut self, cx: &Interner, ty: Ty, _binders: &Binders) -> Seen<()> {
         match cx.kind(ty) {
             TyKind::Adt(id, _) if !self.sees(id) => Seen::Break(()),
+            TyKind::Dynamic(bounds, _) if !self.sees_bounds(cx.bounds(bounds)) => Seen::Break(()),
             _ => Seen::Enter,
         }
     }
@@ -139,7 +164,7 @@ impl TypeVisitor for FindsHidden<'_> {
     }
 }
 
-/// Whether a crate sees all structs of a reference.
+/// Whether a crate sees all structs of a reference, and all traits of each `dyn` in it.
 fn sees_all(
     workspace: &Workspace,
     cx: &Interner,
@@ -171,7 +196,7 @@ fn adder_in(
 ) -> Option<Adder>
     requires { ReferenceHeld cx.now.entries reference }
     ensures { IsUnseen (declared cx.now.entries declarations.now) declarations.now.local (reference_in cx.now.entries reference) (Some conflict)
-        → IfSome result (MayAdd (declared cx.now.entries declarations.now) declarations.now.local (reference_in cx.now.entries reference)) }
+        → IfSome result (MayWrite (declared cx.now.entries declarations.now) declarations.now.local (reference_in cx.now.entries reference)) }
 {
     match adder_of(declarations, reference, conflict) {
         Some(Adder::User) => Some(Adder::User),
@@ -199,7 +224,7 @@ pub(crate) fn find_adder(
     requires held { ReferenceHeld session.now.terms reference }
     requires unseen { IsUnseen (view_in session.now.declarations session.now.of_crate) session.now.of_crate
         (reference_in session.now.terms reference) (Some conflict) }
-    ensures { IfSome result (MayAdd (view_in session.now.declarations session.now.of_crate) session.now.of_crate
+    ensures { IfSome result (MayWrite (view_in session.now.declarations session.now.of_crate) session.now.of_crate
         (reference_in session.now.terms reference)) }
 {
     adder_in(

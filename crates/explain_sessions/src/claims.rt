@@ -5,14 +5,17 @@ ghost use Rattle.std.specs.List.{slice_get};
 ghost use Rattle.sessions.specs.Declarations.Held.{ReferenceHeld};
 ghost use Rattle.sessions.specs.Declarations.Items.{reference_in};
 ghost use Rattle.explain_traces.specs.declared.nodes.GoalWalk.{GoalWalk};
+ghost use Rattle.sessions.specs.ProofChecker.Steps.{term_of};
 ghost use Rattle.sessions.specs.Promised.Promises.{view_in};
 ghost use Rattle.sessions.specs.Promised.Subjects.{StaysOn, Subject};
-ghost use Rattle.explain_sessions.specs.Claims.{AddersHold, ClaimsHold, UnseenHold};
+ghost use Rattle.explain_sessions.specs.Claims.{AddersHold, ClaimsHold, FreeHold, UnseenHold};
+ghost use Rattle.explain_sessions.specs.Adding.{HasFreeInstance};
 ghost use Rattle.explain_sessions.specs.Unseen.{IsUnseen};
 ghost use Rattle.explain_sessions.specs.Walked.{PairWalkHeld, WalkHeld};
 
 use crate::adding::{Adder, find_adder};
 use crate::fitting::{no_built_in_rule_fits, no_impl_fits};
+use crate::free::free_goals;
 use crate::holding::held_goals;
 use crate::places::{TOLD_LIMIT, reference_at};
 use crate::refusals::refused_goals;
@@ -38,7 +41,7 @@ pub struct Claims {
     pub held: Vec<usize>,
     /// Which crates outside the view may have an impl for a goal. `None` if the goal is knowable.
     pub unseen: Vec<(usize, Option<Conflict>)>,
-    /// Who may write an impl for a goal.
+    /// Who may write an impl for a goal, or for an instance of it, that overlaps no impl of the view.
     pub adders: Vec<(usize, Adder)>,
     /// Whether no impl has a rule for the goal at index 0.
     pub no_impl: bool,
@@ -119,6 +122,7 @@ fn push_adder(
     requires there { slice_get walk.now.references.items place ≡ Some reference }
     requires unseen { IsUnseen (view_in session.now.declarations session.now.of_crate) session.now.of_crate
         (reference_in session.now.terms reference) found }
+    requires free { HasFreeInstance (view_in session.now.declarations session.now.of_crate) (term_of session.now.terms reference) }
     requires adders { AddersHold session.now walk.now adders.old.items }
     ensures { AddersHold session.now walk.now adders.new.items }
 {
@@ -131,15 +135,18 @@ fn push_adder(
     Ok(())
 }
 
-/// Adds which unseen crates may have an impl for the goal at a place, and who may write one, if the walk has that place.
+/// Adds which unseen crates may have an impl for the goal at a place, and who may write one if the place is among those with a free instance,
+/// if the walk has that place.
 fn push_unseen(
     session: &Session<'_>,
     walk: &GoalWalk,
+    free: &[usize],
     place: usize,
     unseen: &mut Vec<(usize, Option<Conflict>)>,
     adders: &mut Vec<(usize, Adder)>,
 ) -> Result<(), Fault>
     requires walked { WalkHeld session.now.terms walk.now }
+    requires free { FreeHold session.now walk.now free.now }
     requires unseen { UnseenHold session.now walk.now unseen.old.items }
     requires adders { AddersHold session.now walk.now adders.old.items }
     ensures unseen { UnseenHold session.now walk.now unseen.new.items }
@@ -148,7 +155,9 @@ fn push_unseen(
     if let Some(reference) = reference_at(&walk.references, place) {
         let found = unseen_crates(session, reference)?;
         unseen.push((place, found))?;
-        push_adder(session, walk, place, reference, found, adders)?;
+        if free.contains(&place) {
+            push_adder(session, walk, place, reference, found, adders)?;
+        }
     }
     Ok(())
 }
@@ -157,17 +166,19 @@ fn push_unseen(
 fn push_all_unseen(
     session: &Session<'_>,
     walk: &GoalWalk,
+    free: &[usize],
     unseen: &mut Vec<(usize, Option<Conflict>)>,
     adders: &mut Vec<(usize, Adder)>,
 ) -> Result<(), Fault>
     requires walked { WalkHeld session.now.terms walk.now }
+    requires free { FreeHold session.now walk.now free.now }
     requires unseen { UnseenHold session.now walk.now unseen.old.items }
     requires adders { AddersHold session.now walk.now adders.old.items }
     ensures unseen { UnseenHold session.now walk.now unseen.new.items }
     ensures adders { AddersHold session.now walk.now adders.new.items }
 {
     for place in 0..walk.nodes.len().min(TOLD_LIMIT) {
-        push_unseen(session, walk, place, unseen, adders)?;
+        push_unseen(session, walk, free, place, unseen, adders)?;
     }
     Ok(())
 }
@@ -185,12 +196,13 @@ pub fn refutation_claims(session: &mut Session<'_>, walk: &GoalWalk) -> Result<C
     let no_impl = no_impl_fits(session, walk, 0)?;
     let refused = refused_goals(session, walk)?;
     let held = held_goals(session, walk)?;
+    let free = free_goals(session, walk)?;
     let mut claims = question_claims(session, walk)?;
     claims.no_impl = no_impl;
     claims.refused = refused;
     claims.held = held;
     claims.no_built_in_rule = no_built_in_rule_fits(session, walk, 0);
-    push_all_unseen(session, walk, &mut claims.unseen, &mut claims.adders)?;
+    push_all_unseen(session, walk, &free, &mut claims.unseen, &mut claims.adders)?;
     Ok(claims)
 }
 
@@ -205,8 +217,15 @@ pub fn pair_claims(session: &mut Session<'_>, pair: &PairWalk) -> Result<Claims,
     ensures stays { StaysOn session.old session.new }
 {
     let held = held_goals(session, &pair.walk)?;
+    let free = free_goals(session, &pair.walk)?;
     let mut claims = question_claims(session, &pair.walk)?;
     claims.held = held;
-    push_all_unseen(session, &pair.walk, &mut claims.unseen, &mut claims.adders)?;
+    push_all_unseen(
+        session,
+        &pair.walk,
+        &free,
+        &mut claims.unseen,
+        &mut claims.adders,
+    )?;
     Ok(claims)
 }

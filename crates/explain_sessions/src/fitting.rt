@@ -84,7 +84,7 @@ fn is_known(cx: &Interner, ty: Ty) -> bool
 
 /// Whether no impl has a rule for a trait reference, whatever its variables stand for. Heads, the first levels of the arguments, and
 /// equations of headers can tell.
-fn has_no_impl(
+pub(crate) fn has_no_impl(
     alloc: Global,
     cx: &mut Interner,
     declarations: &Declarations,

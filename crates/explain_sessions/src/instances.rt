@@ -23,7 +23,7 @@ use std::alloc::Global;
 
 /// How many variables of each kind a goal may have, so that an impl's parameters are not confused with them. If it has more, an impl that
 /// may apply can be missed, and one that is ruled out is not reported.
-const GOAL_UNKNOWNS: usize = 64;
+pub(crate) const GOAL_UNKNOWNS: u32 = 64;
 
 /// A table in which the numbers of a goal's variables are taken, without values.
 pub(crate) fn table_for_goals(alloc: Global, cx: &mut Interner) -> Result<InferCtxt, Fault>
@@ -41,7 +41,11 @@ pub(crate) fn table_for_goals(alloc: Global, cx: &mut Interner) -> Result<InferC
 }
 
 /// A trait reference with the table's values for its variables.
-fn instance_in(cx: &mut Interner, table: &InferCtxt, reference: TraitRef) -> Result<TraitRef, Fault>
+pub(crate) fn instance_in(
+    cx: &mut Interner,
+    table: &InferCtxt,
+    reference: TraitRef,
+) -> Result<TraitRef, Fault>
     requires ready { Ready cx.old.entries table.now }
     requires held { ReferenceHeld cx.old.entries reference }
     ensures grew { Grew cx.old cx.new }

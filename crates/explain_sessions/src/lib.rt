@@ -4,7 +4,7 @@
 //! steps of a proof that it finds go through the checker (`Session::is_proof_of`), so what is shown as checked is a proof; and so do
 //! candidates (`checked_candidates`), and what two overlapping impls have in common. That no impl fits a goal is told by heads and by
 //! equations (`no_impl_fits`), and that no built-in rule does is looked up (`no_built_in_rule_fits`). Who may write an impl that is not seen is
-//! told by the orphan rule and the trait (`Adder`).
+//! told by the orphan rule, the trait, and the impls that it must not overlap (`Adder`).
 #![tactic(auto)]
 
 mod adding;
@@ -14,6 +14,7 @@ mod breaking;
 mod claims;
 mod explained;
 mod fitting;
+mod free;
 mod headers;
 mod holding;
 mod instances;

@@ -21,7 +21,7 @@ enum Doubt {
     Depth,
     /// The search reached a limit, which need not be that of the depth.
     Limits,
-    /// The search met a limit, and the walk took what it may before it was seen which.
+    /// The search met a limit, and it is not seen which.
     Either,
     /// A goal needs itself.
     Cycle,
@@ -122,12 +122,12 @@ fn doubtful_path(alloc: Global, story: &Story<'_>) -> Result<Vec<usize>, AllocEr
 }
 
 /// Why the goal at index 0 is ambiguous, if its path of goals ends here.
-fn doubt_of(story: &Story<'_>, leaf: usize) -> Doubt {
+fn doubt_of(story: &Story<'_>, leaf: usize, may_run_out: bool) -> Doubt {
     if story.is_cycle(leaf) {
         Doubt::Cycle
-    } else if overflows(story) && story.is_cut(leaf) {
+    } else if overflows(story) && story.is_cut(leaf) && !may_run_out {
         Doubt::Depth
-    } else if overflows(story) && story.is_left_out(leaf) {
+    } else if overflows(story) && (story.is_cut(leaf) || story.is_left_out(leaf)) {
         Doubt::Either
     } else if overflows(story) {
         Doubt::Limits
@@ -270,7 +270,7 @@ pub fn unsettled(
 ) -> Result<Diagnostic, AllocError> {
     let path = doubtful_path(alloc, story)?;
     let leaf = last_of(&path);
-    let doubt = doubt_of(story, leaf);
+    let doubt = doubt_of(story, leaf, asking.may_run_out);
     let message = message_of(story, doubt, leaf);
     let mut telling = Telling::begin(alloc, Level::Error, Some(code_of(doubt)), message);
     telling.mark(asking.span, said_at(story, doubt, leaf, asking.depth));

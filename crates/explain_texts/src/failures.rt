@@ -19,6 +19,8 @@ pub struct Asking<'s> {
     pub span: Span,
     /// The depth limit of the run.
     pub depth: u32,
+    /// Whether the search may have evaluated as many nested goals as it may, so that it is not certain that a limit that it met is the depth.
+    pub may_run_out: bool,
     /// The impls that its crate sees.
     pub seen: &'s [ImplId],
     /// The number of the supertrait, counted from 1, if a header requires it. `None` for a query.

@@ -71,7 +71,7 @@ pub fn left_open(
     let path = open_path(alloc, story, 0)?;
     let mut telling = Telling::begin(alloc, Level::Note, None, message);
     telling.mark(asking.span, plain(""));
-    let mut reason = reason_of(story, 0);
+    let mut reason = reason_of(story, 0, asking);
     if path.len() > 1 || !matches!(reason, Reason::Open) {
         reason = tell_path(story, &path, asking, &mut telling);
     }

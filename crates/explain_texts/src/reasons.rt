@@ -3,7 +3,7 @@
 use crate::doubts::{tell_deeper, tell_given_up};
 use crate::failures::{Asking, is_of_trait};
 use crate::items::{
-    Texts, crate_name, impl_line, impl_piece, is_auto, trait_home, trait_name, written,
+    Texts, crate_name, has_rules, impl_line, impl_piece, is_auto, trait_home, trait_name, written,
 };
 use crate::links::{last_of, tell_links};
 use crate::sources::source_piece;
@@ -32,8 +32,10 @@ pub(crate) enum Reason {
     Depth,
     /// The search reached a limit, which need not be that of the depth.
     Limits,
-    /// The search met a limit, and the walk took what it may before it was seen which.
+    /// The search met a limit, and it is not seen which.
     Either,
+    /// Its self type is a variable, and an impl is for all types.
+    Variable,
     /// The goal is not known to the crate that asks.
     Unknown(Conflict),
     /// None of these is seen.
@@ -92,20 +94,30 @@ pub(crate) fn open_path(
 }
 
 /// The limit that a goal met, if it did.
-fn limit_of(story: &Story<'_>, leaf: usize) -> Option<Reason> {
+fn limit_of(story: &Story<'_>, leaf: usize, may_run_out: bool) -> Option<Reason> {
     if story.answer(leaf) != Answer::Maybe(MaybeCause::Overflow) {
         None
-    } else if story.is_cut(leaf) {
+    } else if story.is_cut(leaf) && !may_run_out {
         Some(Reason::Depth)
-    } else if story.is_left_out(leaf) {
+    } else if story.is_cut(leaf) || story.is_left_out(leaf) {
         Some(Reason::Either)
     } else {
         Some(Reason::Limits)
     }
 }
 
+/// Whether the self type of a goal is a variable, and no impl may be added for it though its trait may have impls: an impl is for all types.
+fn is_overlapped(story: &Story<'_>, leaf: usize) -> bool {
+    match story.spoken(leaf) {
+        Some(spoken) => {
+            matches!(spoken.kind, SubjectKind::Unknown) && !has_rules(story.texts, spoken.trait_id)
+        }
+        None => false,
+    }
+}
+
 /// Why a goal is not refused, where the path of goals ends there.
-pub(crate) fn reason_of(story: &Story<'_>, leaf: usize) -> Reason {
+pub(crate) fn reason_of(story: &Story<'_>, leaf: usize, asking: Asking<'_>) -> Reason {
     if story.is_held(leaf) {
         return Reason::Holds;
     }
@@ -118,8 +130,11 @@ pub(crate) fn reason_of(story: &Story<'_>, leaf: usize) -> Reason {
     if story.is_cycle(leaf) {
         return Reason::Cycle;
     }
-    if let Some(limit) = limit_of(story, leaf) {
+    if let Some(limit) = limit_of(story, leaf, asking.may_run_out) {
         return limit;
+    }
+    if is_overlapped(story, leaf) {
+        return Reason::Variable;
     }
     match story.unseen(leaf) {
         Some(Some(conflict)) => Reason::Unknown(conflict),
@@ -234,6 +249,11 @@ pub(crate) fn reason_said<'s>(
         (Reason::Answered, _) => with_one("`{}` holds, not checked", reference),
         (Reason::Added(adder), Some(spoken)) => adder_said(story.texts, spoken, adder),
         (Reason::Unknown(conflict), Some(spoken)) => unknown_said(story.texts, spoken, conflict),
+        (Reason::Variable, _) => with_two(
+            "`{}` is not refused: `{}` is not known yet",
+            reference,
+            story.subject(place),
+        ),
         (Reason::Cycle, _) => with_one(
             "`{}` needs itself: such a cycle refuses nothing",
             reference,
@@ -266,6 +286,7 @@ pub(crate) fn tell_limit(reason: Reason, depth: u32, telling: &mut Telling) {
         | Reason::Added(_)
         | Reason::Either
         | Reason::Cycle
+        | Reason::Variable
         | Reason::Unknown(_)
         | Reason::Open => {}
     }
@@ -279,7 +300,7 @@ pub(crate) fn tell_path(
     telling: &mut Telling,
 ) -> Reason {
     let leaf = last_of(path);
-    let reason = reason_of(story, leaf);
+    let reason = reason_of(story, leaf, asking);
     telling.note(reason_said(story, leaf, reason, asking));
     tell_links(story, path, telling);
     reason
@@ -308,7 +329,7 @@ pub fn tell_clause(
         tell_limit(reason, asking.depth, telling);
         return Ok(());
     }
-    let reason = reason_of(story, place);
+    let reason = reason_of(story, place, asking);
     telling.note(reason_said(story, place, reason, asking));
     mark_asking(asking, telling);
     tell_limit(reason, asking.depth, telling);

@@ -14,4 +14,4 @@ find_adder-requires-clause-unseen c =
 pub returns-in_ok-push : goal.returns-in_ok-push
 returns-in_ok-push c =
     subst (AddersHold c.args.session.now c.args.walk.now) (sym c.in_ok-push.ensures.items)
-    (one-adder c.args.session.now c.args.walk.now _ _ c.requires.adders (c.args.reference, c.requires.there, c.in-Some-find_adder.ensures))
+    (one-adder c.args.session.now c.args.walk.now _ _ c.requires.adders (c.args.reference, c.requires.there, (c.in-Some-find_adder.ensures, c.requires.free)))

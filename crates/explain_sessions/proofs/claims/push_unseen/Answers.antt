@@ -1,7 +1,11 @@
-use Rattle.std.proofs.Common.{◌≡◌, Some, sym, subst}
+use Rattle.std.proofs.Common.{◌≡◌, ◌∙◌, Some, sym, subst}
 use Rattle.std.specs.List.{slice_get}
-use Rattle.explain_sessions.specs.Claims.{UnseenHold}
+use Rattle.sessions.specs.ProofChecker.Steps.{term_of}
+use Rattle.sessions.specs.Promised.Promises.{view_in}
+use Rattle.explain_sessions.specs.Adding.{HasFreeInstance}
+use Rattle.explain_sessions.specs.Claims.{IsFreeAt, UnseenHold}
 use Rattle.explain_sessions.proofs.ClaimsLater.{one-more}
+use Rattle.explain_sessions.proofs.FreeGoals.{among, same-reference}
 use Rattle.explain_sessions.proofs.RuleCandidates.{there-held}
 use Rattle.explain_sessions.proofs.claims.push_unseen.Goals as goal
 
@@ -20,6 +24,16 @@ push_adder-requires-clause-there c = subst (λ xs. slice_get xs c.args.place ≡
 
 pub push_adder-requires-clause-unseen : goal.push_adder-requires-clause-unseen
 push_adder-requires-clause-unseen c = c.in_ok-found.ensures
+
+pub push_adder-requires-clause-free : goal.push_adder-requires-clause-free
+push_adder-requires-clause-free c =
+    let s = c.args.session.now in
+    let V = view_in s.declarations s.of_crate in
+    let p = c.args.place in
+    let rs = c.args.walk.now.references.items in
+    let x = among (IsFreeAt s.terms V rs) c.args.free.now p c.requires.free (sym c.contains.ensures.value ∙ c.if-contains.true) in
+    let at = subst (λ xs. slice_get xs p ≡ Some c.in-Some.reference) c.deref.ensures.value c.in-Some.ensures in
+    same-reference (λ r. HasFreeInstance V (term_of s.terms r)) rs p x.0 c.in-Some.reference x.1 at x.2
 
 pub returns-in_err-push_adder-clause-unseen : goal.returns-in_err-push_adder-clause-unseen
 returns-in_err-push_adder-clause-unseen c =
