@@ -1,7 +1,7 @@
-"""Each walk of the layers on terms whose trees double at each level, up to 250 times, and on terms that are 100,000 levels deep.
+"""Each walk of the layers on terms whose trees double at each level, up to 250 times, and on terms that are 10,000 levels deep.
 
-Each is tried on a stack of 8 MB, without proofs (tools/driver/layers). What each walk returns is known. A walk over the tree would not end,
-so a run has 60 seconds. `benches/layers` prints the times.
+Each is tried on a stack of 800 KB, without proofs (tools/driver/layers). What each walk returns is known. A walk over the tree would not
+end, so a run has 60 seconds. `benches/layers` prints the times.
 """
 from __future__ import annotations
 
@@ -10,7 +10,7 @@ import argparse
 from .common import Limits, Tally, run
 from .driver import driver
 
-SHAPES = [("pairs", 20), ("pairs", 60), ("pairs", 250), ("slices", 100000), ("structs", 100000)]
+SHAPES = [("pairs", 20), ("pairs", 60), ("pairs", 250), ("slices", 10000), ("structs", 10000)]
 # A type over a leaf is one level deeper than its leaf for each level.
 WALKS = {
     "instantiated": "an instance {} deep",
@@ -27,7 +27,7 @@ def check(tally: Tally, _: argparse.Namespace) -> None:
     for shape, levels in SHAPES:
         for walk, form in WALKS.items():
             wanted = form.format(levels + 1)
-            ended = run([driver(), "layers::layer", f"{shape}_{walk}", str(levels)], limits=Limits(seconds=60, stack=8192 * 1024))
+            ended = run([driver(), "layers::layer", f"{shape}_{walk}", str(levels)], limits=Limits(seconds=60, stack=800 * 1024))
             found = ended.output.decode("latin-1").partition("\n")[0]
             fault = f"status {ended.status} and '{found}', 0 and '{wanted}' are wanted"
             tally.expect(f"{shape}_{walk} {levels}", (ended.status, found) == (0, wanted), fault)
