@@ -50,7 +50,7 @@ class Flag:
         if not self.value:
             return [self.names[-1]] if given else []
         values = given if isinstance(given, list) else [given] if given is not None else []
-        return [word for value in values for word in (self.names[-1], value)]
+        return [word for value in values for word in (self.names[-1], str(value))]
 
 
 def one_of(*known: str) -> Any:
