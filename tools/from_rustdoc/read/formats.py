@@ -110,8 +110,8 @@ class Agreement:
         getattr(self, "item_" + kind)(body)
 
     def is_read(self, body: dict[str, Any]) -> bool:
-        self.fields({k: v for k, v in body.items() if k in ("trait", "is_synthetic", "blanket_impl")}, "impl", trait=self.of_kind(dict, type(None)),
-                    is_synthetic=self.of_kind(bool), blanket_impl=self.of_kind(dict, type(None)))
+        self.fields({k: v for k, v in body.items() if k in ("trait", "is_synthetic", "blanket_impl", "for")}, "impl", trait=self.of_kind(dict, type(None)),
+                    is_synthetic=self.of_kind(bool), blanket_impl=self.of_kind(dict, type(None)), for_=self.type)
         return body["trait"] is not None and body["blanket_impl"] is None
 
     def item_module(self, body: Any) -> None:

@@ -116,6 +116,18 @@ class JsonCrate:
         return [ItemName(d.key, d.name, d.public_path) for d in [*self.declarations.values(), *self.aliases.values()]]
 
     @property
+    def traits_of(self) -> dict[str, list[str]]:
+        """Of each type of the crate the traits that rustdoc found for it: of written impls, of blanket ones, and auto traits, negative ones too."""
+        found: dict[str, dict[str, None]] = {}
+        for item in self.index.values():
+            kind, body = kind_and_body(item)
+            if kind == "impl" and item["crate_id"] == 0 and body["trait"] is not None and "resolved_path" in body["for"]:
+                key, trait = (self.key(path["id"], path["path"]) for path in (body["for"]["resolved_path"], body["trait"]))
+                if key in self.declarations and trait is not None:
+                    found.setdefault(key, {})[trait] = None
+        return {key: list(traits) for key, traits in found.items()}
+
+    @property
     def std_version(self) -> str:
         """The version of std that the crate was compiled with; empty where it does not say."""
         for crate in self.json["external_crates"].values():

@@ -52,7 +52,7 @@ class Wrong(unittest.TestCase):
         return err.strip().removeprefix("error: ")
 
     def test_what_is_no_word_is_told_with_the_nearest(self) -> None:
-        self.assertEqual(self.refused("latr"), "there is no command `latr`; did you mean `later`?; there are later, ask, check")
+        self.assertEqual(self.refused("latr"), "there is no command `latr`; did you mean `later`?; there are later, ask, check, conditions, traits, serve")
         self.assertEqual(self.refused("later", "--baselin", "v1"), "`later` has no flag `--baselin`; did you mean `--baseline`?")
         self.assertEqual(self.refused("ask", "u8: Copy", "--featurs=a"), "`ask` has no flag `--featurs=a`; did you mean `--features`?")
         self.assertEqual(self.refused("later", "--xyzzy"), "`later` has no flag `--xyzzy`")

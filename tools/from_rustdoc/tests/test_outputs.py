@@ -174,6 +174,7 @@ class Sarif(Forms):
         self.assertEqual(run["invocations"], [{"executionSuccessful": True, "exitCode": 1,
                                                "toolExecutionNotifications": [{"level": "error", "message": {"text": "no answer to `x`: why"}}]}])
         self.assertEqual(run["properties"]["summaries"][0]["waived"], {"changed": 1})
+        self.assertEqual(run["properties"]["notes"], ["compatible: `impl Clone for a::S`"])
 
     def test_without_an_answer_it_is_a_document_all_the_same(self) -> None:
         reporter, _, stream = self.output("sarif")
