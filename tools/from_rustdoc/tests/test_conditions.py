@@ -5,6 +5,7 @@ import io
 import json
 import os
 import unittest
+from unittest import mock
 
 from ..ask.conditions import Conditions, Finder, may_be, read_open
 from ..ask.questions import QuestionReader
@@ -58,6 +59,19 @@ class Found(unittest.TestCase):
                 (question,) = read_open(QuestionReader(self.world), written)
                 question.predicates = fewer
                 self.assertNotEqual(self.finder.answerer.answer(question).word, "yes")
+
+    def test_an_impl_for_some_types_alone_is_no_bound(self) -> None:
+        """(The type is written with what it leaves to defaults, as `traits` does.)"""
+        (question,) = read_open(QuestionReader(self.world), "Vec<T>: From<&str>")
+        question.subject = Lister(self.world, self.finder).whole(question.subject)
+        found = self.finder.find(question)
+        self.assertEqual((found.word, found.bounds), ("no", []))
+        self.assertIn("`Vec<T>: From<&str>` has impls for some of its types alone, as `impl ", found.because)
+
+    def test_the_bounds_come_to_an_end(self) -> None:
+        with mock.patch("from_rustdoc.ask.conditions.MAXIMAL_BOUNDS", 1):
+            found = self.found("(T, U): Send")
+        self.assertEqual((found.word, found.because), ("not settled", "after 1 bounds `U: Send` fails"))
 
     def test_variables_and_a_missing_program_are_refused(self) -> None:
         with self.assertRaisesRegex(BadInput, "has variables"):
