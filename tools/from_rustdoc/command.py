@@ -8,7 +8,7 @@ import json
 import os
 import sqlite3
 import sys
-from dataclasses import replace
+from dataclasses import dataclass, replace
 from typing import TYPE_CHECKING, Any, Callable, Iterator, Optional
 
 from . import flags
@@ -41,6 +41,9 @@ USAGE = """from-rustdoc: a translator of crates to texts for this program, and o
   from-rustdoc check BASE                                is each crate coherent?
   from-rustdoc ask BASE 'smallvec::IntoIter<[u8; 4]>: Send' ..
   from-rustdoc ask --project PROJECT QUESTION ..         the same of a project, which is documented first
+  from-rustdoc conditions --project PROJECT QUESTION ..  under which bounds on its parameters does the bound hold?
+  from-rustdoc traits --project PROJECT TYPE ..          which traits has the type, and under which bounds?
+  from-rustdoc serve --project PROJECT                   answers requests, a line of JSON each, as tools/from_rustdoc/serve.py says
   from-rustdoc later OLD.json NEW.json                   what of a release breaks crates that use it?
   from-rustdoc later --baseline REV|FOLDER [PROJECT]     the same of a project and its older version
   from-rustdoc std -o FILE                               the part of std that people name, as a text to stand in front of others
@@ -223,13 +226,55 @@ def answered(inputs: dict[str, Any], world: World, arguments: argparse.Namespace
                 statuses.append(message.status)
         except (BadInput, Lossy) as error:
             statuses.append(NO_ANSWER)
-            message = Message(f"no answer to `{written}`: {error}", "not-understood", "not understood")
-            if output.takes(message):
-                output.message(message)
-            else:
-                console.fail(message.text)
+            not_understood(written, error, output)
     keep(world)
     return worst(statuses)
+
+
+def conditions(arguments: argparse.Namespace, extra: list[str]) -> int:
+    """`conditions` and `traits`, of crates that were read or of a project. What cannot be asked spoils nothing else."""
+    from .ask.conditions import Finder, read_open
+    from .ask.told import say_conditions, say_traits
+    from .ask.traits import Lister
+    inputs, world = asked_of(arguments, extra)
+    reader, finder, output = QuestionReader(world), Finder(world, arguments.program, arguments.program_that_explains), output_of(arguments, inputs)
+    statuses = []
+    for written in arguments.questions:
+        try:
+            if arguments.command == "traits":
+                statuses.append(say_traits(Lister(world, finder).of(written), finder, output))
+                continue
+            for question in read_open(reader, written):
+                statuses.append(say_conditions(finder.find(question), finder, output))
+        except (BadInput, Lossy) as error:
+            statuses.append(NO_ANSWER)
+            not_understood(written, error, output)
+    keep(world)
+    return worst(statuses)
+
+
+def asked_of(arguments: argparse.Namespace, extra: list[str]) -> tuple[dict[str, Any], World]:
+    """What is asked: a project, or crates that were read, whose base is the first word then."""
+    if arguments.project is not None:
+        arguments.questions = arguments.words
+        return documents(arguments.project, extra, arguments)[1:]
+    arguments.base, *arguments.questions = arguments.words
+    known = kept(arguments.base)
+    return known["inputs"], world_again(known, arguments)
+
+
+def not_understood(written: str, error: Exception, output: Output) -> None:
+    message = Message(f"no answer to `{written}`: {error}", "not-understood", "not understood")
+    if output.takes(message):
+        output.message(message)
+    else:
+        console.fail(message.text)
+
+
+def serve(arguments: argparse.Namespace, extra: list[str]) -> int:
+    from . import serve as service
+    from .project import Project
+    return service.main(Project(arguments.project or ".", extra, arguments.docs, arguments.program, arguments.program_that_explains, arguments.quiet))
 
 
 def ask_project(arguments: argparse.Namespace, extra: list[str]) -> int:
@@ -238,28 +283,48 @@ def ask_project(arguments: argparse.Namespace, extra: list[str]) -> int:
     return answered(inputs, world, arguments)
 
 
-def documents(folder: str, extra: list[str], arguments: argparse.Namespace) -> tuple[str, dict[str, Any], World]:
-    """Documents a project, and writes the map, which is all that questions need: the base of its files, and what was read."""
+@dataclass
+class Documents:
+    """A project that cargo has documented: `files` are what is read of it, and `known` is the same while that would be read alike."""
+    folder: str
+    project: cargo.Project
+    base: str
+    files: list[str]
+    known: dict[str, Any]
+
+
+def documented(folder: str, extra: list[str], arguments: argparse.Namespace) -> Documents:
+    """Has cargo document what has changed."""
     found = cargo.document(folder, extra, arguments.quiet)
     crates = found.closure(found.members)
     if not crates:
         raise BadInput(f"{folder} has no library that is documented: a project of programs or procedural macros alone has nothing to read")
+    files = [found.files[c] for c in crates]
     # (Of several sets of features each has its own.)
     told = getattr(arguments, "told_features", "")
-    base, files = os.path.join(found.folder, crates[0] + (f"-{hashlib.sha256(told.encode()).hexdigest()[:8]}" if told else "")), [found.files[c] for c in crates]
-    known = {"documents": cargo.states(files), "made_by": made_by(found, files, arguments.docs)}
+    base = os.path.join(found.folder, crates[0] + (f"-{hashlib.sha256(told.encode()).hexdigest()[:8]}" if told else ""))
+    return Documents(folder, found, base, files,
+                     {"documents": cargo.states(files), "made_by": made_by(found, files, arguments.docs)})
+
+
+def read_documents(found: Documents, arguments: argparse.Namespace) -> tuple[str, dict[str, Any], World]:
+    """Reads a project, and writes the map, which is all that questions need: the base of its files, and what was read."""
     with contextlib.suppress(OSError, ValueError):
-        before = map_of(base)
-        if {name: before.get(name) for name in known} == known:
-            return base, before["inputs"], world_again(before, arguments)
-    cargo.add_cfgs(found, folder)
-    world = world_of(files, cargo.docs_folder(arguments.docs, folder), found.links)
-    inputs = inputs_of(world, files, found.links)
-    if cargo.states(files) != known["documents"]:
-        raise BadInput(f"{folder} was documented again while it was read: ask again")
-    write_map(base, {"inputs": inputs, **known})
+        before = map_of(found.base)
+        if {name: before.get(name) for name in found.known} == found.known:
+            return found.base, before["inputs"], world_again(before, arguments)
+    cargo.add_cfgs(found.project, found.folder)
+    world = world_of(found.files, cargo.docs_folder(arguments.docs, found.folder), found.project.links)
+    inputs = inputs_of(world, found.files, found.project.links)
+    if cargo.states(found.files) != found.known["documents"]:
+        raise BadInput(f"{found.folder} was documented again while it was read: ask again")
+    write_map(found.base, {"inputs": inputs, **found.known})
     warn(world)
-    return base, inputs, world
+    return found.base, inputs, world
+
+
+def documents(folder: str, extra: list[str], arguments: argparse.Namespace) -> tuple[str, dict[str, Any], World]:
+    return read_documents(documented(folder, extra, arguments), arguments)
 
 
 def made_by(found: cargo.Project, files: list[str], docs: Optional[str]) -> str:
@@ -345,6 +410,11 @@ def parser(prog: str = "from-rustdoc") -> argparse.ArgumentParser:
     three.add_argument("--expect", choices=("yes", "no", "maybe"))
     three.add_argument("--why", action="store_true")
     three.add_argument("words", nargs="+")
+    for name in ("conditions", "traits"):
+        one = commands.add_parser(name, parents=[common], usage=USAGE, allow_abbrev=False)
+        one.add_argument("--project")
+        one.add_argument("words", nargs="+")
+    commands.add_parser("serve", parents=[common], usage=USAGE, allow_abbrev=False).add_argument("--project")
     four = commands.add_parser("later", parents=[common], usage=USAGE, allow_abbrev=False)
     four.add_argument("--private", action="store_true")
     four.add_argument("--strict", action="store_true")
@@ -361,6 +431,9 @@ def parser(prog: str = "from-rustdoc") -> argparse.ArgumentParser:
     five = commands.add_parser("project", parents=[common], usage=USAGE, allow_abbrev=False)
     five.add_argument("folder")
     return top
+
+
+COMMANDS = ("read", "check", "ask", "conditions", "traits", "serve", "later", "std", "project")
 
 
 def divided(words: list[str]) -> tuple[list[str], list[str]]:
@@ -381,12 +454,16 @@ def run_command(arguments: argparse.Namespace, extra: list[str]) -> int:
             return ask(arguments)
         arguments.questions = [(word, None) for word in arguments.words]
         return ask_project(arguments, extra)
+    if arguments.command in ("conditions", "traits"):
+        return conditions(arguments, extra)
+    if arguments.command == "serve":
+        return serve(arguments, extra)
     return {"read": read, "check": check, "std": std}[arguments.command](arguments)
 
 
 def main(words: list[str]) -> int:
     words, extra = divided(words)
-    if words and words[0] not in ("read", "check", "ask", "later", "std", "project") and os.path.isdir(words[0]):
+    if words and words[0] not in COMMANDS and os.path.isdir(words[0]):
         words = ["project", *words]
     console.begin("from-rustdoc", is_quiet="--quiet" in words or "-q" in words)
 
@@ -424,6 +501,7 @@ def run_for_cargo(words: list[str], extra: list[str], reporter: Reporter) -> int
     if command is None:
         return say_help(words)
     arguments = flags.read(command, words)
+    arguments.command = command.name
     begin(arguments, reporter)
     if arguments.h or arguments.help:
         print(flags.short_help(command) if arguments.h else flags.long_help(command), end="")

@@ -50,7 +50,7 @@ class Flag:
         if not self.value:
             return [self.names[-1]] if given else []
         values = given if isinstance(given, list) else [given] if given is not None else []
-        return [word for value in values for word in (self.names[-1], value)]
+        return [word for value in values for word in (self.names[-1], str(value))]
 
 
 def one_of(*known: str) -> Any:
@@ -136,6 +136,12 @@ COMMANDS = {command.name: command for command in (
             "rustc checks the orphan rule and overlap in each build. Run this to have it judged a second time, by the program whose answers are proved, and to "
             "see which impls this tool reads whole: what `ask` and `later` answer rests on these.", (
                 Flag(("--all",), "the crates that are used too, not the workspace's own alone"),)),
+    Command("conditions", "under which bounds does a question hold, as `Vec<T>: Send`?",
+            "Asks again with what was missing as a bound, until the answer is yes. Parameters need not be declared.", (), "QUESTION...", 1),
+    Command("traits", "which traits has a type, as `mine::Pool<T>`, and under which bounds?",
+            "Lists each trait as an impl with its bounds, then the auto traits that the type does not have.", (), "TYPE...", 1),
+    Command("serve", "answers requests on standard input, a line of JSON each",
+            "For editors and other tools: the methods are those of the class Project, as docs/QUESTIONS.md says."),
 )}
 STATUSES = """Status: 0 fine, or broken as the version's number says. 1 breaking, not coherent, or not as expected. 2 wrong arguments. 3 no answer.
 4 not settled, `changed`, or not judged with --strict. docs/RUSTDOC.md has all."""
@@ -209,6 +215,8 @@ def read(command: Command, words: Sequence[str]) -> argparse.Namespace:
     """What the words of a command say. `extra` has what cargo is told."""
     found = Parser(command).read(words)
     found.extra = [word for flag in command.all_flags() if flag.passed for word in flag.words(getattr(found, flag.name))]
+    if len(found.words) < command.least:
+        raise WrongWords(f"`{command.name}` takes {'a type' if command.name == 'traits' else 'a question'}: {command.about}")
     if not command.words and found.words:
         raise WrongWords(f"`{command.name}` takes no `{found.words[0]}`" + (f": is it a question? `{CALLED} ask '{found.words[0]}'`" if ": " in found.words[0] else ""))
     if found.exclude and not found.workspace:

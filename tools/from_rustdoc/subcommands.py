@@ -5,7 +5,8 @@ import argparse
 from typing import Any
 
 from . import flags
-from .command import answered, check_project, documents, output_of, world_of
+from .command import answered, check_project, conditions, documents, output_of, world_of
+from .command import serve as serve_project
 from .model.world import World
 from .read import cargo
 from .read.selection import Selection, Trial, project_folder, selected
@@ -19,6 +20,7 @@ class Call:
     """One call in a project: its packages, and what their metadata says."""
 
     def __init__(self, arguments: argparse.Namespace, extra: list[str]) -> None:
+        arguments.told_features = ""
         self.arguments = arguments
         self.extra = extra
         self.folder = project_folder(arguments.manifest_path)
@@ -36,7 +38,7 @@ class Call:
 
 
 def run(name: str, arguments: argparse.Namespace, extra: list[str]) -> int:
-    return {"later": later, "ask": ask, "check": check}[name](arguments, extra)
+    return {"later": later, "ask": ask, "check": check, "conditions": asked, "traits": asked, "serve": serve}[name](arguments, extra)
 
 
 def later(arguments: argparse.Namespace, extra: list[str]) -> int:
@@ -62,6 +64,19 @@ def ask(arguments: argparse.Namespace, extra: list[str]) -> int:
         _, inputs, world = call.documents(trial)
         statuses.append(answered(inputs, world, arguments))
     return worst(statuses)
+
+
+def asked(arguments: argparse.Namespace, extra: list[str]) -> int:
+    """`conditions` and `traits`, by the features that are given."""
+    call = Call(arguments, extra)
+    arguments.project = call.folder
+    return conditions(arguments, [*extra, *call.chosen.words])
+
+
+def serve(arguments: argparse.Namespace, extra: list[str]) -> int:
+    call = Call(arguments, extra)
+    arguments.project = call.folder
+    return serve_project(arguments, [*extra, *call.chosen.words])
 
 
 def questions_by_trial(call: Call) -> list[tuple[Trial, list[Expected]]]:

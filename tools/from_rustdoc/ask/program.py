@@ -82,9 +82,14 @@ def printed(text: str, program: Optional[str], depth: int) -> str:
     return output
 
 
+def explaining(program: Optional[str] = None) -> Optional[str]:
+    """The program that explains: the one that is named, else the proved one that is here, if there is one."""
+    return program or proved_program("celtisdarts_explain")
+
+
 def explain(text: str, program: Optional[str] = None, depth: int = DEPTH) -> list[dict[str, Any]]:
     """What the program that explains says of each line of its answer, as its JSON has it; nothing where there is no such program."""
-    found = program or proved_program("celtisdarts_explain")
+    found = explaining(program)
     if found is None:
         return []
     done = subprocess.run([found, str(depth), "--json"], input=text.encode("ascii"), stdout=subprocess.PIPE, stderr=subprocess.PIPE)

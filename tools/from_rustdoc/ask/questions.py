@@ -22,7 +22,8 @@ from .back import Back
 from .names import Names, NotKnown
 from .negative import Negatives
 from .program import DEPTH, Answer, ask
-from .reach import BY_PARTS, Reach, Reacher, Reference_
+from .reach import Reach, Reacher
+from .rules import BY_PARTS, Reference_
 from .well_formed import Fitting
 
 MAXIMAL_ROUNDS = 6
@@ -107,6 +108,14 @@ BY_LAW = "by law"
 MAYBE = "both texts leave open what the unknowns stand for"
 
 
+class Undeclared(BadInput):
+    """A word that looks like a type parameter is none; `declared` is the question with parameters for all such words."""
+
+    def __init__(self, word: str, declared: str) -> None:
+        super().__init__(f"`{word}` is not known: declare it: `{declared}`")
+        self.declared = declared
+
+
 class TooSmall(BadInput):
     """The text is a part of the crates in which references that it leads to were not looked for."""
 
@@ -142,7 +151,7 @@ class QuestionReader:
             undeclared = self.undeclared(reader, params) if len(words) == 1 and not reader.wants_trait else []
             if words[0] not in undeclared:
                 raise
-            raise BadInput(f"`{words[0]}` is not known: declare it: `{self.declared(reader.text, undeclared)}`")
+            raise Undeclared(words[0], self.declared(reader.text, undeclared))
         declaration = self.world.get(key)
         return ("trait" if declaration.is_trait else "type" if declaration.kind == "type" else "struct"), key, declaration.name
 

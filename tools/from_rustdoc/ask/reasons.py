@@ -7,13 +7,13 @@ from __future__ import annotations
 
 import re
 from dataclasses import dataclass, field
-from typing import Any, Optional
+from typing import Any, Iterator, Optional
 
 from ..model.show import Show
 from ..model.world import CORE_NAMES
 from ..read.headers import Named_, NotUnderstood, Reader
 from ..read.html_docs import is_std_key
-from ..read.terms import BadInput, Bound, Declaration, Dyn, Impl, Lossy, Named, Parameter, Projection, Type, argument_values, put, rebuilt
+from ..read.terms import BadInput, Bound, Declaration, Dyn, Impl, Lossy, Named, Parameter, Place, Predicate, Projection, Type, argument_values, put, rebuilt
 from ..report.messages import Message, at
 from ..write.build import Piece
 from ..write.render import FIELD, Scope, names_of
@@ -26,8 +26,6 @@ from .questions import InText, Verdict
 from .reach import Reach
 
 GOAL = re.compile(r"the trait bound `(.*)` was not proved$")
-ROW = re.compile(r"([|`\- ]*)(\S.*?)\s{2,}(\S.*)$")
-LINE = re.compile(r"impl at line (\d+)")
 STEP = re.compile(r"required for `(.*)` to implement `(.*)`(, by a built-in rule)?(, not checked)?$")
 CYCLE = "needs itself"
 NEVER, APPLY, WRAP, OBJECT = "Never_", "Apply_", "Wrap_", "Object_"
@@ -50,6 +48,16 @@ class Told:
     goals: list[Goal] = field(default_factory=list)
     helps: list[str] = field(default_factory=list)
     is_cycle: bool = False
+
+
+@dataclass(frozen=True)
+class Step:
+    """A step of a proof: a goal, how deep it is below the question, and by what it holds; of an impl its header."""
+    depth: int
+    goal: str
+    how: str
+    impl: str = ""
+    place: Optional[Place] = None
 
 
 def is_of_text(subject: Type) -> bool:
@@ -84,6 +92,11 @@ class Explainer:
     # ---- what the program says
     def explain(self) -> list[Message]:
         """Notes on why there is no proof; none where nothing can be read back."""
+        told = self.refusal()
+        return self.notes(told) if told is not None else []
+
+    def refusal(self) -> Optional[Told]:
+        """What the program says of the question, down to the goal that failed first."""
         told = self.told([self.prove])[0]
         if told is not None and told.is_cycle:
             told = self.without_cycle(told) or told
@@ -92,7 +105,7 @@ class Explainer:
             if deeper is None:
                 break
             told = deeper
-        return self.notes(told) if told is not None else []
+        return told
 
     def said(self, lines: list[str]) -> list[dict[str, Any]]:
         found = explain(self.text + "".join(line + "\n" for line in lines), self.program)
@@ -174,8 +187,7 @@ class Explainer:
     def without_cycle(self, told: Told) -> Optional[Told]:
         """A cycle is no reason by itself where something else of a type in it fails too: its fields are asked one by one."""
         for number, goal in enumerate(told.goals):
-            by_fields = goal.is_built_in or goal.piece is not None and goal.piece.cut is not None
-            declaration = self.declaration(self.rust(goal.subject)) if by_fields else None
+            declaration = self.declaration(self.rust(goal.subject)) if self.is_by_fields(goal) else None
             if declaration is None:
                 continue
             lines = [line for line in (self.field_line(goal, declaration, term) for term in declaration.fields) if line]
@@ -213,13 +225,19 @@ class Explainer:
             return ""
 
     # ---- as notes
-    def notes(self, told: Told) -> list[Message]:
+    @staticmethod
+    def chain(told: Told) -> tuple[list[Goal], bool]:
+        """The goals that Rust has too, from the inside out, and whether a negative impl rules the first one out."""
         goals = [goal for goal in told.goals if goal.bound.key != APPLY and not is_of_text(goal.subject)]
+        is_negative = len(goals) > 1 and goals[0].bound.key == NEVER
+        return goals[is_negative:], is_negative
+
+    def notes(self, told: Told) -> list[Message]:
+        goals, is_negative = self.chain(told)
         if not goals:
             return []
         first, rest = goals[0], goals[1:]
-        if first.bound.key == NEVER and rest:
-            first, rest = rest[0], rest[1:]
+        if is_negative:
             notes = [self.negative(first)]
         else:
             notes = [Message(f"`{self.shown(first)}` does not hold", kind="note")] if rest else []
@@ -232,7 +250,7 @@ class Explainer:
         return notes + self.helps(first, told)
 
     def negative(self, goal: Goal) -> Message:
-        impl = goal.piece.written.impl if goal.piece is not None and goal.piece.written is not None else None
+        impl = self.impl_of(goal)
         text = f"`{self.shown(goal)}` does not hold"
         if impl is None or not impl.is_negative:
             return Message(text, kind="note")
@@ -242,29 +260,47 @@ class Explainer:
     def step(self, goal: Goal, inner: Goal) -> Optional[Message]:
         """What the inner goal is needed for."""
         if goal.bound.key in self.thens:
-            key, name = self.thens[goal.bound.key]
-            arguments = tuple(self.rust(a) for a in goal.bound.arguments if not (isinstance(a, Named) and a.key == WRAP))
-            return Message(f"it is asked of the value of `{self.show.type(Projection(self.rust(goal.subject), Bound(key, arguments), name))}`", kind="note")
+            return Message(f"it is asked of the value of `{self.value(goal)}`", kind="note")
         if goal.bound.key in self.companions:
             return None
         text = f"required for `{self.shown(goal)}`"
-        itself = self.rust(goal.subject)
-        declaration = self.declaration(itself)
-        if declaration is not None and isinstance(itself, Named) and (goal.is_built_in or (goal.piece is not None and goal.piece.cut is not None)):
-            its = self.field_of(declaration, itself, self.shown_type(self.unfolded(inner)[0] if inner.bound.key in self.thens else inner.subject))
+        declaration = self.declaration(self.rust(goal.subject))
+        if declaration is not None and self.is_by_fields(goal):
+            name, its_type = self.field_of(goal, inner)
+            its = f"its field `{name}` is `{its_type}`" if name else ""
             return Message(f"{text}: {its}" if its else text, kind="note", spans=at(declaration.place), summary=its)
-        impl = goal.piece.written.impl if goal.piece is not None and goal.piece.written is not None else None
+        impl = self.impl_of(goal)
         if impl is not None and impl.trait is not None:
             return Message(f"{text}, by `{self.show.header(impl)}`" + ("" if impl.place else f" ({impl.source.split(':')[0]})"), kind="note", spans=at(impl.place))
         return Message(text, kind="note")
 
-    def field_of(self, declaration: Declaration, itself: Named, inner: str) -> str:
-        """Which field of a type has the inner type."""
+    def field_of(self, goal: Goal, inner: Goal) -> tuple[str, str]:
+        """Of a goal by the fields of a type that field for which the inner goal is needed, and its type; empty where there is none."""
+        itself = self.rust(goal.subject)
+        declaration = self.declaration(itself)
+        if declaration is None or not isinstance(itself, Named):
+            return "", ""
+        wanted = self.shown_type(self.unfolded(inner)[0] if inner.bound.key in self.thens else inner.subject)
         values = argument_values(declaration.params, itself.arguments)
         for name, term in zip(declaration.field_names, declaration.fields):
-            if self.show.type(self.shortened(put(self.resolved(declaration, term), values))) == inner:
-                return f"its field `{name}` is `{inner}`"
-        return ""
+            if self.show.type(self.shortened(put(self.resolved(declaration, term), values))) == wanted:
+                return name, wanted
+        return "", ""
+
+    @staticmethod
+    def is_by_fields(goal: Goal) -> bool:
+        """Whether a goal is asked of the parts of a type."""
+        return goal.is_built_in or goal.piece is not None and goal.piece.cut is not None
+
+    @staticmethod
+    def impl_of(goal: Goal) -> Optional[Impl]:
+        return goal.piece.written.impl if goal.piece is not None and goal.piece.written is not None else None
+
+    def value(self, goal: Goal) -> str:
+        """The associated type of whose value a goal asks a pattern."""
+        key, name = self.thens[goal.bound.key]
+        arguments = tuple(self.rust(a) for a in goal.bound.arguments if not (isinstance(a, Named) and a.key == WRAP))
+        return self.show.type(Projection(self.rust(goal.subject), Bound(key, arguments), name))
 
     def resolved(self, declaration: Declaration, term: Type) -> Type:
         """A field with the traits of its associated types."""
@@ -306,29 +342,38 @@ class Explainer:
     # ---- a proof
     def proof(self) -> list[Message]:
         """The proof that was found, a note for each step that is not about a size; what stands above is not said again."""
-        said = self.said([self.prove])
-        rows = [row for message in said for child in message.get("children", []) if child["message"].startswith("proof:\n")
-                for row in child["message"].split("\n")[1:]]
-        return [note for note in map(self.row, rows) if note is not None]
+        return [Message(f"{'  ' * step.depth}`{step.goal}`: {step.how}", kind="note", spans=at(step.place)) for step in self.steps()]
 
-    def row(self, row: str) -> Optional[Message]:
-        found = ROW.match(row)
-        if found is None or found.group(3) == "shown above":
+    def steps(self) -> list[Step]:
+        """The steps of the proof in the order of its trees, each before what it rests on."""
+        return [step for message in self.said([self.prove]) for root in message.get("proof", []) for step in self.steps_of(root, 0)]
+
+    def steps_of(self, row: dict[str, Any], depth: int) -> Iterator[Step]:
+        step = self.row(row, depth)
+        if step is not None:
+            yield step
+        for premise in row["premises"]:
+            yield from self.steps_of(premise, depth + 1)
+
+    def row(self, row: dict[str, Any], depth: int) -> Optional[Step]:
+        """A step as Rust has it; nothing for what only the text has, and for what was said before."""
+        rule = str(row["rule"])
+        if rule == "shown above":
             return None
         try:
-            goal = self.goal(found.group(2))
+            goal = self.goal(row["goal"])
         except NotUnderstood:
             return None
         if goal.bound.key in (APPLY, "Sized") or goal.bound.key in self.translation.renderer.further:
             return None
-        place = LINE.search(found.group(3))
-        goal.piece = self.pieces[int(place.group(1)) - 1] if place and int(place.group(1)) <= len(self.pieces) else None
-        impl = goal.piece.written.impl if goal.piece is not None and goal.piece.written is not None else None
+        number = row["span"]["line_start"] if row["span"] else 0
+        piece = self.pieces[number - 1] if 0 < number <= len(self.pieces) else None
+        impl = piece.written.impl if piece is not None and piece.written is not None else None
         declaration = self.declaration(self.rust(goal.subject))
-        how = f"`{self.show.header(impl)}`" if impl is not None and impl.trait is not None else "std's impl" if "`core`" in found.group(3) else found.group(3)
-        how = "built-in rule" if goal.piece is not None and impl is None else how
-        spans = at(impl.place) if impl is not None else at(declaration.place) if declaration is not None and how == "built-in rule" else []
-        return Message(f"{'  ' * (len(found.group(1)) // 3)}`{self.shown(goal)}`: {how}", kind="note", spans=spans)
+        header = self.show.header(impl) if impl is not None and impl.trait is not None else ""
+        how = "built-in rule" if piece is not None and impl is None else f"`{header}`" if header else "std's impl" if "`core`" in rule else rule
+        place = impl.place if impl is not None else declaration.place if declaration is not None and how == "built-in rule" else None
+        return Step(depth, self.shown(goal), how, header, place)
 
     # ---- helps
     def helps(self, goal: Goal, told: Told) -> list[Message]:
@@ -346,15 +391,19 @@ class Explainer:
 
     def clause(self, goal: Goal) -> str:
         """A goal as a where-clause of a question."""
+        subject, bound = self.predicate(goal)
+        return f"{self.askable.type(subject)}: {self.askable.bound(bound)}"
+
+    def predicate(self, goal: Goal) -> Predicate:
+        """A goal as Rust has it."""
         subject, bound = goal.subject, goal.bound
         if bound.key in self.companions:
             key, name = self.companions[bound.key]
             value, others = self.value_of(goal, key)
-            return f"{self.askable.type(self.rust(subject))}: {self.askable.bound(Bound(key, others, ((name, value),)))}"
+            return self.rust(subject), Bound(key, others, ((name, value),))
         if bound.key in self.thens:
             subject, bound = self.unfolded(goal)
-        arguments = tuple(map(self.rust, bound.arguments))
-        return f"{self.askable.type(self.rust(subject))}: {self.askable.bound(Bound(self.world.named.get(bound.key, bound.key), arguments))}"
+        return self.rust(subject), Bound(self.world.named.get(bound.key, bound.key), tuple(map(self.rust, bound.arguments)))
 
     def nearest(self, impls: list[Impl]) -> list[Impl]:
         """Those of the crates that use others first, and in each crate types with a name before arrays, tuples and references."""

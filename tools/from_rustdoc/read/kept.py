@@ -142,6 +142,7 @@ class KeptCrate:
         self.externals: list[tuple[str, str]] = data["externals"]
         self.exports: dict[str, Optional[str]] = data["exports"]
         self.modules: dict[str, list[str]] = data["modules"]
+        self.traits_of: dict[str, list[str]] = data["traits_of"]
 
 
 def data_of(crate: JsonCrate) -> dict[str, Any]:
@@ -149,7 +150,8 @@ def data_of(crate: JsonCrate) -> dict[str, Any]:
             "declarations": {k: packed(replace(d, item={})) for k, d in crate.declarations.items()},
             "aliases": {k: packed(d) for k, d in crate.aliases.items()}, "impls": [packed(i) for i in crate.impls],
             "heads": crate.heads, "items": [(i.key, i.name, i.public_path) for i in crate.items], "std_version": crate.std_version,
-            "sources": crate.sources, "externals": crate.externals, "exports": crate.exports, "modules": crate.modules}
+            "sources": crate.sources, "externals": crate.externals, "exports": crate.exports, "modules": crate.modules,
+            "traits_of": crate.traits_of}
 
 
 class Keeper:
@@ -370,6 +372,13 @@ class KeptStandard(Standard):
         if kept is None:
             kept = super().read_auto_impls(key)
             self.store.put("autos", key, kept)
+        return kept
+
+    def traits_on(self, path: str) -> list[str]:
+        kept: Optional[list[str]] = self.store.get("traits", path)
+        if kept is None:
+            kept = super().traits_on(path)
+            self.store.put("traits", path, kept)
         return kept
 
     def read_values(self, key: str) -> dict[str, dict[str, Type]]:

@@ -9,8 +9,9 @@ LIKE = 0.6
 
 
 def nearest(word: str, known: Iterable[str]) -> str:
-    """The nearest of the known words; empty where none is near."""
-    return next(iter(difflib.get_close_matches(word, list(known), 1, LIKE)), "")
+    """The nearest of the known words; empty where none is near. What all flags begin with makes none alike."""
+    words = {one.lstrip("-"): one for one in known}
+    return next((words[found] for found in difflib.get_close_matches(word.lstrip("-"), list(words), 1, LIKE)), "")
 
 
 def hint(word: str, known: Iterable[str]) -> str:

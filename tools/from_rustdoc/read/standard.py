@@ -157,6 +157,15 @@ class Standard:
             del self.found[before:]
         return [i for its, i in self.by_head[key] if head is None or its in (head, ANY_HEAD)]
 
+    def traits_on(self, path: str) -> list[str]:
+        """The keys of the traits of which the page of a type shows an impl: written, blanket and computed ones."""
+        try:
+            page, text = self.pages.page(path)
+        except NotUnderstood:
+            return []
+        impls = [self.impl(fragment, page, "", page.split("/")[0]) for fragment, _ in self.pages.impl_sections(text)]
+        return list(dict.fromkeys(impl.trait.key for impl in impls if impl.trait is not None and is_std_key(impl.trait.key)))
+
     def impl(self, fragment: str, page: str, rest: str, crate: str) -> Impl:
         impl = Impl(home_of(crate), "std: " + Pages.plain(fragment))
         try:

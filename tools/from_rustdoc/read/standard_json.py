@@ -117,6 +117,10 @@ class JsonStandard(Standard):
         self.found += list({id(h): h for h, _ in impls}.values())
         return impls
 
+    def traits_on(self, path: str) -> list[str]:
+        """(The JSON has impls by their traits alone: all that have one.)"""
+        return list(self.by_trait)
+
     def auto_impls(self, key: str) -> list[tuple[Header, Impl]]:
         found = []
         for trait, impls in self.by_trait.items():

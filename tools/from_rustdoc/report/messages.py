@@ -45,8 +45,8 @@ class Span:
 @dataclass
 class Message:
     """`code` is the class, as `bound-added`; `word` the answer; `basis` says on what it rests, `rests_on` on the loss of which impls. `summary`
-    of a step says why by the part of it that is new; `values` are those of variables, as a question takes them. `waived` is the reason why a
-    change may be, `counted_as` the kind of what is not judged."""
+    of a step says why by the part of it that is new; `values` are those of variables, as a question takes them; `more` are further keys in JSON.
+    `waived` is the reason why a change may be, `counted_as` the kind of what is not judged."""
     text: str
     code: str = ""
     word: str = ""
@@ -58,6 +58,7 @@ class Message:
     kind: str = ""
     summary: str = ""
     values: list[tuple[str, str]] = field(default_factory=list)
+    more: dict[str, Any] = field(default_factory=dict)
     waived: str = ""
     counted_as: str = ""
 
@@ -189,7 +190,8 @@ def message_json(message: Message, sources: Sources, is_child: bool = False) -> 
     if is_child:
         return found
     return {"$message_type": "diagnostic", **found, "class": message.code or None, "answer": message.word or None, "crate": message.crate or None,
-            "basis": message.basis or None, "rests_on": message.rests_on, "waived": message.waived or None, "values": [{"name": name, "type": value} for name, value in message.values]}
+            "basis": message.basis or None, "rests_on": message.rests_on, "waived": message.waived or None,
+            "values": [{"name": name, "type": value} for name, value in message.values], **message.more}
 
 
 class Output:

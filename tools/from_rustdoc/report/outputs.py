@@ -171,7 +171,7 @@ class SarifLog:
         self.rules: dict[str, int] = {}
         self.summaries: list[dict[str, Any]] = []
         self.notifications: list[dict[str, Any]] = []
-        self.root = ""
+        self.notes: list[str] = []
 
     def add(self, message: Message, sources: Sources) -> None:
         text = whole_text(message, sources)
@@ -201,7 +201,7 @@ class SarifLog:
             invocation["toolExecutionNotifications"] = self.notifications
         return {"$schema": SCHEMA, "version": "2.1.0", "runs": [{
             "tool": {"driver": {"name": "cargo-celtisdarts", "rules": rules}}, "columnKind": "unicodeCodePoints", "invocations": [invocation],
-            "results": list(self.results.values()), "properties": {"summaries": self.summaries}}]}
+            "results": list(self.results.values()), "properties": {"summaries": self.summaries, "notes": self.notes}}]}
 
 
 def location(path: str, span: Span) -> dict[str, Any]:
@@ -211,7 +211,7 @@ def location(path: str, span: Span) -> dict[str, Any]:
 
 
 class Sarif(Output):
-    """Adds to a log. Only errors, warnings and what is waived are results: of all else the summaries have the numbers."""
+    """Adds to a log. Only errors, warnings and what is waived are results; all else is a note beside them."""
 
     def __init__(self, log: SarifLog, *words: Any, **more: Any) -> None:
         super().__init__(*words, **more)
@@ -226,6 +226,8 @@ class Sarif(Output):
     def message(self, message: Message) -> None:
         if message.level in ("error", "warning") or message.waived:
             self.log.add(message, self.sources)
+        else:
+            self.log.notes.append(self.in_a_line(message))
 
     def summary(self, text: str, crate: str, answer: str, status: int, **more: Any) -> None:
         self.log.summaries.append({"message": text, "crate": crate, "answer": answer, "status": status, **more, "features": self.features or None})

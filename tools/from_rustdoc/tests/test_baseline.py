@@ -116,7 +116,7 @@ class Baseline(unittest.TestCase):
 
     def test_what_is_no_version_is_told(self) -> None:
         for words, why in [(["--baseline", "v9"], "v9 is no folder with a Cargo.toml, and no revision of"), (["--baseline", self.room], "has no Cargo.toml"),
-                           (["--baseline", "HEAD", "-p", "other"], "the older version has no library other; it has to_draw")]:
+                           (["--baseline", "HEAD", "-p", "other"], "no package `other` is in this workspace (it has to-draw)")]:
             status, out, err = self.later(*words)
             self.assertEqual((status, out), (3, ""), words)
             self.assertIn(why, err.splitlines()[-1])

@@ -15,8 +15,10 @@ from typing import Any, Callable
 from ..later.claims import Programs
 from ..later.command import told as say
 from ..later.release import Release, compared
+from ..later.waivers import item_of
 from ..model.show import Show
 from ..model.world import World
+from ..report.classes import CHANGES
 from ..report.messages import Message, Output
 from .common import PROGRAM, WHY_NO_PROGRAM, kept, pages, world
 from .pairs import Compiler, Pair, all_pairs, pairs_of, written_out
@@ -192,6 +194,11 @@ class Pairs(unittest.TestCase):
     def test_one_break_is_told_once(self) -> None:
         for name in ("copy_lost", "equality_removed", "equality_written_by_hand"):
             self.assertEqual(len([m for m in self.told[name] if m.level == "error"]), 1, name)
+
+    def test_each_change_can_be_waived_by_its_class_and_item(self) -> None:
+        for message in (message for messages in self.told.values() for message in messages if message.word not in ("new", "private", "sealed")):
+            self.assertIn(message.code, CHANGES)
+            self.assertRegex(item_of(message), r"^(pairs::[\w:*#]+|(impl|dyn)\b.*)$", message.text)
 
     def test_there_are_enough_pairs_of_either_kind(self) -> None:
         self.assertGreater(sum(not p.classes for p in self.pairs), 25)

@@ -198,7 +198,7 @@ class Kept(Repository):
         self.assertEqual((status, err.count("Checking alone")), (1, 2), err)
         commit = self.git("rev-parse", "HEAD")
         self.assertRegex(out.splitlines()[0], rf"^comparing alone 1\.0\.0 \(v1\.0, {commit[:9]}\) with alone 1\.0\.0 \({commit[:9]} with changes\)$")
-        self.assertEqual(self.later(), (1, out, "from-rustdoc: the older version is v1.0\n"))
+        self.assertEqual(self.later(), (1, out, "note: the older version is v1.0\n"))
         # A tag that has moved is another version, and that is told.
         self.commit()
         self.git("tag", "-f", "v1.0")
@@ -215,7 +215,7 @@ class Kept(Repository):
         self.write("src/lib.rs", "pub struct S(u8);\npub struct T;\n")
         said = "to document v1.0 runs build scripts and procedural macros of alone 1.0.0 as they were then"
         status, out, err = self.later("--no-build-scripts")
-        self.assertEqual((status, out, err.splitlines()[-1]), (3, "", f"cargo celtisdarts: {said}, which --no-build-scripts forbids"))
+        self.assertEqual((status, out, err.splitlines()[-1]), (3, "", f"error: {said}, which --no-build-scripts forbids"))
         self.assertFalse(os.path.exists(os.path.join(self.room, "ran")))
         status, _, err = self.later()
         self.assertEqual((status, os.path.exists(os.path.join(self.room, "ran"))), (0, True), err)

@@ -9,13 +9,10 @@ from ..ask.answer import Answerer
 from ..ask.questions import QuestionReader
 from ..ask.reasons import why
 from ..model.world import World
-from ..read.proved import proved_program
-from .common import PROGRAM, world
-
-NO_PROGRAM = "" if proved_program("celtisdarts_explain") else "there is no proved program that explains"
+from .common import EXPLAINS, PROGRAM, WHY_NO_EXPLANATION, world
 
 
-@unittest.skipIf(NO_PROGRAM, NO_PROGRAM)
+@unittest.skipIf(WHY_NO_EXPLANATION, WHY_NO_EXPLANATION)
 class Reasons(unittest.TestCase):
     world: World
 
@@ -26,7 +23,7 @@ class Reasons(unittest.TestCase):
     def told(self, written: str, with_proof: bool = False, of: Optional[World] = None) -> list[str]:
         """Each step with its line in the source."""
         (question,) = QuestionReader(of or self.world).read_all(written)
-        notes = why(Answerer(of or self.world, PROGRAM).answer(question), None, with_proof)
+        notes = why(Answerer(of or self.world, PROGRAM).answer(question), EXPLAINS, with_proof)
         return [note.text + "".join(f" (line {span.place.line})" for span in note.spans) for note in notes]
 
     def test_why_a_type_is_not_send(self) -> None:

@@ -1,0 +1,194 @@
+"""Under which bounds a question holds: `Vec<T>: Send` does where `T: Send`.
+
+The question is asked, and each goal that failed first is taken as a bound of the next one, until there is a proof. Then each bound that is not
+needed beside the others is left out. So the bounds suffice, by what the last answer rests on, and without one of them there is no proof.
+
+A goal is taken as a bound if it is about a parameter, an associated type of one, or a reference to these; or if some impl may have it for some of
+its types. Any other goal holds for no parameters, and the question needs it: there are no bounds then.
+"""
+from __future__ import annotations
+
+from dataclasses import dataclass, field, replace
+from typing import Iterator, Optional
+
+from ..model.world import World
+from ..read.headers import NotUnderstood
+from ..read.html_docs import is_std_key
+from ..read.terms import BadInput, BoundsOf, Impl, Lossy, Parameter, Predicate, Projection, Reference, Type, Unknown, head_of, parameters_of, parts, walk
+from .answer import Answerer
+from .back import Askable
+from .program import explaining
+from .questions import BY_LAW, Question, QuestionReader, Undeclared, Verdict, terms_of
+from .reasons import Explainer
+
+# So many bounds are taken at most.
+MAXIMAL_BOUNDS = 12
+
+
+@dataclass
+class Conditions:
+    """`word` is yes, with the bounds, which are none where the question holds as it is; no, where no bounds help; or not settled. `verdict` is the
+    answer under the bounds, or to the last question that had none, and `because` says why there are none."""
+    question: Question
+    word: str
+    verdict: Verdict
+    bounds: list[Predicate] = field(default_factory=list)
+    because: str = ""
+
+    @property
+    def basis(self) -> str:
+        return self.verdict.basis
+
+
+def read_open(reader: QuestionReader, written: str) -> list[Question]:
+    """Questions in which words that look like type parameters need not be declared."""
+    try:
+        return reader.read_all(written)
+    except Undeclared as error:
+        return reader.read_all(error.declared)
+
+
+class Finder:
+    """Finds conditions, by the programs that are named, else by those that are here."""
+
+    def __init__(self, world: World, program: Optional[str] = None, program_that_explains: Optional[str] = None) -> None:
+        self.world = world
+        self.answerer = Answerer(world, program)
+        self.explaining = explaining(program_that_explains)
+        self.show = Askable(world)
+
+    def find(self, question: Question) -> Conditions:
+        if self.explaining is None:
+            raise BadInput("conditions are found by the program that explains, and no proved one of these sources is here: `--program-that-explains` names one")
+        if question.has_unknowns():
+            raise BadInput(f"`{question.written}` has variables: conditions are bounds on parameters, as `<T> Vec<T>: Send` has")
+        bounds: list[Predicate] = []
+        while True:
+            verdict = self.answerer.answer(under(question, bounds))
+            if verdict.word == "yes":
+                bounds, verdict = self.needed(question, bounds, verdict)
+                return Conditions(question, "yes", verdict, bounds)
+            if verdict.word == "not settled":
+                return Conditions(question, "not settled", verdict, bounds, self.said(question, verdict))
+            goal = self.failed(verdict)
+            goal = owner_of(goal, [*question.predicates, *bounds]) or goal if goal is not None else None
+            why = self.unfit(goal, question, bounds)
+            if why is not None or goal is None:
+                word = "not settled" if goal is None or goal in bounds or len(bounds) >= MAXIMAL_BOUNDS else "no"
+                return Conditions(question, word, verdict, bounds, why or "")
+            bounds.append(goal)
+
+    def failed(self, verdict: Verdict) -> Optional[Predicate]:
+        """The goal that failed first; none where the explanation cannot be read."""
+        if verdict.asked is None:
+            return None
+        try:
+            explainer = Explainer(verdict.asked, "upper", self.explaining)
+            told = explainer.refusal()
+            goals = explainer.chain(told)[0] if told is not None else []
+            return explainer.predicate(goals[0]) if goals else None
+        except (BadInput, Lossy, NotUnderstood):
+            return None
+
+    def unfit(self, goal: Optional[Predicate], question: Question, bounds: list[Predicate]) -> Optional[str]:
+        """Why the goal cannot be a bound; none where it can."""
+        if goal is None:
+            return "what the program says of it cannot be read back"
+        shown = f"`{self.shown(goal)}`"
+        if goal in bounds:
+            return f"{shown} was taken as a bound, and fails all the same"
+        if len(bounds) >= MAXIMAL_BOUNDS:
+            return f"after {MAXIMAL_BOUNDS} bounds {shown} fails"
+        names = {param.name for param in question.params}
+        if not names & parameters_in(goal):
+            return f"{shown} does not hold"
+        if is_of_parameter(goal[0]):
+            return None
+        impls = list(self.impls_for(goal))
+        if not impls:
+            return f"{shown} holds for no {' and '.join(f'`{name}`' for name in sorted(names & parameters_in(goal)))}"
+        if self.shown(goal) == self.shown((question.subject, question.bound)):
+            return f"{shown} has impls for some of its types alone, as `{self.show.header(impls[0])}`"
+        return None
+
+    def impls_for(self, goal: Predicate) -> Iterator[Impl]:
+        """The impls that may have the goal for some of its types. A parameter of the goal stands for any type, each time that it stands there."""
+        subject, bound = goal
+        head = head_of(subject)
+        found = self.world.standard.impls_with_head(bound.key, head) if is_std_key(bound.key) else []
+        for impl in (*found, *self.world.impls_of(bound.key, head)):
+            params, values = {param.name for param in impl.params}, dict[str, Type]()
+            if impl.trait is not None and not impl.is_negative and meets(impl.self_type, subject, params, values) and all(
+                    meets(pattern, term, params, values) for pattern, term in zip(impl.trait.arguments, bound.arguments)):
+                yield impl
+
+    def needed(self, question: Question, bounds: list[Predicate], verdict: Verdict) -> tuple[list[Predicate], Verdict]:
+        """The bounds without those that are not needed. (The last one was asked for beside all others.) One that another one cannot be written
+        without stays."""
+        for bound in bounds[:-1]:
+            fewer = [one for one in bounds if one != bound]
+            if any(owner_of(one, [*question.predicates, *fewer]) for one in fewer):
+                continue
+            other = self.answerer.answer(under(question, fewer))
+            if other.word == "yes":
+                bounds, verdict = fewer, other
+        return bounds, verdict
+
+    def said(self, question: Question, verdict: Verdict) -> str:
+        return f"the answer to `{self.written(question, [])}` rests on a part that was left out" if verdict.basis == BY_LAW else verdict.basis
+
+    # ---- as text
+    def shown(self, goal: Predicate) -> str:
+        subject, bound = goal
+        return f"{self.show.type(subject)}: {self.show.bound(bound)}"
+
+    def written(self, question: Question, bounds: list[Predicate]) -> str:
+        """The question under the bounds."""
+        clauses = ", ".join(self.shown(bound) for bound in bounds)
+        joined = ", " if " where " in question.written else " where "
+        return question.written + (joined + clauses if clauses else "")
+
+
+def under(question: Question, bounds: list[Predicate]) -> Question:
+    """The question with further bounds, as it was read."""
+    return replace(question, predicates=[*question.predicates, *bounds], lines=[], names={}, whole=True)
+
+
+def parameters_in(goal: Predicate) -> set[str]:
+    subject, bound = goal
+    return set().union(*(parameters_of(term) for term in (subject, *terms_of(bound))))
+
+
+def owner_of(goal: Predicate, known: list[Predicate]) -> Optional[Predicate]:
+    """Of a goal about an associated type of a parameter the bound that says that there is one, if it is not known: it is needed before."""
+    subject, bound = goal
+    for part in (part for term in (subject, *terms_of(bound)) for part in walk(term)):
+        if isinstance(part, Projection) and part.bound is not None and is_of_parameter(part.subject):
+            owner = (part.subject, replace(part.bound, constraints=()))
+            if owner not in [(term, replace(one, constraints=())) for term, one in known]:
+                return owner
+    return None
+
+
+def is_of_parameter(term: Type) -> bool:
+    """Whether it is a parameter, an associated type of one, or a reference to these."""
+    while isinstance(term, (Reference, Projection)):
+        term = term.target if isinstance(term, Reference) else term.subject
+    return isinstance(term, Parameter)
+
+
+def meets(pattern: Type, term: Type, params: set[str], values: dict[str, Type]) -> bool:
+    """Whether the term may be an instance of the pattern, for some types in the place of the term's parameters."""
+    if isinstance(pattern, Parameter) and pattern.name in params:
+        return may_be(values.setdefault(pattern.name, term), term)
+    if any(isinstance(part, (Parameter, Projection, Unknown, BoundsOf)) for part in (pattern, term)):
+        return True
+    # (Arguments that are left to defaults stand in one of both alone.)
+    return head_of(pattern) == head_of(term) and all(meets(one, other, params, values) for one, other in zip(parts(pattern), parts(term)))
+
+
+def may_be(left: Type, right: Type) -> bool:
+    """Whether both may be one type, whatever is put for parameters and associated types."""
+    if any(isinstance(term, (Parameter, Projection, Unknown, BoundsOf)) for term in (left, right)):
+        return True
+    return head_of(left) == head_of(right) and all(map(may_be, parts(left), parts(right)))
