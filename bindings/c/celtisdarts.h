@@ -51,7 +51,7 @@ enum {
     CELTISDARTS_NO_TEXT = 10       /* no text was read */
 };
 
-/* A place for a text that is asked. It may move to another thread. */
+/* A place for a text that is asked, and for what calls found, within bounds (docs/LIBRARY.md). It may move to another thread. */
 typedef struct {
     void *at;
 } celtisdarts_handle;

@@ -126,7 +126,10 @@ struct Open {
     buffer: Vec<u8>,
 }
 
-/// Asks in one crate of a text. What the crate sees is kept between calls. What a search finds is dropped behind each.
+/// Asks in one crate of a text. What the crate sees, and what searches have found, is kept for later calls.
+///
+/// It is kept while the searches have started at most 65,536 frames, one for each goal that was new; 64 bytes of questions count as a frame.
+/// Then it is dropped, and the next call lowers what the crate sees again. After an error it is dropped too.
 ///
 /// After any call, one that ended with an error too, it can be asked again, and answers as before. It may be moved to another thread. One
 /// call is made at a time.
@@ -216,7 +219,7 @@ impl Session {
         }
     }
 
-    /// The answer to a whole query line, which may ask in another crate of the text, at the price of a change of crates.
+    /// The answer to a whole query line, which may ask in another crate of the text: what is found there is kept too.
     ///
     /// It is what the program `celtisdarts` answers last to the text with this line behind it.
     ///

@@ -18,12 +18,13 @@ use Rattle.sessions.specs.Workspace.Views.{asked_of, asker_of, crate_of, questio
 use Rattle.sessions.specs.Workspace.declared.declared.Asked.{Asked}
 use Rattle.sessions.specs.Workspace.declared.declared.QuestionEntry.{QuestionEntry}
 use Rattle.sessions.specs.Workspace.declared.tables.Tables.{Tables}
-use Rattle.sessions.specs.SeenViews.{IsViewOf, IsLeftView}
 use Rattle.sessions.specs.Promised.Subjects.{IsOfText}
-use Rattle.sessions.specs.declared.seen_view.SeenView.{SeenView}
+use Rattle.sessions.specs.declared.left_session.LeftSession.{LeftSession}
+use Rattle.sessions.specs.declared.limits.Limits.{Limits}
 use Rattle.coherence.specs.Asking.{AskedText, IsAnswerBehind, IsAskFault, IsLastLine, IsQueryBehind, IsShortage, Serves, ask_fault_of}
 use Rattle.coherence.specs.Groups.{IsAskedIn}
 use Rattle.coherence.specs.KeptLines.{HasLine, IsLineOf}
+use Rattle.coherence.specs.KeptSessions.{AreLeftSessions}
 use Rattle.coherence.specs.LineByLine.{IsAnswerOf, of_question, IsLineAt, line_count}
 use Rattle.coherence.specs.declared.ask_fault.AskFault.{AskFault}
 use Rattle.coherence.specs.declared.ask_fault.AskFault.TheVariants as faults
@@ -31,37 +32,6 @@ use Rattle.sessions.proofs.GivenTexts.{given-text}
 use Rattle.sessions.proofs.TextLanguage.TypeBasics.{text-short}
 use Rattle.sessions.specs.TypeTerms.declared.Fault.{Fault}
 use Rattle.sessions.specs.TypeTerms.declared.Fault.TheVariants as wants
-
--- ---- the view of a crate, which no question is of
-view-asked : (d : Declarations) (q : Question) (c handles : ℕ) (v : SeenView) → IsViewOf d c handles v → IsViewOf (with_question d q) c handles v
-view-asked d q c handles v h = record {
-  crate = h.crate;
-  seen = record { written = h.seen.written; structs = h.seen.structs; traits = h.seen.traits; impls = h.seen.impls };
-  rules = h.rules;
-  local = h.local;
-  ready = h.ready;
-  limit = h.limit;
-  declared = h.declared;
-}
-
-view-unasked : (d : Declarations) (q : Question) (c handles : ℕ) (v : SeenView) → IsViewOf (with_question d q) c handles v → IsViewOf d c handles v
-view-unasked d q c handles v h = record {
-  crate = h.crate;
-  seen = record { written = h.seen.written; structs = h.seen.structs; traits = h.seen.traits; impls = h.seen.impls };
-  rules = h.rules;
-  local = h.local;
-  ready = h.ready;
-  limit = h.limit;
-  declared = h.declared;
-}
-
-pub left-asked : (d : Declarations) (q : Question) (handles : ℕ) (o : Option SeenView) → IfSome o (IsLeftView d handles) → IfSome o (IsLeftView (with_question d q) handles)
-left-asked d q handles None h = tt
-left-asked d q handles (Some v) h = view-asked d q v.crate_id.index handles v h
-
-pub left-unasked : (d : Declarations) (q : Question) (handles : ℕ) (o : Option SeenView) → IfSome o (IsLeftView (with_question d q) handles) → IfSome o (IsLeftView d handles)
-left-unasked d q handles None h = tt
-left-unasked d q handles (Some v) h = view-unasked d q v.crate_id.index handles v h
 
 -- ---- the question
 last-there : {A : Type 0} (xs : List A) (x : A) → slice_get (xs ++ x ∷ []) (length xs) ≡ Some x
@@ -97,15 +67,15 @@ last-of-output limit d q text h =
     (h.0, subst (λ n. IsAnswerOf limit e n h.0) place (of_question (length d.questions) q h.0 (last-there d.questions q) h.1), h.2)
 
 -- ---- what a line asks
-pub length-fits : (d : Declarations) (n handles : ℕ) (view : Option SeenView) → Serves d n handles view → n ≤ text_limit
-length-fits d n handles view s = let (bytes, t, len) = s.text in omega (arith, len, text-short bytes d t)
+pub length-fits : (d : Declarations) (n : ℕ) (limits : Limits) (left : List LeftSession) → Serves d n limits left → n ≤ text_limit
+length-fits d n limits left s = let (bytes, t, len) = s.text in omega (arith, len, text-short bytes d t)
 
-pub served : (d : Declarations) (n handles : ℕ) (view : Option SeenView) → Serves d n handles view → IsOfText d
-served d n handles view s = given-text s.text.0 d s.text.1
+pub served : (d : Declarations) (n : ℕ) (limits : Limits) (left : List LeftSession) → Serves d n limits left → IsOfText d
+served d n limits left s = given-text s.text.0 d s.text.1
 
-pub parsed-behind : LinesBehindTexts → (d : Declarations) (n handles : ℕ) (view : Option SeenView) → Serves d n handles view → (line : List ℕ) (q : QuestionEntry)
+pub parsed-behind : LinesBehindTexts → (d : Declarations) (n : ℕ) (limits : Limits) (left : List LeftSession) → Serves d n limits left → (line : List ℕ) (q : QuestionEntry)
     → IsQueryBehind d n line q → IsOfText (with_question d (question_of q))
-parsed-behind laws d n handles view s line q h =
+parsed-behind laws d n limits left s line q h =
     let (bytes, t, len) = s.text in
     let e = with_question d (question_of q) in
     given-text (behind bytes line) e ((laws bytes line d t h.alone (subst (λ k. k + 1 + length line ≤ text_limit) (sym len) h.room)).0 e h.gives)
@@ -122,11 +92,16 @@ last-line laws limit d n line q asks (Err e) h bytes t room = tt
 pub query-at : (d e : Declarations) (line : List ℕ) (q x : QueryLine) → d ≡ e → q ≡ x → IsQueryLine d line q → IsQueryLine e line x
 query-at d e line q x same is h = subst (λ (y : Declarations). IsQueryLine y line x) same (subst (IsQueryLine d line) is h)
 
-pub same-asked : (d e : Declarations) (n k : ℕ) (a : AskedText) → e ≡ d → record { declarations = d; text_length = n; depth = k } ≡ a → record { declarations = e; text_length = n; depth = k } ≡ a
-same-asked d e n k a same is = ap (λ (x : Declarations). as-asked x) same ∙ is
+-- ---- what an asker is about, and what it keeps, after a call
+pub same-asked : (d e : Declarations) (n : ℕ) (old new : Limits) (a : AskedText) → e ≡ d → new ≡ old → record { declarations = d; text_length = n; depth = old.depth } ≡ a
+    → record { declarations = e; text_length = n; depth = new.depth } ≡ a
+same-asked d e n old new a same limits is = ap (λ (x : Declarations). as-asked x new) same ∙ ap (λ (l : Limits). as-asked d l) limits ∙ is
   where
-    as-asked : Declarations → AskedText
-    as-asked x = record { declarations = x; text_length = n; depth = k }
+    as-asked : Declarations → Limits → AskedText
+    as-asked x l = record { declarations = x; text_length = n; depth = l.depth }
+
+pub serves-still : (d e : Declarations) (n : ℕ) (old new : Limits) (was left : List LeftSession) → Serves d n old was → e ≡ d → new ≡ old → AreLeftSessions d old left → Serves e n new left
+serves-still d e n old new was left s same limits h = rw same (rw limits (record { text = s.text; left = h }))
 
 -- ---- faults
 shortage-is : (d : Declarations) (n : ℕ) (line : List ℕ) (e : AskFault) → IsShortage e → IsAskFault d n line e

@@ -7,6 +7,7 @@ pub mod ErasedTexts
 pub mod Sets
 pub mod Grouping
 pub mod KeptLines
+pub mod KeptSessions
 pub mod Named
 pub mod Answered
 pub mod TermVariables

@@ -1,5 +1,5 @@
 -- A text that is asked at run time.
-use Rattle.std.specs.Prelude.{◌≡◌, ℕ, ◌+◌, ◌-◌, ◌<◌, ◌≤◌, List, length, Option, Ok, Err, IfSome, refl}
+use Rattle.std.specs.Prelude.{◌≡◌, ℕ, ◌+◌, ◌-◌, ◌<◌, ◌≤◌, List, length, Ok, Err, refl}
 use Rattle.std.specs.Coded.{Coded, code_by, coded_ℕ, coded×}
 use Rattle.sessions.specs.TypeTerms.declared.Fault.{Fault}
 use Rattle.sessions.specs.TypeTerms.declared.Fault.TheVariants as wants
@@ -13,9 +13,10 @@ use Rattle.sessions.specs.Workspace.Stored.{declarations_code}
 use Rattle.sessions.specs.Workspace.Tables.{with_question}
 use Rattle.sessions.specs.Workspace.Views.{question_of}
 use Rattle.sessions.specs.Workspace.declared.declared.QuestionEntry.{QuestionEntry}
-use Rattle.sessions.specs.SeenViews.{IsLeftView}
-use Rattle.sessions.specs.declared.seen_view.SeenView.{SeenView}
+use Rattle.sessions.specs.declared.limits.Limits.{Limits}
+use Rattle.sessions.specs.declared.left_session.LeftSession.{LeftSession}
 use Rattle.coherence.specs.KeptLines.{HasLine}
+use Rattle.coherence.specs.KeptSessions.{AreLeftSessions}
 use Rattle.coherence.specs.LineByLine.{IsLineAt, line_count}
 use Rattle.coherence.specs.declared.ask_fault.AskFault.{AskFault}
 use Rattle.coherence.specs.declared.ask_fault.AskFault.TheVariants as faults
@@ -34,10 +35,10 @@ asked_text_code =
     (λ (d, (n, k)). record { declarations = d; text_length = n; depth = k })
     (λ _. refl)
 
--- A text of this length gives the declarations; and what is lowered, if anything is, is the view of one of its crates.
-pub record Serves (d : Declarations) (text_length handles : ℕ) (view : Option SeenView) : Type 0 where
+-- A text of this length gives the declarations; and what is kept, sessions on it with these limits left.
+pub record Serves (d : Declarations) (text_length : ℕ) (limits : Limits) (kept : List LeftSession) : Type 0 where
   pub text : (bytes : List ℕ) × TextGives bytes (Ok d) × (length bytes ≡ text_length)
-  pub left : IfSome view (IsLeftView d handles)
+  pub left : AreLeftSessions d limits kept
 
 -- ---- what a line asks behind a text of this length that gives the declarations d
 -- This question, behind all others; and the text has room for the line.

@@ -4,6 +4,7 @@ pub mod Faults
 pub mod Lines
 pub mod Groups
 pub mod KeptLines
+pub mod KeptSessions
 pub mod LineByLine
 pub mod LineSources
 pub mod Asking

@@ -10,25 +10,26 @@ ghost use Rattle.text_parser.specs.Queries.{FitsTables};
 ghost use Rattle.sessions.specs.Workspace.Numbered.{IsNumbered, IsFew};
 ghost use Rattle.sessions.specs.Workspace.Tables.{with_question, number_of_crate};
 ghost use Rattle.sessions.specs.Workspace.Views.{asker_of, question_of};
-ghost use Rattle.sessions.specs.SeenViews.{IsLeftView};
-ghost use Rattle.sessions.specs.TextLanguage.Promised.Declarations.{Question};
+ghost use Rattle.sessions.specs.TextLanguage.Promised.Declarations.{Declarations, Question};
 ghost use Rattle.sessions.specs.Promised.Given.{refutation_of};
 ghost use Rattle.sessions.specs.Promised.Promises.{IsRefutation};
 ghost use Rattle.sessions.specs.Promised.Subjects.{IsOfText, AsksProof, AsksRefutation, StaysOn};
 ghost use Rattle.coherence.specs.Asking.{IsAnswerBehind, IsAskFault, IsLastLine, IsQueryBehind, IsShortage};
 ghost use Rattle.coherence.specs.Groups.{IsAskedIn};
 ghost use Rattle.coherence.specs.KeptLines.{IsLineOf};
+ghost use Rattle.coherence.specs.KeptSessions.{AreLeftSessions};
 ghost use Rattle.coherence.specs.LineByLine.{IsVerdictLine};
 ghost use Rattle.coherence.specs.Queries.{HasNoQuery, IsNamedAnswer, IsProveQuery, IsQueryAt, IsRefuteQuery};
 
 use crate::ask_fault::AskFault;
+use crate::kept_sessions::KeptSessions;
 use crate::lines::{question_line, verdict_line};
 use crate::listener::Nobody;
 use crate::named_answer::{NamedAnswer, named_answer};
 use crate::query::{ProveQuery, Query, RefuteQuery};
 use sessions::type_terms::{CrateId, Fault};
 use sessions::workspace::{Asked, ENTRY_LIMIT, QuestionEntry, Workspace};
-use sessions::{Limits, RefuteAnswer, SeenView, Session};
+use sessions::{Limits, RefuteAnswer, Session};
 use std::alloc::Global;
 use std::marker::Model;
 use text_parser::{
@@ -55,89 +56,116 @@ fn judged_line(
     Ok(line)
 }
 
-/// The line of a crate, by a session behind the view that is kept, which leaves its own.
+/// The line of a crate.
 fn crate_answer(
-    alloc: Global,
+    kept: &mut KeptSessions,
     workspace: &Workspace,
-    limits: Limits,
     id: CrateId,
-    view: &mut Option<SeenView>,
 ) -> Result<Vec<u8>, Fault>
     requires parsed { IsOfText workspace.now }
     requires numbered { IsNumbered workspace.now }
     requires declared { id.index < length workspace.now.crates }
-    requires view { IfSome view.old (IsLeftView workspace.now limits.handles) }
-    ensures line { IfOk result (λ text. IsVerdictLine limits.depth workspace.now id.index text.items) }
-    ensures view { IfSome view.new (IsLeftView workspace.now limits.handles) }
+    requires left { AreLeftSessions workspace.now kept.old.limits kept.old.left.items }
+    ensures line { IfOk result (λ text. IsVerdictLine kept.old.limits.depth workspace.now id.index text.items) }
+    ensures limits { kept.new.limits ≡ kept.old.limits }
+    ensures left { AreLeftSessions workspace.now kept.old.limits kept.new.left.items }
 {
-    let mut session = Session::on_crate(alloc, workspace, id, limits, view.take())?;
+    let alloc = kept.alloc;
+    let mut session = kept.resume(workspace, id)?;
     let answer = judged_line(alloc, &mut session, workspace, id);
-    *view = Some(session.into_view());
+    kept.keep(session, &answer, 0);
     answer
 }
 
-/// The line of a question, by its place in the text and its crate, by a session behind the view that is kept, which leaves its own.
+/// The line of a question, by its place in the text, its crate, and how many bytes its own line has.
 fn question_answer(
-    alloc: Global,
+    kept: &mut KeptSessions,
     workspace: &Workspace,
-    limits: Limits,
     id: CrateId,
     place: u32,
-    view: &mut Option<SeenView>,
+    line_length: usize,
 ) -> Result<Vec<u8>, Fault>
     requires parsed { IsOfText workspace.now }
     requires few { IsFew workspace.now ENTRY_LIMIT }
     requires declared { id.index < length workspace.now.crates }
     requires asked { IsAskedIn workspace.now id.index place }
-    requires view { IfSome view.old (IsLeftView workspace.now limits.handles) }
-    ensures line { IfOk result (λ text. IsLineOf limits.depth workspace.now place text.items) }
-    ensures view { IfSome view.new (IsLeftView workspace.now limits.handles) }
+    requires left { AreLeftSessions workspace.now kept.old.limits kept.old.left.items }
+    ensures line { IfOk result (λ text. IsLineOf kept.old.limits.depth workspace.now place text.items) }
+    ensures limits { kept.new.limits ≡ kept.old.limits }
+    ensures left { AreLeftSessions workspace.now kept.old.limits kept.new.left.items }
 {
-    let mut session = Session::on_crate(alloc, workspace, id, limits, view.take())?;
+    let alloc = kept.alloc;
+    let mut session = kept.resume(workspace, id)?;
     let answer = question_line(alloc, &mut session, workspace, place, &mut Nobody {});
-    *view = Some(session.into_view());
+    kept.keep(session, &answer, line_length);
     answer
 }
 
-/// The answer of a `prove` query, by a session after the view that is stored, which leaves its own.
-fn prove_answer(
-    alloc: Global,
+/// The same. If a table is full, a new session answers: terms, goals and answers of earlier calls may have filled it.
+fn question_answer_anew(
+    kept: &mut KeptSessions,
     workspace: &Workspace,
-    limits: Limits,
+    id: CrateId,
+    place: u32,
+    line_length: usize,
+) -> Result<Vec<u8>, Fault>
+    requires parsed { IsOfText workspace.now }
+    requires few { IsFew workspace.now ENTRY_LIMIT }
+    requires declared { id.index < length workspace.now.crates }
+    requires asked { IsAskedIn workspace.now id.index place }
+    requires left { AreLeftSessions workspace.now kept.old.limits kept.old.left.items }
+    ensures line { IfOk result (λ text. IsLineOf kept.old.limits.depth workspace.now place text.items) }
+    ensures limits { kept.new.limits ≡ kept.old.limits }
+    ensures left { AreLeftSessions workspace.now kept.old.limits kept.new.left.items }
+{
+    let had_none = kept.is_empty();
+    match question_answer(kept, workspace, id, place, line_length) {
+        Err(Fault::Full) if !had_none => {
+            kept.clear();
+            question_answer(kept, workspace, id, place, line_length)
+        }
+        answer => answer,
+    }
+}
+
+/// The answer of a `prove` query.
+fn prove_answer(
+    kept: &mut KeptSessions,
+    workspace: &Workspace,
     query: ProveQuery,
-    view: &mut Option<SeenView>,
 ) -> Result<NamedAnswer, Fault>
     requires parsed { IsOfText workspace.now }
     requires query { IsProveQuery workspace.now query }
-    requires view { IfSome view.old (IsLeftView workspace.now limits.handles) }
+    requires left { AreLeftSessions workspace.now kept.old.limits kept.old.left.items }
     ensures answer { (q : Question) → AsksProof workspace.now query.crate_id.index query.number q
-        → IfOk result (IsNamedAnswer limits.depth workspace.now query.number q) }
-    ensures view { IfSome view.new (IsLeftView workspace.now limits.handles) }
+        → IfOk result (IsNamedAnswer kept.old.limits.depth workspace.now query.number q) }
+    ensures limits { kept.new.limits ≡ kept.old.limits }
+    ensures left { AreLeftSessions workspace.now kept.old.limits kept.new.left.items }
 {
-    let mut session = Session::on_crate(alloc, workspace, query.crate_id, limits, view.take())?;
+    let alloc = kept.alloc;
+    let mut session = kept.resume(workspace, query.crate_id)?;
     let answer = named_answer(alloc, &mut session, workspace, query.number, &mut Nobody {});
-    *view = Some(session.into_view());
+    kept.keep(session, &answer, 0);
     answer
 }
 
-/// The answer of a `refute` query, by a session after the view that is stored, which leaves its own.
+/// The answer of a `refute` query.
 fn refute_answer(
-    alloc: Global,
+    kept: &mut KeptSessions,
     workspace: &Workspace,
-    limits: Limits,
     query: RefuteQuery,
-    view: &mut Option<SeenView>,
 ) -> Result<RefuteAnswer, Fault>
     requires parsed { IsOfText workspace.now }
     requires query { IsRefuteQuery workspace.now query }
-    requires view { IfSome view.old (IsLeftView workspace.now limits.handles) }
+    requires left { AreLeftSessions workspace.now kept.old.limits kept.old.left.items }
     ensures answer { (q : Question) → AsksRefutation workspace.now query.crate_id.index query.number q
-        → IfOk result (λ a. IsRefutation limits.depth workspace.now q (refutation_of a)) }
-    ensures view { IfSome view.new (IsLeftView workspace.now limits.handles) }
+        → IfOk result (λ a. IsRefutation kept.old.limits.depth workspace.now q (refutation_of a)) }
+    ensures limits { kept.new.limits ≡ kept.old.limits }
+    ensures left { AreLeftSessions workspace.now kept.old.limits kept.new.left.items }
 {
-    let mut session = Session::on_crate(alloc, workspace, query.crate_id, limits, view.take())?;
+    let mut session = kept.resume(workspace, query.crate_id)?;
     let answer = session.refute(query.number);
-    *view = Some(session.into_view());
+    kept.keep(session, &answer, 0);
     answer
 }
 
@@ -175,27 +203,27 @@ fn query_behind(
     }
 }
 
-/// The line of a question that is asked behind all others, and taken out again.
+/// The line of a question that is asked behind all others, and taken out again. Its own line has so many bytes.
 fn answer_behind(
-    alloc: Global,
+    kept: &mut KeptSessions,
     workspace: &mut Workspace,
-    limits: Limits,
     entry: QuestionEntry,
-    view: &mut Option<SeenView>,
+    line_length: usize,
 ) -> Result<Vec<u8>, AskFault>
     requires fits { FitsTables workspace.old entry }
     requires parsed { IsOfText (with_question workspace.old (question_of entry)) }
-    requires view { IfSome view.old (IsLeftView workspace.old limits.handles) }
-    ensures line { IfOk result (λ text. IsAnswerBehind limits.depth workspace.old (question_of entry) text.items) }
+    requires left { AreLeftSessions workspace.old kept.old.limits kept.old.left.items }
+    ensures line { IfOk result (λ text. IsAnswerBehind kept.old.limits.depth workspace.old (question_of entry) text.items) }
     ensures fault { IfErr result IsShortage }
     ensures stays { workspace.new ≡ workspace.old }
-    ensures view { IfSome view.new (IsLeftView workspace.old limits.handles) }
+    ensures limits { kept.new.limits ≡ kept.old.limits }
+    ensures left { AreLeftSessions workspace.old kept.old.limits kept.new.left.items }
 {
     texts_are_few();
     let place = workspace.questions().len() as u32;
     let id = asker_of(entry.asked_how);
     workspace.add_question(entry)?;
-    let answer = question_answer(alloc, workspace, limits, id, place, view);
+    let answer = question_answer_anew(kept, workspace, id, place, line_length);
     workspace.remove_question();
     let line = answer?;
     Ok(line)
@@ -203,17 +231,18 @@ fn answer_behind(
 
 /// A text that was read once, and is asked at run time: whether its crates are coherent, and what lines ask that stand in no text.
 ///
-/// It owns all that it needs. After any call, one that ended with a fault too, it is as before and can be asked again. What a call has
-/// lowered is kept for the next one.
+/// It owns all that it needs. After any call, one that ended with a fault too, it is as before and can be asked again.
+///
+/// What a call has lowered and found is kept for later calls of its crate: what searches of at most 65,536 frames found, of all crates
+/// together. 64 bytes of a line count as a frame. It is that of at most 16 crates, and of one alone where the text has more than 2 MiB.
+/// Where it would be more, the crate that was asked least lately is dropped. A fault drops that of its crate. A crate that is asked for
+/// the first time may take over what another one has lowered, if little was found for that.
 #[derive(Drop)]
 pub struct Asker {
-    alloc: Global,
-    limits: Limits,
     /// How many bytes the text has.
     text_length: usize,
     workspace: Workspace,
-    /// What the session of the last call has lowered.
-    view: Option<SeenView>,
+    kept: KeptSessions,
 }
 
 impl Model for Asker {
@@ -223,9 +252,9 @@ impl Model for Asker {
 
     ghost coded = { asked_text_code };
 
-    ghost view = { λ a. record { declarations = a.workspace; text_length = a.text_length; depth = a.limits.depth } };
+    ghost view = { λ a. record { declarations = a.workspace; text_length = a.text_length; depth = a.kept.limits.depth } };
 
-    ghost invariant = { λ a. Serves a.workspace a.text_length a.limits.handles a.view };
+    ghost invariant = { λ a. Serves a.workspace a.text_length a.kept.limits a.kept.left.items };
 }
 
 impl Asker {
@@ -239,11 +268,9 @@ impl Asker {
     {
         let workspace = parse(alloc, text)?;
         Ok(Asker {
-            alloc,
-            limits,
             text_length: text.len(),
             workspace,
-            view: None,
+            kept: KeptSessions::new(alloc, limits, text.len()),
         })
     }
 
@@ -270,7 +297,7 @@ impl Asker {
         ensures stays { self.new ≡ self.old }
     {
         let _crates = self.workspace.crates();
-        crate_answer(self.alloc, &self.workspace, self.limits, id, &mut self.view)
+        crate_answer(&mut self.kept, &self.workspace, id)
     }
 
     /// The query of the text with this number, from 1. `None` if the text has no such query.
@@ -290,13 +317,7 @@ impl Asker {
             → IfOk result (IsNamedAnswer self.old.depth self.old.declarations query.number q) }
         ensures stays { self.new ≡ self.old }
     {
-        prove_answer(
-            self.alloc,
-            &self.workspace,
-            self.limits,
-            query,
-            &mut self.view,
-        )
+        prove_answer(&mut self.kept, &self.workspace, query)
     }
 
     /// The answer of a `refute` query of the text.
@@ -308,13 +329,7 @@ impl Asker {
             → IfOk result (λ a. IsRefutation self.old.depth self.old.declarations q (refutation_of a)) }
         ensures stays { self.new ≡ self.old }
     {
-        refute_answer(
-            self.alloc,
-            &self.workspace,
-            self.limits,
-            query,
-            &mut self.view,
-        )
+        refute_answer(&mut self.kept, &self.workspace, query)
     }
 
     /// The line that the output for the text with this line behind it ends with: the answer to what the line asks. The text stays as it
@@ -327,13 +342,7 @@ impl Asker {
         ensures stays { self.new ≡ self.old }
     {
         lines_behind_texts();
-        let entry = query_behind(self.alloc, &self.workspace, self.text_length, line)?;
-        answer_behind(
-            self.alloc,
-            &mut self.workspace,
-            self.limits,
-            entry,
-            &mut self.view,
-        )
+        let entry = query_behind(self.kept.alloc, &self.workspace, self.text_length, line)?;
+        answer_behind(&mut self.kept, &mut self.workspace, entry, line.len())
     }
 }

@@ -9,6 +9,7 @@ mod coherent;
 mod depths;
 mod groups;
 mod kept;
+mod kept_sessions;
 mod lines;
 mod listener;
 mod named_answer;

@@ -1,12 +1,10 @@
-use Rattle.std.proofs.Common.{◌∙◌, sym, subst}
+use Rattle.std.proofs.Common.{◌∙◌, ap, subst, sym}
 use Rattle.std.specs.Prelude.{IfOk}
 use Rattle.coherence.specs.Groups.{IsAskedIn}
 use Rattle.coherence.specs.KeptLines.{IsLineOf}
-use Rattle.sessions.proofs.LeftViews.{left-view}
+use Rattle.sessions.specs.declared.limits.Limits.{Limits}
+use Rattle.coherence.proofs.KeptSessions.{left-still, still-left}
 use Rattle.coherence.proofs.asker.question_answer.Goals as goal
-
-pub returns-in_err-session-clause-view : goal.returns-in_err-session-clause-view
-returns-in_err-session-clause-view c = rw c.take.ensures.after tt
 
 pub question_line-answer-requires-clause-asked : goal.question_line-answer-requires-clause-asked
 question_line-answer-requires-clause-asked c = subst (λ k. IsAskedIn c.args.workspace.now k c.args.place) (sym c.in_ok-session.ensures.of_crate) c.requires.asked
@@ -14,8 +12,19 @@ question_line-answer-requires-clause-asked c = subst (λ k. IsAskedIn c.args.wor
 pub returns-clause-line : goal.returns-clause-line
 returns-clause-line c = subst (λ n. IfOk c.question_line-answer.result (λ text. IsLineOf n c.args.workspace.now c.args.place text.items)) c.in_ok-session.ensures.depth c.question_line-answer.ensures.line
 
-pub returns-clause-view : goal.returns-clause-view
-returns-clause-view c =
-    let stays = c.question_line-answer.ensures.stays in
-    let on = c.in_ok-session.ensures in
-    left-view c.question_line-answer.new.session c.args.workspace.now c.args.limits.handles c.into_view.result (stays.declarations ∙ on.declarations) (stays.handles ∙ on.handles) c.into_view.ensures.view
+pub keep-requires-clause-depth : goal.keep-requires-clause-depth
+keep-requires-clause-depth c = c.question_line-answer.ensures.stays.depth ∙ c.in_ok-session.ensures.depth ∙ sym (ap (λ (l : Limits). l.depth) c.resume.ensures.limits)
+
+pub keep-requires-clause-handles : goal.keep-requires-clause-handles
+keep-requires-clause-handles c = c.question_line-answer.ensures.stays.handles ∙ c.in_ok-session.ensures.handles ∙ sym (ap (λ (l : Limits). l.handles) c.resume.ensures.limits)
+
+pub keep-requires-clause-left : goal.keep-requires-clause-left
+keep-requires-clause-left c =
+    still-left _ _ _ _ c.resume.new.self.left.items (c.question_line-answer.ensures.stays.declarations ∙ c.in_ok-session.ensures.declarations) c.resume.ensures.limits c.resume.ensures.left
+
+pub returns-clause-limits : goal.returns-clause-limits
+returns-clause-limits c = c.keep.ensures.limits ∙ c.resume.ensures.limits
+
+pub returns-clause-left : goal.returns-clause-left
+returns-clause-left c =
+    left-still _ _ _ _ c.keep.new.self.left.items (c.question_line-answer.ensures.stays.declarations ∙ c.in_ok-session.ensures.declarations) c.resume.ensures.limits c.keep.ensures.left

@@ -4,14 +4,14 @@ use Rattle.std.proofs.lemmas.Result.{err_from_is_err_and}
 use Rattle.sessions.specs.TextLanguage.Promised.Declarations.{Declarations}
 use Rattle.sessions.specs.TextLanguage.Text.{TextGives}
 use Rattle.text_parser.specs.Behind.{FitsBehind, behind}
-use Rattle.coherence.specs.Asking.{AskedText, IsAskFault, IsLastLine, Serves}
-use Rattle.coherence.proofs.Asking.{last-line, length-fits, parsed-behind, same-asked, shortages-are}
+use Rattle.coherence.specs.Asking.{AskedText, IsAskFault, IsLastLine}
+use Rattle.coherence.proofs.Asking.{last-line, length-fits, parsed-behind, same-asked, serves-still, shortages-are}
 use Rattle.coherence.proofs.asker.Asker.ask.Goals as goal
 
 pub query_behind-requires : goal.query_behind-requires
 query_behind-requires c =
     let i = c.self.inside in
-    length-fits i.workspace i.text_length i.limits.handles i.view c.self.invariant
+    length-fits i.workspace i.text_length i.kept.limits i.kept.left.items c.self.invariant
 
 pub returns-in_err-entry-clause-fault : goal.returns-in_err-entry-clause-fault
 returns-in_err-entry-clause-fault c =
@@ -24,23 +24,24 @@ answer_behind-requires-clause-fits c = c.in_ok-entry.ensures.entry.fits
 pub answer_behind-requires-clause-parsed : goal.answer_behind-requires-clause-parsed
 answer_behind-requires-clause-parsed c =
     let i = c.self.inside in
-    parsed-behind c.lines_behind_texts.ensures i.workspace i.text_length i.limits.handles i.view c.self.invariant c.args.line.now c.in_ok-entry.entry c.in_ok-entry.ensures.entry
+    parsed-behind c.lines_behind_texts.ensures i.workspace i.text_length i.kept.limits i.kept.left.items c.self.invariant c.args.line.now c.in_ok-entry.entry c.in_ok-entry.ensures.entry
 
-pub answer_behind-requires-clause-view : goal.answer_behind-requires-clause-view
-answer_behind-requires-clause-view c = c.self.invariant.left
+pub answer_behind-requires-clause-left : goal.answer_behind-requires-clause-left
+answer_behind-requires-clause-left c = c.self.invariant.left
 
 pub invariant_of-self : goal.invariant_of-self
 invariant_of-self c =
     let i = c.self.inside in
-    subst (λ (d : Declarations). Serves d i.text_length i.limits.handles c.answer_behind.new.view) (sym c.answer_behind.ensures.stays)
-    (record { text = c.self.invariant.text; left = c.answer_behind.ensures.view })
+    let kept = c.answer_behind.new.kept in
+    let asked = c.answer_behind.ensures in
+    serves-still i.workspace c.answer_behind.new.workspace i.text_length i.kept.limits kept.limits i.kept.left.items kept.left.items c.self.invariant asked.stays asked.limits asked.left
 
 pub returns-clause-last : goal.returns-clause-last
 returns-clause-last c =
     let i = c.self.inside in
     subst (λ (a : AskedText). (bytes : List ℕ) → TextGives bytes (Ok a.declarations) → FitsBehind bytes c.args.line.now
     → IfOk c.answer_behind.result (λ text. IsLastLine a.depth (behind bytes c.args.line.now) text.items)) c.self.view_is
-    (last-line c.lines_behind_texts.ensures i.limits.depth i.workspace i.text_length c.args.line.now c.in_ok-entry.entry c.in_ok-entry.ensures.entry c.answer_behind.result c.answer_behind.ensures.line)
+    (last-line c.lines_behind_texts.ensures i.kept.limits.depth i.workspace i.text_length c.args.line.now c.in_ok-entry.entry c.in_ok-entry.ensures.entry c.answer_behind.result c.answer_behind.ensures.line)
 
 pub returns-clause-fault : goal.returns-clause-fault
 returns-clause-fault c =
@@ -51,4 +52,4 @@ returns-clause-fault c =
 pub returns-clause-stays : goal.returns-clause-stays
 returns-clause-stays c =
     let i = c.self.inside in
-    same-asked i.workspace c.answer_behind.new.workspace i.text_length i.limits.depth c.args.self.now c.answer_behind.ensures.stays c.self.view_is
+    same-asked i.workspace c.answer_behind.new.workspace i.text_length i.kept.limits c.answer_behind.new.kept.limits c.args.self.now c.answer_behind.ensures.stays c.answer_behind.ensures.limits c.self.view_is
