@@ -280,14 +280,14 @@ impl<'f> Explaining<'f> {
     {
         self.begin(workspace)?;
         self.known.see(self.alloc, session, workspace)?;
-        let may_run_out = may_run_out(self.frames, session.frames());
+        let ran_out = may_run_out(self.frames, session.frames());
         match self.next(session) {
             Next::Silent => Ok(None),
             Next::Told => Ok(Some(too_long(self.alloc)?)),
             Next::Explained => {
                 let place = (number as usize).saturating_sub(1);
                 let depth = session.limits.depth;
-                let question = self.known.question(workspace, place, depth, may_run_out);
+                let question = self.known.question(workspace, place, depth, ran_out);
                 explain_proved(
                     self.alloc,
                     question,
@@ -312,14 +312,14 @@ impl<'f> Explaining<'f> {
     {
         self.begin(workspace)?;
         self.known.see(self.alloc, session, workspace)?;
-        let may_run_out = may_run_out(self.frames, session.frames());
+        let ran_out = may_run_out(self.frames, session.frames());
         match self.next(session) {
             Next::Silent => Ok(None),
             Next::Told => Ok(Some(too_long(self.alloc)?)),
             Next::Explained => {
                 let place = (number as usize).saturating_sub(1);
                 let depth = session.limits.depth;
-                let question = self.known.question(workspace, place, depth, may_run_out);
+                let question = self.known.question(workspace, place, depth, ran_out);
                 explain_refuted(
                     self.alloc,
                     question,
