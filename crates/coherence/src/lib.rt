@@ -36,6 +36,7 @@ pub use sessions::{
     SupersAnswer, UncoveredTyParams, Verdict,
 };
 pub use status::{RunFault, Status};
+pub use streams::read_text;
 pub use text_parser::text_names::FaultKind;
 pub use text_parser::{TextError, TextFault, parse};
 pub use text_printer::{ValueText, print_type};
