@@ -1,13 +1,12 @@
 -- Goals that have a proof with nothing taken for granted.
 use Rattle.std.proofs.Common.{◌≡◌, List, [], ◌∷◌, ◌++◌, sym, subst, ap, ◌∙◌, ℕ}
-use Rattle.std.specs.List.{flat_map}
 use Rattle.sessions.specs.TypeTerms.Promised.Proofs.{ProofEntry, In, Follows, IsProof, HasProof}
 use Rattle.sessions.specs.TypeTerms.Promised.Handles.{Entry, Keeps}
 use Rattle.sessions.specs.TypeTerms.Promised.Worlds.{World, CrateDecl, Reference}
 use Rattle.sessions.specs.TermFolds.declared.predicate.TraitRef.{TraitRef}
 use Rattle.explain_traces.specs.Walking.{ReferencesHeld}
 use Rattle.sessions.specs.ProofChecker.declared.steps.Step.{Step}
-use Rattle.sessions.specs.ProofChecker.Steps.{AreProofOf, assumed_by, assumed_in, term_of}
+use Rattle.sessions.specs.ProofChecker.Steps.{AreProofOf, assumed_by, assumed_in}
 use Rattle.sessions.proofs.ProofChecker.Later.{term-same}
 use Rattle.sessions.specs.Promised.Promises.{view_in}
 use Rattle.sessions.specs.Promised.Subjects.{Subject, StaysOn}

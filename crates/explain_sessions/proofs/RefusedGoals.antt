@@ -1,16 +1,14 @@
 -- Goals that are refused in coherence, asked alone over a table without values.
-use Rattle.std.proofs.Common.{◌≡◌, ◌≤◌, ◌+◌, arith, ℕ, zero, suc, Bool, true, false, not, IsTrue, Result, Ok, Err, List, [], ◌∷◌, ◌++◌, refl, sym, subst, ap, ◌∙◌, Some}
+use Rattle.std.proofs.Common.{◌≡◌, ◌≤◌, arith, ℕ, zero, suc, Bool, true, false, not, IsTrue, Result, Ok, Err, List, [], ◌++◌, refl, sym, subst, ap, ◌∙◌}
 use Rattle.std.proofs.lemmas.Bool.Decides.{nat_tests}
 use Rattle.std.specs.Prelude.{IfOk, nat_lt, ltb}
-use Rattle.std.specs.List.{slice_get}
 use Rattle.sessions.specs.TypeTerms.Promised.Label.{Label, Sort, of_type, of_const, of_lifetime, param, placeholder, infer, canonical, bound}
 use Rattle.sessions.specs.TypeTerms.Promised.Trees.{Trees, none, tree, erase, erase_label, some_node}
 use Rattle.sessions.specs.TypeTerms.Promised.Handles.{Entry, Keeps, trees_at}
-use Rattle.sessions.specs.TypeTerms.Promised.Worlds.{World, Reference}
+use Rattle.sessions.specs.TypeTerms.Promised.Worlds.{World}
 use Rattle.sessions.specs.TermFolds.declared.predicate.TraitRef.{TraitRef}
 use Rattle.sessions.specs.Declarations.Held.{ReferenceHeld}
 use Rattle.sessions.specs.Declarations.Items.{reference_in}
-use Rattle.sessions.specs.Declarations.Promised.Elaboration.{Each}
 use Rattle.sessions.specs.InferTable.Canonical.{HasNoCanonical, canonical_form}
 use Rattle.sessions.specs.InferTable.Content.{Table, Ready, content, variables_of}
 use Rattle.sessions.specs.InferTable.Covers.{AreKnown, IsOfKnown}

@@ -46,3 +46,9 @@ returns-in_ok-push_adder-clause-unseen c =
     let at = subst (λ xs. slice_get xs c.args.place ≡ Some c.in-Some.reference) c.deref.ensures.value c.in-Some.ensures in
     subst (UnseenHold c.args.session.now c.args.walk.now) (sym c.in_ok-push.ensures.items)
     (one-more c.args.session.now c.args.walk.now _ _ c.requires.unseen (c.in-Some.reference, at, c.in_ok-found.ensures))
+
+pub returns-else-contains-clause-unseen : goal.returns-else-contains-clause-unseen
+returns-else-contains-clause-unseen c =
+    let at = subst (λ xs. slice_get xs c.args.place ≡ Some c.in-Some.reference) c.deref.ensures.value c.in-Some.ensures in
+    subst (UnseenHold c.args.session.now c.args.walk.now) (sym c.in_ok-push.ensures.items)
+    (one-more c.args.session.now c.args.walk.now _ _ c.requires.unseen (c.in-Some.reference, at, c.in_ok-found.ensures))

@@ -1,4 +1,3 @@
-use Rattle.sessions.specs.TypeTerms.Promised.Worlds.{World}
 use Rattle.sessions.proofs.TypeTerms.Grown.{grew-on}
 use Rattle.sessions.proofs.Declarations.Growth.{reference-kept}
 use Rattle.sessions.specs.CandidateAssembly.Kept.{ready-kept}

@@ -1,10 +1,7 @@
-use Rattle.std.proofs.Common.{◌≡◌, true, Some, subst}
-use Rattle.std.specs.Prelude.{IfSome, slice_get}
-use Rattle.sessions.specs.TypeTerms.Promised.Proofs.{HasProof}
-use Rattle.sessions.specs.Declarations.Promised.Elaboration.{Each}
+use Rattle.std.proofs.Common.{◌≡◌, Some, subst}
+use Rattle.std.specs.Prelude.{slice_get}
 use Rattle.sessions.proofs.Declarations.Growth.{reference-kept}
 use Rattle.sessions.proofs.InferTable.TableFacts.{empty-ready}
-use Rattle.sessions.specs.ProofChecker.Steps.{StepHeld, term_of}
 use Rattle.sessions.proofs.ProofChecker.Later.{term-same}
 use Rattle.sessions.proofs.ProofChecker.Results.{mapped}
 use Rattle.sessions.specs.Checking.{rules_in}

@@ -1,4 +1,4 @@
-use Rattle.std.proofs.Common.{[], refl}
+use Rattle.std.proofs.Common.{refl}
 use Rattle.sessions.proofs.ProofChecker.Results.{mapped}
 use Rattle.sessions.specs.ProofChecker.Steps.{term_of}
 use Rattle.sessions.specs.Checking.{rules_in}
