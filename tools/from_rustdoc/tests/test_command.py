@@ -13,7 +13,7 @@ from unittest import mock
 from .. import command
 from ..read.terms import Place
 from ..report.messages import Message, Output, Sources, Span, rendered, span_json, worst
-from .common import PROGRAM, WHY_NO_PROGRAM, kept
+from .common import EXPLAINS, PROGRAM, WHY_NO_EXPLANATION, WHY_NO_PROGRAM, kept
 
 # rustc's keys, of `rustc --error-format json`.
 KEYS = {"$message_type", "message", "code", "level", "spans", "children", "rendered"}
@@ -36,7 +36,8 @@ class Ended(unittest.TestCase):
         out, err = io.StringIO(), io.StringIO()
         with contextlib.redirect_stdout(out), contextlib.redirect_stderr(err):
             try:
-                status = command.main([*words, "--docs", kept("std"), "--quiet", *(["--program", PROGRAM] if PROGRAM else [])])
+                status = command.main([*words, "--docs", kept("std"), "--quiet", *(["--program", PROGRAM] if PROGRAM else []),
+                                       *(["--program-that-explains", EXPLAINS] if EXPLAINS else [])])
             except SystemExit as ended:
                 status = int(ended.code or 0)
         return status, out.getvalue(), err.getvalue()
@@ -84,6 +85,7 @@ class Statuses(Ended):
         said = [json.loads(line) for line in out.splitlines()]
         self.assertEqual((status, [(m["$message_type"], m["crate"], m["answer"]) for m in said]), (0, [("summary", "reasons", "coherent")]))
 
+    @unittest.skipIf(WHY_NO_EXPLANATION, WHY_NO_EXPLANATION)
     def test_an_answer_has_its_reason_behind_it(self) -> None:
         base = os.path.join(self.room, "reasons")
         self.run_words("read", "-o", base, kept("reasons"))

@@ -107,6 +107,15 @@ class Found(unittest.TestCase):
             "impl<F> UnwindSafe for reasons::Fun<F> where F: UnwindSafe"])
         self.assertEqual((found.without, found.unsettled, found.unnamed), ([], [], []))
 
+    def test_impls_of_another_crate_are_the_types_too(self) -> None:
+        """Its own crate has neither; `user` names both by other keys than `ab` does."""
+        both = world("ab", "user")
+        lister = Lister(both, Finder(both, PROGRAM, EXPLAINS))
+        (question,) = read_open(QuestionReader(both), "user::Mine<ab::Sb>: ab::Ta")
+        self.assertIn(question.bound.key, lister.keys(question.subject))
+        self.assertEqual([lister.show.bound(asked.bound) for asked in lister.questions(question, both.get(question.bound.key))], ["ab::Ta"])
+        self.assertTrue(list(lister.finder.impls_for((question.subject, question.bound))))
+
     def test_auto_traits_that_do_not_hold_are_told_and_all_are_counted(self) -> None:
         said = io.StringIO()
         found = Lister(self.world, self.finder).of("reasons::Inner")
@@ -128,16 +137,15 @@ class Words(Ended):
     def test_statuses_and_lines(self) -> None:
         base = os.path.join(self.room, "reasons")
         self.assertEqual(self.run_words("read", "-o", base, kept("reasons"))[0], 0)
-        explains = ("--program-that-explains", EXPLAINS) if EXPLAINS else ()
         for words, status, line in [
                 (("conditions", base, "Vec<T>: reasons::Show"), 0, "<T> Vec<T>: reasons::Show    yes where T: reasons::Show   (certain)"),
                 (("conditions", base, "Rc<T>: Send"), 0, "<T> Rc<T>: Send    no   (no bounds help: `Rc<T>: Send` holds for no `T`)"),
                 (("traits", base, "reasons::NoClone"), 0, "reasons::NoClone: 5 traits hold, 0 not settled")]:
-            found, out, err = self.run_words(*words, *explains)
+            found, out, err = self.run_words(*words)
             with self.subTest(" ".join(words)):
                 self.assertEqual((found, err), (status, ""))
                 self.assertIn(line, out.splitlines())
-        found, out, err = self.run_words("conditions", base, "reasons::Nothing<T>: Send", "Vec<T>: Send", *explains)
+        found, out, err = self.run_words("conditions", base, "reasons::Nothing<T>: Send", "Vec<T>: Send")
         self.assertEqual((found, out.splitlines()), (3, ["<T> Vec<T>: Send    yes where T: Send   (certain)"]))
         self.assertIn("no answer to `reasons::Nothing<T>: Send`", err)
 
