@@ -188,7 +188,7 @@ class Project:
     # ---- a release
     def later(self, baseline: str, packages: Sequence[str] = ()) -> list[dict[str, Any]]:
         """What changed since an older version, a revision or a folder: the objects that `later --message-format json` prints. Both versions are
-        documented as they are now."""
+        documented as they are now. It runs in the main thread alone."""
         words = ["later", "--baseline", baseline, "--message-format", "json", "--quiet", self.folder]
         named = [("--docs", self.words.docs), ("--program", self.program), ("--program-that-explains", self.explaining), *(("-p", name) for name in packages)]
         words += [word for flag, value in named if value for word in (flag, value)]

@@ -12,7 +12,7 @@ from ..write.render import Scope, names_of
 from .back import Askable
 from .cone import MOST, Chosen, cone_of_questions
 from .questions import OWN, Asker, Question, QuestionWriter, TooSmall, Verdict, joined, terms_of
-from .reach import Reference_
+from .rules import Reference_
 
 MAXIMAL_STEPS = 20
 

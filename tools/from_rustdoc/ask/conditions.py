@@ -107,17 +107,19 @@ class Finder:
         impls = list(self.impls_for(goal))
         if not impls:
             return f"{shown} holds for no {' and '.join(f'`{name}`' for name in sorted(names & parameters_in(goal)))}"
-        if goal == (question.subject, question.bound):
+        if self.shown(goal) == self.shown((question.subject, question.bound)):
             return f"{shown} has impls for some of its types alone, as `{self.show.header(impls[0])}`"
         return None
 
     def impls_for(self, goal: Predicate) -> Iterator[Impl]:
-        """The impls that may have the goal for some of its types. A parameter stands for any type, each time that it stands there."""
+        """The impls that may have the goal for some of its types. A parameter of the goal stands for any type, each time that it stands there."""
         subject, bound = goal
         head = head_of(subject)
         found = self.world.standard.impls_with_head(bound.key, head) if is_std_key(bound.key) else []
         for impl in (*found, *self.world.impls_of(bound.key, head)):
-            if impl.trait is not None and not impl.is_negative and may_be(impl.self_type, subject) and all(map(may_be, impl.trait.arguments, bound.arguments)):
+            params, values = {param.name for param in impl.params}, dict[str, Type]()
+            if impl.trait is not None and not impl.is_negative and meets(impl.self_type, subject, params, values) and all(
+                    meets(pattern, term, params, values) for pattern, term in zip(impl.trait.arguments, bound.arguments)):
                 yield impl
 
     def needed(self, question: Question, bounds: list[Predicate], verdict: Verdict) -> tuple[list[Predicate], Verdict]:
@@ -175,9 +177,18 @@ def is_of_parameter(term: Type) -> bool:
     return isinstance(term, Parameter)
 
 
+def meets(pattern: Type, term: Type, params: set[str], values: dict[str, Type]) -> bool:
+    """Whether the term may be an instance of the pattern, for some types in the place of the term's parameters."""
+    if isinstance(pattern, Parameter) and pattern.name in params:
+        return may_be(values.setdefault(pattern.name, term), term)
+    if any(isinstance(part, (Parameter, Projection, Unknown, BoundsOf)) for part in (pattern, term)):
+        return True
+    # (Arguments that are left to defaults stand in one of both alone.)
+    return head_of(pattern) == head_of(term) and all(meets(one, other, params, values) for one, other in zip(parts(pattern), parts(term)))
+
+
 def may_be(left: Type, right: Type) -> bool:
     """Whether both may be one type, whatever is put for parameters and associated types."""
     if any(isinstance(term, (Parameter, Projection, Unknown, BoundsOf)) for term in (left, right)):
         return True
-    # (Arguments that are left to defaults stand in one of both alone.)
     return head_of(left) == head_of(right) and all(map(may_be, parts(left), parts(right)))

@@ -51,7 +51,8 @@ from ..write.project import APPLY, WRAP
 from ..write.render import FIELD, THEN, Scope, as_arguments, is_packed, names_of, params_text
 from ..write.text_form import Text, TextLine
 from .questions import OWN, Question, QuestionWriter, terms_of
-from .reach import Reach, Reacher, Reference_, bind
+from .reach import Reach, Reacher, bind
+from .rules import BY_PARTS, BY_TARGET, FINDING_OUT, Reference_, premises
 
 ANY = Unknown("_")
 DEEPEST, ROUNDS = 12, 12
@@ -368,18 +369,16 @@ class Cone(Reacher):
             children += [(b.key, (arguments[0], *(put(a, values) for a in b.arguments))) for b in line.bounds]
             if line.is_auto and declaration is not None:
                 children += self.by_auto_trait(declaration, arguments[0])
-        children += {"Clone": [("Sized", arguments[:1])], "Copy": [("Clone", arguments[:1])]}.get(trait, [])
-        if trait in ("Sized", "Clone", "Copy"):
+        children += premises(reference)
+        if trait in BY_PARTS:
             children += [(trait, (part,)) for part in self.parts(arguments[0], trait)]
-        if trait == "Unsize":
+        if trait in BY_TARGET:
             children += self.by_unsize(*arguments)
-        if trait in ("Fn", "FnMut", "FnOnce") and hasattr(arguments[0], "output"):
-            children.append(("Sized", (arguments[0].output,)))
         return children
 
     def bound_by_rules(self, trait: str, arguments: tuple[Type, ...]) -> None:
         """Built-in rules that may find a variable out: of `Unsize`, of fn pointers, of a `dyn`."""
-        if self.free and (trait in ("Unsize", "Fn", "FnMut", "FnOnce") or any(isinstance(part, Dyn) for part in walk(arguments[0]))):
+        if self.free and (trait in FINDING_OUT or any(isinstance(part, Dyn) for part in walk(arguments[0]))):
             self.bound |= self.free & set().union(*map(unknowns_of, arguments))
 
     def by_impl(self, impl: Impl, reference: Reference_) -> list[Reference_]:

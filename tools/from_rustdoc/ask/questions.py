@@ -22,7 +22,8 @@ from .back import Back
 from .names import Names, NotKnown
 from .negative import Negatives
 from .program import DEPTH, Answer, ask
-from .reach import BY_PARTS, Reach, Reacher, Reference_
+from .reach import Reach, Reacher
+from .rules import BY_PARTS, Reference_
 from .well_formed import Fitting
 
 MAXIMAL_ROUNDS = 6

@@ -11,10 +11,9 @@ from typing import Optional
 from ..read.terms import Array, Bound, Constant, Dyn, Named, Parameter, Slice, Tuple, Type, Unknown, parts, put, put_bound, walk
 from ..write.build import Piece
 from ..write.text_form import Text, TextLine
+from .rules import BY_PARTS, BY_TARGET, Reference_, premises
 
-Reference_ = tuple[str, tuple[Type, ...]]
 MAXIMAL_REFERENCES = 3000
-BY_PARTS = ("Sized", "Clone", "Copy")
 
 
 @dataclass
@@ -134,10 +133,10 @@ class Reacher:
             values = {p.name: a for p, a in zip(declared.params, arguments[1:])} if declared else {}
             bound = put_bound(bound, values)
             children.append((bound.key, (arguments[0], *bound.arguments)))
-        children += {"Clone": [("Sized", arguments[:1])], "Copy": [("Clone", arguments[:1])]}.get(trait, [])
+        children += premises(reference)
         if trait in BY_PARTS or (declared is not None and declared.is_auto):
             children += [(trait, (part,)) for part in self.asked_parts(arguments[0], written_for, found)]
-        if trait == "Unsize":
+        if trait in BY_TARGET:
             found.is_complete = False
         return children
 

@@ -1,4 +1,4 @@
-"""Crates as rustdoc's JSON tells them, read into the intermediate form. `formats` says of which numbers of the format."""
+"""Crates as rustdoc's JSON tells them, read into the intermediate form. `rustdoc_types` has the fields, `formats` says of which numbers of the format."""
 from __future__ import annotations
 
 import json
@@ -7,6 +7,7 @@ import re
 from dataclasses import dataclass
 from typing import Any, Iterator, Optional
 
+from . import rustdoc_types as of_json
 from .formats import agreed, first_column
 from .headers import qualifier
 from .html_docs import Pages
@@ -303,7 +304,7 @@ class JsonCrate:
                 self.read_value(impl, inside["name"], inside["inner"]["assoc_type"], [body["trait"], body["for"]])
         return impl
 
-    def read_value(self, impl: Impl, name: str, value: dict[str, Any], header: list[Any]) -> None:
+    def read_value(self, impl: Impl, name: str, value: of_json.AssocType, header: list[Any]) -> None:
         read = self.type(value["type"], impl.self_type)
         own = [param["name"] for param in value["generics"]["params"]]
         impl.associated[name] = Unsayable("a generic associated type") if own else read
@@ -336,7 +337,7 @@ class JsonCrate:
 
         visit(self.json["root"], [self.name])
 
-    def visit_use(self, body: dict[str, Any], path: list[str], visit: Any) -> None:
+    def visit_use(self, body: of_json.Use, path: list[str], visit: Any) -> None:
         target = self.item(body["id"])
         if not target:
             return
@@ -376,7 +377,7 @@ class JsonCrate:
         elif kind in ITEMS or kind == "type_alias":
             self.exports.setdefault("::".join(path), self.key(number))
 
-    def export_use(self, body: dict[str, Any], path: tuple[str, ...], seen: set[tuple[int, tuple[str, ...]]]) -> None:
+    def export_use(self, body: of_json.Use, path: tuple[str, ...], seen: set[tuple[int, tuple[str, ...]]]) -> None:
         place = path if body["is_glob"] else path + (body["name"],)
         known = self.json["paths"].get(str(body["id"]))
         kind = self.kind_of(body["id"]) if body["id"] is not None else None
@@ -388,7 +389,7 @@ class JsonCrate:
             self.export(body["id"], kind, place, seen)
 
     # ---- generics and bounds; `itself` is what `Self` stands for, None in a trait
-    def generics(self, generics: dict[str, Any], itself: Optional[Type]) -> tuple[list[Param], list[Predicate]]:
+    def generics(self, generics: of_json.Generics, itself: Optional[Type]) -> tuple[list[Param], list[Predicate]]:
         params: list[Param] = []
         predicates: list[Predicate] = []
         for param in generics["params"]:
@@ -407,7 +408,7 @@ class JsonCrate:
                 predicates.append((self.type(body["lhs"], itself), Bound("?an equation of types")))
         return params, predicates
 
-    def bounds(self, bounds: list[dict[str, Any]], itself: Optional[Type]) -> list[Bound]:
+    def bounds(self, bounds: list[of_json.Bound], itself: Optional[Type]) -> list[Bound]:
         found = []
         for bound in bounds:
             if "trait_bound" in bound:
@@ -415,11 +416,11 @@ class JsonCrate:
                 found.append(self.trait_bound(body["trait"], itself, body["modifier"] == "maybe"))
         return found
 
-    def trait_bound(self, path: dict[str, Any], itself: Optional[Type], maybe: bool = False) -> Bound:
+    def trait_bound(self, path: of_json.Path, itself: Optional[Type], maybe: bool = False) -> Bound:
         arguments, constraints = self.arguments(path.get("args"), itself)
         return Bound(self.key(path["id"], path["path"]) or "?" + path["path"], arguments, constraints, maybe)
 
-    def arguments(self, written: Optional[dict[str, Any]], itself: Optional[Type]) -> tuple[tuple[Type, ...], tuple[tuple[str, Type], ...]]:
+    def arguments(self, written: Optional[of_json.Arguments], itself: Optional[Type]) -> tuple[tuple[Type, ...], tuple[tuple[str, Type], ...]]:
         arguments: list[Type] = []
         constraints: list[tuple[str, Type]] = []
         if written and "angle_bracketed" in written:
@@ -481,7 +482,7 @@ class JsonCrate:
                 return self.projection(body, itself)
         return Unsayable(str(kind))
 
-    def projection(self, body: dict[str, Any], itself: Optional[Type]) -> Type:
+    def projection(self, body: of_json.Projection, itself: Optional[Type]) -> Type:
         if (body["args"] or {}).get("angle_bracketed", {}).get("args"):
             return Unsayable("a generic associated type", repr(self.with_keys(body)))
         bound = self.trait_bound(body["trait"], itself) if body["trait"] else None
@@ -498,7 +499,7 @@ class JsonCrate:
         found = {name: self.with_keys(part) for name, part in sorted(written.items()) if name not in ("id", "path")}
         return {**found, "id": self.key(written["id"], written.get("path", ""))} if "id" in written else found
 
-    def path_type(self, body: dict[str, Any], itself: Optional[Type]) -> Type:
+    def path_type(self, body: of_json.Path, itself: Optional[Type]) -> Type:
         key = self.key(body["id"], body["path"])
         arguments, _ = self.arguments(body.get("args"), itself)
         item = self.item(body["id"])

@@ -3,7 +3,9 @@ from __future__ import annotations
 
 import io
 import json
+import os
 import unittest
+from unittest import mock
 
 from ..ask.conditions import Conditions, Finder, may_be, read_open
 from ..ask.questions import QuestionReader
@@ -11,7 +13,8 @@ from ..ask.told import impl_of, say_conditions, say_traits
 from ..ask.traits import Lister, matched
 from ..read.terms import BadInput, Named, Parameter, Primitive, Reference, Tuple, Type
 from ..report.messages import Output
-from .common import EXPLAINS, PROGRAM, WHY_NO_EXPLANATION, world
+from .common import EXPLAINS, PROGRAM, WHY_NO_EXPLANATION, kept, world
+from .test_command import Ended
 
 # Each question with the bounds under which it holds.
 HOLDS = {
@@ -56,6 +59,19 @@ class Found(unittest.TestCase):
                 (question,) = read_open(QuestionReader(self.world), written)
                 question.predicates = fewer
                 self.assertNotEqual(self.finder.answerer.answer(question).word, "yes")
+
+    def test_an_impl_for_some_types_alone_is_no_bound(self) -> None:
+        """(The type is written with what it leaves to defaults, as `traits` does.)"""
+        (question,) = read_open(QuestionReader(self.world), "Vec<T>: From<&str>")
+        question.subject = Lister(self.world, self.finder).whole(question.subject)
+        found = self.finder.find(question)
+        self.assertEqual((found.word, found.bounds), ("no", []))
+        self.assertIn("`Vec<T>: From<&str>` has impls for some of its types alone, as `impl ", found.because)
+
+    def test_the_bounds_come_to_an_end(self) -> None:
+        with mock.patch("from_rustdoc.ask.conditions.MAXIMAL_BOUNDS", 1):
+            found = self.found("(T, U): Send")
+        self.assertEqual((found.word, found.because), ("not settled", "after 1 bounds `U: Send` fails"))
 
     def test_variables_and_a_missing_program_are_refused(self) -> None:
         with self.assertRaisesRegex(BadInput, "has variables"):
@@ -103,6 +119,27 @@ class Found(unittest.TestCase):
         for written in ("T", "Vec<?x>"):
             with self.subTest(written), self.assertRaisesRegex(BadInput, "is no type by its name"):
                 Lister(self.world, self.finder).of(written)
+
+
+@unittest.skipIf(WHY_NO_EXPLANATION, WHY_NO_EXPLANATION)
+class Words(Ended):
+    """The commands `conditions` and `traits`, on crates that were read."""
+
+    def test_statuses_and_lines(self) -> None:
+        base = os.path.join(self.room, "reasons")
+        self.assertEqual(self.run_words("read", "-o", base, kept("reasons"))[0], 0)
+        explains = ("--program-that-explains", EXPLAINS) if EXPLAINS else ()
+        for words, status, line in [
+                (("conditions", base, "Vec<T>: reasons::Show"), 0, "<T> Vec<T>: reasons::Show    yes where T: reasons::Show   (certain)"),
+                (("conditions", base, "Rc<T>: Send"), 0, "<T> Rc<T>: Send    no   (no bounds help: `Rc<T>: Send` holds for no `T`)"),
+                (("traits", base, "reasons::NoClone"), 0, "reasons::NoClone: 5 traits hold, 0 not settled")]:
+            found, out, err = self.run_words(*words, *explains)
+            with self.subTest(" ".join(words)):
+                self.assertEqual((found, err), (status, ""))
+                self.assertIn(line, out.splitlines())
+        found, out, err = self.run_words("conditions", base, "reasons::Nothing<T>: Send", "Vec<T>: Send", *explains)
+        self.assertEqual((found, out.splitlines()), (3, ["<T> Vec<T>: Send    yes where T: Send   (certain)"]))
+        self.assertIn("no answer to `reasons::Nothing<T>: Send`", err)
 
 
 class Forms(unittest.TestCase):

@@ -9,7 +9,8 @@ from unittest import mock
 
 from ..ask.cone import Chosen, cone_of_crate, cone_of_questions
 from ..ask.questions import Question, QuestionReader, QuestionWriter
-from ..ask.reach import BY_PARTS, Reacher
+from ..ask.reach import Reacher
+from ..ask.rules import BY_PARTS
 from ..model.world import World
 from ..read.kept import Damaged, KeptPages, KeptStandard, packed, unpacked
 from ..read.terms import UNIT, Array, Bound, Declaration, Named, Param, Parameter, Predicate, Type, Unknown

@@ -8,10 +8,11 @@ import os
 import re
 import tempfile
 import unittest
-from typing import Any, Callable
+from typing import Any, Callable, get_type_hints, is_typeddict
 
 from ..model.surface import surface_of
 from ..model.world import World
+from ..read import rustdoc_types
 from ..read.rustdoc_json import JsonCrate
 from ..read.terms import BadInput, Declaration, Impl
 from .common import kept, pages
@@ -146,6 +147,17 @@ class Formats(unittest.TestCase):
 
         self.refused("a type is 'unsafe_binder'", type_)
         self.refused("a bound has the modifier 'async'", modifier)
+
+    def test_a_refusal_has_both_numbers_and_the_release_to_install(self) -> None:
+        self.refused(r"format number 60, which is not as known here \(57, rustdoc 1.95 and 1.96\): .*`rustup toolchain install 1.95`",
+                     lambda data: inner(data, "impl").pop("is_negative"))
+
+    def test_each_class_has_a_name_and_fields_of_known_types(self) -> None:
+        classes = [value for value in vars(rustdoc_types).values() if is_typeddict(value)]
+        self.assertGreater(len(classes), 40)
+        for form in classes:
+            self.assertTrue(form.__doc__ and "dict(" not in form.__doc__, form)
+            self.assertTrue(get_type_hints(form), form)
 
     def test_numbers_that_are_too_old_and_other_files_are_refused(self) -> None:
         with self.assertRaisesRegex(BadInput, "below 37 the fields have other names"):

@@ -1,6 +1,7 @@
 """Reads a written text back: its lines as declarations, impls and clauses, with types of the intermediate form by the text's names."""
 from __future__ import annotations
 
+import functools
 import re
 from dataclasses import dataclass, field, replace
 from typing import Optional
@@ -54,7 +55,7 @@ class Text:
         return found
 
 
-# Impls that were read, each with what its names were then: None for a parameter.
+# Items and impls that were read, each with what its names were then: None for a parameter.
 KNOWN: dict[str, tuple[TextLine, dict[str, Optional[str]]]] = {}
 MANY = 100000
 
@@ -113,10 +114,13 @@ class TextReader:
 
     def line(self, number: int, text: str) -> None:
         known = KNOWN.get(text)
-        if known is not None and all(self.kinds.get(name) == kind and (kind is None or self.sees(name)) for name, kind in known[1].items()):
+        if known is not None and known[0].name not in self.kinds and all(
+                self.kinds.get(name) == kind and (kind is None or self.sees(name)) for name, kind in known[1].items()):
             # The line stands in another text too, and each of its names is there what it is here.
             line = replace(known[0], number=number, crate=self.crate)
             self.counts[self.crate] = self.counts.get(self.crate, 0) + 1
+            if line.name:
+                self.declare(line)
             self.auto_at_home(line)
             self.text.lines.append(line)
             return
@@ -140,7 +144,7 @@ class TextReader:
         if not reader.at_end():
             raise NotUnderstood(f"`{reader.peek()[1]}` is too much")
         self.text.lines.append(line)
-        if line.kind == "impl":
+        if line.kind != "question":
             if len(KNOWN) > MANY:
                 KNOWN.clear()
             KNOWN[text] = line, self.asked
@@ -179,11 +183,7 @@ class TextReader:
                     reader.need(")")
             elif reader.eat(":"):
                 line.bounds = reader.bounds()
-            self.kinds[line.name] = line.kind
-            self.homes[line.name] = self.crate
-            self.text.names[line.name] = line
-            if line.name in FLOATS:
-                self.kinds[line.name] = "struct"
+            self.declare(line)
         elif line.kind == "impl":
             line.params, _ = reader.generics()
             line.trait = reader.bound()
@@ -194,6 +194,11 @@ class TextReader:
             self.auto_at_home(line)
         else:
             raise NotUnderstood("no statement")
+
+    def declare(self, line: TextLine) -> None:
+        self.kinds[line.name] = "struct" if line.name in FLOATS else line.kind
+        self.homes[line.name] = self.crate
+        self.text.names[line.name] = line
 
     # ---- faults and limits
     def auto_at_home(self, line: TextLine) -> None:
@@ -266,5 +271,7 @@ def written_bound(bound: Bound) -> str:
     return bound.key + (f"<{', '.join(map(written, bound.arguments))}>" if bound.arguments else "")
 
 
+@functools.lru_cache(maxsize=4)
 def read_text(text: str) -> Text:
+    """The text, which nobody changes: what was read last is kept."""
     return TextReader().read(text)
