@@ -91,7 +91,8 @@ def of_project(arguments: argparse.Namespace, extra: list[str], read: WorldReade
     chosen = selected(folder, data, arguments.package, arguments.workspace, arguments.exclude)
     of_workspace, settings = of_metadata(data, chosen.packages, CHANGES)
     trials = chosen.trials(extra, settings, of_workspace)
-    comparison = Comparison(arguments, read, chosen, {name: [*its.waivers, *of_workspace.waivers] for name, its in settings.items()})
+    comparison = Comparison(arguments, read, chosen, {name: [*its.waivers, *of_workspace.waivers] for name, its in settings.items()},
+                            [waiver for waiver in of_workspace.waivers if not waiver.package])
     statuses = []
     for one, packages in versions_before(arguments, chosen):
         if one.remark:
@@ -115,13 +116,14 @@ def versions_before(arguments: argparse.Namespace, chosen: Selection) -> list[tu
 
 
 class Comparison:
-    """One call. `waivers` are those of each package."""
+    """One call. `waivers` are those of each package, `of_all` those that name none."""
 
-    def __init__(self, arguments: argparse.Namespace, read: WorldReader, chosen: Selection, waivers: dict[str, list[Waiver]]) -> None:
+    def __init__(self, arguments: argparse.Namespace, read: WorldReader, chosen: Selection, waivers: dict[str, list[Waiver]], of_all: list[Waiver]) -> None:
         self.arguments = arguments
         self.read = read
         self.chosen = chosen
         self.waivers = waivers
+        self.of_all = of_all
 
     def with_features(self, one: Older, names: list[str], trial: Trial, extra: list[str]) -> list[int]:
         wanted = [word for name in names for word in ("-p", name)] if trial.packages else self.chosen.words
@@ -153,7 +155,9 @@ class Comparison:
         package = both.packages[1].get(name, "")
         waivers = [waiver for waiver in self.waivers.get(package, ()) if waiver.package in ("", package)]
         if name not in both.new.files:
-            return told(gone(name, versions[0], self.arguments.release_type or ""), output)
+            release = gone(name, versions[0], self.arguments.release_type or "")
+            waive(release, self.of_all)
+            return told(release, output)
         worlds = [self.read([p.files[c] for c in p.closure([name])], self.arguments.docs, p.links) for p in (both.old, both.new)]
         for found, world in zip(doc_cfgs, worlds):
             found.update(world.doc_cfgs)

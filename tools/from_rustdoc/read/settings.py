@@ -47,13 +47,15 @@ class Settings:
 
 
 class Reader:
-    """Reads one of both tables. `codes` are the classes that can be waived, `packages` those of the workspace, if it is its table."""
+    """Reads one of both tables. `codes` are the classes that can be waived, `packages` those of the workspace, if it is its table, and `known` the
+    features of the package, if it is a package's."""
 
-    def __init__(self, manifest: str, owner: str, codes: Iterable[str], packages: Sequence[str] = ()) -> None:
+    def __init__(self, manifest: str, owner: str, codes: Iterable[str], packages: Sequence[str] = (), known: Optional[Sequence[str]] = None) -> None:
         self.manifest = manifest
         self.owner = owner
         self.codes = list(codes)
         self.packages = packages
+        self.known = known
 
     def read(self, found: Any) -> Settings:
         if found is None:
@@ -81,6 +83,9 @@ class Reader:
             raise self.error(place, f"is a list of features, or \"{ALL_FEATURES}\"")
         names = [self.text(name, place) for name in found]
         others = [name for name in names if name != "default"]
+        for name in others:
+            if self.known is not None and name not in self.known and "/" not in name:
+                raise self.error(place, f"has `{name}`, which is no feature of the package{hint(name, self.known)}")
         return ["--no-default-features"] * ("default" not in names) + (["--features", ",".join(others)] if others else [])
 
     # ---- values
@@ -117,7 +122,7 @@ def of_metadata(data: dict[str, Any], packages: Sequence[dict[str, Any]], codes:
     """The workspace's settings, and those of each of these packages, by cargo's metadata."""
     codes = list(codes)
     of_workspace = Reader(shown(os.path.join(data["workspace_root"], "Cargo.toml")), "workspace", codes, [p["name"] for p in data["packages"]]).read(ours(data["metadata"]))
-    return of_workspace, {p["name"]: Reader(shown(p["manifest_path"]), "package", codes).read(ours(p["metadata"])) for p in packages}
+    return of_workspace, {p["name"]: Reader(shown(p["manifest_path"]), "package", codes, known=list(p["features"])).read(ours(p["metadata"])) for p in packages}
 
 
 def ours(metadata: Any) -> Any:

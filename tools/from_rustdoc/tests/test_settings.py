@@ -1,6 +1,7 @@
 """What packages say in their metadata, which packages and features a call is about, what is waived, and what the numbers of versions say."""
 from __future__ import annotations
 
+import contextlib
 import io
 import os
 import tempfile
@@ -65,13 +66,18 @@ class Metadata(unittest.TestCase):
 
     def test_it_is_read_of_the_packages_that_are_chosen(self) -> None:
         def package(name: str, metadata: Any) -> dict[str, Any]:
-            return {"name": name, "manifest_path": f"/w/{name}/Cargo.toml", "metadata": metadata}
+            return {"name": name, "manifest_path": f"/w/{name}/Cargo.toml", "metadata": metadata, "features": {"serde": []}}
         packages = [package("a", {"celtisdarts": {"ask": {"A: B": "no"}}, "docs": 1}), package("b", {"celtisdarts": {"wrong": 1}})]
         data = {"workspace_root": "/w", "packages": packages, "metadata": {"celtisdarts": {"waive": [{**WAIVER, "package": "b"}]}}}
         of_workspace, settings = of_metadata(data, packages[:1], CHANGES)
         self.assertEqual((of_workspace.waivers[0].package, settings["a"].asks), ("b", [Expected("A: B", "no")]))
         with self.assertRaisesRegex(BadInput, r"^/w/b/Cargo.toml: \[package\.metadata\.celtisdarts\] has no key `wrong`"):
             of_metadata(data, packages, CHANGES)
+        for names, why in ((["serd"], "feature-sets 1 has `serd`, which is no feature of the package; did you mean `serde`?"), (["default", "serde", "a/b"], "")):
+            packages[1]["metadata"] = {"celtisdarts": {"feature-sets": [names]}}
+            with self.assertRaises(BadInput) if why else contextlib.nullcontext() as error:
+                of_metadata(data, packages, CHANGES)
+            self.assertIn(why, str(getattr(error, "exception", "")))
 
     def test_each_class_of_a_release_can_be_waived(self) -> None:
         self.assertLess(set(CHANGES), set(CLASSES))
