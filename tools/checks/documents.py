@@ -31,7 +31,7 @@ SIZES = {
     "docs/PROMISES.md": 4005,
     "docs/PROVING.md": 2600,
     "docs/RELEASES.md": 850,
-    "docs/RUSTDOC.md": 3160,
+    "docs/RUSTDOC.md": 3165,
     "docs/SEMVER.md": 1620,
     "docs/TUTORIAL.md": 1950,
 }
