@@ -59,7 +59,7 @@ class Documented:
             if package not in old.values() and package in chosen.named:
                 raise NothingOlder(f"the older version has no library of {package}" + (f"; it has {', '.join(old)}" if old else ""))
             if package not in old.values() and package in new.values() and found:
-                console.note(f"the older version has no {package}: it is not compared")
+                console.note(f"the older version has no package `{package}`, which is not compared")
         if not found:
             raise NothingOlder(f"the older version has no library of {', '.join(wanted)}")
         return found
@@ -316,7 +316,8 @@ def documented(one: Older, chosen: Selection, words: list[str], quiet: bool, run
         # Each has a place of its own for its documents, so that cargo takes no others for them.
         target = os.path.join(home, f"baseline-{one.commit[:12] or sum_of(there)}")
         manifest = os.path.join(there, "Cargo.toml")
-        cargo.has_manifest(folder, manifest)
+        if not os.path.isfile(manifest):
+            raise NothingOlder(f"{one.name} has no {os.path.relpath(os.path.join(folder, 'Cargo.toml'), data['workspace_root'])}: there is nothing to compare with")
         before = cargo.metadata(folder, words, ["--manifest-path", manifest])
         words_before = older_words(words, before, one.name)
         if runs_nothing or not os.path.isdir(target):

@@ -311,7 +311,7 @@ def messages(words: list[str], folder: str, environment: dict[str, str], told: s
                     console.note(told)
                     told = ""
                 if at_work:
-                    console.progress("documenting {1} of {2}: {3}".format(*at_work.group(0, 1, 2, 3)))
+                    console.progress(f"documenting {min(int(at_work[1]) + 1, int(at_work[2]))} of {at_work[2]}: {at_work[3]}")
                 elif line.strip() and not is_no_work(line):
                     console.write(line)
         console.clear()

@@ -12,7 +12,9 @@ from typing import Any
 from unittest import mock
 
 from ..command import main, main_of_cargo
-from ..later.baseline import Older, Run, by_default, check_out, older, only_older, run_by, told_of
+from ..later.baseline import Documented, NothingOlder, Older, Run, by_default, check_out, older, older_words, only_older, run_by, told_of
+from ..read.cargo import Project
+from ..read.selection import Selection
 from ..read.terms import BadInput
 from .common import WHY_NO_PROGRAM, kept
 
@@ -149,6 +151,31 @@ class Meant(Repository):
     def test_an_older_version_is_called_by_its_revision_too(self) -> None:
         commit = self.commit("v1.0")
         self.assertEqual([Older(name, commit=commit).shown() for name in ("v1.0", commit[:7])], [f"v1.0, {commit[:9]}", commit[:7]])
+
+
+class WhatIsCompared(unittest.TestCase):
+    def test_the_older_version_gets_the_packages_and_features_that_it_has(self) -> None:
+        data = {"packages": [{"name": "a", "features": {"x": [], "default": []}}]}
+        words = ["-p", "a", "-p", "b", "--features", "x,y", "--features=z", "-F", "x b/w", "--no-default-features", "--locked"]
+        with contextlib.redirect_stderr(io.StringIO()) as said:
+            self.assertEqual(older_words(words, data, "v1"), ["-p", "a", "--features", "x", "--features", "x,b/w", "--no-default-features", "--locked"])
+        self.assertEqual([line.partition(": ")[2] for line in said.getvalue().splitlines()],
+                         ["v1 has no feature y: it is documented without", "v1 has no feature z: it is documented without"])
+        with self.assertRaisesRegex(NothingOlder, "^v1 has no package b, c; it has a$"):
+            older_words(["-p", "b", "-p", "c"], data, "v1")
+
+    def test_libraries_are_those_of_the_packages_and_those_that_are_gone(self) -> None:
+        packages = [{"name": "a"}, {"name": "b"}]
+        data = {"packages": packages, "workspace_members": ["a", "b"]}
+        both = Documented(Project(), Project(), packages=({"a_lib": "a", "gone": "gone"}, {"a_lib": "a", "b": "b"}))
+        whole, named = Selection(".", data, packages), Selection(".", data, packages[1:], ["-p", "b"], ["b"])
+        with contextlib.redirect_stderr(io.StringIO()) as said:
+            self.assertEqual(both.libraries(["a", "b"], whole), ["a_lib", "gone"])
+        self.assertIn("the older version has no package `b`, which is not compared", said.getvalue())
+        # Some of them are not all, where each has its own tag.
+        self.assertEqual(both.libraries(["a"], whole), ["a_lib"])
+        with self.assertRaisesRegex(NothingOlder, "^the older version has no library of b; it has a_lib, gone$"):
+            both.libraries(["b"], named)
 
 
 class WhatIsRun(Repository):

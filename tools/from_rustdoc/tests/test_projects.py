@@ -17,7 +17,7 @@ from unittest import mock
 from .. import command
 from ..command import main
 from ..model.world import World
-from ..read.cargo import HERE, Project, Unit, align, chosen, configured, docs_folder, is_no_work, pinned, project_of, read_metadata, units_of
+from ..read.cargo import HERE, Project, Unit, align, chosen, configured, docs_folder, is_no_work, pinned, progress_of, project_of, read_metadata, units_of
 from ..read.doc_cfg import lines
 from ..read.proved import proved_program
 from ..read.rustdoc_json import external_name
@@ -133,6 +133,10 @@ class Units(unittest.TestCase):
     def test_only_work_is_told(self) -> None:
         lines = ("    Finished `dev` profile in 0.0s", "\x1b[1m\x1b[92m    Finished\x1b[0m `dev`", "   Compiling a v1", "error: no")
         self.assertEqual([is_no_work(line) for line in lines], [True, True, False, False])
+
+    def test_progress_is_what_cargo_says_of_it(self) -> None:
+        lines = ("    Building [=======>      ] 3/12: serde, syn(build.rs)   \n", "\x1b[K\x1b[1m\x1b[96m    Building\x1b[0m [ ] 0/2: a", "   Checking a v1", "Building 3/4: x")
+        self.assertEqual([found and found.groups() for found in map(progress_of, lines)], [("3", "12", "serde, syn(build.rs)"), ("0", "2", "a"), None, None])
 
     def test_what_is_chosen_goes_to_metadata_too(self) -> None:
         self.assertEqual(chosen(["--offline", "--no-deps", "--features", "a,b", "-j", "2"]), ["--offline", "--features", "a,b"])
