@@ -10,6 +10,7 @@ from .release import NOT_JUDGED, Release
 
 # Of what a message can say by its answer, what can be waived.
 WAIVED = ("breaking", "not settled", "changed", NOT_JUDGED)
+MAXIMAL_NAMED = 3
 # `struct a::B has ..`, `function `a::f` is removed`.
 KINDS = ("associated constant", "glob re-export", "extern type", "type without a path", "struct", "enum", "union", "trait", "type", "function", "constant",
          "static", "macro", "module", "method", "field", "variant")
@@ -25,8 +26,13 @@ def item_of(message: Message) -> str:
 def waive(release: Release, waivers: Sequence[Waiver]) -> None:
     """Marks the changes that are waived. What is not judged is counted no more."""
     for message in release.messages:
-        waiver = next((w for w in waivers if w.code == message.code and w.item == item_of(message)), None)
-        if waiver is None or message.word not in WAIVED:
+        item, of_class = item_of(message), [waiver for waiver in waivers if waiver.code == message.code]
+        waiver = next((waiver for waiver in of_class if waiver.item == item), None)
+        if message.word not in WAIVED:
+            continue
+        if waiver is None:
+            for one in of_class:
+                one.others.append(item)
             continue
         waiver.count += 1
         message.waived = waiver.reason
@@ -37,5 +43,12 @@ def waive(release: Release, waivers: Sequence[Waiver]) -> None:
 
 def unused(waivers: Iterable[Waiver]) -> list[Message]:
     """What is told of waivers that waive nothing."""
-    return [Message(f"a waiver in {waiver.place} waives nothing: {waiver.shown()}. Remove it", "waiver-unused", "waives nothing")
+    return [Message(f"a waiver in {waiver.place} waives nothing: {waiver.shown()}; {meant(waiver) or 'remove it'}", "waiver-unused", "waives nothing")
             for waiver in waivers if not waiver.count]
+
+
+def meant(waiver: Waiver) -> str:
+    """The items of its class that nothing waives: one of them may be meant."""
+    others = list(dict.fromkeys(waiver.others))
+    named = ", ".join(f"`{item}`" for item in others[:MAXIMAL_NAMED])
+    return f"what nothing waives of this class is of {named}" + (f" and {len(others) - MAXIMAL_NAMED} more" if len(others) > MAXIMAL_NAMED else "") if others else ""

@@ -26,13 +26,14 @@ class Expected:
 @dataclass
 class Waiver:
     """A change that may be, and why: its class, and the item that it is about. `package` is empty if it is of all of a workspace. `count` says
-    how many changes it has waived."""
+    how many changes it has waived, `others` are the items of those of its class that nothing waives."""
     code: str
     item: str
     reason: str
     place: str = ""
     package: str = ""
     count: int = 0
+    others: list[str] = field(default_factory=list)
 
     def shown(self) -> str:
         return f"{self.code} of `{self.item}`"

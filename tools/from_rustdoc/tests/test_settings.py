@@ -180,7 +180,11 @@ class Waived(unittest.TestCase):
         self.assertEqual([m.waived for m in release.messages], ["one", "", "", ""])
         self.assertEqual((release.status, release.summary()), (1, "a 1.0.0 to 1.1.0 (minor): breaking (1 breaking, 1 compatible, 1 breaking waived)"))
         self.assertEqual([(m.text, m.level, m.status) for m in unused(waivers)],
-                         [("a waiver in Cargo.toml waives nothing: bound-removed of `a::S2`. Remove it", "warning", 0), ("a waiver in Cargo.toml waives nothing: impl-added of `impl A for a::S`. Remove it", "warning", 0)])
+                         [("a waiver in Cargo.toml waives nothing: bound-removed of `a::S2`; remove it", "warning", 0), ("a waiver in Cargo.toml waives nothing: impl-added of `impl A for a::S`; remove it", "warning", 0)])
+        # One of the same class may have been meant.
+        waivers = [Waiver("bound-added", "S2", "two", "Cargo.toml")]
+        waive(self.release(), waivers)
+        self.assertEqual([m.text for m in unused(waivers)], ["a waiver in Cargo.toml waives nothing: bound-added of `S2`; what nothing waives of this class is of `a::S`, `a::S2`"])
 
     def test_what_is_waived_is_never_compatible(self) -> None:
         release = self.release()

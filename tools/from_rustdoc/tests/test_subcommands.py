@@ -69,7 +69,7 @@ class Workspace(Repository):
         self.assertEqual((status, [line for line in out if line.startswith("pool")]),
                          (0, ["pool 1.0.0 to 1.0.0: no break but what is waived (1 breaking waived)", "pool 1.0.0 to 1.0.0: no break but what is waived (3 breaking waived)"]), err)
         self.assertEqual(sum(line.startswith("waived, breaking: ") for line in out), 4)
-        self.assertIn("warning[waiver-unused]: a waiver in Cargo.toml waives nothing: item-removed of `pool::Gone`. Remove it", out)
+        self.assertIn("warning[waiver-unused]: a waiver in Cargo.toml waives nothing: item-removed of `pool::Gone`; remove it", out)
         # By flags for features the metadata's are not tried.
         status, out, err = self.call("pool", "later", "--no-default-features", "--message-format", "json")
         self.assertEqual((status, [json.loads(line).get("waived") for line in out if '"summary"' in line]), (0, [{"breaking": 1}]), err)
