@@ -14,13 +14,16 @@ from typing import Iterator, Optional
 from ..model.world import World
 from ..read.headers import NotUnderstood
 from ..read.html_docs import is_std_key
-from ..read.terms import BadInput, BoundsOf, Impl, Lossy, Parameter, Predicate, Projection, Reference, Type, Unknown, head_of, parameters_of, parts, walk
+from ..read.terms import (Alias, BadInput, BoundsOf, Impl, Lossy, Named, Parameter, Predicate, Projection, Reference, Type, Unknown, head_of, parameters_of,
+                          parts, rebuilt, rebuilt_bound, walk)
 from .answer import Answerer
 from .back import Askable
 from .program import explaining
-from .questions import BY_LAW, Question, QuestionReader, Undeclared, Verdict, terms_of
+from .questions import Question, QuestionReader, Undeclared, Verdict, terms_of
 from .reasons import Explainer
 
+# What may be any type; an alias of another crate is not looked into.
+OPEN = (Parameter, Projection, Unknown, BoundsOf, Alias)
 # So many bounds are taken at most.
 MAXIMAL_BOUNDS = 12
 
@@ -69,7 +72,7 @@ class Finder:
                 bounds, verdict = self.needed(question, bounds, verdict)
                 return Conditions(question, "yes", verdict, bounds)
             if verdict.word == "not settled":
-                return Conditions(question, "not settled", verdict, bounds, self.said(question, verdict))
+                return Conditions(question, "not settled", verdict, bounds, verdict.basis)
             goal = self.failed(verdict)
             goal = owner_of(goal, [*question.predicates, *bounds]) or goal if goal is not None else None
             why = self.unfit(goal, question, bounds)
@@ -116,7 +119,7 @@ class Finder:
         subject, bound = goal
         head = head_of(subject)
         found = self.world.standard.impls_with_head(bound.key, head) if is_std_key(bound.key) else []
-        for impl in (*found, *self.world.impls_of(bound.key, head)):
+        for impl in (by_own_keys(self.world, one) for one in (*found, *self.world.impls_of(bound.key, head))):
             params, values = {param.name for param in impl.params}, dict[str, Type]()
             if impl.trait is not None and not impl.is_negative and meets(impl.self_type, subject, params, values) and all(
                     meets(pattern, term, params, values) for pattern, term in zip(impl.trait.arguments, bound.arguments)):
@@ -134,19 +137,19 @@ class Finder:
                 bounds, verdict = fewer, other
         return bounds, verdict
 
-    def said(self, question: Question, verdict: Verdict) -> str:
-        return f"the answer to `{self.written(question, [])}` rests on a part that was left out" if verdict.basis == BY_LAW else verdict.basis
-
-    # ---- as text
     def shown(self, goal: Predicate) -> str:
         subject, bound = goal
         return f"{self.show.type(subject)}: {self.show.bound(bound)}"
 
-    def written(self, question: Question, bounds: list[Predicate]) -> str:
-        """The question under the bounds."""
-        clauses = ", ".join(self.shown(bound) for bound in bounds)
-        joined = ", " if " where " in question.written else " where "
-        return question.written + (joined + clauses if clauses else "")
+
+def by_own_keys(world: World, impl: Impl) -> Impl:
+    """The impl with the own keys of items in its header, which another crate names by others."""
+    def own(term: Type) -> Type:
+        term = rebuilt(term, own)
+        return Named(world.key_of(term.key), term.arguments) if isinstance(term, Named) else term
+
+    trait = replace(rebuilt_bound(impl.trait, own), key=world.key_of(impl.trait.key)) if impl.trait is not None else None
+    return replace(impl, self_type=own(impl.self_type), trait=trait)
 
 
 def under(question: Question, bounds: list[Predicate]) -> Question:
@@ -181,7 +184,7 @@ def meets(pattern: Type, term: Type, params: set[str], values: dict[str, Type]) 
     """Whether the term may be an instance of the pattern, for some types in the place of the term's parameters."""
     if isinstance(pattern, Parameter) and pattern.name in params:
         return may_be(values.setdefault(pattern.name, term), term)
-    if any(isinstance(part, (Parameter, Projection, Unknown, BoundsOf)) for part in (pattern, term)):
+    if any(isinstance(part, OPEN) for part in (pattern, term)):
         return True
     # (Arguments that are left to defaults stand in one of both alone.)
     return head_of(pattern) == head_of(term) and all(meets(one, other, params, values) for one, other in zip(parts(pattern), parts(term)))
@@ -189,6 +192,6 @@ def meets(pattern: Type, term: Type, params: set[str], values: dict[str, Type]) 
 
 def may_be(left: Type, right: Type) -> bool:
     """Whether both may be one type, whatever is put for parameters and associated types."""
-    if any(isinstance(term, (Parameter, Projection, Unknown, BoundsOf)) for term in (left, right)):
+    if any(isinstance(term, OPEN) for term in (left, right)):
         return True
     return head_of(left) == head_of(right) and all(map(may_be, parts(left), parts(right)))

@@ -6,7 +6,6 @@ from typing import Optional
 from ..model.world import World, crate_name
 from ..read.terms import BadInput, Lossy
 from ..report.items import Report
-from ..write.build import Translation
 from ..write.texts import texts_of
 from .cone import TooLarge, cone_of_crate, cone_of_impls
 from .program import run

@@ -31,9 +31,10 @@ def answer_of(found: Conditions, finder: Finder) -> str:
     """`yes where T: Send`, or that no bounds help."""
     if found.word != "yes":
         return found.word
-    names = " and ".join(f"`{param.name}`" for param in found.question.params)
-    return f"yes where {', '.join(bounds_of(found, finder))}" if found.bounds else f"yes, whatever {names} {'is' if len(found.question.params) == 1 else 'are'}" \
-        if names else "yes"
+    if found.bounds:
+        return f"yes where {', '.join(bounds_of(found, finder))}"
+    names = [f"`{param.name}`" for param in found.question.params]
+    return f"yes, whatever {' and '.join(names)} {'is' if len(names) == 1 else 'are'}" if names else "yes"
 
 
 def say_conditions(found: Conditions, finder: Finder, output: Output) -> int:
@@ -64,8 +65,7 @@ def impl_of(found: Conditions, finder: Finder) -> str:
 def say_traits(found: Traits, finder: Finder, output: Output) -> int:
     """A line for each impl that holds, then what does not and what is not settled, and how many there are."""
     for one in found.found:
-        if not output.is_json:
-            output.line(impl_of(one, finder) + ("" if one.basis == "by law" or not output.is_verbose else f"   ({one.basis})"))
+        output.line(impl_of(one, finder) + (f"   ({one.basis})" if output.is_verbose else ""))
     for one in (*found.found, *found.without, *found.unsettled) if output.is_json else ():
         message = conditions_message(one, finder)
         message.more["impl"] = impl_of(one, finder) if one.word == "yes" else None

@@ -15,7 +15,7 @@ from ..read.terms import (ANY_HEAD, Array, BadInput, Bound, Constant, Declaratio
                           argument_values, head_of, parameters_of, parts, put, put_bound)
 from ..write.build import AUTO_TRAITS
 from .back import Askable
-from .conditions import Conditions, Finder, read_open
+from .conditions import Conditions, Finder, by_own_keys, read_open
 from .questions import Question, QuestionReader
 
 # The pages of built-in types, by the heads of types that have no name of their own.
@@ -137,8 +137,9 @@ class Lister:
     def impls(self, key: str, subject: Type, of_std: bool = True) -> Iterator[Impl]:
         head = head_of(subject)
         of_docs = self.world.standard.impls_with_head(key, head) if of_std and is_std_key(key) else []
-        for impl in (*of_docs, *self.world.impls_of(key, head)):
-            if impl.trait is not None and impl.trait.key == key and not impl.is_negative and matched(impl.self_type, subject, {p.name for p in impl.params}, {}):
+        for impl in (by_own_keys(self.world, one) for one in (*of_docs, *self.world.impls_of(key, head))):
+            is_of_trait = impl.trait is not None and impl.trait.key == key and not impl.is_negative
+            if is_of_trait and matched(impl.self_type, subject, {param.name for param in impl.params}, {}):
                 yield impl
 
     @staticmethod
@@ -177,7 +178,8 @@ def matched(pattern: Type, term: Type, params: set[str], values: dict[str, Type]
     if isinstance(pattern, Constant) and pattern.text.strip("{} ") in params:
         return values.setdefault(pattern.text.strip("{} "), term) == term
     if isinstance(pattern, Array) and isinstance(term, Array) and pattern.length.strip("{} ") in params:
-        return values.setdefault(pattern.length.strip("{} "), Constant(term.length)) == Constant(term.length) and matched(pattern.element, term.element, params, values)
+        length = Constant(term.length)
+        return values.setdefault(pattern.length.strip("{} "), length) == length and matched(pattern.element, term.element, params, values)
     if head_of(pattern) == ANY_HEAD or not parts(pattern):
         return pattern == term or head_of(pattern) == ANY_HEAD and not isinstance(pattern, Parameter)
     left, right = parts(pattern), parts(term)

@@ -107,6 +107,15 @@ class Found(unittest.TestCase):
             "impl<F> UnwindSafe for reasons::Fun<F> where F: UnwindSafe"])
         self.assertEqual((found.without, found.unsettled, found.unnamed), ([], [], []))
 
+    def test_impls_of_another_crate_are_the_types_too(self) -> None:
+        """Its own crate has neither; `user` names both by other keys than `ab` does."""
+        both = world("ab", "user")
+        lister = Lister(both, Finder(both, PROGRAM, EXPLAINS))
+        (question,) = read_open(QuestionReader(both), "user::Mine<ab::Sb>: ab::Ta")
+        self.assertIn(question.bound.key, lister.keys(question.subject))
+        self.assertEqual([lister.show.bound(asked.bound) for asked in lister.questions(question, both.get(question.bound.key))], ["ab::Ta"])
+        self.assertTrue(list(lister.finder.impls_for((question.subject, question.bound))))
+
     def test_auto_traits_that_do_not_hold_are_told_and_all_are_counted(self) -> None:
         said = io.StringIO()
         found = Lister(self.world, self.finder).of("reasons::Inner")
