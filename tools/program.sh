@@ -1,17 +1,17 @@
-# Of which sources a program is. Read by ./celtisdarts, ./test, tools/release and tools/library, which say in `here` where the
-# repository is.
+# From which sources a program was built. Sourced by ./celtisdarts, ./test, tools/release and tools/library. They set `here` to the
+# folder of the repository.
 #
-# There are two programs: celtisdarts, and celtisdarts_explain, which says why as well. All here speaks of one of them, which is
-# celtisdarts until `of_program` says another. It may also be the library for C, which is no program but an archive: tools/library
-# makes it, and what is noted of it is noted in the same way.
+# There are two programs: celtisdarts, and celtisdarts_explain, which also gives reasons. The functions act on the current one, which
+# is celtisdarts unless `of_program NAME` selected another. It may also be the library for C, an archive that tools/library makes.
+# Its notes have the same form.
 #
-# Beside a proved program, in NAME.proved, stand three lines: `program` with the sum of its bytes, `sources` with the sum of what
-# it was built from, and `toolchain` with what `rt version` printed then. Sums are those of sha256sum.
+# Next to a proved program, NAME.proved has three lines: `program` with the sum of its bytes, `sources` with the sum of what it was
+# built from, and `toolchain` with what `rt version` printed then. Sums are those of sha256sum.
 # shellcheck shell=sh disable=SC2034,SC2154
 programs="celtisdarts celtisdarts_explain"
 library=celtisdarts_c
 
-# of_program NAME: from here on it is about this one
+# of_program NAME: selects the current program
 of_program() {
     of=$1
     artifact=$of
@@ -20,15 +20,15 @@ of_program() {
     released="$here/release/$artifact"
 }
 
-# Whether the file is there, and one that runs, if it is a program's.
+# Whether the file exists, and is executable if it is a program.
 is_there() {
     if [ "$of" = "$library" ]; then [ -f "$1" ]; else [ -x "$1" ]; fi
 }
 
 of_program celtisdarts
 
-# The crates that the program stands on, and then its own, in the order of crates.txt, which is lowest first: of each its `line`
-# there, or its `name`. Behind the part other programs may be named: then those of all of them, each once.
+# below PART [PROGRAM...]: the program's crate and all below it, in the order of crates.txt, lowest first. PART is `line` for their
+# lines there, or `name`. With several programs, the crates of all of them, each once.
 below() {
     awk -F: -v part="$1" -v roots="${2:-$of}" '
         { sub(/#.*/, ""); gsub(/[ \t]+/, " "); sub(/ $/, "") }
@@ -49,7 +49,7 @@ sum_of() {
     sum=$(sha256sum < "$1") && echo "${sum%% *}"
 }
 
-# The sum of all that decides which program a toolchain builds: those lines of crates.txt, and each source with its name.
+# The sum of what a program is built from: those lines of crates.txt, and each source file with its name.
 sources_sum() {
     set --
     for crate in $(below name); do
@@ -59,7 +59,7 @@ sources_sum() {
     sum=$({ below line && echo "$sums" | LC_ALL=C sort; } | sha256sum) && echo "${sum%% *}"
 }
 
-# Reads what stands beside the program, and tells whether that is of these very bytes.
+# Reads the notes next to a program. Succeeds if they are about these bytes.
 is_noted() {
     noted_program=
     noted_sources=
@@ -75,18 +75,18 @@ is_noted() {
     sum=$(sum_of "$1") && [ "$sum" = "$noted_program" ]
 }
 
-# Whether the program of which that was read was built from what stands here now.
+# Whether the program whose notes were read was built from today's sources.
 is_of_these_sources() {
     sum=$(sources_sum) && [ "$sum" = "$noted_sources" ]
 }
 
-# Whether it was noted of which sources the program is that was built here, when it was.
+# Whether the program that was built here has notes, and is not newer than they are.
 has_note() {
     is_noted "$built" && [ -z "$(find "$built" -newer "$built.proved")" ]
 }
 
-# Whether the program that was built here is there, and of these sources. Where nothing was noted of it, as after `rt run` and
-# `rt ci`, times tell: no source is newer.
+# Whether the program was built here, from today's sources. If it has no notes, as after `rt run` and `rt ci`, times decide: no source
+# is newer.
 is_current() {
     is_there "$built" || return 1
     if has_note; then
@@ -100,8 +100,8 @@ is_current() {
     [ "$#" -gt 0 ] && newer=$(find "$@" -name '*.rt' -newer "$built") && [ -z "$newer" ]
 }
 
-# note_built SUM: notes beside the program that it was built from the sources of that sum, taken before. Fails where they have
-# another by now: then nobody knows of which of them it is.
+# note_built SUM: notes that the program was built from the sources of this sum, which was taken before. Fails if their sum is another
+# now, since it is unknown then from which of them it was built.
 note_built() {
     rm -f "$built.proved"
     [ -n "$1" ] && program_sum=$(sum_of "$built") && version=$(rt version) && [ "$(sources_sum)" = "$1" ] || return 1

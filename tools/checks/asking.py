@@ -1,4 +1,4 @@
-"""./celtisdarts --ask: lines of standard input, answered one by one behind a text.
+"""./celtisdarts --ask: lines of standard input, answered one by one after a text.
 
 Each query of an example, asked so, has the answer of the example; and forms, faults, mistakes and a terminal are tried.
 """
@@ -108,9 +108,9 @@ def try_mistakes(tally: Tally, room: Path) -> None:
             "--ask": "`--ask` needs a text: name a file",
             "--ask -": "`--ask` reads lines from standard input, and takes its text from a file",
             "--with - --ask text.txt": "`--ask` reads lines from standard input, and takes its text from a file",
-            "--ask text.txt a b": "`--ask` takes one text and one crate, and here are 3 words",
-            "--ask --check text.txt": "`--ask` answers line by line: `--json` and `--check` are of whole texts",
-            "--ask --explain --json text.txt": "`--ask` answers line by line: `--json` and `--check` are of whole texts",
+            "--ask text.txt a b": "`--ask` takes one text and one crate, not 3 arguments",
+            "--ask --check text.txt": "`--ask` answers line by line: `--json` and `--check` are for whole texts",
+            "--ask --explain --json text.txt": "`--ask` answers line by line: `--json` and `--check` are for whole texts",
     }.items():
         ended = refused(room, words)
         tally.expect(f"'{words}'", ended.is_like(2, "", f"celtisdarts: {said}{HELP_OFFERED}"), f"found: {ended}")

@@ -1,4 +1,4 @@
-"""The library for C, as callers in C, Rust and Python call it: bindings/, over the archive that tools/library made.
+"""The library as C, Rust and Python call it: bindings/, over the archive of tools/library.
 
 The tests are those of bindings/rust, by `cargo test --offline`, of bindings/python and of bindings/c. Where there is no cargo, those of Rust
 are left out. They ask the queries of examples/, and of the texts `*.txt` in the folder that CELTISDARTS_TEXTS names, if it names one. The

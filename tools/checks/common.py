@@ -1,4 +1,4 @@
-"""What the checks share: where things are, the programs, runs of them, and counts."""
+"""What the checks share: paths, programs, runs of them, and counts."""
 from __future__ import annotations
 
 import difflib
@@ -16,15 +16,15 @@ Word = Union[str, Path]
 
 
 class Wrong(Exception):
-    """What is wrong with a case."""
+    """A case fails, for this reason."""
 
 
 class Missing(Exception):
-    """What a check needs and is not there."""
+    """A check lacks something that it needs."""
 
 
 def fault_in(case: Callable[[], object]) -> Optional[str]:
-    """What the call finds wrong."""
+    """The fault that the call finds, if there is one."""
     try:
         case()
     except Wrong as wrong:
@@ -35,13 +35,13 @@ def fault_in(case: Callable[[], object]) -> Optional[str]:
 
 
 class Tally:
-    """How many cases passed and failed. Each that fails is named, with what is wrong; each that passes, where that is wanted."""
+    """How many cases passed and failed. Prints each that fails, with the reason, and if `is_verbose` each that passes."""
 
     def __init__(self, is_verbose: bool = False) -> None:
         self.passed, self.failed, self.is_verbose = 0, 0, is_verbose
 
     def tell(self, name: str, fault: Optional[str]) -> bool:
-        """Counts a case, which passes where nothing is wrong with it; returns whether it does."""
+        """Counts a case, which passes if it has no fault. Returns whether it passes."""
         if fault:
             self.failed += 1
             print(f"FAILED {name}: {fault}", flush=True)
@@ -55,11 +55,11 @@ class Tally:
         return self.tell(name, None if is_so else fault)
 
     def hold(self, name: str, case: Callable[[], object]) -> bool:
-        """Counts a case that passes where the call finds nothing wrong."""
+        """Counts a case that passes if the call finds no fault."""
         return self.tell(name, fault_in(case))
 
     def go_through(self, part: Callable[[], object]) -> None:
-        """Runs a part of a check, which counts cases of its own. Where it cannot go on, that is one that fails."""
+        """Runs a part of a check, which counts its own cases. If it cannot continue, that is one more case, which fails."""
         fault = fault_in(part)
         if fault:
             self.tell("the rest of a part", fault)
@@ -69,7 +69,7 @@ class Tally:
 
 
 class Limits(NamedTuple):
-    """What a run may take: seconds of the processor, bytes of memory, bytes of stack. 0 is no limit."""
+    """Limits of a run: seconds of the processor, bytes of memory, bytes of stack. 0 is no limit."""
 
     seconds: int = 600
     memory: int = 0
@@ -86,7 +86,7 @@ class Limits(NamedTuple):
 
 
 class Ended(NamedTuple):
-    """How a run ended: its status, or a signal as a number below 0; what it wrote; and its seconds of the processor."""
+    """The end of a run: its status, or a signal as a negative number, its output, and its seconds of the processor."""
 
     status: int
     output: bytes
@@ -118,7 +118,7 @@ def run(words: Sequence[Word], text: bytes = b"", limits: Limits = Limits(),
 
 
 def difference(found: bytes, wanted: bytes) -> Optional[str]:
-    """The lines in which an output is not as wanted; none where it is."""
+    """The lines that differ from the expected output. None if it is equal."""
     if found == wanted:
         return None
     before, after = (it.decode("latin-1").splitlines() for it in (wanted, found))
@@ -135,7 +135,7 @@ def crates() -> dict[str, list[str]]:
 
 
 def below(listed: Mapping[str, list[str]], name: str) -> list[str]:
-    """The crate, and those of the repository that it stands on."""
+    """The crate, and those of the repository below it."""
     found = [name]
     for it in found:
         found += [other for other in listed[it] if other in listed and other not in found]
@@ -155,7 +155,7 @@ def built(crate: str, name: str = "") -> str:
 
 @functools.lru_cache(maxsize=None)
 def program(name: str) -> str:
-    """The program that was built here; where none was, that of release/, if it is of today's sources."""
+    """The program that was built here, or else that of release/, if it is of today's sources."""
     try:
         return built(name)
     except Missing:
@@ -166,7 +166,7 @@ def program(name: str) -> str:
 
 
 def library() -> Path:
-    """The archive of the library for C that was built here; where none was, that of release/, if it is of today's sources."""
+    """The archive of the library for C that was built here, or else that of release/, if it is of today's sources."""
     found = TOP / "crates/celtisdarts_c/out/libceltisdarts.a"
     if found.is_file():
         return found
@@ -184,7 +184,7 @@ def is_released(name: str) -> bool:
 
 
 class Example(NamedTuple):
-    """A folder of examples/: a text, the depths that it is asked at, and the status that each run ends with."""
+    """A folder of examples/: a text, the depths at which it is answered, and the exit status of each run."""
 
     folder: Path
     depths: Sequence[str]
@@ -199,7 +199,7 @@ class Example(NamedTuple):
         return (self.folder / "input.txt").read_bytes()
 
     def file(self, name: str) -> Optional[bytes]:
-        """What stands in another file of the folder, if that is there."""
+        """The content of another file of the folder, if there is one."""
         path = self.folder / name
         return path.read_bytes() if path.is_file() else None
 

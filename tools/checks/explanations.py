@@ -1,4 +1,4 @@
-"""Texts with the explanation that a reader needs: texts/explained/NAME.txt has to be explained as NAME.expected, at depth 8.
+"""Explanations written by hand: for texts/explained/NAME.txt, at depth 8, `--explain` has to print NAME.expected.
 
     tools/check explanations
     tools/check explanations --explaining FILE

@@ -1,4 +1,4 @@
-"""Hostile texts, each made from a seed and its number: each is answered, or has a fault that is named.
+"""Hostile texts, each made from a seed and its number: each is answered, or has a fault that the answer names.
 
     tools/check hostile                     10,000 texts
     tools/check hostile --texts 1000000     so many

@@ -1,4 +1,4 @@
-"""Each limit of a text: one at the limit is taken, one past it is fault 16 in its line."""
+"""Each limit of a text: a text at the limit is accepted, and one past it has fault 16 on its line."""
 from __future__ import annotations
 
 import argparse

@@ -1,4 +1,4 @@
-"""A greater depth never says less: each text at rising depths, its answers beside each other.
+"""A greater depth never says less: the answers to each text at rising depths.
 
     tools/check monotone                          240 texts by lot, the families that cycle or grow, and the texts of texts/depths
     tools/check monotone --texts 20000            so many by lot

@@ -1,4 +1,4 @@
-"""The words of ./celtisdarts: each option, each mistake, and what is said where something is refused.
+"""The options of ./celtisdarts, typical mistakes in them, and their messages.
 
 It needs a proved program of today's sources: one that was built here, or that of release/. What a call does where there is none is tried
 in a copy, with a stand-in for the toolchain. (Which program is run, and when, is tried by the check `statuses`.)
@@ -22,7 +22,7 @@ from .common import TOP
 
 SCRIPT = TOP / "celtisdarts"
 PROGRAMS = ("celtisdarts", "celtisdarts_explain")
-HELP_OFFERED = " (./celtisdarts --help lists the words)\n"
+HELP_OFFERED = " (./celtisdarts --help lists the options)\n"
 
 # A text without a fault whose answers are not all good ones: crate, section, supertraits and questions, in another order than answered.
 MIXED = """\
@@ -165,7 +165,7 @@ class Room:
 def try_help(tally: Tally) -> None:
     for word in ("--help", "-h"):
         ended = run([word])
-        is_good = ended.status == 0 and ended.said == "" and ended.output.startswith("usage: ./celtisdarts [DEPTH] [OPTION ..] [FILE ..]\n")
+        is_good = ended.status == 0 and ended.said == "" and ended.output.startswith("usage: ./celtisdarts [DEPTH] [OPTION...] [FILE...]\n")
         tally.expect(word, is_good, ended)
     for option in ("--explain", "--json", "--proof", "--color", "--check", "--ask", "--with", "--file", "--build", "--version", "--help", "--"):
         tally.expect(f"help on {option}", f"\n  {option} " in run(["--help"]).output, "it is not listed")
@@ -196,28 +196,28 @@ def try_mistakes(tally: Tally, room: Room) -> None:
         "99999999999999999999": "`99999999999999999999` is no depth: 1 to 255",
         "--json good.txt": "`--json` needs `--explain`",
         "--color always good.txt": "`--color` needs `--explain`",
-        "--explain --color": "`--color` needs a word behind it",
+        "--explain --color": "`--color` needs a value",
         "--explain --color red": "`--color` takes auto, always or never, and not `red`",
         "--color=": "`--color` takes auto, always or never, and not ``",
-        "good.txt --with": "`--with` needs a word behind it",
-        "--with=": "an empty word is the name of no file",
-        "--file": "`--file` needs a word behind it",
-        "--explain --json good.txt 8": "`--json` takes one text, and here are 2 files",
-        "--proof": "`--proof` needs a word behind it",
+        "good.txt --with": "`--with` needs a value",
+        "--with=": "an empty argument names no file",
+        "--file": "`--file` needs a value",
+        "--explain --json good.txt 8": "`--json` takes one text, not 2 files",
+        "--proof": "`--proof` needs a value",
         "--proof svg good.txt": "`--proof` takes dot, and not `svg`",
-        "--proof dot good.txt 8": "`--proof` takes one text, and here are 2 files",
-        "--check --file a good.txt 8": "`--file` names one text, and here are 2 files",
-        "--build 8": "`--build` takes no other word",
-        "8 --build": "`--build` takes no other word",
-        "- -": "standard input is read once, and these words ask for it twice",
-        "--with - -": "standard input is read once, and these words ask for it twice",
-        "--with -": "standard input is read once, and these words ask for it twice",
+        "--proof dot good.txt 8": "`--proof` takes one text, not 2 files",
+        "--check --file a good.txt 8": "`--file` names one text, not 2 files",
+        "--build 8": "`--build` takes no other argument",
+        "8 --build": "`--build` takes no other argument",
+        "- -": "standard input is read once, and is named twice",
+        "--with - -": "standard input is read once, and is named twice",
+        "--with -": "standard input is read once, and is named twice",
     }
     for words, said in mistakes.items():
         ended = room.run(words)
         tally.expect(f"the words '{words}'", ended.is_like(2, "", f"celtisdarts: {said}{HELP_OFFERED}"), ended)
     ended = run(["8", ""], cwd=room.path)
-    tally.expect("an empty word", ended.is_like(2, "", "celtisdarts: an empty word is the name of no file" + HELP_OFFERED), ended)
+    tally.expect("an empty word", ended.is_like(2, "", "celtisdarts: an empty argument names no file" + HELP_OFFERED), ended)
     ended = run(["--\x1b[31m\n"], cwd=room.path)
     tally.expect("a word with an escape", ended.is_like(2, "", "celtisdarts: `--?[31m?` is no option" + HELP_OFFERED), ended)
     with open(room.path / "good.txt", "rb") as source:
@@ -229,7 +229,7 @@ def try_mistakes(tally: Tally, room: Room) -> None:
 def try_refused_files(tally: Tally, room: Room) -> None:
     reasons = {
         "nosuch": "nosuch: no such file",
-        "8 300": "300: no such file (a depth stands before all files)",
+        "8 300": "300: no such file (the depth comes before all files)",
         "folder": "folder: is a folder",
         "-- -other": "-other: no such file",
         "--with nosuch good.txt": "nosuch: no such file",
@@ -284,7 +284,7 @@ def try_depth(tally: Tally, room: Room) -> None:
         ended = room.run(words)
         tally.expect(f"the words '{words}'", ended.output == wanted, ended)
     ended = room.run("short 129")
-    tally.expect("a number behind a file", ended.said == "celtisdarts: 129: no such file (a depth stands before all files)\n", ended)
+    tally.expect("a number behind a file", ended.said == "celtisdarts: 129: no such file (the depth comes before all files)\n", ended)
     for words in ("8 8", "-- 8", "8 -- 8", "./8", "--with good.txt -- 8"):
         tally.expect(f"the file 8, '{words}'", room.run(words).output.endswith("crate b: accepted\n"), room.run(words))
 
@@ -621,7 +621,7 @@ def try_unbuilt(tally: Tally, room: Room, folder: Path) -> None:
     told = run(["--version"], script=script, env=env).output
     tally.expect("unbuilt, --version", "program: none; each call compiles it\ntoolchain: a toolchain\n" in told and "of an unknown commit" in told, told)
     told = run(["--help"], script=script, env=env).output
-    tally.expect("unbuilt, --help", "Each call takes minutes now" in told, told)
+    tally.expect("unbuilt, --help", "Each call takes minutes, since it compiles" in told, told)
 
     # A `sleep` that does not wait lets time pass. Its 65th call ends what the stand-in waits for.
     (folder / "bin" / "sleep").write_text('#!/bin/sh\necho >> "$STANDIN/slept"\n[ "$(wc -l < "$STANDIN/slept")" -lt 65 ] || rm -f "$STANDIN/wait"\n')

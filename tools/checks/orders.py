@@ -1,4 +1,4 @@
-"""Questions in other orders and at other depths, and with them sections and lines `supers`.
+"""Queries in other orders and at other depths, and with them sections and `supers` lines.
 
 One session answers all that is asked of a crate, and what it has kept of one never changes the answer to another.
 """

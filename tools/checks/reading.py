@@ -1,4 +1,4 @@
-"""How much a reader follows to believe a function: the lines of definitions behind its contract.
+"""How many lines of definitions a function's contract rests on.
 
     tools/check reading                       the calls that the program makes, and counts of contracts
     tools/check reading CRATE FUNCTION ..     these functions, by their names

@@ -1,4 +1,4 @@
-"""Each request for memory refused in turn: the 1st, the 2nd, the 3rd .., until a run asks fewer times.
+"""Each request for memory refused in turn, until a run makes fewer requests.
 
 Each run of the built program but the last has to end with status 3 after a prefix of the output, the last one with the whole output. (So
 may one in which the library, refused a list with room to spare, asks for one without and gets it.) Of the program that explains the lines

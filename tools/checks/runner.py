@@ -1,13 +1,13 @@
-"""Tries what the repository holds. The checks are modules of tools/checks.
+"""Checks the repository. The checks are modules of tools/checks.
 
-    tools/check                    all that the gate runs, in its order
-    tools/check NAME ..            these checks, or all those of a group that --list names
-    tools/check NAME WORDS ..      one check, with words of its own: tools/check NAME --help says which
-    tools/check --list             the checks by group, with what each tries
-    tools/check --verbose NAME ..  names each case that passes too
+    tools/check                     all that the gate runs, in its order
+    tools/check NAME...             these checks, or all of a group that --list names
+    tools/check NAME OPTION...      one check, with options of its own: tools/check NAME --help lists them
+    tools/check --list              the checks by group, with what each tries
+    tools/check --verbose NAME...   prints each case that passes too
 
-A case that fails is named, with what is wrong. The last line is 'N passed, M failed', behind several checks of them together; the status
-is 0 where none failed and each check tried something, 1 where not, and 2 where the words are not understood.
+A case that fails is named, with the reason. The last line is 'N passed, M failed', after several checks for all of them. The status is 0 if
+none failed and each check tried something, 1 otherwise, and 2 for wrong arguments.
 """
 from __future__ import annotations
 
@@ -20,7 +20,7 @@ from typing import Sequence
 
 from .common import Missing, Tally
 
-# By group, in the order of the gate: what needs no program, what tries the built programs, and what is run by hand.
+# By group, in the order of the gate: checks without a program, those of the built programs, and those that are run by hand.
 GROUPS = {
     "sources": ["promises", "documents", "reading", "shape", "packages"],
     "programs": [
@@ -45,7 +45,7 @@ def print_list() -> None:
 
 
 def words_of(name: str, words: Sequence[str]) -> argparse.Namespace:
-    """The words of one check, as it reads them."""
+    """The options of one check, as it reads them."""
     module = module_of(name)
     reader = argparse.ArgumentParser(prog=f"tools/check {name}", description=module.__doc__, formatter_class=argparse.RawDescriptionHelpFormatter)
     if hasattr(module, "add_words"):
@@ -54,7 +54,7 @@ def words_of(name: str, words: Sequence[str]) -> argparse.Namespace:
 
 
 def try_one(name: str, given: argparse.Namespace, is_verbose: bool) -> Tally:
-    """Runs one check. One that cannot go on, or that tries nothing, fails once more."""
+    """Runs one check. If it cannot continue, or tries nothing, that is one more failure."""
     tally = Tally(is_verbose)
     try:
         module_of(name).check(tally, given)
@@ -82,7 +82,7 @@ def try_all(names: Sequence[str], given: Sequence[argparse.Namespace], is_verbos
 
 
 def split(words: Sequence[str]) -> tuple[list[str], list[str]]:
-    """The checks that are named first, and the words behind them."""
+    """The leading names of checks, and the words after them."""
     names: list[str] = []
     for at, word in enumerate(words):
         if word not in ALL and word not in GROUPS:
@@ -102,7 +102,7 @@ def main(words: Sequence[str]) -> int:
         return 0
     names, rest = split(given.words)
     if rest and len(names) != 1:
-        reader.error(f"'{rest[0]}' names no check, and words of its own can only stand behind one check: --list names all")
+        reader.error(f"'{rest[0]}' names no check, and only one check can have options of its own: --list names all")
     names = names or GATE
     read = [words_of(name, rest) for name in names]
     resource.setrlimit(resource.RLIMIT_CORE, (0, 0))

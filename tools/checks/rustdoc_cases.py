@@ -1,4 +1,4 @@
-"""from-rustdoc on kept crates; with --real also on crates of Debian, against rustc, where these and cargo are installed."""
+"""from-rustdoc on stored crates. With --real also on crates of Debian, compared with rustc, if these and cargo are installed."""
 from __future__ import annotations
 
 import argparse

@@ -1,4 +1,4 @@
-"""The shape of the repository: what is to become less, counted from its files.
+"""Figures of the repository that should fall, counted from its files, and lines of crates.txt that list too much.
 
     tools/check shape              the figures of today, which may not be greater than those that are kept
     tools/check shape --copies     names the lemmas that are copies, and the names that stand several times

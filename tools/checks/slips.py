@@ -1,4 +1,4 @@
-"""Slips of a Rust writer: what the program that explains marks, and what it says of it.
+"""Mistakes in texts: which token `--explain` marks, and its message.
 
 Each row of tools/checks/slips.txt is a text with what is to be marked and said. So is each line of the examples that the grammar has, with
 a sign behind it that no line has: this sign is marked, and nothing before it. And so is a token of such a line that was left out, doubled or

@@ -1,4 +1,4 @@
-"""The exit statuses that no example can show, of the programs and of the script ./celtisdarts.
+"""Exit statuses of the programs and of ./celtisdarts that no example shows.
 
 Words that are no depth limit (before any input is read), an input that cannot be read, an output that cannot be written. They are tried on
 the built programs, and on the script in a copy of the sources: with the built program beside it, with nothing built, and with a release;

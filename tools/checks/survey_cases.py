@@ -1,4 +1,4 @@
-"""The survey of a registry on kept crates; with --real also on projects of Debian's crates, against rustc, where these and cargo are installed."""
+"""The survey of a registry on stored crates. With --real also on projects of Debian's crates, compared with rustc, if these and cargo are installed."""
 from __future__ import annotations
 
 import argparse

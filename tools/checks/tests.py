@@ -1,6 +1,6 @@
-"""The tests of the layers below, compiled without proofs (tools/driver/terms and tools/driver/solver): each in a run of its own.
+"""The tests of the layers, compiled without proofs (tools/driver/terms and tools/driver/solver): each in a run of its own.
 
-A test has five minutes of the processor. One that a source has under `#[test]` and that the program does not list has not run, which is a failure.
+A test has five minutes of the processor. A test in the sources that the program does not list has not run, and fails.
 """
 from __future__ import annotations
 

@@ -1,7 +1,7 @@
-"""Each walk of the layers on terms whose trees double at each level, up to 250 times, and on terms that are 10,000 levels deep.
+"""Each traversal of the layers on terms whose trees double at each level, up to 250 times, and on terms 10,000 levels deep.
 
-Each is tried on a stack of 800 KB, without proofs (tools/driver/layers). What each walk returns is known. A walk over the tree would not
-end, so a run has 60 seconds. `benches/layers` prints the times.
+Each has a stack of 800 KB, and is compiled without proofs (tools/driver/layers). Its result is known. A traversal of the tree would not end,
+so a run has 60 seconds. `benches/layers` prints times.
 """
 from __future__ import annotations
 

@@ -1,30 +1,30 @@
-# Answers the texts of a call. Read by ./celtisdarts, which reads the words: `depth`, `explains`, `json`, `color`, `checks` and
-# `title` (what is behind --file), and each file as `text:FILE` or, where it is of --with, `with:FILE`.
+# Answers the texts of a call. Sourced by ./celtisdarts, which reads the arguments: `depth`, `explains`, `json`, `color`, `checks` and
+# `title` (of --file), and each file as `text:FILE`, or `with:FILE` for --with.
 #
-# What the program writes of a text goes to standard output as it is. Only where that was compiled for this call, or has to be
-# looked at (--check, --with), texts and answers are kept before, as files of `room`.
+# The program writes to standard output itself. Texts and answers are stored in the folder `room` only if the program is compiled for
+# this call, or if the answer is read (--check, --with, --proof).
 # shellcheck shell=sh disable=SC2154
 
-# How many bytes of a text are kept: one more than it may have. The program reads no more either.
+# How many bytes of a text are stored: one more than it may have. The program reads no more either.
 text_limit=67108865
 
-# How long a kept answer may be, in blocks of 512 bytes: 256 MiB. (A text can have an answer that no disk holds.)
+# The longest stored answer, in blocks of 512 bytes: 256 MiB. (An answer can be larger than any disk.)
 answer_limit=524288
 
-# Ends where standard output takes no more. Of a pipe whose reader is gone nothing is said, as by other commands.
+# Exits after a failed write. A closed pipe gets no message, as with other commands.
 end_output() {
     [ -p /dev/stdout ] || say "standard output could not be written"
     exit 3
 }
 
-# Whether there are colours. (The script decides it, since an answer may be kept before a terminal shows it.)
+# Sets `color` if it is `auto`. (The script decides, since a stored answer is not written to a terminal.)
 choose_colors() {
     [ "${color:-auto}" = auto ] || return 0
     color=never
     [ ! -t 1 ] || [ -n "$NO_COLOR" ] || [ "${TERM:-dumb}" = dumb ] || color=always
 }
 
-# look_at FILE: how messages call this `file`, and the reason why it cannot be read, if there is one
+# look_at FILE: sets `file`, its `label` in messages, and the `reason` why it cannot be read, if there is one
 look_at() {
     file=$1
     label=$(shown "$file")
@@ -39,19 +39,19 @@ look_at() {
         reason="no such file"
         case $file in
             *[!0123456789]*) ;;
-            *) reason="no such file (a depth stands before all files)" ;;
+            *) reason="no such file (the depth comes before all files)" ;;
         esac
     elif [ ! -r "$file" ]; then
         reason="may not be read"
     fi
 }
 
-# Prints the file that was looked at, as far as a text goes.
+# Prints the current file, up to the limit of a text.
 read_file() {
     if [ "$file" = - ]; then head -c "$text_limit"; else head -c "$text_limit" < "$file"; fi
 }
 
-# Prints a name as it stands before the numbers of lines. (In JSON it is data: no terminal shows it.)
+# Prints the name of a file as messages have it. (In JSON it is data, which no terminal displays.)
 name_of() {
     case $json:$1 in
         *:-) printf '<stdin>' ;;
@@ -60,7 +60,7 @@ name_of() {
     esac
 }
 
-# Keeps the files of --with in `front`, as whole lines. A line of `parts` says of each at which line and byte it begins, and its name.
+# Stores the files of --with in `front`, as whole lines. `parts` has a line for each: its first line, its first byte and its name.
 keep_front() {
     : > "$room/front"
     : > "$room/parts"
@@ -82,12 +82,12 @@ keep_front() {
     done
 }
 
-# The line of `parts` for a file of that name, which comes next.
+# Prints the line of `parts` for the next file, by its name.
 note_part() {
     echo "$(($(wc -l < "$room/front") + 1)) $(($(wc -c < "$room/front"))) $1"
 }
 
-# Keeps the texts, the files of --with in front of each. What cannot be read is not there.
+# Stores the texts, each after the files of --with. A text that cannot be read is missing.
 keep_texts() {
     make_room
     mkdir "$room/texts" || exit 3
@@ -104,7 +104,7 @@ keep_texts() {
     done
 }
 
-# Says each half minute that it still compiles, until that takes its file away.
+# Reports every half minute that the program is still compiling, until the file `compiling` is removed.
 tell_compiling() {
     seconds=0
     while sleep 1 && [ -f "$room/compiling" ]; do
@@ -113,9 +113,9 @@ tell_compiling() {
     done
 }
 
-# try_unproved FOLDER WORD ..: compiles the program, runs it with these words once on each text of the folder, and keeps each answer.
-# There may be none: that way of running bounds an answer's length, and its time. (It would also run an interpreter first, which knows no
-# arguments: one step is enough of that.)
+# try_unproved FOLDER WORD...: compiles the program, runs it with these words on each text of the folder, and stores the answers. There
+# may be none, since `rt try` limits the length of an answer and its time. (It also runs an interpreter first, which takes no arguments:
+# one step of it is enough.)
 try_unproved() {
     folder=$1
     shift
@@ -125,26 +125,26 @@ try_unproved() {
     (cd "$here/crates/$of" && exec rt try --steps 1 --seconds 300 --cases "$folder" -- "$@") < /dev/null > "$room/answers" 2> "$room/said" &
     await
     rm "$room/compiling"
-    # (No line of an answer begins so.)
+    # (No line of an answer has this form.)
     (cd "$room" && awk '/^== [0-9]+$/ { close(file); file = "answer." $2; printf "" > file; next } file { print > file }' answers)
 }
 
-# Takes the answer to the text of this number that was made without the proofs, and fails where there is none.
+# Takes the answer of `try_unproved` to the text of this number. Fails if there is none.
 take_tried() {
     status=$(sed -n "s/^case=$number run=ended status=\([0-9]*\) .*/\1/p" "$room/said")
     [ -n "$status" ] && mv "$room/answer.$number" "$room/answer"
 }
 
-# Makes the proved program, where an answer is wanted and there is none without the proofs.
+# Builds the proved program, if there is neither one nor an answer without the proofs.
 make_program() {
     [ -z "$program" ] || return 0
-    say "no answer without the proofs, within the bounds of that: making the proved program, which takes hours"
+    say "no answer without the proofs, within the limits of 'rt try': building the proved program, which takes hours"
     build "$of"
     program=$built
 }
 
-# keep_answer WORD ..: keeps the program's answer to the kept text of this number. An explained one is compiled by itself, since its words
-# name the text.
+# keep_answer WORD...: stores the program's answer to the stored text of this number. With --explain each text is a run of its own, since
+# its arguments name the text.
 keep_answer() {
     if [ -z "$program" ] && [ -n "$explains" ]; then
         rm -rf "$room/one"
@@ -157,7 +157,7 @@ keep_answer() {
     await
 }
 
-# Names the files in the kept answer to a text of several, in place of lines of the whole text.
+# Replaces lines of the whole text, in a stored answer, by names and lines of the files that it is made of.
 name_files() {
     if [ -z "$explains" ]; then
         # (A plain answer names a line only where that has a fault.)
@@ -180,7 +180,7 @@ name_files() {
     return 1
 }
 
-# Draws the proofs in what was told, for `dot`.
+# Draws the proofs of the explanation, for `dot`.
 draw_proofs() {
     if python=$(command -pv python3 || command -v python3); then
         "$python" -I -S "$here/tools/command/proof_dot.py" < "$room/$told"
@@ -190,7 +190,7 @@ draw_proofs() {
     return 1
 }
 
-# Holds the kept answer to what is expected of the text.
+# Compares the stored answer with what the text expects.
 check_answer() {
     awk -f "$here/tools/command/expected.awk" of=parts "$room/parts.here" of=text "$room/texts/$number" of=answer "$room/answer" >&2
     case $? in
@@ -200,7 +200,7 @@ check_answer() {
     esac
 }
 
-# write_kept WORD ..: the program's answer to the kept text of this number, checked where that is asked for
+# write_kept WORD...: writes the program's answer to the stored text of this number, and checks it for --check
 write_kept() {
     keep_answer "$@"
     { cat "$room/parts" && note_part "$(name_of "${title:-$file}")"; } > "$room/parts.here"
@@ -217,7 +217,7 @@ write_kept() {
     [ -z "$checks" ] || [ "$status" -ne 0 ] || check_answer
 }
 
-# write_answer WORD ..: the program's answer, which reads the file and writes to standard output itself
+# write_answer WORD...: runs the program on the file. It writes to standard output itself
 write_answer() {
     if [ "$file" = - ]; then
         { "$program" "$@" <&3 3<&- & await; } 3<&0
@@ -226,7 +226,7 @@ write_answer() {
     fi
 }
 
-# Finds the file in which this text can be read once more, and fails where there is none.
+# Sets `again` to a file from which this text can be read once more. Fails if there is none.
 find_again() {
     again=$file
     [ -z "$room" ] || again=$room/texts/$number
@@ -234,25 +234,25 @@ find_again() {
     [ -f "$again" ]
 }
 
-# answers_alone WORD ..: whether the program has a whole answer where nothing takes that, within two seconds of a processor. Ends with 3
-# where it has none, with 0 or 1 where it has one, and otherwise where that is not known.
+# answers_alone WORD...: runs the program without its output, for at most two seconds of a processor. The status is 0 or 1 if it has a
+# whole answer, 3 if it has none, and another one if that is unknown.
 answers_alone() {
     find_again || return 4
-    # (A shell that has no such limit does not run it. One that ran the program in its own place could not tell of its end in silence.)
+    # (A shell without this limit fails. The subshell does not `exec` the program, so that it can hide the message about its end.)
     # shellcheck disable=SC3045
     (ulimit -t 2 && "$program" "$@" < "$again" > /dev/null; exit "$?") 2> /dev/null
 }
 
-# Says why the program has no whole answer to a text whose answer is kept.
+# Reports why a stored answer is not whole.
 say_why_kept() {
     if [ "$(wc -c < "$room/answer")" -ge "$((answer_limit * 512))" ]; then
-        say "$label: no whole answer: it has more bytes than are kept to be looked at, $((answer_limit * 512))"
+        say "$label: no whole answer: it is longer than the limit for stored answers, $((answer_limit * 512)) bytes"
     else
         say "$label: no whole answer: memory, a table or the room for temporary files ran out"
     fi
 }
 
-# say_why WORD ..: says why the program, which ended with this status, has no whole answer, as far as that can be told
+# say_why WORD...: reports why the program, which ended with this status, has no whole answer, as far as that is known
 say_why() {
     case $status in
         2) say "$label: no answer: its name is no UTF-8 (--file NAME gives it another)" ;;
@@ -276,7 +276,7 @@ say_why() {
     esac
 }
 
-# Says of a text with a fault that it is none, if so; and else, where nothing explains or compares it, what has the reason.
+# Reports a text with a byte 0. For another fault it names --explain, unless that or --check was given.
 say_of_fault() {
     if find_again && [ "$(tr -dc '\000' < "$again" | head -c 1 | wc -c)" -ne 0 ]; then
         say "$label: is no text: it has a byte 0"
@@ -285,7 +285,7 @@ say_of_fault() {
     fi
 }
 
-# Answers the text of the file that was looked at.
+# Answers the text of the current file.
 answer_text() {
     status=3
     [ "$texts" -eq 1 ] || printf '== %s\n' "$(shown "$file")" 2> /dev/null || end_output
@@ -309,7 +309,7 @@ answer_text() {
     esac
 }
 
-# answer_texts WORD ..: answers each `text:FILE`, and ends with the greatest status
+# answer_texts WORD...: answers each `text:FILE`, and exits with the greatest status
 answer_texts() {
     if [ -n "$explains" ]; then
         of_program celtisdarts_explain

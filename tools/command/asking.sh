@@ -1,8 +1,8 @@
-# Answers the lines of standard input, each at once, as if it stood behind the text. Read by ./celtisdarts, behind answers.sh.
+# Answers each line of standard input at once, as if it followed the text. Sourced by ./celtisdarts, after answers.sh.
 #
-# Each line is a run of the program, on the text and the line. That takes as long as the text does, 7 to 35 ms for those of crates of
-# crates.io, which nobody who types waits for; it needs no more than the program, and reasons (--explain) come in the same way. Who asks by
-# thousands uses bindings/, which read the text once.
+# Each line is a run of the program on the text and the line. That takes as long as the text, 7 to 35 ms for the texts of crates of
+# crates.io, so nobody who types has to wait. It needs nothing but the program, and --explain works in the same way. For thousands of
+# queries use bindings/, which read the text once.
 # shellcheck shell=sh disable=SC2154
 
 print_forms() {
@@ -17,7 +17,7 @@ END_OF_FORMS
     printf '%s\n' "// ..                          a comment; \`?\` lists this, and Ctrl-D ends"
 }
 
-# make_query WORD ..: the query that the line with these words writes, as it stands in a text. None where it asks nothing.
+# make_query WORD...: sets `query` to the line with these words as it is written in a text, or to nothing if it is no query.
 make_query() {
     query=$line
     case $1:$2:$asker in
@@ -29,7 +29,7 @@ make_query() {
     esac
 }
 
-# Prints what is answered to the query: the last line, with what is said of it.
+# Prints the answer to the query: the last line, with its explanation.
 print_answer() {
     case $status in
         0) awk '/^(prove|refute) [0-9]+: / { count = 0 } { lines[count++] = $0 } END { for (at = 0; at < count; at++) print lines[at] }' "$room/answer" ;;
@@ -38,7 +38,7 @@ print_answer() {
     esac
 }
 
-# answer_line WORD ..: answers the line with these words
+# answer_line WORD...: answers the line with these words
 answer_line() {
     case $#:$1 in
         0:* | *://*) return ;;
@@ -57,7 +57,7 @@ answer_line() {
     print_answer 2> /dev/null || end_output
 }
 
-# run_program FILE: what the program answers to the file, in `answer`. Lines count in their own files.
+# run_program FILE: runs the program on the file and stores its output in `answer`. Lines are numbered in their own files.
 run_program() {
     if [ -n "$explains" ]; then
         "$program" "$depth" --color "$color" --file "$title" < "$1" > "$room/answer" &
@@ -70,7 +70,7 @@ run_program() {
     mv "$room/named" "$room/answer"
 }
 
-# Keeps the text, as whole lines, behind those of --with. Ends the call where it is none that can be asked.
+# Stores the text, as whole lines, after the files of --with. Exits if the text has a fault or cannot be read.
 keep_asked() {
     for word do
         shift
@@ -102,9 +102,9 @@ keep_asked() {
     esac
 }
 
-# next_line: reads the next `line`, after the prompt. At a terminal rlwrap edits it and keeps a history, where it is installed and can.
+# next_line: reads the next `line`, after the prompt. On a terminal rlwrap edits it and keeps a history, if it is installed.
 next_line() {
-    # (The dot keeps the end of an empty line, which the end of the input has not.)
+    # (The dot marks an empty line. At the end of the input there is no dot.)
     if [ -n "$editor" ] && line=$("$editor" -C celtisdarts -S "$prompt" -o cat && echo .); then
         line=${line%.}
         [ -n "$line" ] && line=$(printf '%s' "$line" | tr -d '\r')
@@ -115,7 +115,7 @@ next_line() {
     read -r line || [ -n "$line" ]
 }
 
-# answer_lines WORD ..: answers the lines of standard input, behind the text that is `named`, where `asker` may be the crate
+# answer_lines WORD...: answers the lines of standard input, after the text `named`, for the crate `asker` if that is set
 answer_lines() {
     if [ -n "$explains" ]; then
         of_program celtisdarts_explain

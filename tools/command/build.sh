@@ -1,12 +1,12 @@
-# Proves and builds the programs. Read by ./celtisdarts, which says in `here` where the repository is, and in `room` where this
-# call's files are.
+# Proves and builds the programs. Sourced by ./celtisdarts, which sets `here` to the folder of the repository and `room` to that of
+# temporary files.
 # shellcheck shell=sh disable=SC2034,SC2154
 
 so_far() {
     echo "minutes so far: $((($(date +%s) - began) / 60))"
 }
 
-# Says once a minute how far the build is, until that takes its first file away.
+# Reports the progress of the build once a minute, until the build removes the file `began`.
 tell_each_minute() {
     seconds=0
     while sleep 1 && [ -f "$room/began" ]; do
@@ -17,7 +17,7 @@ tell_each_minute() {
     done
 }
 
-# How much memory is free, in MB: of the machine's, and of what its group of processes may have.
+# Prints the free memory in MB: of the machine, or of its control group if that has less.
 free_memory() {
     {
         awk '/^MemAvailable:/ { print int($2 / 1024) }' /proc/meminfo
@@ -26,8 +26,8 @@ free_memory() {
     } 2> /dev/null | sort -n | head -n 1
 }
 
-# How many functions a check may work on at once: one for each processor, 8 at most, where the first has 3 GB of memory and each
-# further one 1.5 GB. (Where that is too little after all, and the check is killed, rt tries again with one.)
+# Sets `jobs`, the number of functions that a check proves in parallel: one per processor, at most 8, if there are 3 GB of memory for the
+# first and 1.5 GB for each further one. (If the check is killed for memory, rt tries again with one.)
 count_jobs() {
     jobs=$(nproc 2> /dev/null) || jobs=1
     free=$(free_memory)
@@ -37,7 +37,7 @@ count_jobs() {
     [ "$jobs" -ge 1 ] || jobs=1
 }
 
-# Proves and builds the crate: a library for the crates above it, or a program, which `rt run` keeps and then runs on no text.
+# Proves and builds the crate: a library for the crates above it, or a program, which `rt run` then runs on an empty text.
 prove_crate() {
     count_jobs
     case $crate in
@@ -48,8 +48,8 @@ prove_crate() {
     await
 }
 
-# build PROGRAM ..: proves what these stand on, lowest first, and builds them. This notes of which sources each is. Each also gets
-# the time at which this began: so a source that changes meanwhile is newer.
+# build PROGRAM...: proves the crates below these programs, lowest first, builds the programs and notes their sources. Their time is set
+# to when the build began, so a source that changes meanwhile is newer.
 build() {
     began=$(date +%s)
     : > "$room/began"
@@ -87,14 +87,14 @@ build() {
     say "proved and built: $*; $(so_far)"
 }
 
-# Makes those of the programs that are not there.
+# Builds the programs that are missing.
 make_programs() {
     for name in $programs; do
         of_program "$name"
         if ! is_current; then
             set -- "$@" "$name"
         elif ! has_note && has_toolchain; then
-            # (It is asked again, since a source may have changed before the sum was taken.)
+            # (`is_current` is called again, since a source may have changed before the sum was taken.)
             before=$(sources_sum) && is_current && note_built "$before"
         fi
     done

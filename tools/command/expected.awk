@@ -1,12 +1,12 @@
-# Holds the answers to a text to what is expected of them, and prints each that is another, as `FILE:LINE: ..`:
+# Compares the answers to a text with the expected ones, and prints each that differs, as `FILE:LINE: ...`:
 #
 #   awk -f expected.awk of=parts PARTS of=text TEXT of=answer ANSWER
 #
-# PARTS has a line `LINE BYTE NAME` for each file that the text is made of, in their order: where that begins in the text, and its name.
-# TEXT has no fault. ANSWER is what a program wrote: lines alone, with explanations between them, or as JSON.
+# PARTS has a line `LINE BYTE NAME` for each file of the text, in order: its first line and byte in the text, and its name. TEXT has no
+# fault. ANSWER is the output of a program: lines alone, lines with explanations, or JSON.
 #
-# Behind a line `// expect: WORDS` the next line has to be one that is answered, and the answer has to begin with these words. Without it
-# the answer has to be the best one. Status 0 where nothing was printed, else 4.
+# After a line `// expect: WORDS` the next line must have an answer, which must begin with these words. Any other answer must be the
+# best of its kind. The status is 0 if nothing was printed, else 4.
 
 BEGIN { unused = "`// expect:` stands before no line that has an answer" }
 
@@ -18,7 +18,7 @@ of == "parts" {
 
 of == "text" { read_line(++line) }
 
-# The lines of the answer come in the order of `keys`: crates, sections and supertraits, questions.
+# The lines of the answer are in the order of `keys`: crates, sections and supertraits, queries.
 of == "answer" && !is_ordered { order_keys() }
 
 of == "answer" && at <= keys {
