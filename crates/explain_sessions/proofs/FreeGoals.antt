@@ -33,11 +33,11 @@ free-staying s t on rs h p x =
 -- one that stands among them
 pub among : (P : ℕ → Type 0) (xs : List ℕ) (p : ℕ) → Each P xs → list_any (λ x. x == p) xs ≡ true → P p
 among P [] p h e = absurd cc
-among P (x ∷ xs) p h e = by (x == p) refl e
+among P (x ∷ xs) p h e = by (x == p) refl e (among P xs p h.1)
   where
-    by : (b : Bool) → (x == p) ≡ b → (b || list_any (λ y. y == p) xs) ≡ true → P p
-    by true f g = let same : x ≡ p = grind (arith, nat_tests) in subst P same h.0
-    by false f g = among P xs p h.1 g
+    by : (b : Bool) → (x == p) ≡ b → (b || list_any (λ y. y == p) xs) ≡ true → (list_any (λ y. y == p) xs ≡ true → P p) → P p
+    by true f g later = let same : x ≡ p = grind (arith, nat_tests) in subst P same h.0
+    by false f g later = later g
 
 -- at one place stands one reference
 pub same-reference : (P : TraitRef → Type 0) (rs : List TraitRef) (p : ℕ) (r q : TraitRef) → slice_get rs p ≡ Some r → slice_get rs p ≡ Some q → P r → P q

@@ -1,3 +1,5 @@
+use Rattle.std.proofs.Common.{sym, subst}
+use Rattle.explain_sessions.specs.Claims.{FreeHold}
 use Rattle.sessions.proofs.Declarations.Growth.{reference-kept}
 use Rattle.explain_sessions.proofs.ClaimsLater.{free-on, holds-on}
 use Rattle.explain_sessions.proofs.Staying.{stays-further}
@@ -14,7 +16,7 @@ push_all_unseen-requires-clause-free c =
     let t = c.held_goals.new.session in
     let u = c.question_claims.new.session in
     let behind = stays-further t c.free_goals.new.session u c.free_goals.ensures.stays c.question_claims.ensures.stays in
-    free-on t u behind c.args.pair.now.walk c.held_goals.ensures.held _ c.in_ok-free.ensures.free
+    subst (FreeHold u c.args.pair.now.walk) (sym c.deref.ensures.value) (free-on t u behind c.args.pair.now.walk c.held_goals.ensures.held _ c.in_ok-free.ensures.free)
 
 pub returns-clause-claims : goal.returns-clause-claims
 returns-clause-claims c =

@@ -1,3 +1,5 @@
+use Rattle.std.proofs.Common.{sym, subst}
+use Rattle.explain_sessions.specs.Claims.{FreeHold}
 use Rattle.explain_sessions.proofs.ClaimsLater.{free-on, holds-on, no-impl-on, refused-on}
 use Rattle.explain_sessions.proofs.Staying.{stays-further}
 use Rattle.explain_sessions.proofs.claims.refutation_claims.Goals as goal
@@ -13,7 +15,7 @@ push_all_unseen-requires-clause-free c =
     let fourth = c.held_goals.new.session in
     let last = c.question_claims.new.session in
     let behind = stays-further fourth c.free_goals.new.session last c.free_goals.ensures.stays c.question_claims.ensures.stays in
-    free-on fourth last behind c.args.walk.now c.held_goals.ensures.held _ c.in_ok-free.ensures.free
+    subst (FreeHold last c.args.walk.now) (sym c.deref.ensures.value) (free-on fourth last behind c.args.walk.now c.held_goals.ensures.held _ c.in_ok-free.ensures.free)
 
 pub returns-clause-claims : goal.returns-clause-claims
 returns-clause-claims c =
