@@ -2,6 +2,7 @@
 
     tools/check explained_words                   each example, and 400 texts that are made here
     tools/check explained_words --texts 20000 --seed 2
+    tools/check explained_words --queries 80      with so many queries more in each text, for the headers of its impls
     tools/check explained_words FILE ..           these texts, in place of all those
     tools/check explained_words --show 17         prints that text, with what is said of it
 
@@ -44,7 +45,7 @@ from .common import Limits, Tally, examples, program, run
 from .explained_json import read_lines
 from .explained_proofs import CUT, Declared, Header, Query, Wrongs
 from .terms import Reader, Term, Unread, Values, owned, reference_of, unify
-from .makers import PlainText
+from .makers import PlainText, joined
 
 LIMITS = Limits(seconds=60)
 QUOTED = re.compile(r"`([^`]*)`")
@@ -484,8 +485,36 @@ class Words:
         return "\n".join(claims.wrong) or None
 
 
+def add_query_by_impl(maker: PlainText, crate: str) -> None:
+    """A query for a header that the crate sees, with types or variables for its parameters, some under a clause of the same form; or a
+    refutation with variables."""
+    owner, headers = "", list[str]()
+    for line in maker.lines:
+        owner = line.split()[1] if line.startswith("crate ") else owner
+        if line.startswith("impl") and maker.sees(crate, owner):
+            headers.append(params_before(line.partition(" where ")[0].removeprefix("impl"))[2].strip())
+    if not headers:
+        return maker.add_question(crate)
+    bound, _, subject = maker.random.choice(headers).partition(" for ")
+
+    def filled_by(types: Sequence[str]) -> str:
+        values = {it: maker.random.choice([*types, maker.type(crate, [], 1)]) for it in "TU"}
+        return re.sub(r"\b[TU]\b", lambda it: values[it[0]], f"{subject}: {bound}")
+
+    if maker.chance(40):
+        params = maker.random.choice([[], ["?x"], ["?x", "?y"]])
+        return maker.lines.append(f"refute in {crate} {maker.reference(crate, 2, 1, params)}")
+    clauses = [filled_by(["P", "u8", "bool"]) for _ in range(maker.random.choice([0, 0, 0, 1, 2]))]
+    maker.lines.append(f"prove in {crate} <P> {filled_by(['?x', 'P', '&?x', '(?x, ?y)'])}" + (f" where {', '.join(clauses)}" if clauses else ""))
+
+
 def made(given: argparse.Namespace, number: int) -> bytes:
-    return PlainText(number * 7919 + given.seed).make()
+    maker = PlainText(number * 7919 + given.seed)
+    maker.make()
+    asking = [it for it in maker.uses if maker.seen(it, maker.traits)]
+    for _ in range(given.queries):
+        add_query_by_impl(maker, maker.random.choice(asking))
+    return joined(maker.lines)
 
 
 def texts(given: argparse.Namespace) -> Iterator[tuple[str, bytes, str]]:
@@ -502,6 +531,7 @@ def add_words(reader: argparse.ArgumentParser) -> None:
     reader.add_argument("files", nargs="*", type=Path)
     reader.add_argument("--texts", type=int, default=400)
     reader.add_argument("--seed", type=int, default=1)
+    reader.add_argument("--queries", type=int, default=0)
     reader.add_argument("--show", type=int)
     reader.add_argument("--answering")
     reader.add_argument("--explaining")
