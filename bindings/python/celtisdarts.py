@@ -618,8 +618,8 @@ class Workspace:
 class Session:
     """Asks in one crate of a text. What the crate sees, and what searches have found, is kept for later calls.
 
-    It is kept while the searches have started at most 65,536 frames, one for each goal that was new; 64 bytes of questions count as a frame.
-    Then it is dropped, and the next call lowers what the crate sees again. After an error it is dropped too.
+    It is kept while the searches have started at most 65,536 frames, one for each goal that was new; 64 bytes of a question count as a frame.
+    Then it is dropped, and the next call lowers again what the crate sees. So it is after OutOfMemory and TableFull.
 
     After any call, one that raised an error too, it can be asked again, and answers as before. Threads may share it: one call is made at a
     time. `close`, or the end of a `with` block, lets its memory go at once; a call behind that raises ValueError. A copy of it shares what

@@ -128,8 +128,8 @@ struct Open {
 
 /// Asks in one crate of a text. What the crate sees, and what searches have found, is kept for later calls.
 ///
-/// It is kept while the searches have started at most 65,536 frames, one for each goal that was new; 64 bytes of questions count as a frame.
-/// Then it is dropped, and the next call lowers what the crate sees again. After an error it is dropped too.
+/// It is kept while the searches have started at most 65,536 frames, one for each goal that was new; 64 bytes of a question count as a frame.
+/// Then it is dropped, and the next call lowers again what the crate sees. So it is after [`Error::Memory`] and [`Error::Full`].
 ///
 /// After any call, one that ended with an error too, it can be asked again, and answers as before. It may be moved to another thread. One
 /// call is made at a time.
