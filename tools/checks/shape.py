@@ -36,8 +36,9 @@ BLOCK = re.compile(r"(?:pub )?(?:module |(?:abbrev )?mutual$)")
 PREFIX = re.compile(r"(?:(?:pub|abbrev|unfoldable) )+")
 NO_LEMMA = re.compile(r"(?:pub )?(?:abbrev|unfoldable|record|data|use|infixl|infixr) ")
 GOES_ON = re.compile(r"[)\]}]|unfolding ")
-# Words of crates.txt that go once the crate, and so all above it, has to be proved anew for another reason.
-WAITING = {"solver_graph": ["indexmap"]}
+# Words of crates.txt that no file names. A crate that visits or folds terms lists `type_terms`: the toolchain wants its declarations at hand.
+# `indexmap` goes once solver_graph, and so all above it, has to be proved anew for another reason.
+WAITING = {"solver_graph": ["indexmap"], **dict.fromkeys(("explain_sessions", "explain_texts", "celtisdarts_explain"), ["type_terms"])}
 
 
 def folder_files(folder: str, crate: str = "*") -> list[Path]:
