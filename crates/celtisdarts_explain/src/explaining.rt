@@ -263,8 +263,9 @@ impl<'f> Explaining<'f> {
         self.begin(workspace)?;
         self.known.see(self.alloc, session, workspace)?;
         let check = check_at(workspace, place);
-        let texts = self.known.texts(workspace);
-        explain_checked(self.alloc, texts, session, check, &self.known.seen)
+        let depth = session.limits.depth;
+        let known = self.known.question(workspace, place, depth, false);
+        explain_checked(self.alloc, known.texts, session, check, known.seen)
     }
 
     fn explain_proved(
