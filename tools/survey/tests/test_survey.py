@@ -179,7 +179,7 @@ class Checked(unittest.TestCase):
         self.assertEqual(found.word, "not settled")
         self.assertIn("`impl shapes::Draw for extern \"system\" fn(u8)`", found.why)
         self.assertEqual(len(found.impls), len(world("shapes").crates["shapes"].impls))
-        self.assertEqual(Counter(impl["fate"] for impl in found.impls)["loss"], 2)
+        self.assertEqual(Counter(impl["fate"] for impl in found.impls)["loss"], 1)
         self.assertIn(("From", "shapes::Tree"), {(impl["trait"], impl["type"]) for impl in found.impls})
 
 
