@@ -1,4 +1,4 @@
--- Who may write an impl that is not seen, so that its line has no fault of its trait, keeps the orphan rule of its crate, and overlaps no impl.
+-- Who may write an impl that is not seen, so that its line has no fault of its trait, and keeps the orphan rule of its crate.
 use Rattle.std.specs.Prelude.{◌≡◌, ℕ, Bool, true, false, not, ◌&&◌, ◌==◌}
 use Rattle.std.specs.List.{list_any}
 use Rattle.sessions.specs.TypeTerms.Promised.Erased.{erased_reference}
@@ -25,6 +25,6 @@ MayWrite V c r (Owner d) = (may_have_impls V r.trait ≡ true) × ((d.index == c
 abbrev pub HasFreeInstance : World → Reference → Type 0
 HasFreeInstance V r = (q : Reference) × IsInstanceOf r q × HasNoImpl V q
 
--- Such an impl may be written for an instance of r, and overlaps no impl that c sees.
+-- Such an impl may be written, and some instance of r has no impl that c sees. That they are one instance is not said.
 abbrev pub MayAdd : World → ℕ → Reference → Adder → Type 0
 MayAdd V c r a = MayWrite V c r a × HasFreeInstance V (erased_reference r)
