@@ -153,9 +153,6 @@ class Versions:
     def to_old(self, term: Type) -> Type:
         return rekeyed(term, self.old_key)
 
-    def bound_to_old(self, bound: Bound) -> Bound:
-        return rekeyed_bound(bound, self.old_key)
-
     # ---- what is equal in both
     def common_key(self, world: World, key: str) -> str:
         """One key for both versions: that of the old one, where there is one. What is declared in a body goes by its name."""
