@@ -10,7 +10,7 @@ FAULT = re.compile(rb"line ([0-9]+): fault ([0-9]+)\n")
 FAULTS = range(1, 17)
 STATEMENT = re.compile(r" *(crate|later|supers|prove|refute|struct|trait|impl|fundamental|auto)(?![A-Za-z0-9_])")
 NAME = re.compile(r" *(?:crate|later|supers +in) +([A-Za-z_][A-Za-z0-9_]*)")
-SAID = {
+FORMS = {
     "crate": r"(accepted|orphan impl [1-9][0-9]* (?:nonlocal|uncovered .+)|overlap impl [1-9][0-9]* with [A-Za-z_][A-Za-z0-9_]* [1-9][0-9]*)",
     "later": r"(compatible|breaking impl [1-9][0-9]*)",
     "supers": r"(held|(?:missing|undecided) impl [1-9][0-9]* clause [1-9][0-9]*)",
@@ -25,7 +25,7 @@ def statements(lines: Sequence[str]) -> list[str]:
 
 
 class Answer(NamedTuple):
-    """What is said of the crates, of the sections and supertraits that are checked, and to the questions."""
+    """The verdicts of the crates, the answers of sections and of supertraits, and the answers of queries."""
 
     verdicts: list[str]
     checks: list[str]
@@ -40,24 +40,24 @@ def read_answer(lines: Sequence[str], kinds: Sequence[str], output: bytes) -> An
             found = NAME.match(line)
             if not found:
                 raise Wrong(f"an answer to a text with the line '{line}'")
-            forms[kind != "crate"].append(f"{kind} {found[1]}: {SAID[kind]}")
+            forms[kind != "crate"].append(f"{kind} {found[1]}: {FORMS[kind]}")
         elif kind in ("prove", "refute"):
-            forms[2].append(f"{kind} {len(forms[2]) + 1}: {SAID[kind]}")
-    said = iter(matched(sum(forms, []), output.decode("ascii").split("\n")))
-    return Answer(*([next(said) for _ in part] for part in forms))
+            forms[2].append(f"{kind} {len(forms[2]) + 1}: {FORMS[kind]}")
+    found = iter(matched(sum(forms, []), output.decode("ascii").split("\n")))
+    return Answer(*([next(found) for _ in part] for part in forms))
 
 
 def matched(forms: Sequence[str], written: list[str]) -> list[str]:
-    """What stands in each line of an output behind the first ': '."""
+    """The part of each line of an output after the first ': '."""
     if written.pop() != "" or len(written) != len(forms):
-        raise Wrong(f"{len(written)} lines of an answer, {len(forms)} are wanted")
-    said = []
+        raise Wrong(f"{len(written)} lines of an answer, {len(forms)} are expected")
+    answers = []
     for form, line in zip(forms, written):
         found = re.fullmatch(form, line)
         if not found:
-            raise Wrong(f"a line '{line}' where '{form}' is wanted")
-        said.append(found[1])
-    return said
+            raise Wrong(f"a line '{line}' where '{form}' is expected")
+        answers.append(found[1])
+    return answers
 
 
 def first_word(verdict: str) -> str:

@@ -1,6 +1,6 @@
 """./celtisdarts --ask: lines of standard input, answered one by one after a text.
 
-Each query of an example, asked so, has the answer of the example; and forms, faults, mistakes and a terminal are tried.
+Each query of an example gets the answer of the example. Forms, faults, mistakes and a terminal are tried too.
 """
 from __future__ import annotations
 
@@ -15,7 +15,7 @@ from .options import HELP_OFFERED, Ended, at_terminal, run
 
 TEXT = "crate base\ntrait Show\nimpl Show for u8\ncrate a uses base\nstruct V<T>(T)\nimpl<T> Show for V<T> where T: Show\nprove in a u8: Show"
 
-# The line, and what is answered where the call names no crate, and where it names a.
+# The line, and the answer if the call names no crate, and if it names a.
 FORMS = [
     ("prove in a V<V<u8>>: Show", "prove 2: yes", "prove 2: yes"),
     ("  prove   in   base   u8: Show  ", "prove 2: yes", "prove 2: yes"),
@@ -39,7 +39,7 @@ FORMS = [
 
 EDITOR = """\
 #!/bin/sh
-# Stands for rlwrap: says what it was given, and passes one line, or fails.
+# Replaces rlwrap: prints its arguments, and passes one line, or fails.
 echo "$*" >> {calls}
 [ {status} -ne 0 ] || head -n 1
 exit {status}
@@ -51,50 +51,50 @@ def number_free(line: str) -> str:
 
 
 def try_examples(tally: Tally) -> None:
-    """The queries of examples that have some, behind the whole text."""
-    asked = 0
+    """The queries of examples that have some, after the whole text."""
+    count = 0
     for example in examples():
         queries = [line for line in example.text.decode("latin-1").split("\n") if line.startswith(("prove ", "refute "))]
-        if example.status or not queries or asked > 60:
+        if example.status or not queries or count > 60:
             continue
-        asked += len(queries)
-        wanted = [line for line in example.expected().decode().splitlines() if line.startswith(("prove ", "refute "))]
+        count += len(queries)
+        expected = [line for line in example.expected().decode().splitlines() if line.startswith(("prove ", "refute "))]
         ended = run([example.depths[-1], "--ask", str(example.folder / "input.txt")], "\n".join(queries))
         found = [number_free(line) for line in ended.output.splitlines()]
-        tally.expect(example.name, (ended.status, found, ended.said) == (0, [number_free(line) for line in wanted], ""), f"found: {ended}")
-    tally.expect("so many queries", asked > 60, f"{asked} alone")
+        tally.expect(example.name, (ended.status, found, ended.errors) == (0, [number_free(line) for line in expected], ""), f"found: {ended}")
+    tally.expect("so many queries", count > 60, f"{count} alone")
 
 
 def try_forms(tally: Tally, room: Path) -> None:
     lines = "".join(f"{line}\n" for line, _, _ in FORMS)
-    for words, place in ((["--ask", "text.txt"], 1), (["--ask", "text.txt", "a"], 2), (["128", "text.txt", "a", "--ask"], 2)):
+    for words, column in ((["--ask", "text.txt"], 1), (["--ask", "text.txt", "a"], 2), (["128", "text.txt", "a", "--ask"], 2)):
         ended = run(words, lines, room)
         for row, found in zip(FORMS, ended.output.splitlines()):
-            tally.expect(f"{words}, `{row[0]}`", found == row[place], f"found: {found}")
-        tally.expect(f"{words}, a line each", ended.status == 0 and ended.output.count("\n") == len(FORMS) and ended.said == "", f"found: {ended}")
+            tally.expect(f"{words}, `{row[0]}`", found == row[column], f"found: {found}")
+        tally.expect(f"{words}, a line each", ended.status == 0 and ended.output.count("\n") == len(FORMS) and ended.errors == "", f"found: {ended}")
     ended = run(["--ask", "text.txt", "a"], "\n// a comment\n   \nu8: Show", room)
     tally.expect("no statement, and no end", ended.is_like(0, "prove 2: yes\n"), f"found: {ended}")
     ended = run(["--ask", "text.txt", "a"], "", room)
     tally.expect("no line", ended.is_like(0, ""), f"found: {ended}")
-    told = run(["--ask", "text.txt"], "?\n", room).output
-    tally.expect("the forms", "prove in CRATE " in told and "refute in CRATE " in told and "in the crate" not in told, told)
-    told = run(["--ask", "text.txt", "a"], "?\n", room).output
-    tally.expect("the forms with a crate", "TYPE: TRAIT alone: in the crate a\n" in told, told)
-    ended = run(["--with", "text.txt", "--ask", "behind.txt", "b"], "V<u8>: Show\n", room)
+    printed = run(["--ask", "text.txt"], "?\n", room).output
+    tally.expect("the forms", "prove in CRATE " in printed and "refute in CRATE " in printed and "in the crate" not in printed, printed)
+    printed = run(["--ask", "text.txt", "a"], "?\n", room).output
+    tally.expect("the forms with a crate", "TYPE: TRAIT alone: in the crate a\n" in printed, printed)
+    ended = run(["--with", "text.txt", "--ask", "body.txt", "b"], "V<u8>: Show\n", room)
     tally.expect("a text of two files", ended.is_like(0, "prove 2: yes\n"), f"found: {ended}")
 
 
 def try_reasons(tally: Tally, room: Path) -> None:
     ended = run(["--explain", "--ask", "text.txt", "a"], "V<u8>: Show\nW: Show\n", room)
     rows = ended.output.splitlines()
-    wanted = ["prove 2: yes", "note: `V<u8>: Show` holds", " --> text.txt:8:12", "8 | prove in a V<u8>: Show", "  = proof: V<u8>: Show    impl at line 6", "fault 5",
+    expected = ["prove 2: yes", "note: `V<u8>: Show` holds", " --> text.txt:8:12", "8 | prove in a V<u8>: Show", "  = proof: V<u8>: Show    impl at line 6", "fault 5",
               "error: a name is not known", " --> text.txt:8:12", "8 | prove in a W: Show"]
-    tally.expect("with reasons, in their order", [row for row in rows if row in wanted] == wanted and ended.status == 0, f"found: {ended}")
+    tally.expect("with reasons, in their order", [row for row in rows if row in expected] == expected and ended.status == 0, f"found: {ended}")
     tally.expect("with reasons, of these lines alone", not any(row.startswith(("crate", "prove 1")) for row in rows), f"found: {ended}")
-    ended = run(["--explain", "--with", "text.txt", "--ask", "behind.txt", "b"], "V<u8>: Show\nW: Show\n", room)
+    ended = run(["--explain", "--with", "text.txt", "--ask", "body.txt", "b"], "V<u8>: Show\nW: Show\n", room)
     rows = ended.output.splitlines()
-    wanted = [" --> behind.txt:2:12", "2 | prove in b V<u8>: Show", "  = proof: V<u8>: Show    impl at line 6 of text.txt", " --> behind.txt:2:12", "2 | prove in b W: Show"]
-    tally.expect("with reasons, by the lines of the text itself", [row for row in rows if row in wanted] == wanted and ended.status == 0, f"found: {ended}")
+    expected = [" --> body.txt:2:12", "2 | prove in b V<u8>: Show", "  = proof: V<u8>: Show    impl at line 6 of text.txt", " --> body.txt:2:12", "2 | prove in b W: Show"]
+    tally.expect("with reasons, by the lines of the text itself", [row for row in rows if row in expected] == expected and ended.status == 0, f"found: {ended}")
     ended = run(["--explain", "--color", "always", "--file", "name", "--ask", "text.txt", "a"], "V<u8>: Show\n", room)
     tally.expect("with colours", ended.output.startswith("prove 2: yes\n\x1b[") and "name:8:12\n" in ended.output, f"found: {ended}")
 
@@ -104,7 +104,7 @@ def refused(room: Path, words: str) -> Ended:
 
 
 def try_mistakes(tally: Tally, room: Path) -> None:
-    for words, said in {
+    for words, message in {
             "--ask": "`--ask` needs a text: name a file",
             "--ask -": "`--ask` reads lines from standard input, and takes its text from a file",
             "--with - --ask text.txt": "`--ask` reads lines from standard input, and takes its text from a file",
@@ -113,14 +113,14 @@ def try_mistakes(tally: Tally, room: Path) -> None:
             "--ask --explain --json text.txt": "`--ask` answers line by line: `--json` and `--check` are for whole texts",
     }.items():
         ended = refused(room, words)
-        tally.expect(f"'{words}'", ended.is_like(2, "", f"celtisdarts: {said}{HELP_OFFERED}"), f"found: {ended}")
-    for words, said in {"--ask nosuch": "nosuch: no such file", "--ask .": ".: is a folder", "--with nosuch --ask text.txt": "nosuch: no such file"}.items():
+        tally.expect(f"'{words}'", ended.is_like(2, "", f"celtisdarts: {message}{HELP_OFFERED}"), f"found: {ended}")
+    for words, message in {"--ask nosuch": "nosuch: no such file", "--ask .": ".: is a folder", "--with nosuch --ask text.txt": "nosuch: no such file"}.items():
         ended = refused(room, words)
-        tally.expect(f"'{words}'", ended.is_like(3, "", f"celtisdarts: {said}\n"), f"found: {ended}")
+        tally.expect(f"'{words}'", ended.is_like(3, "", f"celtisdarts: {message}\n"), f"found: {ended}")
     ended = refused(room, "--ask fault.txt a")
     tally.expect("a text with a fault", ended.is_like(1, "line 3: fault 2\n", "celtisdarts: fault.txt: --explain has the reason\n"), f"found: {ended}")
     ended = refused(room, "--with text.txt --ask fault.txt a")
-    tally.expect("a text with a fault behind another", ended.output == "line 1: fault 4\n" and ended.status == 1, f"found: {ended}")
+    tally.expect("a text with a fault after another", ended.output == "line 1: fault 4\n" and ended.status == 1, f"found: {ended}")
     ended = refused(room, "--with fault.txt --ask text.txt a")
     tally.expect("a text with a fault in front", ended.output == "fault.txt: line 3: fault 2\n" and ended.status == 1, f"found: {ended}")
     ended = refused(room, "--ask text.txt b")
@@ -157,7 +157,7 @@ def try_history(tally: Tally, room: Path) -> None:
 def check(tally: Tally, _: argparse.Namespace) -> None:
     with tempfile.TemporaryDirectory() as folder:
         room = Path(folder)
-        for name, text in (("text.txt", TEXT), ("behind.txt", "crate b uses a\n"), ("fault.txt", "crate a\n\nstruct\n")):
+        for name, text in (("text.txt", TEXT), ("body.txt", "crate b uses a\n"), ("fault.txt", "crate a\n\nstruct\n")):
             (room / name).write_text(text)
         try_examples(tally)
         for part in (try_forms, try_reasons, try_mistakes, try_terminal, try_history):

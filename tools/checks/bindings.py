@@ -1,8 +1,8 @@
 """The library as C, Rust and Python call it: bindings/, over the archive of tools/library.
 
-The tests are those of bindings/rust, by `cargo test --offline`, of bindings/python and of bindings/c. Where there is no cargo, those of Rust
-are left out. They ask the queries of examples/, and of the texts `*.txt` in the folder that CELTISDARTS_TEXTS names, if it names one. The
-programs that docs/LIBRARY.md shows are those that stand in bindings/, and print what it says. The function in Rattle is that of
+The tests are those of bindings/rust, by `cargo test --offline`, of bindings/python and of bindings/c. If there is no cargo, those of Rust
+are left out. They run the queries of examples/, and of the texts `*.txt` in the folder that CELTISDARTS_TEXTS names, if it names one. The
+programs that docs/LIBRARY.md shows are those of bindings/, and print what it says. The function in Rattle is that of
 example_checker, which is proved.
 
 Each binding is installed too, without a network, and the program of the page runs over what was installed: the packages of Rust, which
@@ -25,7 +25,7 @@ from .common import TOP, Ended, Missing, Tally, Word, difference, is_released, l
 PAGE = TOP / "docs/LIBRARY.md"
 HEADER = TOP / "bindings/c/celtisdarts.h"
 
-# A project that names the two packages where they were unpacked: no registry is asked.
+# A project that names the two packages where they were unpacked, so that no registry is used.
 PROJECT = """\
 [package]
 name = "asks"
@@ -43,14 +43,14 @@ PYTHON = re.compile(rb"^(test_\w+ \(.+?\)).*? \.\.\. (?:.*\n)??.*?(ok|FAIL|ERROR
 
 
 def tests(tally: Tally, what: str, ended: Ended, found: Sequence[tuple[bytes, bytes]]) -> None:
-    """Counts the tests that a run names, and the run itself where it ends otherwise than they do."""
+    """Counts the tests that a run names, and the run itself if its end is not that of its tests."""
     for name, result in found:
         tally.expect(f"{what}: {name.decode()}", result == b"ok", "see what the run says")
     is_good = all(result == b"ok" for _, result in found)
     if not found or (ended.status == 0) != is_good:
-        tally.tell(what, f"it ended with status {ended.status} behind {len(found)} tests")
+        tally.report(what, f"it ended with status {ended.status} after {len(found)} tests")
     if ended.status:
-        print("\n".join((ended.output + ended.said).decode("utf-8", "replace").split("\n")[-100:]))
+        print("\n".join((ended.output + ended.errors).decode("utf-8", "replace").split("\n")[-100:]))
 
 
 def blocks(kind: str) -> list[bytes]:
@@ -62,7 +62,7 @@ def try_run(tally: Tally, name: str, words: Sequence[Word], env: Mapping[str, st
     """The program prints what is shown on the page. (It is run elsewhere, so that it finds nothing of the repository.)"""
     ended = run(words, env=env, cwd=Path("/"))
     printed = [it for it in blocks("text") if it.split(b"\n")[0] == ended.output.split(b"\n")[0]]
-    tally.tell(name, f"status {ended.status}: {ended.said.decode()}" if ended.status else difference(ended.output, b"".join(printed)))
+    tally.report(name, f"status {ended.status}: {ended.errors.decode()}" if ended.status else difference(ended.output, b"".join(printed)))
 
 
 def try_shown(tally: Tally, kind: str, source: Path, words: Sequence[Word], env: Mapping[str, str]) -> None:
@@ -74,7 +74,7 @@ def try_shown(tally: Tally, kind: str, source: Path, words: Sequence[Word], env:
 
 def succeeds(tally: Tally, name: str, words: Sequence[Word], env: Mapping[str, str]) -> bool:
     ended = run(words, env=env)
-    return tally.expect(name, ended.status == 0, f"status {ended.status}: {(ended.output + ended.said).decode('utf-8', 'replace')[-4000:]}")
+    return tally.expect(name, ended.status == 0, f"status {ended.status}: {(ended.output + ended.errors).decode('utf-8', 'replace')[-4000:]}")
 
 
 def try_rattle(tally: Tally) -> None:
@@ -117,10 +117,10 @@ def try_python(tally: Tally, room: Path, env: Mapping[str, str]) -> None:
     module = TOP / "bindings/python/celtisdarts.py"
     made = run([sys.executable, "-B", module, "--make", library(), room / "libceltisdarts.so"])
     if made.status:
-        raise Missing(f"no shared object could be made: {made.said.decode()}")
+        raise Missing(f"no shared object could be made: {made.errors.decode()}")
     env = {**env, "CELTISDARTS_LIB": str(room / "libceltisdarts.so")}
     ended = run([sys.executable, "-B", "-m", "unittest", "-v", "tests"], cwd=module.parent, env=env)
-    tests(tally, "bindings/python", ended, PYTHON.findall(ended.said))
+    tests(tally, "bindings/python", ended, PYTHON.findall(ended.errors))
     example = module.parent / "example.py"
     try_shown(tally, "python", example, [sys.executable, "-B", example], env)
     try_wheel(tally, room, {name: it for name, it in env.items() if name not in ("CELTISDARTS_LIB", "PYTHONPATH")})
@@ -145,7 +145,7 @@ def try_wheel(tally: Tally, room: Path, env: Mapping[str, str]) -> None:
 
 def compile_c(tally: Tally, source: Path, out: Path, *words: str) -> bool:
     made = run(["cc", "-std=c11", "-Wall", "-Wextra", "-Werror", "-O1", "-g", *words, "-o", out, source, library()])
-    return tally.expect(f"bindings/c: {source.name} compiles", made.status == 0, made.said.decode())
+    return tally.expect(f"bindings/c: {source.name} compiles", made.status == 0, made.errors.decode())
 
 
 def try_c(tally: Tally, room: Path, env: Mapping[str, str]) -> None:
@@ -154,8 +154,8 @@ def try_c(tally: Tally, room: Path, env: Mapping[str, str]) -> None:
     for name, words in (("driver", []), ("refused", ["-Wl,--wrap=malloc,--wrap=realloc"])):
         if compile_c(tally, folder / f"{name}.c", room / name, "-fsanitize=address,undefined", "-fno-sanitize-recover=all", *words):
             ended = run([room / name], env=env)
-            said = (ended.output + ended.said).decode("utf-8", "replace")
-            tally.expect(f"bindings/c: {name}.c", ended.status == 0, f"status {ended.status}: {said[-4000:]}")
+            printed = (ended.output + ended.errors).decode("utf-8", "replace")
+            tally.expect(f"bindings/c: {name}.c", ended.status == 0, f"status {ended.status}: {printed[-4000:]}")
     if compile_c(tally, folder / "example.c", room / "example"):
         try_shown(tally, "c", folder / "example.c", [room / "example"], env)
     try_prefix(tally, room, env)
@@ -166,17 +166,17 @@ def try_prefix(tally: Tally, room: Path, env: Mapping[str, str]) -> None:
     prefix = room / "prefix"
     for words, status in ((["--install"], 2), (["--install", "prefix"], 1), (["--wheel"], 2), (["--other"], 2), (["--release", "more"], 2)):
         ended = run([TOP / "tools/library", *words], cwd=room)
-        is_refused = (ended.status, ended.output) == (status, b"") and ended.said.count(b"\n") == 1
+        is_refused = (ended.status, ended.output) == (status, b"") and ended.errors.count(b"\n") == 1
         tally.expect(f"tools/library {' '.join(words)}", is_refused and not prefix.exists(), f"{ended}")
     if not succeeds(tally, "bindings/c: tools/library --install", [TOP / "tools/library", "--install", prefix], env):
         return
     lib, here = prefix / "lib", {**env, "PKG_CONFIG_PATH": str(prefix / "lib/pkgconfig"), "LD_LIBRARY_PATH": str(prefix / "lib")}
     flags = [f"-I{prefix}/include", f"-L{lib}", "-lceltisdarts"]
     if shutil.which("pkg-config"):
-        told = run(["pkg-config", "--cflags", "--libs", "celtisdarts"], env=here)
-        tally.expect("bindings/c: pkg-config", told.output.decode().split() == flags, f"{told}")
-        told = run(["pkg-config", "--modversion", "celtisdarts"], env=here)
-        tally.expect("bindings/c: pkg-config, the version", told.output == b"0.1.0\n", f"{told}")
+        ended = run(["pkg-config", "--cflags", "--libs", "celtisdarts"], env=here)
+        tally.expect("bindings/c: pkg-config", ended.output.decode().split() == flags, f"{ended}")
+        ended = run(["pkg-config", "--modversion", "celtisdarts"], env=here)
+        tally.expect("bindings/c: pkg-config, the version", ended.output == b"0.1.0\n", f"{ended}")
     source = TOP / "bindings/c/example.c"
     cc = ["cc", "-std=c11", "-Wall", "-Wextra", "-Wpedantic", "-Werror", source]
     if succeeds(tally, "bindings/c: over the shared object", [*cc, *flags, "-o", room / "shared"], here):
@@ -185,14 +185,14 @@ def try_prefix(tally: Tally, room: Path, env: Mapping[str, str]) -> None:
     if succeeds(tally, "bindings/c: over the archive", [*cc, flags[0], lib / "libceltisdarts.a", "-o", room / "static"], env):
         try_run(tally, "bindings/c: a program over the archive", [room / "static"], env)
     for words, file in ((["nm", "--extern-only", "--defined-only"], "libceltisdarts.a"), (["nm", "-D", "--defined-only"], "libceltisdarts.so")):
-        told = run([*words, lib / file])
-        names = sorted(line.split()[-1].partition(b"@")[0] for line in told.output.splitlines() if b" T " in line or b" R " in line)
+        ended = run([*words, lib / file])
+        names = sorted(line.split()[-1].partition(b"@")[0] for line in ended.output.splitlines() if b" T " in line or b" R " in line)
         declared = sorted(set(re.findall(rb"(celtisdarts_(?:abi_version(?=;)|\w+(?=\()))", HEADER.read_bytes().partition(b"/* ---- null")[0])))
         tally.expect(f"bindings/c: what {file} offers", names == declared, f"{names}, and {declared} is declared")
     succeeds(tally, "bindings/c: in C++", ["cc", "-x", "c++", "-Wall", "-Wextra", "-Werror", "-fsyntax-only", HEADER], env)
 
 
-def unknown_files() -> bytes:
+def untracked_files() -> bytes:
     """The files that git neither has nor ignores; none where this is no clone."""
     return run(["git", "-C", TOP, "ls-files", "--others", "--exclude-standard"]).output
 
@@ -200,8 +200,8 @@ def unknown_files() -> bytes:
 def check(tally: Tally, _: argparse.Namespace) -> None:
     try_rattle(tally)
     env = {**os.environ, "CELTISDARTS_LIB_DIR": str(library().parent)}
-    before = unknown_files()
+    before = untracked_files()
     with tempfile.TemporaryDirectory() as folder:
         for part in (try_rust, try_python, try_c):
             part(tally, Path(folder), env)
-    tally.tell("files that are left", difference(unknown_files(), before))
+    tally.report("files that remain", difference(untracked_files(), before))

@@ -20,7 +20,7 @@ class Wrong(Exception):
 
 
 class Missing(Exception):
-    """A check lacks something that it needs."""
+    """Something that a check needs is not there."""
 
 
 def fault_in(case: Callable[[], object]) -> Optional[str]:
@@ -40,7 +40,7 @@ class Tally:
     def __init__(self, is_verbose: bool = False) -> None:
         self.passed, self.failed, self.is_verbose = 0, 0, is_verbose
 
-    def tell(self, name: str, fault: Optional[str]) -> bool:
+    def report(self, name: str, fault: Optional[str]) -> bool:
         """Counts a case, which passes if it has no fault. Returns whether it passes."""
         if fault:
             self.failed += 1
@@ -52,17 +52,17 @@ class Tally:
         return not fault
 
     def expect(self, name: str, is_so: bool, fault: str) -> bool:
-        return self.tell(name, None if is_so else fault)
+        return self.report(name, None if is_so else fault)
 
     def hold(self, name: str, case: Callable[[], object]) -> bool:
         """Counts a case that passes if the call finds no fault."""
-        return self.tell(name, fault_in(case))
+        return self.report(name, fault_in(case))
 
     def go_through(self, part: Callable[[], object]) -> None:
         """Runs a part of a check, which counts its own cases. If it cannot continue, that is one more case, which fails."""
         fault = fault_in(part)
         if fault:
-            self.tell("the rest of a part", fault)
+            self.report("the rest of a part", fault)
 
     def line(self) -> str:
         return f"{self.passed} passed, {self.failed} failed"
@@ -86,11 +86,11 @@ class Limits(NamedTuple):
 
 
 class Ended(NamedTuple):
-    """The end of a run: its status, or a signal as a negative number, its output, and its seconds of the processor."""
+    """The end of a run: its status, or a signal as a negative number, what it wrote to both streams, and its seconds of the processor."""
 
     status: int
     output: bytes
-    said: bytes
+    errors: bytes
     seconds: float
 
     def last_line(self) -> str:
@@ -105,24 +105,24 @@ def unnamed_file() -> BinaryIO:
 def run(words: Sequence[Word], text: bytes = b"", limits: Limits = Limits(),
         cwd: Optional[Path] = None, env: Optional[Mapping[str, str]] = None) -> Ended:
     """Runs a command on the text."""
-    with unnamed_file() as source, unnamed_file() as output, unnamed_file() as said:
+    with unnamed_file() as source, unnamed_file() as output, unnamed_file() as errors:
         source.write(text)
         source.seek(0)
-        child = subprocess.Popen(words, stdin=source, stdout=output, stderr=said, cwd=cwd, env=env)
+        child = subprocess.Popen(words, stdin=source, stdout=output, stderr=errors, cwd=cwd, env=env)
         limits.put_on(child.pid)
         _, status, used = os.wait4(child.pid, 0)
         child.returncode = os.waitstatus_to_exitcode(status)
         output.seek(0)
-        said.seek(0)
-        return Ended(child.returncode, output.read(), said.read(), used.ru_utime + used.ru_stime)
+        errors.seek(0)
+        return Ended(child.returncode, output.read(), errors.read(), used.ru_utime + used.ru_stime)
 
 
-def difference(found: bytes, wanted: bytes) -> Optional[str]:
+def difference(found: bytes, expected: bytes) -> Optional[str]:
     """The lines that differ from the expected output. None if it is equal."""
-    if found == wanted:
+    if found == expected:
         return None
-    before, after = (it.decode("latin-1").splitlines() for it in (wanted, found))
-    return "\n".join(["the output is not as wanted:", *difflib.unified_diff(before, after, "wanted", "found", lineterm="", n=0)])
+    before, after = (it.decode("latin-1").splitlines() for it in (expected, found))
+    return "\n".join(["the output is not as expected:", *difflib.unified_diff(before, after, "expected", "found", lineterm="", n=0)])
 
 
 # ---- the crates

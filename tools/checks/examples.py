@@ -1,6 +1,6 @@
 """Each example on the built programs: examples/NAME/input.txt has to give expected.txt.
 
-The depth limits stand in the file `depth` (8 without it), the exit status in `status` (0 without it). Where an example has a file
+The depth limits are in the file `depth` (8 without it), the exit status in `status` (0 without it). If an example has a file
 `explained`, the program that explains has to give that, with the same exit status, and the same as JSON. Where it has a file
 `colored`, that is what it gives with colours.
 """
@@ -15,19 +15,19 @@ from .explained_json import read_lines, text_of
 
 def try_file(tally: Tally, example: Example, name: str, words: list[str], *options: str) -> None:
     """At each depth the program has to give the file of the example, with its exit status."""
-    wanted = example.file(name)
-    if wanted is None:
+    expected = example.file(name)
+    if expected is None:
         return
     for depth in example.depths:
         ended = run([*words, depth, *options], example.text)
-        status = f"status {ended.status}, {example.status} is wanted" if ended.status != example.status else ""
-        tally.tell(f"example {example.name}, {name} at depth {depth}", status or difference(ended.output, wanted))
+        status = f"status {ended.status}, {example.status} is expected" if ended.status != example.status else ""
+        tally.report(f"example {example.name}, {name} at depth {depth}", status or difference(ended.output, expected))
 
 
 def hold_json(example: Example, explaining: str) -> None:
-    """What is told of the example as JSON has rustc's keys, and is what is told as text."""
-    told = run([explaining, example.depths[0], "--json"], example.text).output
-    fault = difference(text_of(read_lines(told)).encode("ascii"), example.file("explained") or b"")
+    """The explanation of the example as JSON has rustc's keys, and is that as text."""
+    printed = run([explaining, example.depths[0], "--json"], example.text).output
+    fault = difference(text_of(read_lines(printed)).encode("ascii"), example.file("explained") or b"")
     if fault:
         raise Wrong(fault)
 

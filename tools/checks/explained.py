@@ -6,11 +6,12 @@
 
 Of each text: the exit status is that of the other program; as JSON each line is an object with the keys of `rustc --error-format=json`
 and `answer`, and these answers are the other program's lines, in their order; as text it prints the same answers, with what is `rendered`
-behind each; no row of an excerpt or of a proof has more than 100 columns. It takes at most three times as much of the processor as the
-other one, half a second, and a second for each 10 MB that it prints, within 10 seconds and 512 MB. Of an example it prints with colours
-the same text, with nothing but colours in it. A text of 100,000 bytes and more is not asked for as JSON: the lines of the answer have to stand in what is printed, in their order.
+after each; no row of an excerpt or of a proof has more than 100 columns. It takes at most three times as much of the processor as the
+other one, half a second, and a second for each 10 MB that it prints, within 10 seconds and 512 MB. For an example it prints the same text
+with colours, with nothing but colours added. A text of 100,000 bytes and more is not tried as JSON: the lines of the answer have to be in
+the output, in their order.
 
-The line before the last tells which text took longest, beside what its answer took.
+The line before the last has the text that took longest, and the time of its answer.
 """
 from __future__ import annotations
 
@@ -35,7 +36,7 @@ PROOF = re.compile(rb" *= proof: ")
 
 
 class Text(NamedTuple):
-    """A text by its name, and what it is asked at."""
+    """A text by its name, and the depth of its run."""
 
     name: str
     text: bytes
@@ -43,10 +44,10 @@ class Text(NamedTuple):
     is_colored: bool = False
 
 
-def rows_of(said: bytes) -> Iterator[bytes]:
+def rows_of(printed: bytes) -> Iterator[bytes]:
     """The rows of excerpts and of proofs. The first of a proof says so, and the others are indented as far."""
     indent = b""
-    for row in said.split(b"\n"):
+    for row in printed.split(b"\n"):
         first = PROOF.match(row)
         if first:
             indent = b" " * first.end()
@@ -71,41 +72,41 @@ class Checks:
         return ended
 
     def check(self, it: Text) -> None:
-        answer, said = self.run(self.answering, it), self.run(self.explaining, it)
-        self.slowest = max(self.slowest, (said.seconds, answer.seconds, it.name))
-        if said.seconds > 3 * answer.seconds + 0.5 + len(said.output) / PRINTED_IN_A_SECOND:
-            raise Wrong(f"{said.seconds:.2f} s, where the answer takes {answer.seconds:.2f}")
-        if said.status != answer.status:
-            raise Wrong(f"status {said.status}, where the answer has {answer.status}")
-        for row in rows_of(said.output):
+        answer, printed = self.run(self.answering, it), self.run(self.explaining, it)
+        self.slowest = max(self.slowest, (printed.seconds, answer.seconds, it.name))
+        if printed.seconds > 3 * answer.seconds + 0.5 + len(printed.output) / PRINTED_IN_A_SECOND:
+            raise Wrong(f"{printed.seconds:.2f} s, where the answer takes {answer.seconds:.2f}")
+        if printed.status != answer.status:
+            raise Wrong(f"status {printed.status}, where the answer has {answer.status}")
+        for row in rows_of(printed.output):
             if len(row) > COLUMNS:
                 raise Wrong(f"a row of {len(row)} columns: {row[:60]!r}")
         if len(it.text) < LARGE:
-            self.check_json(it, answer, said.output)
+            self.check_json(it, answer, printed.output)
         else:
-            check_lines(answer.output, said.output)
-        if it.is_colored and COLOR.sub(b"", self.run(self.explaining, it, "--color", "always").output) != said.output:
+            check_lines(answer.output, printed.output)
+        if it.is_colored and COLOR.sub(b"", self.run(self.explaining, it, "--color", "always").output) != printed.output:
             raise Wrong("with colours another text")
 
-    def check_json(self, it: Text, answer: Ended, said: bytes) -> None:
+    def check_json(self, it: Text, answer: Ended, printed: bytes) -> None:
         ended = self.run(self.explaining, it, "--json")
         if ended.status != answer.status:
             raise Wrong(f"status {ended.status} as JSON, where the answer has {answer.status}")
-        told = read_lines(ended.output)
-        if "".join(f"{one.answer}\n" for one in told if one.answer).encode("ascii") != answer.output:
+        objects = read_lines(ended.output)
+        if "".join(f"{one.answer}\n" for one in objects if one.answer).encode("ascii") != answer.output:
             raise Wrong("other lines than those of the answer")
-        if text_of(told).encode("ascii") != said:
-            raise Wrong("as JSON something else is said than as text")
+        if text_of(objects).encode("ascii") != printed:
+            raise Wrong("JSON and text differ")
 
 
-def check_lines(lines: bytes, said: bytes) -> None:
-    rows = iter(said.split(b"\n"))
+def check_lines(lines: bytes, printed: bytes) -> None:
+    rows = iter(printed.split(b"\n"))
     if not all(line in rows for line in lines.splitlines()):
         raise Wrong("lines of the answer are missing")
 
 
 def large_texts() -> Iterator[Lines]:
-    """Texts of some 1 MiB each: questions that hold, that fail deep down, that are left open, crates that use one another, and a fault in the last line."""
+    """Texts of some 1 MiB each: queries that hold, that fail deep down, that stay open, crates that use one another, and a fault in the last line."""
     head = ["crate base", "trait Show", "trait Num", "struct V<T>"]
     head += ["impl<T> Show for V<T> where T: Show", "impl Show for u8", "impl<T> Num for &T where T: Num"]
     yield head + ["prove in base V<V<V<V<V<V<u8>>>>>>: Show"] * 24000
@@ -117,7 +118,7 @@ def large_texts() -> Iterator[Lines]:
 
 
 def made(seed: str, number: int) -> tuple[str, bytes, int]:
-    """A hostile text, by its kind, and what it is asked at."""
+    """A hostile text, by its kind, and the depth of its run."""
     rng = random.Random(f"{seed}:explained:{number}")
     kind, text = by_lot(rng, KINDS)
     return kind, text, rng.choice([8, 8, 8, 1, 2, 20, 64])
@@ -137,7 +138,7 @@ def texts(given: argparse.Namespace) -> Iterator[Text]:
 def show(given: argparse.Namespace) -> None:
     kind, text, depth = made(given.seed, given.show)
     sys.stdout.buffer.write(text)
-    print(f"tools/check explained: text {given.show}, of the kind {kind}, asked at depth {depth}", file=sys.stderr)
+    print(f"tools/check explained: text {given.show}, of the kind {kind}, at depth {depth}", file=sys.stderr)
     sys.exit(0)
 
 

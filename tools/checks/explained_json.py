@@ -1,9 +1,9 @@
-"""What the program that explains printed as JSON, beside what it prints as text.
+"""What the program that explains printed as JSON, compared with what it prints as text.
 
     tools/check explained_json FILE < OUTPUT      OUTPUT is that of --json, FILE what an example has as `explained`
 
 Each line is an object: one with `$message_type` and `answer` alone, or one with the keys of `rustc --error-format=json` and `answer`,
-each of its kind, in spans and children too. The answers with what is `rendered` behind each are the file: an empty answer is no line, and
+each of its kind, in spans and children too. The answers with what is `rendered` after each are the file: an empty answer is no line, and
 what has one is a further faulty line, or says that not all is explained. (The checks `examples` and `explained` read each output so.)
 """
 from __future__ import annotations
@@ -30,7 +30,7 @@ MESSAGE: Mapping[str, Kind] = {"message": str, "code": (dict, NONE), "level": st
 ROW: Mapping[str, Kind] = {"goal": str, "rule": str, "span": (dict, NONE), "premises": list}
 LEVELS = ("error", "warning", "note", "help")
 
-# What stands behind each kind of answer, in `parts`.
+# The further members of `parts`, for each kind of answer.
 PARTS: Mapping[str, tuple[Mapping[str, Kind], ...]] = {
     "fault": ({"fault": int},), "accepted": ({},), "overlap": ({"impl": int, "with": str, "with_impl": int},),
     "orphan": ({"impl": int, "nonlocal": bool}, {"impl": int, "uncovered": str}, {"impl": int, "uncovered": str, "before": str}),
@@ -118,20 +118,20 @@ def read_message(message: Any, extra: Mapping[str, Kind]) -> None:
         read_message(child, {})
 
 
-class Told(NamedTuple):
-    """A line of the answer, and what is said of it."""
+class Explained(NamedTuple):
+    """A line of the answer, and its explanation."""
 
     answer: str
     rendered: str
     message: Any
 
 
-def read_line(line: str) -> Told:
+def read_line(line: str) -> Explained:
     value = json.loads(line)
     if isinstance(value, dict) and value.get("$message_type") == "answer":
         has_keys(value, ANSWER, "an answer")
         read_parts(value["answer"], value["parts"])
-        return Told(value["answer"], "", None)
+        return Explained(value["answer"], "", None)
     read_message(value, {**ANSWER, "proof": list})
     read_proof(value)
     if value["answer"]:
@@ -139,15 +139,15 @@ def read_line(line: str) -> Told:
     elif value["parts"]:
         read_parts(further_fault(value["parts"]), value["parts"])
     need(value["$message_type"] == "diagnostic" and value["rendered"] is not None, "another type of message", value)
-    return Told(value["answer"], value["rendered"], value)
+    return Explained(value["answer"], value["rendered"], value)
 
 
-def read_lines(output: bytes) -> list[Told]:
+def read_lines(output: bytes) -> list[Explained]:
     return list(map(read_line, output.decode("ascii").splitlines()))
 
 
-def text_of(told: Sequence[Told]) -> str:
-    return "".join(f"{it.answer}\n{it.rendered}" if it.answer else it.rendered for it in told)
+def text_of(lines: Sequence[Explained]) -> str:
+    return "".join(f"{it.answer}\n{it.rendered}" if it.answer else it.rendered for it in lines)
 
 
 def add_words(reader: argparse.ArgumentParser) -> None:
@@ -156,7 +156,7 @@ def add_words(reader: argparse.ArgumentParser) -> None:
 
 def compare(file: Path) -> None:
     if text_of(read_lines(sys.stdin.buffer.read())) != file.read_text(encoding="ascii"):
-        raise Wrong("what is told as JSON is not what is told as text")
+        raise Wrong("JSON and text differ")
 
 
 def check(tally: Tally, given: argparse.Namespace) -> None:

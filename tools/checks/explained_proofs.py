@@ -1,8 +1,8 @@
-"""An own checker of the proofs that the program that explains prints, by docs/FORMAT.md and the lines of the text.
+"""A separate checker of the proofs that the program that explains prints, by docs/FORMAT.md and the lines of the text.
 
-Each row is held against its rule: the header of the impl is the goal, with its where-clauses below it, one for one; a where-clause is one of
-the query, or has the goal as a supertrait; a built-in rule has the premises of the page. What is marked `not checked` has to be a rule of
-calls, of a `dyn` or of `Unsize`. (The check `explained_words` calls this.)
+Each row is compared with its rule. For an impl, its header is the goal, with its where-clauses below it, one for one. A where-clause is one
+of the query, or has the goal as a supertrait. A built-in rule has the premises of the page. A row that is marked `not checked` has to be a
+rule of calls, of a `dyn` or of `Unsize`. (The check `explained_words` calls this.)
 """
 from __future__ import annotations
 
@@ -27,7 +27,7 @@ def tuple_of(*items: Term) -> Term:
 
 
 class Header(NamedTuple):
-    """An impl by its header and its where-clauses, with unknowns of its own for its parameters."""
+    """An impl by its header and its where-clauses, with variables of its own for its parameters."""
 
     header: Term
     clauses: Sequence[Term]
@@ -35,15 +35,15 @@ class Header(NamedTuple):
 
 def core_impls() -> list[Header]:
     """The impls of `core` in their order."""
-    held, length = Term("own T"), Term("own N")
-    pointers = [Term("&", (held,)), Term("*const", (held,)), Term("*mut", (held,))]
-    array = Term("array", (held, length))
+    item, length = Term("own T"), Term("own N")
+    pointers = [Term("&", (item,)), Term("*const", (item,)), Term("*mut", (item,))]
+    array = Term("array", (item, length))
 
     def of(name: str) -> list[Header]:
         bare = [Header(Term(name, (it,)), ()) for it in [*map(Term, SCALARS), *pointers]]
-        return [*bare, Header(Term(name, (array,)), (Term(name, (held,)),))]
+        return [*bare, Header(Term(name, (array,)), (Term(name, (item,)),))]
 
-    return [*of("Clone"), Header(Term("Clone", (Term("Box", (held,)),)), (Term("Clone", (held,)),)), *of("Copy")]
+    return [*of("Clone"), Header(Term("Clone", (Term("Box", (item,)),)), (Term("Clone", (item,)),)), *of("Copy")]
 
 
 class Trait(NamedTuple):
@@ -149,7 +149,7 @@ class Query(NamedTuple):
 
 
 def fixed(term: Term) -> Term:
-    """With the unknowns that have names as they stand: no step gives them values."""
+    """The term with its named variables as constants: no step gives them values."""
     head = re.sub(r"^\?(?!_)", "fixed ", term.head)
     return Term(head, tuple(map(fixed, term.args)))
 
@@ -175,11 +175,11 @@ class Wrongs:
         if not is_so:
             self.wrong.append(f"{row['goal']} -- {row['rule']} -- {why}")
 
-    def are(self, wanted: Sequence[Term], row: Any, values: Values, is_cut: bool) -> None:
+    def are(self, expected: Sequence[Term], row: Any, values: Values, is_cut: bool) -> None:
         """The premises of a row are these."""
         found = row["premises"]
-        self.hold(len(found) == len(wanted) or is_cut, row, f"{len(found)} premises, and not {len(wanted)}")
-        for it, other in zip(wanted, found):
+        self.hold(len(found) == len(expected) or is_cut, row, f"{len(found)} premises, and not {len(expected)}")
+        for it, other in zip(expected, found):
             goal = self.read(other["goal"])
             self.hold(goal is None or unify(it, goal, values), row, f"the premise {other['goal']}")
 
@@ -263,9 +263,9 @@ class Wrongs:
         elif rule in ("where-clause", "supertrait of a where-clause"):
             self.clause(goal, row)
         elif rule == "built-in rule":
-            wanted = self.built_in(goal)
-            self.hold(wanted is not None, row, "there is no such rule")
-            self.are(wanted or [], row, {}, is_cut)
+            expected = self.built_in(goal)
+            self.hold(expected is not None, row, "there is no such rule")
+            self.are(expected or [], row, {}, is_cut)
         elif rule == "shown above":
             self.hold(row["goal"] in self.shown, row, "it is not shown above")
         elif rule.startswith("assumed: "):
@@ -294,8 +294,8 @@ class Wrongs:
         self.hold(unify(self.query.goal, goal, found), row, "the query is another one")
         for name, value in values.items():
             try:
-                wanted = fixed(Reader(HOLE.sub(lambda _: f"?_{next(self.holes)}", re.sub(r"\?\d+", "_", value)), self.query.names).arg() or Term(""))
+                expected = fixed(Reader(HOLE.sub(lambda _: f"?_{next(self.holes)}", re.sub(r"\?\d+", "_", value)), self.query.names).arg() or Term(""))
             except Unread:
                 continue
             if ".." not in value and Term(name) in found:
-                self.hold(unify(found[Term(name)], wanted, {}), row, f"{name} is {value}")
+                self.hold(unify(found[Term(name)], expected, {}), row, f"{name} is {value}")

@@ -3,12 +3,12 @@
     tools/check explanations
     tools/check explanations --explaining FILE
 
-What is expected was written by hand from the rules, before the program was asked: the cause at the end of the chain, with its names, lines
-and rule, and what to write instead. Where the program says the same as well in other words, its words were taken. Twelve of the texts are
-problems that Rust programmers meet, and were held beside what rustc says of the same crate.
+The expected output was written by hand from the rules, before the program ran: the cause at the end of the chain, with its names, lines
+and rule, and what to write instead. If the program says the same as well in other words, its words were taken. Twelve of the texts are
+problems that Rust programmers meet, and were compared with the messages of rustc for the same crate.
 
-What the program says less well stands in WAITING, with what is missing. Such a text fails once it is explained as expected, so that it is
-taken out of there.
+WAITING has the texts that the program explains less well, with what is missing. Such a text fails once it is explained as expected: then
+take it out.
 """
 from __future__ import annotations
 
@@ -24,13 +24,13 @@ WAITING: dict[str, str] = {}
 
 def hold(explaining: str, name: str) -> None:
     """A text is explained as expected, or waits for it."""
-    text, wanted = ((FOLDER / f"{name}.{kind}").read_bytes() for kind in ("txt", "expected"))
+    text, expected = ((FOLDER / f"{name}.{kind}").read_bytes() for kind in ("txt", "expected"))
     found = run([explaining, DEPTH, "--file", f"{name}.txt"], text).output
     if name not in WAITING:
-        fault = difference(found, wanted)
+        fault = difference(found, expected)
         if fault:
             raise Wrong(fault)
-    elif found == wanted:
+    elif found == expected:
         raise Wrong("it is explained as expected: take it out of WAITING")
 
 

@@ -1,7 +1,7 @@
 """Hostile texts, each made from a seed and its number: each is answered, or has a fault that the answer names.
 
     tools/check hostile                     10,000 texts
-    tools/check hostile --texts 1000000     so many
+    tools/check hostile --texts 1000000     a million texts
     tools/check hostile --show 417          prints that text, and what runs it
     tools/check hostile --first 5000 --seed 7 --kind deep --depth 8 --program FILE
     tools/check hostile --bars              the bars alone
@@ -9,30 +9,30 @@
 
 Whatever comes in, the program answers it or names a fault, within 10 seconds of its processor and 256 MB, and never dies by a
 signal; a text of up to 1,024 bytes takes no more than a second, and one of up to 10 KB that works the search hard no more than a second
-for each line of its answer. What is tried of each text beyond that:
+for each line of its answer. Further tries for each text:
 
-- an answered one: a line for each crate, section, crate whose supertraits are asked, and question, in the form that docs/FORMAT.md
-  gives; the same answers with the questions in another order and comments and spaces between, with one question alone (with each alone,
-  for some texts), without sections and lines `supers`, with sections that are cut in two before the impl that breaks, and with the
-  items of each crate in another order, where names stay declared before they are used: then the line of a crate and of its
-  supertraits is of the same kind, since impls have other numbers;
-- a faulty one: the lines before the named one have no fault, and with the named one they have the same.
+- If it is answered: there is a line for each crate, section, `supers` line and query, in the form that docs/FORMAT.md gives. The answers
+  are the same with the queries in another order and comments and spaces between, with one query alone (with each alone, for some texts),
+  without sections and lines `supers`, with sections that are cut in two before the breaking impl, and with the items of each crate in
+  another order in which names are declared before they are used. Then the line of a crate and of its supertraits is of the same kind,
+  since impls have other numbers.
+- If it is faulty: the lines before the named one have no fault, and with the named one they have the same fault.
 
-The kinds of texts: `crates` (whole ones, as the rules want them), `mutated` (these and the examples with lines and words changed),
+The kinds of texts: `crates` (whole ones, without faults), `mutated` (these and the examples with lines and words changed),
 `deep` and `doubling` (types at the limits of depth, types and clauses that grow), `colliding` (names that meet), `bytes` (no text at
-all), `cyclic` (impls that need each other), `growing` (types that grow in several ways at once), `growing_premises` (types that grow by
+all), `cyclic` (impls that need each other), `growing` (types that grow by several rules at once), `growing_premises` (types that grow by
 two or three premises), and once each the `wide` ones (some thousand items of a kind, and long lines). With `--waiting` there are
 `multiplying` and `endless` (supertraits that multiply, some thousand or far too many, of a `dyn`, a where-clause and an impl), `asked` and
-`stepping` (impls that need each other, of which all are asked), `wide_clauses` (impls with up to 64 where-clauses that lead back or to
-larger types) and `costly` (types that grow beside many impls or where-clauses, in width, or with lifetimes); and types that grow are asked
-at all depths.
+`stepping` (impls that need each other, with queries for all), `wide_clauses` (impls with up to 64 where-clauses that lead back or to
+larger types) and `costly` (types that grow next to many impls or where-clauses, in width, or with lifetimes). Then types that grow are
+queried at all depths.
 
-Of those that are cyclic, grow or wait an answer in another order may be `maybe` or `open` in place of another, since what was kept of other
-questions can leave more to be tried. So may that of any text whose items are in another order, if both orders have the same answers at
-depth 255: where the depth cuts off one of two impls, it counts which comes first.
+In texts that are cyclic, grow or wait, an answer in another order may be `maybe` or `open` in place of another, since stored results of
+other queries can leave more to try. So may an answer of any text whose items are in another order, if both orders have the same answers
+at depth 255: if the depth cuts off one of two impls, it matters which comes first.
 
-Before the texts come the bars (tools/texts/bars.py): of a text that becomes at most four times as large the answer takes at most six
-times as long.
+Before the texts come the bars (tools/texts/bars.py): if a text becomes at most four times as large, its answer takes at most six times as
+long.
 
 A bar or text that fails is counted once, and named with what is wrong.
 """
@@ -54,20 +54,20 @@ from .makers import HARD, KINDS, WAITING, by_lot, count_wide, joined, wide_text
 
 LIMITS = Limits(seconds=10, memory=256 * 1024 * 1024)
 SMALL = 1024
-# Of a text that works the search hard each line of the answer may take a second, up to this size.
+# If a text works the search hard, each line of the answer may take a second, up to this size.
 SMALL_AND_HARD = 10240
 TEXT_LIMIT = 67108864
 # A text with more lines is only answered.
 MOST_LINES = 1500
-# Of these kinds another answer may leave a question open.
+# In these kinds another answer may leave a query open.
 LOOSE = ["cyclic", "growing", *(it.name for it in HARD + WAITING)]
-# These are asked at this depth at most, until a question costs less where types are deep or wide.
+# The greatest depth for these kinds, until a query costs less if types are deep or wide.
 DEEPEST = {"growing": 20, "growing_premises": 64}
 NAMES = re.compile(r"(?<![A-Za-z0-9_'?])[A-Za-z_][A-Za-z0-9_]*")
 DECLARES = re.compile(r" *(?:fundamental +)?(?:auto +)?(?:struct|trait) +([A-Za-z_][A-Za-z0-9_]*)")
 AUTO = re.compile(r" *(fundamental +)?auto ")
-QUESTION = re.compile(r" *(prove|refute) ")
-ASKED = ("prove", "refute")
+QUERY = re.compile(r" *(prove|refute) ")
+QUERIES = ("prove", "refute")
 Lines = list[str]
 
 
@@ -75,7 +75,7 @@ Lines = list[str]
 
 
 class Block:
-    """A crate with its items, or a section with its impls; and behind them the lines `supers` that stand between."""
+    """A crate with its items, or a section with its impls, and the lines `supers` among them."""
 
     def __init__(self, head: str) -> None:
         self.head = head
@@ -85,38 +85,38 @@ class Block:
 
 
 def declared_in(lines: Sequence[str]) -> dict[str, int]:
-    """The names of structs and traits, with the places of the lines that declare them."""
-    return {found[1]: place for place, line in enumerate(lines) if (found := DECLARES.match(line))}
+    """The names of structs and traits, with the indices of the lines that declare them."""
+    return {found[1]: at for at, line in enumerate(lines) if (found := DECLARES.match(line))}
 
 
 def names_later(lines: Lines, kinds: Sequence[str]) -> bool:
-    """Whether a question goes by a name, for its own parameter, that is declared later: then it stays where it is."""
-    places = declared_in(lines)
-    asked = [(place, line) for place, (line, kind) in enumerate(zip(lines, kinds)) if kind in ASKED]
-    return any(places.get(word, -1) > place for place, line in asked for word in NAMES.findall(line))
+    """Whether a query uses a name, for its own parameter, that is declared later: then it stays where it is."""
+    declared = declared_in(lines)
+    queries = [(at, line) for at, (line, kind) in enumerate(zip(lines, kinds)) if kind in QUERIES]
+    return any(declared.get(word, -1) > at for at, line in queries for word in NAMES.findall(line))
 
 
 class Parts:
-    """The lines of a text without a fault: blocks, and questions."""
+    """The lines of a text without a fault: blocks, and queries."""
 
     def __init__(self, lines: Lines, kinds: Sequence[str]) -> None:
         self.blocks = [Block("")]
-        self.questions: Lines = []
+        self.queries: Lines = []
         for line, kind in zip(lines, kinds):
             if kind in ("crate", "later"):
                 self.blocks.append(Block(line))
             elif kind == "supers":
                 self.blocks[-1].supers.append(line)
-            elif kind in ASKED:
-                self.questions.append(line)
+            elif kind in QUERIES:
+                self.queries.append(line)
             elif kind:
                 self.blocks[-1].items.append(line)
         self.is_movable = not names_later(lines, kinds) and not self.names_crates()
 
     def names_crates(self) -> bool:
-        """Whether a question has the name of another crate in it than that which it asks of."""
+        """Whether a query contains the name of another crate than its own."""
         crates = {block.head.split()[1] for block in self.blocks if block.head and not block.is_section}
-        return any(crates & set(NAMES.findall(it)) - {it.split()[2]} for it in self.questions)
+        return any(crates & set(NAMES.findall(it)) - {it.split()[2]} for it in self.queries)
 
     def count_items(self) -> int:
         return sum(len(block.items) for block in self.blocks if not block.is_section)
@@ -124,8 +124,8 @@ class Parts:
     def has_checks(self) -> bool:
         return any(block.is_section or block.supers for block in self.blocks)
 
-    def written(self, questions: Lines, mixed: Optional[random.Random] = None, is_checked: bool = True) -> Lines:
-        """The text again: with items in another order by `mixed`, and without sections and lines `supers` where these are not asked."""
+    def written(self, queries: Lines, mixed: Optional[random.Random] = None, is_checked: bool = True) -> Lines:
+        """The text with these queries, with items in another order by `mixed`, and without sections and lines `supers` unless `is_checked`."""
         lines: Lines = []
         for block in self.blocks:
             if block.is_section and not is_checked:
@@ -133,12 +133,12 @@ class Parts:
             lines.append(block.head)
             lines += mixed_items(mixed, block.items) if mixed and not block.is_section else block.items
             lines += block.supers if is_checked else []
-        return lines + questions
+        return lines + queries
 
     def cut(self, rng: random.Random, checks: Sequence[str]) -> tuple[Lines, Lines]:
-        """Each section as two, cut before the impl that breaks or else anywhere, and what is said of these."""
+        """Each section as two, cut before the breaking impl or else anywhere, and their answers."""
         lines: Lines = []
-        said: Lines = []
+        answers: Lines = []
         left = iter(checks)
         for block in self.blocks:
             lines.append(block.head)
@@ -146,41 +146,41 @@ class Parts:
                 verdict = next(left)
                 at = rng.randrange(len(block.items) + 1) if verdict == "compatible" else int(verdict.split()[-1]) - 1
                 lines += block.items[:at] + [block.head] + block.items[at:]
-                said += ["compatible", "compatible" if verdict == "compatible" else "breaking impl 1"]
+                answers += ["compatible", "compatible" if verdict == "compatible" else "breaking impl 1"]
             else:
                 lines += block.items
             lines += block.supers
-            said += [next(left) for _ in block.supers]
-        return lines + self.questions, said
+            answers += [next(left) for _ in block.supers]
+        return lines + self.queries, answers
 
 
-def places_before(items: Lines) -> list[set[int]]:
-    """Of each item those that stay before it: an item that has the name of another in it stays on the same side of that."""
-    places = declared_in(items)
+def items_before(items: Lines) -> list[set[int]]:
+    """For each item those that stay before it: an item that contains the name of another one stays on the same side of it."""
+    declared = declared_in(items)
     before: list[set[int]] = [set() for _ in items]
     autos: list[int] = []
-    for place, item in enumerate(items):
+    for at, item in enumerate(items):
         for word in NAMES.findall(item):
-            other = places.get(word, place)
-            if other != place:
-                before[max(place, other)].add(min(place, other))
+            other = declared.get(word, at)
+            if other != at:
+                before[max(at, other)].add(min(at, other))
         # the auto traits of a `dyn` are printed as they are declared
         if AUTO.match(item):
-            before[place].update(autos[-1:])
-            autos.append(place)
+            before[at].update(autos[-1:])
+            autos.append(at)
     return before
 
 
 def mixed_items(rng: random.Random, items: Lines) -> Lines:
     """The items in another order."""
-    before = places_before(items)
+    before = items_before(items)
     left = list(range(len(items)))
     rng.shuffle(left)
     done: dict[int, None] = {}
     while left:
-        place = next(it for it in left if before[it] <= done.keys())
-        done[place] = None
-        left.remove(place)
+        at = next(it for it in left if before[it] <= done.keys())
+        done[at] = None
+        left.remove(at)
     return [items[it] for it in done]
 
 
@@ -194,7 +194,7 @@ def spaced(rng: random.Random, lines: Lines) -> Lines:
     return written
 
 
-# ---- what is tried of a text
+# ---- the tries of a text
 
 
 class Counts:
@@ -205,7 +205,7 @@ class Counts:
 
 
 class Made(NamedTuple):
-    """A text of a kind, the lot as making it left it, and the depth."""
+    """A text of a kind, the state of the random numbers after it, and the depth."""
 
     kind: str
     rng: random.Random
@@ -213,13 +213,13 @@ class Made(NamedTuple):
     depth: int
 
 
-def is_open(*said: str, words: Sequence[str] = ("maybe", "open")) -> bool:
-    """Whether one of the answers leaves its question open."""
-    return any(first_word(it) in words for it in said)
+def is_open(*answers: str, words: Sequence[str] = ("maybe", "open")) -> bool:
+    """Whether one of the answers leaves its query open."""
+    return any(first_word(it) in words for it in answers)
 
 
 class Trial:
-    """What is tried of one text."""
+    """The tries of one text."""
 
     def __init__(self, counts: Counts, answering: str, text: Made) -> None:
         self.counts, self.answering = counts, answering
@@ -240,7 +240,7 @@ class Trial:
         return ended
 
     def agree(self, one: str, other: str) -> bool:
-        """Whether two answers to one question may stand for each other."""
+        """Whether two answers to one query may replace each other."""
         if one == other:
             return True
         if self.kind not in LOOSE or not is_open(one, other, words=("maybe", "open", "undecided")):
@@ -249,35 +249,35 @@ class Trial:
         return True
 
     def agree_on_checks(self, one: str, other: str, is_mixed: bool) -> bool:
-        """The same of sections and supertraits. Where items are in another order, impls have other numbers."""
+        """The same for sections and supertraits. If items are in another order, impls have other numbers."""
         if is_mixed and first_word(one) in ("held", "missing", "undecided") and "held" not in (one, other):
             return True
         return self.agree(one, other)
 
     def agree_deeper(self, lines: Lines, original: Lines) -> bool:
-        """Whether both texts have the same answers where the depth cuts nothing off. A goal that met an overflow gives its further
-        questions less depth, so which of two impls comes first can decide between `yes` and `maybe` at a small one."""
-        said = [self.ask(joined(it), 255) for it in (lines, original)]
-        if any(it.status != 0 for it in said):
+        """Whether both texts have the same answers if the depth cuts nothing off. A goal that met an overflow gives its further nested goals
+        less depth, so which of two impls comes first can decide between `yes` and `maybe` at a small one."""
+        runs_of_both = [self.ask(joined(it), 255) for it in (lines, original)]
+        if any(it.status != 0 for it in runs_of_both):
             return False
-        one, other = (read_answer(it, statements(it), ended.output) for it, ended in zip((lines, original), said))
+        one, other = (read_answer(it, statements(it), ended.output) for it, ended in zip((lines, original), runs_of_both))
         self.counts.differ += 1
         return one.answers == other.answers
 
-    def same(self, lines: Lines, wanted: Answer, what: str, original: Optional[Lines] = None) -> None:
-        """The text has to have this answer; with items in another order than the original, one that may stand for it."""
+    def same(self, lines: Lines, expected: Answer, what: str, original: Optional[Lines] = None) -> None:
+        """The text has to have this answer, or with items in another order than the original, one that may replace it."""
         ended = self.ask(joined(lines))
         if ended.status != 0:
             raise Wrong(f"{what}: {ended.output.decode().strip()}")
         other = read_answer(lines, statements(lines), ended.output)
-        if other.verdicts != wanted.verdicts and (not original or [*map(first_word, other.verdicts)] != [*map(first_word, wanted.verdicts)]):
-            raise Wrong(f"{what}: {other.verdicts} in place of {wanted.verdicts}")
-        if not all(self.agree_on_checks(one, before, bool(original)) for one, before in zip(other.checks, wanted.checks)):
-            raise Wrong(f"{what}: {other.checks} in place of {wanted.checks}")
-        for at, (one, before) in enumerate(zip(other.answers, wanted.answers)):
+        if other.verdicts != expected.verdicts and (not original or [*map(first_word, other.verdicts)] != [*map(first_word, expected.verdicts)]):
+            raise Wrong(f"{what}: {other.verdicts} in place of {expected.verdicts}")
+        if not all(self.agree_on_checks(one, before, bool(original)) for one, before in zip(other.checks, expected.checks)):
+            raise Wrong(f"{what}: {other.checks} in place of {expected.checks}")
+        for at, (one, before) in enumerate(zip(other.answers, expected.answers)):
             if not self.agree(one, before) and not (original and is_open(one, before) and self.agree_deeper(lines, original)):
-                asked = [it for it in lines if QUESTION.match(it)][at]
-                raise Wrong(f"{what}: '{one}' in place of '{before}' to '{asked}'")
+                query = [it for it in lines if QUERY.match(it)][at]
+                raise Wrong(f"{what}: '{one}' in place of '{before}' to '{query}'")
 
     def check(self) -> None:
         ended = self.ask(self.text)
@@ -290,7 +290,7 @@ class Trial:
             self.check_answer(ended.output)
 
     def check_time(self, ended: Ended) -> None:
-        """A small text takes no more than a second, or one for each line of the answer where it works the search hard."""
+        """A small text takes no more than a second, or one for each line of the answer if it works the search hard."""
         size, lines = len(self.text), max(ended.output.count(b"\n"), 1)
         most = 1 if size <= SMALL and self.kind not in LOOSE else lines
         if size <= SMALL_AND_HARD and ended.seconds > most:
@@ -307,15 +307,15 @@ class Trial:
         parts = Parts(lines, kinds)
         if not parts.is_movable:
             return
-        self.check_questions(parts, answer)
+        self.check_queries(parts, answer)
         if parts.count_items() > 1:
-            self.same(parts.written(parts.questions, mixed=self.rng), answer, "items in another order", parts.written(parts.questions))
+            self.same(parts.written(parts.queries, mixed=self.rng), answer, "items in another order", parts.written(parts.queries))
         if parts.has_checks():
-            self.same(parts.written(parts.questions, is_checked=False), answer._replace(checks=[]), "no section and no line `supers`")
-            lines, said = parts.cut(self.rng, answer.checks)
-            self.same(lines, answer._replace(checks=said), "sections cut in two")
+            self.same(parts.written(parts.queries, is_checked=False), answer._replace(checks=[]), "no section and no line `supers`")
+            lines, checks = parts.cut(self.rng, answer.checks)
+            self.same(lines, answer._replace(checks=checks), "sections cut in two")
 
-    def check_questions(self, parts: Parts, answer: Answer) -> None:
+    def check_queries(self, parts: Parts, answer: Answer) -> None:
         answers, rng = answer.answers, self.rng
         if len(answers) > 1:
             order = list(range(len(answers)))
@@ -323,11 +323,11 @@ class Trial:
                 order.reverse()
             else:
                 rng.shuffle(order)
-            moved = spaced(rng, parts.written([parts.questions[k] for k in order]))
-            self.same(moved, answer._replace(answers=[answers[k] for k in order]), "questions in another order")
+            moved = spaced(rng, parts.written([parts.queries[k] for k in order]))
+            self.same(moved, answer._replace(answers=[answers[k] for k in order]), "queries in another order")
         if answers:
             for k in range(len(answers)) if rng.random() < 0.15 else [rng.randrange(len(answers))]:
-                self.same(parts.written([parts.questions[k]]), answer._replace(answers=[answers[k]]), "a question alone")
+                self.same(parts.written([parts.queries[k]]), answer._replace(answers=[answers[k]]), "a query alone")
 
     def check_fault(self, output: bytes) -> None:
         found = FAULT.fullmatch(output)
@@ -363,7 +363,7 @@ def made(given: argparse.Namespace, number: int) -> Made:
 def show(given: argparse.Namespace) -> None:
     one = made(given, given.show)
     sys.stdout.buffer.write(one.text)
-    print(f"tools/check hostile: text {given.show}, of the kind {one.kind}, asked at depth {one.depth}", file=sys.stderr)
+    print(f"tools/check hostile: text {given.show}, of the kind {one.kind}, at depth {one.depth}", file=sys.stderr)
     sys.exit(0)
 
 
@@ -382,7 +382,7 @@ def add_words(reader: argparse.ArgumentParser) -> None:
 def try_bars(tally: Tally, answering: str, is_waiting: bool) -> None:
     limits = runs.Limits(LIMITS.seconds, LIMITS.memory)
     for bar in bars.STANDING + bars.WAITING * is_waiting:
-        tally.tell(f"bar '{bar.name}'", bars.fault_of(answering, bar, limits))
+        tally.report(f"bar '{bar.name}'", bars.fault_of(answering, bar, limits))
 
 
 def check(tally: Tally, given: argparse.Namespace) -> None:

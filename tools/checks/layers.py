@@ -24,7 +24,7 @@ SKIPPED = re.compile(r" *(?:#\[|//(?!/))")
 
 
 class Clause(NamedTuple):
-    """A clause by its name ('' for one without), whether it is asked of the caller, and its text."""
+    """A clause by its name ('' for one without), whether the caller has to meet it, and its text."""
 
     name: str
     is_required: bool
@@ -69,7 +69,7 @@ def ends_contract(line: str, indent: int) -> bool:
     """Whether the function's body begins in this line, or the function has none and ends in it."""
     code = line.partition("//")[0].rstrip()
     depth = len(line) - len(line.lstrip())
-    # clauses stand four columns behind the function, and what a long one goes on with stands behind them
+    # clauses are four columns right of the function, and the further lines of a long one are right of them
     return (depth <= indent and code.endswith(("{", "}"))) or (depth <= indent + 4 and code.endswith(";"))
 
 
@@ -165,7 +165,7 @@ def module_comment(path: Path) -> str:
     return " ".join(found)
 
 
-def told(item: Item) -> str:
+def row_of(item: Item) -> str:
     """The row of a page."""
     required = [it.name for it in item.clauses if it.is_required and it.name]
     ensured = [it.name for it in item.clauses if not it.is_required and it.name]
@@ -182,7 +182,7 @@ def page_of(crate: str) -> Optional[str]:
     """The page of a crate; none where nothing in it has a contract."""
     parts = []
     for path in files_of(crate):
-        rows = [told(it) for it in items_in(path)]
+        rows = [row_of(it) for it in items_in(path)]
         if rows:
             parts.append("\n".join([f"## `{path.relative_to(TOP / 'crates' / crate / 'src')}`", "", module_comment(path), "", *rows, ""]))
     if not parts:

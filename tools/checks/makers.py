@@ -38,17 +38,17 @@ def where(clauses: Sequence[str]) -> str:
 
 
 class Item(NamedTuple):
-    """A struct or trait that was declared: its name, the kinds of its parameters ('l', 't' or 'c'), and its place among the traits."""
+    """A struct or trait that was declared: its name, the kinds of its parameters ('l', 't' or 'c'), and its index among the traits."""
 
     name: str
     kinds: str
     crate: str
-    place: int = 0
+    index: int = 0
     auto: bool = False
 
 
 class Crates:
-    """A text of crates and questions as the grammar and the faults want it; clauses lead to earlier traits or smaller types."""
+    """A text of crates and queries without faults. Clauses lead to earlier traits or smaller types."""
 
     def __init__(self, rng: random.Random, cyclic: bool = False) -> None:
         self.rng, self.cyclic = rng, cyclic
@@ -56,7 +56,7 @@ class Crates:
         self.crates: Lines = []
         self.sees = {"core": {"core"}}
         self.structs = [Item("Box", "t", "core")]
-        self.traits = [Item(name, "", "core", place) for place, name in enumerate(("Sized", "Clone", "Copy"))]
+        self.traits = [Item(name, "", "core", index) for index, name in enumerate(("Sized", "Clone", "Copy"))]
         # of each impl its crate, its parameters for types and for constants, and its header
         self.impls: list[tuple[str, Lines, Lines, str]] = []
         # what a type may name where it is written
@@ -72,8 +72,8 @@ class Crates:
         self.structs_seen = [it for it in self.structs if it.crate in seen]
         self.traits_seen = [it for it in self.traits if it.crate in seen]
 
-    def scope(self, types: Sequence[str] = (), consts: Sequence[str] = (), lifetimes: Sequence[str] = (), unknowns: Sequence[str] = ()) -> None:
-        self.types, self.consts, self.lifetimes, self.unknowns = list(types), list(consts), list(lifetimes), list(unknowns)
+    def scope(self, types: Sequence[str] = (), consts: Sequence[str] = (), lifetimes: Sequence[str] = (), variables: Sequence[str] = ()) -> None:
+        self.types, self.consts, self.lifetimes, self.variables = list(types), list(consts), list(lifetimes), list(variables)
         self.used: set[str] = set()
 
     def lifetime(self) -> str:
@@ -87,7 +87,7 @@ class Crates:
             name = self.rng.choice(self.consts)
             self.used.add(name)
             return name
-        if self.unknowns and roll < 0.6:
+        if self.variables and roll < 0.6:
             return "?n"
         return str(self.rng.randrange(4)) if roll < 0.97 else self.rng.choice(NUMBERS[:-1])
 
@@ -101,8 +101,8 @@ class Crates:
             name = self.rng.choice(self.types)
             self.used.add(name)
             return name
-        if self.unknowns and roll < 0.7:
-            return self.rng.choice(self.unknowns)
+        if self.variables and roll < 0.7:
+            return self.rng.choice(self.variables)
         if roll < 0.85:
             plain = [it for it in self.structs_seen if not it.kinds]
             if plain:
@@ -192,10 +192,10 @@ class Crates:
         self.lines.append(f"{head}struct {name}{params}{fields}")
 
     def add_trait(self, crate: str) -> None:
-        place = len(self.traits)
-        name = f"Tr{place}"
+        index = len(self.traits)
+        name = f"Tr{index}"
         if self.chance(0.2):
-            self.traits.append(Item(name, "", crate, place, auto=True))
+            self.traits.append(Item(name, "", crate, index, auto=True))
             self.lines.append(("fundamental " if self.chance(0.2) else "") + f"auto trait {name}")
             return
         kinds = self.kinds(2)
@@ -205,7 +205,7 @@ class Crates:
         while self.traits_seen and self.chance(0.3) and len(supers) < 3:
             supers.append(self.rng.choice(self.traits_seen))
         bounds = ": " + " + ".join(self.bound(it, 1) for it in supers) if supers else ""
-        self.traits.append(Item(name, kinds, crate, place))
+        self.traits.append(Item(name, kinds, crate, index))
         self.lines.append(f"{head}trait {name}{params}{bounds}")
 
     def clause(self, trait: Item, parts: Lines) -> str:
@@ -213,7 +213,7 @@ class Crates:
         rng = self.rng
         if self.cyclic and rng.random() < 0.6:
             return f"{rng.choice(parts)}: {self.bound(rng.choice(self.traits_seen), 1)}"
-        earlier = [it for it in self.traits_seen if it.place < trait.place]
+        earlier = [it for it in self.traits_seen if it.index < trait.index]
         if self.types and (not earlier or rng.random() < 0.5):
             subject = rng.choice(self.types)
             bound = trait if rng.random() < 0.6 or not earlier else rng.choice(earlier)
@@ -255,7 +255,7 @@ class Crates:
         self.lines.append(f"impl{self.front()} {bound} for {subject}{where(clauses)}")
         self.impls.append((crate, types, consts, f"{subject}: {bound}"))
 
-    def asked(self, trait: Item) -> str:
+    def bound_of(self, trait: Item) -> str:
         """A reference: any of the trait, or one that the header of an impl gives for some types."""
         seen = [it for it in self.impls if any(it[0] == found.crate for found in self.structs_seen + self.traits_seen)]
         if not seen or self.chance(0.4):
@@ -265,30 +265,30 @@ class Crates:
         values.update({it: self.number() for it in consts})
         values["'a"] = "'static"
         written = re.sub(r"'?\b[A-Z]\b|'a\b", lambda it: values.get(it[0], it[0]), header)
-        if self.unknowns and self.chance(0.7):
-            written = re.sub(r"(?<=<)(u8|bool|char|i32|str|u64|usize|i128|S[0-9]+)(?=[,>])", self.unknowns[0], written, count=1)
+        if self.variables and self.chance(0.7):
+            written = re.sub(r"(?<=<)(u8|bool|char|i32|str|u64|usize|i128|S[0-9]+)(?=[,>])", self.variables[0], written, count=1)
         return written
 
-    def add_question(self) -> None:
+    def add_query(self) -> None:
         rng = self.rng
         crate = rng.choice(self.crates)
         self.look(crate)
-        unknowns = ["?x", "?y"] if rng.random() < 0.45 else []
+        variables = ["?x", "?y"] if rng.random() < 0.45 else []
         traits = [it for it in self.traits_seen if it.name != "Sized"] or self.traits_seen
         trait = rng.choice(traits)
         if rng.random() < 0.35:
-            self.scope(unknowns=unknowns)
-            self.lines.append(f"refute in {crate} {self.asked(trait)}")
+            self.scope(variables=variables)
+            self.lines.append(f"refute in {crate} {self.bound_of(trait)}")
             return
         types = ["T", "U"][: rng.choice([0, 0, 0, 1, 2])]
-        self.scope(types, unknowns=unknowns)
+        self.scope(types, variables=variables)
         params = within(types)
-        asked = self.asked(trait)
+        bound = self.bound_of(trait)
         clauses: Lines = []
-        self.unknowns = []
+        self.variables = []
         while types and rng.random() < 0.5 and len(clauses) < 3:
             clauses.append(f"{rng.choice(types) if rng.random() < 0.7 else self.type(1)}: {self.bound(rng.choice(traits), 1)}")
-        self.lines.append(f"prove in {crate} {params}{' ' if params else ''}{asked}{where(clauses)}")
+        self.lines.append(f"prove in {crate} {params}{' ' if params else ''}{bound}{where(clauses)}")
 
     def add_section(self) -> None:
         """A later version of a crate, with impls as those of the crate itself."""
@@ -310,7 +310,7 @@ class Crates:
             else:
                 self.add_supers()
 
-    def make(self, items: int = 7, questions: int = 6) -> Lines:
+    def make(self, items: int = 7, queries: int = 6) -> Lines:
         rng = self.rng
         for number in range(rng.choice([1, 1, 2, 2, 3])):
             name = f"c{number}"
@@ -328,8 +328,8 @@ class Crates:
                 else:
                     self.add_impl(name)
             self.add_checks()
-        for _ in range(rng.randrange(1, questions)):
-            self.add_question()
+        for _ in range(rng.randrange(1, queries)):
+            self.add_query()
             if self.chance(0.05):
                 self.add_checks()
         return self.lines
@@ -347,12 +347,12 @@ def cyclic_text(rng: random.Random) -> Lines:
     return Crates(rng, cyclic=True).make(10, 5) if rng.random() < 0.6 else clique(rng)
 
 
-def question(rng: random.Random) -> str:
+def query_head(rng: random.Random) -> str:
     return rng.choice(["prove", "refute"]) + " in c0"
 
 
 def growing_text(rng: random.Random) -> Lines:
-    """Structs and impls that ask about types with more levels than their own, in several ways at once."""
+    """Structs and impls that need types with more levels than their own, by several rules at once."""
     lines = ["crate c0", "auto trait Safe", "trait Show", "struct V<T>", "struct W<T>"]
     grown = [it for it in ["T", "&T", "*const T", "[T]", "V<T>", "W<T>", "V<W<T>>", "(T, T)", "Box<T>"] if rng.random() < 0.5] or ["V<T>"]
     wrapped = [rng.choice(["V", "W", "G"]) + f"<{it}>" for it in grown]
@@ -363,12 +363,12 @@ def growing_text(rng: random.Random) -> Lines:
         lines += ["trait Sub: Show", "impl<T> Sub for V<T>", "impl Sub for W<u8>", "supers in c0"]
     for _ in range(rng.randrange(1, 4)):
         subject = rng.choice(["V<u8>", "W<bool>", "V<?x>", "V<W<V<u8>>>", "G<u8>"])
-        lines.append(f"{question(rng)} {subject}: {'Safe' if subject[0] == 'G' else 'Show'}")
+        lines.append(f"{query_head(rng)} {subject}: {'Safe' if subject[0] == 'G' else 'Show'}")
     return lines
 
 
 def clique(rng: random.Random) -> Lines:
-    """Impls that need each other: each trait's impl asks some of the other traits of the same type."""
+    """Impls that need each other: each trait's impl needs some of the other traits of the same type."""
     count = rng.choice([2, 3, 4, 5, 6, 7, 8, 12, 16, 24])
     subject = rng.choice(["u8", "V<T>", "T"])
     params = "<T>" if "T" in subject else ""
@@ -378,11 +378,11 @@ def clique(rng: random.Random) -> Lines:
     if rng.random() < 0.3:
         lines += [f"trait Sub: R{rng.randrange(count)} + R{rng.randrange(count)}", f"impl{params} Sub for {subject}", "supers in c0"]
     for _ in range(rng.randrange(1, 4)):
-        lines.append(f"{question(rng)} {rng.choice(['u8', 'V<u8>', 'V<V<u8>>'])}: R{rng.randrange(count)}")
+        lines.append(f"{query_head(rng)} {rng.choice(['u8', 'V<u8>', 'V<V<u8>>'])}: R{rng.randrange(count)}")
     return lines
 
 
-# types around another, which stands where # is
+# types around another one, for which # stands
 WRAPS = ["&#", "&mut #", "*const #", "[#]", "[#; 3]", "(#,)", "(#, u8)", "V<#>", "Box<#>", "fn(#)", "fn() -> #", "for<'z> fn(*const &'z #)", "dyn Q<#>"]
 
 
@@ -417,7 +417,7 @@ def deep_section(rng: random.Random) -> Lines:
     return lines
 
 
-def deep_question(rng: random.Random) -> str:
+def deep_query(rng: random.Random) -> str:
     depth = rng.choice([2, 8, 9, 20, 40, 60, 63])
     leaf = rng.choice(["u8", "bool", "?x", "str", "V<?x>"])
     bound = rng.choice(["Show", "Safe", "Clone", "Copy", "Sized", "Q<?y>", f"Q<{deep_type(rng, depth, '?z')}>", "Unsize<?y>"])
@@ -430,7 +430,7 @@ def deep_text(rng: random.Random) -> Lines:
         lines.append(deep_item(rng, len(lines)))
     if rng.random() < 0.3:
         lines += deep_section(rng)
-    return lines + [deep_question(rng) for _ in range(rng.randrange(1, 6))]
+    return lines + [deep_query(rng) for _ in range(rng.randrange(1, 6))]
 
 
 def doubled_by_fields(rng: random.Random, count: int) -> Lines:
@@ -448,7 +448,7 @@ def doubled_by_clauses(rng: random.Random, count: int) -> Lines:
         lines += [f"trait R{k + 1}", f"impl<T> R{k + 1} for {subject} where {pair}: R{k}{alone}"]
     for _ in range(3):
         subject = rng.choice(["u8", "V<u8>", "&V<bool>", "?x", "V<?x>"])
-        lines.append(f"{question(rng)} {subject}: R{rng.randrange(count + 1)}")
+        lines.append(f"{query_head(rng)} {subject}: R{rng.randrange(count + 1)}")
     return lines
 
 
@@ -515,7 +515,7 @@ class Colliding:
         declared.append(self.free.pop() if self.free and self.rng.random() < 0.97 else self.rng.choice(self.names))
         return declared[-1]
 
-    def impl_or_question(self) -> str:
+    def impl_or_query(self) -> str:
         # a lifetime and a variable may go by the name of anything, a parameter by that of nothing else
         pick, crates, structs, traits = self.pick, self.crates, self.structs, self.traits
         own, other, trait = self.rng.choice(self.free or self.names), self.rng.choice(self.names), pick(traits)
@@ -543,7 +543,7 @@ class Colliding:
         if roll < 5 and len(self.free) > 1:
             bounds = f": {self.pick(self.traits)} + {self.pick(self.traits)}" if self.traits and self.rng.random() < 0.4 else ""
             return f"trait {self.declare(self.traits)}{bounds}"
-        return self.impl_or_question() if self.traits else ""
+        return self.impl_or_query() if self.traits else ""
 
     def make(self) -> Lines:
         lines = ["crate " + self.declare(self.crates)]
@@ -648,11 +648,11 @@ def wide_texts() -> Iterator[Lines]:
     show = ["crate c0", "trait Show"]
     one = show + ["struct S1"]
     both = ["impl Show for S1", "impl<T> Show for &T"]
-    asked = ["prove in c0 S1: Show", "refute in c0 S1: Show", "prove in c0 ?x: Show"]
+    queries = ["prove in c0 S1: Show", "refute in c0 S1: Show", "prove in c0 ?x: Show"]
     # a crate with some thousand items of each kind
-    yield show + many("struct S#", range(1, 4094)) + both + asked
-    yield one + many("trait R#", range(1, 4093)) + both + asked
-    yield one + many("impl Show for [u8; #]", range(1, 4095)) + asked
+    yield show + many("struct S#", range(1, 4094)) + both + queries
+    yield one + many("trait R#", range(1, 4093)) + both + queries
+    yield one + many("impl Show for [u8; #]", range(1, 4095)) + queries
     # items that lead to one another, as far as they can
     last = ["prove in c0 <T> T: R0 where T: R3999", "refute in c0 u8: R3999"]
     yield one + ["trait R0"] + [f"trait R{k}: R{k - 1}" for k in range(1, 4000)] + last
@@ -662,9 +662,9 @@ def wide_texts() -> Iterator[Lines]:
     yield show + ["auto trait Safe", "struct S0"] + [f"struct S{k}(S{k - 1}, S{k - 1})" for k in range(1, 4000)] + last
     chain = [it for k in range(1, 2000) for it in (f"trait R{k}", f"impl<T> R{k} for T where T: R{k - 1}")]
     yield show + ["trait R0"] + chain + ["prove in c0 u8: R1999", "prove in c0 u8: R7", "refute in c0 u8: R1999"]
-    yield one + many("impl Show for S1 where [u8; #]: Copy", range(4094)) + asked
-    yield one + ["impl<T> Show for T where T: Copy"] * 300 + asked
-    # questions and crates
+    yield one + many("impl Show for S1 where [u8; #]: Copy", range(4094)) + queries
+    yield one + ["impl<T> Show for T where T: Copy"] * 300 + queries
+    # queries and crates
     yield ["crate b", "trait S"] + ["prove in b!:S"] * 65536
     yield ["crate b", "trait S"] + ["prove in b!:S"] * 65537
     yield show + [f"crate c{k} uses c{k - 1}" for k in range(1, 2000)] + ["prove in c1999 u8: Show", "refute in c1999 u8: Show"]
@@ -674,8 +674,8 @@ def wide_texts() -> Iterator[Lines]:
     yield one + ["later c0"] + many("impl Show for [u8; #]", range(4095)) + ["impl<T> Show for &T", "later c0", "impl Show for S1"]
     yield ["crate b", "trait S"] + ["later b", "impl S for!", "later core"] * 20000 + ["prove in b!:S"]
     # many headers with a supertrait, and headers with many supertraits
-    held = many("impl Sub for [u8; #]", range(2040)) + many("impl Show for [u8; #]", range(2040))
-    yield show + ["trait Sub: Show"] + held + ["supers in c0", "impl Sub for [u8; 2040]", "supers in c0"]
+    impls = many("impl Sub for [u8; #]", range(2040)) + many("impl Show for [u8; #]", range(2040))
+    yield show + ["trait Sub: Show"] + impls + ["supers in c0", "impl Sub for [u8; 2040]", "supers in c0"]
     last = ["impl R299 for u8", "supers in c0"] + many("impl R# for u8", range(299)) + ["supers in c0"]
     yield show + ["trait R0"] + [f"trait R{k}: R{k - 1}" for k in range(1, 300)] + last
     yield ["crate b", "trait S", "trait R:S", "impl R for!", "impl S for!"] + ["supers in b"] * 20000
@@ -683,7 +683,7 @@ def wide_texts() -> Iterator[Lines]:
     yield show + ["impl Show for u8"] + ["prove in c0 <T> T: Show where " + repeated("T: Show", 64)] * 500
     wide = [f"struct S{k}({repeated('W', 64)})" for k in range(1, 900)]
     yield show + ["auto trait Safe", f"struct W({repeated('u8', 64)})"] + wide + ["prove in c0 S899: Safe"]
-    tuples = ["(" + ", ".join("u8" if k >> place & 1 else "bool" for place in range(12)) + ")" for k in range(4095)]
+    tuples = ["(" + ", ".join("u8" if k >> bit & 1 else "bool" for bit in range(12)) + ")" for k in range(4095)]
     last = [f"prove in c0 ({repeated('?x', 12)}): Show", "prove in c0 (" + ", ".join(f"?x{k}" for k in range(12)) + "): Show"]
     yield show + [f"impl Show for {it}" for it in tuples] + last
     # lines without end
@@ -758,7 +758,7 @@ def wide_text(number: int) -> bytes:
 
 
 class PlainText:
-    """Makes a text without a fault: crates that use earlier ones, with structs, traits, impls and questions."""
+    """Makes a text without a fault: crates that use earlier ones, with structs, traits, impls and queries."""
 
     def __init__(self, seed: int) -> None:
         self.random = random.Random(seed)
@@ -797,22 +797,22 @@ class PlainText:
     def add_impl(self, crate: str) -> None:
         params = ["T", "U"][: self.random.choice([0, 1, 1, 1, 2])]
         subject, bound = self.reference(crate, 2, 1, params).split(": ")
-        held = [it for it in params if re.search(rf"\b{it}\b", f"{subject} {bound}")]
+        used = [it for it in params if re.search(rf"\b{it}\b", f"{subject} {bound}")]
         clauses: Lines = []
         while self.seen(crate, self.traits) and len(clauses) < 3 and self.chance(45):
-            clauses.append(self.reference(crate, 1, 1, held))
-        self.lines.append(f"impl{within(held)} {bound} for {subject}{where(clauses)}")
+            clauses.append(self.reference(crate, 1, 1, used))
+        self.lines.append(f"impl{within(used)} {bound} for {subject}{where(clauses)}")
 
-    def add_question(self, crate: str) -> None:
+    def add_query(self, crate: str) -> None:
         params = ["P"] if self.chance(25) else []
-        asked = self.reference(crate, 3, 2, params)
+        queried = self.reference(crate, 3, 2, params)
         if self.chance(35):
             self.lines.append(f"refute in {crate} {self.reference(crate, 3, 2, [])}")
             return
         if self.chance(15):
-            asked = self.reference(crate, 2, 1, ["?x"], ["?y"])
+            queried = self.reference(crate, 2, 1, ["?x"], ["?y"])
         clauses = [f"{params[0]}: {self.named(crate, self.traits, params, 1)}"] if params and self.chance(60) else []
-        self.lines.append(f"prove in {crate} {within(params)}{' ' if params else ''}{asked}{where(clauses)}")
+        self.lines.append(f"prove in {crate} {within(params)}{' ' if params else ''}{queried}{where(clauses)}")
 
     def add_struct(self, crate: str) -> None:
         name, count = f"S{len(self.structs)}", self.random.choice([0, 0, 1, 1, 2])
@@ -842,5 +842,5 @@ class PlainText:
             self.add_crate(f"c{number}")
         self.lines += [f"supers in {it}" for it in self.uses if self.chance(40)]
         for _ in range(8):
-            self.add_question(self.random.choice([it for it in self.uses if self.seen(it, self.traits)]))
+            self.add_query(self.random.choice([it for it in self.uses if self.seen(it, self.traits)]))
         return joined(self.lines)

@@ -1,13 +1,13 @@
 """A greater depth never says less: the answers to each text at rising depths.
 
-    tools/check monotone                          240 texts by lot, the families that cycle or grow, and the texts of texts/depths
-    tools/check monotone --texts 20000            so many by lot
+    tools/check monotone                          240 random texts, the families that cycle or grow, and the texts of texts/depths
+    tools/check monotone --texts 20000            20,000 random texts
     tools/check monotone --first 417 --texts 1 --program FILE
     tools/check monotone --show 417               prints that text
 
 A search that meets the depth limit, or that is given up, leaves a pair of impls as `overlap`, a query as `maybe` or `open`, supertraits as
 `undecided`. At a greater depth the line may be another one. Any other line stays as it is at each greater depth, up to the line of a crate that
-is refused at one of the two depths alone: other impls count behind it.
+is refused at one of the two depths alone: then the later lines are about other impls.
 
 A text of texts/depths has one answer by the rules, NAME.expected, at each of these depths: 16, 32, 64, 100, 128, 139, 200, 255.
 """
@@ -27,28 +27,28 @@ from .common import TOP, Ended, Limits, Tally, difference, program, run
 FOLDER = TOP / "texts" / "depths"
 DEPTHS = (3, 4, 5, 6, 8, 12, 16, 24, 32, 48, 64, 96, 100, 128, 139, 172, 200, 255)
 RULED_DEPTHS = (16, 32, 64, 100, 128, 139, 200, 255)
-# So many depths are tried of a text by lot.
+# So many depths are tried of a random text.
 SOME = 4
-# What takes longer, or more memory, is passed over, and counted.
+# A run that takes longer, or more memory, is skipped, and counted.
 LIMITS = Limits(seconds=20, memory=512 * 1024 * 1024)
-# The first words of what is left open by a search that met the depth or was given up.
+# The first words of answers of a search that met the depth or was given up.
 OPEN = ("overlap", "maybe", "open", "undecided")
 # The families of these kinds are tried, at the smaller of their sizes.
 FAMILIES = [*families.CYCLES, *families.AUTO_TRAITS, *families.DEEP]
 
 
 class Line(NamedTuple):
-    """A line of an answer: of what it is, and what it says."""
+    """A line of an answer: what it is about, and the answer."""
 
     of: str
-    said: str
+    answer: str
 
     def is_open(self) -> bool:
-        return self.said.split(" ", 1)[0] in OPEN
+        return self.answer.split(" ", 1)[0] in OPEN
 
 
 class Case(NamedTuple):
-    """A text, and the depths at which it is asked, each greater than the one before."""
+    """A text, and the depths of its runs, each greater than the one before."""
 
     name: str
     text: bytes
@@ -56,26 +56,26 @@ class Case(NamedTuple):
 
 
 def lines_of(ended: Ended) -> list[Line]:
-    return [Line(of, said) for of, found, said in (it.partition(": ") for it in ended.output.decode("latin-1").splitlines()) if found]
+    return [Line(of, answer) for of, found, answer in (it.partition(": ") for it in ended.output.decode("latin-1").splitlines()) if found]
 
 
-def less_said(before: Sequence[Line], after: Sequence[Line]) -> Optional[str]:
+def lost_answer(before: Sequence[Line], after: Sequence[Line]) -> Optional[str]:
     """The first line that says less at the greater depth."""
     for one, other in zip(before, after):
         if one == other:
             continue
         if one.of != other.of or not one.is_open():
-            return f"'{one.of}: {one.said}' became '{other.of}: {other.said}'"
+            return f"'{one.of}: {one.answer}' became '{other.of}: {other.answer}'"
         if one.of.startswith("crate "):
             return None
     return f"the line of {before[len(after)].of} is gone" if len(after) < len(before) else None
 
 
 def fault_of(case: Case, runs: Sequence[tuple[int, Ended]]) -> Optional[str]:
-    """What is said less at a greater depth, of each two depths."""
-    for place, (depth, ended) in enumerate(runs):
-        for greater, other in runs[place + 1 :]:
-            fault = less_said(lines_of(ended), lines_of(other))
+    """The first answer that is lost at a greater depth, for each two depths."""
+    for at, (depth, ended) in enumerate(runs):
+        for greater, other in runs[at + 1 :]:
+            fault = lost_answer(lines_of(ended), lines_of(other))
             if fault:
                 return f"from depth {depth} to {greater}: {fault}"
     return None
@@ -103,10 +103,10 @@ def cases(first: int, texts: int) -> Iterator[Case]:
 def try_ruled(tally: Tally, path: str) -> None:
     """The texts whose answers the rules give."""
     for file in sorted(FOLDER.glob("*.txt")):
-        wanted = file.with_suffix(".expected").read_bytes()
+        expected = file.with_suffix(".expected").read_bytes()
         for depth in RULED_DEPTHS:
             ended = run([path, str(depth)], file.read_bytes(), LIMITS)
-            tally.tell(f"{file.stem} at depth {depth}", difference(ended.output, wanted))
+            tally.report(f"{file.stem} at depth {depth}", difference(ended.output, expected))
 
 
 def add_words(reader: argparse.ArgumentParser) -> None:
@@ -128,5 +128,5 @@ def check(tally: Tally, given: argparse.Namespace) -> None:
         for case, ended in list(tried):
             runs = ended.result()
             passed_over += len(case.depths) - len(runs)
-            tally.tell(case.name, fault_of(case, runs))
+            tally.report(case.name, fault_of(case, runs))
     print(f"monotone: {passed_over} runs had no answer within {LIMITS.seconds} s and 512 MB")

@@ -1,7 +1,7 @@
 """The options of ./celtisdarts, typical mistakes in them, and their messages.
 
-It needs a proved program of today's sources: one that was built here, or that of release/. What a call does where there is none is tried
-in a copy, with a stand-in for the toolchain. (Which program is run, and when, is tried by the check `statuses`.)
+It needs a proved program of today's sources: one that was built here, or that of release/. Calls without a program are tried in a copy,
+with a replacement of the toolchain. (Which program is run, and when, is tried by the check `statuses`.)
 """
 from __future__ import annotations
 
@@ -24,7 +24,7 @@ SCRIPT = TOP / "celtisdarts"
 PROGRAMS = ("celtisdarts", "celtisdarts_explain")
 HELP_OFFERED = " (./celtisdarts --help lists the options)\n"
 
-# A text without a fault whose answers are not all good ones: crate, section, supertraits and questions, in another order than answered.
+# A text without a fault whose answers are not all the best ones: crate, section, supertraits and queries, in another order than answered.
 MIXED = """\
 crate base
 trait Show
@@ -51,20 +51,20 @@ refute 2: open
 prove 3: yes ?x = (u8,)
 """
 
-# What is in front of it, and what is asked behind.
+# A text in front, and one after it.
 FRONT = """\
 crate std
 trait Display
 impl Display for u8
 """ + "// no statement\n" * 7 + "// the last of 11 lines, without an end"
-BEHIND = """\
+BODY = """\
 crate mine uses std
 trait Named
 impl<T> Named for T where T: Display
 prove in mine u8: Named
 impl Named for u8
 """
-BEHIND_ANSWER = """\
+BODY_ANSWER = """\
 crate std: accepted
 crate mine: overlap impl 2 with mine 1
 prove 1: yes
@@ -72,7 +72,7 @@ prove 1: yes
 
 RT = """\
 #!/bin/sh
-# Stands for the toolchain: what it compiles is a program that was proved before.
+# Replaces the toolchain: it compiles nothing, and runs a program that was proved before.
 [ "$1" != version ] || { echo "a toolchain"; exit; }
 while [ "$1" != -- ]; do
     [ "$1" != --cases ] || cases=$2
@@ -95,22 +95,22 @@ done
 
 @dataclass
 class Tally:
-    """Tells each case, with what was found in place of what is wanted."""
+    """Reports each case, with what was found in place of what is expected."""
 
-    told: common.Tally
+    tally: common.Tally
 
     def expect(self, name: str, is_so: bool, found: object) -> None:
-        self.told.expect(name, is_so, f"found: {found}")
+        self.tally.expect(name, is_so, f"found: {found}")
 
 
 @dataclass
 class Ended:
     status: int
     output: str
-    said: str
+    errors: str
 
-    def is_like(self, status: int, output: str, said: str = "") -> bool:
-        return (self.status, self.output, self.said) == (status, output, said)
+    def is_like(self, status: int, output: str, errors: str = "") -> bool:
+        return (self.status, self.output, self.errors) == (status, output, errors)
 
 
 def run(words: Sequence[str], text: str = "", cwd: Optional[Path] = None, script: Path = SCRIPT, env: Optional[Mapping[str, str]] = None,
@@ -147,7 +147,7 @@ class Room:
 
     def __init__(self, path: Path) -> None:
         self.path = path
-        for name, text in (("good.txt", "crate a\n"), ("mixed.txt", MIXED), ("front.txt", FRONT), ("behind.txt", BEHIND),
+        for name, text in (("good.txt", "crate a\n"), ("mixed.txt", MIXED), ("front.txt", FRONT), ("body.txt", BODY),
                            ("fault.txt", "crate a\n\nstruct\n"), ("-dashed", "crate a\n"), ("8", "crate b\n"), ("zero", "crate a\n\0\n")):
             (path / name).write_bytes(text.encode("latin-1"))
         (path / "folder").mkdir()
@@ -165,7 +165,7 @@ class Room:
 def try_help(tally: Tally) -> None:
     for word in ("--help", "-h"):
         ended = run([word])
-        is_good = ended.status == 0 and ended.said == "" and ended.output.startswith("usage: ./celtisdarts [DEPTH] [OPTION...] [FILE...]\n")
+        is_good = ended.status == 0 and ended.errors == "" and ended.output.startswith("usage: ./celtisdarts [DEPTH] [OPTION...] [FILE...]\n")
         tally.expect(word, is_good, ended)
     for option in ("--explain", "--json", "--proof", "--color", "--check", "--ask", "--with", "--file", "--build", "--version", "--help", "--"):
         tally.expect(f"help on {option}", f"\n  {option} " in run(["--help"]).output, "it is not listed")
@@ -174,14 +174,14 @@ def try_help(tally: Tally) -> None:
 def try_version(tally: Tally) -> None:
     ended = run(["--version"])
     first, *rest = ended.output.splitlines()
-    tally.expect("--version", ended.status == 0 and ended.said == "", ended)
+    tally.expect("--version", ended.status == 0 and ended.errors == "", ended)
     tally.expect("--version, the commit", bool(re.fullmatch(r"celtisdarts (\d{4}-\d\d-\d\d \(commit [0-9a-f]+\)|of an unknown commit)", first)), first)
-    told = dict(line.split(": ", 1) for line in rest[rest.index("celtisdarts") + 1:rest.index("celtisdarts_explain")] if line)
-    note = TOP / (told["program"] + ".proved")
+    version = dict(line.split(": ", 1) for line in rest[rest.index("celtisdarts") + 1:rest.index("celtisdarts_explain")] if line)
+    note = TOP / (version["program"] + ".proved")
     if note.exists():  # (nothing is noted of a program that the toolchain alone built)
         noted = dict(line.split(" ", 1) for line in note.read_text().splitlines())
-        tally.expect("--version, the sources", told["sources"] == noted["sources"], ended)
-        tally.expect("--version, the toolchain", told["toolchain"] == noted["toolchain"], ended)
+        tally.expect("--version, the sources", version["sources"] == noted["sources"], ended)
+        tally.expect("--version, the toolchain", version["toolchain"] == noted["toolchain"], ended)
 
 
 def try_mistakes(tally: Tally, room: Room) -> None:
@@ -213,9 +213,9 @@ def try_mistakes(tally: Tally, room: Room) -> None:
         "--with - -": "standard input is read once, and is named twice",
         "--with -": "standard input is read once, and is named twice",
     }
-    for words, said in mistakes.items():
+    for words, message in mistakes.items():
         ended = room.run(words)
-        tally.expect(f"the words '{words}'", ended.is_like(2, "", f"celtisdarts: {said}{HELP_OFFERED}"), ended)
+        tally.expect(f"the words '{words}'", ended.is_like(2, "", f"celtisdarts: {message}{HELP_OFFERED}"), ended)
     ended = run(["8", ""], cwd=room.path)
     tally.expect("an empty word", ended.is_like(2, "", "celtisdarts: an empty argument names no file" + HELP_OFFERED), ended)
     ended = run(["--\x1b[31m\n"], cwd=room.path)
@@ -248,20 +248,20 @@ def try_refused_files(tally: Tally, room: Room) -> None:
     for words in ("zero", "--check zero", "-"):
         ended = room.run(words, (room.path / "zero").read_text())
         name = "standard input" if words == "-" else "zero"
-        said = f"celtisdarts: {name}: {'--explain has the reason' if words == '-' else 'is no text: it has a byte 0'}\n"
-        tally.expect(f"bytes that are no text, '{words}'", ended.is_like(1, "line 2: fault 2\n", said), ended)
+        message = f"celtisdarts: {name}: {'--explain has the reason' if words == '-' else 'is no text: it has a byte 0'}\n"
+        tally.expect(f"bytes that are no text, '{words}'", ended.is_like(1, "line 2: fault 2\n", message), ended)
     with open(room.path / "zero", "rb") as source:
         ended = room.run("8", stdin=source.fileno())
     tally.expect("bytes that are no text, as the input", ended.is_like(1, "line 2: fault 2\n", "celtisdarts: standard input: is no text: it has a byte 0\n"), ended)
-    for words, said in {"fault.txt": "celtisdarts: fault.txt: --explain has the reason\n", "--check fault.txt": "", "--check --explain fault.txt": "",
+    for words, message in {"fault.txt": "celtisdarts: fault.txt: --explain has the reason\n", "--check fault.txt": "", "--check --explain fault.txt": "",
                         "--explain fault.txt": "", "--explain --json fault.txt": "", "--proof dot fault.txt": "", "good.txt": ""}.items():
         ended = room.run(words)
-        tally.expect(f"what is said, '{words}'", ended.said == said, ended)
-        is_answered = ended.status == (0 if words == "good.txt" else 1) and (said == "" or ended.output == "line 3: fault 2\n")
-        tally.expect(f"what is said, '{words}', beside the answer", is_answered, ended)
+        tally.expect(f"the messages, '{words}'", ended.errors == message, ended)
+        is_answered = ended.status == (0 if words == "good.txt" else 1) and (message == "" or ended.output == "line 3: fault 2\n")
+        tally.expect(f"the messages, '{words}', with the answer", is_answered, ended)
     several = room.run("good.txt nosuch 8")
-    wanted = "== good.txt\ncrate a: accepted\n== nosuch\n== 8\ncrate b: accepted\n"
-    tally.expect("one missing file of several", several.is_like(3, wanted, "celtisdarts: nosuch: no such file\n"), several)
+    expected = "== good.txt\ncrate a: accepted\n== nosuch\n== 8\ncrate b: accepted\n"
+    tally.expect("one missing file of several", several.is_like(3, expected, "celtisdarts: nosuch: no such file\n"), several)
 
 
 # ---- depth, files, standard input
@@ -279,45 +279,45 @@ def try_depth(tally: Tally, room: Room) -> None:
     room.write("short", chain(128))
     room.write("long", chain(129))
     good, cut = "crate a: accepted\nprove 1: yes\n", "crate a: accepted\nprove 1: maybe\n"
-    for words, wanted in {"short": good, "long": cut, "127 short": cut, "128 short": good, "128 long": cut, "129 long": good, "255 long": good,
+    for words, expected in {"short": good, "long": cut, "127 short": cut, "128 short": good, "128 long": cut, "129 long": good, "255 long": good,
                           "001 short": cut, "129 -- long": good, "--check 129 long": good, "--check short": good}.items():
         ended = room.run(words)
-        tally.expect(f"the words '{words}'", ended.output == wanted, ended)
+        tally.expect(f"the words '{words}'", ended.output == expected, ended)
     ended = room.run("short 129")
-    tally.expect("a number behind a file", ended.said == "celtisdarts: 129: no such file (the depth comes before all files)\n", ended)
+    tally.expect("a number after a file", ended.errors == "celtisdarts: 129: no such file (the depth comes before all files)\n", ended)
     for words in ("8 8", "-- 8", "8 -- 8", "./8", "--with good.txt -- 8"):
         tally.expect(f"the file 8, '{words}'", room.run(words).output.endswith("crate b: accepted\n"), room.run(words))
 
 
-def try_places(tally: Tally, room: Room) -> None:
-    """Options may stand anywhere, and a value may stand behind `=`."""
-    wanted = room.run("--explain 8 mixed.txt")
-    tally.expect("an explained answer", "error[E0119]" in wanted.output and wanted.status == 0, wanted)
+def try_positions(tally: Tally, room: Room) -> None:
+    """Options may come anywhere, and a value may follow `=`."""
+    expected = room.run("--explain 8 mixed.txt")
+    tally.expect("an explained answer", "error[E0119]" in expected.output and expected.status == 0, expected)
     for words in ("8 --explain mixed.txt", "8 mixed.txt --explain", "8 --explain -- mixed.txt", "--color=never 8 mixed.txt --explain",
                   "8 mixed.txt --color auto --explain --file=mixed.txt"):
-        tally.expect(f"the words '{words}'", room.run(words) == wanted, room.run(words))
+        tally.expect(f"the words '{words}'", room.run(words) == expected, room.run(words))
     for words in ("8", "", "-", "8 -", "- --file x"):
         ended = room.run(words, MIXED)
         tally.expect(f"standard input, '{words}'", ended.is_like(0, MIXED_ANSWER), ended)
     ended = room.run("good.txt - 8", MIXED)
-    wanted_output = f"== good.txt\ncrate a: accepted\n== -\n{MIXED_ANSWER}== 8\ncrate b: accepted\n"
-    tally.expect("standard input among files", ended.is_like(0, wanted_output), ended)
+    expected_output = f"== good.txt\ncrate a: accepted\n== -\n{MIXED_ANSWER}== 8\ncrate b: accepted\n"
+    tally.expect("standard input among files", ended.is_like(0, expected_output), ended)
     ended = room.run("-- -dashed")
     tally.expect("a file with a dash", ended.is_like(0, "crate a: accepted\n"), ended)
     shutil.copy(room.path / "good.txt", room.path / "\x1b[1m")
     ended = run(["good.txt", "\x1b[1m"], cwd=room.path)
     tally.expect("a name with an escape above its answer", ended.is_like(0, "== good.txt\ncrate a: accepted\n== ?[1m\ncrate a: accepted\n"), ended)
     ended = run(["--explain", "fault.txt", "--file", "\x1b[1m"], cwd=room.path)
-    tally.expect("a name with an escape beside a line", "--> ?[1m:3:7\n" in ended.output and "\x1b" not in ended.output, ended)
+    tally.expect("a name with an escape before a line", "--> ?[1m:3:7\n" in ended.output and "\x1b" not in ended.output, ended)
     both = room.run("--explain good.txt mixed.txt")
-    tally.expect("two explained files", both.output == f"== good.txt\ncrate a: accepted\n== mixed.txt\n{wanted.output}", both)
+    tally.expect("two explained files", both.output == f"== good.txt\ncrate a: accepted\n== mixed.txt\n{expected.output}", both)
 
 
 # ---- expectations
 
 
 def try_check(tally: Tally, room: Room) -> None:
-    """What --check says of MIXED, whose good answers are those of crate base and of question 3."""
+    """The messages of --check about MIXED, whose best answers are those of crate base and of query 3."""
     found = ["mixed.txt:5: prove 1: expected `yes`, found `unproved`",
              "mixed.txt:6: later base: expected `compatible`, found `breaking impl 1`",
              "mixed.txt:8: crate a: expected `accepted`, found `overlap impl 2 with a 1`",
@@ -325,23 +325,23 @@ def try_check(tally: Tally, room: Room) -> None:
              "mixed.txt:13: refute 2: expected `no`, found `open`"]
     ended = room.run("8 --check mixed.txt")
     tally.expect("answers that are not good", ended.is_like(4, MIXED_ANSWER, "\n".join(found) + "\n"), ended)
-    said = "".join(f"{line}\n" for line in found)
+    message = "".join(f"{line}\n" for line in found)
     for words in ("8 --check --explain mixed.txt", "8 --check --explain --json mixed.txt", "8 --check --explain --color always mixed.txt"):
         ended = room.run(words)
-        tally.expect(f"the words '{words}'", ended.status == 4 and ended.said == said and ended.output == room.run(words.replace("--check ", "")).output, ended)
+        tally.expect(f"the words '{words}'", ended.status == 4 and ended.errors == message and ended.output == room.run(words.replace("--check ", "")).output, ended)
     ended = room.run("8 --check", MIXED)
-    tally.expect("answers on standard input", ended.is_like(4, MIXED_ANSWER, said.replace("mixed.txt", "<stdin>")), ended)
+    tally.expect("answers on standard input", ended.is_like(4, MIXED_ANSWER, message.replace("mixed.txt", "<stdin>")), ended)
     ended = room.run("8 --check --file a.txt mixed.txt")
-    tally.expect("answers of a text that is called otherwise", ended.said == said.replace("mixed.txt", "a.txt"), ended)
+    tally.expect("answers of a text with another name", ended.errors == message.replace("mixed.txt", "a.txt"), ended)
     for text, status in (("crate a\n", 0), ("", 0), ("crate a\nstruct\n", 1)):
         ended = run(["--check"], text)
-        tally.expect(f"status {status} of a checked text", ended.status == status and ended.said == "", ended)
+        tally.expect(f"status {status} of a checked text", ended.status == status and ended.errors == "", ended)
     ended = room.run("--check good.txt mixed.txt fault.txt")
-    tally.expect("three checked files", ended.status == 4 and ended.said == said, ended)
+    tally.expect("three checked files", ended.status == 4 and ended.errors == message, ended)
 
 
 def try_expectations(tally: Tally) -> None:
-    """The line behind `// expect:`, what it expects, and what is found: nothing where it is met."""
+    """The line after `// expect:`, what it expects, and what is found: nothing if it is met."""
     cases = [
         ("prove in a u8: Sized", "yes", ""),
         ("prove in a u8: Sized", "unproved", "3: prove 1: expected `unproved`, found `yes`"),
@@ -371,91 +371,91 @@ def try_expectations(tally: Tally) -> None:
         for spelling in ("// expect: ", "  //expect:   "):
             ended = run(["--check"], f"crate a\n{spelling}{expected}\n{line}\n")
             status = 1 if found == "fault" else 4 if found else 0
-            said = f"<stdin>:{found}\n" if status == 4 else ""
-            tally.expect(f"`{line}`, expected `{expected}`", ended.status == status and ended.said == said, ended)
+            message = f"<stdin>:{found}\n" if status == 4 else ""
+            tally.expect(f"`{line}`, expected `{expected}`", ended.status == status and ended.errors == message, ended)
     for expected, status in (("yes", 0), ("yes ?x = u8", 0), ("yes ?x = u8, ?y = fn(u8) -> bool", 0), ("yes ?x = u8, ?y = fn(u8)", 4), ("yes ?x = u", 4)):
         text = f"crate a\ntrait Two<A, B>\nstruct S\nimpl Two<u8, fn(u8) -> bool> for S\n// expect: {expected}\nprove in a S: Two<?x, ?y>\n"
         ended = run(["--check"], text)
         tally.expect(f"two values, expected `{expected}`", ended.status == status, ended)
     ended = run(["--check"], "crate a\n// expected: no\n// Expect: no\nprove in a u8: Sized\n// expect: no")
-    tally.expect("an expectation at the end", ended.status == 4 and ended.said == "<stdin>:5: `// expect:` stands before no line that has an answer\n", ended)
+    tally.expect("an expectation at the end", ended.status == 4 and ended.errors == "<stdin>:5: `// expect:` stands before no line that has an answer\n", ended)
     ended = run(["--check"], "crate a\n// expect: unproved \t\r\nprove in a [u8]: Sized\n")
     tally.expect("an expectation with CR LF", ended.is_like(0, "crate a: accepted\nprove 1: unproved\n"), ended)
 
 
-def try_kept_texts(tally: Tally) -> None:
+def try_texts(tally: Tally) -> None:
     ended = run(["--with", "texts/std.txt", "--check", "texts/std_answers.txt"], cwd=TOP)
-    tally.expect("texts/std_answers.txt", ended.status == 0 and ended.said == "", ended)
-    asked = re.findall(r"^prove ", (TOP / "texts" / "std_answers.txt").read_text(), re.M)
-    tally.expect("texts/std_answers.txt, its answers", ended.output.count("\nprove ") == len(asked) > 50, len(asked))
+    tally.expect("texts/std_answers.txt", ended.status == 0 and ended.errors == "", ended)
+    queries = re.findall(r"^prove ", (TOP / "texts" / "std_answers.txt").read_text(), re.M)
+    tally.expect("texts/std_answers.txt, its answers", ended.output.count("\nprove ") == len(queries) > 50, len(queries))
     text = (TOP / "texts" / "std_answers.txt").read_text().replace("// expect: unproved\nprove in user Ptr<u8>: Send", "prove in user Ptr<u8>: Send")
     ended = run(["--with", "texts/std.txt", "--check"], text, cwd=TOP)
-    tally.expect("a raw pointer that is not Send", ended.status == 4 and ended.said.endswith(": expected `yes`, found `unproved`\n") and ended.said.count("\n") == 1, ended)
+    tally.expect("a raw pointer that is not Send", ended.status == 4 and ended.errors.endswith(": expected `yes`, found `unproved`\n") and ended.errors.count("\n") == 1, ended)
 
 
 def try_documents(tally: Tally, room: Room) -> None:
     """The texts of docs/FORMAT.md about expectations, and about Send and Sync."""
     blocks = (TOP / "docs" / "FORMAT.md").read_text().split("```")
-    kept = next(block for block in blocks if "// expect: overlap" in block)[len("text\n"):]
-    ended = run(["--check"], kept)
-    tally.expect("the kept text of FORMAT.md", ended.status == 0 and ended.said == "" and ended.output.count("\n") == 4, ended)
-    room.write("mine.txt", "".join(line for number, line in enumerate(kept.splitlines(keepends=True), 1) if number != 5))
+    text = next(block for block in blocks if "// expect: overlap" in block)[len("text\n"):]
+    ended = run(["--check"], text)
+    tally.expect("the text of FORMAT.md", ended.status == 0 and ended.errors == "" and ended.output.count("\n") == 4, ended)
+    room.write("mine.txt", "".join(line for number, line in enumerate(text.splitlines(keepends=True), 1) if number != 5))
     ended = room.run("--check mine.txt")
-    said = blocks[blocks.index(f"text\n{kept}") + 2][len("text\n"):]
-    tally.expect("the kept text of FORMAT.md without its fifth line", ended.status == 4 and ended.said == said, ended)
+    message = blocks[blocks.index(f"text\n{text}") + 2][len("text\n"):]
+    tally.expect("the text of FORMAT.md without its fifth line", ended.status == 4 and ended.errors == message, ended)
     recipe = next(block for block in blocks if "fundamental struct Ref<T>" in block)[len("text\n"):]
-    asked = {"&u8": "yes", "Ref<u8>": "yes", "&(u8, Ptr<u8>)": "unproved", "Ref<&mut u8>": "yes", "Ptr<u8>": "unproved", "*const u8": "yes"}
-    ended = run(["--check"], recipe + "".join(f"// expect: {answer}\nprove in base {kind}: Send\n" for kind, answer in asked.items()))
-    tally.expect("the recipe of FORMAT.md", ended.status == 0 and ended.output.count("\n") == 1 + len(asked), ended)
+    answers = {"&u8": "yes", "Ref<u8>": "yes", "&(u8, Ptr<u8>)": "unproved", "Ref<&mut u8>": "yes", "Ptr<u8>": "unproved", "*const u8": "yes"}
+    ended = run(["--check"], recipe + "".join(f"// expect: {answer}\nprove in base {kind}: Send\n" for kind, answer in answers.items()))
+    tally.expect("the recipe of FORMAT.md", ended.status == 0 and ended.output.count("\n") == 1 + len(answers), ended)
 
 
 # ---- several files that are one text
 
 
 def try_with(tally: Tally, room: Room) -> None:
-    """What stands in front ends with a line that has no end."""
-    for words in ("--with front.txt behind.txt", "behind.txt --with=front.txt"):
+    """The text in front ends with a line that has no end."""
+    for words in ("--with front.txt body.txt", "body.txt --with=front.txt"):
         ended = room.run(words)
-        tally.expect(f"the words '{words}'", ended.is_like(0, BEHIND_ANSWER), ended)
-    ended = room.run("--with front.txt", BEHIND)
-    tally.expect("standard input behind a file", ended.is_like(0, BEHIND_ANSWER), ended)
-    ended = room.run("--with - behind.txt", FRONT)
-    tally.expect("standard input in front of a file", ended.is_like(0, BEHIND_ANSWER), ended)
-    ended = room.run("--with front.txt behind.txt good.txt")
-    wanted = f"== behind.txt\n{BEHIND_ANSWER}== good.txt\ncrate std: accepted\ncrate a: accepted\n"
-    tally.expect("two texts with a file in front of each", ended.is_like(0, wanted), ended)
-    ended = room.run("--with front.txt --check behind.txt")
-    said = "behind.txt:1: crate mine: expected `accepted`, found `overlap impl 2 with mine 1`\n"
-    tally.expect("a checked text with a file in front", ended.is_like(4, BEHIND_ANSWER, said), ended)
+        tally.expect(f"the words '{words}'", ended.is_like(0, BODY_ANSWER), ended)
+    ended = room.run("--with front.txt", BODY)
+    tally.expect("standard input after a file", ended.is_like(0, BODY_ANSWER), ended)
+    ended = room.run("--with - body.txt", FRONT)
+    tally.expect("standard input in front of a file", ended.is_like(0, BODY_ANSWER), ended)
+    ended = room.run("--with front.txt body.txt good.txt")
+    expected = f"== body.txt\n{BODY_ANSWER}== good.txt\ncrate std: accepted\ncrate a: accepted\n"
+    tally.expect("two texts with a file in front of each", ended.is_like(0, expected), ended)
+    ended = room.run("--with front.txt --check body.txt")
+    message = "body.txt:1: crate mine: expected `accepted`, found `overlap impl 2 with mine 1`\n"
+    tally.expect("a checked text with a file in front", ended.is_like(4, BODY_ANSWER, message), ended)
 
     room.write("more.txt", "crate more uses std\n// expect: no\nprove in std u8: Display\n")
     ended = room.run("--with front.txt --with more.txt --check good.txt")
-    tally.expect("an expectation in a file in front", ended.said == "more.txt:3: prove 1: expected `no`, found `yes`\n", ended)
+    tally.expect("an expectation in a file in front", ended.errors == "more.txt:3: prove 1: expected `no`, found `yes`\n", ended)
     ended = room.run("--with front.txt --with more.txt fault.txt")
-    tally.expect("a fault behind", ended.is_like(1, "line 3: fault 2\n", "celtisdarts: fault.txt: --explain has the reason\n"), ended)
+    tally.expect("a fault after it", ended.is_like(1, "line 3: fault 2\n", "celtisdarts: fault.txt: --explain has the reason\n"), ended)
     ended = room.run("--with front.txt --with fault.txt good.txt")
     tally.expect("a fault in front", ended.is_like(1, "fault.txt: line 3: fault 2\n", "celtisdarts: good.txt: --explain has the reason\n"), ended)
     ended = room.run("--explain --with front.txt --with fault.txt good.txt")
-    wanted = "fault.txt: line 3: fault 2\nerror: "
-    tally.expect("a fault in front, explained", ended.status == 1 and ended.output.startswith(wanted) and "\n  --> fault.txt:3:7\n" in ended.output
+    expected = "fault.txt: line 3: fault 2\nerror: "
+    tally.expect("a fault in front, explained", ended.status == 1 and ended.output.startswith(expected) and "\n  --> fault.txt:3:7\n" in ended.output
                  and "\n3  | struct\n" in ended.output, ended)
     ended = room.run("--with front.txt folder good.txt")
-    tally.expect("a folder behind", ended.is_like(3, "== folder\n== good.txt\ncrate std: accepted\ncrate a: accepted\n", "celtisdarts: folder: is a folder\n"), ended)
+    tally.expect("a folder after it", ended.is_like(3, "== folder\n== good.txt\ncrate std: accepted\ncrate a: accepted\n", "celtisdarts: folder: is a folder\n"), ended)
 
 
 def try_with_explained(tally: Tally, room: Room) -> None:
-    """Line 3 of behind.txt is line 14 of the whole text: numbers of two digits have their place."""
-    ended = room.run("--explain --with front.txt behind.txt")
-    for row in ("  --> behind.txt:5:6", "3  | impl<T> Named for T where T: Display", "5  | impl Named for u8", "   |      ^^^^^^^^^^^^ conflicting implementation for `u8`",
-                "  --> behind.txt:4:15", "   = proof: u8: Named         impl at line 3", "            `- u8: Display    impl at line 3 of front.txt"):
+    """Line 3 of body.txt is line 14 of the whole text: there is room for numbers of two digits."""
+    ended = room.run("--explain --with front.txt body.txt")
+    for row in ("  --> body.txt:5:6", "3  | impl<T> Named for T where T: Display", "5  | impl Named for u8", "   |      ^^^^^^^^^^^^ conflicting implementation for `u8`",
+                "  --> body.txt:4:15", "   = proof: u8: Named         impl at line 3", "            `- u8: Display    impl at line 3 of front.txt"):
         tally.expect(f"explained, the row {row!r}", row in ended.output.splitlines(), ended.output)
     room.write("blanket.txt", "crate blanket\ntrait Wide\nimpl<T> Wide for T\n")
     room.write("narrow.txt", "crate narrow uses blanket\nstruct N\nimpl Wide for N\n")
     ended = room.run("--explain --with blanket.txt narrow.txt")
-    wanted = ["error[E0119]: conflicting implementations of trait `Wide` for type `N`: lines 3 of blanket.txt and 3",
+    expected = ["error[E0119]: conflicting implementations of trait `Wide` for type `N`: lines 3 of blanket.txt and 3",
               " --> narrow.txt:3:6", "  |", " ::: blanket.txt:3", "3 | impl<T> Wide for T", " ::: narrow.txt:3", "3 | impl Wide for N"]
     rows = iter(ended.output.splitlines())
-    tally.expect("an overlap between files", all(row in rows for row in wanted), ended.output)
+    tally.expect("an overlap between files", all(row in rows for row in expected), ended.output)
     colored = room.run("--explain --color always --with blanket.txt narrow.txt").output
     tally.expect("an overlap between files with colours", re.sub(r"\x1b\[[0-9;]*m", "", colored) == ended.output and "\x1b" in colored, colored)
 
@@ -470,8 +470,8 @@ def spans_in(value: object) -> list[dict[str, object]]:
 
 def try_with_json(tally: Tally, room: Room) -> None:
     """Each span's bytes and columns are those of its own file."""
-    explained = room.run("--explain --with front.txt behind.txt")
-    ended = room.run("--explain --json --with front.txt behind.txt")
+    explained = room.run("--explain --with front.txt body.txt")
+    ended = room.run("--explain --json --with front.txt body.txt")
     objects = [json.loads(line) for line in ended.output.splitlines()]
     tally.expect("objects", len(objects) == 3 and ended.status == 0, ended)
     spans = spans_in(objects)
@@ -482,29 +482,29 @@ def try_with_json(tally: Tally, room: Room) -> None:
         marked = line[int(str(span["column_start"])) - 1:int(str(span["column_end"])) - 1]
         tally.expect("a span", marked != b"" and data[int(str(span["byte_start"])):int(str(span["byte_end"]))] == marked, span)
     messages = [str(child["message"]) for item in objects for child in item.get("children", [])]
-    wanted = "proof:\nu8: Named         impl at line 3\n`- u8: Display    impl at line 3 of front.txt"
-    tally.expect("a proof as JSON", wanted in messages, messages)
+    expected = "proof:\nu8: Named         impl at line 3\n`- u8: Display    impl at line 3 of front.txt"
+    tally.expect("a proof as JSON", expected in messages, messages)
     rendered = "".join(str(item.get("rendered", "")) for item in objects)
     rows = [row for row in explained.output.splitlines() if not row.startswith(("crate", "prove"))]
     tally.expect("what is rendered", rendered.splitlines() == rows, rendered)
     ended = room.run("--explain --json --with fault.txt good.txt")
-    told, further = map(json.loads, ended.output.splitlines())
-    tally.expect("a fault in front as JSON", told["answer"] == "fault.txt: line 3: fault 2", ended)
+    first, further = map(json.loads, ended.output.splitlines())
+    tally.expect("a fault in front as JSON", first["answer"] == "fault.txt: line 3: fault 2", ended)
     parts = {"answered": "line", "line": 3, "file": "fault.txt", "kind": "fault", "fault": 2}
-    tally.expect("the parts of a fault in front", told["parts"] == parts, ended)
+    tally.expect("the parts of a fault in front", first["parts"] == parts, ended)
     parts = {"answered": "line", "line": 1, "kind": "fault", "fault": 4}
-    tally.expect("a further fault behind", further["answer"] == "" and further["parts"] == parts and further["spans"][0]["line_start"] == 1, ended)
+    tally.expect("a further fault after it", further["answer"] == "" and further["parts"] == parts and further["spans"][0]["line_start"] == 1, ended)
 
 
 def try_proof(tally: Tally, room: Room) -> None:
     """A proof as a picture: a node for each row, and an edge to each premise."""
-    ended = room.run("--proof dot --with front.txt behind.txt")
+    ended = room.run("--proof dot --with front.txt body.txt")
     nodes = re.findall(r'^    (\w+) \[label="(.*)"\];$', ended.output, re.M)
     edges = re.findall(r"^    (\w+) -> (\w+);$", ended.output, re.M)
-    said = dict(nodes)
-    wanted = ("u8: Named\\nimpl at line 3", "u8: Display\\nimpl at line 3 of front.txt")
-    tally.expect("a proof as a picture", ended.status == 0 and wanted in [(said[above], said[below]) for above, below in edges], ended)
-    is_whole = ended.output.startswith("digraph proofs {\n") and ended.output.endswith("}\n") and len(nodes) == len(said)
+    labels = dict(nodes)
+    expected = ("u8: Named\\nimpl at line 3", "u8: Display\\nimpl at line 3 of front.txt")
+    tally.expect("a proof as a picture", ended.status == 0 and expected in [(labels[above], labels[below]) for above, below in edges], ended)
+    is_whole = ended.output.startswith("digraph proofs {\n") and ended.output.endswith("}\n") and len(nodes) == len(labels)
     tally.expect("a picture, whole", is_whole, ended)
     ended = room.run("--proof=dot good.txt")
     tally.expect("a picture of no proof", ended.status == 0 and "label" not in ended.output and ended.output.endswith("}\n"), ended)
@@ -517,10 +517,10 @@ def try_without_python(tally: Tally, room: Room, folder: Path) -> None:
         (folder / name).symlink_to(shutil.which(name) or name)
     for words in ("good.txt", "--check good.txt", "--with front.txt --check good.txt", "--explain --check good.txt"):
         ended = run(words.split(), cwd=room.path, env={"PATH": str(folder)})
-        tally.expect(f"without Python, '{words}'", ended.status == 0 and ended.said == "", ended)
+        tally.expect(f"without Python, '{words}'", ended.status == 0 and ended.errors == "", ended)
     ended = run(["--explain", "--with", "front.txt", "good.txt"], cwd=room.path, env={"PATH": str(folder)})
-    said = "celtisdarts: --explain and --with together need the command 'python3'\n"
-    tally.expect("without Python, --explain and --with", ended.status == 0 or ended.is_like(3, "", said), ended)
+    message = "celtisdarts: --explain and --with together need the command 'python3'\n"
+    tally.expect("without Python, --explain and --with", ended.status == 0 or ended.is_like(3, "", message), ended)
 
 
 # ---- colours, terminals, and what is refused
@@ -530,7 +530,7 @@ def try_terminal(tally: Tally, room: Room) -> None:
     def has_colors(words: str, **env: str) -> bool:
         return "\x1b[" in at_terminal(words.split(), ("stdout",), cwd=room.path, env={"NO_COLOR": "", **env})[1]
 
-    for words in ("--explain mixed.txt", "--explain --check mixed.txt", "--explain --with front.txt behind.txt"):
+    for words in ("--explain mixed.txt", "--explain --check mixed.txt", "--explain --with front.txt body.txt"):
         tally.expect(f"colours on a terminal, '{words}'", has_colors(words), "none")
         tally.expect(f"NO_COLOR, '{words}'", not has_colors(words, NO_COLOR="1"), "colours")
         tally.expect(f"TERM=dumb, '{words}'", not has_colors(words, TERM="dumb"), "colours")
@@ -541,12 +541,12 @@ def try_terminal(tally: Tally, room: Room) -> None:
     tally.expect("no colours in a file", "\x1b" not in room.run("--explain mixed.txt").output, "colours")
     status, shown = at_terminal([], ("stdin", "stderr"))
     tally.expect("no word at a terminal", (status, shown) == (2, "celtisdarts: there is no text: name a file" + HELP_OFFERED), (status, shown))
-    for given, said in ((["fault.txt"], "celtisdarts: fault.txt: --explain has the reason\n"), (["--explain", "fault.txt"], ""), (["good.txt"], "")):
+    for given, message in ((["fault.txt"], "celtisdarts: fault.txt: --explain has the reason\n"), (["--explain", "fault.txt"], ""), (["good.txt"], "")):
         shown = at_terminal(given, ("stderr",), cwd=room.path)[1]
-        tally.expect(f"a fault at a terminal, {given}", shown == said, shown)
+        tally.expect(f"a fault at a terminal, {given}", shown == message, shown)
     status, shown = at_terminal(["8"], ("stdin", "stdout", "stderr"), typed=b"crate a\n\x04")
-    wanted = "celtisdarts: reading the text from the terminal, until Ctrl-D on a line by itself\n"
-    tally.expect("a text that is typed", status == 0 and wanted in shown and shown.endswith("crate a: accepted\n"), (status, shown))
+    expected = "celtisdarts: reading the text from the terminal, until Ctrl-D on a line by itself\n"
+    tally.expect("a text that is typed", status == 0 and expected in shown and shown.endswith("crate a: accepted\n"), (status, shown))
 
 
 def try_full_device(tally: Tally, room: Room) -> None:
@@ -554,14 +554,14 @@ def try_full_device(tally: Tally, room: Room) -> None:
         return
     with open("/dev/full", "wb") as full, open(room.path / "mixed.txt", "rb") as source:
         for words in ("8", "8 mixed.txt", "8 mixed.txt mixed.txt", "--check mixed.txt", "--explain mixed.txt", "--explain --json mixed.txt",
-                      "--with front.txt behind.txt", "--explain --with front.txt behind.txt", "--help", "--version"):
+                      "--with front.txt body.txt", "--explain --with front.txt body.txt", "--help", "--version"):
             source.seek(0)
             ended = room.run(words, stdin=source.fileno(), stdout=full.fileno())
-            lines = ended.said.splitlines()
-            is_told = len(lines) == 1 and lines[0].startswith("celtisdarts: ") and lines[0].endswith("standard output could not be written")
-            tally.expect(f"a full device, '{words}'", ended.status == 3 and is_told, ended)
+            lines = ended.errors.splitlines()
+            is_reported = len(lines) == 1 and lines[0].startswith("celtisdarts: ") and lines[0].endswith("standard output could not be written")
+            tally.expect(f"a full device, '{words}'", ended.status == 3 and is_reported, ended)
         ended = room.run("8", MIXED, stdout=full.fileno())
-        tally.expect("a full device, from a pipe", ended.status == 3 and ended.said.count("\n") == 1, ended)
+        tally.expect("a full device, from a pipe", ended.status == 3 and ended.errors.count("\n") == 1, ended)
 
 
 def try_refused_output(tally: Tally, room: Room) -> None:
@@ -572,11 +572,11 @@ def try_refused_output(tally: Tally, room: Room) -> None:
         ended = room.run(words, stdout=writer)
         os.close(writer)
         tally.expect(f"a pipe without a reader, '{words}'", ended.is_like(3, ""), ended)
-    for words, said in {"8 <&-": "standard input: is closed", "8 < .": "standard input: is a folder",
+    for words, message in {"8 <&-": "standard input: is closed", "8 < .": "standard input: is a folder",
                         "8 good.txt >&-": "good.txt: no whole answer: standard output is closed", "8 < good.txt >&-":
                         "standard input: no whole answer: standard output is closed", "--check good.txt >&-": "standard output could not be written"}.items():
         done = subprocess.run(["sh", "-c", f"{SCRIPT} {words}"], cwd=room.path, stdout=subprocess.PIPE, stderr=subprocess.PIPE, text=True, check=False)
-        tally.expect(f"'{words}'", (done.returncode, done.stdout, done.stderr) == (3, "", f"celtisdarts: {said}\n"), done)
+        tally.expect(f"'{words}'", (done.returncode, done.stdout, done.stderr) == (3, "", f"celtisdarts: {message}\n"), done)
 
 
 # ---- where nothing is built
@@ -584,15 +584,15 @@ def try_refused_output(tally: Tally, room: Room) -> None:
 
 def program_of(name: str) -> Path:
     """The program that the script runs, by its own word."""
-    told = run(["--version"]).output.split(f"\n{name}\n")[1]
-    path = told.split("program: ")[1].split("\n")[0]
+    version = run(["--version"]).output.split(f"\n{name}\n")[1]
+    path = version.split("program: ")[1].split("\n")[0]
     if path.startswith("none"):
         raise common.Missing(f"no proved {name} of today's sources: ./celtisdarts --build")
     return TOP / path
 
 
 def make_unbuilt(folder: Path) -> dict[str, str]:
-    """A copy with nothing built, and the environment in which a stand-in is its toolchain."""
+    """A copy with nothing built, and the environment with a replacement of its toolchain."""
     shutil.copytree(TOP / "tools" / "command", folder / "clone" / "tools" / "command")
     for name in ("celtisdarts", "crates.txt", "tools/program.sh"):
         shutil.copy(TOP / name, folder / "clone" / name)
@@ -612,18 +612,18 @@ def try_unbuilt(tally: Tally, room: Room, folder: Path) -> None:
     env = make_unbuilt(folder)
     script = folder / "clone" / "celtisdarts"
     compiling = "celtisdarts: compiling for this one call, which takes minutes; ./celtisdarts --build makes the proved programs once\n"
-    for words, times in {"mixed.txt": 1, "good.txt mixed.txt": 1, "8 --check mixed.txt": 1, "8 --with front.txt behind.txt": 1, "--explain mixed.txt": 1,
-                         "--explain --json mixed.txt": 1, "--explain good.txt mixed.txt": 2, "--explain --check --with front.txt behind.txt good.txt": 2,
+    for words, times in {"mixed.txt": 1, "good.txt mixed.txt": 1, "8 --check mixed.txt": 1, "8 --with front.txt body.txt": 1, "--explain mixed.txt": 1,
+                         "--explain --json mixed.txt": 1, "--explain good.txt mixed.txt": 2, "--explain --check --with front.txt body.txt good.txt": 2,
                          "--with front.txt fault.txt": 1}.items():
         built, ended = room.run(words), run(words.split(), script=script, cwd=room.path, env=env)
         tally.expect(f"unbuilt, '{words}'", (ended.status, ended.output) == (built.status, built.output), ended)
-        tally.expect(f"unbuilt, '{words}', what is said", ended.said.count(compiling) == times and ended.said.replace(compiling, "") == built.said, ended)
-    told = run(["--version"], script=script, env=env).output
-    tally.expect("unbuilt, --version", "program: none; each call compiles it\ntoolchain: a toolchain\n" in told and "of an unknown commit" in told, told)
-    told = run(["--help"], script=script, env=env).output
-    tally.expect("unbuilt, --help", "Each call takes minutes, since it compiles" in told, told)
+        tally.expect(f"unbuilt, '{words}', the messages", ended.errors.count(compiling) == times and ended.errors.replace(compiling, "") == built.errors, ended)
+    printed = run(["--version"], script=script, env=env).output
+    tally.expect("unbuilt, --version", "program: none; each call compiles it\ntoolchain: a toolchain\n" in printed and "of an unknown commit" in printed, printed)
+    printed = run(["--help"], script=script, env=env).output
+    tally.expect("unbuilt, --help", "Each call takes minutes, since it compiles" in printed, printed)
 
-    # A `sleep` that does not wait lets time pass. Its 65th call ends what the stand-in waits for.
+    # A `sleep` that does not wait lets time pass. Its 65th call ends what the replacement waits for.
     (folder / "bin" / "sleep").write_text('#!/bin/sh\necho >> "$STANDIN/slept"\n[ "$(wc -l < "$STANDIN/slept")" -lt 65 ] || rm -f "$STANDIN/wait"\n')
     (folder / "bin" / "sleep").chmod(0o755)
     (folder / "wait").touch()
@@ -635,8 +635,8 @@ def try_unbuilt(tally: Tally, room: Room, folder: Path) -> None:
     tally.expect("no such line in a file", ended.is_like(0, "crate a: accepted\n", compiling), ended)
 
 
-def check(told: common.Tally, _: argparse.Namespace) -> None:
-    tally = Tally(told)
+def check(common_tally: common.Tally, _: argparse.Namespace) -> None:
+    tally = Tally(common_tally)
     for name in PROGRAMS:
         program_of(name)
     with tempfile.TemporaryDirectory() as first, tempfile.TemporaryDirectory() as second:
@@ -646,10 +646,10 @@ def check(told: common.Tally, _: argparse.Namespace) -> None:
         try_mistakes(tally, room)
         try_refused_files(tally, room)
         try_depth(tally, room)
-        try_places(tally, room)
+        try_positions(tally, room)
         try_check(tally, room)
         try_expectations(tally)
-        try_kept_texts(tally)
+        try_texts(tally)
         try_documents(tally, room)
         try_with(tally, room)
         try_with_explained(tally, room)

@@ -1,7 +1,7 @@
-"""The packages of tools/from_rustdoc stand in an order: no module imports from a package behind its own.
+"""The packages of tools/from_rustdoc are ordered: no module imports from a later package.
 
-The order is that of `PACKAGES` in read/proved.py, which is to name each package that is there. The command and what else stands beside the
-packages may import all of them, and no package imports these. What is imported for types alone does not count. It takes a moment.
+The order is that of `PACKAGES` in read/proved.py, which has to name each package. The command and other modules next to the packages may
+import all of them, and no package imports these. Imports for types alone do not count. It takes a moment.
 """
 from __future__ import annotations
 
@@ -29,7 +29,7 @@ def runs(tree: ast.AST) -> Iterator[ast.ImportFrom]:
 
 
 def packages_of(path: Path) -> Iterator[tuple[int, str]]:
-    """The packages from which a module of a package imports, by the line: its own, another, or none for what stands beside them."""
+    """The packages from which a module of a package imports, by the line: its own, another, or none for a module next to them."""
     for it in runs(ast.parse(path.read_text(encoding="utf-8"))):
         names = (it.module or "").split(".") if it.module else [name.name for name in it.names]
         for name in [path.parent.name] if it.level == 1 else names[:1] if it.module else names:

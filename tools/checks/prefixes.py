@@ -1,6 +1,6 @@
 """Every prefix of some texts without a fault, cut at each byte.
 
-A prefix that ends with its line is answered by a line for each of its crates, sections, lines `supers` and questions. One that ends
+A prefix that ends with its line is answered by a line for each of its crates, sections, lines `supers` and queries. One that ends
 inside a line is answered likewise, or is refused by a fault in that line.
 """
 from __future__ import annotations

@@ -61,7 +61,7 @@ CHECK = re.compile(r"`tools/check (\w+)")
 
 
 class Token(NamedTuple):
-    """What stands in a line of that number."""
+    """A part of the text, with the number of its line."""
 
     line: int
     text: str
@@ -88,7 +88,7 @@ def unless(is_so: object, fault: str) -> Optional[str]:
     return None if is_so else fault
 
 
-# ---- what stands in the code
+# ---- the code
 
 
 def clauses_of(lines: Sequence[str], at: int, indent: int) -> Iterator[str]:
@@ -194,7 +194,7 @@ def tokens_in(text: str, first: int, start: int = 0, end: Optional[int] = None) 
 
 
 def with_clauses(tokens: Iterable[Token]) -> list[tuple[Token, list[Token]]]:
-    """The functions, each with the clauses in parentheses behind it."""
+    """The functions, each with the clauses in parentheses after it."""
     found: list[tuple[Token, list[Token]]] = []
     is_inside = False
     for token in tokens:
@@ -207,27 +207,27 @@ def with_clauses(tokens: Iterable[Token]) -> list[tuple[Token, list[Token]]]:
     return found
 
 
-Tell = Callable[[int, Optional[str]], bool]
+Report = Callable[[int, Optional[str]], bool]
 
 
 class Section:
-    """A crate's section of a page, and what is told of its lines."""
+    """A crate's section of a page. Its faults are reported by their lines."""
 
-    def __init__(self, tell: Tell, crate: str) -> None:
-        self.tell, self.crate = tell, crate
+    def __init__(self, report: Report, crate: str) -> None:
+        self.report, self.crate = report, crate
 
     def by_file(self, part: str, ending: str, tokens: Iterable[Token]) -> list[tuple[str, list[Token]]]:
-        """Tells which files are there, and gives those with the tokens behind each."""
+        """The files that exist, each with the tokens after it. Others are reported."""
         path = ""
         found: list[tuple[str, list[Token]]] = []
         for line, token in tokens:
             if token.endswith(ending):
                 is_own = token.startswith("Promised/") or "/" not in token
                 path = f"crates/{self.crate}/{part}/{token}" if is_own else f"crates/{token}"
-                if self.tell(line, unless(is_there(path), f"there is no file {path}")):
+                if self.report(line, unless(is_there(path), f"there is no file {path}")):
                     found.append((path, []))
             elif not path:
-                self.tell(line, f"no file stands before `{token}`")
+                self.report(line, f"no file comes before `{token}`")
             elif is_there(path):
                 found[-1][1].append(Token(line, token))
         return found
@@ -235,21 +235,21 @@ class Section:
     def check_code(self, tokens: Iterable[Token]) -> None:
         for path, named in self.by_file("src", ".rt", tokens):
             for (line, name), clauses in with_clauses(named):
-                if self.tell(line, fault_of_function(path, name, not clauses)):
+                if self.report(line, fault_of_function(path, name, not clauses)):
                     for clause in clauses:
-                        self.tell(clause.line, fault_of_clause(path, name, clause.text))
+                        self.report(clause.line, fault_of_clause(path, name, clause.text))
 
     def check_words(self, tokens: Iterable[Token]) -> None:
         words = [it for it in tokens if it.text not in "()"]
         for path, names in self.by_file("specs", ".antt", words):
             for line, name in names:
-                self.tell(line, unless(has_definition(path, name), f"{path} has no public definition `{name}`"))
+                self.report(line, unless(has_definition(path, name), f"{path} has no public definition `{name}`"))
 
     def check_promise(self, promise: Token) -> None:
         first, text = promise
         at = AT.search(text)
         if not at:
-            self.tell(first, "a promise without 'At'")
+            self.report(first, "a promise without 'At'")
             return
         words = WORDS.search(text, at.end() - 1)
         self.check_code(tokens_in(text, first, at.end(), words.start() if words else None))
@@ -260,7 +260,7 @@ class Section:
         tokens = tokens_in(row.text.strip().strip("|").split(" | ")[-1], row.line)
         self.check_words(tokens)
         if not tokens:
-            self.tell(row.line, "a row without a file in its last column")
+            self.report(row.line, "a row without a file in its last column")
 
     def check(self, lines: Sequence[Token]) -> None:
         for promise in promises_in(lines):
@@ -269,27 +269,27 @@ class Section:
             self.check_row(row)
 
 
-def check_page(tell: Tell, page: str) -> None:
+def check_page(report: Report, page: str) -> None:
     found = sections(text_of(page))
     if not any(head.text for head, _ in found):
-        tell(1, "no section of a crate")
+        report(1, "no section of a crate")
     for (number, crate), lines in found:
         if crate:
-            if tell(number, unless(is_there(f"crates/{crate}"), f"there is no crate {crate}")):
-                Section(tell, crate).check(lines)
+            if report(number, unless(is_there(f"crates/{crate}"), f"there is no crate {crate}")):
+                Section(report, crate).check(lines)
 
 
-def check_steps(tell: Tell) -> None:
+def check_steps(report: Report) -> None:
     text = text_of(PROMISES)
     found = list(STEP.finditer(text))
     if not found:
-        tell(1, "no numbered list")
+        report(1, "no numbered list")
     for step in found:
         path, line = step[1], 1 + text.count("\n", 0, step.start())
-        if tell(line, unless(is_there(path), f"there is no file {path}")):
+        if report(line, unless(is_there(path), f"there is no file {path}")):
             for at, word in tokens_in(text, 1, *step.span(2)):
                 if word not in "()":
-                    tell(at, unless(word in text_of(path), f"{path} does not say `{word}`"))
+                    report(at, unless(word in text_of(path), f"{path} does not say `{word}`"))
 
 
 # ---- the documents
@@ -327,11 +327,11 @@ def fault_of_link(document: str, target: str) -> Optional[str]:
     return unless(is_heading, f"the link {target} names no heading of {path}")
 
 
-def check_document(tell: Tell, document: str) -> None:
+def check_document(report: Report, document: str) -> None:
     text, no_code = blanked(FENCED, text_of(document)), blanked(CODE, text_of(document))
 
     def tell_at(found: re.Match[str], fault: Optional[str]) -> None:
-        tell(1 + text.count("\n", 0, found.start()), fault)
+        report(1 + text.count("\n", 0, found.start()), fault)
 
     for link in LINK.finditer(no_code):
         target = link[1] or link[2]
@@ -345,14 +345,14 @@ def check_document(tell: Tell, document: str) -> None:
             tell_at(name, unless(name[1] in [*ALL, *GROUPS], f"there is no check {name[1]}"))
     lines, most = len(text.splitlines()), MOST_LINES.get(document)
     if most:
-        tell(lines, unless(lines <= most, f"{lines} lines, {most} at most are allowed"))
+        report(lines, unless(lines <= most, f"{lines} lines, {most} at most are allowed"))
 
 
 def check_comments(tally: Tally, crate: str) -> None:
     for path in layers.files_of(crate):
         for item in layers.items_in(path):
             if item.is_public:
-                tally.tell(f"{path.relative_to(TOP)}:{item.line}", unless(item.comment, f"`{item.name}` has a contract and no comment"))
+                tally.report(f"{path.relative_to(TOP)}:{item.line}", unless(item.comment, f"`{item.name}` has a contract and no comment"))
 
 
 def write_pages() -> None:
@@ -364,8 +364,8 @@ def write_pages() -> None:
 
 
 def check(tally: Tally, given: argparse.Namespace) -> None:
-    def teller(page: str) -> Tell:
-        return lambda line, fault: tally.tell(f"{page}:{line}", fault)
+    def teller(page: str) -> Report:
+        return lambda line, fault: tally.report(f"{page}:{line}", fault)
 
     check_page(teller(PROMISES), PROMISES)
     check_steps(teller(PROMISES))

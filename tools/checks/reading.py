@@ -1,16 +1,16 @@
 """How many lines of definitions a function's contract rests on.
 
     tools/check reading                       the calls that the program makes, and counts of contracts
-    tools/check reading CRATE FUNCTION ..     these functions, by their names
+    tools/check reading CRATE FUNCTION...     these functions, by their names
 
 From the names in a function's clauses it follows each definition of specs/ to those that it names, and counts their lines, without
-comments and blank lines. Names of the toolchain's library and types of the code are not followed. A definition of which a law on a
-contract says exactly what it means is read by that law, and its own lines are not counted (LAWS below). Of a method it also follows
-what the type's `new` says, but for what that costs: a session speaks of declarations, and `new` ties them to the bytes of a text. What
-else the type's invariant says is proved and relied on by the type alone, and is not counted.
+comments and blank lines. Names of the toolchain's library and types of the code are not followed. If a law on a contract says exactly
+what a definition means, a reader reads the law instead, and the lines of the definition are not counted (LAWS below). For a method it
+also follows the clauses of the type's `new`, except for those on costs: a session is about declarations, and `new` ties them to the bytes
+of a text. The rest of the type's invariant is proved and used by the type alone, and is not counted.
 
-The figures of those calls, and of what is to become less, stand in tools/checks/reading.txt: a case is a figure that is as it stands there.
-With --write that file gets the figures of today.
+The figures of these calls, and figures that should fall, are in tools/checks/reading.txt. A case is a figure, which has to be as it is
+there. With --write the file gets the figures of today.
 """
 from __future__ import annotations
 
@@ -38,8 +38,8 @@ class Name(NamedTuple):
     name: str
 
 
-# What is read by a law in its place: two trees, and two labels as trees of one node, pass `same` exactly if they are equal. The rules of an
-# impl are those of the arguments that fit and make its header the reference.
+# Definitions in whose place a law is read: two trees, and two labels as trees of one node, pass `same` exactly if they are equal. The rules
+# of an impl are those of the arguments that fit and make its header the trait reference.
 EQUALITY = Name("Rattle.type_terms.specs.Promised.ReadByLaws", "SameIsEqual")
 LAWS = {
     Name("Rattle.type_terms.specs.Codes", "same"): EQUALITY,
@@ -59,7 +59,7 @@ PASSED = re.compile(r"^pub use (Rattle\.[\w.]+)(?: as (\w+))?$", re.M)
 CLAUSE = re.compile(r" *(requires|ensures)\b *(\w*)")
 BODY = re.compile(r" *(\{|\}|\{ *\})$")
 IMPL = re.compile(r"impl(?:<[^>]*>)? (?:.* for )?(\w+)")
-BEHIND_CLAUSES = re.compile(r" *(pub |fn |//|#)")
+AFTER_CLAUSES = re.compile(r" *(pub |fn |//|#)")
 COSTS = ("frames", "full")
 WIDE = 160
 
@@ -69,17 +69,17 @@ WIDE = 160
 
 @lru_cache(maxsize=None)
 def passed_on(crate: str) -> dict[str, str]:
-    """What specs/Lib.antt of the crate passes on of other libraries: names, with the whole names of their modules."""
+    """Names of other libraries that specs/Lib.antt of the crate passes on, with the whole names of their modules."""
     path = TOP / "crates" / crate / "specs" / "Lib.antt"
     text = path.read_text(encoding="utf-8") if path.is_file() else ""
     return {found[2] or found[1].rpartition(".")[2]: found[1] for found in PASSED.finditer(text)}
 
 
-def standing(module: str) -> str:
-    """The module's own name, where a crate that passes it on stands in the given one."""
+def own_name(module: str) -> str:
+    """The module's own name, if the given one begins with a crate that passes it on."""
     parts = module.split(".")
     passed = passed_on(parts[1]) if len(parts) > 3 and parts[0] == "Rattle" and parts[2] == "specs" else {}
-    return standing(".".join([passed[parts[3]], *parts[4:]])) if parts[-1] and len(parts) > 3 and parts[3] in passed else module
+    return own_name(".".join([passed[parts[3]], *parts[4:]])) if parts[-1] and len(parts) > 3 and parts[3] in passed else module
 
 
 class Imports:
@@ -94,7 +94,7 @@ class Imports:
         found = USE.match(line)
         if not found:
             return False
-        module, names, alias = standing(found[1]), found[2] or "", found[3]
+        module, names, alias = own_name(found[1]), found[2] or "", found[3]
         if alias and not names:
             self.aliases[alias] = module
         for it in names.split(",") if names else []:
@@ -168,7 +168,7 @@ def find(it: Name) -> Optional[Name]:
 
 
 def named(texts: Iterable[str], imports: Imports, own: str = "") -> set[Name]:
-    """The definitions that the texts name: those of the module that they stand in, and those that it imports."""
+    """The definitions that the texts name: those of their own module, and those that it imports."""
     module = module_of(own)
     found: set[Optional[Name]] = set()
     words = {it for text in texts for it in WORD.findall(text)}
@@ -192,7 +192,7 @@ def lines_of(it: Name) -> list[str]:
     return module.items[it.name] if module else []
 
 
-def behind(start: Iterable[Name]) -> set[Name]:
+def reached_from(start: Iterable[Name]) -> set[Name]:
     """All definitions that these lead to."""
     reached: set[Name] = set()
     todo = list(start)
@@ -216,16 +216,16 @@ class Contract(NamedTuple):
     imports: Imports
 
     def definitions(self) -> set[Name]:
-        return behind(named(self.clauses, self.imports))
+        return reached_from(named(self.clauses, self.imports))
 
     def without_costs(self) -> Contract:
         """It without the clauses `frames` and `full`."""
-        kept, is_kept = list[str](), True
+        lines, is_included = list[str](), True
         for line in self.clauses:
             begins = CLAUSE.match(line)
-            is_kept = begins[2] not in COSTS if begins else is_kept
-            kept += [line] if is_kept else []
-        return Contract(kept, self.imports)
+            is_included = begins[2] not in COSTS if begins else is_included
+            lines += [line] if is_included else []
+        return Contract(lines, self.imports)
 
 
 def contract_in(lines: Sequence[str], number: int) -> Contract:
@@ -266,15 +266,15 @@ def contract_of(crate: str, function: str) -> Contract:
 
 
 def ties_of(crate: str, function: str) -> set[Name]:
-    """What says what a value is of which the function is a method: what `new` of its type says, if it has one."""
+    """The definitions that the clauses of `new` rest on, if the function is a method of a type that has it. They say what a value is."""
     owner = function.rpartition("::")[0]
     maker = contract_if_any(crate, f"{owner}::new") if owner else None
     return maker.without_costs().definitions() if maker else set()
 
 
 class Count(NamedTuple):
-    """What stands behind a contract: lines of definitions, definitions, files; lines without what it costs and when it is full; and lines
-    behind its own clauses alone, without what says what its value is of."""
+    """What a contract rests on: lines of definitions, definitions, files, lines without the clauses on costs, and lines for its own clauses
+    alone, without `new`."""
 
     lines: int
     definitions: int
@@ -283,16 +283,16 @@ class Count(NamedTuple):
     of_clauses: int
 
     def __str__(self) -> str:
-        beside = f"; {self.without_costs} without what it costs and when it is full" if self.without_costs != self.lines else ""
-        own = f"; {self.of_clauses} behind its own clauses" if self.of_clauses != self.lines else ""
-        return f"{self.lines} lines of {self.definitions} definitions in {self.files} files{beside}{own}"
+        costs = f", {self.without_costs} without the clauses on costs" if self.without_costs != self.lines else ""
+        own = f", {self.of_clauses} for its own clauses" if self.of_clauses != self.lines else ""
+        return f"{self.lines} lines of {self.definitions} definitions in {self.files} files{costs}{own}"
 
 
 def count_of(crate: str, function: str) -> Count:
     contract, ties = contract_of(crate, function), ties_of(crate, function)
-    own, said = contract.definitions(), contract.without_costs().definitions()
+    own, without_costs = contract.definitions(), contract.without_costs().definitions()
     reached = own | ties
-    lines, without, clauses = (sum(len(lines_of(it)) for it in some) for some in (reached, said | ties, own))
+    lines, without, clauses = (sum(len(lines_of(it)) for it in some) for some in (reached, without_costs | ties, own))
     return Count(lines, len(reached), len({it.module for it in reached}), without, clauses)
 
 
@@ -313,24 +313,24 @@ def files_of(ending: str) -> Iterator[Path]:
 def clause_lines(path: Path) -> Iterator[str]:
     is_inside = False
     for line in path.read_text(encoding="utf-8").split("\n"):
-        goes_on = is_inside and line.strip() and not BODY.match(line) and not BEHIND_CLAUSES.match(line)
+        goes_on = is_inside and line.strip() and not BODY.match(line) and not AFTER_CLAUSES.match(line)
         is_inside = bool(CLAUSE.match(line) or goes_on)
         if is_inside:
             yield line
 
 
 def names_of_specs() -> dict[str, set[Path]]:
-    """The names of specs/, with the files that they stand in."""
-    places: dict[str, set[Path]] = defaultdict(set)
+    """The names of specs/, with the files that define them."""
+    paths: dict[str, set[Path]] = defaultdict(set)
     for path in files_of(".antt"):
         module = module_of(".".join(["Rattle", *path.relative_to(TOP / "crates").with_suffix("").parts])) if path.name != "Lib.antt" else None
         for name in set(module.items) - set(NO_DEFINITION) if module else ():
-            places[name].add(path)
-    return places
+            paths[name].add(path)
+    return paths
 
 
 def counts_of_contracts() -> dict[str, int]:
-    """Prints what is said again and again and how long the lines are; gives what is to become less."""
+    """Prints how long contract lines are and how often names recur. Returns the figures that should fall."""
     files = list(files_of(".rt"))
     clauses = [line for file in files for line in clause_lines(file)]
     wide, over = (sum(len(it) > most for it in clauses) for most in (WIDE, 200))
@@ -339,7 +339,7 @@ def counts_of_contracts() -> dict[str, int]:
     print("clauses named " + ", ".join(f"{it} {words.count(it)}" for it in ("keeps", "limit", "full", "grew")))
     names = names_of_specs()
     several = sum(len(it) > 1 for it in names.values())
-    print(f"names of specs/: {len(names)}, of which {several} stand in several files")
+    print(f"names of specs/: {len(names)}, of which {several} are in several files")
     return {"wide_contract_lines": wide, "names_in_several_files": several}
 
 
@@ -353,7 +353,7 @@ def promised_modules() -> list[str]:
 
 
 def is_commented(it: Name) -> bool:
-    """Whether a comment stands above the definition, or above the `mutual` block that begins with it."""
+    """Whether there is a comment above the definition, or above the `mutual` block that begins with it."""
     parts = it.module.split(".")
     lines = TOP.joinpath("crates", parts[1], "specs", *parts[3:]).with_suffix(".antt").read_text(encoding="utf-8").split("\n")
     heads = [k for k, line in enumerate(lines) if (found := HEAD.match(line)) and found[3] == it.name]
@@ -361,15 +361,15 @@ def is_commented(it: Name) -> bool:
 
 
 def check_book(tally: Tally) -> None:
-    """Checks that exactly what the promised calls rest on stands in specs/Promised, and that each of it has a comment."""
+    """Checks that specs/Promised has exactly the definitions that the promised calls rest on, and that each has a comment."""
     reached = set().union(*(contract_of(*it).definitions() | ties_of(*it) for it in CALLS))
-    standing = {Name(module, name) for module in promised_modules() if (found := module_of(module)) for name in found.items}
-    for it in sorted(reached - standing):
-        tally.tell(f"{it.module}.{it.name}", "a promise rests on it, and it does not stand in specs/Promised")
-    for it in sorted(standing - reached - set(LAWS)):
+    promised = {Name(module, name) for module in promised_modules() if (found := module_of(module)) for name in found.items}
+    for it in sorted(reached - promised):
+        tally.report(f"{it.module}.{it.name}", "a promise rests on it, and it is not in specs/Promised")
+    for it in sorted(promised - reached - set(LAWS)):
         if it.name not in NO_DEFINITION:
-            tally.tell(f"{it.module}.{it.name}", "it stands in specs/Promised, and no promise rests on it")
-    for it in sorted(reached & standing):
+            tally.report(f"{it.module}.{it.name}", "it is in specs/Promised, and no promise rests on it")
+    for it in sorted(reached & promised):
         tally.expect(f"{it.module}.{it.name}", is_commented(it), "it has no comment")
 
 
@@ -382,18 +382,18 @@ def figures() -> dict[str, tuple[int, ...]]:
     return {**found, **{name: (number,) for name, number in counts_of_contracts().items()}}
 
 
-def kept_figures() -> dict[str, tuple[int, ...]]:
+def stored_figures() -> dict[str, tuple[int, ...]]:
     rows = [line.split() for line in FIGURES.read_text(encoding="utf-8").split("\n") if line and not line.startswith("#")]
     return {name: tuple(map(int, numbers)) for name, *numbers in rows}
 
 
 def write(found: dict[str, tuple[int, ...]]) -> None:
-    """Puts these figures into the file, each behind its name, and leaves its other lines."""
+    """Writes these figures into the file, each after its name, and leaves its other lines."""
     lines = FIGURES.read_text(encoding="utf-8").split("\n")
     names = [line.partition(" ")[0] for line in lines]
     rows = {name: " ".join([name, *map(str, found[name])]) for name in found}
-    kept = [rows.get(name, line) for name, line in zip(names, lines)]
-    FIGURES.write_text("\n".join(kept), encoding="utf-8")
+    written = [rows.get(name, line) for name, line in zip(names, lines)]
+    FIGURES.write_text("\n".join(written), encoding="utf-8")
 
 
 def add_words(reader: argparse.ArgumentParser) -> None:
@@ -412,7 +412,7 @@ def check(tally: Tally, given: argparse.Namespace) -> None:
     found = figures()
     if given.write:
         write(found)
-    kept = kept_figures()
-    for name in {**kept, **found}:
-        now, then = (" ".join(map(str, it.get(name, ()))) or "none" for it in (found, kept))
+    stored = stored_figures()
+    for name in {**stored, **found}:
+        now, then = (" ".join(map(str, it.get(name, ()))) or "none" for it in (found, stored))
         tally.expect(name, now == then, f"{now}, and {then} in {FIGURES.relative_to(TOP)}")

@@ -1,11 +1,11 @@
 """Each request for memory refused in turn, until a run makes fewer requests.
 
-Each run of the built program but the last has to end with status 3 after a prefix of the output, the last one with the whole output. (So
-may one in which the library, refused a list with room to spare, asks for one without and gets it.) Of the program that explains the lines
-of the answer have to stand in the output, with others between them, as far as it came. A test of the layers below has to end with the
-fault `Memory` (also inside an equation's error, or as the allocator's own error, where the test itself asked), or to pass where it asks the
-refused call again; where none is refused it has to pass. An explanation asks for memory thousands of times and a search that is given up
-tens of thousands: of these each of the first 400 and 4,000 requests is refused, and then each 17th and 97th.
+Each run of the built program but the last has to end with status 3 after a prefix of the output, the last one with the whole output. (A
+run may also end well if the library, refused a list with room to spare, requests one without and gets it.) The output of the program that
+explains has to have the lines of the answer in order, as far as it came. A test of the layers below has to end with the fault `Memory`
+(also inside an equation's error, or as the allocator's own error, if the test itself made the request), or to pass if it repeats the
+refused call. If no request is refused it has to pass. An explanation requests memory thousands of times, and a search that is given up tens
+of thousands: of these each of the first 400 and 4,000 requests is refused, and then each 17th and 97th.
 
 It needs a C compiler under the name cc. A program is run once for each request. A test is run once, and forks at each (tools/driver/refuse.c).
 """
@@ -25,11 +25,11 @@ ANSWERED = """two_crates_accepted orphan_impl an_uncovered_parameter a_local_typ
     where_clauses_are_proved refuted_and_open values_of_a_type_and_a_const values_with_variables later_versions_are_judged_apart
     a_supertrait_that_is_missing a_supertrait_that_is_there""".split()
 EXPLAINED = "a_later_version_may_add_num orphan_impl values_with_variables".split()
-# Tests that walk through long lists of goals ask for memory too often, or compare a `Result`.
+# Tests that go through long lists of goals request memory too often, or compare a `Result`.
 LONG = ("solver::rules::", "solver::walks::", "solver::worked::")
 MOST = 100000
 OF_MEMORY = re.compile(rb"^[Ee]rror: (Fault\()*(Memory|Alloc)", re.M)
-# The line in a report behind what the test says that was refused this request.
+# The line of a report after the output of the test that was refused this request.
 REQUEST = re.compile(rb"\nrequest (\d+): status (-?\d+)\n")
 
 
@@ -52,7 +52,7 @@ class Refusing:
         except FileNotFoundError:
             raise Missing("tools/refuse_nth.c needs a C compiler under the name cc") from None
         if made.status:
-            raise Missing(f"tools/refuse_nth.c does not compile: {made.said.decode()}")
+            raise Missing(f"tools/refuse_nth.c does not compile: {made.errors.decode()}")
 
     def turns(self, words: Sequence[str], text: bytes = b"", dense: int = MOST, step: int = 1) -> Iterator[Turn]:
         """Runs the command with each request refused in turn, from the number `dense` on each one so many further."""
@@ -69,25 +69,25 @@ class Refusing:
 def program_on(tally: Tally, refusing: Refusing, name: str) -> None:
     """The built program on an example."""
     it = example(name)
-    wanted, refused = it.expected(), 0
+    expected, refused = it.expected(), 0
     for number, ended, was_refused in refusing.turns([program("celtisdarts"), "8"], it.text):
         refused += was_refused
-        is_whole = (ended.status, ended.output) == (0, wanted)
+        is_whole = (ended.status, ended.output) == (0, expected)
         if was_refused:
-            is_prefix = ended.status == 3 and wanted.startswith(ended.output)
-            fault = f"status {ended.status}, 3 is wanted, and what was written a prefix of the output"
+            is_prefix = ended.status == 3 and expected.startswith(ended.output)
+            fault = f"status {ended.status}, 3 is expected, and a prefix of the output"
             tally.expect(f"{name}, request {number} refused", is_whole or is_prefix, fault)
         else:
             tally.expect(f"{name}, none refused", is_whole and refused > 0, f"the run has status {ended.status}, after {refused} refusals")
             print(f"{name}: {refused} requests refused in turn, then the whole output")
     if refused == MOST:
-        tally.tell(name, f"each of {MOST} requests was refused, and none was left that was not")
+        tally.report(name, f"each of {MOST} requests was refused, and the run had more")
 
 
-def fault_of_explained(turn: Turn, wanted: bytes) -> Optional[str]:
-    lines = wanted.splitlines()
+def fault_of_explained(turn: Turn, expected: bytes) -> Optional[str]:
+    lines = expected.splitlines()
     found = b"".join(line + b"\n" for line in turn.ended.output.splitlines() if line in lines)
-    if turn.ended.status == 0 and found == wanted or turn.ended.status == 3 and turn.was_refused and wanted.startswith(found):
+    if turn.ended.status == 0 and found == expected or turn.ended.status == 3 and turn.was_refused and expected.startswith(found):
         return None
     return f"status {turn.ended.status}, or lines of the answer are missing"
 
@@ -96,7 +96,7 @@ def explained_on(tally: Tally, refusing: Refusing, name: str) -> None:
     """The program that explains, on an example."""
     it, last = example(name), 0
     for turn in refusing.turns([program("celtisdarts_explain"), "8"], it.text, 400, 17):
-        tally.tell(f"{name}, explained, request {turn.number} refused", fault_of_explained(turn, it.expected()))
+        tally.report(f"{name}, explained, request {turn.number} refused", fault_of_explained(turn, it.expected()))
         last = turn.number
     print(f"{name}, explained: requests refused in turn, up to the {last}th")
 
@@ -107,8 +107,8 @@ def test_on(tally: Tally, report: Path, name: str) -> int:
     ended = run([driver(), name], limits=Limits(seconds=600), env={**os.environ, "REFUSE_EACH": str(report)})
     tally.expect(f"{name}, none refused", ended.status == 0, f"the test ends with status {ended.status}")
     parts = REQUEST.split(report.read_bytes())
-    for said, number, status in zip(parts[0::3], parts[1::3], parts[2::3]):
-        is_so = status == b"0" or OF_MEMORY.search(said) is not None
+    for output, number, status in zip(parts[0::3], parts[1::3], parts[2::3]):
+        is_so = status == b"0" or OF_MEMORY.search(output) is not None
         tally.expect(f"{name}, request {int(number)} refused", is_so, f"the test ends with status {int(status)} and no fault of memory")
     return len(parts) // 3
 

@@ -59,11 +59,11 @@ def try_one(name: str, given: argparse.Namespace, is_verbose: bool) -> Tally:
     try:
         module_of(name).check(tally, given)
         if not tally.passed + tally.failed:
-            tally.tell(name, "it tried nothing")
+            tally.report(name, "it tried nothing")
     except Missing as missing:
-        tally.tell(name, str(missing))
+        tally.report(name, str(missing))
     except Exception:  # whatever it is, the other checks are run and this one has failed
-        tally.tell(name, f"it ended before its last case\n{traceback.format_exc()}")
+        tally.report(name, f"it ended before its last case\n{traceback.format_exc()}")
     return tally
 
 

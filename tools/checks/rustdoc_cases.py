@@ -13,7 +13,7 @@ TOOLS = TOP / "tools"
 
 
 class Result(unittest.TextTestResult):
-    """Tells each test of the tally."""
+    """Counts each test in the tally."""
 
     def __init__(self, tally: Tally, *words: Any, **more: Any) -> None:
         super().__init__(*words, **more)
@@ -21,7 +21,7 @@ class Result(unittest.TextTestResult):
 
     def addSuccess(self, test: unittest.TestCase) -> None:
         super().addSuccess(test)
-        self.tally.tell(test.id(), None)
+        self.tally.report(test.id(), None)
 
 
 def check(tally: Tally, given: argparse.Namespace) -> None:
@@ -37,7 +37,7 @@ def run_tests(tally: Tally, package: str, pattern: str) -> None:
     for case, why in result.skipped:
         print(f"skipped {case.id().rpartition('.')[2]}: {why}")
     for case, why in [*result.failures, *result.errors]:
-        tally.tell(case.id(), why)
+        tally.report(case.id(), why)
 
 
 def add_words(reader: argparse.ArgumentParser) -> None:

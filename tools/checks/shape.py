@@ -1,18 +1,18 @@
 """Figures of the repository that should fall, counted from its files, and lines of crates.txt that list too much.
 
-    tools/check shape              the figures of today, which may not be greater than those that are kept
-    tools/check shape --copies     names the lemmas that are copies, and the names that stand several times
-    tools/check shape --write      keeps the figures of today
+    tools/check shape              the figures of today, which may not be greater than those in the file
+    tools/check shape --copies     names the lemmas that are copies, and the names that are defined several times
+    tools/check shape --write      writes the figures of today
 
 - `crates`: those of crates.txt.
-- `promised_...`: what the promised calls rest on, as the check `reading` follows it, and how many of its names stand in several files of
+- `promised_...`: what the promised calls rest on, as the check `reading` follows it, and how many of its names are in several files of
   specs/.
 - `functions_...`: functions outside the crates of tests, by their parameters, with `self`.
-- `copies_of_lemmas`: lemmas of proofs/ that say the same as another, with what they stand under, whatever they are called.
-- `lines_of_...`: lines without blank ones and comments. `files`: those that they stand in.
+- `copies_of_lemmas`: lemmas of proofs/ with the statement of another one, including the blocks around it, under any name.
+- `lines_of_...`: lines without blank ones and comments. `files`: the files that have them.
 
-The figures stand in tools/checks/shape.txt. A case is a figure that is as it stands there, or less, and a line of crates.txt of which
-each word is a library that the crate's files name. (The toolchain refuses a name of a library that the line does not list.)
+The figures are in tools/checks/shape.txt. A case is a figure, which has to be as it is there or less, or a line of crates.txt, in which
+each word has to be a library that the crate's files name. (The toolchain refuses a name of a library that the line does not list.)
 """
 from __future__ import annotations
 
@@ -36,8 +36,8 @@ BLOCK = re.compile(r"(?:pub )?(?:module |(?:abbrev )?mutual$)")
 PREFIX = re.compile(r"(?:(?:pub|abbrev|unfoldable) )+")
 NO_LEMMA = re.compile(r"(?:pub )?(?:abbrev|unfoldable|record|data|use|infixl|infixr) ")
 GOES_ON = re.compile(r"[)\]}]|unfolding ")
-# Words of crates.txt that no file names. A crate that visits or folds terms lists `type_terms`: the toolchain wants its declarations at hand.
-# `indexmap` goes once solver_graph, and so all above it, has to be proved anew for another reason.
+# Words of crates.txt that no file names. A crate that visits or folds terms lists `type_terms`, because the toolchain reads its declarations.
+# `indexmap` can go when solver_graph, and so each crate above it, has to be proved again for another reason.
 WAITING = {"solver_graph": ["indexmap"], **dict.fromkeys(("explain_sessions", "explain_texts", "celtisdarts_explain"), ["type_terms"])}
 
 
@@ -55,7 +55,7 @@ def lines_of(path: Path, comment: str) -> list[str]:
 
 
 def unused_libraries(crate: str, listed: list[str]) -> list[str]:
-    """The libraries of a line of crates.txt that no file of the crate names: as the first word of a path in code, behind `Rattle.` elsewhere."""
+    """The libraries of a line of crates.txt that no file of the crate names: as the first word of a path in code, after `Rattle.` elsewhere."""
     paths = [(it, comment) for folder, (_, comment) in FOLDERS.items() for it in folder_files(folder, crate)]
     text = "\n".join(line for path, comment in paths for line in lines_of(path, comment))
     return [it for it in listed if not re.search(rf"(?<!\w)(?<!\w::){it}::|\buse {it}\b|\bRattle\.{it}\b", text)]
@@ -70,9 +70,9 @@ def promised() -> set[reading.Name]:
 
 
 def names_again(definitions: set[reading.Name]) -> dict[str, set[Path]]:
-    """The names of these definitions that stand in several files of specs/, with the files."""
-    places = reading.names_of_specs()
-    return {name: places[name] for name in sorted({it.name for it in definitions}) if len(places[name]) > 1}
+    """The names of these definitions that are in several files of specs/, with the files."""
+    paths = reading.names_of_specs()
+    return {name: paths[name] for name in sorted({it.name for it in definitions}) if len(paths[name]) > 1}
 
 
 def counts_of_promised() -> dict[str, int]:
@@ -89,7 +89,7 @@ def counts_of_promised() -> dict[str, int]:
 
 
 def parts_between(text: str, start: int) -> tuple[list[str], int]:
-    """What stands between the bracket at that place and the one that closes it, parted at its commas, and the place behind."""
+    """The text from the bracket at that index to the one that closes it, split at its commas, and the index after it."""
     parts, open_ones = [""], [BRACKETS[text[start]]]
     for at in range(start + 1, len(text)):
         sign = text[at]
@@ -126,11 +126,11 @@ def counts_of_functions() -> dict[str, int]:
 
 
 class Lemma(NamedTuple):
-    """A lemma: where it stands, and what it says, with the heads of the blocks around it, for any name and layout."""
+    """A lemma: its file, and its statement with the heads of the blocks around it, for any name and layout."""
 
     path: Path
     name: str
-    said: str
+    statement: str
 
 
 class Reader:
@@ -168,7 +168,7 @@ class Reader:
         self.is_head_open = not text.endswith(("where", "mutual"))
 
     def end(self, column: int) -> Iterator[Lemma]:
-        """Ends the last lemma, and the blocks that a line in that column does not stand in."""
+        """Ends the last lemma, and the blocks that a line in that column is not part of."""
         if self.name and self.is_lemma:
             words = " ".join([*(head for _, head in self.blocks), *self.lines]).split()
             yield Lemma(self.path, self.name, " ".join("◌" if it == self.name else it for it in words))
@@ -178,12 +178,12 @@ class Reader:
 
 
 def copies() -> list[list[Lemma]]:
-    """Lemmas that say the same, each group with all that do. What a function's own folder holds is answers and invariants, and no lemmas."""
+    """Groups of lemmas with the same statement. A function's own folder has answers and invariants, and no lemmas."""
     groups: dict[str, list[Lemma]] = defaultdict(list)
     for path in folder_files("proofs"):
         if path.parent.name == "proofs" and path.name != "Lib.antt":
             for it in Reader(path).lemmas():
-                groups[it.said].append(it)
+                groups[it.statement].append(it)
     return [it for it in groups.values() if len(it) > 1]
 
 
@@ -201,7 +201,7 @@ def figures() -> dict[str, int]:
     return {"crates": len(crates()), **counts_of_promised(), **counts_of_functions(), **copied, **counts_of_lines()}
 
 
-def kept_figures() -> dict[str, int]:
+def stored_figures() -> dict[str, int]:
     rows = [line.split() for line in FIGURES.read_text(encoding="utf-8").split("\n") if line and not line.startswith("#")]
     return {name: int(number) for name, number in rows}
 
@@ -233,8 +233,8 @@ def check(tally: Tally, given: argparse.Namespace) -> None:
     for name, listed in crates().items():
         unused = [it for it in unused_libraries(name, listed) if it not in WAITING.get(name, [])]
         tally.expect(f"crates.txt, {name}", not unused, f"no file of the crate names {', '.join(unused)}: take it out of the line")
-    kept = kept_figures()
+    stored = stored_figures()
     for name, number in found.items():
         print(f"{name} {number}")
-        most = kept.get(name, -1)
+        most = stored.get(name, -1)
         tally.expect(name, number <= most, f"{number} are more than the {most} in {FIGURES.relative_to(TOP)}: lower it, or say why not and --write it")

@@ -1,9 +1,9 @@
 """Mistakes in texts: which token `--explain` marks, and its message.
 
-Each row of tools/checks/slips.txt is a text with what is to be marked and said. So is each line of the examples that the grammar has, with
-a sign behind it that no line has: this sign is marked, and nothing before it. And so is a token of such a line that was left out, doubled or
-exchanged: where that is fault 2, a token is marked, with what is expected there. The heading that a fault ends with stands in docs/FORMAT.md.
-Of the texts in SEVERAL these lines are explained, each with its fault, and no other.
+Each row of tools/checks/slips.txt is a text with the expected mark and message. Each line of the examples that the grammar has is tried
+with a sign after it that no line has: this sign is marked, and nothing before it. Such lines are also tried with one token left out,
+doubled or replaced: if that is fault 2, a token is marked, with what is expected there. The heading at the end of a message is one of
+docs/FORMAT.md. In the texts of SEVERAL exactly these lines are explained, each with its fault.
 
     tools/check slips                       the rows, the lines of the examples, and 400 changed ones
     tools/check slips --changed 5000 --seed 2
@@ -36,11 +36,11 @@ RULE = re.compile(r"the rule: docs/FORMAT\.md, `([^`]*(?:`[^`]*`)?[^`]*)`$")
 
 
 class Row(NamedTuple):
-    """A text, what of its faulty line is marked, and what is said."""
+    """A text, the part of its faulty line that is marked, and parts of the message."""
 
     text: bytes
     marked: str
-    said: list[str]
+    message: list[str]
 
 
 def bytes_of(written: str) -> bytes:
@@ -50,13 +50,13 @@ def bytes_of(written: str) -> bytes:
 def rows() -> Iterator[Row]:
     for line in (TOP / "tools/checks/slips.txt").read_text(encoding="ascii").splitlines():
         if line and not line.startswith("#"):
-            written, marked, said = line.split(" | ")
+            written, marked, message = line.split(" | ")
             text = bytes_of(written)
-            yield Row(text[1:] if text.startswith(b"^") else BASE + text, bytes_of(marked).decode("latin-1"), said.split(" .. "))
+            yield Row(text[1:] if text.startswith(b"^") else BASE + text, bytes_of(marked).decode("latin-1"), message.split(" .. "))
 
 
 class Fault(NamedTuple):
-    """A fault, the part of its line that is marked, and all that is said of it."""
+    """A fault, the part of its line that is marked, and the whole message."""
 
     number: int
     marked: str
@@ -71,7 +71,7 @@ class Checks:
         self.headings = {it.lstrip("#").strip() for it in page.splitlines() if it.startswith("#")}
         self.seen: set[int] = set()
 
-    def told(self, text: bytes) -> Any:
+    def explain(self, text: bytes) -> Any:
         ended = run([self.path, "8", "--json"], text)
         if ended.status not in (0, 1):
             raise Wrong(f"status {ended.status}")
@@ -79,14 +79,14 @@ class Checks:
 
     def fault_of(self, text: bytes) -> Fault:
         """The fault of a text. Its last words are the heading that has the rule, which is there."""
-        told, *_ = self.told(text)
-        if not told.answer.startswith("line "):
-            raise Wrong(f"no fault: {told.answer}")
-        _, line, _, number = re.split(r": | ", told.answer)
-        spans = told.message["spans"]
+        first, *_ = self.explain(text)
+        if not first.answer.startswith("line "):
+            raise Wrong(f"no fault: {first.answer}")
+        _, line, _, number = re.split(r": | ", first.answer)
+        spans = first.message["spans"]
         main = [it for it in spans if it["is_primary"]][0]
         marked = text.split(b"\n")[int(line) - 1][main["column_start"] - 1:main["column_end"] - 1].decode("latin-1")
-        helps = [it["message"] for it in told.message["children"]]
+        helps = [it["message"] for it in first.message["children"]]
         found = RULE.match(helps[-1]) if helps else None
         if not found or found[1] not in self.headings:
             raise Wrong(f"docs/FORMAT.md has no such heading: {helps[-1:]}")
@@ -97,25 +97,25 @@ class Checks:
         fault = self.fault_of(row.text)
         if fault.marked != row.marked:
             raise Wrong(f"{fault.marked!r} is marked, and not {row.marked!r}")
-        for part in row.said:
+        for part in row.message:
             if not any(part in it for it in [*fault.labels, *fault.helps]):
-                raise Wrong(f"{part!r} is not said: {fault}")
+                raise Wrong(f"the message lacks {part!r}: {fault}")
 
-    def hold_several(self, text: bytes, wanted: list[tuple[int, int]]) -> None:
+    def hold_several(self, text: bytes, expected: list[tuple[int, int]]) -> None:
         """These lines of a text are explained, and no other."""
-        found = [(it.message["parts"]["line"], it.message["parts"]["fault"]) for it in self.told(text)]
-        if found != wanted:
-            raise Wrong(f"{found} are explained, and not {wanted}")
+        found = [(it.message["parts"]["line"], it.message["parts"]["fault"]) for it in self.explain(text)]
+        if found != expected:
+            raise Wrong(f"{found} are explained, and not {expected}")
 
     def hold_sign(self, line: bytes) -> None:
         """A line that the grammar has goes on to a sign that no line has."""
         fault = self.fault_of(line + b" @")
         if (fault.number, fault.marked) != (2, "@") or not fault.labels[0].startswith("expected "):
-            raise Wrong(f"of {line!r} with `@` behind it: {fault}")
+            raise Wrong(f"of {line!r} with `@` after it: {fault}")
 
     def hold_changed(self, line: bytes) -> None:
-        told = self.told(line)[0] if line.strip() else None
-        if told and told.answer.endswith(": fault 2"):
+        first = self.explain(line)[0] if line.strip() else None
+        if first and first.answer.endswith(": fault 2"):
             fault = self.fault_of(line)
             if not fault.labels[0].startswith("expected ") or len(TOKEN.findall(fault.marked.encode("latin-1"))) > 1:
                 raise Wrong(f"of {line!r} no token is marked: {fault}")
@@ -145,8 +145,8 @@ def check(tally: Tally, given: argparse.Namespace) -> None:
     checks = Checks()
     for row in rows():
         tally.hold(f"slip {row.text.splitlines()[-1]!r}", partial(checks.hold, row))
-    for text, wanted in SEVERAL:
-        tally.hold(f"faulty lines of {text[:200]!r}", partial(checks.hold_several, text, wanted))
+    for text, expected in SEVERAL:
+        tally.hold(f"faulty lines of {text[:200]!r}", partial(checks.hold_several, text, expected))
     unwritten = [it.text for it in examples() if it.expected().endswith(b": fault 2\n")]
     good = [it for it in lines_of_examples() if not any(it in text for text in unwritten)]
     for line in good:

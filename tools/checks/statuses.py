@@ -1,9 +1,9 @@
 """Exit statuses of the programs and of ./celtisdarts that no example shows.
 
 Words that are no depth limit (before any input is read), an input that cannot be read, an output that cannot be written. They are tried on
-the built programs, and on the script in a copy of the sources: with the built program beside it, with nothing built, and with a release;
-and of the script when it runs which program. One case there compiles with the toolchain's command `rt`, which takes a processor minutes
-(`--without-rt` leaves it out); in the others tools/checks/rt_stand_in does at once what rt takes long for. The options of the script are
+the built programs, and on the script in a copy of the sources: with the built program, with nothing built, and with a release. For the
+script it is tried too when it runs which program. One case there compiles with the toolchain's command `rt`, which takes a processor
+minutes (`--without-rt` leaves it out). In the others tools/checks/rt_stand_in replaces rt and takes no time. The options of the script are
 tried by the check `options`.
 """
 from __future__ import annotations
@@ -33,25 +33,25 @@ LONG = b"crate base\ntrait Show\nimpl Show for u8\n" + b"prove in base u8: Show\
 TOO_LONG = b"a" * 70000000
 # A trait with a million supertraits.
 ENDLESS = b"crate a\ntrait A<t>\n" + b"".join(b"trait %c<t>: %c<[t]> + %c<(t,)>\n" % (it + 1, it, it) for it in range(65, 84)) + b"prove in a dyn T<u8>: T<u8>\n"
-# The commands that the script takes where it has a program.
+# The commands that the script takes if it has a program.
 COMMANDS = "awk cat cmp dirname find grep head mktemp mv readlink rm sed sha256sum sort tr uname wc".split()
 FORGED = '#!/bin/sh\necho "$@" >> "$CALLS.forged"\nexec "$PROGRAM" "$@"\n'
 
 
 def answers_of(*names: str) -> bytes:
-    """The answers to several files of these names: of one that is named 8 or as the example, to the text with a fault."""
-    said = {"none": b"", ".": b"", "8": FAULTY.expected(), FILES[1]: FAULTY.expected()}
-    return b"".join(f"== {it}\n".encode() + said.get(it, TEXT.expected()) for it in names)
+    """The answers to several files of these names. One that is named 8 or as the example is the text with a fault."""
+    answers = {"none": b"", ".": b"", "8": FAULTY.expected(), FILES[1]: FAULTY.expected()}
+    return b"".join(f"== {it}\n".encode() + answers.get(it, TEXT.expected()) for it in names)
 
 
-def has_lines(wanted: bytes, found: bytes) -> bool:
-    """Whether these lines stand there in this order, and maybe others behind each."""
+def has_lines(expected: bytes, found: bytes) -> bool:
+    """Whether these lines are there in this order, with or without others between."""
     rows = iter(found.splitlines())
-    return all(line in rows for line in wanted.splitlines())
+    return all(line in rows for line in expected.splitlines())
 
 
 class Cases:
-    """Cases of what is called so, which a command runs."""
+    """Cases under one name, which a command runs."""
 
     def __init__(self, tally: Tally, what: str, *command: Word, env: Optional[dict[str, str]] = None) -> None:
         self.tally, self.what, self.command, self.env = tally, what, list(command), env
@@ -68,36 +68,36 @@ class Cases:
 
     def expect(self, name: str, is_so: bool) -> None:
         """A case of the last run."""
-        first = b"\n".join([*self.last.output.split(b"\n")[:5], *self.last.said.split(b"\n")[:5]]).decode("latin-1")
+        first = b"\n".join([*self.last.output.split(b"\n")[:5], *self.last.errors.split(b"\n")[:5]]).decode("latin-1")
         self.tally.expect(f"{self.what}, {name}", is_so, f"status {self.last.status}, and these are the output and the messages:\n{first}")
 
     def gave(self, name: str, status: int, output: bytes = b"") -> None:
         self.expect(name, (self.last.status, self.last.output) == (status, output))
 
-    def said(self, name: str, form: str) -> None:
+    def reported(self, name: str, form: str) -> None:
         """One line of the messages has the form."""
-        self.expect(name, len(re.findall(f"^.*{form}", self.last.said.decode(), re.M)) == 1)
+        self.expect(name, len(re.findall(f"^.*{form}", self.last.errors.decode(), re.M)) == 1)
 
     def printed(self, name: str, words: str) -> None:
         """The output has these words in it."""
         self.expect(name, words in self.last.output.decode())
 
     def refuses(self, *calls: str) -> None:
-        """Each call ends as one whose words are no good ones."""
+        """Each call ends as one with wrong arguments."""
         for words in calls:
             self.run(*words.split(), text=TEXT.text)
             self.gave(f"the words '{words}'", 2)
 
 
-# ---- the programs, and what stands for them
+# ---- the programs, and the script in their place
 
 
 def try_statuses(cases: Cases) -> None:
-    """What holds of a program that answers, and of all that stands for it."""
+    """What holds of a program that answers, and of the script in its place."""
     for word in BAD_WORDS:
         cases.run(word, text=TEXT.text)
         cases.gave(f"the word '{word}'", 2)
-    # a bad word is refused before any input is read: all of it is left for the next reader
+    # a bad word is refused before any input is read: all of it remains for the next reader
     cases.shell('"$@" 0; status=$?; cat; exit "$status"', TEXT.text)
     cases.gave("a bad word, input unread", 2, TEXT.text)
     for word in ("1", "7", "007", "255"):
@@ -114,9 +114,9 @@ def try_statuses(cases: Cases) -> None:
 
 
 def try_short_output(cases: Cases) -> None:
-    """A file that may not grow past a block takes the beginning of an answer, and the run ends as where writing fails."""
+    """A file that may not grow past a block takes the beginning of an answer, and the run ends as if writing fails."""
     whole = cases.run("8", text=LONG).output
-    cases.expect("200 questions", whole.count(b"\n") == 201)
+    cases.expect("200 queries", whole.count(b"\n") == 201)
     short = cases.shell("trap '' XFSZ; ulimit -f 1; exec \"$@\" 8", LONG).output
     cases.expect("an output that stops, its length", len(short) >= 512)
     cases.gave("an output that stops", 3, whole[: len(short)])
@@ -138,8 +138,8 @@ def try_explained(cases: Cases) -> None:
     for it in OVERLAPS:
         answer(f"{it.name} as a file", 0, it, f"8 {it.folder}/input.txt", b"")
         answer(f"{it.name} and --check", 4, it, "8 --check")
-    told = read_lines(cases.run("--json", "8", text=TEXT.text).output)
-    cases.expect("accepted crates as JSON", [(it.answer, it.message) for it in told] == [(it, None) for it in TEXT.expected().decode().splitlines()])
+    found = read_lines(cases.run("--json", "8", text=TEXT.text).output)
+    cases.expect("accepted crates as JSON", [(it.answer, it.message) for it in found] == [(it, None) for it in TEXT.expected().decode().splitlines()])
     cases.expect("accepted crates as JSON, the status", cases.last.status == 0)
     named = cases.run("8", "--file", "\x1b[1m\n", text=FAULTY.text).output
     cases.expect("a name with an escape and a line feed", b"--> ?[1m?:" in named and b"\x1b" not in named)
@@ -153,7 +153,7 @@ def try_explained(cases: Cases) -> None:
 
 
 class Script(Cases):
-    """The script in a copy of the sources with nothing built, and a stand-in for rt."""
+    """The script in a copy of the sources with nothing built, and a replacement of rt."""
 
     def __init__(self, tally: Tally, room: Path) -> None:
         self.room, self.at = room, room / "clone"
@@ -171,7 +171,7 @@ class Script(Cases):
                     shutil.copytree(folder / part, self.at / "crates" / folder.name / part)
 
     def stand_in(self) -> dict[str, str]:
-        """From here on a call of rt is one of the stand-in, which reads these words."""
+        """From here on a call of rt is one of the replacement, which reads these words."""
         (self.room / "bin").mkdir()
         shutil.copy2(Path(__file__).with_name("rt_stand_in"), self.room / "bin" / "rt")
         names = {"PROGRAM": program("celtisdarts"), "EXPLAINER": program("celtisdarts_explain"), "CALLS": str(self.calls)}
@@ -181,10 +181,10 @@ class Script(Cases):
         return self.env
 
     def about(self, what: str, *words: str) -> Cases:
-        """Other cases that it runs, behind these words."""
+        """Other cases that it runs, after these words."""
         return Cases(self.tally, what, *self.command, *words, env=self.env)
 
-    def keep_program(self) -> None:
+    def store_program(self) -> None:
         self.built.parent.mkdir(parents=True, exist_ok=True)
         shutil.copy(program("celtisdarts"), self.built)
 
@@ -193,7 +193,7 @@ class Script(Cases):
             shutil.rmtree(self.at / "crates" / name / "out", ignore_errors=True)
 
     def called(self) -> list[str]:
-        """The calls of rt since that was asked last."""
+        """The calls of rt since this was called last."""
         found = self.calls.read_text(encoding="utf-8").splitlines()
         self.calls.write_text("", encoding="utf-8")
         return found
@@ -205,10 +205,10 @@ class Script(Cases):
         made = sum(word in it for it in self.called())
         self.expect(name, (self.last.status, self.last.output, made) == (0, TEXT.expected(), calls))
 
-    def is_kept(self, name: str) -> None:
+    def is_used(self, name: str) -> None:
         self.answers(name, 0)
 
-    def is_not_kept(self, name: str) -> None:
+    def is_not_used(self, name: str) -> None:
         self.answers(name, 1)
 
     def change_source(self) -> Callable[[], object]:
@@ -225,7 +225,7 @@ def try_messages(script: Script) -> None:
     script.called()
     for word in BAD_WORDS:
         script.run(word, text=TEXT.text)
-        script.expect(f"the word '{word}'", script.last.said.count(b"\n") == 1)
+        script.expect(f"the word '{word}'", script.last.errors.count(b"\n") == 1)
     script.run("--build", "8")
     script.gave("a word after --build", 2)
     script.shell('"$@" 8 < .')
@@ -234,15 +234,15 @@ def try_messages(script: Script) -> None:
     link.symlink_to(script.at / "celtisdarts")
     script.last = run([link, "8"], TEXT.text, env=script.env)
     script.gave("called by a link", 0, TEXT.expected())
-    # who waits at a terminal for the end of the input is told nothing before
-    said = script.room / "said"
-    script.shell(f'{{ cat; sleep 1; cp "{said}" "{said}.before"; }} | "$@" 8 2> "{said}"; status=$?; cat "{said}" >&2; exit "$status"', TEXT.text)
-    script.gave("an answer behind the messages", 0, TEXT.expected())
-    script.said("a message that it compiles", "--build")
-    script.expect("no message before the input has ended", not Path(f"{said}.before").read_bytes())
+    # nothing is reported at a terminal before the end of the input
+    messages = script.room / "messages"
+    script.shell(f'{{ cat; sleep 1; cp "{messages}" "{messages}.before"; }} | "$@" 8 2> "{messages}"; status=$?; cat "{messages}" >&2; exit "$status"', TEXT.text)
+    script.gave("an answer after the messages", 0, TEXT.expected())
+    script.reported("a message that it compiles", "--build")
+    script.expect("no message before the input has ended", not Path(f"{messages}.before").read_bytes())
     script.run("8", text=TOO_LONG)
     script.gave("a text without end", 1, b"line 1: fault 16\n")
-    script.expect("no more of it kept than decides", int(Path(f"{script.calls}.bytes").read_text(encoding="utf-8")) == 67108865)
+    script.expect("no more of it stored than decides", int(Path(f"{script.calls}.bytes").read_text(encoding="utf-8")) == 67108865)
 
 
 def try_files(script: Script, what: str, calls: int) -> None:
@@ -266,7 +266,7 @@ def try_files(script: Script, what: str, calls: int) -> None:
     for file, reason in (("none", "no such file"), (".", "is a folder")):
         names = ("-a b", "8", file, "-a b")
         answer(f"the file '{file}' among others", 3, answers_of(*names), "--", *names)
-        script.said(f"the file '{file}' named", f"celtisdarts: {re.escape(file)}: {reason}$")
+        script.reported(f"the file '{file}' named", f"celtisdarts: {re.escape(file)}: {reason}$")
         script.run("8", file, cwd=folder)
         script.gave(f"the file '{file}' alone", 3)
         script.expect(f"the file '{file}' alone, and no call of rt", not script.called())
@@ -280,45 +280,45 @@ def try_first_build(script: Script, env: dict[str, str]) -> None:
     env["FAILS"] = "coherence lib"
     script.run("--build")
     script.gave("a crate that is not proved", 3)
-    script.said("a crate that is not proved, named", "no program: the crate coherence ")
+    script.reported("a crate that is not proved, named", "no program: the crate coherence ")
     env["FAILS"] = ""
-    script.is_not_kept("no program of that")
+    script.is_not_used("no program of that")
     script.run("--build")
     script.gave("all crates proved", 0)
     calls = script.called()
-    script.said("a call for each crate that it counts", f"celtisdarts: crate 1 of {len(calls)}: type_terms; minutes so far: 0$")
+    script.reported("a call for each crate that it counts", f"celtisdarts: crate 1 of {len(calls)}: type_terms; minutes so far: 0$")
     script.expect("a program as the last crate", calls[-1:] == ["celtisdarts_explain run"])
     script.expect("and one before it", "celtisdarts run" in calls)
-    script.is_kept("the program kept")
+    script.is_used("the program stored")
     script.run("--help")
-    script.printed("help that tells so", "built here")
+    script.printed("help that says so", "built here")
 
 
 def try_sources(script: Script) -> None:
     """When a program is of today's sources: by what --build noted, and else by times."""
     os.utime(script.source)
-    script.is_kept("a source with a new time")
+    script.is_used("a source with a new time")
     script.run("--build")
     script.expect("a source with a new time, nothing to build", not script.called())
     change_back = script.change_source()
     os.utime(script.source, (1, 1))
-    script.is_not_kept("a source that changed, with an old time")
+    script.is_not_used("a source that changed, with an old time")
     change_back()
-    script.is_kept("a source that changed and changed back")
+    script.is_used("a source that changed and changed back")
     crates = script.at / "crates.txt"
     listed = crates.read_text(encoding="utf-8")
     crates.write_text(re.sub(r"(?m)^coherence:.*", r"\g<0> indexmap", listed), encoding="utf-8")
-    script.is_not_kept("a library more in crates.txt")
+    script.is_not_used("a library more in crates.txt")
     crates.write_text(listed, encoding="utf-8")
-    script.is_kept("the libraries as they were")
-    script.keep_program()
-    script.is_kept("a program without a note")
+    script.is_used("the libraries as they were")
+    script.store_program()
+    script.is_used("a program without a note")
     os.utime(script.source)
-    script.is_not_kept("a program without a note, and a source with a new time")
-    script.keep_program()
+    script.is_not_used("a program without a note, and a source with a new time")
+    script.store_program()
     script.run("--build")
     os.utime(script.source)
-    script.is_kept("a program that got its note later")
+    script.is_used("a program that got its note later")
 
 
 def try_build(script: Script, env: dict[str, str]) -> None:
@@ -331,9 +331,9 @@ def try_build(script: Script, env: dict[str, str]) -> None:
     script.run("--build")
     env["EDITS"] = ""
     script.gave("a source that changes while it is built", 3)
-    script.is_not_kept("no program of that change")
+    script.is_not_used("no program of that change")
     script.source.write_text(text, encoding="utf-8")
-    script.is_not_kept("no program of that either")
+    script.is_not_used("no program of that either")
     env["FAILS"] = "celtisdarts try"
     script.drop_programs()
     script.run("8", text=TEXT.text)
@@ -359,7 +359,7 @@ class Release:
         self.script.expect(name, self.make("--check").last_line() == line)
 
     def forge(self, program: bytes) -> None:
-        """Puts a program in its place, as if it had been proved."""
+        """Writes a program as if it had been proved."""
         self.path.write_bytes(program)
         self.path.chmod(0o755)
         self.note.write_text(re.sub(r"(?m)^program .*", f"program {hashlib.sha256(program).hexdigest()}", self.note.read_text(encoding="utf-8")), encoding="utf-8")
@@ -378,10 +378,10 @@ def try_made(script: Script, release: Release, env: dict[str, str]) -> None:
     release.checked("by another toolchain", "0 passed, 0 failed")
     env["VERSION"] = "a toolchain"
     script.drop_programs()
-    script.is_kept("with nothing built")
+    script.is_used("with nothing built")
     release.checked("with nothing built, not compared", "0 passed, 2 failed")
     script.run("--help")
-    script.printed("help that tells so", "release/celtisdarts")
+    script.printed("help that says so", "release/celtisdarts")
 
 
 def try_release_answers(script: Script) -> None:
@@ -396,31 +396,31 @@ def try_release_answers(script: Script) -> None:
 def try_forged(script: Script, release: Release, env: dict[str, str]) -> None:
     """A release of other sources, of other bytes, and for another machine."""
     os.utime(script.source)
-    script.is_kept("a source with a new time")
+    script.is_used("a source with a new time")
     change_back = script.change_source()
-    script.is_not_kept("a source that changed")
+    script.is_not_used("a source that changed")
     release.checked("a source that changed, not compared", "0 passed, 0 failed")
     change_back()
-    script.is_kept("a source that changed and changed back")
+    script.is_used("a source that changed and changed back")
     forged = Path(f"{script.calls}.forged")
     release.forge(FORGED.encode())
-    script.is_kept("of other bytes")
+    script.is_used("of other bytes")
     script.expect("of other bytes, which was run", forged.is_file() and "8" in forged.read_text(encoding="utf-8"))
     script.run("--build")
     forged.unlink(missing_ok=True)
-    script.is_kept("of other bytes, beside the built program")
+    script.is_used("of other bytes, with the built program")
     script.expect("of other bytes, which was not run", not forged.exists())
     release.checked("of other bytes, compared", "1 passed, 1 failed")
     script.drop_programs()
     release.path.write_bytes(release.path.read_bytes() + b"\n")
-    script.is_not_kept("of bytes that are not noted")
+    script.is_not_used("of bytes that are not noted")
     release.checked("of bytes that are not noted, compared", "0 passed, 2 failed")
     release.forge(b"#!/nothing/that/loads/it\n")
-    script.is_not_kept("for another machine")
+    script.is_not_used("for another machine")
     release.forge(Path(env["PROGRAM"]).read_bytes())
-    script.is_kept("as it was")
+    script.is_used("as it was")
     release.path.chmod(0o644)
-    script.is_not_kept("that may not be run")
+    script.is_not_used("that may not be run")
     release.path.chmod(0o755)
 
 
@@ -430,19 +430,19 @@ def try_without_rt(script: Script, env: dict[str, str]) -> None:
     for name in COMMANDS:
         (script.room / "commands" / name).symlink_to(shutil.which(name) or name)
     path, env["PATH"] = env["PATH"], str(script.room / "commands")
-    script.is_kept("and no toolchain")
+    script.is_used("and no toolchain")
     shutil.rmtree(script.released.parent)
     script.run("8", text=TEXT.text)
     script.gave("none, and no toolchain", 3)
-    script.said("none, and no toolchain, told", "the toolchain's command 'rt' is not on the PATH")
+    script.reported("none, and no toolchain, reported", "the toolchain's command 'rt' is not on the PATH")
     script.run("--help")
     script.printed("none, and no toolchain, in the help", "no command 'rt' on the PATH")
     script.run("--build")
     script.gave("no toolchain, and --build", 3)
-    script.said("no toolchain, and --build, told", "nothing can be built: .* 'rt' .* README.md names the kit that has it")
+    script.reported("no toolchain, and --build, reported", "nothing can be built: .* 'rt' .* README.md names the kit that has it")
     script.last = run([script.at / "test"], env=env)
     script.expect("no toolchain, and the gate", script.last.status == 1 and script.last.output.endswith(b"\n0 passed, 1 failed\n"))
-    script.printed("no toolchain, and the gate, told", "test: the command 'rt' is not on the PATH")
+    script.printed("no toolchain, and the gate, reported", "test: the command 'rt' is not on the PATH")
     env["PATH"] = path
 
 
@@ -479,15 +479,15 @@ def try_library(script: Script, env: dict[str, str]) -> None:
     script.expect("none that is released", not archive.exists())
     made("made", 0, 1)
     symbols = [line.split()[-2:] for line in run(["nm", "--extern-only", archive]).output.splitlines() if line.count(b" ") > 1]
-    wanted = [[b"R", b"celtisdarts_abi_version"], [b"T", b"celtisdarts_run"]]
-    script.expect("made one object, which offers its calls alone", run(["ar", "t", archive]).output == b"celtisdarts.o\n" and symbols == wanted)
+    expected = [[b"R", b"celtisdarts_abi_version"], [b"T", b"celtisdarts_run"]]
+    script.expect("made one object, which offers its calls alone", run(["ar", "t", archive]).output == b"celtisdarts.o\n" and symbols == expected)
     made("made already", 0, 0)
     one = script.at / "crates/celtisdarts_c/out/libceltisdarts.a"
     run(["ar", "rcD", "other.a", "one.o"], cwd=one.parent)
     os.replace(one.parent / "other.a", one)
     note = Path(f"{one}.proved")
     note.write_text(re.sub("program .*", f"program {hashlib.sha256(one.read_bytes()).hexdigest()}", note.read_text()))
-    made("made, where what was built has its objects apart", 0, 1)
+    made("made, if the objects of the built one are separate", 0, 1)
     release.checked("of what was built", "1 passed, 0 failed")
     change_back = script.change_source()
     release.checked("a source that changed, not compared", "0 passed, 0 failed")
@@ -501,7 +501,7 @@ def try_library(script: Script, env: dict[str, str]) -> None:
 
 
 def try_at_once(script: Script, lanes: ThreadPoolExecutor, env: dict[str, str]) -> None:
-    """Two calls, two builds, and a call beside a build."""
+    """Two calls, two builds, and a call during a build."""
     script.what = "at once"
     script.drop_programs()
     call = [*script.command, "8"]
@@ -514,19 +514,19 @@ def try_at_once(script: Script, lanes: ThreadPoolExecutor, env: dict[str, str]) 
     script.run("--build")
     script.gave("two builds, the second", 0)
     script.expect("two builds, the first", first.result().status == 0)
-    script.is_kept("the program of two builds")
+    script.is_used("the program of two builds")
     script.drop_programs()
     wait = Path(f"{script.calls}.wait")
     wait.touch()
     first = lanes.submit(run, [*script.command, "--build"], env={**env, "WAITS": "coherence lib"})
     script.answers("a call while it is built", 1, "celtisdarts try")
     wait.unlink()
-    script.expect("a build beside a call", first.result().status == 0)
-    script.is_kept("the program of a build beside a call")
+    script.expect("a build during a call", first.result().status == 0)
+    script.is_used("the program of a build during a call")
 
 
 def try_ended(script: Script, env: dict[str, str]) -> None:
-    """A call that is told to end leaves no file behind, and no process."""
+    """A call that is terminated leaves no file, and no process."""
     script.drop_programs()
     wait, folder = Path(f"{script.calls}.wait"), script.room / "tmp"
     wait.touch()
@@ -541,13 +541,13 @@ def try_ended(script: Script, env: dict[str, str]) -> None:
             time.sleep(0.1)
         script.expect("a call that waits, its files", any(folder.iterdir()))
         child.terminate()
-        script.expect("a call that is told to end", child.wait() == 143)
+        script.expect("a call that is terminated", child.wait() == 143)
     script.expect("no file of a call that ended", not any(folder.iterdir()))
     wait.unlink()
 
 
 def try_built(script: Script) -> None:
-    script.keep_program()
+    script.store_program()
     try_statuses(script.about("the script, built"))
     try_files(script, "files, built", 0)
 
@@ -586,7 +586,7 @@ def check(tally: Tally, given: argparse.Namespace) -> None:
     try_statuses(answering)
     answering.refuses("", "8 8", "eight", "+8", "--help")
     answering.run("8 ", text=TEXT.text)
-    answering.gave("a space behind the depth", 2)
+    answering.gave("a space after the depth", 2)
     try_short_output(answering)
     explaining = Cases(tally, "the program that explains", program("celtisdarts_explain"))
     try_explained(explaining)

@@ -1,4 +1,4 @@
-"""Reads types and references, up to lifetimes, and tells whether two of them can be one."""
+"""Reads types and bounds, up to lifetimes, and finds whether two of them can be one."""
 from __future__ import annotations
 
 import re
@@ -13,7 +13,7 @@ class Unread(Exception):
 
 
 class Term(NamedTuple):
-    """A head with its arguments. The head of an unknown begins with ?, that of a parameter with 'param', of an impl's own with 'own'."""
+    """A head with its arguments. The head of a variable begins with ?, that of a parameter with 'param', that of an impl's own with 'own'."""
 
     head: str
     args: tuple[Term, ...] = ()
@@ -37,15 +37,15 @@ class Reader:
     def peek(self) -> str:
         return self.tokens[self.at] if self.at < len(self.tokens) else ""
 
-    def take(self, wanted: str = "") -> str:
+    def take(self, expected: str = "") -> str:
         it = self.peek()
-        if not it or wanted and it != wanted:
-            raise Unread(f"{wanted} at {self.at} of {self.tokens}")
+        if not it or expected and it != expected:
+            raise Unread(f"{expected} at {self.at} of {self.tokens}")
         self.at += 1
         return it
 
-    def passes(self, wanted: str) -> bool:
-        is_there = self.peek() == wanted
+    def passes(self, expected: str) -> bool:
+        is_there = self.peek() == expected
         self.at += is_there
         return is_there
 
@@ -55,7 +55,7 @@ class Reader:
         return is_there
 
     def listed(self, close: str, one: Callable[[], Optional[Read]]) -> tuple[Read, ...]:
-        """What stands before the closing sign, but lifetimes."""
+        """The arguments before the closing sign, without lifetimes."""
         found = []
         while not self.passes(close):
             found.append(one())
@@ -143,28 +143,28 @@ def reference_of(text: str, params: Sequence[str] = ()) -> Term:
 
 
 def owned(term: Term) -> Term:
-    """The parameters of an impl as unknowns of their own."""
+    """The parameters of an impl as new variables."""
     return Term(re.sub(r"^param ", "own ", term.head), tuple(map(owned, term.args)))
 
 
-# ---- two references as one, by values for unknowns
+# ---- two bounds as one, by values for variables
 
 Values = dict[Term, Term]
 
 
-def is_unknown(term: Term) -> bool:
+def is_variable(term: Term) -> bool:
     return term.head.startswith(("?", "own "))
 
 
 def walked(term: Term, values: Values) -> Term:
-    while is_unknown(term) and term in values:
+    while is_variable(term) and term in values:
         term = values[term]
     return term
 
 
-def occurs(unknown: Term, term: Term, values: Values) -> bool:
+def occurs(variable: Term, term: Term, values: Values) -> bool:
     term = walked(term, values)
-    return term == unknown or any(occurs(unknown, it, values) for it in term.args)
+    return term == variable or any(occurs(variable, it, values) for it in term.args)
 
 
 def unify(left: Term, right: Term, values: Values) -> bool:
@@ -172,7 +172,7 @@ def unify(left: Term, right: Term, values: Values) -> bool:
     if left == right:
         return True
     for it, other in ((left, right), (right, left)):
-        if is_unknown(it):
+        if is_variable(it):
             if occurs(it, other, values):
                 return False
             values[it] = other

@@ -15,7 +15,7 @@ FOLDERS = ("terms", "solver")
 
 
 def written() -> list[str]:
-    """The tests that stand in the sources, by the names that the program lists."""
+    """The tests of the sources, by the names that the program lists."""
     found = []
     for file in sorted(it for folder in FOLDERS for it in (SOURCES / folder).rglob("*.rt.txt")):
         module = "::".join(str(file.relative_to(SOURCES)).removesuffix(".rt.txt").split("/"))
@@ -27,9 +27,9 @@ def check(tally: Tally, _: argparse.Namespace) -> None:
     listed = tests()
     for name in sorted({*written(), *listed}):
         if name not in listed:
-            tally.tell(name, f"it stands in {SOURCES.relative_to(TOP)}, and the program does not list it")
+            tally.report(name, f"it is in {SOURCES.relative_to(TOP)}, and the program does not list it")
             continue
         ended = run([driver(), name], limits=Limits(seconds=300))
         is_well = ended.status == 0 and ended.last_line() == "test result: ok"
-        tally.expect(name, is_well, f"it ends with status {ended.status}: {ended.said.decode()[-2000:]}")
+        tally.expect(name, is_well, f"it ends with status {ended.status}: {ended.errors.decode()[-2000:]}")
     print(f"tests: {len(listed)}")

@@ -32,7 +32,7 @@ MANIFEST = '[package]\nname = "shapes"\nversion = "{}"\nedition = "2021"\n'
 
 
 class Run(NamedTuple):
-    """A command, what the document says that it prints, where that stands in it, and the library that it is about."""
+    """A command, what the document says that it prints, the line of that, and the library that it is about."""
 
     command: str
     shown: str
@@ -89,7 +89,7 @@ class Library:
 
 
 class Runs:
-    """Runs commands, those of cargo in the library that stands before them."""
+    """Runs commands, those of cargo in the library that is shown before them."""
 
     def __init__(self, room: Path) -> None:
         self.room, self.cargo = room, has_cargo()
@@ -116,7 +116,7 @@ def try_document(tally: Tally, document: str, runs: Runs, is_to_write: bool) -> 
         if found is None:
             print(f"skipped {name}: cargo, rustdoc or the documents of the standard library are not here")
             continue
-        tally.tell(name, difference(found.encode(), (it.shown.rstrip("\n") + "\n").encode()))
+        tally.report(name, difference(found.encode(), (it.shown.rstrip("\n") + "\n").encode()))
         made, end = made + text[end:it.start] + found.lstrip("\n" if found == "\n" else ""), it.end
     if is_to_write:
         (TOP / document).write_text(made + text[end:], encoding="utf-8")

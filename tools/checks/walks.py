@@ -26,8 +26,8 @@ WALKS = {
 def check(tally: Tally, _: argparse.Namespace) -> None:
     for shape, levels in SHAPES:
         for walk, form in WALKS.items():
-            wanted = form.format(levels + 1)
+            expected = form.format(levels + 1)
             ended = run([driver(), "layers::layer", f"{shape}_{walk}", str(levels)], limits=Limits(seconds=60, stack=800 * 1024))
             found = ended.output.decode("latin-1").partition("\n")[0]
-            fault = f"status {ended.status} and '{found}', 0 and '{wanted}' are wanted"
-            tally.expect(f"{shape}_{walk} {levels}", (ended.status, found) == (0, wanted), fault)
+            fault = f"status {ended.status} and '{found}', 0 and '{expected}' are expected"
+            tally.expect(f"{shape}_{walk} {levels}", (ended.status, found) == (0, expected), fault)

@@ -4,5 +4,5 @@ It reads rustdoc's JSON of crates and the documents of the standard library, wri
 docs/FORMAT.md, an upper and a lower one, has the program answer both, and says what the answers tell of the crates.
 What it does, and what it does not promise, is in docs/RUSTDOC.md.
 
-Its packages, each of which imports none that stands after it: `read`, `model`, `write`, `report`, `ask`, `later`. The command stands on all.
+Its packages, in an order in which none imports a later one: `read`, `model`, `write`, `report`, `ask`, `later`. The command uses all.
 """

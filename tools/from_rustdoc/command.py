@@ -66,7 +66,7 @@ def new_world(docs: Optional[str]) -> World:
     folder = cargo.docs_folder(docs)
     std = json_folder(folder)
     if std:
-        # (Imported here, as below what a question does not need: to load it takes long beside an answer.)
+        # (Imported here, as below what a query does not need: to load it takes long next to an answer.)
         from .read.standard_json import JsonStandard
         return World(Pages(folder), JsonStandard(std))
     pages = KeptPages(folder)
@@ -81,7 +81,7 @@ def world_of(files: list[str], docs: Optional[str], links: Optional[cargo.Links]
 
 
 def keep(world: World) -> None:
-    """What pages were looked at is kept for the next call."""
+    """What pages were looked at is stored for the next call."""
     if isinstance(world.pages, KeptPages):
         world.pages.store.flush()
 
@@ -211,7 +211,7 @@ def ask(arguments: argparse.Namespace) -> int:
 
 
 def answered(inputs: dict[str, Any], world: World, arguments: argparse.Namespace) -> int:
-    """Each question by itself, so that one that is not understood spoils none."""
+    """Each query by itself, so that one that is not understood spoils none."""
     reader, answerer, output = QuestionReader(world), Answerer(world, arguments.program), output_of(arguments, inputs)
     output.features = getattr(arguments, "told_features", "")
     if output.features:
@@ -278,7 +278,7 @@ def serve(arguments: argparse.Namespace, extra: list[str]) -> int:
 
 
 def ask_project(arguments: argparse.Namespace, extra: list[str]) -> int:
-    """Questions on a project, of which cargo documents first what has changed."""
+    """Queries on a project, of which cargo documents first what has changed."""
     _, inputs, world = documents(arguments.project, extra, arguments)
     return answered(inputs, world, arguments)
 
@@ -308,7 +308,7 @@ def documented(folder: str, extra: list[str], arguments: argparse.Namespace) -> 
 
 
 def read_documents(found: Documents, arguments: argparse.Namespace) -> tuple[str, dict[str, Any], World]:
-    """Reads a project, and writes the map, which is all that questions need: the base of its files, and what was read."""
+    """Reads a project, and writes the map, which is all that queries need: the base of its files, and what was read."""
     with contextlib.suppress(OSError, ValueError):
         before = map_of(found.base)
         if {name: before.get(name) for name in found.known} == found.known:
@@ -437,7 +437,7 @@ COMMANDS = ("read", "check", "ask", "conditions", "traits", "serve", "later", "s
 
 
 def divided(words: list[str]) -> tuple[list[str], list[str]]:
-    """The words of this command, and cargo's own behind `--`."""
+    """The words of this command, and cargo's own after `--`."""
     return (words[:words.index("--")], words[words.index("--") + 1:]) if "--" in words else (words, [])
 
 
@@ -506,7 +506,7 @@ def run_for_cargo(words: list[str], extra: list[str], reporter: Reporter) -> int
     if arguments.h or arguments.help:
         print(flags.short_help(command) if arguments.h else flags.long_help(command), end="")
         return FINE
-    # (Imported here, since it stands on this module.)
+    # (Imported here, since it imports this module.)
     from .subcommands import run
     return run(command.name, arguments, [*arguments.extra, *extra])
 

@@ -46,7 +46,7 @@ class Flag:
         parser.add_argument(*self.names, dest=self.name, **more)
 
     def words(self, given: Any) -> list[str]:
-        """What cargo is told."""
+        """The words for cargo."""
         if not self.value:
             return [self.names[-1]] if given else []
         values = given if isinstance(given, list) else [given] if given is not None else []
@@ -101,7 +101,7 @@ COMMON = {"Package selection": PACKAGES, "Feature selection": FEATURES, "Compila
 
 @dataclass(frozen=True)
 class Command:
-    """`about` is its line in the list of all, `text` what else is said of it, `words` what stands behind it."""
+    """`about` is its line in the list of all, `text` what else is said of it, `words` what comes after it."""
     name: str
     about: str
     text: str
@@ -201,7 +201,7 @@ class Parser(argparse.ArgumentParser):
 
 
 def command_of(words: list[str]) -> tuple[Optional[Command], list[str]]:
-    """The command, and the other words. Flags may stand before it."""
+    """The command, and the other words. Flags may come before it."""
     place = next((n for n, word in enumerate(words) if word in COMMANDS), None)
     if place is not None and all(word.startswith("-") or n and words[n - 1].startswith("-") for n, word in enumerate(words[:place])):
         return COMMANDS[words[place]], words[:place] + words[place + 1:]
@@ -212,7 +212,7 @@ def command_of(words: list[str]) -> tuple[Optional[Command], list[str]]:
 
 
 def read(command: Command, words: Sequence[str]) -> argparse.Namespace:
-    """What the words of a command say. `extra` has what cargo is told."""
+    """What the words of a command say. `extra` has the words for cargo."""
     found = Parser(command).read(words)
     found.extra = [word for flag in command.all_flags() if flag.passed for word in flag.words(getattr(found, flag.name))]
     if len(found.words) < command.least:

@@ -1,4 +1,4 @@
-"""A project for programs: its crates are read once and kept in memory, and what is asked of them is answered as data.
+"""A project for programs: its crates are read once and stored in memory, and what is asked of them is answered as data.
 
     from from_rustdoc.project import Project    # with tools/ in sys.path
 
@@ -41,7 +41,7 @@ RECURSION = 20000
 
 @dataclass(frozen=True)
 class Answer:
-    """`word` is yes, no, unproved, maybe or not settled, as docs/QUESTIONS.md says. `values` are those of variables by their names, as a question takes
+    """`word` is yes, no, unproved, maybe or not settled, as docs/QUESTIONS.md says. `values` are those of variables by their names, as a query takes
     them. `is_certain` says that what is proved covers a yes or a no, `basis` why that is not so; `rests_on` names impls of which a part was
     left out. `reason` is there if it was asked for, and can be read."""
     question: str
@@ -56,14 +56,14 @@ class Answer:
 
 @dataclass(frozen=True)
 class NoAnswer:
-    """A question that cannot be asked, and what to write."""
+    """A query that cannot be asked, and what to write."""
     question: str
     error: str
 
 
 @dataclass(frozen=True)
 class Condition:
-    """Under which `bounds` the question holds, each as a where-clause of a question. `word` is yes; no, where no bounds help; or not settled, and
+    """Under which `bounds` the query holds, each as a where-clause of a query. `word` is yes; no, where no bounds help; or not settled, and
     `because` says why."""
     question: str
     word: str
@@ -130,13 +130,13 @@ class Project:
         self.known: dict[tuple[str, ...], Any] = {}
         return True
 
-    # ---- questions
+    # ---- queries
     def ask(self, question: str, why: bool = False) -> Answer:
         """Whether a bound holds. With `why` the answer has its reason, which takes a run of the program that explains."""
         return self.once(("ask", question, str(why)), lambda: self.answer(self.reader.read(question), why))
 
     def ask_many(self, questions: Sequence[str], why: bool = False) -> list[Answer | NoAnswer]:
-        """The answers in their order. A question that cannot be asked spoils none."""
+        """The answers in their order. A query that cannot be asked spoils none."""
         found: list[Answer | NoAnswer] = []
         for question in questions:
             try:
@@ -146,7 +146,7 @@ class Project:
         return found
 
     def conditions(self, question: str) -> Condition:
-        """Under which bounds on its parameters a question holds; parameters need not be declared."""
+        """Under which bounds on its parameters a query holds; parameters need not be declared."""
         return self.once(("conditions", question), lambda: self.condition(self.finder.find(self.only(read_open(self.reader, question), question))))
 
     def traits(self, type: str) -> TraitsOf:
@@ -202,7 +202,7 @@ class Project:
 
     # ---- as data
     def once(self, key: tuple[str, ...], find: Callable[[], Found]) -> Found:
-        """What is found is kept while the project stays as it was read."""
+        """What is found is stored while the project stays as it was read."""
         if key not in self.known:
             self.known[key] = find()
         found: Found = self.known[key]

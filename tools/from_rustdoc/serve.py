@@ -11,7 +11,7 @@ request with `"fresh": true` does so first. Empty lines are skipped, and the end
 | Kind of an error | When |
 |---|---|
 | `bad request` | the line is no JSON object, or has no such method or parameter |
-| `not understood` | the question or type cannot be asked; the message says what to write |
+| `not understood` | the query or type cannot be asked; the message says what to write |
 | `no answer` | the project cannot be documented or read, or a mistake of this tool |
 """
 from __future__ import annotations

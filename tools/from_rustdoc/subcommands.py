@@ -48,7 +48,7 @@ def later(arguments: argparse.Namespace, extra: list[str]) -> int:
 
 
 def ask(arguments: argparse.Namespace, extra: list[str]) -> int:
-    """The questions that are given, by the features that are given; else those of the metadata, by all sets of features."""
+    """The queries that are given, by the features that are given; else those of the metadata, by all sets of features."""
     call = Call(arguments, extra)
     if arguments.words:
         arguments.questions = [(word, None) for word in arguments.words]
@@ -80,7 +80,7 @@ def serve(arguments: argparse.Namespace, extra: list[str]) -> int:
 
 
 def questions_by_trial(call: Call) -> list[tuple[Trial, list[Expected]]]:
-    """The workspace's questions are about all packages that are chosen, by the workspace's features."""
+    """The workspace's queries are about all packages that are chosen, by the workspace's features."""
     trials = call.trials()
     if len({tuple(trial.packages) for trial in trials}) > 1 and call.of_workspace.asks:
         of_all = call.chosen.trials(call.extra, {name: Settings() for name in call.chosen.names()}, call.of_workspace)

@@ -1,1 +1,1 @@
-"""A registry of crates, surveyed: each documented, read, checked and judged, and questions about it held against rustc. Scripts: nothing of it is proved."""
+"""A registry of crates, surveyed: each documented, read, checked and judged, and answers about it compared with rustc. These are scripts: nothing of it is proved."""

@@ -11,12 +11,12 @@ from from_rustdoc.read.terms import BadInput
 from . import database, figures, registry, results, steps
 from .registry import Package
 
-USAGE = """survey: steps of a survey of a registry of crates. tools/survey/Snakefile calls it; docs/RUSTDOC.md tells of it.
+USAGE = """survey: steps of a survey of a registry of crates. tools/survey/Snakefile calls it; docs/RUSTDOC.md describes it.
 
   survey list --registry DIR                           the packages of a registry, a line each
   survey document NAME-VERSION [--feature NAME ..]     a step of one crate; its results are OUT/crates/NAME-VERSION/STEP.jsonl
   survey read|check NAME-VERSION                       further steps, each from what those before it have left
-  survey ask NAME-VERSION --questions N                N questions about the crate, to rustc and to the translator
+  survey ask NAME-VERSION --questions N                N queries about the crate, to rustc and to the translator
   survey judge NAME-VERSION [--before NAME-VERSION]    the release from an earlier version, else each impl as if it were added
   survey adopt BASE                                    takes the crates of a project that from-rustdoc has documented, for further steps
   survey join                                          all results as OUT/survey.sqlite
@@ -37,16 +37,16 @@ def package_of(name: str, among: list[Package]) -> Package:
 def step(arguments: argparse.Namespace) -> int:
     among = registry.packages(arguments.registry)
     package = package_of(arguments.package, among)
-    place = steps.Place(arguments.out, arguments.registry, arguments.target, arguments.program, arguments.jobs)
+    setup = steps.Setup(arguments.out, arguments.registry, arguments.target, arguments.program, arguments.jobs)
     older = package_of(arguments.before, among) if arguments.before else None
     work: dict[str, Callable[[results.Step], None]] = {
-        "document": lambda s: steps.document(place, package, s, tuple(arguments.feature)), "read": lambda s: steps.read(place, package, s),
-        "check": lambda s: steps.check(place, package, s), "ask": lambda s: steps.ask(place, package, arguments.questions, s),
-        "judge": lambda s: steps.judge(place, package, older, s)}
+        "document": lambda s: steps.document(setup, package, s, tuple(arguments.feature)), "read": lambda s: steps.read(setup, package, s),
+        "check": lambda s: steps.check(setup, package, s), "ask": lambda s: steps.ask(setup, package, arguments.questions, s),
+        "judge": lambda s: steps.judge(setup, package, older, s)}
     lines = results.measured(arguments.command, work[arguments.command])
-    results.write(place.file(package, arguments.command), lines)
-    told = f": {lines[0]['why']}" if lines[0]["why"] else ""
-    print(f"{package.folder}: {arguments.command}: {lines[0]['status']}{told}")
+    results.write(setup.file(package, arguments.command), lines)
+    why = f": {lines[0]['why']}" if lines[0]["why"] else ""
+    print(f"{package.folder}: {arguments.command}: {lines[0]['status']}{why}")
     return 0
 
 
@@ -57,8 +57,8 @@ def listed(arguments: argparse.Namespace) -> int:
 
 
 def adopt(arguments: argparse.Namespace) -> int:
-    place = steps.Place(arguments.out, arguments.registry, arguments.target, arguments.program, arguments.jobs)
-    for package in steps.adopt(place, arguments.base, registry.packages(arguments.registry)):
+    setup = steps.Setup(arguments.out, arguments.registry, arguments.target, arguments.program, arguments.jobs)
+    for package in steps.adopt(setup, arguments.base, registry.packages(arguments.registry)):
         print(package.folder)
     return 0
 

@@ -1,4 +1,4 @@
-"""A crate as rustdoc's JSON has it, for the questions: public items with their paths, impls, and the crates that it names.
+"""A crate as rustdoc's JSON has it, for the queries: public items with their paths, impls, and the crates that it names.
 
 It shares nothing with the translator's own reader, so that a mistake of one is not a mistake of the other.
 """
@@ -12,7 +12,7 @@ from typing import Any, Iterator, Optional
 Json = dict[str, Any]
 TYPES = ("struct", "enum", "union")
 STD = ("std", "core", "alloc")
-# Modules of std that stand in the path of a definition and in no public path.
+# Modules of std that are in the path of a definition and in no public path.
 TWO_MODULES = ("os", "collections")
 
 
@@ -27,7 +27,7 @@ def body_of(item: Json) -> Json:
 
 def std_path(path: list[str]) -> list[str]:
     """A public path of an item of std, guessed: `core::iter::traits::iterator::Iterator` is `core::iter::Iterator`. Where that is
-    wrong rustc says so, and the question is dropped."""
+    wrong rustc says so, and the query is dropped."""
     return path if len(path) < 4 else [path[0], path[1], path[-1]]
 
 
@@ -133,7 +133,7 @@ class Crate:
 
 
 class Documents:
-    """The crates of a project, by name, read when they are asked for."""
+    """The crates of a project, by name, read at their first use."""
 
     def __init__(self, files: dict[str, str]) -> None:
         self.files = files

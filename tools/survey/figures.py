@@ -35,8 +35,8 @@ class Page:
     def crates(self) -> None:
         total = self.one("select count(*) from crates")
         kinds = self.rows("select kind, count(*) from crates group by kind order by 2 desc")
-        told = ", ".join(f"{count} {kind}" for kind, count in kinds)
-        self.lines += ["# A survey of crates", "", f"{total} crates with their versions: {told}."]
+        counts = ", ".join(f"{count} {kind}" for kind, count in kinds)
+        self.lines += ["# A survey of crates", "", f"{total} crates with their versions: {counts}."]
         rows = [(step, *[self.one("select count(*) from steps where step = ? and status = ?", (step, status)) for status in ("done", "failed", "skipped")])
                 for (step,) in self.rows("select distinct step from steps order by rowid")]
         self.table("Steps", ("step", "done", "failed", "skipped"), rows)
@@ -57,17 +57,17 @@ class Page:
             "select name || ' ' || version, count(*), sum(fate <> 'whole') from impls group by 1 having sum(fate <> 'whole') > 0 order by 3 desc limit ?",
             (LONGEST,)))
 
-    def questions(self) -> None:
+    def queries(self) -> None:
         total = self.one("select count(*) from questions where verdict not in ('not well formed', 'not decided')")
         rows = [(verdict, count, percent(count, total)) for verdict, count in
                 self.rows("select verdict, count(*) from questions group by 1 order by 2 desc")]
-        self.table(f"Questions held against rustc: {total}", ("answer/rustc", "questions", "share"), rows)
-        self.table("On what the answers rest", ("answer", "rests on", "questions"), self.rows(
+        self.table(f"Queries compared with rustc: {total}", ("answer/rustc", "queries", "share"), rows)
+        self.table("On what the answers rest", ("answer", "rests on", "queries"), self.rows(
             "select said, foundation, count(*) from questions where said in ('yes', 'no', 'unproved') group by 1, 2 order by 3 desc"))
-        self.table("By kind of question", ("kind", "right", "not settled", "not read", "wrong"), self.rows(
+        self.table("By kind of query", ("kind", "right", "not settled", "not read", "wrong"), self.rows(
             "select how, sum(verdict in ('yes/yes', 'no/no', 'unproved/no', 'yes, but for lifetimes')), sum(verdict = 'not settled'), sum(verdict = 'not read'), "
             "sum(verdict = 'wrong') from questions where verdict not in ('not well formed', 'not decided') group by 1 order by 2 desc"))
-        self.table("Wrong", ("crate", "question", "answer", "rustc"), self.rows(
+        self.table("Wrong", ("crate", "query", "answer", "rustc"), self.rows(
             "select name || ' ' || version, question, said || ' (' || basis || ')', rustc || ' ' || substr(rustc_why, 1, 120) from questions "
             "where verdict = 'wrong' order by 1 limit ?", (LINES,)))
 
@@ -115,7 +115,7 @@ def shown(cell: Any) -> str:
 def page(database: str) -> str:
     """The whole page, as Markdown."""
     found = Page(database)
-    for part in (found.crates, found.impls, found.questions, found.releases, found.times):
+    for part in (found.crates, found.impls, found.queries, found.releases, found.times):
         part()
     found.connection.close()
     return "\n".join(found.lines) + "\n"

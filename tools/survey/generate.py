@@ -1,6 +1,6 @@
-"""Questions about the public types and traits of a crate, drawn by a seed: each can be asked of the translator and compiled by rustc.
+"""Queries about the public types and traits of a crate, drawn by a seed: the translator answers each, and rustc compiles it.
 
-What is drawn is only meant to be plausible. A question that rustc does not take as well formed is dropped by the comparison.
+They are only plausible. The comparison drops a query that rustc does not take as well-formed.
 """
 from __future__ import annotations
 
@@ -9,7 +9,7 @@ from dataclasses import dataclass, field, replace
 from typing import Callable, Optional
 
 from .documents import TYPES, Crate, Json, body_of
-from .rust import FN_TRAITS, NotSaid, Parameters, Printer, parameters
+from .rust import FN_TRAITS, NotWritten, Parameters, Printer, parameters
 
 AUTO = ("Send", "Sync", "Unpin", "std::panic::UnwindSafe", "std::panic::RefUnwindSafe")
 PLAIN = ("Clone", "Copy", "std::fmt::Debug", "Default", "PartialEq", "Eq", "PartialOrd", "Ord", "std::hash::Hash", "std::fmt::Display",
@@ -41,7 +41,7 @@ MAXIMAL_PARAMETERS = 8
 
 
 @dataclass(frozen=True)
-class Asked:
+class Query:
     """`<params> subject: bounds where clauses`; `kind` says how it was drawn."""
     kind: str
     subject: str
@@ -56,11 +56,11 @@ class Asked:
         return f"{head}{self.subject}: {' + '.join(self.bounds)}{tail}"
 
     def parts(self) -> list[str]:
-        """The questions of one bound each that this one is."""
+        """This query as queries of one bound each."""
         return [replace(self, bounds=(bound,)).written() for bound in self.bounds]
 
     def rust(self, number: int) -> list[str]:
-        """Three lines: one that rustc takes if the bounds are well formed, one if the subject is, and one if the bounds hold."""
+        """Three lines: one that rustc takes if the bounds are well-formed, one if the subject is, and one if the bounds hold."""
         params = [p if p.startswith("const ") else f"{p}: 'static" for p in self.params]
         names = [p.split(":")[0].replace("const ", "") for p in self.params]
         where = f" where {', '.join(self.clauses)}" if self.clauses else ""
@@ -72,7 +72,7 @@ class Asked:
 
 @dataclass
 class Drawn:
-    """A type, with the parameters and clauses under which it is spoken of. `open` are its type parameters, `own` their declared bounds."""
+    """A type, with the parameters and where-clauses of a query about it. `open` are its type parameters, `own` their declared bounds."""
     text: str
     params: list[str] = field(default_factory=list)
     clauses: list[str] = field(default_factory=list)
@@ -87,23 +87,23 @@ class Generator:
         self.types = crate.of_kinds(TYPES)
         self.traits = crate.of_kinds(("trait",))
         self.impls = crate.impls
-        self.makers: list[tuple[int, Callable[[], Asked]]] = [
+        self.makers: list[tuple[int, Callable[[], Query]]] = [
             (16, self.auto), (18, self.plain), (14, self.own_trait), (22, self.of_impl), (18, self.associated), (6, self.function), (6, self.joined)]
 
-    def questions(self, count: int) -> list[Asked]:
+    def queries(self, count: int) -> list[Query]:
         """As many as can be drawn in a reasonable number of attempts, each once."""
-        found: dict[str, Asked] = {}
+        found: dict[str, Query] = {}
         weights = [weight for weight, _ in self.makers]
         for _ in range(count * 30):
             if len(found) == count or not self.types and not self.impls:
                 break
             _, make = self.draw.choices(self.makers, weights)[0]
             try:
-                asked = make()
-            except (NotSaid, IndexError):
+                query = make()
+            except (NotWritten, IndexError):
                 continue
-            if len(asked.params) <= MAXIMAL_PARAMETERS:
-                found.setdefault(asked.written(), asked)
+            if len(query.params) <= MAXIMAL_PARAMETERS:
+                found.setdefault(query.written(), query)
         return list(found.values())
 
     def is_drawn(self, chance: float) -> bool:
@@ -111,7 +111,7 @@ class Generator:
 
     # ---- types
     def any_type(self) -> str:
-        """Something for a place of which nothing is known."""
+        """A term where nothing is known."""
         if self.types and self.is_drawn(0.25):
             return self.type(is_open=False).text
         return self.draw.choice(POOL)
@@ -146,7 +146,7 @@ class Generator:
         drawn.clauses += [printer.clause(subject, bound) for subject, bound in own.bounds]
 
     def values(self, own: Parameters, is_open: bool, depth: int) -> dict[str, str]:
-        """What stands for each parameter; nothing for those that stay."""
+        """A text for each parameter, and nothing for those that stay."""
         values: dict[str, str] = {}
         for name in own.names:
             if name in own.consts:
@@ -186,7 +186,7 @@ class Generator:
             if impl["trait"]["id"] == trait["id"] and not impl["generics"]["params"] and not impl["is_negative"]:
                 try:
                     found.append(Printer(self.crate).type(impl["for"]))
-                except NotSaid:
+                except NotWritten:
                     continue
         return found
 
@@ -209,8 +209,8 @@ class Generator:
         for name in own.names:
             if name in own.defaults and self.is_drawn(0.5):
                 break
-            is_kept = bool(drawn.open) and name not in own.consts and self.is_drawn(0.3)
-            values[name] = self.draw.choice(drawn.open) if is_kept else self.values(own, False, 1)[name]
+            stays = bool(drawn.open) and name not in own.consts and self.is_drawn(0.3)
+            values[name] = self.draw.choice(drawn.open) if stays else self.values(own, False, 1)[name]
             arguments.append(values[name])
         lifetimes = ["'static" for p in body_of(self.crate.index[number])["generics"]["params"] if "lifetime" in p["kind"]]
         path = "::".join(self.crate.public[number])
@@ -223,7 +223,7 @@ class Generator:
         return self.own_bound(drawn) if chance < 0.6 and self.traits else self.plain_bound(drawn.text)
 
     def more_clauses(self, drawn: Drawn, bounds: tuple[str, ...]) -> list[str]:
-        """Clauses on the parameters that stay: the asked bounds, others, and some on their associated types."""
+        """Clauses on the parameters that stay: the bounds of the query, others, and some on their associated types."""
         found: list[str] = []
         for name in drawn.open:
             chance = self.draw.random()
@@ -240,26 +240,26 @@ class Generator:
                     found.append(value if self.is_drawn(0.6) else f"{name}: {path}<{associated} = {self.draw.choice(POOL)}>")
         return found
 
-    # ---- questions
-    def asked(self, kind: str, drawn: Drawn, bounds: tuple[str, ...]) -> Asked:
+    # ---- queries
+    def query(self, kind: str, drawn: Drawn, bounds: tuple[str, ...]) -> Query:
         clauses = list(dict.fromkeys(drawn.clauses + self.more_clauses(drawn, bounds)))
-        return Asked(kind, self.around(drawn.text), bounds, tuple(drawn.params), tuple(clauses))
+        return Query(kind, self.around(drawn.text), bounds, tuple(drawn.params), tuple(clauses))
 
-    def auto(self) -> Asked:
-        return self.asked("auto trait", self.type(self.is_drawn(0.5)), (self.draw.choice(AUTO),))
+    def auto(self) -> Query:
+        return self.query("auto trait", self.type(self.is_drawn(0.5)), (self.draw.choice(AUTO),))
 
-    def plain(self) -> Asked:
+    def plain(self) -> Query:
         drawn = self.type(self.is_drawn(0.45))
-        return self.asked("trait of std", drawn, (self.plain_bound(drawn.text),))
+        return self.query("trait of std", drawn, (self.plain_bound(drawn.text),))
 
-    def own_trait(self) -> Asked:
+    def own_trait(self) -> Query:
         drawn = self.type(self.is_drawn(0.4)) if self.is_drawn(0.6) else Drawn(self.any_type())
-        return self.asked("own trait", drawn, (self.own_bound(drawn),))
+        return self.query("own trait", drawn, (self.own_bound(drawn),))
 
-    def joined(self) -> Asked:
+    def joined(self) -> Query:
         drawn = self.type(self.is_drawn(0.5))
         bounds = dict.fromkeys(self.bound(drawn) for _ in range(self.draw.choice((2, 2, 3))))
-        return self.asked("A + B", drawn, tuple(bounds))
+        return self.query("A + B", drawn, tuple(bounds))
 
     def header(self, impl: Json, is_open: bool) -> tuple[Drawn, Printer]:
         """The type of an impl with arguments, or with the impl's parameters and clauses."""
@@ -272,34 +272,34 @@ class Generator:
             self.open(drawn, own, values)
         return drawn, printer
 
-    def of_impl(self) -> Asked:
+    def of_impl(self) -> Query:
         """What an impl says, or says nearly: with all of its clauses, or with one less."""
         impl = self.draw.choice(self.impls)
         drawn, printer = self.header(impl, self.is_drawn(0.6))
         clauses = [c for c in drawn.clauses if not c.endswith("?Sized")]
         if clauses and self.is_drawn(0.4):
             drawn.clauses.remove(self.draw.choice(clauses))
-        return Asked("of an impl", drawn.text, (printer.trait(impl["trait"]),), tuple(drawn.params), tuple(drawn.clauses))
+        return Query("of an impl", drawn.text, (printer.trait(impl["trait"]),), tuple(drawn.params), tuple(drawn.clauses))
 
-    def associated(self) -> Asked:
-        """The value of an associated type: the right one or another, or a bound on it, or a type that it stands in."""
+    def associated(self) -> Query:
+        """The value of an associated type: the right one or another, or a bound on it, or on a type that contains it."""
         impl = self.draw.choice([i for i in self.impls if self.crate.values(i) and not i["is_negative"]])
         drawn, printer = self.header(impl, self.is_drawn(0.5))
         name, value = self.draw.choice(sorted(self.crate.values(impl).items()))
         trait = printer.trait(impl["trait"])
-        place = f"<{drawn.text} as {trait}>::{name}"
+        projection = f"<{drawn.text} as {trait}>::{name}"
         chance = self.draw.random()
         if chance < 0.5:
             right = printer.type(value) if self.is_drawn(0.6) else self.any_type()
             constrained = trait[:-1] + f", {name} = {right}>" if trait.endswith(">") else f"{trait}<{name} = {right}>"
-            return Asked("associated type", drawn.text, (constrained,), tuple(drawn.params), tuple(drawn.clauses))
-        text = place if chance < 0.8 else self.draw.choice(AROUND).format(place)
-        return Asked("projection", text, (self.bound(Drawn(self.any_type())),), tuple(drawn.params), tuple(drawn.clauses))
+            return Query("associated type", drawn.text, (constrained,), tuple(drawn.params), tuple(drawn.clauses))
+        text = projection if chance < 0.8 else self.draw.choice(AROUND).format(projection)
+        return Query("projection", text, (self.bound(Drawn(self.any_type())),), tuple(drawn.params), tuple(drawn.clauses))
 
-    def function(self) -> Asked:
+    def function(self) -> Query:
         """A function or a boxed one, as `Fn(A) -> B`."""
         first, second = self.any_type(), self.any_type()
         name = self.draw.choice(FN_TRAITS)
         subject = self.draw.choice((f"fn({first}) -> {second}", f"Box<dyn {name}({first}) -> {second}>", f"&'static dyn Fn({first}) -> {second}", self.any_type()))
-        wanted = self.draw.choice((f"{name}({first}) -> {second}", f"{name}({first}) -> {second}", f"{name}({second}) -> {first}", f"{name}({first})"))
-        return Asked("function", subject, (wanted,))
+        bound = self.draw.choice((f"{name}({first}) -> {second}", f"{name}({first}) -> {second}", f"{name}({second}) -> {first}", f"{name}({first})"))
+        return Query("function", subject, (bound,))

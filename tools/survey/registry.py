@@ -83,7 +83,7 @@ class Dependency:
         return f'{self.package.name} = {{ version = "={self.package.version}"{features} }}'
 
 
-def read_wanted(file: str, among: list[Package]) -> tuple[list[Dependency], list[str]]:
+def read_dependencies(file: str, among: list[Package]) -> tuple[list[Dependency], list[str]]:
     """Lines `name [version] [+feature ..]` as dependencies; and the names of those that the registry has not."""
     found, missing = [], []
     with open(file, encoding="utf-8") as handle:

@@ -1,4 +1,4 @@
-"""Results of steps: files of JSON, a line each. The first line tells of the step itself, the others of what it found."""
+"""Results of steps: files of JSON, a line each. The first line is about the step itself, the others about what it found."""
 from __future__ import annotations
 
 import json

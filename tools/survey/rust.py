@@ -11,8 +11,8 @@ FN_TRAITS = ("Fn", "FnMut", "FnOnce")
 SIZED = ("Sized", "MetaSized", "PointeeSized")
 
 
-class NotSaid(Exception):
-    """A term that has no public path, or that a question does not write."""
+class NotWritten(Exception):
+    """A term that has no public path, or that a query does not write."""
 
 
 @dataclass
@@ -29,7 +29,7 @@ class Parameters:
 
 
 def parameters(generics: Json, consts: Optional[dict[str, str]] = None) -> Parameters:
-    """Reads generics; each bound of a trait stands in `bounds` with its subject."""
+    """Reads generics; each bound of a trait is in `bounds` with its subject."""
     found = Parameters()
     for parameter in generics["params"]:
         kind, body = next(iter(parameter["kind"].items()))
@@ -67,7 +67,7 @@ def split(term: Any) -> tuple[str, Any]:
 
 
 class Printer:
-    """`values` has what stands for each parameter; a parameter that is not in it stands for itself."""
+    """`values` has a text for each parameter. A parameter that is not in it is written as it is."""
 
     def __init__(self, crate: Crate, values: Optional[dict[str, str]] = None) -> None:
         self.crate = crate
@@ -77,7 +77,7 @@ class Printer:
     def path(self, number: int, written: str) -> str:
         found = self.crate.path(number)
         if found is None:
-            raise NotSaid(f"{written} has no public path")
+            raise NotWritten(f"{written} has no public path")
         return "::".join(found)
 
     def lifetime(self, name: Optional[str]) -> str:
@@ -107,12 +107,12 @@ class Printer:
             return self.dyn(body)
         if kind == "qualified_path":
             return self.projection(body)
-        raise NotSaid(str(kind))
+        raise NotWritten(str(kind))
 
     def function(self, body: Json) -> str:
         header = body["header"]
         if header["is_unsafe"] or header["abi"] != "Rust":
-            raise NotSaid("an unsafe or foreign fn")
+            raise NotWritten("an unsafe or foreign fn")
         with_bound = self.binding(body["generic_params"])
         output = f" -> {with_bound.type(body['sig']['output'])}" if body["sig"]["output"] is not None else ""
         return f"fn({', '.join(with_bound.type(term) for _, term in body['sig']['inputs'])}){output}"
@@ -123,11 +123,11 @@ class Printer:
 
     def projection(self, body: Json) -> str:
         if body["trait"] is None or body["trait"]["path"] == "" or body.get("args") and body["args"].get("angle_bracketed", {}).get("args"):
-            raise NotSaid("an associated type without a trait, or with arguments")
+            raise NotWritten("an associated type without a trait, or with arguments")
         return f"<{self.type(body['self_type'])} as {self.trait(body['trait'])}>::{body['name']}"
 
     def binding(self, generic_params: list[Json]) -> "Printer":
-        """The printer inside `for<'a>`. A trait with such a lifetime as an argument is not said."""
+        """The printer inside `for<'a>`. A trait with such a lifetime as an argument is not written."""
         inner = Printer(self.crate, self.values)
         inner.bound_lifetimes = self.bound_lifetimes | {p["name"] for p in generic_params}
         return inner
@@ -135,7 +135,7 @@ class Printer:
     def constant(self, text: str) -> str:
         text = self.values.get(text, text)
         if not (text.isalnum() or text.replace("_", "").isalnum()):
-            raise NotSaid("a const expression")
+            raise NotWritten("a const expression")
         return text.replace("_usize", "").replace("usize", "") if text[0].isdigit() else text
 
     def arguments(self, arguments: Optional[Json]) -> str:
@@ -146,7 +146,7 @@ class Printer:
             output = f" -> {self.type(body['output'])}" if body["output"] is not None else ""
             return f"({', '.join(map(self.type, body['inputs']))}){output}"
         if "angle_bracketed" not in arguments:
-            raise NotSaid("arguments of another kind")
+            raise NotWritten("arguments of another kind")
         body = arguments["angle_bracketed"]
         written = [self.argument(a) for a in body["args"]] + [self.constraint(c) for c in body["constraints"]]
         return f"<{', '.join(written)}>" if written else ""
@@ -159,12 +159,12 @@ class Printer:
             return "'static"
         if kind == "const":
             return self.constant(body["expr"])
-        raise NotSaid(f"an argument of another kind: {kind}")
+        raise NotWritten(f"an argument of another kind: {kind}")
 
     def constraint(self, constraint: Json) -> str:
         term = constraint["binding"].get("equality", {}).get("type")
         if term is None or constraint["args"] is not None and constraint["args"].get("angle_bracketed", {}).get("args"):
-            raise NotSaid("a bound on an associated type, or a generic one")
+            raise NotWritten("a bound on an associated type, or a generic one")
         return f"{constraint['name']} = {self.type(term)}"
 
     def trait(self, trait: Json) -> str:
@@ -173,7 +173,7 @@ class Printer:
     def bound(self, bound: Json) -> str:
         body = bound["trait_bound"]
         if body["modifier"] != "none":
-            raise NotSaid("a bound with a modifier")
+            raise NotWritten("a bound with a modifier")
         return self.binding(body["generic_params"]).trait(body["trait"])
 
     def clause(self, subject: Json, bound: Json) -> str:

@@ -19,9 +19,9 @@ from from_rustdoc.read.terms import BadInput
 from from_rustdoc.read.unit import copied
 
 from . import compare, results, translator
-from .compiler import OPEN, REJECTED, Compiler, Held
+from .compiler import OPEN, REJECTED, Compiler, Verdict
 from .documents import Crate, Documents
-from .generate import Asked, Generator
+from .generate import Query, Generator
 from .registry import Dependency, Package, write_project
 from .results import Skipped, Step
 
@@ -35,7 +35,7 @@ SHARED = "documents"
 
 
 @dataclass
-class Place:
+class Setup:
     """Where a survey is: its folder, the registry, the folder that cargo builds in (one of its own for each crate if none is given),
     the program that answers texts, and how many processes cargo may use."""
     out: str
@@ -65,20 +65,20 @@ def locked(folder: str) -> Iterator[None]:
 
 
 @contextlib.contextmanager
-def told_to(file: str) -> Iterator[None]:
-    """What processes say on stderr goes to a file."""
-    kept = os.dup(2)
+def errors_to(file: str) -> Iterator[None]:
+    """Sends the errors of processes to a file."""
+    before = os.dup(2)
     with open(file, "w", encoding="utf-8") as handle:
         os.dup2(handle.fileno(), 2)
     try:
         yield
     finally:
-        os.dup2(kept, 2)
-        os.close(kept)
+        os.dup2(before, 2)
+        os.close(before)
 
 
 def first_error(file: str) -> str:
-    """The first error that cargo told, with the package that it is in."""
+    """The first error of cargo, with the package that it is in."""
     with open(file, encoding="utf-8", errors="replace") as handle:
         lines = handle.read().splitlines()
     errors = [line for line in lines if re.match(r"error(\[\w+\])?:", line)]
@@ -86,26 +86,26 @@ def first_error(file: str) -> str:
     return (f"in {package}: " if package else "") + (errors[0] if errors else lines[-1] if lines else "cargo said nothing")
 
 
-def documented(folder: str, place: Place, log: str) -> tuple[Project, int]:
+def documented(folder: str, setup: Setup, log: str) -> tuple[Project, int]:
     """Documents a project in cargo's folder, and takes the documents from there; how many of them rustdoc made."""
-    target = place.build(folder)
+    target = setup.build(folder)
     made = 0
-    with locked(target), told_to(log):
+    with locked(target), errors_to(log):
         os.environ["CARGO_TARGET_DIR"] = target
         try:
-            project = translator.document(os.path.join(folder, "project"), [*CARGO, "-j", str(place.jobs)], os.path.join(place.out, SHARED))
+            project = translator.document(os.path.join(folder, "project"), [*CARGO, "-j", str(setup.jobs)], os.path.join(setup.out, SHARED))
         except BadInput as error:
             raise BadInput(first_error(log) if os.path.getsize(log) else str(error))
-        kept = os.path.join(folder, "doc")
-        shutil.rmtree(kept, ignore_errors=True)
-        os.makedirs(kept)
+        stored = os.path.join(folder, "doc")
+        shutil.rmtree(stored, ignore_errors=True)
+        os.makedirs(stored)
         for name, file in project.files.items():
             is_fresh = name in project.units and project.units[name].is_fresh
             made += not (is_fresh or os.path.exists(os.path.join(os.path.dirname(file), TAKEN)))
             # (A document stays where cargo knows it: a folder of builds is shared.)
-            project.files[name] = os.path.join(kept, f"{name}.json")
+            project.files[name] = os.path.join(stored, f"{name}.json")
             copied(file, project.files[name])
-    if place.target is None:
+    if setup.target is None:
         shutil.rmtree(target, ignore_errors=True)
     return project, made
 
@@ -141,12 +141,12 @@ def own_name(project: Project, package: Package) -> str:
     return name
 
 
-def document(place: Place, package: Package, step: Step, features: tuple[str, ...] = ()) -> None:
-    folder = place.folder(package)
+def document(setup: Setup, package: Package, step: Step, features: tuple[str, ...] = ()) -> None:
+    folder = setup.folder(package)
     if package.kind != "lib":
         raise Skipped({"proc-macro": "a procedural macro: it has no items"}.get(package.kind, "it has no library"))
-    write_project(os.path.join(folder, "project"), [Dependency(package, features)], place.registry)
-    project, made = documented(folder, place, os.path.join(folder, "document.log"))
+    write_project(os.path.join(folder, "project"), [Dependency(package, features)], setup.registry)
+    project, made = documented(folder, setup, os.path.join(folder, "document.log"))
     name = own_name(project, package)
     save_project(folder, project)
     sizes = {crate: os.path.getsize(file) for crate, file in project.files.items()}
@@ -154,25 +154,25 @@ def document(place: Place, package: Package, step: Step, features: tuple[str, ..
                     "versions": sorted(n for n in sizes if "@" in n)}
 
 
-def adopt(place: Place, base: str, among: list[Package]) -> list[Package]:
+def adopt(setup: Setup, base: str, among: list[Package]) -> list[Package]:
     """Takes the crates of a project that `from-rustdoc` has documented as if each had been documented by itself; `base` is that of its map.
     They are those of the registry; others, the project's own among them, are left."""
     inputs = translator.map_of(base)["inputs"]
     links = Links(**inputs["links"])
     world = translator.read(inputs["json"], links)
     files = {name: crate.file for name, crate in world.crates.items()}
-    compiled = compiled_in(links.root, os.path.dirname(os.path.abspath(base)), place.jobs)
+    compiled = compiled_in(links.root, os.path.dirname(os.path.abspath(base)), setup.jobs)
     known = {(package.crate, package.version): package for package in among}
     found = [(name, known[key]) for name, crate in world.crates.items() if (key := (name.split("@")[0], crate.version)) in known]
     for name, package in found:
-        folder = place.folder(package)
+        folder = setup.folder(package)
         project = Project(links, [name], {used: files[used] for used in Project(links, files=files).closure([name])})
         os.makedirs(folder, exist_ok=True)
         save_project(folder, project)
         with open(os.path.join(folder, COMPILED), "w", encoding="utf-8") as handle:
             json.dump(compiled, handle)
         sizes = {used: os.path.getsize(file) for used, file in project.files.items()}
-        results.write(place.file(package, "document"), results.measured("document", lambda step: step.figures.update(
+        results.write(setup.file(package, "document"), results.measured("document", lambda step: step.figures.update(
             crates=len(sizes), bytes=sum(sizes.values()), own_bytes=sizes[name], versions=sorted(n for n in sizes if "@" in n))))
     return [package for _, package in found]
 
@@ -182,9 +182,9 @@ def crates_of(project: Project, name: str) -> list[str]:
     return [project.files[used] for used in project.closure([name])]
 
 
-def read(place: Place, package: Package, step: Step) -> None:
-    """Reads the crate and what it uses, twice: the second time from what was kept."""
-    project = load_project(place.folder(package))
+def read(setup: Setup, package: Package, step: Step) -> None:
+    """Reads the crate and what it uses, twice: the second time from what was stored."""
+    project = load_project(setup.folder(package))
     name = own_name(project, package)
     files = crates_of(project, name)
     began = time.monotonic()
@@ -196,10 +196,10 @@ def read(place: Place, package: Package, step: Step) -> None:
                     "items": len(crate.declarations), "impls": len(crate.impls), "doc_cfgs": len(world.doc_cfgs)}
 
 
-def check(place: Place, package: Package, step: Step) -> None:
-    project = load_project(place.folder(package))
+def check(setup: Setup, package: Package, step: Step) -> None:
+    project = load_project(setup.folder(package))
     name = own_name(project, package)
-    found = translator.check(translator.read(crates_of(project, name), project.links), name, place.program)
+    found = translator.check(translator.read(crates_of(project, name), project.links), name, setup.program)
     fates = Counter(impl["fate"] for impl in found.impls)
     step.figures = {"word": found.word, "verdict_why": found.why, "impls": len(found.impls), "whole": fates["whole"], "loss": fates["loss"],
                     "out": fates["out"]}
@@ -207,18 +207,18 @@ def check(place: Place, package: Package, step: Step) -> None:
         step.add("impl", **impl)
 
 
-# ---- questions
+# ---- queries
 Compiled = dict[str, list[tuple[str, str]]]
 
 
-def metadata_of(place: Place, folder: str, package: Package) -> dict[str, str]:
+def metadata_of(setup: Setup, folder: str, package: Package) -> dict[str, str]:
     """The crates' metadata as rustc reads it, by the crates' names; of two versions of one crate neither, but for the crate itself."""
-    kept = os.path.join(folder, COMPILED)
-    if os.path.exists(kept):
-        with open(kept, encoding="utf-8") as handle:
+    stored = os.path.join(folder, COMPILED)
+    if os.path.exists(stored):
+        with open(stored, encoding="utf-8") as handle:
             return chosen({name: [(number, file) for number, file in files] for name, files in json.load(handle).items()}, package)
-    with locked(place.build(folder)):
-        return chosen(compiled_in(os.path.join(folder, "project"), os.path.join(place.build(folder), "from-rustdoc"), place.jobs), package)
+    with locked(setup.build(folder)):
+        return chosen(compiled_in(os.path.join(folder, "project"), os.path.join(setup.build(folder), "from-rustdoc"), setup.jobs), package)
 
 
 def compiled_in(project: str, target: str, jobs: int) -> Compiled:
@@ -238,54 +238,53 @@ def compiled_in(project: str, target: str, jobs: int) -> Compiled:
 
 
 def chosen(found: Compiled, package: Package) -> dict[str, str]:
-    kept = {}
+    chosen_files = {}
     for name, files in found.items():
         if name == "surveyed":
             continue
         own = [file for number, file in files if name == package.crate and number.endswith(f"@{package.version}")]
         if len(files) == 1 or own:
-            kept[name] = (own or [files[0][1]])[0]
-    return kept
+            chosen_files[name] = (own or [files[0][1]])[0]
+    return chosen_files
 
 
-def ask(place: Place, package: Package, count: int, step: Step) -> None:
-    """Questions about the crate, to rustc and, where rustc takes them, to the translator."""
-    folder = place.folder(package)
+def ask(setup: Setup, package: Package, count: int, step: Step) -> None:
+    """Queries about the crate, to rustc and, if rustc takes them, to the translator."""
+    folder = setup.folder(package)
     project = load_project(folder)
     name = own_name(project, package)
     files = {used: project.files[used] for used in project.closure([name])}
-    # Of two versions of a crate that it uses a question could name either.
+    # If it uses two versions of a crate, a query could name either.
     documents = Documents({used: file for used, file in files.items() if "@" not in used})
-    asked = Generator(Crate(files[name], documents), f"{package.name} {package.version}").questions(count)
-    if not asked:
-        raise Skipped("it has no public items of which a question can be asked")
-    externs = metadata_of(place, folder, package)
-    rows, step.figures = answered(asked, externs, list(files.values()), project.links, os.path.join(folder, package.crate), place.program)
+    queries = Generator(Crate(files[name], documents), f"{package.name} {package.version}").queries(count)
+    if not queries:
+        raise Skipped("it has no public items for a query")
+    externs = metadata_of(setup, folder, package)
+    rows, step.figures = answered(queries, externs, list(files.values()), project.links, os.path.join(folder, package.crate), setup.program)
     for row in rows:
         step.add("question", **row)
 
 
-def answered(asked: list[Asked], externs: dict[str, str], files: list[str], links: Links, base: str,
+def answered(queries: list[Query], externs: dict[str, str], files: list[str], links: Links, base: str,
              program: Optional[str]) -> tuple[list[dict[str, Any]], dict[str, Any]]:
-    """A row for each question, and the times that rustc and the translator took."""
+    """A row for each query, and the times that rustc and the translator took."""
     began = time.monotonic()
     with tempfile.TemporaryDirectory() as room:
         compiler = Compiler(externs, sorted({os.path.dirname(file) for file in externs.values()}), room)
-        held = [h for start in range(0, len(asked), BATCH) for h in compiler.held(asked[start:start + BATCH])]
+        verdicts = [v for start in range(0, len(queries), BATCH) for v in compiler.verdicts(queries[start:start + BATCH])]
     middle = time.monotonic()
     translator.write_base(base, files, links)
-    said = answers(asked, held, base, program)
-    rows = [compare.row(a, s, h) for a, s, h in zip(asked, said, held)]
+    found = answers(queries, verdicts, base, program)
+    rows = [compare.row(q, a, v) for q, a, v in zip(queries, found, verdicts)]
     return rows, {"rustc_seconds": round(middle - began, 2), "translator_seconds": round(time.monotonic() - middle, 2), "rounds": compiler.rounds,
                   "counts": dict(compare.counts(rows))}
 
 
-def answers(asked: list[Asked], held: list[Held], base: str, program: Optional[str]) -> list[translator.Said]:
-    """Those that rustc decides are asked."""
-    places = [n for n, h in enumerate(held) if h.word not in (REJECTED, OPEN)]
-    told = translator.ask(base, [asked[n] for n in places], program)
-    found = dict(zip(places, told))
-    return [found.get(n, translator.Said("not asked")) for n in range(len(asked))]
+def answers(queries: list[Query], verdicts: list[Verdict], base: str, program: Optional[str]) -> list[translator.Answer]:
+    """The answers to the queries that rustc decides."""
+    numbers = [n for n, v in enumerate(verdicts) if v.word not in (REJECTED, OPEN)]
+    found = dict(zip(numbers, translator.ask(base, [queries[n] for n in numbers], program)))
+    return [found.get(n, translator.Answer("not asked")) for n in range(len(queries))]
 
 
 # ---- releases
@@ -310,26 +309,26 @@ def is_added(item: dict[str, Any]) -> bool:
     return body is not None and body["trait"] is not None and not body["is_synthetic"] and body["blanket_impl"] is None
 
 
-def judge(place: Place, package: Package, older: Optional[Package], step: Step) -> None:
-    """The release from an earlier version; where there is none, each impl of the crate as if this version had added it."""
-    folder = place.folder(package)
+def judge(setup: Setup, package: Package, older: Optional[Package], step: Step) -> None:
+    """The release from an earlier version. If there is none, each impl of the crate as if this version had added it."""
+    folder = setup.folder(package)
     project = load_project(folder)
     name = own_name(project, package)
     new = project.files[name]
     # `later` takes one version of each crate that both versions use.
-    beside = [project.files[used] for used in project.closure([name]) if "@" not in used and used != name]
+    also = [project.files[used] for used in project.closure([name]) if "@" not in used and used != name]
     if older is not None:
-        before = load_project(place.folder(older))
+        before = load_project(setup.folder(older))
         old, how = before.files[own_name(before, older)], "release"
     else:
         old, how = os.path.join(folder, "without_impls.json"), "as if added"
         without_impls(new, old)
     try:
-        found = translator.later(old, new, beside, place.program)
+        found = translator.later(old, new, also, setup.program)
     finally:
         if older is None:
             os.remove(old)
-    # What else is told of a version without impls is nothing that its authors did.
+    # The other changes of a version without impls are not its authors' changes.
     changes = [c for c in found.changes if older is not None or c.code == ADDED]
     words = Counter(c.word for c in changes if c.code == ADDED)
     step.figures = {"how": how, "before": older.version if older else "", "answer": found.answer if older else "", "added": sum(words.values()),

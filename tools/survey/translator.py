@@ -18,19 +18,19 @@ from from_rustdoc.read.cargo import Links, Project
 from from_rustdoc.read.proved import TOP
 from from_rustdoc.read.terms import BadInput
 
-from .generate import Asked
+from .generate import Query
 
 SCRIPT = os.path.join(TOP, "tools", "from-rustdoc")
 REFUSED, NOT_UNDERSTOOD = "no answer", "not understood"
-TOLD = "from-rustdoc: "
+PREFIX = "from-rustdoc: "
 CHUNK = 100
 MAXIMAL_FAILURES = 5
 
 
 # ---- questions
 @dataclass
-class Said:
-    """The answer to a question: its word, on what it rests, and the losses that it names. Where it could not be asked the word is
+class Answer:
+    """The answer to a query: its word, on what it rests, and the losses that it names. If it got no answer the word is
     `REFUSED` and the basis says why."""
     word: str
     basis: str = ""
@@ -53,42 +53,42 @@ def program_words(program: Optional[str]) -> list[str]:
     return ["--program", program] if program else []
 
 
-def ask(base: str, questions: Sequence[Asked], program: Optional[str] = None) -> list[Said]:
-    """The answers to all, some at a time. A question that ends a call has no answer, and those behind it are asked again."""
-    answers: list[Said] = []
+def ask(base: str, queries: Sequence[Query], program: Optional[str] = None) -> list[Answer]:
+    """The answers to all, some at a time. A query that ends a call has no answer, and those after it are in the next call."""
+    answers: list[Answer] = []
     without = 0
-    while len(answers) < len(questions):
-        asked = questions[len(answers):len(answers) + CHUNK]
-        done = call(["ask", "--quiet", "--message-format", "json", *program_words(program), base, *(question.written() for question in asked)])
-        found = read_answers(done, asked)
+    while len(answers) < len(queries):
+        chunk = queries[len(answers):len(answers) + CHUNK]
+        done = call(["ask", "--quiet", "--message-format", "json", *program_words(program), base, *(query.written() for query in chunk)])
+        found = read_answers(done, chunk)
         answers += found
         without = 0 if found else without + 1
         if without > MAXIMAL_FAILURES:
-            raise BadInput(f"no question is answered: {last_told(done.error)}")
-        if len(found) < len(asked):
-            answers.append(Said(REFUSED, last_told(done.error) or f"status {done.status}"))
+            raise BadInput(f"no query is answered: {last_error(done.error)}")
+        if len(found) < len(chunk):
+            answers.append(Answer(REFUSED, last_error(done.error) or f"status {done.status}"))
     return answers
 
 
-def last_told(error: str) -> str:
+def last_error(error: str) -> str:
     lines = [line for line in error.splitlines() if line.strip()]
-    told = [line for line in lines if line.startswith(TOLD)]
-    return (told or lines or [""])[-1].removeprefix(TOLD).strip()
+    own = [line for line in lines if line.startswith(PREFIX)]
+    return (own or lines or [""])[-1].removeprefix(PREFIX).strip()
 
 
-def read_answers(done: Called, questions: Sequence[Asked]) -> list[Said]:
-    """The answers to the first questions, up to the one that ended the call. Several bounds have an answer each, which are joined."""
+def read_answers(done: Called, queries: Sequence[Query]) -> list[Answer]:
+    """The answers to the first queries, up to the one that ended the call. Several bounds have an answer each, which are joined."""
     messages = [m for m in map(read_message, done.output.splitlines()) if m is not None]
-    answers: list[Said] = []
-    for question in questions:
-        if messages and messages[0].get("answer") == NOT_UNDERSTOOD and messages[0]["message"].startswith(f"no answer to `{question.written()}`: "):
-            answers.append(Said(REFUSED, messages.pop(0)["message"].removeprefix(f"no answer to `{question.written()}`: ")))
+    answers: list[Answer] = []
+    for query in queries:
+        if messages and messages[0].get("answer") == NOT_UNDERSTOOD and messages[0]["message"].startswith(f"no answer to `{query.written()}`: "):
+            answers.append(Answer(REFUSED, messages.pop(0)["message"].removeprefix(f"no answer to `{query.written()}`: ")))
             continue
-        parts: list[Said] = []
-        for part in question.parts():
+        parts: list[Answer] = []
+        for part in query.parts():
             if not messages or not plain(messages[0]["message"]).startswith(f"`{plain(part)}`: "):
                 return answers
-            parts.append(said(messages.pop(0)))
+            parts.append(answer_in(messages.pop(0)))
         answers.append(joined(parts))
     return answers
 
@@ -106,15 +106,15 @@ def plain(text: str) -> str:
     return " ".join(text.split())
 
 
-def said(message: dict[str, Any]) -> Said:
-    return Said(message["answer"] or "", message["basis"] or "", list(message["rests_on"]))
+def answer_in(message: dict[str, Any]) -> Answer:
+    return Answer(message["answer"] or "", message["basis"] or "", list(message["rests_on"]))
 
 
-def joined(parts: Sequence[Said]) -> Said:
-    """Of several bounds: no if one is, yes if all are."""
+def joined(parts: Sequence[Answer]) -> Answer:
+    """The answer for several bounds: no if one is, yes if all are."""
     order = ("no", "unproved", "not settled", "yes")
     worst = min(parts, key=lambda part: order.index(part.word) if part.word in order else -1)
-    return Said(worst.word, worst.basis, [line for part in parts for line in part.rests_on])
+    return Answer(worst.word, worst.basis, [line for part in parts for line in part.rests_on])
 
 
 # ---- documents, reading, checks
@@ -129,7 +129,7 @@ def read(files: list[str], links: Links) -> World:
 
 
 def map_of(base: str) -> dict[str, Any]:
-    """What was written of a project, or of crates, for questions."""
+    """What was stored of a project, or of crates, for queries."""
     return command.kept(base)
 
 
@@ -146,7 +146,7 @@ class CheckedCrate:
 
 
 def check(world: World, name: str, program: Optional[str]) -> CheckedCrate:
-    """Whether a crate is coherent beside what it uses, and what became of each of its impls."""
+    """Whether a crate is coherent with what it uses, and what became of each of its impls."""
     checks, report = check_crate(world, name, program)
     impls = [impl for impl in map(read_impl, report) if impl is not None]
     if not checks:
@@ -156,7 +156,7 @@ def check(world: World, name: str, program: Optional[str]) -> CheckedCrate:
 
 
 def read_impl(line: str) -> Optional[dict[str, Any]]:
-    """A line of the report on an impl: its fate, its place, its header, and its losses."""
+    """A line of the report on an impl: its fate, its position, its header, and its losses."""
     found = re.match(r"(whole|loss|out) (.*?:\d+): (impl\b.*)", line)
     if found is None:
         return None
@@ -170,10 +170,10 @@ def names_of(header: str) -> tuple[str, str]:
     """The names of the trait and of the type: `impl<T> PartialEq<&T> for bytes::Bytes` is of `PartialEq` and `bytes::Bytes`."""
     depth, rest = 0, header.removeprefix("impl")
     if rest.startswith("<"):
-        for place, letter in enumerate(rest):
-            depth += {"<": 1, ">": -1}.get(letter, 0) if rest[place - 1:place + 1] != "->" else 0
+        for at, letter in enumerate(rest):
+            depth += {"<": 1, ">": -1}.get(letter, 0) if rest[at - 1:at + 1] != "->" else 0
             if depth == 0:
-                rest = rest[place + 1:]
+                rest = rest[at + 1:]
                 break
     trait, _, subject = rest.strip().partition(" for ")
     return name_in(trait.lstrip("!")), name_in(subject)
@@ -186,7 +186,7 @@ def name_in(text: str) -> str:
 # ---- releases
 @dataclass
 class Change:
-    """What `later` tells of a release: its class, as `impl-added`, the answer, and of an impl its header and its place."""
+    """A change of a release by `later`: its class, as `impl-added`, the answer, and of an impl its header and its position."""
     code: str
     word: str
     text: str
@@ -201,11 +201,11 @@ class Release:
     changes: list[Change] = field(default_factory=list)
 
 
-def later(old: str, new: str, beside: list[str], program: Optional[str]) -> Release:
+def later(old: str, new: str, also: list[str], program: Optional[str]) -> Release:
     words = ["later", "--quiet", "--message-format", "json", *program_words(program)]
-    done = call([*words, *(word for file in beside for word in ("--with", file)), old, new])
+    done = call([*words, *(word for file in also for word in ("--with", file)), old, new])
     if done.status not in (0, 1, 4):
-        raise BadInput(last_told(done.error) or f"status {done.status}")
+        raise BadInput(last_error(done.error) or f"status {done.status}")
     return read_release(done.output)
 
 

@@ -10,12 +10,12 @@ from collections import Counter
 from dataclasses import dataclass
 from typing import Optional
 
-from .kept import kept_line, make_text
+from .kept import line_to_store, make_text
 from .runs import program_here
 
 
 @dataclass(frozen=True)
-class Kept:
+class Stored:
     """A line of a file: the text's sum, the depth and the answer."""
 
     sum: str
@@ -24,10 +24,10 @@ class Kept:
 
 
 def keep(program: str, out: str, seed: str, first: int, texts: int, jobs: int) -> int:
-    """Writes the file, and tells which texts took longest."""
+    """Writes the file, and prints which texts took longest."""
     slowest: list[tuple[float, int, int]] = []
     with multiprocessing.Pool(jobs) as pool, open(out, "w", encoding="latin-1") as file:
-        work = functools.partial(kept_line, program, seed)
+        work = functools.partial(line_to_store, program, seed)
         for number, (line, seconds, size) in enumerate(pool.imap(work, range(first, first + texts), 20), first):
             file.write(line + "\n")
             slowest = sorted(slowest + [(seconds, number, size)], reverse=True)[:12]
@@ -35,24 +35,24 @@ def keep(program: str, out: str, seed: str, first: int, texts: int, jobs: int) -
                 print(f"benches/answers: {number - first + 1} texts", file=sys.stderr, flush=True)
     for seconds, number, size in slowest:
         print(f"text {number}: {seconds:.2f} s for {size} bytes, {make_text(seed, number)[0]}, depth {make_text(seed, number)[2]}")
-    print(f"{texts} answers are kept")
+    print(f"{texts} answers are stored")
     return 0
 
 
-def read_kept(path: str) -> dict[int, Kept]:
+def read_stored(path: str) -> dict[int, Stored]:
     with open(path, encoding="latin-1") as file:
         rows = [line.rstrip("\n").split(" ", 3) for line in file]
-    return {int(row[0]): Kept(row[1], int(row[2]), row[3]) for row in rows}
+    return {int(row[0]): Stored(row[1], int(row[2]), row[3]) for row in rows}
 
 
 def kind_of(line: str) -> str:
     """What a line of an answer says, without what it says it of."""
-    said = line.split(": ", 1)[-1]
-    return "no answer" if line.startswith("no answer") else said.split(" ", 1)[0]
+    answer = line.split(": ", 1)[-1]
+    return "no answer" if line.startswith("no answer") else answer.split(" ", 1)[0]
 
 
 def differing(one: str, other: str) -> list[tuple[str, str]]:
-    """The lines of two answers that differ, one beside the other."""
+    """The lines of two answers that differ, side by side."""
     lines, others = one.split(" | "), other.split(" | ")
     if len(lines) != len(others):
         return [(one, other)]
@@ -66,7 +66,7 @@ def change_of(pair: tuple[str, str]) -> str:
 
 def compare(paths: list[str], seed: str) -> int:
     """Prints each difference, and how many there are of a kind. Fails where there is one, or nothing to compare."""
-    one, other = (read_kept(it) for it in paths)
+    one, other = (read_stored(it) for it in paths)
     both = [it for it in sorted(one) if it in other and one[it].sum == other[it].sum and one[it].depth == other[it].depth]
     changes: Counter[str] = Counter()
     differ = 0
@@ -81,15 +81,15 @@ def compare(paths: list[str], seed: str) -> int:
             print(f"    {before}\n    {after}")
     for change, count in changes.most_common():
         print(f"{count} texts with {change}")
-    apart = len(set(one) | set(other)) - len(both)
-    print(f"{len(both)} texts compared, {differ} differ" + (f", {apart} are in one file alone or have another sum" if apart else ""))
-    return 0 if both and not differ and not apart else 1
+    unmatched = len(set(one) | set(other)) - len(both)
+    print(f"{len(both)} texts compared, {differ} differ" + (f", {unmatched} are in one file alone or have another sum" if unmatched else ""))
+    return 0 if both and not differ and not unmatched else 1
 
 
 def show(seed: str, number: int) -> int:
     name, text, depth = make_text(seed, number)
     sys.stdout.buffer.write(text)
-    print(f"benches/answers: text {number}, of the kind {name}, asked at depth {depth}", file=sys.stderr)
+    print(f"benches/answers: text {number}, of the kind {name}, at depth {depth}", file=sys.stderr)
     return 0
 
 

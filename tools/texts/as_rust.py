@@ -1,8 +1,9 @@
 """Writes the crates of a text as Rust, for rustc to judge the same.
 
-Items stand as they are. `prove` becomes a call of a function with the bound, where variables stand for any types, as parameters do; `refute`
-becomes a pair of impls that overlap unless the reference is refused. What rustc has no line for, `later` and `supers`, is left out: rustc asks for supertraits with each impl. Fields that lead back to
-their own struct stand in `PhantomData`, since Rust wants a size; slices may be written as arrays, since Rust wants their items `Sized`.
+Items stay as they are. `prove` becomes a call of a function with the bound, in which variables are any types, like parameters. `refute`
+becomes a pair of impls that overlap unless the bound is refused. `later` and `supers` are left out, because rustc has no line for them: it
+checks supertraits with each impl. Fields that lead back to their own struct are in `PhantomData`, since Rust needs a size. Slices may be
+written as arrays, since Rust needs their items to be `Sized`.
 """
 from __future__ import annotations
 
@@ -13,7 +14,7 @@ from typing import Optional
 TOKEN = re.compile(r"->|'[A-Za-z_0-9]+|\?[A-Za-z_0-9]+|[A-Za-z_0-9]+|[^ ]")
 FEATURES = "auto_traits, fundamental, never_type, unsize, fn_ptr_trait, tuple_trait, unboxed_closures, trivial_bounds"
 FROM_STD = {"Unsize": "std::marker::Unsize", "FnPtr": "std::marker::FnPtr", "Tuple": "std::marker::Tuple"}
-ASKS_OF_A_FUNCTION = 50
+CALLS_OF_A_FUNCTION = 50
 
 
 class NotRust(Exception):
@@ -29,12 +30,12 @@ class Crate:
     declared: set[str] = field(default_factory=set)
     words: set[str] = field(default_factory=set)
     lines: list[str] = field(default_factory=list)
-    asks: list[str] = field(default_factory=list)
+    calls: list[str] = field(default_factory=list)
 
 
 @dataclass(frozen=True)
 class Form:
-    """What a family wants otherwise: parameters that may be unsized, slices as arrays."""
+    """What is different for a family: parameters that may be unsized, slices as arrays."""
 
     unsized: bool = False
     slices: bool = True
@@ -48,16 +49,16 @@ class Reader:
         self.form = form
         self.at = 0
         self.words: set[str] = set()
-        self.unknowns: list[str] = []
+        self.variables: list[str] = []
 
     def peek(self, ahead: int = 0) -> str:
-        place = self.at + ahead
-        return self.tokens[place] if place < len(self.tokens) else ""
+        at = self.at + ahead
+        return self.tokens[at] if at < len(self.tokens) else ""
 
-    def take(self, wanted: str = "") -> str:
+    def take(self, expected: str = "") -> str:
         token = self.peek()
-        if not token or (wanted and token != wanted):
-            raise NotRust(f"'{wanted or 'a token'}' is wanted before '{' '.join(self.tokens[self.at:])}'")
+        if not token or (expected and token != expected):
+            raise NotRust(f"'{expected or 'a token'}' is expected before '{' '.join(self.tokens[self.at:])}'")
         self.at += 1
         return token
 
@@ -134,7 +135,7 @@ class Reader:
     def type(self, inside: bool = False) -> str:
         token = self.peek()
         if token.startswith("?"):
-            self.unknowns += [] if token[1:] in self.unknowns else [token[1:]]
+            self.variables += [] if token[1:] in self.variables else [token[1:]]
             return self.take()[1:]
         if token in ("&", "*"):
             return self.pointer(self.take())
@@ -154,7 +155,7 @@ class Reader:
         return self.named()
 
     def clauses(self) -> list[str]:
-        """Pairs of a type and a bound, behind `where`."""
+        """Pairs of a type and a bound, after `where`."""
         found: list[str] = []
         while self.peek():
             subject = self.type()
@@ -165,7 +166,7 @@ class Reader:
         return found
 
     def params(self) -> list[str]:
-        """Parameters of a line, in the order and with the kinds in which they stand."""
+        """Parameters of a line, in their order and with their kinds."""
         found: list[str] = []
         if not self.has("<"):
             return found
@@ -189,7 +190,7 @@ def declared(params: list[str], form: Form, more: list[str] = []) -> str:
 
 
 def marker_of(param: str) -> Optional[str]:
-    """What makes a parameter used by a struct that does not speak of it."""
+    """A field that uses a parameter which the struct does not mention."""
     if param.startswith("const "):
         return None
     return f"PhantomData<&{param} ()>" if param.startswith("'") else f"PhantomData<fn(*const {param})>"
@@ -236,13 +237,13 @@ def impl_line(reader: Reader, form: Form) -> str:
 
 
 def prove_call(reader: Reader, crate: Crate, form: Form, number: int) -> None:
-    """A question with parameters is a function of its own; others stand together in functions of so many calls."""
+    """A query with parameters is a function of its own. Others are calls in functions of so many calls."""
     params = reader.params()
     subject = reader.type()
     reader.take(":")
     bound = reader.named()
     clauses = reader.clauses() if reader.has("where") else []
-    params += reader.unknowns
+    params += reader.variables
     where = " where " + ", ".join(clauses) if clauses else ""
     names = [it.split(" ")[-1] for it in params if not it.startswith("'")]
     inner = f"fn ask{number}{declared(params, form, [])[:-1] + ', ' if params else '<'}Q_: ?Sized + {bound}>() {{}}"
@@ -250,21 +251,21 @@ def prove_call(reader: Reader, crate: Crate, form: Form, number: int) -> None:
     if params or clauses:
         crate.lines.append(f"pub fn proved{number}{declared(params, form)}(){where} {{ {inner} {call} }}")
     else:
-        crate.asks.append(f"{bound}|{subject}")
+        crate.calls.append(f"{bound}|{subject}")
 
 
-def write_asks(crate: Crate) -> None:
-    """The calls of questions without parameters: one function for each bound, and calls of it together."""
+def write_calls(crate: Crate) -> None:
+    """The calls for queries without parameters: one function for each bound, and calls of it together."""
     numbers: dict[str, int] = {}
     calls = []
-    for ask in crate.asks:
+    for ask in crate.calls:
         bound, subject = ask.split("|")
         if bound not in numbers:
             numbers[bound] = len(numbers)
             crate.lines.append(f"pub fn of{numbers[bound]}<Q_: ?Sized + {bound}>() {{}}")
         calls.append(f"of{numbers[bound]}::<{subject}>();")
-    for first in range(0, len(calls), ASKS_OF_A_FUNCTION):
-        crate.lines.append(f"pub fn asked{first}() {{ {' '.join(calls[first:first + ASKS_OF_A_FUNCTION])} }}")
+    for first in range(0, len(calls), CALLS_OF_A_FUNCTION):
+        crate.lines.append(f"pub fn asked{first}() {{ {' '.join(calls[first:first + CALLS_OF_A_FUNCTION])} }}")
 
 
 def refute_pair(reader: Reader, crate: Crate, form: Form, number: int) -> None:
@@ -272,10 +273,10 @@ def refute_pair(reader: Reader, crate: Crate, form: Form, number: int) -> None:
     subject = reader.type()
     reader.take(":")
     bound = reader.named()
-    unknowns = reader.unknowns
-    arguments = "<" + ", ".join(unknowns) + ">" if unknowns else ""
-    more = declared(unknowns, form)
-    outer = declared(["Q_"] + unknowns, Form(True, form.slices) if not unknowns else form)
+    variables = reader.variables
+    arguments = "<" + ", ".join(variables) + ">" if variables else ""
+    more = declared(variables, form)
+    outer = declared(["Q_"] + variables, Form(True, form.slices) if not variables else form)
     crate.lines.append(f"pub trait Refuted{number}{more} {{}}")
     crate.lines.append(f"impl{outer} Refuted{number}{arguments} for Q_ where {subject}: {bound} {{}}")
     crate.lines.append(f"impl{more} Refuted{number}{arguments} for u8 {{}}")
@@ -298,7 +299,7 @@ class Translation:
         if word == "crate":
             self.add_crate(reader)
         elif word in ("prove", "refute"):
-            self.add_question(reader, word)
+            self.add_query(reader, word)
         elif word == "later":
             self.current = None
         elif word != "supers" and self.current is not None:
@@ -327,7 +328,7 @@ class Translation:
             crate.lines.append(line)
         crate.words |= reader.words
 
-    def add_question(self, reader: Reader, word: str) -> None:
+    def add_query(self, reader: Reader, word: str) -> None:
         self.number += 1
         reader.take("in")
         crate = self.crates[reader.take()]
@@ -340,7 +341,7 @@ class Translation:
         return [(crate, self.source(crate, homes, depth)) for crate in self.crates.values()]
 
     def source(self, crate: Crate, homes: dict[str, str], depth: int) -> str:
-        write_asks(crate)
+        write_calls(crate)
         lines = [f"#![feature({FEATURES})]", "#![allow(warnings)]", f'#![recursion_limit = "{depth}"]', "use std::marker::PhantomData;"]
         lines += [f"use {FROM_STD[it]};" for it in sorted(crate.words & set(FROM_STD))]
         others: dict[str, list[str]] = {it: [] for it in crate.uses}

@@ -9,7 +9,7 @@ from .makers import Maker
 from .runs import Limits, Run, run_program
 
 TIMES = 6.0
-# Less than this tells nothing: then the larger text may take six times this.
+# Less time than this says nothing: then the larger text may take six times this.
 SHORTEST = 0.002
 # A run is made again so often, where it is short, and the least is taken.
 RUNS = 5
@@ -29,8 +29,8 @@ class Bar:
 
 # Bars that the program is under.
 STANDING = [
-    Bar("questions about arrays", makers.arrays, 500, 2000, 8),
-    Bar("questions down a chain", makers.chain, 500, 2000, 64),
+    Bar("queries about arrays", makers.arrays, 500, 2000, 8),
+    Bar("queries down a chain", makers.chain, 500, 2000, 64),
     Bar("trees of pairs", makers.tree, 200, 800, 64),
     Bar("refutations", makers.refute, 500, 2000, 8),
     Bar("a square of impls", makers.matrix, 400, 1600, 8),
@@ -50,15 +50,15 @@ WAITING = [
     Bar("the last supertrait of a dyn", makers.leaf_of_dyn, 127, 511, 8),
     Bar("supertraits of a where-clause", makers.supertraits_of_clause, 511, 2047, 8),
     Bar("three supertraits for each of a where-clause", makers.supertraits_of_three, 364, 1093, 8),
-    Bar("a clique of which all are asked", makers.clique_asked, 6, 12, 8),
-    Bar("a clique of an auto trait of which all are asked", makers.auto_clique_asked, 6, 12, 8),
-    Bar("five where-clauses each, all asked", makers.steps_asked, 25, 100, 64),
+    Bar("a clique with queries for all", makers.clique_asked, 6, 12, 8),
+    Bar("a clique of an auto trait with queries for all", makers.auto_clique_asked, 6, 12, 8),
+    Bar("five where-clauses each, with queries for all", makers.steps_asked, 25, 100, 64),
     Bar("an auto trait over a graph", makers.auto_graph, 96, 384, 64),
     Bar("an auto trait over a graph with cycles", makers.auto_graph_cyclic, 96, 384, 64),
     Bar("a dyn of a tower longer than the depth", makers.dyn_tower, 32, 64, 8),
-    Bar("headers that are apart in fn", makers.apart_in_fn, 120, 480, 8),
-    Bar("headers that are apart in dyn", makers.apart_in_dyn, 120, 480, 8),
-    Bar("headers that are apart at the fifth level", makers.apart_deep, 120, 480, 8),
+    Bar("headers that are disjoint in fn", makers.apart_in_fn, 120, 480, 8),
+    Bar("headers that are disjoint in dyn", makers.apart_in_dyn, 120, 480, 8),
+    Bar("headers that are disjoint at the fifth level", makers.apart_deep, 120, 480, 8),
     Bar("headers with many parameters", makers.apart_of_sixteen, 60, 240, 8),
     Bar("crates that use one base", makers.siblings_of_growing, 30, 120, 8),
     Bar("impls for references", makers.references_alone, 500, 2000, 8),

@@ -1,4 +1,4 @@
-"""Texts that work the search hard, each made by lot: what multiplies, cliques that are all asked, wide clauses, growing types."""
+"""Random texts that work the search hard: supertraits that multiply, cliques with queries for all, wide clauses, growing types."""
 from __future__ import annotations
 
 import random
@@ -21,7 +21,7 @@ def size_of(lines: Lines) -> int:
 
 def multiplying_traits(rng: random.Random, branches: int, levels: int) -> Lines:
     """Traits of which each has the one before so often among its supertraits, each time with another argument: the last of so many
-    levels has `branches` to the power of `levels` ways down."""
+    levels has `branches` to the power of `levels` paths down."""
     wraps = rng.sample(WRAPS[:6], branches)
     lines = ["trait M0<T>"]
     for level in range(1, levels + 1):
@@ -31,7 +31,7 @@ def multiplying_traits(rng: random.Random, branches: int, levels: int) -> Lines:
 
 
 def leaf_bound(rng: random.Random, lines: Lines) -> str:
-    """A supertrait at the foot of those traits: the way down is taken by lot."""
+    """A supertrait at the bottom of those traits, down a random path."""
     inside = "u8"
     for line in reversed(lines[1:]):
         bound = rng.choice(line.split(": ", 1)[1].split(" + "))
@@ -39,7 +39,7 @@ def leaf_bound(rng: random.Random, lines: Lines) -> str:
     return f"M0<{inside}>"
 
 
-def multiplying_questions(rng: random.Random, lines: Lines, top: int) -> Lines:
+def multiplying_queries(rng: random.Random, lines: Lines, top: int) -> Lines:
     leaf = leaf_bound(rng, lines)
     whole = f"M{top}<u8>"
     return rng.sample(
@@ -60,7 +60,7 @@ def multiplying_questions(rng: random.Random, lines: Lines, top: int) -> Lines:
 
 
 def multiplying_text(rng: random.Random) -> Lines:
-    """Supertraits whose arguments multiply, asked of a `dyn` and of a parameter: some thousand of them at most."""
+    """Supertraits whose arguments multiply, with queries for a `dyn` and for a parameter: some thousand of them at most."""
     branches = rng.choice([2, 2, 3])
     most = 12 if branches == 2 else 8
     top = min(rng.randrange(2, most), rng.randrange(2, most))
@@ -68,7 +68,7 @@ def multiplying_text(rng: random.Random) -> Lines:
     lines = ["crate c0", "auto trait Safe", "struct V<T>", "struct W<T>"] + traits
     if rng.random() < 0.5:
         lines.append(f"impl<T> M{top}<T> for W<T>" if rng.random() < 0.5 else f"impl<T> M0<T> for W<T> where T: M{top}<u8>")
-    return lines + multiplying_questions(rng, traits, top)
+    return lines + multiplying_queries(rng, traits, top)
 
 
 def endless_text(rng: random.Random) -> Lines:
@@ -79,10 +79,10 @@ def endless_text(rng: random.Random) -> Lines:
     lines = ["crate c0", "auto trait Safe", "struct V<T>", "struct W<T>"] + traits
     if rng.random() < 0.3:
         lines.append(f"impl<T> M{top}<T> for W<T>")
-    return lines + multiplying_questions(rng, traits, top)
+    return lines + multiplying_queries(rng, traits, top)
 
 
-# ----------------------------------------------------------------------------------------------------------- cliques that are all asked
+# ----------------------------------------------------------------------------------------------------------- cliques with queries for all
 
 
 def others(rng: random.Random, count: int, own: int, density: float) -> list[int]:
@@ -90,7 +90,7 @@ def others(rng: random.Random, count: int, own: int, density: float) -> list[int
 
 
 def asked_clique_text(rng: random.Random) -> Lines:
-    """Impls that need each other, all of them or by lot, of which every one is asked, some of them twice."""
+    """Impls that need each other, all of them or some, with a query for each, for some of them two."""
     count = rng.choice([3, 4, 5, 6, 6, 7, 8, 8, 9, 10, 10, 12, 16, 24])
     density = rng.choice([1.0, 1.0, 0.7, 0.4])
     auto = "auto " if rng.random() < 0.4 else ""
@@ -108,14 +108,14 @@ def asked_clique_text(rng: random.Random) -> Lines:
 
 
 def stepping_text(rng: random.Random) -> Lines:
-    """Impls with a few clauses each, at places that are multiples of their own, of which many are asked."""
+    """Impls with a few clauses each, on numbers that are multiples of their own, with queries for many."""
     count = rng.choice([8, 10, 12, 15, 20, 20, 30, 40, 60])
     width = rng.choice([2, 3, 5])
     auto = "auto " if rng.random() < 0.4 else ""
     lines = ["crate c0", f"{auto}trait Safe"] + [f"struct S{k}" for k in range(count)]
     for own in range(count):
-        asked = sorted({(own * step + step) % count for step in range(1, width + 1)})
-        lines.append(f"impl Safe for S{own} where " + ", ".join(f"S{it}: Safe" for it in asked))
+        needed = sorted({(own * step + step) % count for step in range(1, width + 1)})
+        lines.append(f"impl Safe for S{own} where " + ", ".join(f"S{it}: Safe" for it in needed))
     return lines + [f"prove in c0 S{it}: Safe" for it in rng.sample(range(count), rng.choice([3, count // 2, count]))]
 
 
@@ -140,9 +140,9 @@ def wide_clauses_text(rng: random.Random) -> Lines:
         lines.append(wide_impl(rng, f"R{k}", subject, traits, larger))
         if subject == "V<T>" and rng.random() < 0.6:
             lines.append(wide_impl(rng, f"R{k}", "W<T>", traits, larger))
-    asked = ["u8", "V<u8>", "V<V<u8>>", "V<W<bool>>", "V<?x>"]
+    subjects = ["u8", "V<u8>", "V<V<u8>>", "V<W<bool>>", "V<?x>"]
     for _ in range(rng.choice([1, 3, 8, 15])):
-        subject = rng.choice(asked + [f"V<[u8; {rng.randrange(20)}]>"])
+        subject = rng.choice(subjects + [f"V<[u8; {rng.randrange(20)}]>"])
         lines.append(f"{rng.choice(['prove', 'prove', 'refute'])} in c0 {subject}: R{rng.randrange(traits)}")
     return lines
 
@@ -186,7 +186,7 @@ def growing_argument_lines(rng: random.Random, count: int) -> tuple[Lines, str]:
 
 
 def growing_premises_text(rng: random.Random) -> Lines:
-    """Types that grow by two or three premises; in most texts what asks them fails for another cause, so that the rules have an answer."""
+    """Types that grow by two or three premises. In most texts the goal that needs them fails for another cause, so that the rules have an answer."""
     count = rng.choice([2, 2, 3])
     maker = rng.choice([growing_impl_lines, growing_impl_lines, growing_field_lines, growing_argument_lines])
     made, subject = maker(rng, count)
@@ -200,7 +200,7 @@ def growing_premises_text(rng: random.Random) -> Lines:
     return lines + [f"prove in c0 {subject}: Show", f"refute in c0 {subject}: Show"]
 
 
-# ------------------------------------------------------------------------------------------------------------------- costly questions
+# ------------------------------------------------------------------------------------------------------------------- costly queries
 
 
 def costly_growth(rng: random.Random) -> str:
@@ -212,8 +212,8 @@ def costly_growth(rng: random.Random) -> str:
 
 
 def costly_text(rng: random.Random) -> Lines:
-    """Types that grow by two or three premises, where each question costs much: by its type, the impls with its head or the
-    where-clauses beside it."""
+    """Types that grow by two or three premises, where each query costs much: by its type, the impls with its head or the
+    where-clauses next to it."""
     premises = [costly_growth(rng)] + rng.sample(["A<T>", "B<T>", "C<T>"], rng.choice([1, 2]))
     lines = ["crate c0", "trait Show", "struct A<T>", "struct B<T>", "struct C<T>", "struct D<X, Y>"]
     lines.append("impl<'a, T> Show for A<T> where " + ", ".join(f"A<{it}>: Show" for it in premises))

@@ -14,7 +14,7 @@ SLICES = Form()
 
 @dataclass(frozen=True)
 class Family:
-    """A maker with its two sizes; the depth at which it is asked, where that is not the size; and how it stands in Rust, if it does."""
+    """A maker with its two sizes, the depth of its runs if that is not the size, and its form in Rust, if it has one."""
 
     name: str
     make: Maker

@@ -10,7 +10,7 @@ from typing import Optional
 from .as_rust import Form, Translation
 from .families import FAMILIES, Family, named, text_of
 from .measure import Measuring, Row, measure, startups_of
-from .report import head_line, kept_of, lines_of, markdown_head, markdown_of, read_rustc
+from .report import head_line, stored_form, lines_of, markdown_head, markdown_of, read_rustc
 from .runs import Limits, program_here
 from .rustc import SOLVERS, find_rustc, version_of
 
@@ -25,7 +25,7 @@ def list_families() -> int:
 
 
 def show(family: Family, size: Optional[int], as_rust: bool, depth: Optional[int]) -> int:
-    """Prints the text, or its crates in Rust, one behind the other."""
+    """Prints the text, or its crates in Rust, one after the other."""
     at = size or family.sizes[0]
     if not as_rust:
         sys.stdout.buffer.write(text_of(family, at))
@@ -65,19 +65,19 @@ def run(given: argparse.Namespace, families: list[Family]) -> int:
     limits = Limits(given.seconds, given.memory * MEGABYTE)
     measuring = Measuring(given.program, limits, given.runs, given.depth, rustc, Limits(given.seconds, 8192 * MEGABYTE))
     startups = startups_of(measuring, given.solver or list(SOLVERS))
-    kept = read_rustc(given.rustc_of) if given.rustc_of else {}
-    said = [f"{name} {seconds:.3f} s" for name, seconds in startups.rustc.items()]
+    stored = read_rustc(given.rustc_of) if given.rustc_of else {}
+    times = [f"{name} {seconds:.3f} s" for name, seconds in startups.rustc.items()]
     if rustc:
-        print(f"benches/families: rustc {version_of(rustc)}, an empty crate: {', '.join(said)}", file=sys.stderr)
+        print(f"benches/families: rustc {version_of(rustc)}, an empty crate: {', '.join(times)}", file=sys.stderr)
     for line in markdown_head() if given.markdown else [head_line()]:
         print(line, flush=True)
     for family in families:
         row = measure(measuring, startups, family)
-        row.rustc.update(kept.get(family.name, {}))
+        row.rustc.update(stored.get(family.name, {}))
         print_row(row, given.markdown)
         if given.keep:
             with open(given.keep, "a", encoding="utf-8") as file:
-                file.write(json.dumps(kept_of(row)) + "\n")
+                file.write(json.dumps(stored_form(row)) + "\n")
     return 0
 
 

@@ -14,7 +14,7 @@ from .runs import Limits, Run, run_program
 LIMITS = Limits(10, 256 * 1024 * 1024)
 SOME_DEPTHS = [3, 4, 5, 6, 8, 12, 16, 24, 32, 48, 64, 96, 128, 172, 255]
 Maker = Callable[[random.Random], Union[bytes, list[str]]]
-# Made texts in place of the examples: those may be more some day.
+# Made texts in place of the examples, whose number may change.
 IN_PLACE = [makers.Crates(random.Random(f"in place of example {k}")).make(9, 6) for k in range(60)]
 # Of a thousand texts so many are of this kind.
 KINDS: list[tuple[str, int, Maker]] = [
@@ -35,7 +35,7 @@ MAKERS = [(name, maker) for name, weight, maker in KINDS for _ in range(weight)]
 
 
 def make_text(seed: str, number: int) -> tuple[str, bytes, int]:
-    """The kind of a text, its bytes, and the depth at which it is asked."""
+    """The kind of a text, its bytes, and the depth of its run."""
     rng = random.Random(f"{seed}:{number}")
     name, maker = rng.choice(MAKERS)
     depth = rng.choice(SOME_DEPTHS) if rng.random() < 0.5 else rng.randint(3, 255)
@@ -53,8 +53,8 @@ def answer_of(run: Run) -> str:
     return f"no answer: {'status ' + str(run.status) if run.status is not None else run.stopped}"
 
 
-def kept_line(program: str, seed: str, number: int) -> tuple[str, float, int]:
-    """The line that is kept of a text; the seconds that it took, and its bytes."""
+def line_to_store(program: str, seed: str, number: int) -> tuple[str, float, int]:
+    """The line to store for a text, the seconds that it took, and its bytes."""
     _, text, depth = make_text(seed, number)
     run = run_program(program, depth, text, LIMITS)
     return f"{number} {sum_of(text)} {depth} {answer_of(run)}", run.seconds, len(text)

@@ -1,4 +1,4 @@
-"""Makers of the texts of one family each, of any size: what grows is said above each of them."""
+"""Makers of the texts of one family each, of any size. The comment of each says what grows."""
 from __future__ import annotations
 
 from typing import Callable
@@ -30,11 +30,11 @@ def ceiling_root(count: int) -> int:
     return root if root * root >= count else root + 1
 
 
-# --------------------------------------------------------------------------------------------------------------- items and questions
+# --------------------------------------------------------------------------------------------------------------- items and queries
 
 
 def arrays(count: int) -> Lines:
-    """Impls for arrays, a question each."""
+    """Impls for arrays, with a query for each."""
     return SHOW + numbered("impl Show for [u8; #]", count) + numbered("prove in base [u8; #]: Show", count)
 
 
@@ -49,13 +49,13 @@ def nested(count: int) -> Lines:
 
 
 def blanket(count: int) -> Lines:
-    """A blanket impl that no struct meets, beside an impl for each of so many structs."""
+    """A blanket impl that no struct meets, and an impl for each of so many structs."""
     lines = ["crate base", "trait Num", "crate user uses base", "trait Show"] + numbered("struct S#", count)
     return lines + ["impl<T> Show for &T where T: Num"] + numbered("impl Show for S#", count - 1)
 
 
 def chain(count: int) -> Lines:
-    """Questions about a struct around itself, up to 60 deep."""
+    """Queries about a struct around itself, up to 60 deep."""
     lines = SHOW + ["struct V<T>", "impl<T> Show for V<T> where T: Show", "impl Show for u8"]
     return lines + [f"prove in base {nested_in('V<#>', k % 60 + 1, 'u8')}: Show" for k in range(count)]
 
@@ -67,7 +67,7 @@ def pairs_above(level: int, leaf: int) -> str:
 
 
 def tree(count: int) -> Lines:
-    """Questions about pairs of pairs, down to 16 leaves each."""
+    """Queries about pairs of pairs, down to 16 leaves each."""
     return ["crate base"] + [f"prove in base {pairs_above(4, k)}: Clone" for k in range(1, count + 1)]
 
 
@@ -87,34 +87,34 @@ def spread(count: int) -> Lines:
 
 
 def arrays_alone(count: int) -> Lines:
-    """Impls for arrays and no question."""
+    """Impls for arrays and no query."""
     return SHOW + numbered("impl Show for [u8; #]", count)
 
 
 def structs_asked(count: int) -> Lines:
-    """So many structs with an impl each, and four questions for each."""
-    asked = numbered("prove in user S#: Show", count)
-    return structs(count) + asked * 4
+    """So many structs with an impl each, and four queries for each."""
+    queries = numbered("prove in user S#: Show", count)
+    return structs(count) + queries * 4
 
 
 def asked_again(count: int) -> Lines:
-    """One impl, and one question again and again."""
+    """One impl, and one query again and again."""
     return ["crate u", "trait S", "impl S for !"] + ["prove in u !: S"] * count
 
 
 def references(count: int) -> Lines:
-    """Impls for references to structs, a question each."""
+    """Impls for references to structs, with a query for each."""
     return SHOW + numbered("struct S#", count) + numbered("impl Show for &S#", count) + numbered("prove in base &S#: Show", count)
 
 
 def with_parameter(count: int) -> Lines:
-    """Impls for one struct around another type each and a parameter, a question each."""
+    """Impls for one struct around another type each and a parameter, with a query for each."""
     lines = SHOW + ["struct V<T, U>"] + numbered("struct S#", count) + numbered("impl<U> Show for V<S#, U>", count)
     return lines + numbered("prove in base V<S#, u8>: Show", count)
 
 
 def two_heads(count: int) -> Lines:
-    """Impls for two structs around arrays, a question each."""
+    """Impls for two structs around arrays, with a query for each."""
     lines = SHOW + ["struct V<T>", "struct W<T>"]
     for word, end in (("impl Show for ", ""), ("prove in base ", ": Show")):
         for k in range(1, count // 2 + 1):
@@ -125,7 +125,7 @@ def two_heads(count: int) -> Lines:
 
 
 def heads(count: int) -> Lines:
-    """Structs, each with an impl and a question."""
+    """Structs, each with an impl and a query."""
     lines = SHOW[:]
     for crate in range((count + 1999) // 2000):
         lines.append(f"crate c{crate} uses base")
@@ -136,7 +136,7 @@ def heads(count: int) -> Lines:
 
 
 def matrix(count: int) -> Lines:
-    """A square of so many impls: each of so many traits for each of so many structs, each asked."""
+    """A square of so many impls: each of so many traits for each of so many structs, with a query for each."""
     side = ceiling_root(count)
     lines = ["crate base"] + numbered("trait T#", side) + numbered("struct S#", side)
     for word, end in (("impl T{} for S{}", ""), ("prove in base S{1}: T{0}", "")):
@@ -145,19 +145,19 @@ def matrix(count: int) -> Lines:
 
 
 def conversions(count: int) -> Lines:
-    """Impls of one trait with another argument each for one struct, a question each."""
+    """Impls of one trait with another argument each for one struct, with a query for each."""
     lines = ["crate base", "trait From<T>", "struct Y"] + numbered("struct X#", count) + numbered("impl From<X#> for Y", count)
     return lines + numbered("prove in base Y: From<X#>", count)
 
 
 def constants(count: int) -> Lines:
-    """Impls for one struct with another constant each, a question each."""
+    """Impls for one struct with another constant each, with a query for each."""
     lines = SHOW + ["struct B<const N>"] + numbered("impl Show for B<#>", count)
     return lines + numbered("prove in base B<#>: Show", count)
 
 
 def unknowns(count: int) -> Lines:
-    """200 questions with so many variables each, 16 at most, in tuples of four."""
+    """200 queries with so many variables each, 16 at most, in tuples of four."""
     tuples = ", ".join(f"(?x{k}, u8, ?x{k}, [?x{k}; 2])" for k in range(count))
     params = ", ".join(f"T{k}" for k in range(count))
     lines = ["crate base", f"struct V<{params}>"] + numbered("trait R#", 200) + numbered(f"impl<{params}> R# for V<{params}>", 200)
@@ -165,14 +165,14 @@ def unknowns(count: int) -> Lines:
 
 
 def questions(count: int) -> Lines:
-    """As many questions as a text may have, over 26 structs with an impl each."""
+    """As many queries as a text may have, over 26 structs with an impl each."""
     names = letters(26)
     lines = ["crate b", "trait _S"] + [f"struct {it}" for it in names] + [f"impl _S for {it}" for it in names]
     return lines + [f"prove in b {names[k % 26]}:_S" for k in range(count)]
 
 
 def environment(count: int) -> Lines:
-    """500 questions with so many where-clauses each, the last of which answers it."""
+    """500 queries with so many where-clauses each, the last of which answers it."""
     lines = ["crate base", "trait P<A>"] + numbered("struct S#", 600)
     for first in range(1, 501):
         wheres = ", ".join(f"T: P<S{k}>" for k in range(first, first + count))
@@ -181,18 +181,18 @@ def environment(count: int) -> Lines:
 
 
 def wide_impls(count: int) -> Lines:
-    """200 questions over an impl with so many where-clauses, each about a struct of its own."""
+    """200 queries over an impl with so many where-clauses, each about a struct of its own."""
     lines = SHOW + ["struct V<T>", "trait P<A>", "impl<A, T> P<A> for V<T>"] + numbered("struct A#", count)
     lines.append("impl<T> Show for V<T> where " + ", ".join(f"V<T>: P<A{k}>" for k in range(1, count + 1)))
     return lines + numbered("struct S#", 200) + numbered("prove in base V<S#>: Show", 200)
 
 
 def fresh(count: int) -> Lines:
-    """A struct around 60 types, asked with other types each time: 60 goals a question."""
+    """A struct around 60 types, queried with other types each time: 60 goals a query."""
     params = [f"T{k}" for k in range(15)]
     lines = ["crate base", "auto trait Safe", "struct L<T>(T)", f"struct V<{', '.join(params)}>({', '.join(f'L<L<L<{it}>>>' for it in params)})"]
     for k in range(count):
-        lines.append("prove in base V<" + ", ".join(f"[u8; {15 * k + place}]" for place in range(15)) + ">: Safe")
+        lines.append("prove in base V<" + ", ".join(f"[u8; {15 * k + number}]" for number in range(15)) + ">: Safe")
     return lines
 
 
@@ -215,14 +215,14 @@ def empty_lines(count: int) -> Lines:
 
 
 def where_chain(count: int) -> Lines:
-    """A chain of so many impls, each of which asks the next, of a type without parameters."""
+    """A chain of so many impls, each of which needs the next, for a type without parameters."""
     lines = ["crate base"] + numbered("trait R#", count)
     lines += [f"impl R{k} for u8 where u8: R{k + 1}" for k in range(1, count)] + [f"impl R{count} for u8"]
     return lines + ["prove in base u8: R1"]
 
 
 def open_where_chain(count: int) -> Lines:
-    """The same of any type, asked of a struct around a variable."""
+    """The same for any type, with a query for a struct around a variable."""
     lines = ["crate base", "struct V<T>"] + numbered("trait R#", count)
     lines += [f"impl<T> R{k} for V<T> where V<V<T>>: R{k + 1}" for k in range(1, count)] + [f"impl<T> R{count} for T"]
     return lines + ["prove in base V<?x>: R1"]
@@ -234,14 +234,14 @@ def doubled(count: int) -> Lines:
 
 
 def pairs_of_references(count: int) -> Lines:
-    """So many impls of which each asks about the pair of its type twice over, and a goal with a reference at the ends."""
+    """So many impls of which each needs the pair of its type with itself, and a goal with a reference at the ends."""
     lines = SHOW + [f"struct W{k}<T>" for k in range(count + 1)]
     lines += [f"impl<T> Show for W{k}<T> where W{k + 1}<(T, T)>: Show" for k in range(count)]
     return lines + [f"impl<T> Show for W{count}<T>", "prove in base <'a> W0<&'a u8>: Show"]
 
 
 def struct_chain(count: int) -> Lines:
-    """Structs, each around the one before, under an auto trait; a question each, from the last on."""
+    """Structs, each around the one before, under an auto trait, with a query for each, from the last on."""
     lines = ["crate base", "auto trait Safe", "struct S1"] + [f"struct S{k}(S{k - 1})" for k in range(2, count + 1)]
     return lines + [f"prove in base S{k}: Safe" for k in range(count, 0, -1)]
 
@@ -258,19 +258,19 @@ def struct_chain_of_crates(count: int) -> Lines:
 
 
 def dyn_tower(count: int) -> Lines:
-    """Traits, each with the one before for its supertrait; the `dyn` of each is asked."""
+    """Traits, each with the one before as its supertrait, with a query for the `dyn` of each."""
     lines = ["crate base", "trait R1"] + [f"trait R{k}: R{k - 1}" for k in range(2, count + 1)]
     return lines + [f"prove in base dyn R{k}: R{k}" for k in range(1, count + 1)]
 
 
 def unsizing_chain(count: int) -> Lines:
-    """Structs, each around the one before and unsizing by it; a question each, from the last on."""
+    """Structs, each around the one before and unsizing by it, with a query for each, from the last on."""
     lines = ["crate base", "struct S1<T>(T)"] + [f"struct S{k}<T>(S{k - 1}<T>)" for k in range(2, count + 1)]
     return lines + [f"prove in base S{k}<[u8; 3]>: Unsize<S{k}<[u8]>>" for k in range(count, 0, -1)]
 
 
 def two_steps(count: int) -> Lines:
-    """A chain whose members each ask the next two, with a pair that only its refusal keeps apart."""
+    """A chain whose members each need the next two, with a pair that is cleared only by its refusal."""
     lines = SHOW + ["trait Nope"] + [f"struct S{k}" for k in range(count + 2)]
     lines += [f"impl Show for S{k} where S{k + 1}: Show, S{k + 2}: Show" for k in range(count)]
     lines += [f"impl Show for S{count}", f"impl Show for S{count + 1}", "struct Q", "impl Show for Q where S0: Show, Q: Nope"]
@@ -278,7 +278,7 @@ def two_steps(count: int) -> Lines:
 
 
 def kept_apart(subject: str) -> Lines:
-    """A pair that is cleared where the subject is refused, and both questions about it."""
+    """A pair that is cleared if the subject is refused, and both queries about it."""
     mine = ["trait Mine", f"impl<T> Mine for T where {subject}: Show", "impl Mine for u8"]
     return mine + [f"prove in base {subject}: Show", f"refute in base {subject}: Show"]
 
@@ -294,7 +294,7 @@ def clique_impls(count: int) -> Lines:
 
 
 def clique(count: int) -> Lines:
-    """Impls that each ask all others, one question."""
+    """Impls that each need all others, one query."""
     return ["crate base", "trait Safe"] + clique_impls(count) + ["prove in base S1: Safe"]
 
 
@@ -304,7 +304,7 @@ def auto_clique(count: int) -> Lines:
 
 
 def clique_asked(count: int) -> Lines:
-    """Impls that each ask all others, all of them asked."""
+    """Impls that each need all others, with queries for all."""
     return ["crate base", "trait Safe"] + clique_impls(count) + numbered("prove in base S#: Safe", count)
 
 
@@ -314,7 +314,7 @@ def auto_clique_asked(count: int) -> Lines:
 
 
 def steps_asked(count: int) -> Lines:
-    """Impls with five where-clauses each, at places that are multiples of their own, all of them asked."""
+    """Impls with five where-clauses each, on numbers that are multiples of their own, with queries for all."""
     lines = ["crate base", "trait Safe"] + [f"struct S{k}" for k in range(count)]
     for own in range(count):
         lines.append(f"impl Safe for S{own}" + clauses_of([f"S{(own * j + j) % count}" for j in range(1, 6)], "Safe"))
@@ -333,11 +333,11 @@ def by_lot(count: int) -> Lines:
     lines = ["crate base", "auto trait Safe"] + [f"struct S{k}" for k in range(count)]
     lot = 0
     for k in range(count):
-        asked = [(k + 1) % count]
+        needed = [(k + 1) % count]
         for _ in range(2):
             lot = (lot * 1103515245 + 12345) % 2147483648
-            asked.append(lot // 65536 % count)
-        lines.append(f"impl Safe for S{k}" + clauses_of([f"S{it}" for it in asked], "Safe"))
+            needed.append(lot // 65536 % count)
+        lines.append(f"impl Safe for S{k}" + clauses_of([f"S{it}" for it in needed], "Safe"))
     return lines + ["prove in base S0: Safe"]
 
 
@@ -360,7 +360,7 @@ def ladder_refused(count: int) -> Lines:
 
 
 def wide_ends(count: int) -> Lines:
-    """An impl with 30 where-clauses that lead to a larger type, and so many questions."""
+    """An impl with 30 where-clauses that lead to a larger type, and so many queries."""
     clauses = ", ".join(f"V<{it}>: A" for it in ["T", "V<T>"] * 15)
     lines = ["crate base", "trait A", "struct V<T>", f"impl<T> A for V<T> where {clauses}"]
     return lines + [f"prove in base V<[u8; {k}]>: A" for k in range(count)]
@@ -370,7 +370,7 @@ def wide_ends(count: int) -> Lines:
 
 
 def growing_impls(growth: list[str]) -> Lines:
-    """An impl that asks about larger types of its own, under an impl that fails for another cause."""
+    """An impl that needs larger types of its own, under an impl that fails for another cause."""
     lines = SHOW + ["trait Nope", "struct A<T>", "struct B<T>", "struct C<T>", f"impl<T> Show for A<T>{clauses_of(growth)}"]
     return lines + ["impl Show for u8 where A<u8>: Show, u8: Nope"] + kept_apart("u8")
 
@@ -410,16 +410,16 @@ def three_fields(count: int) -> Lines:
     return lines + ["trait Nope", "struct Q", "impl Show for Q where A<u8>: Show, Q: Nope"] + kept_apart("Q")
 
 
-def growing_beside(premises: list[str], more: Lines, asked: str) -> Lines:
+def growing_beside(premises: list[str], more: Lines, query: str) -> Lines:
     lines = SHOW + ["struct A<T>", "struct B<T>", "struct C<T>"] + more
-    return lines + [f"impl<'a, T> Show for A<T>{clauses_of(premises)}", asked]
+    return lines + [f"impl<'a, T> Show for A<T>{clauses_of(premises)}", query]
 
 
 GROWN = ["A<A<T>>", "A<B<T>>", "A<C<T>>"]
 
 
 def growing_with_lifetimes(count: int) -> Lines:
-    """A type that grows by three premises, one of which puts a lifetime at twelve places of each level."""
+    """A type that grows by three premises, one of which puts a lifetime at twelve positions of each level."""
     wide = ", ".join(f"&'a [T; {k}]" for k in range(12))
     return growing_beside([f"A<({wide})>"] + GROWN[1:], [], "prove in base A<u8>: Show")
 
@@ -436,13 +436,13 @@ def growing_under_binders(count: int) -> Lines:
 
 
 def growing_beside_clauses(count: int) -> Lines:
-    """A type that grows by three premises, asked beside so many where-clauses of the same trait."""
+    """A type that grows by three premises, under so many where-clauses of the same trait."""
     wheres = ", ".join(f"A<S{k}>: Show" for k in range(1, count + 1))
     return growing_beside(GROWN, numbered("struct S#", count), f"prove in base <U> A<U>: Show where {wheres}")
 
 
 def growing_beside_impls(count: int) -> Lines:
-    """A type that grows by three premises, beside so many impls for types with its head that are apart at the fifth level."""
+    """A type that grows by three premises, and so many impls for types with its head that are disjoint from it at the fifth level."""
     lines = ["struct D<X, Y>"] + numbered("impl<T> Show for A<A<A<A<D<[u8; #], T>>>>>", count)
     return growing_beside(GROWN, lines, "prove in base A<u8>: Show")
 
@@ -478,26 +478,26 @@ def levels_of(count: int, branches: int) -> int:
 
 
 def supertraits_of_dyn(count: int) -> Lines:
-    """Supertraits whose arguments multiply, so many in all, asked of a `dyn`."""
+    """Supertraits whose arguments multiply, so many in all, with a query for a `dyn`."""
     lines, top = multiplying(levels_of(count, 2), PAIR)
     return ["crate a"] + lines + [f"prove in a dyn {top}<u8>: {top}<u8>"]
 
 
 def endless_supertraits(count: int) -> Lines:
-    """So many levels of supertraits, each twice as many as the one before, asked of a `dyn`."""
+    """So many levels of supertraits, each twice as many as the one before, with a query for a `dyn`."""
     lines, top = multiplying(count, PAIR)
     return ["crate a"] + lines + [f"prove in a dyn {top}<u8>: {top}<u8>"]
 
 
 def leaf_of_dyn(count: int) -> Lines:
-    """The same, where the last supertrait is asked."""
+    """The same with a query for the last supertrait."""
     levels = levels_of(count, 2)
     lines, top = multiplying(levels, PAIR)
     return ["crate a"] + lines + [f"prove in a dyn {top}<u8>: A<{nested_in('(#,)', levels - 1, 'u8')}>"]
 
 
 def supertraits_of_clause(count: int) -> Lines:
-    """Supertraits whose arguments multiply, so many in all, of a where-clause; the last of them is asked."""
+    """Supertraits whose arguments multiply, so many in all, of a where-clause, with a query for the last of them."""
     levels = levels_of(count, 2)
     lines, top = multiplying(levels, PAIR)
     return ["crate a"] + lines + [f"prove in a <T> T: A<{nested_in('(#,)', levels - 1, 'u8')}> where T: {top}<u8>"]
@@ -527,14 +527,14 @@ def plain_lattice(count: int) -> Lines:
 
 
 def supers_of_chain(count: int) -> Lines:
-    """Impls of two traits, one of which is the other's supertrait, for each of so many arrays, and the line that asks for them."""
+    """Impls of two traits, one of which is the other's supertrait, for each of so many arrays, and the line that checks them."""
     half = count // 2
     lines = SHOW + ["trait Sub: Show"] + numbered("impl Show for [u8; #]", half) + numbered("impl Sub for [u8; #]", half)
     return lines + ["supers in base"]
 
 
 def supers_of_tower(count: int) -> Lines:
-    """Traits, each with the one before for its supertrait, an impl of each for one type, and the line that asks for their supertraits."""
+    """Traits, each with the one before for its supertrait, an impl of each for one type, and the line that checks their supertraits."""
     lines = ["crate base", "trait R1"] + [f"trait R{k}: R{k - 1}" for k in range(2, count + 1)]
     return lines + numbered("impl R# for u8", count) + ["supers in base"]
 
@@ -550,21 +550,21 @@ def supers_of_tall_tower(count: int) -> Lines:
 
 
 def supers_in_core(count: int) -> Lines:
-    """The supertraits of core's own impls, asked again and again."""
+    """The supertraits of core's own impls, checked again and again."""
     return ["crate base"] + ["supers in core"] * count
 
 
 # ------------------------------------------------------------------------------------------------------------------------- auto traits
 
 
-def fields_below(place: int, fields: int) -> list[str]:
+def fields_below(index: int, fields: int) -> list[str]:
     """So many structs of the layers below that of the struct, a layer being 32 of them: by lot, with the same lot each time."""
-    below = place - place % 32
-    return [f"S{(place * 7919 + k * 10473) % below}" for k in range(fields)] if below else ["u8"]
+    below = index - index % 32
+    return [f"S{(index * 7919 + k * 10473) % below}" for k in range(fields)] if below else ["u8"]
 
 
 def auto_graph(count: int) -> Lines:
-    """So many structs of 60 fields each, in layers of 32, each around structs of the layers below, under an auto trait; the last is asked."""
+    """So many structs of 60 fields each, in layers of 32, each around structs of the layers below, under an auto trait, with a query for the last."""
     lines = ["crate base", "auto trait Safe"] + [f"struct S{k}({', '.join(fields_below(k, 60))})" for k in range(count)]
     return lines + [f"prove in base S{count - 1}: Safe"]
 
@@ -577,7 +577,7 @@ def auto_graph_cyclic(count: int) -> Lines:
 
 
 def auto_graph_upward(count: int) -> Lines:
-    """The structs of 60 fields, asked from the bottom."""
+    """The structs of 60 fields, with queries from the bottom."""
     return auto_graph(count)[:-1] + [f"prove in base S{k}: Safe" for k in range(count)]
 
 
@@ -618,7 +618,7 @@ def apart_of_sixteen(count: int) -> Lines:
 
 
 def cleared_by_clause(count: int) -> Lines:
-    """Blanket impls over so many structs, beside as many impls: each pair is cleared by a where-clause alone."""
+    """Blanket impls over so many structs, and as many impls: each pair is cleared by a where-clause alone."""
     lines = ["crate base", "trait Num", "trait Show<A>", "struct V<T>"] + numbered("struct S#", count)
     lines += numbered("impl<T> Show<S#> for V<T> where T: Num", count)
     return lines + numbered("impl<A> Show<A> for V<S#>", count)
@@ -632,7 +632,7 @@ def cleared_over_parameter(count: int) -> Lines:
 
 
 def references_alone(count: int) -> Lines:
-    """Impls for references to structs and no question, over crates of 1,000 that use one another."""
+    """Impls for references to structs and no query, over crates of 1,000 that use one another."""
     lines = SHOW[:]
     before = "base"
     for k in range(count):
@@ -714,7 +714,7 @@ def crates_of_many(count: int) -> Lines:
 
 
 def crate_chain(count: int) -> Lines:
-    """So many crates that use one another, without items, and a question in the last."""
+    """So many crates that use one another, without items, and a query in the last."""
     lines = SHOW + ["crate c0 uses base"] + [f"crate c{k} uses c{k - 1}" for k in range(1, count)]
     return lines + [f"prove in c{count - 1} u8: Clone"]
 
@@ -725,8 +725,8 @@ def crate_chain_of_impls(count: int) -> Lines:
     for k in range(count):
         lines.append(f"crate c{k} uses {before}")
         before = f"c{k}"
-        for place in range(16):
-            lines += [f"struct S{k}_{place}", f"impl Show for S{k}_{place}"]
+        for number in range(16):
+            lines += [f"struct S{k}_{number}", f"impl Show for S{k}_{number}"]
     return lines
 
 

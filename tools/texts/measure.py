@@ -1,4 +1,4 @@
-"""Measures a program on the two sizes of a family, beside rustc where it is there."""
+"""Measures a program on the two sizes of a family, and rustc if it is installed."""
 from __future__ import annotations
 
 import math
@@ -24,7 +24,7 @@ class Figure:
     seconds: float
     peak: Optional[int]
     stopped: str
-    said: str
+    answer: str
 
 
 @dataclass
@@ -48,7 +48,7 @@ class Measuring:
     rustc_limits: Limits
 
 
-def said_of(output: bytes) -> str:
+def answer_of(output: bytes) -> str:
     """What an answer says, each kind of line once with its number."""
     kinds = Counter(line.split(": ", 1)[-1].split(" ")[0] for line in output.decode("latin-1").splitlines())
     kinds.pop("accepted", None)
@@ -79,7 +79,7 @@ def figure_of(measuring: Measuring, startup: float, family: Family, size: int) -
     stopped = stopped_of(run)
     if stopped == "time":
         seconds = float(measuring.limits.seconds)
-    return Figure(size, len(text), depth, seconds, run.peak, stopped, "" if stopped else said_of(run.output))
+    return Figure(size, len(text), depth, seconds, run.peak, stopped, "" if stopped else answer_of(run.output))
 
 
 def judged_of(measuring: Measuring, rustc: str, solver: str, startup: float, family: Family, size: int) -> Optional[Judged]:
@@ -133,7 +133,7 @@ def measure(measuring: Measuring, startups: Startups, family: Family) -> Row:
 
 
 def exponent_of(row: Row) -> Optional[float]:
-    """The power of the size by which the time grows, where both sizes were answered and took long enough to tell."""
+    """The power of the size by which the time grows, if both sizes were answered and took long enough."""
     if len(row.figures) < 2 or any(it.stopped for it in row.figures) or row.figures[0].seconds < 0.0005:
         return None
     small, large = row.figures

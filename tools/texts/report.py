@@ -25,13 +25,13 @@ def judged_text(found: Optional[Judged]) -> str:
     return seconds_of(found.seconds, found.stopped) + ("" if found.accepted or found.stopped else " !")
 
 
-def at(found: list[Judged], place: int) -> Optional[Judged]:
-    return found[place] if place < len(found) else None
+def at(found: list[Judged], index: int) -> Optional[Judged]:
+    return found[index] if index < len(found) else None
 
 
-def ratio_of(figure: Figure, row: Row, place: int) -> str:
+def ratio_of(figure: Figure, row: Row, index: int) -> str:
     """Of the time of rustc's faster solver: a bound, where one of the two was stopped."""
-    judged = [it for it in (at(found, place) for found in row.rustc.values()) if it is not None]
+    judged = [it for it in (at(found, index) for found in row.rustc.values()) if it is not None]
     ended = [it.seconds for it in judged if not it.stopped]
     if not judged or (figure.stopped and not ended):
         return "-"
@@ -41,19 +41,19 @@ def ratio_of(figure: Figure, row: Row, place: int) -> str:
     return ("> " if figure.stopped else "< " if not ended else "") + shown
 
 
-def cells_of(row: Row, place: int) -> list[str]:
-    figure = row.figures[place]
-    exponent = exponent_of(row) if place == 1 else None
+def cells_of(row: Row, index: int) -> list[str]:
+    figure = row.figures[index]
+    exponent = exponent_of(row) if index == 1 else None
     return [
-        row.family.name if place == 0 else "",
+        row.family.name if index == 0 else "",
         f"{figure.size:,}",
         f"{figure.bytes:,}",
         seconds_of(figure.seconds, figure.stopped),
         f"{exponent:.1f}" if exponent is not None else "",
         f"{figure.peak / 1024:.0f}" if figure.peak is not None else "-",
-        judged_text(at(row.rustc.get("default", []), place)),
-        judged_text(at(row.rustc.get("next", []), place)),
-        ratio_of(figure, row, place),
+        judged_text(at(row.rustc.get("default", []), index)),
+        judged_text(at(row.rustc.get("next", []), index)),
+        ratio_of(figure, row, index),
     ]
 
 
@@ -61,10 +61,10 @@ def lines_of(row: Row) -> list[str]:
     """A line for each size."""
     widths = [24, 8, 10, 10, 8, 6, 13, 10, 13]
     found = []
-    for place, figure in enumerate(row.figures):
-        cells = cells_of(row, place)
+    for index, figure in enumerate(row.figures):
+        cells = cells_of(row, index)
         line = cells[0].ljust(widths[0]) + " ".join(it.rjust(width) for it, width in zip(cells[1:], widths[1:]))
-        found.append(f"{line}  depth {figure.depth}: {figure.said}")
+        found.append(f"{line}  depth {figure.depth}: {figure.answer}")
     return found
 
 
@@ -79,10 +79,10 @@ def markdown_head() -> list[str]:
 
 def markdown_of(row: Row) -> list[str]:
     """A row for each size."""
-    return ["| " + " | ".join(cells_of(row, place)) + " |" for place in range(len(row.figures))]
+    return ["| " + " | ".join(cells_of(row, index)) + " |" for index in range(len(row.figures))]
 
 
-def kept_of(row: Row) -> dict[str, Any]:
+def stored_form(row: Row) -> dict[str, Any]:
     rustc = {solver: [vars(it) for it in found] for solver, found in row.rustc.items()}
     return {"family": row.family.name, "figures": [vars(it) for it in row.figures], "rustc": rustc}
 
@@ -92,6 +92,6 @@ def read_rustc(path: str) -> dict[str, dict[str, list[Judged]]]:
     found: dict[str, dict[str, list[Judged]]] = {}
     with open(path, encoding="utf-8") as file:
         for line in file:
-            kept = json.loads(line)
-            found[kept["family"]] = {solver: [Judged(**it) for it in rows] for solver, rows in kept["rustc"].items()}
+            stored = json.loads(line)
+            found[stored["family"]] = {solver: [Judged(**it) for it in rows] for solver, rows in stored["rustc"].items()}
     return found

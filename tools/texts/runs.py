@@ -1,4 +1,4 @@
-"""Runs a program on a text within limits of processor time and memory, and tells what it took."""
+"""Runs a program on a text within limits of processor time and memory, and measures both."""
 from __future__ import annotations
 
 import os
@@ -46,8 +46,8 @@ def limits_of(limits: Limits) -> list[tuple[int, tuple[int, int]]]:
 
 def start(words: list[str], files: list[IO[bytes]], extra: Mapping[str, str], limits: Limits) -> int:
     """Begins a program, and limits it when it has begun: so a child of its own may have begun unlimited, if it has any."""
-    places = [(os.POSIX_SPAWN_DUP2, file.fileno(), place) for place, file in enumerate(files)]
-    child = os.posix_spawnp(words[0], words, {**os.environ, **extra}, file_actions=places)
+    actions = [(os.POSIX_SPAWN_DUP2, file.fileno(), number) for number, file in enumerate(files)]
+    child = os.posix_spawnp(words[0], words, {**os.environ, **extra}, file_actions=actions)
     try:
         for name, limit in limits_of(limits):
             resource.prlimit(child, name, limit)
@@ -64,8 +64,8 @@ def start_limited(words: list[str], files: list[IO[bytes]], extra: Mapping[str, 
     try:
         for name, limit in limits_of(limits):
             resource.setrlimit(name, limit)
-        for place, file in enumerate(files):
-            os.dup2(file.fileno(), place)
+        for number, file in enumerate(files):
+            os.dup2(file.fileno(), number)
         os.execvpe(words[0], words, {**os.environ, **extra})
     finally:
         os._exit(127)
@@ -97,7 +97,7 @@ def read_peak(path: str) -> tuple[Optional[int], Optional[int]]:
 
 
 def run_words(words: list[str], text: IO[bytes], limits: Limits, extra: Optional[Mapping[str, str]] = None, with_peak: bool = False) -> Run:
-    """Runs the words on the text. The peak is asked of GNU time, since what wait4 tells of a child begins with the size of its parent."""
+    """Runs the words on the text. The peak is from GNU time, since the figure of wait4 for a child begins with the size of its parent."""
     timed = with_peak and os.access(GNU_TIME, os.X_OK)
     with tempfile.TemporaryFile() as output, tempfile.NamedTemporaryFile() as peak_file, open(os.devnull, "wb") as nowhere:
         text.seek(0)

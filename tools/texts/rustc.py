@@ -1,4 +1,4 @@
-"""Lets rustc judge the crates of a text, and tells what that took."""
+"""Lets rustc judge the crates of a text, and measures that."""
 from __future__ import annotations
 
 import os
@@ -29,7 +29,7 @@ class Judged:
 
 
 def find_rustc() -> Optional[str]:
-    """The compiler itself, where there is one: what lies on the PATH may be a script that looks for it at each call."""
+    """The compiler itself, if there is one: the command on the PATH may be a script that looks for it at each call."""
     found = shutil.which("rustc")
     if found is None:
         return None
@@ -42,8 +42,8 @@ def find_rustc() -> Optional[str]:
 
 
 def version_of(rustc: str) -> str:
-    said = subprocess.run([rustc, "--version"], capture_output=True, check=False, text=True).stdout.split()
-    return said[1] if len(said) > 1 else "of no version"
+    words = subprocess.run([rustc, "--version"], capture_output=True, check=False, text=True).stdout.split()
+    return words[1] if len(words) > 1 else "of no version"
 
 
 def compile_crate(rustc: str, solver: str, crate: Crate, source: str, folder: str, limits: Limits) -> Run:

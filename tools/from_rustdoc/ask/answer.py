@@ -1,4 +1,4 @@
-"""Answers to questions: each by a text of its own, associated types that it names by their values, which are asked before it."""
+"""Answers to queries, each by a text of its own. The values of associated types that it names are queried before it."""
 from __future__ import annotations
 
 from dataclasses import replace
@@ -103,8 +103,8 @@ class Answerer:
         return self.show.bound(place.bound)
 
     def by_part(self, question: Question) -> Verdict:
-        """The answer by a text of what may matter for this question alone. What such a text leads to, and was not looked for since an
-        unknown stood for it, is looked for too."""
+        """The answer by a text of what may matter for this query alone. If such a text leads to references that were not looked for, because of
+        a variable, they are added."""
         question = replace(question, lines=[], names={})
         further: list[Reference_] = []
         while True:
@@ -119,7 +119,7 @@ class Answerer:
 
 
 class Values:
-    """The associated types of one question: which of them have names by its where-clauses."""
+    """The associated types of one query: which of them have names by its where-clauses."""
 
     def __init__(self, world: World, question: Question) -> None:
         translation = Translation(world, cone=Chosen())
@@ -154,7 +154,7 @@ class Values:
             yield place
 
     def unnamed(self) -> Optional[tuple[Projection, Values]]:
-        """One that has no name, and in which none stands that has none."""
+        """One without a name, in which each other one has a name."""
         for term in self.terms():
             for place in self.places(term):
                 if place not in self.scope.projections:
@@ -171,7 +171,7 @@ class Values:
         return isinstance(place.subject, Parameter) or isinstance(place.subject, Projection) and self.is_of_parameter(place.subject)
 
     def put_in(self, question: Question, place: Projection, value: Type) -> Question:
-        """The question with the value for the associated type."""
+        """The query with the value for the associated type."""
         def changed(term: Type) -> Type:
             term = rebuilt(term, changed)
             if isinstance(term, Projection) and term.name == place.name:

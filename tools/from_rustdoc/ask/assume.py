@@ -1,8 +1,8 @@
-"""What the where-clauses of a question say to patterns.
+"""Which patterns follow from the where-clauses of a query.
 
-A question's `I: Iterator` comes with a name for the value, `I: Iterator__Item<X1_>`. An impl that asks `I: Iterator__Item__Then<Wrap_<Pat1_>>`
-finds no impl for a parameter. So the program is asked first whether the pattern holds of the value, `Pat1_: Apply_<X1_>`, by the question's
-clauses; if it does the clause is one more of the question. In the upper text it is one too where that is not settled.
+A query's `I: Iterator` comes with a name for the value, `I: Iterator__Item<X1_>`. An impl that needs `I: Iterator__Item__Then<Wrap_<Pat1_>>`
+finds no impl for a parameter. So the first query is whether the pattern holds of the value, `Pat1_: Apply_<X1_>`, by the query's clauses. If
+it does, the clause is one more of the query. In the upper text it is one too if that is not settled.
 """
 from __future__ import annotations
 
@@ -18,7 +18,7 @@ MAXIMAL_CANDIDATES = 64
 
 @dataclass
 class Assumed:
-    """The clauses that a question gets in each text. `is_open`: a pattern was met of which the program could not be asked. `reach` is what
+    """The clauses that a query gets in each text. `is_open`: a pattern was met that is no goal of a query. `reach` is what
     was looked at for them."""
     clauses: dict[str, list[str]] = field(default_factory=lambda: {"upper": [], "lower": []})
     is_open: bool = False
@@ -27,7 +27,7 @@ class Assumed:
 
 @dataclass(frozen=True)
 class Candidate:
-    """A clause on a parameter of a question, and what is to be proved for it."""
+    """A clause on a parameter of a query, and what is to be proved for it."""
     clause: str
     subject: Type
     bound: Bound
@@ -43,7 +43,7 @@ def with_clauses(prove: str, more: list[str]) -> str:
 
 
 def asked_goal(prove: str, line: TextLine, goal: str) -> str:
-    """The question with another reference in its place, by the same clauses."""
+    """The query with another reference in its place, by the same clauses."""
     where = prove.partition(" where ")[2]
     params = "".join(f"{'const ' if p.kind == 'const' else ''}{p.name}, " for p in line.params)[:-2]
     return f"prove in {line.crate} " + (f"<{params}> " if params else "") + goal + (f" where {where}" if where else "")
@@ -57,7 +57,7 @@ class Assumer:
         self.thens = thens
 
     def all_candidates(self, line: TextLine, reacher: Reacher, found: Assumed) -> list[Candidate]:
-        """What the question leads to of patterns on its own parameters, and what these lead to."""
+        """What the query leads to of patterns on its own parameters, and what these lead to."""
         assert line.trait is not None
         candidates: dict[str, Candidate] = {}
         todo: list[tuple[Type, Bound]] = [(line.self_type, line.trait)]
@@ -91,7 +91,7 @@ class Assumer:
         return candidates
 
     def values(self, line: TextLine) -> Iterator[tuple[str, Type, tuple[Type, ...], Type]]:
-        """The companions among the question's clauses: subject, arguments, value."""
+        """The companions among the query's clauses: subject, arguments, value."""
         for subject, bound in line.clauses:
             declared = self.text.names.get(bound.key)
             if bound.key in self.thens.values() and declared is not None and bound.arguments:

@@ -1,4 +1,4 @@
-"""From the text back to Rust: values of unknowns, as the program prints them, with the items' own names."""
+"""From the text back to Rust: values of variables, as the program prints them, with the items' own names."""
 from __future__ import annotations
 
 from ..model.show import Show
@@ -12,7 +12,7 @@ from .names import Names
 
 
 class Askable(Show):
-    """Types as a question takes them: paths that name the item, and no arguments that are left to defaults."""
+    """Types as a query takes them: paths that name the item, and no arguments that are left to defaults."""
 
     def __init__(self, world: World) -> None:
         super().__init__(world)
@@ -87,11 +87,11 @@ class Back:
         return term
 
     def values(self, printed: str) -> str:
-        """`?x = Ref_<str>, ?y = u8` as `?x = &str, ?y = u8`; nothing where that cannot be read back."""
+        """`?x = Ref_<str>, ?y = u8` as `?x = &str, ?y = u8`. Nothing if that cannot be read back."""
         return ", ".join(f"?{name} = {self.show.type(value)}" for name, value in self.found(printed).items())
 
     def found(self, printed: str) -> dict[str, Type]:
-        """The values of the unknowns, by their names; none where they cannot be read back."""
+        """The values of the variables, by their names. None if they cannot be read back."""
         found: dict[str, Type] = {}
         reader = Reader(printed, self.lookup, unknowns=True)
         try:

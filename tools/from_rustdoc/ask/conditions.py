@@ -1,10 +1,10 @@
-"""Under which bounds a question holds: `Vec<T>: Send` does where `T: Send`.
+"""Under which bounds a query holds: `Vec<T>: Send` does where `T: Send`.
 
-The question is asked, and each goal that failed first is taken as a bound of the next one, until there is a proof. Then each bound that is not
-needed beside the others is left out. So the bounds suffice, by what the last answer rests on, and without one of them there is no proof.
+The goal of the query that failed first becomes a bound of the next query, until there is a proof. Then each bound that is not needed with
+the others is left out. So the bounds suffice, by what the last answer rests on, and without one of them there is no proof.
 
 A goal is taken as a bound if it is about a parameter, an associated type of one, or a reference to these; or if some impl may have it for some of
-its types. Any other goal holds for no parameters, and the question needs it: there are no bounds then.
+its types. Any other goal holds for no parameters, and the query needs it: there are no bounds then.
 """
 from __future__ import annotations
 
@@ -30,8 +30,8 @@ MAXIMAL_BOUNDS = 12
 
 @dataclass
 class Conditions:
-    """`word` is yes, with the bounds, which are none where the question holds as it is; no, where no bounds help; or not settled. `verdict` is the
-    answer under the bounds, or to the last question that had none, and `because` says why there are none."""
+    """`word` is yes, with the bounds (none if the query holds as it is), no if no bounds help, or not settled. `verdict` is the
+    answer under the bounds, or to the last query that had none, and `because` says why there are none."""
     question: Question
     word: str
     verdict: Verdict
@@ -44,7 +44,7 @@ class Conditions:
 
 
 def read_open(reader: QuestionReader, written: str) -> list[Question]:
-    """Questions in which words that look like type parameters need not be declared."""
+    """Queries in which words that look like type parameters need not be declared."""
     try:
         return reader.read_all(written)
     except Undeclared as error:
@@ -82,7 +82,7 @@ class Finder:
             bounds.append(goal)
 
     def failed(self, verdict: Verdict) -> Optional[Predicate]:
-        """The goal that failed first; none where the explanation cannot be read."""
+        """The goal that failed first. None if the explanation cannot be read."""
         if verdict.asked is None:
             return None
         try:
@@ -94,7 +94,7 @@ class Finder:
             return None
 
     def unfit(self, goal: Optional[Predicate], question: Question, bounds: list[Predicate]) -> Optional[str]:
-        """Why the goal cannot be a bound; none where it can."""
+        """Why the goal cannot be a bound. None if it can."""
         if goal is None:
             return "what the program says of it cannot be read back"
         shown = f"`{self.shown(goal)}`"
@@ -115,7 +115,7 @@ class Finder:
         return None
 
     def impls_for(self, goal: Predicate) -> Iterator[Impl]:
-        """The impls that may have the goal for some of its types. A parameter of the goal stands for any type, each time that it stands there."""
+        """The impls that may have the goal for some of its types. A parameter of the goal stands for any type, each time that it is there."""
         subject, bound = goal
         head = head_of(subject)
         found = self.world.standard.impls_with_head(bound.key, head) if is_std_key(bound.key) else []
@@ -126,7 +126,7 @@ class Finder:
                 yield impl
 
     def needed(self, question: Question, bounds: list[Predicate], verdict: Verdict) -> tuple[list[Predicate], Verdict]:
-        """The bounds without those that are not needed. (The last one was asked for beside all others.) One that another one cannot be written
+        """The bounds without those that are not needed. (The last one was needed with all others.) One that another one cannot be written
         without stays."""
         for bound in bounds[:-1]:
             fewer = [one for one in bounds if one != bound]
@@ -153,7 +153,7 @@ def by_own_keys(world: World, impl: Impl) -> Impl:
 
 
 def under(question: Question, bounds: list[Predicate]) -> Question:
-    """The question with further bounds, as it was read."""
+    """The query with further bounds, as it was read."""
     return replace(question, predicates=[*question.predicates, *bounds], lines=[], names={}, whole=True)
 
 
@@ -181,12 +181,12 @@ def is_of_parameter(term: Type) -> bool:
 
 
 def meets(pattern: Type, term: Type, params: set[str], values: dict[str, Type]) -> bool:
-    """Whether the term may be an instance of the pattern, for some types in the place of the term's parameters."""
+    """Whether the term may be an instance of the pattern, for some types in place of the term's parameters."""
     if isinstance(pattern, Parameter) and pattern.name in params:
         return may_be(values.setdefault(pattern.name, term), term)
     if any(isinstance(part, OPEN) for part in (pattern, term)):
         return True
-    # (Arguments that are left to defaults stand in one of both alone.)
+    # (Arguments that are left to defaults are in one of both alone.)
     return head_of(pattern) == head_of(term) and all(meets(one, other, params, values) for one, other in zip(parts(pattern), parts(term)))
 
 

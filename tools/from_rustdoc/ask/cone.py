@@ -1,36 +1,37 @@
-"""The cone of a question, or of a crate's check: the smallest part of all crates that answers as the whole does, for a text of its own.
+"""The cone of a query, or of a crate's check: the smallest part of all crates that answers as the whole does, for a text of its own.
 
-A set of references is closed if it holds, of each of its references r, as the asking crate's view has them:
+A set of trait references is closed if it has, for each of its references r, by the view of the query's crate:
 
 1. the premises of each impl of which r may be an instance;
 2. those of the built-in rules: the fields of a struct for an auto trait, its last field for `Sized` and `Unsize`, the parts of tuples,
    arrays and slices, the output of a fn pointer, the bounds of a `dyn` that is unsized to;
-3. the supertraits of r, which are asked of a `dyn`, and where another crate may have the impl.
+3. the supertraits of r, which a `dyn` needs, also if another crate may have the impl.
 
 The cone of a closed set has, each in its own crate:
 
 - each impl of which some reference of the set may be an instance, with its companions (read by `impl_rules`);
-- of an auto trait that is asked of a struct each impl for that struct, whatever its arguments are: such an impl takes the built-in rule away
+- for an auto trait that a struct needs, each impl for that struct, whatever its arguments are: such an impl removes the built-in rule
   (`is_written`);
 - each struct and trait that one of its lines names, with its fields, its supertraits, `fundamental` and `auto` (`sized_rules`, `auto_rules`,
   `unsize_rules`, `object_rules`, `strict_supertraits`, `visited`);
-- each crate that has such an item, and uses which keep who sees whom (`sees`, `is_known_in`).
+- each crate that has such an item, and the uses by which one crate sees another (`sees`, `is_known_in`).
 
-That such a part answers alike is a law: `APartAnswersAlike` of `type_terms/specs/Parts.antt`. That `close` finds a closed set is not proved. It may
-hold more than there is, never less, since an unknown matches everything. Before an answer is given, the references that the finished
-text leads to are looked up in it (`Asker.inside`); one that is missing is an error.
+Such a part has the same answers by a law: `APartAnswersAlike` of `type_terms/specs/Parts.antt`. It is not proved that `close` finds a closed
+set. The set may have more than it needs, never less, since a variable matches everything. Before an answer is given, the references that
+the finished text leads to are looked up in it (`Asker.inside`). A missing one is an error.
 
-The check of a crate asks of its headers that they keep the orphan rule, which reads homes, and of each pair of one of its impls and one that
-it sees whether they have a common instance, and then whether a clause of the two is impossible there. Its cone has its impls, each impl that may
-have a common instance with one of them, and the cone of their clauses, with unknowns for parameters that the instance leaves open.
+The check of a crate checks that its headers keep the orphan rule, which needs the crates of items. For each pair of one of its impls and one
+that it sees it checks whether they have a common instance, and whether a clause of the two is impossible there. Its cone has its impls, each
+impl that may have a common instance with one of them, and the cone of their clauses, with variables for parameters that the instance leaves
+open.
 
-Where the subject is an unknown that no question wrote, impls that name an item which no line of the cone names are left out: an unknown is
-found out by matching lines of the cone, so it becomes a type of their names. Terms that are more than `DEEPEST` deep, and traits of which more
-than `MANY` references are asked, are taken as unknowns.
+If the subject is a variable that no query wrote, impls that name an item which no line of the cone names are left out: a variable gets its
+value by matching lines of the cone, so that is a type of their names. Terms that are more than `DEEPEST` deep, and traits with more than
+`MANY` references, become variables.
 
-A variable `?x` that a question writes is *free* if nothing that is asked can find out what it is: no header, and no built-in rule, has more than a
-parameter where it stands. A goal whose self type is a variable is undecided, whatever impls there are, so nothing is looked for behind
-`?x: Trait` of a free one. With one that is not free no impl is left out, and a part that grows beyond `MOST_OPEN` is given up at once.
+A variable `?x` that a query writes is *free* if no goal can give it a value: no header, and no built-in rule, has more than a parameter in its
+position. A goal whose self type is a variable is ambiguous, whatever impls there are, so the search ends at `?x: Trait` of a free one. If
+there is one that is not free no impl is left out, and a part that grows beyond `MOST_OPEN` is given up at once.
 """
 from __future__ import annotations
 
@@ -56,7 +57,7 @@ from .rules import BY_PARTS, BY_TARGET, FINDING_OUT, Reference_, premises
 
 ANY = Unknown("_")
 DEEPEST, ROUNDS = 12, 12
-# How many references of a trait, or of a pattern, are told apart.
+# How many references of a trait, or of a pattern, are kept as they are.
 MANY = 400
 # How many references are looked at, and how many lines where a variable is not free.
 MOST, MOST_OPEN = 20000, 1000
@@ -64,13 +65,13 @@ SPECIAL_HEADS = {"Ref_": "&", "RefMut_": "&mut", "PtrConst_": "*const", "PtrMut_
 
 
 class TooLarge(Lossy):
-    """What is asked leads to more than one text should hold."""
+    """The queries lead to more than one text should have."""
 
 
 @dataclass
 class Chosen:
-    """What a cone holds: impls, in which order does not matter, by identity; `asked` are the structs by name with the auto traits that are
-    asked of them; `leaves` the built-in types; `references` all that the cone was closed over; `free` the free variables."""
+    """What a cone has: impls in any order, by identity. `asked` are the structs by name with the auto traits that they need, `leaves` the
+    built-in types, `references` all that the cone was closed over, `free` the free variables."""
     impls: dict[int, Impl] = field(default_factory=dict)
     asked: set[tuple[str, str]] = field(default_factory=set)
     leaves: set[str] = field(default_factory=set)
@@ -78,8 +79,8 @@ class Chosen:
     free: frozenset[str] = frozenset()
 
     def covers(self, reference: Reference_, is_auto: bool = False) -> bool:
-        """Whether the closure holds the reference, as it is or as an unknown stands for parts of it. Of an auto trait the type has to have been
-        asked by its name: an unknown one brings neither its fields nor the impl by which one that is cut has them."""
+        """Whether the closure has the reference, as it is or with a variable for parts of it. For an auto trait the type has to be there by its
+        name: a variable brings neither its fields nor the impl by which a struct that is cut has them."""
         trait, arguments = reference
         if is_auto and isinstance(arguments[0], Named) and (arguments[0].key, trait) not in self.asked:
             return False
@@ -89,8 +90,8 @@ class Chosen:
 
     @functools.cached_property
     def with_unknowns(self) -> dict[str, list[tuple[Type, ...]]]:
-        """The references in which unknowns stand, by their traits: what comes of a term that was cut off is wider than what comes of
-        the whole term."""
+        """The references with variables, by their traits: what follows from a term that was cut off is wider than what follows from the whole
+        term."""
         found: dict[str, list[tuple[Type, ...]]] = {}
         for trait, arguments in self.references:
             if any(isinstance(part, Unknown) for term in arguments for part in walk(term)):
@@ -99,7 +100,7 @@ class Chosen:
 
 
 def is_instance(term: Type, wide: Type) -> bool:
-    """Whether the term is the wide one with types for its unknowns, each by itself."""
+    """Whether the term is the wide one with types for its variables, each by itself."""
     if isinstance(wide, Unknown) or term == wide:
         return True
     left, right = parts(term), parts(wide)
@@ -107,17 +108,17 @@ def is_instance(term: Type, wide: Type) -> bool:
 
 
 def head_alone(term: Type) -> Type:
-    """The term without what stands in it."""
+    """The head of the term alone."""
     return rebuilt(term, lambda part: ANY)
 
 
 def cut_off(term: Type, depth: int) -> Type:
-    """The term with what stands deeper than that as an unknown, so that chains without end come to an end here."""
+    """The term with variables for its deeper parts, so that chains without end come to an end here."""
     return ANY if depth == 0 else rebuilt(term, lambda part: cut_off(part, depth - 1))
 
 
 def pattern_in(arguments: tuple[Type, ...]) -> str:
-    """The pattern that a reference asks, or asks for: its own name in `Pat1_<..>: Apply_<V>`, that in `Wrap_` of a `Then` trait; else empty."""
+    """The pattern that a reference needs, or is about: its own name in `Pat1_<..>: Apply_<V>`, that in `Wrap_` of a `Then` trait; else empty."""
     for term in arguments:
         inside = term.arguments[0] if isinstance(term, Named) and term.key == WRAP and term.arguments else term
         if isinstance(inside, Named) and re.fullmatch(r"Pat\d+_", inside.key):
@@ -126,7 +127,7 @@ def pattern_in(arguments: tuple[Type, ...]) -> str:
 
 
 def widest(arguments: tuple[Type, ...]) -> tuple[Type, ...]:
-    """The arguments as unknowns, but for which pattern it is: an unknown pattern would lead to the meanings of all."""
+    """The arguments as variables, except for the pattern: a variable in its place would lead to the meanings of all."""
     def widened(term: Type) -> Type:
         if isinstance(term, Named) and term.key == WRAP:
             return Named(WRAP, tuple(map(widened, term.arguments)))
@@ -138,14 +139,14 @@ def widest(arguments: tuple[Type, ...]) -> tuple[Type, ...]:
 
 
 def leaves_of_functions(term: Type) -> Iterator[str]:
-    """The fn pointers for which structs of the text stand in a term."""
+    """The fn pointers for which structs of the text are in a term."""
     for part in walk(term):
         if isinstance(part, Named) and part.key in FUNCTION_STRUCTS and isinstance(part.arguments[0], Tuple):
             yield leaf_of(part.arguments[0].items, FUNCTION_STRUCTS[part.key])
 
 
 def unknowns_of(term: Type) -> set[str]:
-    """The names of the unknowns in a type, also of those that stand for constants."""
+    """The names of the variables in a type, also of those that stand for constants."""
     return {part.name for part in walk(term) if isinstance(part, Unknown)} | {name for part in walk(term) for name in re.findall(r"\?(\w+)", constant_of(part))}
 
 
@@ -154,8 +155,8 @@ def constant_of(term: Type) -> str:
 
 
 def found_out(pattern: Type, term: Type, params: set[str], values: dict[str, Type]) -> set[str]:
-    """The unknowns in a term that may become known where it is an instance of the pattern: those that stand where the pattern has more than a
-    parameter, and those of a parameter that stands for different terms."""
+    """The variables in a term that may get values if it is an instance of the pattern: those where the pattern has more than a parameter, and
+    those of a parameter that stands for different terms."""
     if isinstance(pattern, Parameter) and pattern.name in params:
         known = values.setdefault(pattern.name, term)
         return set() if known == term else unknowns_of(known) | unknowns_of(term)
@@ -167,9 +168,8 @@ def found_out(pattern: Type, term: Type, params: set[str], values: dict[str, Typ
 
 
 class Cone(Reacher):
-    """`view` are the crates that are seen. Lines are those that `translation` writes, which is no more than a place for names. `free` are the
-    variables of the question that are taken for free ones; `bound` gets those that are not. With `is_open` an unknown may be a type that is
-    named nowhere in the text: the asker wrote it."""
+    """`view` are the crates that are seen. Lines are those that `translation` writes, which only has the names. `free` are the variables of the query that are assumed to be free,
+    and `bound` gets those that are not. With `is_open` a variable may be a type that the text does not name: the query wrote it."""
 
     def __init__(self, translation: Translation, view: set[str], is_open: bool = False, free: frozenset[str] = frozenset()) -> None:
         super().__init__(Text(), [], free)
@@ -255,11 +255,11 @@ class Cone(Reacher):
                 yield impl
 
     def is_there(self, impl: Impl, head: Optional[str]) -> bool:
-        """An unknown is found out by headers of the text alone, so what names nothing of the text concludes nothing of it."""
+        """A variable gets its value from headers of the text alone, so an impl that names nothing of the text concludes nothing of it."""
         return head is not None or self.is_open or impl.trait is None or self.translation.absent(impl) is None
 
     def is_understood(self, impl: Impl) -> bool:
-        """Types of std whose declaration is not understood stand in no text."""
+        """Types of std whose declaration is not understood are in no text."""
         assert impl.trait is not None
         for term in (impl.self_type, *impl.trait.arguments):
             for key in keys_of(term):
@@ -271,7 +271,7 @@ class Cone(Reacher):
         return True
 
     def head(self, term: Type) -> Optional[str]:
-        """The head of a term of the text as impls have it; None where it may be anything."""
+        """The head of a term of the text as impls have it. None if it may be anything."""
         if isinstance(term, Unknown):
             return None
         if not isinstance(term, Named):
@@ -338,7 +338,7 @@ class Cone(Reacher):
             todo += self.children((trait, arguments), Reach())
 
     def widened(self, trait: str, arguments: tuple[Type, ...]) -> tuple[Type, ...]:
-        """The arguments as unknowns; of an auto trait the type's name stays, since its fields and impls are found by that."""
+        """The arguments as variables; of an auto trait the type's name stays, since its fields and impls are found by that."""
         line, subject = self.declared(trait), arguments[0]
         if line is not None and line.is_auto and isinstance(subject, Named):
             return (Named(subject.key, (ANY,) * len(subject.arguments)),)
@@ -397,7 +397,7 @@ class Cone(Reacher):
         return children
 
     def by_line(self, line: TextLine, reference: Reference_) -> Optional[list[Reference_]]:
-        """The premises of a line by which the reference may be concluded; None where it may not."""
+        """The premises of a line by which the reference may be concluded. None if it may not."""
         trait, arguments = reference
         assert line.trait is not None
         pattern, params = (line.self_type, *line.trait.arguments), {x.name for x in line.params}
@@ -414,7 +414,7 @@ class Cone(Reacher):
 
     # ---- patterns
     def by_meaning(self, reference: Reference_) -> list[Reference_]:
-        """What a pattern means of a value; of an unknown one what all that are written so far mean."""
+        """What a pattern means of a value; of a variable one what all that are written so far mean."""
         children: list[Reference_] = []
         subject = reference[1][0]
         patterns = self.translation.impl_writer.projector.patterns
@@ -437,7 +437,7 @@ class Cone(Reacher):
         return children
 
     def by_assumed(self, reference: Reference_) -> list[Reference_]:
-        """What is asked of a question's clauses before it: whether a pattern holds of a value that they name."""
+        """What a query's clauses have to prove before it: whether a pattern holds of a value that they name."""
         trait, arguments = reference
         if not trait.endswith(THEN):
             return []
@@ -504,7 +504,7 @@ class Cone(Reacher):
 
 
 class Lines:
-    """Lines that were written in an earlier round; a trait that is new beside another one asks for them anew."""
+    """Lines that were written in an earlier round. A new companion of a trait needs them again."""
 
     def __init__(self, translation: Translation) -> None:
         self.translation = translation
@@ -518,7 +518,7 @@ class Lines:
         return self.lines
 
 
-# ---- of a question
+# ---- of a query
 def view_of(world: World, crate: str) -> set[str]:
     seen: set[str] = set()
     todo = [crate]
@@ -531,7 +531,7 @@ def view_of(world: World, crate: str) -> set[str]:
 
 
 def cone_of_questions(world: World, questions: list[Question], further: Sequence[Reference_] = ()) -> Translation:
-    """The part of the crates that answers the questions and the further references, not yet built."""
+    """The part of the crates that answers the queries and the further references, not yet built."""
     free = free_variables(questions)
     while True:
         scratch = Translation(world, cone=Chosen())
@@ -548,7 +548,7 @@ def cone_of_questions(world: World, questions: list[Question], further: Sequence
 
 
 def free_variables(questions: list[Question]) -> frozenset[str]:
-    """The variables that may be free: those of one question that stand in its subject alone, where it has no clauses by which they may be found out."""
+    """The variables that may be free: those of one query that are in its subject alone, if it has no clauses that may give them values."""
     if len(questions) != 1 or questions[0].params or questions[0].predicates:
         return frozenset()
     others = set().union(*map(unknowns_of, terms_of(questions[0].bound)))
@@ -556,7 +556,7 @@ def free_variables(questions: list[Question]) -> frozenset[str]:
 
 
 def closed(scratch: Translation, questions: list[Question], further: Sequence[Reference_], free: frozenset[str]) -> tuple[Chosen, set[str]]:
-    """What is chosen for the questions, and which variables are not free."""
+    """What is chosen for the queries, and which variables are not free."""
     chosen = Chosen()
     is_open = any(question.has_unknowns() and unknowns_in(question) - free for question in questions)
     lines: Lines = Lines(scratch)
@@ -586,7 +586,7 @@ def unknowns_in(question: Question) -> set[str]:
 
 
 def references_of(cone: Cone, prove: str) -> list[Reference_]:
-    """What a question asks, of its line."""
+    """The goal of a query, from its line."""
     reader = Reader(prove, cone.lookup, unknowns=True)
     reader.need("prove")
     reader.need("in")
@@ -640,12 +640,12 @@ def opened(line: TextLine) -> Reference_:
 
 
 def meetings(cone: Cone, impl: Impl, line: TextLine) -> list[Reference_]:
-    """The impls that may have an instance in common with this line are chosen; their clauses, and its own, as they are there."""
+    """Chooses the impls that may have an instance in common with this line, with their clauses and its own in that instance."""
     trait, arguments = opened(line)
     declaration = cone.trait_of(trait)
     found: list[Reference_] = []
     if declaration is None:
-        # A trait of the text's `core`: its own impls stand in each text.
+        # A trait of the text's `core`: its own impls are in each text.
         return [(b.key, (ANY, *b.arguments)) for _, b in line.clauses]
     for other in cone.candidates(declaration, cone.head(arguments[0])):
         if other is impl:
@@ -665,5 +665,5 @@ def meetings(cone: Cone, impl: Impl, line: TextLine) -> list[Reference_]:
             for p, a in zip((line.self_type, *line.trait.arguments), opened(theirs)[1]):
                 bind(p, a, {x.name for x in line.params}, values)
             found += [(b.key, (put(s, values), *(put(a, values) for a in b.arguments))) for s, b in line.clauses]
-    # Two lines that ask an unknown pattern have the clauses of their impls too, which meet as well: it never tells them apart.
+    # Two lines that ask a variable pattern have the clauses of their impls too, which meet as well: it never distinguishes them.
     return [r for r in found if r[0] != APPLY or not isinstance(r[1][0], Unknown)]

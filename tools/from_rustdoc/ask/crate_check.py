@@ -28,7 +28,7 @@ def check_crate(world: World, name: str, program: Optional[str] = None) -> tuple
 
 
 def by_text(world: World, name: str, with_patterns: bool, report: Report, program: Optional[str]) -> list[Checked]:
-    """The verdict by a text with or without clauses on associated types; nothing where the one without them settles nothing."""
+    """The verdict by a text with or without clauses on associated types. Nothing if the one without them settles nothing."""
     crate = crate_name(name)
     try:
         translation = cone_of_crate(world, name, with_patterns)

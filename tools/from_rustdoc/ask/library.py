@@ -18,13 +18,13 @@ from ..read.proved import TOP
 
 BINDING = os.path.join(TOP, "bindings", "python", "celtisdarts.py")
 NAMED = "CELTISDARTS_LIB"
-# Texts whose readings are kept: both of a question.
+# Texts whose readings are stored: both of a query.
 KEPT = 2
 
 
 @functools.lru_cache(maxsize=None)
 def binding(archive: Optional[str], folder: str) -> Optional[ModuleType]:
-    """The binding, with its library loaded: that of the archive, if no other is named. What is made of it is kept in the folder."""
+    """The binding, with its library loaded: that of the archive, if no other is named. What is made of it is stored in the folder."""
     named = os.environ.get(NAMED)
     if not named and archive is None:
         return None
@@ -57,7 +57,7 @@ def module() -> ModuleType:
 
 
 def made_of(archive: str, folder: str) -> str:
-    """The shared object of an archive, under the sum of its bytes. It is made whole or not at all, and nothing is told."""
+    """The shared object of an archive, under the sum of its bytes. It is made whole or not at all, and nothing is reported."""
     with open(archive, "rb") as handle:
         shared = os.path.join(folder, f"libceltisdarts-{hashlib.sha256(handle.read()).hexdigest()}.so")
     if not os.path.exists(shared):
@@ -94,7 +94,7 @@ def read(found: Any, text: str, depth: int) -> Any:
 
 
 def ask(found: Any, text: str, line: str, depth: int) -> str:
-    """What the program prints last to a text with this query line behind it. The text is read once for all lines."""
+    """What the program prints last to a text with this query line after it. The text is read once for all lines."""
     try:
         return str(read(found, text, depth).ask(line.encode("ascii")))
     except found.TextFault as error:

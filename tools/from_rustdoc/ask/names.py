@@ -1,7 +1,7 @@
-"""What a name of a question stands for: as in a module with `use` of the roots of the own crates, and the prelude of their edition.
+"""What a name of a query stands for: as in a module with `use` of the roots of the own crates, and the prelude of their edition.
 
 A path is one by which an item is there: that of its declaration, or one by public modules and re-exports. A word names an item of an own crate's
-root, else one of the prelude. For another word an item may be meant that has no other of its name beside it; where it has, the question is asked back.
+root, else one of the prelude. For another word an item may be meant that has no other of its name next to it; where it has, the query is asked back.
 """
 from __future__ import annotations
 
@@ -12,7 +12,7 @@ from ..read.html_docs import kind_and_name, rust_crate_of
 from ..read.rustdoc_json import STD_CRATES
 from ..read.terms import BadInput, Lossy
 
-# The prelude of each edition has that of those before. Macros and functions are no names of a question.
+# The prelude of each edition has that of those before. Macros and functions are no names of a query.
 PRELUDES = {
     "2015": {"core::marker": "Copy Send Sized Sync Unpin", "core::ops": "Drop Fn FnMut FnOnce AsyncFn AsyncFnMut AsyncFnOnce",
              "core::convert": "AsMut AsRef From Into", "core::iter": "DoubleEndedIterator ExactSizeIterator Extend IntoIterator Iterator",

@@ -1,6 +1,6 @@
 """What negative impls rule out for good: `impl !Send for Rc<T>` says that no version of its crate makes an `Rc` that is `Send`.
 
-The program refutes a reference only if no crate may add an impl, and a text has no negative impls. So this is said beside the program, for auto
+The program refutes a reference only if no crate may add an impl, and a text has no negative impls. So this is said next to the program, for auto
 traits alone: of a type with a negative impl, and of types whose every rule asks one of these. A type of another crate than the asking one
 has such rules only by its own negative impl, since a later version may have other fields.
 """
@@ -16,13 +16,13 @@ from ..write.render import is_sizedness
 from ..write.text_form import TextLine
 from .reach import Reacher, bind
 
-# What stands in for types of the language: nobody but core has impls of auto traits for them.
+# What is in for types of the language: nobody but core has impls of auto traits for them.
 OF_STD = ("alloc", "std")
 OF_LANGUAGE = ("Ref_", "RefMut_", "PtrConst_", "PtrMut_")
 
 
 class Negatives:
-    """By the lines of the upper text, for questions of one crate."""
+    """By the lines of the upper text, for queries of one crate."""
 
     def __init__(self, world: World, reacher: Reacher, crate: str) -> None:
         self.world = world

@@ -18,14 +18,14 @@ from .library import Fault, NoAnswer
 
 # As deep as rustc goes if a crate does not say otherwise (`recursion_limit`).
 DEPTH = 128
-# So many texts with questions are answered by runs of the program: to load the library takes longer than these.
+# So many texts with queries are answered by runs of the program: to load the library takes longer than these.
 FEW = 4
 ASKED = itertools.count()
 
 
 @dataclass
 class Answer:
-    """What the program prints: verdicts by crate, the words on questions and releases, and the values behind the questions' words."""
+    """What the program prints: verdicts by crate, the words on queries and releases, and the values after the queries' words."""
     crates: dict[str, str] = field(default_factory=dict)
     questions: list[str] = field(default_factory=list)
     values: list[str] = field(default_factory=list)
@@ -37,7 +37,7 @@ class Answer:
 
 @functools.lru_cache(maxsize=None)
 def binding() -> Optional[ModuleType]:
-    """The binding over the library of the sources that stand here, or over that which is named; None where there is none."""
+    """The binding over the library of the sources that are here, or over that which is named. None if there is none."""
     return library.binding(None if os.environ.get(library.NAMED) else proved_program(LIBRARY), cache_folder())
 
 
@@ -53,7 +53,7 @@ def run(text: str, program: Optional[str] = None, depth: int = DEPTH) -> Answer:
 
 
 def ask(text: str, lines: list[str], program: Optional[str] = None, depth: int = DEPTH) -> Answer:
-    """The answers to query lines behind a text. Verdicts on its crates may be left out."""
+    """The answers to query lines after a text. Verdicts on its crates may be left out."""
     is_run = program or next(ASKED) < FEW and proved_program()
     found = None if is_run else binding()
     if found is None:
@@ -88,7 +88,7 @@ def explaining(program: Optional[str] = None) -> Optional[str]:
 
 
 def explain(text: str, program: Optional[str] = None, depth: int = DEPTH) -> list[dict[str, Any]]:
-    """What the program that explains says of each line of its answer, as its JSON has it; nothing where there is no such program."""
+    """What the program that explains says of each line of its answer, as its JSON has it. Nothing if there is no such program."""
     found = explaining(program)
     if found is None:
         return []

@@ -1,4 +1,4 @@
-"""Questions as Rust writes them, as lines of both texts, and one answer made of what the program says to each."""
+"""Queries as Rust writes them, as lines of both texts, and one answer made of the program's two answers."""
 from __future__ import annotations
 
 import re
@@ -35,14 +35,14 @@ OWN = "value_"
 
 @dataclass(frozen=True)
 class Asked:
-    """A reference that a question asks, as lines of the texts; `refute` is empty where there is none."""
+    """A bound of a query, as lines of the texts. `refute` is empty if there is none."""
     prove: str
     refute: str = ""
 
 
 @dataclass
 class Question:
-    """A question with its lines: one for the trait, and one for the value of each associated type that the bound speaks of. `names` is what
+    """A query with its lines: one for the trait, and one for the value of each associated type that the bound speaks of. `names` is what
     the names of its lines stand for. `whole` is false where a where-clause, or the value of a projection, could not be said."""
     written: str
     subject: Type
@@ -77,7 +77,7 @@ def terms_of(root: Type | Bound) -> tuple[Type, ...]:
 
 @dataclass(frozen=True)
 class InText:
-    """A question as it was asked: `names` is what names of its lines stand for, `lines` are the lines of the upper and of the lower text."""
+    """A query as it was asked: `names` is what names of its lines stand for, `lines` are the lines of the upper and of the lower text."""
     translation: Translation
     crate: str
     names: dict[str, Type]
@@ -86,9 +86,9 @@ class InText:
 
 @dataclass
 class Verdict:
-    """`word` is yes, no, unproved, maybe or not settled; `basis` says on what it rests. `values` are those of unknowns as Rust writes them, `found`
-    as types. `asked` is the question as it was asked, of several that one that decides. `because` is a reason that no explanation has; `is_explained` says that
-    the program's own counts beside it."""
+    """`word` is yes, no, unproved, maybe or not settled; `basis` says on what it rests. `values` are those of variables as Rust writes them, `found`
+    as types. `asked` is the query as it was asked, of several that one that decides. `because` is a reason that no explanation has; `is_explained` says that
+    the program's own counts next to it."""
     question: Question
     word: str
     basis: str = ""
@@ -109,7 +109,7 @@ MAYBE = "both texts leave open what the unknowns stand for"
 
 
 class Undeclared(BadInput):
-    """A word that looks like a type parameter is none; `declared` is the question with parameters for all such words."""
+    """A word that looks like a type parameter is none; `declared` is the query with parameters for all such words."""
 
     def __init__(self, word: str, declared: str) -> None:
         super().__init__(f"`{word}` is not known: declare it: `{declared}`")
@@ -125,7 +125,7 @@ class TooSmall(BadInput):
 
 
 def joined(question: Question, verdicts: list[Verdict]) -> Verdict:
-    """One verdict on a question that holds where all of these do: yes where all say so, else what the first says that makes it fail."""
+    """One verdict on a query that holds if all of these do: yes if all are, else the first that makes it fail."""
     for word in ("no", "unproved", "not settled", "maybe"):
         for verdict in verdicts:
             if verdict.word == word:
@@ -162,20 +162,20 @@ class QuestionReader:
 
     @staticmethod
     def declared(written: str, names: list[str]) -> str:
-        """The question with further parameters."""
+        """The query with further parameters."""
         reader = Reader(written, lambda words: ("word", None, words[-1]), unknowns=True)
         new = ", ".join(names)
         return f"<{new}, {written.lstrip()[1:].lstrip()}" if reader.has_generics() else f"<{new}> {written.lstrip()}"
 
     def read(self, written: str) -> Question:
-        """A question by one bound."""
+        """A query by one bound."""
         questions = self.read_all(written)
         if len(questions) > 1:
             raise BadInput(f"`{written}` is {len(questions)} questions")
         return questions[0]
 
     def read_all(self, written: str) -> list[Question]:
-        """`[<params>] type: bound [+ bound ..] [where clauses]`, with `?x` for unknowns: a question for each bound."""
+        """`[<params>] type: bound [+ bound ..] [where clauses]`, with `?x` for variables: a query for each bound."""
         params: set[str] = set()
         reader = Reader(written, lambda words: self.lookup(words, params, reader), unknowns=True, params=params)
         try:
@@ -386,7 +386,7 @@ class QuestionWriter:
 
 
 class Asker:
-    """Has the program answer both texts with the questions behind them, and makes one answer of each pair."""
+    """Has the program answer both texts with the queries after them, and makes one answer of each pair."""
 
     def __init__(self, translation: Translation, program: Optional[str] = None, check: bool = True) -> None:
         self.translation = translation
@@ -444,7 +444,7 @@ class Asker:
         verdict.found = {name: put(value, verdict.question.names) for name, value in back.found(printed).items()}
 
     def written(self, questions: list[Question]) -> tuple[list[Question], dict[int, Verdict]]:
-        """The questions that the text can say, and verdicts on the others. The text gets what a question needs beyond its names."""
+        """The queries that the text can say, and verdicts on the others. The text gets what a query needs beyond its names."""
         writer = QuestionWriter(self.translation)
         for _ in range(MAXIMAL_ROUNDS):
             self.translation.renderer.grew = False
@@ -467,7 +467,7 @@ class Asker:
             raise BadInput("the texts break the rules of docs/RUSTDOC.md, which is a mistake of the translator: " + problems[0])
 
     def assumed(self, questions: list[Question], lines: dict[str, TextLine], reacher: Reacher) -> dict[int, Assumed]:
-        """What the where-clauses of each question say to the patterns that it leads to, asked in rounds: one may be needed for another."""
+        """The patterns that follow from the where-clauses of each query, in rounds: one may be needed for another."""
         renderer, world = self.translation.renderer, self.translation.world
         thens = {renderer.then_name(world.get(key), name): renderer.companion_name(world.get(key), name) for key, name in renderer.thens}
         assumer = Assumer(reacher.text, thens)
@@ -483,7 +483,7 @@ class Asker:
         return found
 
     def ask_candidates(self, wanted: list[tuple[Question, Candidate]], found: dict[int, Assumed], lines: dict[str, TextLine]) -> bool:
-        """Whether a question got a clause more. What is not proved now may be with it."""
+        """Whether a query got a clause more. What is not proved now may be with it."""
         grew = False
         for mode in ("upper", "lower") if wanted else ():
             asked = [asked_goal(with_clauses(q.prove, found[id(q)].clauses[mode]), lines[q.prove], c.goal()) for q, c in wanted]
@@ -574,7 +574,7 @@ class Asker:
         return [self.show.item(d) for d in names.values()]
 
     def losses(self, reach: Reach) -> list[str]:
-        """The losses of the impls that the question leads to."""
+        """The losses of the impls that the query leads to."""
         found: dict[str, None] = {}
         for piece in reach.pieces:
             if piece.written is not None and piece.written.losses:
@@ -588,7 +588,7 @@ class Asker:
         return list(found)
 
     def unsure(self, reach: Reach) -> list[str]:
-        """What is missing in both texts, or not known, of what the question leads to: no `no` rests on that."""
+        """What is missing in both texts, or not known, of what the query leads to: no `no` rests on that."""
         found: dict[str, None] = {}
         for written in self.translation.of_crates + self.translation.of_std:
             if not written.upper and not written.is_safe and written.impl.trait is not None:

@@ -1,6 +1,6 @@
-"""What an answer rests on: the references that a question leads to by the rules of a text, and the lines that conclude them.
+"""What an answer rests on: the references that a query leads to by the rules of a text, and the lines that conclude them.
 
-More may be found than there is, never less: an unknown matches everything. So a question that is bounded here is bounded in the
+More may be found than there is, never less: a variable matches everything. So a query that is bounded here is bounded in the
 program's definitions, and an answer that rests on a loss is named as such.
 """
 from __future__ import annotations
@@ -29,7 +29,7 @@ class Reach:
     longest: Optional[int] = None
 
     def join(self, other: Reach) -> None:
-        """With what another question leads to."""
+        """With what another query leads to."""
         self.pieces += other.pieces
         self.structs |= other.structs
         self.traits |= other.traits
@@ -38,7 +38,7 @@ class Reach:
 
 
 def bind(pattern: Type, term: Type, params: set[str], values: dict[str, Type]) -> bool:
-    """Whether the term may be an instance of the pattern; an unknown in it may be anything."""
+    """Whether the term may be an instance of the pattern; a variable in it may be anything."""
     if isinstance(pattern, Parameter) and pattern.name in params:
         known = values.get(pattern.name)
         if known is None or isinstance(known, Unknown):
@@ -69,7 +69,7 @@ def bind(pattern: Type, term: Type, params: set[str], values: dict[str, Type]) -
 
 
 class Reacher:
-    """`free` are variables of a question that stay unknown: a goal about one is undecided, whatever impls there are."""
+    """`free` are variables of a query that stay unknown: a goal about one is undecided, whatever impls there are."""
 
     def __init__(self, text: Text, pieces: list[Piece], free: frozenset[str] = frozenset()) -> None:
         self.text = text
@@ -81,7 +81,7 @@ class Reacher:
                 self.impls.setdefault(line.trait.key, []).append((line, piece))
 
     def reach(self, subject: Type, bound: Bound, assumed: bool = False) -> Reach:
-        """All that the question leads to. With where-clauses it is not called complete."""
+        """All that the query leads to. With where-clauses it is not called complete."""
         found = Reach(is_complete=not assumed)
         length: dict[Reference_, Optional[int]] = {}
         active: set[Reference_] = set()

@@ -1,4 +1,4 @@
-"""Why a question has no proof: the program's explanation (`celtisdarts --explain`), in Rust's names and with the places of the real sources.
+"""Why a query has no proof: the program's explanation (`celtisdarts --explain`), in Rust's names and with the places of the real sources.
 
 The program names the goal that failed first, and then what it was needed for, from the inside out. Lines of the text become impls and
 structs of the crates, patterns and companions the associated types that they stand for. What cannot be read back is left out.
@@ -52,7 +52,7 @@ class Told:
 
 @dataclass(frozen=True)
 class Step:
-    """A step of a proof: a goal, how deep it is below the question, and by what it holds; of an impl its header."""
+    """A step of a proof: a goal, how deep it is below the query, and by what it holds; of an impl its header."""
     depth: int
     goal: str
     how: str
@@ -66,7 +66,7 @@ def is_of_text(subject: Type) -> bool:
 
 
 class Explainer:
-    """Explains a question in its text: that it has no proof in the upper one, where every impl stands that may count, or the proof that
+    """Explains a query in its text: that it has no proof in the upper one, where every impl stands that may count, or the proof that
     it has in the lower one."""
 
     def __init__(self, asked: InText, mode: str, program: Optional[str] = None) -> None:
@@ -91,12 +91,12 @@ class Explainer:
 
     # ---- what the program says
     def explain(self) -> list[Message]:
-        """Notes on why there is no proof; none where nothing can be read back."""
+        """Notes on why there is no proof. None if nothing can be read back."""
         told = self.refusal()
         return self.notes(told) if told is not None else []
 
     def refusal(self) -> Optional[Told]:
-        """What the program says of the question, down to the goal that failed first."""
+        """What the program says of the query, down to the goal that failed first."""
         told = self.told([self.prove])[0]
         if told is not None and told.is_cycle:
             told = self.without_cycle(told) or told
@@ -198,7 +198,7 @@ class Explainer:
         return None
 
     def of_value(self, told: Told) -> Optional[Told]:
-        """Why a pattern does not hold of the value that the question's clauses give an associated type: the program is asked that by itself."""
+        """Why a pattern does not hold of the value that the query's clauses give an associated type: the program is asked that by itself."""
         first = told.goals[0]
         if first.bound.key not in self.thens:
             return None
@@ -341,7 +341,7 @@ class Explainer:
 
     # ---- a proof
     def proof(self) -> list[Message]:
-        """The proof that was found, a note for each step that is not about a size; what stands above is not said again."""
+        """The proof that was found, a note for each step that is not about a size; what is above is not said again."""
         return [Message(f"{'  ' * step.depth}`{step.goal}`: {step.how}", kind="note", spans=at(step.place)) for step in self.steps()]
 
     def steps(self) -> list[Step]:
@@ -377,7 +377,7 @@ class Explainer:
 
     # ---- helps
     def helps(self, goal: Goal, told: Told) -> list[Message]:
-        """What may be done: a clause that the question has not, and the types of the crates that have the trait."""
+        """What may be done: a clause that the query has not, and the types of the crates that have the trait."""
         found = [text for text in told.helps if "where-clause" in text]
         helps = [Message(f"ask it with `where {self.clause(goal)}`", kind="help")] if found else []
         key = self.world.named.get(goal.bound.key)
@@ -390,7 +390,7 @@ class Explainer:
         return helps
 
     def clause(self, goal: Goal) -> str:
-        """A goal as a where-clause of a question."""
+        """A goal as a where-clause of a query."""
         subject, bound = self.predicate(goal)
         return f"{self.askable.type(subject)}: {self.askable.bound(bound)}"
 
@@ -412,7 +412,7 @@ class Explainer:
 
 
 def why(verdict: Verdict, program: Optional[str] = None, with_proof: bool = False) -> list[Message]:
-    """Why a question has no proof, or by what it has one. An explanation that cannot be read is none."""
+    """Why a query has no proof, or by what it has one. An explanation that cannot be read is none."""
     if verdict.asked is None or (verdict.word == "yes" and not with_proof):
         return []
     try:

@@ -1,4 +1,4 @@
-"""The built-in rules of the text's `core`, as far as a question leads on by them: for what may matter (`cone`) and for what an answer rests on (`reach`).
+"""The built-in rules of the text's `core`, as far as a query leads on by them: for what may matter (`cone`) and for what an answer rests on (`reach`).
 
 A rule that Rust gets is a row here. What it asks of impls, fields and supertraits each of both finds for itself.
 """
@@ -15,7 +15,7 @@ Reference_ = tuple[str, tuple[Type, ...]]
 @dataclass(frozen=True)
 class Rule:
     """`above` are the traits that are asked of the same type; `of_parts` says that the trait itself is asked of the parts of a type; `of_output`, that
-    the output of a fn pointer has to be sized; `of_target`, that the type to which one is unsized counts too, and what stands in both."""
+    the output of a fn pointer has to be sized; `of_target`, that the type to which one is unsized counts too, and what is in both."""
     above: tuple[str, ...] = ()
     of_parts: bool = False
     of_output: bool = False

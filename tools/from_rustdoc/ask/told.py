@@ -12,7 +12,7 @@ CODES = {"yes": "holds", "no": "no-bounds", "not settled": "not-settled"}
 
 # ---- conditions
 def conditions_message(found: Conditions, finder: Finder) -> Message:
-    """`bounds` are those under which the question holds, as where-clauses of a question."""
+    """`bounds` are those under which the query holds, as where-clauses of a query."""
     text, bounds = answer_of(found, finder), bounds_of(found, finder)
     message = Message(f"`{found.question.written}`: {text}", CODES[found.word], found.word, found.verdict.question.of_crate, place_of(found.verdict),
                       basis=found.basis, rests_on=found.verdict.rests_on, more={"bounds": bounds if found.word == "yes" else None})

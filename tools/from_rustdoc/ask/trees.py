@@ -32,7 +32,7 @@ class Reason:
 
 
 def reason_of(verdict: Verdict, program: Optional[str] = None) -> Optional[Reason]:
-    """The reason of an answer; none where there is no program that explains, and where what it says cannot be read back."""
+    """The reason of an answer. None if there is no program that explains, and where what it says cannot be read back."""
     if verdict.asked is None or not verdict.is_explained:
         return None
     try:
@@ -49,7 +49,7 @@ def proof_of(explainer: Explainer) -> Optional[Reason]:
 
 
 def trees(explainer: Explainer, row: dict[str, Any]) -> list[Reason]:
-    """A step and what it rests on. What the text alone has is left out, and what it rests on stands in its place."""
+    """A step and what it rests on. What the text alone has is left out, and what it rests on is in its place."""
     if row["rule"] == ABOVE:
         try:
             return [Reason(explainer.shown(explainer.goal(row["goal"])), True, ABOVE)]

@@ -1,4 +1,4 @@
-"""Answers to questions, and checks of crates, as messages."""
+"""Answers to queries, and checks of crates, as messages."""
 from __future__ import annotations
 
 from dataclasses import dataclass
@@ -18,7 +18,7 @@ EXPECTED = {"yes": ("yes",), "no": ("no", "unproved"), "maybe": ("maybe",)}
 Entry = list[Any]
 
 
-# ---- questions
+# ---- queries
 def answer_message(verdict: Verdict, expected: Optional[str], program: Optional[str], with_proof: bool) -> Message:
     """An answer with the reason of it. `basis` and `rests_on` say what it rests on."""
     unexpected = expected is not None and verdict.word != "not settled" and verdict.word not in EXPECTED[expected]
@@ -39,7 +39,7 @@ def values_of(verdict: Verdict) -> list[tuple[str, str]]:
 
 
 def place_of(verdict: Verdict) -> list[Span]:
-    """Where the type of a question is declared."""
+    """Where the type of a query is declared."""
     subject = verdict.question.subject
     if verdict.asked is None or not isinstance(subject, Named):
         return []
@@ -50,7 +50,7 @@ def place_of(verdict: Verdict) -> list[Span]:
 
 
 def say_answer(message: Message, verdict: Verdict, output: Output) -> None:
-    """For people: the question, the answer, and a line for each step of the reason."""
+    """For people: the query, the answer, and a line for each step of the reason."""
     if output.takes(message):
         output.message(message)
         return
@@ -65,7 +65,7 @@ def say_answer(message: Message, verdict: Verdict, output: Output) -> None:
 
 
 def shown(verdict: Verdict, message: Message) -> str:
-    """The question and the answer, with what it rests on, in plain words."""
+    """The query and the answer, with what it rests on, in plain words."""
     last = next((note.summary for note in reversed(message.children) if note.level == "note"), "")
     how = "; ".join(filter(None, [last if verdict.word == "no" else "", plain(verdict.basis) if verdict.word != "unproved" else no_proof(verdict, last)]))
     tail = (f" {verdict.values}" if verdict.values else "") + (f"   ({how})" if how else "")
@@ -73,7 +73,7 @@ def shown(verdict: Verdict, message: Message) -> str:
 
 
 def no_proof(verdict: Verdict, because: str) -> str:
-    """What `unproved` says. Only the owner of a type or trait that is named can add an impl where the question leaves none open."""
+    """What `unproved` says. Only the owner of a type or trait that is named can add an impl where the query leaves none open."""
     question = verdict.question
     params = [f"`{param.name}`" for param in question.params]
     if params:
@@ -104,7 +104,7 @@ class Checked:
 
 
 def check_verdicts(summary: list[str], crates: list[str], answers: dict[str, Answer], places: dict[str, dict[str, list[Entry]]]) -> list[Checked]:
-    """Of each crate that it is coherent, not coherent, or not settled. Of std, and of crates that were not given, only a refusal is told."""
+    """Of each crate that it is coherent, not coherent, or not settled. Of std, and of crates that were not given, only a refusal is reported."""
     found = []
     for crate in crates:
         name, _, rest = next((s for s in summary if is_of(s, crate)), crate).partition(": ")

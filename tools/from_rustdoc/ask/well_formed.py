@@ -1,4 +1,4 @@
-"""Whether what a question writes fits the items: as many arguments as they take, and associated types that their traits have."""
+"""Whether what a query writes fits the items: as many arguments as they take, and associated types that their traits have."""
 from __future__ import annotations
 
 from typing import Iterable, Optional
@@ -51,7 +51,7 @@ class Fitting:
             self.has(bound, name)
 
     def declared(self, key: str) -> Optional[Declaration]:
-        """The item; none where it is not known, of which something else is said."""
+        """The item. None if it is not known, of which something else is said."""
         try:
             found = self.world.get(key)
             return None if found.is_opaque else found
@@ -83,7 +83,7 @@ class Fitting:
         raise BadInput(f"`{self.show.path(bound.key)}` has no associated type `{name}`" + (f": is it {listed(near)}?" if near else ""))
 
     def associated(self, bound: Bound, depth: int) -> Optional[set[str]]:
-        """The associated types of a trait and of those above it; none where they are not all known."""
+        """The associated types of a trait and of those above it. None if they are not all known."""
         declaration = self.declared(bound.key)
         if declaration is None or depth > MAXIMAL_DEPTH:
             return None

@@ -1,8 +1,8 @@
-"""Auto traits of public types: what held of a type in the old version is to hold in the new one.
+"""Auto traits of public types: a type that had one in the old version has to have it in the new one.
 
-The old version's documents say by which clauses a type has an auto trait: its impl is written, or rustdoc found the least clauses by which
-the fields have it (`is_synthetic`). Each such impl is asked for in the new version by its clauses. What has no proof there is lost if the
-old version has one. Where one of the two does not say, rustdoc's word on the new version settles it, and what that does not is told.
+The old version's documents say under which clauses a type has an auto trait: its impl is written, or rustdoc found the least clauses under
+which the fields have it (`is_synthetic`). Each such impl is a query to the new version under its clauses. Without a proof there it is lost
+if the old version has one. If one of the two gives no answer, rustdoc's impls of the new version decide, and the rest is reported.
 """
 from __future__ import annotations
 
@@ -25,7 +25,7 @@ KEPT, LOST, NOT_SAID = "kept", "lost", ""
 
 @dataclass
 class Asked:
-    """An impl of the old version as a question to either one; `key` is the old key of its type, `gone` what the new version has not."""
+    """An impl of the old version as a query to either one; `key` is the old key of its type, `gone` what the new version has not."""
     impl: Impl
     key: str
     old: Question
@@ -87,7 +87,7 @@ class AutoChanges:
         """Those that are written."""
         return [i for i in self.versions.impls(world) if i.trait is not None and isinstance(i.self_type, Named) and is_auto(world, i)]
 
-    # ---- what is told
+    # ---- what is reported
     def word(self, asked: Asked, before: Verdict, after: Verdict) -> str:
         """Empty where nothing is lost."""
         by_rustdoc = self.by_rustdoc(asked.impl)
@@ -130,7 +130,7 @@ class AutoChanges:
         return message
 
     def added(self) -> None:
-        """Impls of auto traits that are new: what types lose by them is told above."""
+        """Impls of auto traits that are new: what types lose by them is reported above."""
         before = {self.versions.header(self.versions.old, i) for i in self.impls(self.versions.old)}
         lost = {(m.spans[0].place if m.spans else None) for m in self.messages}
         for impl in self.impls(self.versions.new):

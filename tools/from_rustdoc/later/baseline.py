@@ -1,6 +1,6 @@
 """The older version of a project: which one is meant, its files in a folder of their own, and the documents of both versions.
 
-The files of a revision are kept with the documents, so that cargo finds nothing to do where it finds nothing changed. No hook of git is run.
+The files of a revision are stored with the documents, so that cargo finds nothing to do where it finds nothing changed. No hook of git is run.
 """
 from __future__ import annotations
 
@@ -23,7 +23,7 @@ from ..read.terms import BadInput
 # Neither hooks nor a program that watches files.
 GIT = ("-c", "core.hooksPath=/dev/null", "-c", "core.fsmonitor=false")
 LOCK = "Cargo.lock"
-# How many older versions of a project are kept, those that were compared last.
+# How many older versions of a project are stored, those that were compared last.
 KEPT = 4
 SHORT = 9
 
@@ -100,7 +100,7 @@ def changes(folder: str) -> list[str]:
 
 @dataclass
 class Here:
-    """What stands in a folder of a repository, asked of git once."""
+    """What is in a folder of a repository, asked of git once."""
     folder: str
 
     @functools.cached_property
@@ -112,7 +112,7 @@ class Here:
         return changes(self.folder)
 
     def is_at(self, commit: str, without: Sequence[str] = ()) -> bool:
-        """Whether a commit has the very files that stand here; `without` are names of files that do not count."""
+        """Whether a commit has the very files that are here; `without` are names of files that do not count."""
         is_changed = any(os.path.basename(name) not in without for name in self.changed)
         return not is_changed and git(self.folder, "rev-parse", f"{commit}^{{tree}}") == self.tree
 
@@ -170,7 +170,7 @@ def patterns(package: str) -> list[str]:
 
 
 def latest(here: Here, package: str, packages: list[str]) -> Older:
-    """The nearest tag that is not what stands here: of several packages one of this package, else one of none of them."""
+    """The nearest tag that is not what is here: of several packages one of this package, else one of none of them."""
     others = [tag for other in packages if other.replace("_", "-") != package.replace("_", "-") for tag in patterns(other)]
     kinds = ([patterns(package), [tag for tag in others if tag.startswith(tuple(package + between for between in "-@/"))]], [[], others])
     skipped: list[str] = []
@@ -190,7 +190,7 @@ def latest(here: Here, package: str, packages: list[str]) -> Older:
 
 
 def by_default(folder: str, wanted: list[str], packages: list[str]) -> list[tuple[Older, list[str]]]:
-    """The older versions where none is named, each with the packages that are compared with it (all, where there is one for all)."""
+    """The older versions where none is named, each with the packages that are compared with it (all, if there is one for all)."""
     here = Here(folder)
     if len(packages) <= 1:
         return [(latest(here, "", packages), wanted)]
@@ -205,7 +205,7 @@ def by_default(folder: str, wanted: list[str], packages: list[str]) -> list[tupl
 # ---- its files
 @contextlib.contextmanager
 def files_of(one: Older, folder: str) -> Iterator[str]:
-    """The folder of the older version. That of a revision stays for the next time where it can be kept."""
+    """The folder of the older version. That of a revision stays for the next time where it can be stored."""
     if one.folder:
         yield one.folder
         return
@@ -369,7 +369,7 @@ def older_words(words: list[str], data: dict[str, Any], name: str) -> list[str]:
 
 
 def revision_of(folder: str) -> str:
-    """The revision that stands in a folder; nothing where its files are none of git's."""
+    """The revision that is in a folder. Nothing if its files are none of git's."""
     if not found_by_git(folder, "ls-files", "--error-unmatch", "Cargo.toml"):
         return ""
     head = commit_of(folder, "HEAD")[:SHORT]

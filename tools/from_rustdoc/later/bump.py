@@ -18,7 +18,7 @@ def number(text: str) -> Optional[Number]:
 
 def release_type(old: str, new: str) -> str:
     """Which release leads from one version to the other: of `0.3.1` to `0.4.0` and `0.0.1` to `0.0.2` a major one, as of what begins at a
-    pre-release. Empty where the number does not grow, so that none is told."""
+    pre-release. Empty where the number does not grow, so that none is reported."""
     before, after = number(old), number(new)
     if before is None or after is None or not is_later(before, after):
         return ""

@@ -1,4 +1,4 @@
-"""Questions whose answers a release is judged by, asked in one of its two versions: each by the part of the crates that may matter."""
+"""Queries whose answers a release is judged by, asked in one of its two versions: each by the part of the crates that may matter."""
 from __future__ import annotations
 
 from dataclasses import dataclass
@@ -17,7 +17,7 @@ AT_ONCE = 60
 
 @dataclass
 class Claim:
-    """A question, and what is told unless the answer is yes. `word` is that of what is told where there is no proof."""
+    """A query, and the message unless the answer is yes. `word` is the message's word if there is no proof."""
     question: Question
     message: Message
     word: str = "breaking"
@@ -25,13 +25,13 @@ class Claim:
 
 @dataclass(frozen=True)
 class Programs:
-    """The program that answers, and the one that explains; the proved ones that are here where none is named."""
+    """The program that answers, and the one that explains: the proved ones that are here unless others are named."""
     answers: Optional[str] = None
     explains: Optional[str] = None
 
 
 class Judge:
-    """Has questions answered in one version."""
+    """Has queries answered in one version."""
 
     def __init__(self, world: World, programs: Programs) -> None:
         self.world = world
@@ -44,7 +44,7 @@ class Judge:
         return found
 
     def ask_together(self, questions: list[Question]) -> list[Verdict]:
-        """All by one text; what that does not settle by a text of its own, so that one that cannot be asked spoils none."""
+        """All by one text. A claim that it does not settle gets a text of its own, so that one that is not understood spoils none."""
         try:
             translation = cone_of_questions(self.world, questions)
             translation.build()
@@ -60,7 +60,7 @@ class Judge:
             return Verdict(question, "not settled", f"the question cannot be asked: {error}")
 
     def settle(self, claims: list[Claim]) -> list[Message]:
-        """What is told of the claims: nothing where there is a proof."""
+        """The messages for the claims: none if there is a proof."""
         found = []
         for claim, verdict in zip(claims, self.ask([claim.question for claim in claims])):
             if verdict.word != "yes":
@@ -73,7 +73,7 @@ class Judge:
         return message
 
     def reasons(self, verdict: Verdict) -> list[Message]:
-        """Why there is no proof; what might be done about it is not said of a release."""
+        """Why there is no proof. For a release it does not say what may be done about it."""
         return [note for note in why(verdict, self.programs.explains) if note.level == "note"] if verdict.word != "not settled" else []
 
 

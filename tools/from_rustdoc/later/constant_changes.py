@@ -1,6 +1,6 @@
 """What others can do with constants of a type: use them as patterns, which `derive(PartialEq)` allows, and borrow them, which a cell forbids.
 
-std has traits for both, `StructuralPartialEq` and `Freeze`, which no stable crate can name. So nothing is told of their impls, but of what is
+std has traits for both, `StructuralPartialEq` and `Freeze`, which no stable crate can name. So nothing is reported of their impls, but of what is
 lost by them, and only where others can have a constant of the type.
 """
 from __future__ import annotations
@@ -51,7 +51,7 @@ class ConstantChanges:
                 self.tell("constant-borrow-lost", new, "a constant of it cannot be borrowed for good any more: there is a cell in it")
 
     def is_as_before(self, old: Item, new: Item) -> bool:
-        """Whether who writes a value of the old type writes one of the new type; if not, that is told."""
+        """Whether who writes a value of the old type writes one of the new type; if not, that is reported."""
         names: dict[str, Type] = {p.name: q for p, q in zip(new.params, old.itself().arguments)}
         versions = self.versions
         before = [versions.common(versions.old, term) for term in versions.old.get(old.key).fields]
@@ -64,7 +64,7 @@ class ConstantChanges:
         return {world.key_of(i.self_type.key) for i in self.versions.impls(world) if trait_name(i.trait) == STRUCTURAL and isinstance(i.self_type, Named)}
 
     def has_equality(self, key: str) -> bool:
-        """Whether the new type has a `PartialEq` at all; of one that is lost it is told."""
+        """Whether the new type has a `PartialEq` at all. A lost one is reported for itself."""
         return any(trait_name(i.trait) == "PartialEq" and isinstance(i.self_type, Named) and self.versions.new.key_of(i.self_type.key) == key
                    for i in self.versions.impls(self.versions.new))
 

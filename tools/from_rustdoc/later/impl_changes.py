@@ -1,6 +1,6 @@
-"""What a release changes of impls. Each old one is asked for in the new version, with its clauses: a proof says that nothing is lost. Each
-new one that the old version does not prove stands in a section of its own, a line `later`, and the program says whether it is
-compatible; why it is not is this script's word."""
+"""What a release changes of impls. Each old one is a query to the new version, with its clauses: a proof says that nothing is lost. Each new
+one that the old version does not prove is in a section of its own, a line `later`, and the program says whether it is compatible. This
+script says why it is not."""
 from __future__ import annotations
 
 from dataclasses import dataclass, field
@@ -31,7 +31,7 @@ WITHOUT = {**dict.fromkeys(f"{BINARY} PartialEq PartialOrd".split(), "E0277 or E
            **dict.fromkeys((f"{name}Assign" for name in BINARY.split()), "E0277 or E0368"), **dict.fromkeys(("Neg", "Not"), "E0277 or E0600"),
            **dict.fromkeys(("DerefMut", "IndexMut"), "E0594 or E0596"), "Copy": "E0277, E0382 or E0507", "Index": "E0277 or E0608",
            "Deref": "E0277, E0599 or E0614", "CoerceUnsized": "E0277 or E0308"}
-# What nothing is told of.
+# What is never reported.
 KNOWN = "the old version proves it already"
 
 
@@ -61,7 +61,7 @@ class AskedImpl:
 
 
 class ImplChanges:
-    """`troubled` are old items whose impls are not compared, by their keys, with what was told of them; `unproved` are old impls of which the new
+    """`troubled` are old items whose impls are not compared, by their keys, with what was reported of them; `unproved` are old impls of which the new
     version has no proof."""
 
     def __init__(self, versions: Versions, troubled: dict[str, Message], with_private: bool, programs: Programs) -> None:
@@ -139,7 +139,7 @@ class ImplChanges:
             self.versions.old, self.versions.before, list(map(self.versions.old.key_of, header_keys(impl)[1:])))
 
     def is_uncompared(self, keys: list[str]) -> bool:
-        """Whether an impl names an old item of which it is told that it is another one; such impls are counted with that."""
+        """Whether an impl names an old item that is reported as another one. Such impls are counted with it."""
         trouble = next((key for key in keys if key in self.troubled), None)
         if trouble is not None:
             self.uncompared[trouble] = self.uncompared.get(trouble, 0) + 1
@@ -232,7 +232,7 @@ class ImplChanges:
 
     def judged(self, impl: Impl, before: Optional[Verdict]) -> Judged:
         """One added impl, as far as the program is not asked for it: what nobody else can name is in no section, and what a section cannot
-        say is told here."""
+        say is reported here."""
         assert impl.trait is not None
         world = self.versions.new
         if before is not None and before.word == "yes":
@@ -257,7 +257,7 @@ class ImplChanges:
         return versions.is_sealed(versions.old, old) if old is not None else versions.is_sealed(versions.new, trait)
 
     def ask_program(self) -> None:
-        """Has the program judge the impls that wait for it, by a section for each behind a text that has what their headers name."""
+        """Has the program judge the impls that wait for it, by a section for each after a text that has what their headers name."""
         waiting = [j for j in self.added if not j.word]
         for judged, verdict in zip(waiting, self.verdicts([j.impl for j in waiting])):
             judged.word = verdict.split()[0] if verdict else "not settled"
@@ -284,7 +284,7 @@ class ImplChanges:
         return [next(verdicts) if line else "" for line in lines]
 
     def meets(self, judged: Judged) -> None:
-        """What stands against an impl of which the program does not say that it is compatible; its where-clauses are looked at here."""
+        """Why an impl is not compatible, if the program does not say that it is. Its where-clauses are looked at here."""
         trait = trait_of(self.versions.new, judged.impl)
         assert trait is not None
         unsaid = "the text cannot say its header" if judged.word == "not settled" else ""
@@ -308,7 +308,7 @@ class ImplChanges:
 
 
 def trait_of(world: World, impl: Impl) -> Optional[Declaration]:
-    """The impl's trait; None where it is not known."""
+    """The impl's trait. None if it is not known."""
     assert impl.trait is not None
     try:
         return world.get(impl.trait.key, "trait", impl.trait.arguments)
@@ -322,7 +322,7 @@ def is_auto(world: World, impl: Impl) -> bool:
 
 
 def written_question(show: Show, impl: Impl) -> str:
-    """An impl as a question."""
+    """An impl as a query."""
     assert impl.trait is not None
     names = ", ".join(("const " if p.kind == "const" else "") + p.name for p in impl.params)
     where = ", ".join(f"{show.type(t)}: {show.bound(b)}" for t, b in impl.predicates)
@@ -330,7 +330,7 @@ def written_question(show: Show, impl: Impl) -> str:
 
 
 def asked_of_names(versions: Versions, terms: list[Type]) -> list[Predicate]:
-    """What the new version asks of whoever names these types of it: a new bound of one is told of it, and not of its impls too."""
+    """What users of these types of the new version have to prove: a new bound of a type is reported for it, and not for its impls too."""
     found: list[Predicate] = []
     for part in (part for term in terms for part in walk(term)):
         item = versions.after.items.get(versions.new.key_of(part.key)) if isinstance(part, Named) else None

@@ -1,5 +1,5 @@
 """What Rust infers by an impl alone: where one impl could apply to what is known of a bound's types, and an added one could too, types have to
-be written out. That breaks crates in rare uses, so it is told as `changed`."""
+be written out. That breaks crates in rare uses, so it is reported as `changed`."""
 from __future__ import annotations
 
 from typing import Iterator, Optional
@@ -20,7 +20,7 @@ Terms = tuple[Type, ...]
 
 
 class Inference:
-    """`others` says what added impls are in the old version; `told` are old impls of which enough is told."""
+    """`others` says what added impls are in the old version; `told` are old impls that are reported already."""
 
     def __init__(self, versions: Versions, others: OtherImpls, told: set[int]) -> None:
         self.versions = versions
@@ -28,7 +28,7 @@ class Inference:
         self.told = set(told)
 
     def by(self, impl: Impl) -> Optional[Message]:
-        """What is told of an added impl: of one old impl that was the only one that could apply, once."""
+        """What is reported of an added impl: of one old impl that was the only one that could apply, once."""
         assert impl.trait is not None
         try:
             header, trait = self.others.in_old(impl), self.versions.old.get(self.versions.old_key(impl.trait.key))

@@ -1,7 +1,7 @@
 """What a release changes of items that others can name: paths, parameters, bounds, supertraits, associated types, and what a trait asks.
 
-What is compared as it is written is told at once; of bounds it is asked whether the old ones prove the new ones, so that nothing is
-told where nothing is lost.
+Items that are compared as they are written are reported at once. For bounds a query decides whether the old ones prove the new ones, so
+that nothing is reported if nothing is lost.
 """
 from __future__ import annotations
 
@@ -60,7 +60,7 @@ def is_unsized(generics: Generics, name: str) -> bool:
 
 
 class ItemChanges:
-    """`messages` are told as they are; `claims` are to be asked in the new version; `not_judged` counts what is neither. `troubled` are items,
+    """`messages` are reported as they are; `claims` are to be asked in the new version; `not_judged` counts what is neither. `troubled` are items,
     by their old keys, whose impls cannot be compared: they are gone, or take other arguments. `is_same` says whether all sources are the
     same."""
 
@@ -277,7 +277,7 @@ class ItemChanges:
                                  change(code, text, span)))
 
     def asked(self, params: list[Param], predicates: list[Predicate], subject: Type, bound: Bound) -> str:
-        """A question as it is written."""
+        """A query as it is written."""
         names = ", ".join(("const " if p.kind == "const" else "") + p.name for p in params if p.name != ITSELF)
         where = ", ".join(self.shown(p) for p in predicates if p != self.unsized())
         return (f"<{names}> " if names else "") + self.shown((subject, bound)) + (f" where {where}" if where else "")
@@ -363,7 +363,7 @@ class ItemChanges:
                         yield later
 
     def there(self, bound: Bound) -> Optional[Bound]:
-        """A bound of the old version in the new one; None where what it names is gone, which is told of that."""
+        """A bound of the old version in the new one. None if what it names is gone, which is reported of that."""
         try:
             return self.versions.bound_to_new(bound)
         except Gone:

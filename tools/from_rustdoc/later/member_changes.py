@@ -1,5 +1,5 @@
-"""What a release changes of functions, constants, statics, macros, and of what stands in types and traits; and the count of what changed and
-is not judged. Two things are the same if they are written in one form (`written`). Of what is not, a class is told, or nothing where old uses
+"""What a release changes of functions, constants, statics, macros, and of what is in types and traits; and the count of what changed and
+is not judged. Two things are the same if they are written in one form (`written`). Of what is not, a class is reported, or nothing where old uses
 go on, or it is counted: silent is nothing."""
 from __future__ import annotations
 
@@ -269,7 +269,7 @@ class MemberChanges:
                      and i.trait.key.endswith("trait.Drop") and isinstance(i.self_type, Named) and world.key_of(i.self_type.key) == key), None)
 
     def owns(self, term: Type, above: tuple[str, ...] = ()) -> Optional[bool]:
-        """Whether a type of the old version has something to drop; None where that is not known."""
+        """Whether a type of the old version has something to drop. None if that is not known."""
         world = self.versions.old
         inside: Iterable[Type] = parts(term)
         if isinstance(term, (Primitive, Never, Reference, Pointer, Function)):

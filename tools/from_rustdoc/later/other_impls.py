@@ -26,7 +26,7 @@ MAXIMAL_TYPES = 4
 
 
 def some(term: Type) -> Type:
-    """A type in the place of what may be any."""
+    """A type in place of what may be any."""
     return Primitive("u8") if isinstance(term, Unknown) else rebuilt(term, some)
 
 
@@ -124,7 +124,7 @@ class OtherImpls:
 
     # ---- what other crates have
     def met(self, trait: Declaration, impl: Impl) -> str:
-        """An impl of another crate, by its header, and what its crate has beside it."""
+        """An impl of another crate, by its header, and what its crate has next to it."""
         header, needs = self.search(trait, impl)
         beside = ", ".join(f"`{text}`" for text in dict.fromkeys(needs))
         return f"`{header}`" + (f" (with {beside})" if beside else "")
@@ -156,7 +156,7 @@ class OtherImpls:
         return ("unsafe " if item is not None and item.is_unsafe else "") + self.show.header(header)
 
     def widened(self, special: Impl) -> Impl:
-        """With parameters in the place of what the old version has no name for: where they stand behind one's own type, or in a struct that is
+        """With parameters in place of what the old version has no name for: where they come after one's own type, or in a struct that is
         not fundamental, the orphan rule allows any."""
         assert special.trait is not None
         found, names = special.copy(), [f"X{n}" for n in range(1, MAXIMAL_TYPES + 1)]
@@ -284,7 +284,7 @@ class OtherImpls:
 
     @staticmethod
     def with_output(clause: Bound, asked: Bound) -> Bound:
-        """A closure that is behind a reference gives what the reference is asked for."""
+        """A closure that is after a reference gives what the reference is asked for."""
         is_fn = any(clause.key.endswith(f"trait.{name}.html") or clause.key.endswith(f"trait.{name}") for name in FN_TRAITS)
         return Bound(clause.key, clause.arguments, asked.constraints) if is_fn and not clause.constraints else clause
 

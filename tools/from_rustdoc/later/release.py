@@ -28,7 +28,7 @@ ORDER = ("breaking", "not settled", "changed", "compatible", "new", "sealed", "p
 
 @dataclass
 class Release:
-    """What is told of a release, worst first. `not_judged` counts what changed and has no class, by kind. `kind` is a major, minor or patch
+    """What is reported of a release, worst first. `not_judged` counts what changed and has no class, by kind. `kind` is a major, minor or patch
     release, or none, `is_given` says that this is not by the versions' numbers."""
     crate: str
     versions: tuple[str, str]

@@ -18,7 +18,7 @@ from .written import STATIC, Form, attributes, clauses
 
 Owners = tuple[Optional[Item], Optional[Item]]
 NOBODY: Owners = (None, None)
-# What stands in front of the names of the new version's parameters, beside those of the old one.
+# What is in front of the names of the new version's parameters, next to those of the old one.
 NEW = "~"
 UNSIZED = (Slice, Dyn, Named, Projection, Unsayable)
 
@@ -192,7 +192,7 @@ class SignatureChanges:
         return self.versions.bound_to_new(put_bound(rebuilt_bound(bound, lambda term: whole(term, owners[0])), {"Self": Parameter(ITSELF)}))
 
     def fresh(self, signature: Signature, owners: Owners) -> dict[str, Type]:
-        """What the new version's parameters are called beside the old one's."""
+        """What the new version's parameters are called next to the old one's."""
         types = {p["name"] for p in signature.generics["params"] if "type" in p["kind"]}
         found: dict[str, Type] = {name: Parameter(f"{NEW}{name}") if name in types else Constant(f"{NEW}{name}") for name in signature.names}
         found |= {name: Parameter(f"New{name}") for name in signature.results}

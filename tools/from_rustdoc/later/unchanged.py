@@ -49,8 +49,8 @@ class Unchanged:
         return True
 
     def found(self, key: str, is_asked: bool) -> Optional[list[str]]:
-        """The types of this crate that stand in a type; None where it is not the same by itself. Of one that is asked itself, with its own
-        parameters as arguments, clauses on these are the question's matter; of others they lead to impls that may have changed."""
+        """The types of this crate that are in a type. None if it is not the same by itself. Of one that is asked itself, with its own
+        parameters as arguments, clauses on these are the query's matter; of others they lead to impls that may have changed."""
         versions = self.versions
         try:
             before, after = versions.old.get(key), versions.new.get(versions.newer.get(key, key))
@@ -62,7 +62,7 @@ class Unchanged:
         return self.within(before.fields)
 
     def form(self, world: World, declaration: Declaration, is_asked: bool) -> Optional[Form]:
-        """The parameters, fields and bounds of a type, in the form of both versions; None where more than these decides."""
+        """The parameters, fields and bounds of a type, in the form of both versions. None if more than these decides."""
         if declaration.is_opaque or any(decides_more(part, is_asked) for term in declaration.fields for part in walk(term)):
             return None
         values: dict[str, Type] = {p.name: Constant(f"P{n}") if p.kind == "const" else Parameter(f"P{n}") for n, p in enumerate(declaration.params)}
@@ -70,7 +70,7 @@ class Unchanged:
         return [p.kind for p in declaration.params], [self.versions.common(world, put(t, values)) for t in declaration.fields], bounds
 
     def impls(self, world: World, declaration: Declaration, is_asked: bool) -> Optional[set[object]]:
-        """What is written of the type's auto traits; None where a clause asks for another trait, of more than a parameter of the type."""
+        """What is written of the type's auto traits. None if a clause asks for another trait, of more than a parameter of the type."""
         found: set[object] = set()
         for impl in self.written[id(world)].get(declaration.key, []):
             if any(not is_sizedness(b) and world.key_of(b.key) not in self.autos and not (is_asked and isinstance(t, Parameter)) for t, b in impl.predicates):

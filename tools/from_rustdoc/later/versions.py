@@ -155,7 +155,7 @@ class Versions:
 
     # ---- what is equal in both
     def common_key(self, world: World, key: str) -> str:
-        """One key for both versions: that of the old one, where there is one. What is declared in a body goes by its name."""
+        """One key for both versions: that of the old one, if there is one. What is declared in a body goes by its name."""
         own = world.key_of(key)
         if own.startswith("hidden:"):
             _, crate, _, name = own.split(":", 3)
@@ -189,7 +189,7 @@ def values_of(impl: Impl) -> dict[str, Type]:
 
 
 def pairs_of(before: Surface, key: str, after: Surface, later: str) -> list[tuple[str, str]]:
-    """What one path names in both versions, and what stands behind it where it is an alias of one."""
+    """What one path names in both versions, and what comes after it where it is an alias of one."""
     found = [(before.behind.get(key, key), after.behind.get(later, later))]
     return found + [(key, later)] if key in before.behind and later in after.behind else found
 
@@ -200,7 +200,7 @@ def numbered(impl: Impl) -> dict[str, Type]:
 
 
 def parameter_order(impl: Impl) -> list[str]:
-    """An impl's parameters in the order in which they stand in its header."""
+    """An impl's parameters in the order in which they are in its header."""
     own = [p.name for p in impl.params]
     names: list[str] = []
     assert impl.trait is not None
@@ -278,5 +278,5 @@ def names_private(world: World, surface: Surface, keys: list[str]) -> bool:
 
 
 def plain_params(params: list[Param]) -> list[Param]:
-    """The parameters of a question: defaults say nothing there."""
+    """The parameters of a query: defaults say nothing there."""
     return [Param(p.kind, p.name) for p in params]

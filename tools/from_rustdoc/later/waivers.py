@@ -1,4 +1,4 @@
-"""Changes that are waived, each with a reason: what a waiver hides is counted and said, and a waiver that waives nothing is told."""
+"""Changes that are waived, each with a reason: what a waiver hides is counted and said, and a waiver that waives nothing is reported."""
 from __future__ import annotations
 
 import re
@@ -42,7 +42,7 @@ def waive(release: Release, waivers: Sequence[Waiver]) -> None:
 
 
 def unused(waivers: Iterable[Waiver]) -> list[Message]:
-    """What is told of waivers that waive nothing."""
+    """What is reported of waivers that waive nothing."""
     return [Message(f"a waiver in {waiver.place} waives nothing: {waiver.shown()}; {meant(waiver) or 'remove it'}", "waiver-unused", "waives nothing")
             for waiver in waivers if not waiver.count]
 

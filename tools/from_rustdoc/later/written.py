@@ -15,7 +15,7 @@ ATTRIBUTES = ("repr", "no_mangle", "export_name", "link_section", "link_name", "
 
 
 class Form:
-    """The forms of what stands in one item. `erased` leaves lifetimes out. Names of parameters are given by their places; a lifetime that is
+    """The forms of what is in one item. `erased` leaves lifetimes out. Names of parameters are given by their places; a lifetime that is
     not among them goes by its place among those that occur, where an elided one of a result is what Rust takes it for."""
 
     def __init__(self, crate: JsonCrate, common: Callable[[str], str], names: list[str], erased: bool = False, met: Optional[dict[str, str]] = None) -> None:
@@ -91,8 +91,8 @@ def text(form: Any) -> str:
 
 
 def clauses(crate: JsonCrate, common: Callable[[str], str], body: dict[str, Any], names: list[str], met: Optional[dict[str, str]] = None) -> dict[str, str]:
-    """The bounds that stand in an item's body, in its list of parameters and behind it, in their form, each with that without lifetimes: empty
-    for one that speaks of what outlives what. `met` are the places of lifetimes by what stands before."""
+    """The bounds that are in an item's body, in its list of parameters and after it, in their form, each with that without lifetimes: empty
+    for one that speaks of what outlives what. `met` are the places of lifetimes by what comes before."""
     generics = body["generics"]
     found: list[tuple[Any, Any]] = [({"generic": "Self"}, bound) for bound in body.get("bounds", [])]
     for param in generics["params"]:

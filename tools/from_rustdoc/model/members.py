@@ -1,4 +1,4 @@
-"""What is public and is no type or trait of its own: functions, constants, statics, macros, modules, and what stands in types and traits."""
+"""What is public and is no type or trait of its own: functions, constants, statics, macros, modules, and what is in types and traits."""
 from __future__ import annotations
 
 from dataclasses import dataclass, field
@@ -16,7 +16,7 @@ INSIDE = {"function": "method", "assoc_const": "associated constant"}
 @dataclass
 class Member:
     """`item` is what the JSON of `crate` says of it; both are missing if its crate was not given, and `other` is its key then. `impl` is the
-    inherent impl or the trait that it stands in."""
+    inherent impl or the trait that it is in."""
     kind: str
     name: str
     path: str
@@ -57,7 +57,7 @@ def inherent_impls(crate: JsonCrate) -> dict[str, list[dict[str, Any]]]:
 
 
 def members_of(crate: JsonCrate, item: dict[str, Any], path: str, impls: list[dict[str, Any]]) -> Members:
-    """What stands in a type or trait: fields and variants, private fields too, public methods and constants, and a trait's own."""
+    """What is in a type or trait: fields and variants, private fields too, public methods and constants, and a trait's own."""
     found: Members = {}
 
     def take(kind: str, name: str, inside: dict[str, Any], **more: Any) -> None:
@@ -111,7 +111,7 @@ def shape_of(crate: JsonCrate, item: dict[str, Any]) -> Shape:
 class Signature:
     """A function's parameters and result. `params` are those of its impl or trait, its own, and one for each `impl Trait` among its
     parameters; `own` are its own that can be named, `made` counts the `impl Trait`s. `results` are the bounds of each `impl Trait` of the
-    result, which stands in `output` as a parameter. `written` is the whole as JSON."""
+    result, which is in `output` as a parameter. `written` is the whole as JSON."""
     generics: dict[str, Any]
     written: dict[str, Any]
     inputs: list[Type]

@@ -1,4 +1,4 @@
-"""Types, bounds and impls as Rust writes them, for reports and for questions to rustc."""
+"""Types, bounds and impls as Rust writes them, for reports and for queries to rustc."""
 from __future__ import annotations
 
 from ..read.html_docs import is_std_key

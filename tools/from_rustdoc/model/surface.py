@@ -205,7 +205,7 @@ class SurfaceReader:
         return next((int(n) for n, p in crate.json["paths"].items() if p["crate_id"] == 0 and p["path"][1:] == path[1:]), None)
 
     def add(self, path: tuple[str, ...], key: str, kind: str, is_glob: bool, number: Optional[tuple[JsonCrate, int]]) -> None:
-        """What stands in a module itself hides what a glob brings."""
+        """What is in a module itself hides what a glob brings."""
         if number is not None:
             self.numbers.setdefault(key, number)
         if is_glob:
@@ -259,7 +259,7 @@ class SurfaceReader:
 
 
 def terms_of_item(item: Item) -> list[Type]:
-    """The types that stand in what others see of a type or trait."""
+    """The types that are in what others see of a type or trait."""
     bounds = [b for found in item.associated.values() for b in found.bounds] + item.supers
     found = [term for members in item.members.values() for member in members for term in terms_of(member)]
     return [*found, *filter(None, [item.target, *(p.default for p in item.params)]), *(term for bound in bounds for term in bound_terms(bound))]

@@ -19,7 +19,7 @@ from .terms import BadInput
 FLAGS = "-Z unstable-options --output-format json --document-private-items --document-hidden-items"
 HERE = os.path.dirname(os.path.abspath(__file__))
 PINS = ("rust-toolchain.toml", "rust-toolchain")
-# What is shared of documents, and what says beside one that it was taken from there.
+# What is shared of documents, and what says next to one that it was taken from there.
 SHARED, TAKEN = "shared", "taken"
 LIBRARIES = ("lib", "rlib", "dylib", "cdylib", "staticlib")
 # What cargo says of its work where there was none.
@@ -103,7 +103,7 @@ def command(words: list[str], folder: str, environment: dict[str, str] | None = 
 
 
 def pinned(folder: str) -> str:
-    """What pins the toolchain of the folder, to be told where that may be the reason."""
+    """What pins the toolchain of the folder, to be reported where that may be the reason."""
     place = os.path.abspath(folder)
     while not os.environ.get("RUSTUP_TOOLCHAIN"):
         for name in PINS:
@@ -202,7 +202,7 @@ def unique_names(units: list[Unit], members: list[str]) -> dict[str, str]:
 
 def align(old: Project, new: Project) -> None:
     """Gives a crate that is there more than once in one of two versions of a project the same names in both: with the part of its version that
-    a compatible one has too, where that tells them apart."""
+    a compatible one has too, where that distinguishes them."""
     both = (old, new)
     doubled = {name.partition("@")[0] for project in both for name in project.units if "@" in name}
     for project in both:
@@ -295,7 +295,7 @@ def flags_of_check(extra: list[str]) -> list[str]:
 
 def messages(words: list[str], folder: str, environment: dict[str, str], told: str) -> Iterator[dict[str, Any]]:
     """What cargo says for machines. What it says for people is passed on if it works, after a line of what is done."""
-    # (Imported here, as below what an answer does not need: to load it takes long beside that.)
+    # (Imported here, as below what an answer does not need: to load it takes long next to that.)
     import tempfile
     with tempfile.TemporaryFile() as said:
         try:
@@ -380,7 +380,7 @@ def add_cfgs(project: Project, folder: str) -> None:
         project.links.cfgs[name] = frozenset(said_by_rustc(folder, "cfg", unit.target).split("\n")).union(unit.cfgs)
 
 
-# ---- what depends on `cfg(doc)`, kept while the documents stay
+# ---- what depends on `cfg(doc)`, stored while the documents stay
 def states(files: Iterable[str]) -> list[list[int]]:
     """By what a document is known to be the one that was read: its time, its size and its place on the disk."""
     return [[found.st_mtime_ns, found.st_size, found.st_ino] for found in map(os.stat, files)]

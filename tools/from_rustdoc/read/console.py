@@ -1,4 +1,4 @@
-"""Standard error: what is noted, warned of and failed, and the progress, which stands on a terminal alone."""
+"""Standard error: what is noted, warned of and failed, and the progress, which is on a terminal alone."""
 from __future__ import annotations
 
 import os
@@ -18,7 +18,7 @@ def is_coloured(choice: str, is_terminal: bool) -> bool:
 
 
 class Console:
-    """`name` stands before each line of a script; a subcommand of cargo has the level there, as cargo's own lines do."""
+    """`name` comes before each line of a script; a subcommand of cargo has the level there, as cargo's own lines do."""
 
     def __init__(self) -> None:
         self.begin("from-rustdoc")
@@ -39,7 +39,7 @@ class Console:
         return sys.stderr.isatty() and not self.is_quiet and os.environ.get("TERM") != "dumb" and os.environ.get("CARGO_TERM_PROGRESS_WHEN") != NEVER
 
     def note(self, text: str) -> None:
-        """What is told unless the call is quiet."""
+        """What is reported unless the call is quiet."""
         if not self.is_quiet:
             self.line("note", text)
 

@@ -6,7 +6,7 @@ import os
 import re
 from typing import Iterable, Iterator, Optional, Union
 
-# What is set where a crate is built, as `unix` and `feature="std"`; None where that is not known.
+# What is set where a crate is built, as `unix` and `feature="std"`. None if that is not known.
 Cfgs = Optional[frozenset[str]]
 Predicate = Union[str, tuple[str, tuple["Predicate", ...]]]
 BEGINS = re.compile(r"\bcfg(_attr)?\s*\(")

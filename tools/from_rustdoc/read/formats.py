@@ -45,7 +45,7 @@ class Agreement:
 
     # ---- forms of values
     def value(self, value: Any, form: Any, where: str = "", name: str = "") -> None:
-        """A value of any of the types that `rustdoc_types` has; `where` and `name` are the object and the field that it stands in."""
+        """A value of any of the types that `rustdoc_types` has; `where` and `name` are the object and the field that it is in."""
         origin, inside = get_origin(form), get_args(form)
         if form is Unread:
             return

@@ -1,4 +1,4 @@
-"""A reader of Rust's impl headers, declarations and types as they are written: in the documents of std, and in questions."""
+"""A reader of Rust's impl headers, declarations and types as they are written: in the documents of std, and in queries."""
 from __future__ import annotations
 
 import re
@@ -21,7 +21,7 @@ class NotUnderstood(Exception):
 
 
 def qualifier(is_unsafe: bool, abi: str) -> str:
-    """What stands before the `fn` of a pointer; `abi` is empty for Rust's own."""
+    """What comes before the `fn` of a pointer; `abi` is empty for Rust's own."""
     return ("unsafe " if is_unsafe else "") + (f'extern "{abi}" ' if abi else "")
 
 
@@ -179,7 +179,7 @@ class Reader:
             self.skip_binder()
             return None
         if self.peek()[0] == "unknown":
-            # `?Sized`, in a text where `?name` is an unknown.
+            # `?Sized`, in a text where `?name` is a variable.
             maybe = True
             self.tokens[self.at] = ("word", self.peek()[1][1:])
         self.wants_trait = True

@@ -54,7 +54,7 @@ def with_patterns(header: str) -> str:
 
 
 def json_folder(html_folder: str) -> Optional[str]:
-    """The folder of std's JSON beside that of its HTML documents, if the component is installed."""
+    """The folder of std's JSON next to that of its HTML documents, if the component is installed."""
     folder = os.path.join(os.path.dirname(html_folder.rstrip("/")), "json")
     return folder if all(os.path.exists(os.path.join(folder, c + ".json")) for c in CRATES) else None
 
@@ -124,7 +124,7 @@ class Pages:
         raise NotUnderstood(f"too many redirects at {path}")
 
     def key(self, path: str) -> Optional[str]:
-        """The key of the item that the page documents; None where there is no page."""
+        """The key of the item that the page documents. None if there is no page."""
         if path in self.keys:
             return self.keys[path]
         key = None
@@ -170,7 +170,7 @@ class Pages:
         return None
 
     def own_page(self, key: str) -> str:
-        """The path of the item's page in the crate that declares it, where there is one."""
+        """The path of the item's page in the crate that declares it, if there is one."""
         path = self.first_page[key]
         home = rust_crate_of(key)
         if path.split("/")[0] == home:
@@ -231,7 +231,7 @@ class Pages:
                 yield with_patterns(header.group(1)), found.group(3)
 
     def foreign_headers(self, trait_page: str, page_text: str) -> Iterator[tuple[str, str]]:
-        """The impls of a trait in other crates of std: crate and header. They stand in the script that the page names."""
+        """The impls of a trait in other crates of std: crate and header. They are in the script that the page names."""
         named = re.search(r'src="(?:\.\./)*(trait\.impl/[^"]*\.js)"', page_text)
         if not named:
             raise NotUnderstood(f"{trait_page} names no list of impls in other crates")

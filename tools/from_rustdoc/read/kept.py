@@ -1,6 +1,6 @@
-"""What was read, kept from one call to the next: crates by the hash of their JSON, std's pages one by one as they are asked for.
+"""What was read, stored from one call to the next: crates by the hash of their JSON, std's pages one by one as they are asked for.
 
-All is kept under XDG_CACHE_HOME (else ~/.cache) in `celtisdarts`. What is kept names the sources of this tool and of std's documents that it was
+All is stored under XDG_CACHE_HOME (else ~/.cache) in `celtisdarts`. What is stored names the sources of this tool and of std's documents that it was
 made by, and each entry has a sum: what was made by others, or is damaged, is made anew. Entries are items of `terms`, and no other
 class is loaded from them.
 """
@@ -26,7 +26,7 @@ from .terms import ANY_HEAD, Declaration, Impl, Type, head_of
 
 
 class Damaged(Exception):
-    """What was kept cannot be read; it has to be made anew."""
+    """What was stored cannot be read; it has to be made anew."""
 
 
 # ---- values as bytes
@@ -48,7 +48,7 @@ def unpacked(data: bytes) -> Any:
     return TermReader(io.BytesIO(data[4:])).load()
 
 
-# ---- where it is kept, and of what
+# ---- where it is stored, and of what
 def folder() -> str:
     return os.path.join(cache_folder(), "from-rustdoc")
 
@@ -78,7 +78,7 @@ def remove_stores() -> None:
 
 def written(path: str, data: bytes) -> None:
     """Writes the whole file or nothing."""
-    # (Imported here, as below and in other modules, what a question does not need: to load it takes long beside an answer.)
+    # (Imported here, as below and in other modules, what a query does not need: to load it takes long next to an answer.)
     import tempfile
     os.makedirs(os.path.dirname(path), exist_ok=True)
     number, name = tempfile.mkstemp(dir=os.path.dirname(path))
@@ -155,7 +155,7 @@ def data_of(crate: JsonCrate) -> dict[str, Any]:
 
 
 class Keeper:
-    """The crates that are kept, and the store of std."""
+    """The crates that are stored, and the store of std."""
 
     def __init__(self, pages: Pages) -> None:
         self.of_tool = hashlib.sha256((tool_sum() + docs_sum(pages)).encode()).hexdigest()
@@ -172,7 +172,7 @@ class Keeper:
             read = JsonCrate(file, pages, own, artifacts)
             externals = read.externals
             self.store.put("externals", total, externals)
-        # What it says of other crates goes by their names. Keys of std's items stand in what is kept of a crate, so it goes with the very store that
+        # What it says of other crates goes by their names. Keys of std's items are in what is stored of a crate, so it belongs to the very store that
         # gave them out.
         named = [external_name(name, stem, artifacts) for name, stem in externals]
         name = hashlib.sha256(repr((total, self.of_tool, self.store.made, own, named)).encode()).hexdigest()
@@ -242,7 +242,7 @@ class Store:
                 pass
 
     def get(self, kind: str, name: str) -> Any:
-        """What is kept, None where nothing is."""
+        """What is stored, None where nothing is."""
         row = self.base.execute("select data from thing where kind = ? and name = ?", (kind, name)).fetchone()
         return unpacked(row[0]) if row else None
 

@@ -15,6 +15,6 @@ def nearest(word: str, known: Iterable[str]) -> str:
 
 
 def hint(word: str, known: Iterable[str]) -> str:
-    """What is said behind a word that is not known."""
+    """What is said after a word that is not known."""
     found = nearest(word, known)
     return f"; did you mean `{found}`?" if found else ""

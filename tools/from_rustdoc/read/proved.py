@@ -14,7 +14,7 @@ from typing import Any, Iterator, Optional
 # (This file is tools/from_rustdoc/read/proved.py.)
 TOP = os.path.dirname(os.path.dirname(os.path.dirname(os.path.dirname(os.path.abspath(__file__)))))
 LIBRARY = "celtisdarts_c"
-# Those of this tool, in an order in which none imports one behind it.
+# Those of this tool, in an order in which none imports one after it.
 PACKAGES = ("read", "model", "write", "report", "ask", "later")
 # Prints the path of the proved program, by the very conditions of the script `celtisdarts`.
 FIND = '. "$here/tools/program.sh" && of_program "$wanted" && if is_current; then echo "$built"; elif is_there "$released" && is_noted "$released" && is_of_these_sources; then echo "$released"; fi'
@@ -24,13 +24,13 @@ SETTLED = 2.0
 
 
 def cache_folder() -> str:
-    """What this tool keeps from one call to the next stands there."""
+    """What this tool keeps from one call to the next is there."""
     return os.path.join(os.environ.get("XDG_CACHE_HOME") or os.path.expanduser("~/.cache"), "celtisdarts")
 
 
 @functools.lru_cache(maxsize=None)
 def state() -> Optional[str]:
-    """The state of all that these conditions look at; None where something of it was written, or removed, just now."""
+    """The state of all that these conditions look at. None if something of it was written, or removed, just now."""
     files = sorted(looked_at())
     return state_of(files) if all(map(os.path.exists, files)) else None
 
@@ -53,7 +53,7 @@ def names_in(folder: str) -> list[str]:
 
 
 def state_of(files: list[str]) -> Optional[str]:
-    """A sum of the sizes, times and places of files; None where one of them was written just now. Not all have to be there."""
+    """A sum of the sizes, times and places of files. None if one of them was written just now. Not all have to be there."""
     total = hashlib.sha256()
     newest = 0.0
     for file in files:
@@ -69,7 +69,7 @@ def state_of(files: list[str]) -> Optional[str]:
 
 @functools.lru_cache(maxsize=None)
 def proved_program(name: str = "celtisdarts") -> Optional[str]:
-    """The proved program of the sources that stand here: the one that was built here, else that of release/; None where there is none. The
+    """The proved program of the sources that are here: the one that was built here, else that of release/. None if there is none. The
     library for C is found in the same way."""
     file = os.path.join(cache_folder(), f"proved-{name}.json")
     now = state()
@@ -98,7 +98,7 @@ def tool_sum() -> str:
 
 
 def known(file: str, state: Optional[str]) -> Optional[str]:
-    """What was found in this state and kept by `keep`."""
+    """What was found in this state and stored by `keep`."""
     with contextlib.suppress(OSError, ValueError, KeyError, TypeError), open(file, encoding="utf-8") as handle:
         found = json.load(handle)
         if state is not None and found["state"] == state:
@@ -107,7 +107,7 @@ def known(file: str, state: Optional[str]) -> Optional[str]:
 
 
 def keep(file: str, data: dict[str, Any]) -> None:
-    """Writes the whole file or nothing; where nothing can be kept, it is found again."""
+    """Writes the whole file or nothing; where nothing can be stored, it is found again."""
     import tempfile
     with contextlib.suppress(OSError):
         os.makedirs(os.path.dirname(file), exist_ok=True)

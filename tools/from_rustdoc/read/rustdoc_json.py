@@ -491,7 +491,7 @@ class JsonCrate:
         return Projection(self.type(body["self_type"], itself), bound, body["name"])
 
     def with_keys(self, written: Any) -> Any:
-        """A part of the JSON with the keys of items in the place of their numbers, which differ from file to file."""
+        """A part of the JSON with the keys of items in place of their numbers, which differ from file to file."""
         if isinstance(written, list):
             return [self.with_keys(part) for part in written]
         if not isinstance(written, dict):

@@ -1,4 +1,4 @@
-"""rustdoc's JSON as it is read: the fields of each object, in the format with the number `FORMAT`. What stands here is what the tool may look at.
+"""rustdoc's JSON as it is read: the fields of each object, in the format with the number `FORMAT`. What is here is what the tool may look at.
 
 A class is an object with these fields. One that is not total is one of several forms: an object with one of these keys, or a word of `WORDS`. Its
 comment is what messages call it. `Unread` fields may be there, and no answer looks at them; objects of `OPEN` may have any others.
@@ -417,5 +417,5 @@ class Crate(TypedDict):
 
 OPEN = (Item, Span, ItemPath, ExternalCrate, Crate, OtherImpl, CutFunction, AssocConst)
 WORDS: dict[Any, tuple[str, ...]] = {Argument: ("infer",), Type: ("infer",), StructKind: ("unit",), VariantKind: ("plain",)}
-# What a field was called before, by the object that it stands in.
+# What a field was called before, by the object that it is in.
 OLDER: dict[Any, dict[str, str]] = {Path: {"path": "name"}}

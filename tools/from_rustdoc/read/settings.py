@@ -1,4 +1,4 @@
-"""What `[package.metadata.celtisdarts]` and `[workspace.metadata.celtisdarts]` say: questions and what is expected of them, changes that are
+"""What `[package.metadata.celtisdarts]` and `[workspace.metadata.celtisdarts]` say: queries and what is expected of them, changes that are
 waived, and sets of features to try. It is read strictly: what is not known there is an error, so that nothing is expected or waived in vain."""
 from __future__ import annotations
 
@@ -18,7 +18,7 @@ ALL_FEATURES = "all"
 
 @dataclass
 class Expected:
-    """A question, and the answer that it is to have."""
+    """A query, and the answer that it is to have."""
     question: str
     answer: str
 
@@ -41,7 +41,7 @@ class Waiver:
 
 @dataclass
 class Settings:
-    """`sets` are cargo's words for each set of features; None where none is given."""
+    """`sets` are cargo's words for each set of features. None if none is given."""
     asks: list[Expected] = field(default_factory=list)
     waivers: list[Waiver] = field(default_factory=list)
     sets: Optional[list[list[str]]] = None

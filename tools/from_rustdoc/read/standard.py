@@ -1,6 +1,6 @@
 """The standard library, read from its documents into the intermediate form: declarations, the impls of a trait, auto traits of a type.
 
-`found` counts: each impl header that is read is kept there, and what becomes of it is put beside it later. None goes without a word.
+`found` counts: each impl header that is read is stored there, and what becomes of it is put next to it later. None goes without a word.
 """
 from __future__ import annotations
 

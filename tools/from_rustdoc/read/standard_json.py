@@ -38,7 +38,7 @@ class StdJsonCrate(JsonCrate):
 
 
 class JsonPages(Pages):
-    """Keys of std's items by the paths of its JSON, in the place of pages."""
+    """Keys of std's items by the paths of its JSON, in place of pages."""
 
     def __init__(self, folder: str) -> None:
         super().__init__(folder)

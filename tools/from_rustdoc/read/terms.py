@@ -35,7 +35,7 @@ class Parameter:
 
 @dataclass(frozen=True)
 class Unknown:
-    """`?name` of a question."""
+    """`?name` of a query."""
     name: str
 
 
@@ -74,7 +74,7 @@ class Tuple:
 
 @dataclass(frozen=True)
 class Function:
-    """`how` is what stands before `fn`: nothing, one of `FUNCTIONS`, or what no text has."""
+    """`how` is what comes before `fn`: nothing, one of `FUNCTIONS`, or what no text has."""
     inputs: tuple[Type, ...]
     output: Type
     how: str = ""
@@ -145,7 +145,7 @@ class Unsayable:
 Type = Union[Primitive, Never, Parameter, Unknown, Reference, Pointer, Slice, Array, Tuple, Function, Dyn, Named, Alias,
              Projection, Part, Constant, BoundsOf, Unsayable]
 UNIT = Tuple(())
-# Fn pointers that are no plain ones, by what stands before `fn`: the struct of the text for them, of a tuple of the inputs and the output.
+# Fn pointers that are no plain ones, by what comes before `fn`: the struct of the text for them, of a tuple of the inputs and the output.
 FUNCTIONS = {"unsafe ": "FnUnsafe_", 'extern "C" ': "FnC_", 'unsafe extern "C" ': "FnUnsafeC_"}
 FUNCTION_STRUCTS = {name: how for how, name in FUNCTIONS.items()}
 ANY_HEAD = "_"
@@ -173,7 +173,7 @@ Predicate = tuple[Type, Bound]
 
 @dataclass(frozen=True)
 class Place:
-    """Where an item stands in its source. Lines and columns begin with 1; the last column is the one behind the item."""
+    """Where an item is in its source. Lines and columns begin with 1; the last column is the one after the item."""
     file: str
     line: int
     column: int
@@ -243,7 +243,7 @@ class Impl:
 
 
 def parts(term: Type) -> tuple[Type, ...]:
-    """The types that stand directly in a type, those of its bounds too."""
+    """The types that are directly in a type, those of its bounds too."""
     match term:
         case Reference(_, t) | Pointer(_, t) | Slice(t) | Array(t, _):
             return (t,)
@@ -263,7 +263,7 @@ def parts(term: Type) -> tuple[Type, ...]:
 
 
 def walk(term: Type) -> Iterator[Type]:
-    """The type and all that stands in it."""
+    """The type and all that is in it."""
     yield term
     for part in parts(term):
         yield from walk(part)

@@ -2,12 +2,12 @@
 that is only checked rustdoc makes the JSON, by the very words that rustc has.
 
 So each unit has a document of its own, and cargo decides when it is made again: what rustdoc has read is added to the files and variables on which
-rustc says that the unit depends. A document stands in a folder with the name of the unit's compiled file, beside it what the unit is, in `unit`.
+rustc says that the unit depends. A document is in a folder with the name of the unit's compiled file, next to it what the unit is, in `unit`.
 
 FROM_RUSTDOC_JSON is the folder of all documents, FROM_RUSTDOC_FLAGS are the flags that ask rustdoc for JSON, FROM_RUSTDOC_TOOL is rustdoc. In
-FROM_RUSTDOC_SHARED documents of registries are kept for other projects: a registry never changes a package. Such a document is known by rustdoc's
+FROM_RUSTDOC_SHARED documents of registries are stored for other projects: a registry never changes a package. Such a document is known by rustdoc's
 version, by all words that it was made by, and by what the build script wrote; it is taken where the variables that it reads have the same
-values, and `taken` says so beside it.
+values, and `taken` says so next to it.
 
 This file is run by itself, and imports none of the others.
 """
@@ -32,7 +32,7 @@ NO_DEP_INFO = "emission type"
 
 
 def pairs(words: list[str]) -> Iterator[tuple[str, str]]:
-    """The words of a call with their values; a word without one, and a file, stand alone."""
+    """The words of a call with their values; a word without one, and a file, are alone."""
     rest = iter(words)
     for word in rest:
         name, equals, value = word.partition("=")
@@ -131,7 +131,7 @@ def read_depends(file: str) -> Depends:
 
 
 def split_names(text: str) -> list[str]:
-    """The names of a line, where a blank in a name stands behind a backslash."""
+    """The names of a line, where a blank in a name comes after a backslash."""
     found = [""]
     for word in text.split(" "):
         found[-1] += word
@@ -264,11 +264,11 @@ def share(room: str, shared: str) -> None:
 
 def main(words: list[str]) -> int:
     compiler, own = words[:1], words[1:]
-    # (A wrapper stands before the compiler.)
+    # (A wrapper comes before the compiler.)
     while own and not own[0].startswith("-"):
         compiler, own = [*compiler, own[0]], own[1:]
     is_capped = any(word == "--cap-lints" for word, _ in pairs(own))
-    # Lints are not told, and fail nothing.
+    # Lints are not reported, and fail nothing.
     status = subprocess.call([*compiler, *own, *([] if is_capped else ["--cap-lints", "allow"])], close_fds=False)
     return status or document(own, os.environ["FROM_RUSTDOC_JSON"])
 

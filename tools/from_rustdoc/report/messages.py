@@ -16,7 +16,7 @@ WORDS = {"breaking": ("error", BAD), "not coherent": ("error", BAD), "not as exp
          "changed": ("warning", UNSETTLED), "waives nothing": ("warning", FINE), "not understood": ("error", NO_ANSWER), "no answer": ("error", NO_ANSWER)}
 
 
-# What users read for words of the inside; those stand in JSON, and in what `--verbose` prints.
+# What users read for words of the inside; those are in JSON, and in what `--verbose` prints.
 PLAIN = (("by law", "certain"), ("argued: ", "not proved: "), ("the question has unknowns", "the question has variables"),
          ("both texts leave open what the unknowns stand for", "it depends on what the variables are"),
          ("a clause on an associated type is asked as a pattern", "a bound on an associated type was written in another form"),
@@ -45,7 +45,7 @@ class Span:
 @dataclass
 class Message:
     """`code` is the class, as `bound-added`; `word` the answer; `basis` says on what it rests, `rests_on` on the loss of which impls. `summary`
-    of a step says why by the part of it that is new; `values` are those of variables, as a question takes them; `more` are further keys in JSON.
+    of a step says why by the part of it that is new; `values` are those of variables, as a query takes them; `more` are further keys in JSON.
     `waived` is the reason why a change may be, `counted_as` the kind of what is not judged."""
     text: str
     code: str = ""
@@ -127,7 +127,7 @@ class Sources:
         return lines[span.place.line - 1].decode("utf-8", "replace").rstrip("\r") if 0 < span.place.line <= len(lines) else None
 
     def offset(self, span: Span, line: int, column: int) -> int:
-        """How many bytes stand before a column of a line; 0 where the file is not there."""
+        """How many bytes come before a column of a line; 0 where the file is not there."""
         data = self.text(self.path(span))
         lines = data.split(b"\n") if data is not None else []
         if not 0 < line <= len(lines):

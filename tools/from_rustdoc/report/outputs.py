@@ -72,7 +72,7 @@ def old_version(span: Span) -> str:
 
 # ---- files of a repository
 def below_repository(path: str) -> Optional[str]:
-    """A file's path from the repository's folder on; nothing where it is not there or is in none."""
+    """A file's path from the repository's folder on. Nothing if it is not there or is in none."""
     if not os.path.isfile(path):
         return None
     path = os.path.realpath(path)
@@ -95,7 +95,7 @@ def repository_of(path: str) -> str:
 
 
 def located(message: Message, sources: Sources) -> Iterator[tuple[str, Span]]:
-    """The primary places of a message that stand in the newer version's files."""
+    """The primary places of a message that are in the newer version's files."""
     for span in message.spans:
         path = below_repository(sources.path(span)) if not span.version and span.is_primary else None
         if path is not None:
@@ -147,7 +147,7 @@ class GitHub(ForPeople):
             place = {"file": path, "line": span.place.line, "endLine": span.place.end_line, **columns(span)}
             break
         line = command(level, whole_text(message, self.sources), **place, title=message.code)
-        # (What two sets of features have in common is told once.)
+        # (What two sets of features have in common is reported once.)
         if line not in self.told:
             self.told.add(line)
             self.write(line)
@@ -188,7 +188,7 @@ class SarifLog:
         if message.waived:
             found["suppressions"] = [{"kind": "external", "status": "accepted", "justification": message.waived}]
         found["properties"] = {"answer": message.word, "crate": message.crate, "basis": message.basis}
-        # (What two sets of features have in common is told once.)
+        # (What two sets of features have in common is reported once.)
         self.results.setdefault(json.dumps(found, sort_keys=True), found)
 
     def notify(self, text: str, level: str = "error") -> None:
@@ -211,7 +211,7 @@ def location(path: str, span: Span) -> dict[str, Any]:
 
 
 class Sarif(Output):
-    """Adds to a log. Only errors, warnings and what is waived are results; all else is a note beside them."""
+    """Adds to a log. Only errors, warnings and what is waived are results; all else is a note next to them."""
 
     def __init__(self, log: SarifLog, *words: Any, **more: Any) -> None:
         super().__init__(*words, **more)
@@ -258,7 +258,7 @@ class Reporter:
         return found
 
     def fail(self, complaint: str) -> None:
-        """Tells machines why there is no answer; people are told on standard error."""
+        """Writes for machines why there is no answer. For people it is on standard error."""
         if self.form == GITHUB:
             self.output().write(command("error", complaint))
         elif self.form == SARIF:

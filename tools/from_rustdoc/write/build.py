@@ -119,7 +119,7 @@ class Translation:
         return key
 
     def need_root(self, root: Type | Bound) -> None:
-        """A type or bound of a question: all that it names is to be in the text."""
+        """A type or bound of a query: all that it names is to be in the text."""
         keys: list[str] = []
         if isinstance(root, Bound):
             keys.append(root.key)

@@ -32,7 +32,7 @@ class Checker:
         self.own: list[Predicate] = []
 
     def check(self, written: dict[str, str]) -> list[str]:
-        """What is wrong with the texts; nothing where they keep the rules."""
+        """What is wrong with the texts. Nothing if they keep the rules."""
         pieces = {mode: [p for p in self.translation.text(mode)[1] if p is not None] for mode in written}
         texts = {mode: read_text(text) for mode, text in written.items()}
         owners = [(self.world.get(key), name) for key, name in self.renderer.thens]
@@ -117,7 +117,7 @@ class Checker:
         return self.renderer.companion_name(declaration, name), self.renderer.then_name(declaration, name)
 
     def further_traits(self, declaration: Declaration) -> set[str]:
-        """The traits that the text has beside a trait."""
+        """The traits that the text has next to a trait."""
         found = {n for a in declaration.associated for n in self.value_traits(declaration, a)}
         return found | {self.renderer.any_name(declaration)} if self.renderer.is_fn_trait(declaration) else found
 
@@ -339,7 +339,7 @@ class Checker:
 
     # ---- types
     def meant(self, alias: Alias) -> Optional[Type]:
-        """The type that an alias stands for; None where its crate was not given."""
+        """The type that an alias stands for. None if its crate was not given."""
         try:
             declaration = self.world.get(alias.key)
         except Lossy:
@@ -461,7 +461,7 @@ class Checker:
         return self.matches(form.pattern, value, {**names, **{r: n for n, r in stands.items()}}, fresh)
 
     def pairs(self, written: Type, real: Type) -> Iterator[tuple[Type, Type]]:
-        """The parts of two types that stand at one place."""
+        """The parts of two types that are at one place."""
         yield written, real
         inner = parts(real)
         if isinstance(real, Alias):

@@ -1,4 +1,4 @@
-"""Structs and traits as lines of a crate, in an order in which each name stands before its uses.
+"""Structs and traits as lines of a crate, in an order in which each name comes before its uses.
 
 A struct whose fields all can be said where it stands is written with them. One that is not (structs that name each other, or a
 field that the text has no form for) is *cut*: it keeps its last field, and the parameters that its earlier ones mention, which is
@@ -167,7 +167,7 @@ class Declarer:
         return "()", "str"
 
     def is_sized_value(self, declaration: Declaration, term: Type) -> bool:
-        """Whether the type is an associated type without `?Sized`. Then it unsizes to none that could stand in its place, which are sized too."""
+        """Whether the type is an associated type without `?Sized`. Then it unsizes to none that could be in its place, which are sized too."""
         if not isinstance(term, Projection):
             return False
         try:

@@ -69,7 +69,7 @@ class Parts:
 
 
 def forget_hidden(scope: Scope, header: str) -> None:
-    """Fresh parameters of a type for which another one stands in the end are none."""
+    """A type that another one replaces in the end has no fresh parameters."""
     hidden = {x for x in scope.fresh if not mentions(header, [x])}
     scope.fresh = [x for x in scope.fresh if x not in hidden]
     scope.owed = [(place, name) for place, name in scope.owed if name not in hidden]
@@ -291,7 +291,7 @@ class ImplWriter:
 
     @staticmethod
     def with_inner_bounds(predicates: list[Predicate]) -> list[Predicate]:
-        """The predicates, with those that stand inside as `Iterator<Item: Debug>`."""
+        """The predicates, with those that are inside as `Iterator<Item: Debug>`."""
         found: list[Predicate] = []
         for subject, bound in predicates:
             found.append((subject, bound))
@@ -302,7 +302,7 @@ class ImplWriter:
         return found
 
     def equation(self, subject: Type, bound: Bound, name: str, value: Type, scope: Scope) -> str:
-        """`I: Iterator<Item = X>` of a question as `I: Iterator__Item<X>`; the projection goes by X from now on."""
+        """`I: Iterator<Item = X>` of a query as `I: Iterator__Item<X>`; the projection goes by X from now on."""
         place = self.renderer.resolved(Projection(subject, bound, name), scope)
         assert isinstance(place, Projection)
         right = self.renderer.type(value, scope)

@@ -4,19 +4,19 @@
 impl, `impl<H> Apply_<H> for Pat1_ where H: Debug`; and the clause becomes `I: Iterator__Item__Then<Wrap_<Pat1_>>`. Each impl of Iterator
 brings one of this trait that asks the pattern of its value, `impl<T, K> Iterator__Item__Then<Wrap_<K>> for Once<T> where K: Apply_<T>`.
 
-- The hole is the first outermost projection without a name, wherever it stands in the clause, and as often. What else the pattern has of the
+- The hole is the first outermost projection without a name, wherever it is in the clause, and as often. What else the pattern has of the
   impl, its parameters and its other projections, become parameters of the pattern's struct. So each step takes one projection out of
   the clause, and what is left is a clause again; steps end.
-- Parameters that stand in no header are what an equation says: of `F: Fn() -> R`, R is `<F as FnOnce<()>>::Output`. Of `I: Iterator<Item = (A, B)>`
+- Parameters that are in no header are what an equation says: of `F: Fn() -> R`, R is `<F as FnOnce<()>>::Output`. Of `I: Iterator<Item = (A, B)>`
   A and B are parts of a form, and the pattern is asked of that: `impl<A, B> Apply_<(A, B)> for Pat2_ where B: Debug`. The equation itself is
   the pattern without a clause. A second equation of one parameter is a clause by a companion.
 - A value that is a projection, `type Item = <J::Item as IntoIterator>::Item`, is a hole too: its line asks `K_: Apply_<value>`, which is a clause.
   Where the value is the hole itself, the pattern K_ goes on as it is. A struct for each place in the crates is enough for chains of any
   length (`Map<Map<..>>`): a trait for each clause would not be, since each step would need a new one.
 - A projection in a header goes by its fresh parameter, one that equals a type of the header by that type.
-- The trait that asks patterns is fundamental if its own trait is; its lines stand in the crate of the impl, a pattern in that of the clause.
+- The trait that asks patterns is fundamental if its own trait is; its lines are in the crate of the impl, a pattern in that of the clause.
   Where a value is not known the upper line has no `Apply_`, and the lower text no line.
-- A clause `F: FnMut(I::Item)` brings `F: std__FnMut__Any` too, that F is `FnMut` for some arguments: rustc puts an unknown for `I::Item`, and
+- A clause `F: FnMut(I::Item)` brings `F: std__FnMut__Any` too, that F is `FnMut` for some arguments: rustc puts a variable for `I::Item`, and
   may refuse `S: FnMut(?)` all the same.
 - A `dyn` whose supertraits fix a value, `trait Bytes: Iterator<Item = u8>`, has no line that asks patterns: it cannot be said.
 
@@ -39,7 +39,7 @@ HOLE = "H"
 
 @dataclass(frozen=True)
 class Goal:
-    """A clause by a trait of the text. Of one by a `Then` trait `pattern` is what stands in its `Wrap_`."""
+    """A clause by a trait of the text. Of one by a `Then` trait `pattern` is what is in its `Wrap_`."""
     trait: str
     types: tuple[Type, ...]
     consts: tuple[Type, ...] = ()
@@ -51,7 +51,7 @@ class Goal:
 
 @dataclass
 class Abstraction:
-    """Takes a term into a pattern: what stands in the hole becomes H, or the names of its form, and each parameter and each other
+    """Takes a term into a pattern: what is in the hole becomes H, or the names of its form, and each parameter and each other
     projection a parameter of the pattern."""
     hole: Projection
     form: Optional[Form]
@@ -118,7 +118,7 @@ class Determined:
 
 
 def constrained(term: Type, names: set[str]) -> set[str]:
-    """The parameters that a value fixes: not those that stand inside projections alone."""
+    """The parameters that a value fixes: not those that are inside projections alone."""
     if isinstance(term, (Projection, Part)):
         return set()
     if isinstance(term, Parameter):

@@ -30,7 +30,7 @@ THEN = "__Then"
 @dataclass
 class Scope:
     """What one line has in scope, and what was lost in it. `projections` are those with a name; those of a header are `owed` their clauses.
-    `is_closed`: no projection of a question gets a name any more."""
+    `is_closed`: no projection of a query gets a name any more."""
     mode: str
     params: dict[str, str]
     predicates: list[Predicate] = field(default_factory=list)
@@ -101,8 +101,8 @@ def is_sizedness(bound: Bound) -> bool:
 
 class Renderer:
     """`structs`, `traits`, `special`, `companions`, `thens` and `anys` are what the text needs; `grew` says that one of them has become
-    larger. `further` are the traits that the text has beside a trait, by name, each with the key of that trait.
-    `names_values`: whether each trait that asks patterns has a companion too, for the where-clauses of questions."""
+    larger. `further` are the traits that the text has next to a trait, by name, each with the key of that trait.
+    `names_values`: whether each trait that asks patterns has a companion too, for the where-clauses of queries."""
 
     def __init__(self, world: World) -> None:
         self.world = world
@@ -178,7 +178,7 @@ class Renderer:
         return self.then_name(declaration, name)
 
     def any(self, declaration: Declaration) -> str:
-        """Of `Fn`, `FnMut` and `FnOnce` the trait that says that a type has it for some arguments: what has none is told by that."""
+        """Of `Fn`, `FnMut` and `FnOnce` the trait that says that a type has it for some arguments: what has none is reported by that."""
         if self.log is not None:
             self.log.append(("any", declaration.key, ""))
         if declaration.key not in self.anys:
@@ -453,7 +453,7 @@ class Renderer:
 
     @staticmethod
     def with_value(declaration: Declaration, arguments: list[str], value: str) -> list[str]:
-        """The arguments with one more type: behind the types, before the constants."""
+        """The arguments with one more type: after the types, before the constants."""
         place = len(arguments) - sum(p.kind == "const" for p in declaration.params)
         return arguments[:place] + [value] + arguments[place:]
 

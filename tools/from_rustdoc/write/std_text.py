@@ -1,4 +1,4 @@
-"""The part of std that people name, as a text to stand in front of others: `celtisdarts --with std.txt FILE`.
+"""The part of std that people name, as a text to be in front of others: `celtisdarts --with std.txt FILE`.
 
 It holds what both texts say alike. An impl that the language cannot say exactly is left out, and named in the text's comments.
 """
@@ -56,7 +56,7 @@ def std_text(world: World) -> str:
 
 
 def common_lines(translation: Translation) -> list[str]:
-    """The lines that stand in both texts."""
+    """The lines that are in both texts."""
     lines, pieces = translation.text("upper")
     found = []
     for line, piece in zip(lines, pieces):

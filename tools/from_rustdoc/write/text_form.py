@@ -116,7 +116,7 @@ class TextReader:
         known = KNOWN.get(text)
         if known is not None and known[0].name not in self.kinds and all(
                 self.kinds.get(name) == kind and (kind is None or self.sees(name)) for name, kind in known[1].items()):
-            # The line stands in another text too, and each of its names is there what it is here.
+            # The line is in another text too, and each of its names is there what it is here.
             line = replace(known[0], number=number, crate=self.crate)
             self.counts[self.crate] = self.counts.get(self.crate, 0) + 1
             if line.name:
@@ -273,5 +273,5 @@ def written_bound(bound: Bound) -> str:
 
 @functools.lru_cache(maxsize=4)
 def read_text(text: str) -> Text:
-    """The text, which nobody changes: what was read last is kept."""
+    """The text, which nobody changes: what was read last is stored."""
     return TextReader().read(text)

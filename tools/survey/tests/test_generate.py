@@ -1,4 +1,4 @@
-"""Questions of a crate: its public paths, types as Rust writes them, and what is drawn."""
+"""Queries of a crate: its public paths, types as Rust writes them, and what is drawn."""
 from __future__ import annotations
 
 import os
@@ -8,14 +8,14 @@ from typing import Any
 from from_rustdoc.read.proved import TOP
 
 from ..documents import Crate, std_path
-from ..generate import Asked, Generator
-from ..rust import NotSaid, Printer, parameters
+from ..generate import Query, Generator
+from ..rust import NotWritten, Printer, parameters
 
-KEPT = os.path.join(TOP, "tools", "from_rustdoc", "tests", "json")
+STORED = os.path.join(TOP, "tools", "from_rustdoc", "tests", "json")
 
 
 def shapes() -> Crate:
-    return Crate(os.path.join(KEPT, "shapes.json"))
+    return Crate(os.path.join(STORED, "shapes.json"))
 
 
 def crate_of(items: dict[int, dict[str, Any]]) -> Crate:
@@ -32,7 +32,7 @@ def item(name: str, kind: str, **more: Any) -> dict[str, Any]:
 
 
 class PublicPaths(unittest.TestCase):
-    def test_items_of_a_kept_crate(self) -> None:
+    def test_items_of_a_stored_crate(self) -> None:
         found = {"::".join(path) for path in shapes().public.values()}
         self.assertLessEqual({"shapes::Tree", "shapes::Bits", "shapes::Shape", "shapes::counterexamples::One", "shapes::counterexamples::Sup"}, found)
         self.assertNotIn("shapes::One", found)
@@ -72,10 +72,10 @@ class Written(unittest.TestCase):
             self.assertEqual(self.written(term), text)
         self.assertEqual(self.written(tree, T="Vec<u8>"), "shapes::Tree<Vec<u8>>")
 
-    def test_what_no_question_writes(self) -> None:
+    def test_what_no_query_writes(self) -> None:
         for term in ("infer", {"impl_trait": []}, {"array": {"type": {"primitive": "u8"}, "len": "N + 1"}},
                      {"function_pointer": {"header": {"is_unsafe": True, "abi": "Rust"}, "generic_params": [], "sig": {"inputs": [], "output": None}}}):
-            with self.assertRaises(NotSaid, msg=str(term)):
+            with self.assertRaises(NotWritten, msg=str(term)):
                 self.written(term)
 
     def test_parameters_and_their_bounds(self) -> None:
@@ -89,25 +89,25 @@ class Written(unittest.TestCase):
 
 
 class Drawn(unittest.TestCase):
-    def test_a_question_as_the_translator_reads_it_and_as_rustc_does(self) -> None:
-        asked = Asked("A + B", "own::Pair<T, N>", ("Clone", "Send"), ("T", "const N: usize"), ("T: Clone",))
-        self.assertEqual(asked.written(), "<T, const N: usize> own::Pair<T, N>: Clone + Send where T: Clone")
-        self.assertEqual(asked.parts(), ["<T, const N: usize> own::Pair<T, N>: Clone where T: Clone", "<T, const N: usize> own::Pair<T, N>: Send where T: Clone"])
-        self.assertEqual(asked.rust(7), [
+    def test_a_query_as_the_translator_reads_it_and_as_rustc_does(self) -> None:
+        query = Query("A + B", "own::Pair<T, N>", ("Clone", "Send"), ("T", "const N: usize"), ("T: Clone",))
+        self.assertEqual(query.written(), "<T, const N: usize> own::Pair<T, N>: Clone + Send where T: Clone")
+        self.assertEqual(query.parts(), ["<T, const N: usize> own::Pair<T, N>: Clone where T: Clone", "<T, const N: usize> own::Pair<T, N>: Send where T: Clone"])
+        self.assertEqual(query.rust(7), [
             "fn n7<X_: ?Sized, T: 'static, const N: usize>() where X_: Clone + Send, T: Clone {}",
             "fn w7<T: 'static, const N: usize>(_: &own::Pair<T, N>) where T: Clone {}",
             "fn q7<T: 'static, const N: usize>() where T: Clone { n7::<own::Pair<T, N>, T, N>() }"])
 
-    def test_the_same_seed_draws_the_same_questions_and_each_once(self) -> None:
+    def test_the_same_seed_draws_the_same_queries_and_each_once(self) -> None:
         crate = shapes()
-        first, again, other = (Generator(crate, seed).questions(120) for seed in ("a", "a", "b"))
+        first, again, other = (Generator(crate, seed).queries(120) for seed in ("a", "a", "b"))
         self.assertEqual(first, again)
         self.assertNotEqual(first, other)
-        self.assertEqual(len({asked.written() for asked in first}), 120)
+        self.assertEqual(len({query.written() for query in first}), 120)
 
     def test_all_kinds_are_drawn(self) -> None:
-        kinds = {asked.kind for asked in Generator(shapes(), "kinds").questions(300)}
+        kinds = {query.kind for query in Generator(shapes(), "kinds").queries(300)}
         self.assertEqual(kinds, {"auto trait", "trait of std", "own trait", "of an impl", "associated type", "projection", "function", "A + B"})
 
-    def test_a_crate_without_public_items_has_no_questions(self) -> None:
-        self.assertEqual(Generator(crate_of({0: item("own", "module", items=[])}), "none").questions(10), [])
+    def test_a_crate_without_public_items_has_no_queries(self) -> None:
+        self.assertEqual(Generator(crate_of({0: item("own", "module", items=[])}), "none").queries(10), [])

@@ -63,9 +63,9 @@ class Registry(Room):
         self.assertEqual([registry.earlier(by_folder[f], among) for f in ("nom-4.2.3", "nom-10.0.0")], [None, by_folder["nom-10.0.0-alpha.1"]])
         self.assertEqual(registry.newest("nom", among), by_folder["nom-10.0.0"])
 
-    def test_a_list_of_wanted_crates(self) -> None:
+    def test_a_list_of_crates(self) -> None:
         file = put(self.room, "wanted.txt", "nom 7.1.1 +alloc +std   # a comment\n\nodd\nnone\n")
-        found, missing = registry.read_wanted(file, self.packages())
+        found, missing = registry.read_dependencies(file, self.packages())
         self.assertEqual([d.line() for d in found], ['nom = { version = "=7.1.1", features = ["alloc", "std"] }', 'odd = { version = "=0.1.0" }'])
         self.assertEqual(missing, ["none"])
 
@@ -135,8 +135,8 @@ class Documented(Room):
     """What cargo would do is done by a stand-in: it leaves documents in cargo's folder."""
 
     def test_projects_share_the_documents_of_the_registrys_crates(self) -> None:
-        place = steps.Place(os.path.join(self.room, "out"), os.path.join(self.room, "registry"))
-        folder = place.folder(Package("user", "1.0.0"))
+        setup = steps.Setup(os.path.join(self.room, "out"), os.path.join(self.room, "registry"))
+        folder = setup.folder(Package("user", "1.0.0"))
         os.makedirs(folder)
 
         def document(_: str, extra: list[str], shared: str) -> Project:
@@ -145,7 +145,7 @@ class Documented(Room):
             return Project(files={name: put(self.room, f"json/{name}-1/{name}.json", name) for name in ("ab", "user")})
 
         with mock.patch.object(translator, "document", document), mock.patch.dict(os.environ):
-            project, made = steps.documented(folder, place, os.path.join(folder, "log"))
+            project, made = steps.documented(folder, setup, os.path.join(folder, "log"))
         self.assertEqual((made, project.files), (1, {name: os.path.join(folder, "doc", f"{name}.json") for name in ("ab", "user")}))
         self.assertTrue(all(map(os.path.exists, project.files.values())))
 
@@ -155,25 +155,25 @@ class Adopted(Room):
 
     def test_each_crate_of_the_registry_has_what_it_uses(self) -> None:
         among = [Package("ab", "1.0.0"), Package("user", "1.0.0"), Package("user", "2.0.0"), Package("other", "1.0.0")]
-        place = steps.Place(self.room)
+        setup = steps.Setup(self.room)
         inputs = {"json": [], "links": {"uses": {"ab": [], "user": ["ab"]}, "root": "/project"}}
         compiled = {"ab": [("registry#ab@1.0.0", "ab.rmeta")], "user": [("registry#user@1.0.0", "user.rmeta")]}
         with mock.patch.object(translator, "map_of", return_value={"inputs": inputs}), mock.patch.object(translator, "read", return_value=world("ab", "user")), \
                 mock.patch.object(steps, "compiled_in", return_value=compiled) as cargo:
-            self.assertEqual(steps.adopt(place, "/project/target/from-rustdoc/user", among), among[:2])
+            self.assertEqual(steps.adopt(setup, "/project/target/from-rustdoc/user", among), among[:2])
         cargo.assert_called_once_with("/project", "/project/target/from-rustdoc", 1)
         for package, used in ((among[0], ["ab"]), (among[1], ["ab", "user"])):
-            project = steps.load_project(place.folder(package))
+            project = steps.load_project(setup.folder(package))
             self.assertEqual((project.members, sorted(project.files), sorted(project.closure([package.crate]))), ([package.crate], used, used))
-            self.assertEqual((results.head(place.file(package, "document"))["status"], results.head(place.file(package, "document"))["crates"]), ("done", len(used)))
+            self.assertEqual((results.head(setup.file(package, "document"))["status"], results.head(setup.file(package, "document"))["crates"]), ("done", len(used)))
             self.assertTrue(all(os.path.samefile(file, kept(name)) for name, file in project.files.items()))
         # What rustc reads is known without cargo.
-        self.assertEqual(steps.metadata_of(place, place.folder(among[1]), among[1]), {"ab": "ab.rmeta", "user": "user.rmeta"})
+        self.assertEqual(steps.metadata_of(setup, setup.folder(among[1]), among[1]), {"ab": "ab.rmeta", "user": "user.rmeta"})
 
 
 @unittest.skipUnless(proved_program(), "there is no proved program of these sources")
 class Checked(unittest.TestCase):
-    def test_a_kept_crate_is_checked_with_each_of_its_impls(self) -> None:
+    def test_a_stored_crate_is_checked_with_each_of_its_impls(self) -> None:
         self.assertEqual([(found.word, found.why) for found in [translator.check(world("before"), "before", None)]], [("coherent", "")])
         found = translator.check(world("shapes"), "shapes", None)
         self.assertEqual(found.word, "not settled")
@@ -225,7 +225,7 @@ class Joined(Room):
 
     def test_the_page_has_the_figures(self) -> None:
         page = figures.page(self.database())
-        for line in ("4 crates with their versions: 3 lib, 1 proc-macro.", "| whole | 3 | 75.0 % |", "| document | 1 | 1 | 0 |", "## Questions held against rustc: 1",
+        for line in ("4 crates with their versions: 3 lib, 1 proc-macro.", "| whole | 3 | 75.0 % |", "| document | 1 | 1 | 0 |", "## Queries compared with rustc: 1",
                      "| base 1.0.0 | base::B: Send | yes (by law) | no E0277 told |", "| document | in derive: error: no | 1 |",
                      "| user 0.1.0 | not settled | overlap: one \\| other |", "Documents: 3 MB with what each crate uses, 1 MB of the crates themselves.",
                      "Of 5 documents that crates and their projects took, rustdoc made 2; the others were there."):
