@@ -11,9 +11,9 @@ ghost use Rattle.infer_table.specs.Occurring.{IsWithout, Pushes, LooksAt};
 use crate::infer_ctxt::InferCtxt;
 use crate::known::{const_has_kind, type_has_kind};
 use crate::parts::parts;
+use crate::resolve::VALUE_FLAGS;
 use std::alloc::AllocError;
 use type_terms::entered::Entered;
-use type_terms::flags::TypeFlags;
 use type_terms::interner::Interner;
 use type_terms::kinds::{Const, GenericArgKind, Ty, TyKind};
 use type_terms::number::TyVid;
@@ -22,7 +22,7 @@ impl InferCtxt {
     /// Whether the variable occurs in the type, once this is resolved.
     ///
     /// The search uses a worklist instead of the stack, so a type may be nested deeply. Each type is visited once, and a type
-    /// without inference variables is not entered.
+    /// without variables that can have values is not entered.
     pub(crate) fn occurs(&self, cx: &Interner, variable: TyVid, ty: Ty) -> Result<bool, AllocError>
         requires held { Has cx.now.entries types ty.0 }
         requires ready { Ready cx.now.entries self.now }
@@ -30,8 +30,9 @@ impl InferCtxt {
             ≡ occurs of_type variable.index (resolved (content cx.now.entries self.now.values) (trees_at cx.now.entries ty.0))) }
         ensures proper { IfOk result (λ b. b ≡ false → IsProper (trees_at cx.now.entries ty.0)) }
     {
+        cx.lawful();
         let flags = cx.flags(ty).0;
-        if flags & TypeFlags::HAS_INFER.0 == 0 {
+        if flags & VALUE_FLAGS == 0 {
             return Ok(false);
         }
         let mut entered = Entered::new(self.alloc);
@@ -65,7 +66,7 @@ impl InferCtxt {
     {
         cx.lawful();
         type_has_kind(cx, ty);
-        if cx.flags(ty).0 & TypeFlags::HAS_INFER.0 == 0 {
+        if cx.flags(ty).0 & VALUE_FLAGS == 0 {
             return Ok(false);
         }
         if entered.enter(ty) {

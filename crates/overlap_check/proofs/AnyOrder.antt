@@ -11,6 +11,7 @@ use Rattle.type_terms.proofs.NoTwo.{no-common-instance}
 use Rattle.type_terms.proofs.ArrangedSets.{arranged-linked}
 use Rattle.type_terms.proofs.ArrangedViews.{proof-of, cleared-back, stands-there, in-any-order}
 use Rattle.type_terms.proofs.ArrangedNoTwo.{no-two-in-any-order}
+use Rattle.type_terms.proofs.JoinedParts.{dyns-hold-bounds}
 use Rattle.type_terms.specs.Promised.Questions.{filled_reference}
 use Rattle.overlap_check.specs.SessionLaws.{HeadlineInAnyOrder}
 
@@ -21,7 +22,7 @@ headline-in-any-order limit W os qs rank l stand answered ok = record {
   cleared = clear;
   no_holds = λ o h ks r a m.
       a.0.1 (arranged_world o.order W) [] rank (arranged-linked o.order W [] rank l) o.view.numbers (asked-stands o h)
-      (record { values = m.values; fitting = m.fitting; closed = m.closed; proved = proof-of o.order W l.joined.dyns_hold_bounds (filled_reference ks m.values (renumbered_reference o.view.numbers r)) m.proved });
+      (record { values = m.values; fitting = m.fitting; closed = m.closed; proved = proof-of o.order W (dyns-hold-bounds W l.joined.rules) (filled_reference ks m.values (renumbered_reference o.view.numbers r)) m.proved });
   yes_holds = λ o h ks ts r a. (in-any-order W [] rank l o.order o.view (asked-stands o h)).proofs (filled_reference ks ts r) a.1;
 }
   where
@@ -33,6 +34,6 @@ headline-in-any-order limit W os qs rank l stand answered ok = record {
 
     clear : (o : Listed) → In o os → (i j : ImplDecl) → IsPair o.view.world o.view.asker i j → Cleared W (placed_impl o.order o.view i) (placed_impl o.order o.view j)
     clear o h i j p =
-        cleared-back o.order W l.joined.dyns_hold_bounds (renumbered_impl o.view.numbers i) (renumbered_impl o.view.numbers j)
+        cleared-back o.order W (dyns-hold-bounds W l.joined.rules) (renumbered_impl o.view.numbers i) (renumbered_impl o.view.numbers j)
         (stands-there (arranged_world o.order W) o.view (accepted-stands o h) i p.stands) (stands-there (arranged_world o.order W) o.view (accepted-stands o h) j p.partner)
         (((ok o h).cleared i j p).1 (arranged_world o.order W) [] rank (arranged-linked o.order W [] rank l) o.view.numbers (accepted-stands o h))

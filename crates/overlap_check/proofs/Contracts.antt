@@ -154,33 +154,7 @@ every-right P (x ∷ xs) ys h = every-right P xs ys h.1
 
 -- fewer answers
 fewer-joined : (W : World) (vs ws : List View) (rank : ℕ → ℕ) → JoinedSet W vs rank → Every (HoldsView W) ws → JoinedSet W ws rank
-fewer-joined W vs ws rank l e = record {
-  terms = l.terms;
-  core_there = l.core_there;
-  core_later = l.core_later;
-  one_struct = l.one_struct;
-  one_trait = l.one_trait;
-  one_impl = l.one_impl;
-  headers_in_scope = l.headers_in_scope;
-  autos_bare = l.autos_bare;
-  bounds_in_scope = l.bounds_in_scope;
-  trait_rank = l.trait_rank;
-  bounds_before = l.bounds_before;
-  autos_at_home = l.autos_at_home;
-  plain_headers = l.plain_headers;
-  plain_clauses = l.plain_clauses;
-  plain_fields = l.plain_fields;
-  plain_bounds = l.plain_bounds;
-  clauses_covered = l.clauses_covered;
-  sized_alone = l.sized_alone;
-  dyns_hold_bounds = l.dyns_hold_bounds;
-  dyns_in_order = l.dyns_in_order;
-  core_first = l.core_first;
-  uses_before = l.uses_before;
-  uses_stand = l.uses_stand;
-  as_answered = e;
-  orphan_rule = l.orphan_rule;
-}
+fewer-joined W vs ws rank l e = record { rules = l.rules; fits = l.fits; orphan_rule = l.orphan_rule; as_answered = e }
 
 -- the view by which an answer was given is held
 stands-in : (W : World) (vs : List View) (rank : ℕ → ℕ) → LinkedSet W vs rank → (v : View) → In v vs → HoldsView W v

@@ -145,7 +145,7 @@ module _ (W : World) (one : OneEach W) (c : ℕ) where
 -- The crate of a view
 module _ (W : World) (vs : List View) (rank : ℕ → ℕ) (l : JoinedSet W vs rank) (v : View) (s : HoldsView W v) where
   one : OneEach W
-  one = (l.one_struct, l.one_trait)
+  one = (l.fits.one_struct, l.fits.one_trait)
 
   struct-seen : (k : ℕ) → struct_is (λ x. sees v.world v.asker x.home) v.world k ≡ true → sees_struct W (asker_in_set v) (v.numbers.structs.to k) ≡ true
   struct-seen k h =

@@ -9,7 +9,7 @@ use Rattle.type_terms.specs.Promised.Proofs.{In}
 use Rattle.type_terms.specs.Promised.Walks.{Met, local, struct_leaf, dyn_leaf, entered, struct_is, trait_is, is_home, dyn_met, visited, until_decisive, open_walk, ends_local, item_in, is_known_in}
 use Rattle.type_terms.specs.Promised.Answers.{is_open, is_closed, is_undeclared, written_in, children, short_chains, is_bounded, is_possible, CommonInstance}
 use Rattle.type_terms.specs.Promised.Supers.{dyns_of_bounds}
-use Rattle.type_terms.specs.Promised.LinkedSet.{all_written}
+use Rattle.type_terms.specs.LinkedSet.{all_written}
 use Rattle.type_terms.specs.Promised.Arranging.{Arrangement, autos_in, with_autos, arranged, arranged_reference, arranged_struct, arranged_trait, arranged_impl, arranged_world}
 use Rattle.type_terms.specs.Arranging.{turned_back}
 use Rattle.type_terms.proofs.Members.{here, there, in-cases, in-append, in-left, in-right, in-flat, flat-in, in-map, some-member, member-some, in-nothing}

@@ -21,6 +21,7 @@ use Rattle.type_terms.proofs.ArrangedRules.{over-supers}
 use Rattle.type_terms.proofs.ArrangedProofs.{bound-world, proof-unarranged}
 use Rattle.type_terms.proofs.ArrangedSets.{sees-same, arranged-joined}
 use Rattle.type_terms.proofs.TermBasics.{node}
+use Rattle.type_terms.proofs.JoinedParts.{dyns-hold-bounds}
 
 autos-opaque : (t : Trees) → autos_in (opaque t) ≡ autos_in t
 autos-opaque none = refl
@@ -52,7 +53,7 @@ module _ (W : World) (rank : ℕ → ℕ) (l : JoinedSet W [] rank) where
   supers-here : (α : Arrangement) (i : ImplDecl) → SupersHold (arranged_world α W) (arranged_impl α i) → SupersHold W i
   supers-here α i h =
       each (strict_supertraits W (opaque_reference i.header))
-      (subst (Every (HasProof (arranged_world α W) (map (arranged_reference α) (map opaque_reference i.clauses)))) (ap (strict_supertraits (arranged_world α W)) (sym (opaque-so α i.header)) ∙ sym (over-supers α W (bound-world W l.dyns_hold_bounds) (opaque_reference i.header)))
+      (subst (Every (HasProof (arranged_world α W) (map (arranged_reference α) (map opaque_reference i.clauses)))) (ap (strict_supertraits (arranged_world α W)) (sym (opaque-so α i.header)) ∙ sym (over-supers α W (bound-world W (dyns-hold-bounds W l.rules)) (opaque_reference i.header)))
       (subst (λ E. Every (HasProof (arranged_world α W) E) (strict_supertraits (arranged_world α W) (opaque_reference (arranged_reference α i.header)))) (clauses-are i.clauses) h))
     where
       clauses-are : (ks : List Reference) → map opaque_reference (map (arranged_reference α) ks) ≡ map (arranged_reference α) (map opaque_reference ks)
@@ -64,7 +65,7 @@ module _ (W : World) (rank : ℕ → ℕ) (l : JoinedSet W [] rank) where
 
       each : (rs : List Reference) → Every (HasProof (arranged_world α W) (map (arranged_reference α) (map opaque_reference i.clauses))) (map (arranged_reference α) rs) → Every (HasProof W (map opaque_reference i.clauses)) rs
       each [] p = tt
-      each (r ∷ rs) p = (proof-unarranged α W l.dyns_hold_bounds (map opaque_reference i.clauses) r p.0, each rs p.1)
+      each (r ∷ rs) p = (proof-unarranged α W (dyns-hold-bounds W l.rules) (map opaque_reference i.clauses) r p.0, each rs p.1)
 
   module _ (os : List Listed) (stand : (o : Listed) → In o os → HoldsInOrder W o.order o.view) (answered : (i : ImplDecl) → In i W.impls → IsAnsweredInOrder os i)
       (held : (o : Listed) → In o os → IsHeld o.view.world o.view.asker) where

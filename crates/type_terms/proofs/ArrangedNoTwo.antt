@@ -22,6 +22,7 @@ use Rattle.type_terms.proofs.ArrangedRules.{BoundWorld}
 use Rattle.type_terms.proofs.ArrangedProofs.{bound-world}
 use Rattle.type_terms.proofs.ArrangedAnswers.{over-common}
 use Rattle.type_terms.proofs.ArrangedSets.{sees-same, arranged-linked}
+use Rattle.type_terms.proofs.JoinedParts.{dyns-hold-bounds}
 
 pub impl-back : (α : Arrangement) (x : ImplDecl) → arranged_impl (turned_back α) (arranged_impl α x) ≡ x
 impl-back α x = two (reference-back α x.header) (map-back (arranged_reference (turned_back α)) (arranged_reference α) (reference-back α) x.clauses)
@@ -33,7 +34,7 @@ impl-back α x = two (reference-back α x.header) (map-back (arranged_reference 
 module _ (W : World) (rank : ℕ → ℕ) (l : LinkedSet W [] rank) (os : List Listed) (stand : (o : Listed) → In o os → HoldsInOrder W o.order o.view) (answered : (i : ImplDecl) → In i W.impls → IsAnsweredInOrder os i)
     (clear : (o : Listed) → In o os → (i j : ImplDecl) → IsPair o.view.world o.view.asker i j → Cleared W (placed_impl o.order o.view i) (placed_impl o.order o.view j)) where
   w : BoundWorld W
-  w = bound-world W l.joined.dyns_hold_bounds
+  w = bound-world W (dyns-hold-bounds W l.joined.rules)
 
   of-answer : (o : Listed) → In o os → (i j : ImplDecl) → In i W.impls → In j W.impls → Visited W i j → asker_in_set o.view ≡ i.home → Cleared W i j
   of-answer o ho i j hi hj vis e = either (of-view (arranged_world α W) [] rank L v s (arranged_impl α j) (seen j hj (subst (λ c. sees W c j.home ≡ true) (sym e) vis.0)))

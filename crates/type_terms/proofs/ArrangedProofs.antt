@@ -1,37 +1,25 @@
 -- Arranged auto traits: what has a proof still has one.
-use Rattle.std.proofs.Common.{◌≡◌, Bool, true, false, List, [], ◌∷◌, ◌++◌, refl, ap, sym, ◌∙◌, ◌&&◌, if◌then◌else◌, subst, ◌⊎◌, inl, inr, map}
-use Rattle.std.specs.List.{list_all}
+use Rattle.std.proofs.Common.{◌≡◌, Bool, true, false, List, [], ◌∷◌, ◌++◌, refl, ap, sym, ◌∙◌, if◌then◌else◌, subst, ◌⊎◌, inl, inr, map}
 use Rattle.type_terms.specs.Promised.Worlds.{World, CrateDecl, Reference, StructDecl, TraitDecl, ImplDecl}
 use Rattle.type_terms.specs.Promised.Rules.{is_coinductive}
 use Rattle.type_terms.specs.Promised.Proofs.{ProofEntry, In, Stands, Follows, HasProof}
 use Rattle.type_terms.specs.Promised.Supers.{dyns_of_bounds}
-use Rattle.type_terms.specs.Promised.LinkedSet.{all_args, all_written}
+use Rattle.type_terms.specs.LinkedSet.{all_written}
 use Rattle.type_terms.specs.Promised.Arranging.{Arrangement, arranged, arranged_reference, arranged_struct, arranged_trait, arranged_impl, arranged_world}
 use Rattle.type_terms.specs.Arranging.{turned_back}
 use Rattle.type_terms.proofs.Members.{here, there, in-cases, in-append, in-left, in-right, in-nothing}
-use Rattle.type_terms.proofs.Walking.{left, right}
 use Rattle.type_terms.proofs.ProofEntries.{map-in}
-use Rattle.type_terms.proofs.NoHolds.{member-each, every-member}
+use Rattle.type_terms.proofs.NoHolds.{every-member}
 use Rattle.type_terms.proofs.RenumberedTrees.{map-back}
 use Rattle.type_terms.proofs.RenumberedRules.{map-append}
 use Rattle.type_terms.proofs.ArrangedTrees.{back-to, reference-back, dyns-stay}
 use Rattle.type_terms.proofs.ArrangedTwice.{written-over}
 use Rattle.type_terms.proofs.ArrangedRules.{BoundWorld, rules-arranged, coinductive-same}
 use Rattle.type_terms.proofs.TermRules.{every-of as each-of}
+use Rattle.type_terms.proofs.JoinedParts.{each-written}
 
 pub bound-world : (W : World) → all_written dyns_of_bounds W ≡ true → BoundWorld W
-bound-world W h = record {
-  headers = λ i m. left (dyns_of_bounds i.header.args) _ (impl i m);
-  clauses = λ i k m g. member-each (λ (r : Reference). dyns_of_bounds r.args) i.clauses k (right (dyns_of_bounds i.header.args) _ (impl i m)) g;
-  fields = λ x t m g. member-each dyns_of_bounds x.fields t (member-each (λ (y : StructDecl). list_all dyns_of_bounds y.fields) W.structs x (left (list_all (λ (y : StructDecl). list_all dyns_of_bounds y.fields) W.structs) _ h) m) g;
-  bounds = λ x b m g. member-each (λ (r : Reference). dyns_of_bounds r.args) x.bounds b (member-each (λ (y : TraitDecl). all_args dyns_of_bounds y.bounds) W.traits x (left (list_all (λ (y : TraitDecl). all_args dyns_of_bounds y.bounds) W.traits) _ rest) m) g;
-}
-  where
-    rest : list_all (λ (y : TraitDecl). all_args dyns_of_bounds y.bounds) W.traits && list_all (λ (i : ImplDecl). dyns_of_bounds i.header.args && all_args dyns_of_bounds i.clauses) W.impls ≡ true
-    rest = right (list_all (λ (y : StructDecl). list_all dyns_of_bounds y.fields) W.structs) _ h
-
-    impl : (i : ImplDecl) → In i W.impls → dyns_of_bounds i.header.args && all_args dyns_of_bounds i.clauses ≡ true
-    impl i m = member-each (λ (j : ImplDecl). dyns_of_bounds j.header.args && all_args dyns_of_bounds j.clauses) W.impls i (right (list_all (λ (y : TraitDecl). all_args dyns_of_bounds y.bounds) W.traits) _ rest) m
+bound-world W h = each-written dyns_of_bounds W h
 
 pub written-stays : (α : Arrangement) (W : World) → all_written dyns_of_bounds (arranged_world α W) ≡ all_written dyns_of_bounds W
 written-stays α W = written-over α W dyns_of_bounds dyns_of_bounds (dyns-stay α)

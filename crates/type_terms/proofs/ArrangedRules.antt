@@ -9,6 +9,7 @@ use Rattle.type_terms.specs.Promised.Worlds.{World, Reference, StructDecl, Trait
 use Rattle.type_terms.specs.Promised.Rules.{Rule, BuiltIn, Way, by_impl, by_clause, by_super, built_in, row, rules, impl_rules, built_in_rules, clause_rules, super_rules, plain_rules, sized_rules, copy_rules, tuple_rules, fn_ptr_rules, call_rules, but_last, auto_rules, auto_rules_plain, is_written, same_head, unsize_rules, unsize_array_rules, unsize_to_dyn_rules, unsize_upcast_rules, unsize_struct_rules, upcasts_principal, upcasts_autos, is_parameter, is_unsizing, some_unsizing, with_unsizing, last_unsizes, object_rules, object_bound_rules, principal_with, autos_with, equal_rows, elaborated, are_declared, are_dyn_compatible, is_declared, is_auto, is_coinductive, is_fn_trait, is_dyn, same_reference, asked, each_asked, last_asked, together, fields_of, written_supertraits, strict_supertraits, strict_supertraits_within, sized, clone, copy, tuple_trait, fn_ptr_trait, unsize, sized_tuple, sized_struct, copy_tuple, auto_tuple, auto_struct, fn_ptr_call, object_auto, object_principal, unsize_array, unsize_to_dyn, unsize_dyn, unsize_upcast, unsize_struct}
 use Rattle.type_terms.specs.Promised.Proofs.{In}
 use Rattle.type_terms.specs.Promised.Supers.{dyns_of_bounds}
+use Rattle.type_terms.specs.Promised.LinkedSet.{AllWritten}
 use Rattle.type_terms.specs.Promised.Renumbering.{SameMembers}
 use Rattle.type_terms.specs.Promised.Arranging.{Arrangement, autos_in, with_autos, children_in_order, arranged, arranged_reference, arranged_struct, arranged_trait, arranged_impl, arranged_world}
 use Rattle.type_terms.specs.Arranging.{IsArrangedRule}
@@ -23,11 +24,8 @@ use Rattle.type_terms.proofs.Applies.{fits-complete, same-reference-complete}
 use Rattle.type_terms.proofs.ArrangedTrees.{reference-at, autos-now, over-append, over-instantiate, over-arguments, over-fits, over-some, over-same, over-same-reference}
 
 -- No bound of a `dyn` in the world's declarations is a parameter
-pub record BoundWorld (W : World) : Type 0 where
-  pub headers : (i : ImplDecl) → In i W.impls → dyns_of_bounds i.header.args ≡ true
-  pub clauses : (i : ImplDecl) (k : Reference) → In i W.impls → In k i.clauses → dyns_of_bounds k.args ≡ true
-  pub fields : (x : StructDecl) (t : Trees) → In x W.structs → In t x.fields → dyns_of_bounds t ≡ true
-  pub bounds : (x : TraitDecl) (b : Reference) → In x W.traits → In b x.bounds → dyns_of_bounds b.args ≡ true
+abbrev pub BoundWorld : World → Type 0
+BoundWorld W = AllWritten (λ t. dyns_of_bounds t ≡ true) W
 
 flat-into : {A B C D : Type 0} (m : B → C) (n : A → D) (f : A → List B) (g : D → List C) (xs : List A) → ((x : A) → In x xs → map m (f x) ≡ g (n x)) → map m (flat_map f xs) ≡ flat_map g (map n xs)
 flat-into m n f g [] h = refl

@@ -2,18 +2,17 @@
 use Rattle.std.proofs.Common.{◌≡◌, ℕ, zero, suc, ◌<◌, Bool, true, false, List, [], ◌∷◌, refl, ap, sym, ◌∙◌, ◌||◌, ◌==◌, not, if◌then◌else◌, subst, ◌⊎◌, inl, inr, map, filter, length, Some, None}
 use Rattle.std.specs.List.{list_any}
 use Rattle.type_terms.specs.Promised.Label.{Label, Sort, dynamic, auto_trait, adt, principal, of_trait, predicate, param}
-use Rattle.type_terms.specs.Promised.Trees.{Trees, none, tree, Fits, erase, erase_label, some_node}
+use Rattle.type_terms.specs.Promised.Trees.{Trees, none, tree, Fits, erase, erase_label}
 use Rattle.type_terms.specs.Trees.{fits}
 use Rattle.type_terms.specs.Promised.Worlds.{World, CrateDecl, Reference, StructDecl, TraitDecl, ImplDecl, core, crates_named, structs_named, traits_named, sees, sees_within, view_of, with_args, all_with_args}
-use Rattle.type_terms.specs.Promised.Erased.{IsTerms, erased_reference, erased_struct, erased_trait, erased_impl}
-use Rattle.type_terms.specs.Promised.Rules.{is_auto, sized, strict_supertraits}
+use Rattle.type_terms.specs.Promised.Rules.{is_auto, strict_supertraits}
 use Rattle.type_terms.specs.Promised.Proofs.{In, Every, HasProof}
 use Rattle.type_terms.specs.Promised.Walks.{struct_is, trait_is, until_decisive, ends_local, keeps_orphan_rule}
 use Rattle.type_terms.specs.Promised.Answers.{is_closed}
 use Rattle.type_terms.specs.Promised.Core.{core_world}
 use Rattle.type_terms.specs.Promised.Supers.{mentions_as}
 use Rattle.type_terms.specs.Promised.Versions.{begins_with_bound, label_allowed, label_shaped, well_written, sees_struct, sees_trait, in_scope, is_open_place, is_addable, Added, with_impls, HasLaterImpls}
-use Rattle.type_terms.specs.Promised.LinkedSet.{JoinedSet, LinkedSet, AutoAtHome, is_stray}
+use Rattle.type_terms.specs.Promised.LinkedSet.{JoinedSet, LinkedSet, IsPlainTerm, AutoAtHome, is_stray}
 use Rattle.type_terms.specs.Promised.Renumbering.{View}
 use Rattle.type_terms.specs.Promised.Arranging.{Arrangement, autos_in, next_auto, autos_left, with_autos, children_in_order, arranged, arranged_reference, arranged_struct, arranged_trait, arranged_impl, arranged_world}
 use Rattle.type_terms.specs.Arranging.{turned_back}
@@ -24,12 +23,13 @@ use Rattle.type_terms.proofs.Fitting.{fits-sound}
 use Rattle.type_terms.proofs.Applies.{fits-complete}
 use Rattle.type_terms.proofs.RenumberedTrees.{and-same}
 use Rattle.type_terms.proofs.RenumberedRules.{or-same, any-over}
-use Rattle.type_terms.proofs.ArrangedTrees.{back-to, reference-at, over-instantiate, over-fits}
+use Rattle.type_terms.proofs.ArrangedTrees.{back-to, dyns-stay, reference-at, over-instantiate, over-fits}
 use Rattle.type_terms.proofs.ArrangedRules.{BoundWorld, filter-map, structs-there, traits-there, auto-same, over-supers, with-there}
-use Rattle.type_terms.proofs.ArrangedProofs.{bound-world, written-stays, proof-arranged, proof-unarranged}
+use Rattle.type_terms.proofs.ArrangedProofs.{bound-world, proof-arranged, proof-unarranged}
 use Rattle.type_terms.proofs.ArrangedTwice.{order-stays}
 use Rattle.type_terms.proofs.ArrangedAnswers.{some-same, over-closed, over-visited}
 use Rattle.type_terms.proofs.TermBasics.{node}
+use Rattle.type_terms.proofs.JoinedParts.{dyns-hold-bounds, StructObeys, TraitObeys, ImplObeys, struct-rules, trait-rules, impl-rules, all-obey}
 
 filter-same : {A : Type 0} (p q : A → Bool) → ((x : A) → p x ≡ q x) → (xs : List A) → filter p xs ≡ filter q xs
 filter-same p q h [] = refl
@@ -222,72 +222,13 @@ module _ (α : Arrangement) (W : World) (vs : List View) (rank : ℕ → ℕ) (l
   Z = arranged_world α W
 
   w : BoundWorld W
-  w = bound-world W l.dyns_hold_bounds
+  w = bound-world W (dyns-hold-bounds W l.rules)
 
-  terms-there : (ts : List Trees) → map erase ts ≡ ts → map erase (map (arranged α) ts) ≡ map (arranged α) ts
-  terms-there [] h = refl
-  terms-there (t ∷ ts) h = two (term-there α t (head-of h)) (terms-there ts (tail-of h))
-    where
-      head-of : erase t ∷ map erase ts ≡ t ∷ ts → erase t ≡ t
-      head-of e = cc
+  plain-there : (t : Trees) → IsPlainTerm t → IsPlainTerm (arranged α t)
+  plain-there t p = record { term = term-there α t p.term; open_places = some-same α is_stray t ∙ p.open_places; dyns = dyns-stay α t ∙ p.dyns }
 
-      tail-of : erase t ∷ map erase ts ≡ t ∷ ts → map erase ts ≡ ts
-      tail-of e = cc
-
-      two : {x x' : Trees} {xs xs' : List Trees} → x ≡ x' → xs ≡ xs' → x ∷ xs ≡ x' ∷ xs'
-      two p q = cc
-
-  references-there : (rs : List Reference) → map erased_reference rs ≡ rs → map erased_reference (map (arranged_reference α) rs) ≡ map (arranged_reference α) rs
-  references-there [] h = refl
-  references-there (r ∷ rs) h = two (reference-at r.trait (term-there α r.args (head-of h))) (references-there rs (tail-of h))
-    where
-      head-of : erased_reference r ∷ map erased_reference rs ≡ r ∷ rs → erase r.args ≡ r.args
-      head-of e = ap (λ (x : Reference). x.args) (first-of e)
-        where
-          first-of : erased_reference r ∷ map erased_reference rs ≡ r ∷ rs → erased_reference r ≡ r
-          first-of e = cc
-
-      tail-of : erased_reference r ∷ map erased_reference rs ≡ r ∷ rs → map erased_reference rs ≡ rs
-      tail-of e = cc
-
-      two : {x x' : Reference} {xs xs' : List Reference} → x ≡ x' → xs ≡ xs' → x ∷ xs ≡ x' ∷ xs'
-      two p q = cc
-
-  items-there : {A : Type 0} (e : A → A) (f : A → A) → ((x : A) → e x ≡ x → e (f x) ≡ f x) → (xs : List A) → map e xs ≡ xs → map e (map f xs) ≡ map f xs
-  items-there e f h [] g = refl
-  items-there {A = A} e f h (x ∷ xs) g = two (h x (head-of g)) (items-there e f h xs (tail-of g))
-    where
-      head-of : e x ∷ map e xs ≡ x ∷ xs → e x ≡ x
-      head-of k = cc
-
-      tail-of : e x ∷ map e xs ≡ x ∷ xs → map e xs ≡ xs
-      tail-of k = cc
-
-      two : {y y' : A} {ys ys' : List A} → y ≡ y' → ys ≡ ys' → y ∷ ys ≡ y' ∷ ys'
-      two p q = cc
-
-  terms-so : IsTerms Z
-  terms-so =
-      join _ _ _ _ _ _ (items-there erased_struct (arranged_struct α) struct-so' W.structs (ap (λ (V : World). V.structs) l.terms))
-      (items-there erased_trait (arranged_trait α) trait-so' W.traits (ap (λ (V : World). V.traits) l.terms)) (items-there erased_impl (arranged_impl α) impl-so' W.impls (ap (λ (V : World). V.impls) l.terms))
-    where
-      struct-so' : (x : StructDecl) → erased_struct x ≡ x → erased_struct (arranged_struct α x) ≡ arranged_struct α x
-      struct-so' x e = ap (λ z. (let y : StructDecl = record { name = x.name; home = x.home; is_fundamental = x.is_fundamental; fields = z } in y)) (terms-there x.fields (ap (λ (y : StructDecl). y.fields) e))
-
-      trait-so' : (x : TraitDecl) → erased_trait x ≡ x → erased_trait (arranged_trait α x) ≡ arranged_trait α x
-      trait-so' x e = ap (λ z. (let y : TraitDecl = record { name = x.name; home = x.home; is_fundamental = x.is_fundamental; is_auto = x.is_auto; bounds = z } in y)) (references-there x.bounds (ap (λ (y : TraitDecl). y.bounds) e))
-
-      impl-so' : (x : ImplDecl) → erased_impl x ≡ x → erased_impl (arranged_impl α x) ≡ arranged_impl α x
-      impl-so' x e =
-          two (reference-at x.header.trait (term-there α x.header.args (ap (λ (y : ImplDecl). y.header.args) e))) (references-there x.clauses (ap (λ (y : ImplDecl). y.clauses) e))
-        where
-          two : {r r' : Reference} {ks ks' : List Reference} → r ≡ r' → ks ≡ ks'
-              → (let y : ImplDecl = record { name = x.name; home = x.home; params = x.params; header = r; clauses = ks } in y) ≡ record { name = x.name; home = x.home; params = x.params; header = r'; clauses = ks' }
-          two p q = cc
-
-      join : (ss ss' : List StructDecl) (ts ts' : List TraitDecl) (is is' : List ImplDecl) → ss ≡ ss' → ts ≡ ts' → is ≡ is'
-          → (let V : World = record { crates = W.crates; structs = ss; traits = ts; impls = is } in V) ≡ record { crates = W.crates; structs = ss'; traits = ts'; impls = is' }
-      join ss ss' ts ts' is is' p q r = cc
+  plain-references : (rs : List Reference) → ((r : Reference) → In r rs → IsPlainTerm r.args) → (q : Reference) → In q (map (arranged_reference α) rs) → IsPlainTerm q.args
+  plain-references rs h q m = let r = map-in (arranged_reference α) rs q m in subst (λ (z : Reference). IsPlainTerm z.args) r.2 (plain-there r.0.args (h r.0 r.1))
 
   core-impl-stays : (i : ImplDecl) → In i core_world.impls → arranged_impl α i ≡ i
   core-impl-stays i m = stays core_world.impls refl i m
@@ -310,20 +251,40 @@ module _ (α : Arrangement) (W : World) (vs : List View) (rank : ℕ → ℕ) (l
   impl-of : (i : ImplDecl) → In i Z.impls → (x : ImplDecl) × In x W.impls × (arranged_impl α x ≡ i)
   impl-of i m = map-in (arranged_impl α) W.impls i m
 
-  clause-of : (x : ImplDecl) (k : Reference) → In k (arranged_impl α x).clauses → (q : Reference) × In q x.clauses × (arranged_reference α q ≡ k)
-  clause-of x k m = map-in (arranged_reference α) x.clauses k m
+  trait-of : (y : TraitDecl) → In y Z.traits → (x : TraitDecl) × In x W.traits × (arranged_trait α x ≡ y)
+  trait-of y m = map-in (arranged_trait α) W.traits y m
+
+  struct-there : (x : StructDecl) → StructObeys x → StructObeys (arranged_struct α x)
+  struct-there x o t m = let q = map-in (arranged α) x.fields t m in subst IsPlainTerm q.2 (plain-there q.0 (o q.0 q.1))
+
+  trait-there : (x : TraitDecl) → TraitObeys W x → TraitObeys Z (arranged_trait α x)
+  trait-there x o = record {
+    plain = plain-references x.bounds o.plain;
+    names = λ b m. let q = map-in (arranged_reference α) x.bounds b m in subst (λ r. in_scope Z x.home r ≡ true) q.2 (scope-there α W w x.home q.0 (o.names q.0 q.1));
+    autos_bare = λ e. ap (map (arranged_reference α)) (o.autos_bare e);
+  }
+
+  impl-there : (i : ImplDecl) → ImplObeys W i → ImplObeys Z (arranged_impl α i)
+  impl-there i o = record {
+    plain_header = plain-there i.header.args o.plain_header;
+    plain_clauses = plain-references i.clauses o.plain_clauses;
+    names = scope-there α W w i.home i.header o.names;
+    covered = λ k m s n e. let q = map-in (arranged_reference α) i.clauses k m in
+        mentions-stay α s n i.header.args ∙ o.covered q.0 q.1 s n (sym (mentions-stay α s n q.0.args) ∙ ap (λ (r : Reference). mentions_as s n r.args) q.2 ∙ e);
+    not_sized = o.not_sized;
+  }
 
   core-there : with_impls (view_of Z core) core_world.impls ≡ core_world
-  core-there = ap (λ (V : World). with_impls V core_world.impls) (view-there α W core) ∙ ap (λ (V : World). with_impls (arranged_world α V) core_world.impls) l.core_there
+  core-there = ap (λ (V : World). with_impls V core_world.impls) (view-there α W core) ∙ ap (λ (V : World). with_impls (arranged_world α V) core_world.impls) l.fits.core_there
 
   core-later : HasLaterImpls Z core core_world.impls
   core-later = record {
-    stand = λ i m. subst (λ (V : World). In i V.impls) (sym (view-there α W core)) (subst (λ (x : ImplDecl). In x (arranged_world α (view_of W core)).impls) (core-impl-stays i m) (in-map (arranged_impl α) (view_of W core).impls i (l.core_later.stand i m)));
+    stand = λ i m. subst (λ (V : World). In i V.impls) (sym (view-there α W core)) (subst (λ (x : ImplDecl). In x (arranged_world α (view_of W core)).impls) (core-impl-stays i m) (in-map (arranged_impl α) (view_of W core).impls i (l.fits.core_later.stand i m)));
     added = λ i m. by i (map-in (arranged_impl α) (view_of W core).impls i (subst (λ (V : World). In i V.impls) (view-there α W core) m));
   }
     where
       by : (i : ImplDecl) → (x : ImplDecl) × In x (view_of W core).impls × (arranged_impl α x ≡ i) → In i core_world.impls ⊎ Added Z i.home i
-      by i x = or (l.core_later.added x.0 x.1)
+      by i x = or (l.fits.core_later.added x.0 x.1)
         where
           or : In x.0 core_world.impls ⊎ Added W x.0.home x.0 → In i core_world.impls ⊎ Added Z i.home i
           or (inl m) = inl (subst (λ (y : ImplDecl). In y core_world.impls) (sym (core-impl-stays x.0 m) ∙ x.2) m)
@@ -338,45 +299,26 @@ module _ (α : Arrangement) (W : World) (vs : List View) (rank : ℕ → ℕ) (l
 
   pub arranged-joined : JoinedSet Z [] rank
   arranged-joined = record {
-    terms = terms-so;
-    core_there = core-there;
-    core_later = core-later;
-    one_struct = one-of (arranged_struct α) (λ (x : StructDecl). x.name) (λ x. refl) W.structs l.one_struct;
-    one_trait = one-of (arranged_trait α) (λ (x : TraitDecl). x.name) (λ x. refl) W.traits l.one_trait;
-    one_impl = one-of (arranged_impl α) (λ (x : ImplDecl). x.name) (λ x. refl) W.impls l.one_impl;
-    headers_in_scope = λ i m. let x = impl-of i m in subst (λ (y : ImplDecl). in_scope Z y.home y.header ≡ true) x.2 (scope-there α W w x.0.home x.0.header (l.headers_in_scope x.0 x.1));
-    autos_bare = λ y m e. let x = map-in (arranged_trait α) W.traits y m in
-        subst (λ (z : TraitDecl). z.bounds ≡ []) x.2 (ap (map (arranged_reference α)) (l.autos_bare x.0 x.1 (ap (λ (z : TraitDecl). z.is_auto) x.2 ∙ e)));
-    bounds_in_scope = λ y b m n. let x = map-in (arranged_trait α) W.traits y m in
+    rules = all-obey Z (λ y m. let x = map-in (arranged_struct α) W.structs y m in subst StructObeys x.2 (struct-there x.0 (struct-rules W l.rules x.0 x.1)))
+        (λ y m. let x = trait-of y m in subst (TraitObeys Z) x.2 (trait-there x.0 (trait-rules W l.rules x.0 x.1)))
+        (λ i m. let x = impl-of i m in subst (ImplObeys Z) x.2 (impl-there x.0 (impl-rules W l.rules x.0 x.1))) at-home l.rules.trait_rank
+        (λ y b m n. let x = trait-of y m in
         let q = map-in (arranged_reference α) x.0.bounds b (subst (λ (z : TraitDecl). In b z.bounds) (sym x.2) n) in
-        subst (λ (z : TraitDecl). in_scope Z z.home b ≡ true) x.2 (subst (λ r. in_scope Z x.0.home r ≡ true) q.2 (scope-there α W w x.0.home q.0 (l.bounds_in_scope x.0 q.0 x.1 q.1)));
-    trait_rank = l.trait_rank;
-    bounds_before = λ y b m n. let x = map-in (arranged_trait α) W.traits y m in
-        let q = map-in (arranged_reference α) x.0.bounds b (subst (λ (z : TraitDecl). In b z.bounds) (sym x.2) n) in
-        subst (λ (z : TraitDecl). l.trait_rank b.trait < l.trait_rank z.name) x.2 (subst (λ (r : Reference). l.trait_rank r.trait < l.trait_rank x.0.name) q.2 (l.bounds_before x.0 q.0 x.1 q.1));
-    autos_at_home = at-home;
-    plain_headers = λ i m. let x = impl-of i m in subst (λ (y : ImplDecl). some_node is_stray y.header.args ≡ false) x.2 (some-same α is_stray x.0.header.args ∙ l.plain_headers x.0 x.1);
-    plain_clauses = λ i k m n. let x = impl-of i m in
-        let q = clause-of x.0 k (subst (λ (y : ImplDecl). In k y.clauses) (sym x.2) n) in
-        subst (λ (r : Reference). some_node is_stray r.args ≡ false) q.2 (some-same α is_stray q.0.args ∙ l.plain_clauses x.0 q.0 x.1 q.1);
-    plain_fields = λ y t m n. let x = map-in (arranged_struct α) W.structs y m in
-        let q = map-in (arranged α) x.0.fields t (subst (λ (z : StructDecl). In t z.fields) (sym x.2) n) in
-        subst (λ z. some_node is_stray z ≡ false) q.2 (some-same α is_stray q.0 ∙ l.plain_fields x.0 q.0 x.1 q.1);
-    plain_bounds = λ y b m n. let x = map-in (arranged_trait α) W.traits y m in
-        let q = map-in (arranged_reference α) x.0.bounds b (subst (λ (z : TraitDecl). In b z.bounds) (sym x.2) n) in
-        subst (λ (r : Reference). some_node is_stray r.args ≡ false) q.2 (some-same α is_stray q.0.args ∙ l.plain_bounds x.0 q.0 x.1 q.1);
-    clauses_covered = λ i k m n s j e. let x = impl-of i m in
-        let q = clause-of x.0 k (subst (λ (y : ImplDecl). In k y.clauses) (sym x.2) n) in
-        subst (λ (y : ImplDecl). mentions_as s j y.header.args ≡ true) x.2
-        (mentions-stay α s j x.0.header.args ∙ l.clauses_covered x.0 q.0 x.1 q.1 s j (sym (mentions-stay α s j q.0.args) ∙ ap (λ (r : Reference). mentions_as s j r.args) q.2 ∙ e));
-    sized_alone = λ i m. let x = impl-of i m in subst (λ (y : ImplDecl). (y.header.trait == sized) ≡ false) x.2 (l.sized_alone x.0 x.1);
-    dyns_hold_bounds = written-stays α W ∙ l.dyns_hold_bounds;
-    dyns_in_order = order-stays α W l.dyns_in_order;
-    core_first = l.core_first;
-    uses_before = l.uses_before;
-    uses_stand = l.uses_stand;
-    as_answered = tt;
+        subst (λ (z : TraitDecl). l.rules.trait_rank b.trait < l.rules.trait_rank z.name) x.2
+        (subst (λ (r : Reference). l.rules.trait_rank r.trait < l.rules.trait_rank x.0.name) q.2 (l.rules.supers_before x.0 q.0 x.1 q.1)));
+    fits = record {
+      core_there = core-there;
+      core_later = core-later;
+      core_first = l.fits.core_first;
+      uses_before = l.fits.uses_before;
+      uses_stand = l.fits.uses_stand;
+      one_struct = one-of (arranged_struct α) (λ (x : StructDecl). x.name) (λ x. refl) W.structs l.fits.one_struct;
+      one_trait = one-of (arranged_trait α) (λ (x : TraitDecl). x.name) (λ x. refl) W.traits l.fits.one_trait;
+      one_impl = one-of (arranged_impl α) (λ (x : ImplDecl). x.name) (λ x. refl) W.impls l.fits.one_impl;
+      dyns_in_order = order-stays α W l.fits.dyns_in_order;
+    };
     orphan_rule = λ i m. let x = impl-of i m in subst (λ (y : ImplDecl). keeps_orphan_rule Z y.home y.header ≡ true) x.2 (keeps-there α W w x.0.home x.0.header ∙ l.orphan_rule x.0 x.1);
+    as_answered = tt;
   }
     where
       at-home : AutoAtHome Z
@@ -385,7 +327,7 @@ module _ (α : Arrangement) (W : World) (vs : List View) (rank : ℕ → ℕ) (l
           by : (x : ImplDecl) × In x W.impls × (arranged_impl α x ≡ i)
               → (s : ℕ) × (ks : Trees) × (os : Trees) × (i.header.args ≡ tree (adt s) ks os) × (struct_is (λ x. x.home == i.home) Z s ≡ true)
           by x =
-              let h = l.autos_at_home x.0 x.1 (sym (auto-same α W w x.0.header.trait) ∙ ap (λ (y : ImplDecl). is_auto Z y.header.trait) x.2 ∙ e) in (
+              let h = l.rules.autos_at_home x.0 x.1 (sym (auto-same α W w x.0.header.trait) ∙ ap (λ (y : ImplDecl). is_auto Z y.header.trait) x.2 ∙ e) in (
                 h.0,
                 children_in_order α (adt h.0) h.1 (arranged α h.1),
                 arranged α h.2,
@@ -396,18 +338,18 @@ module _ (α : Arrangement) (W : World) (vs : List View) (rank : ℕ → ℕ) (l
 module _ (α : Arrangement) (W : World) (vs : List View) (rank : ℕ → ℕ) (l : LinkedSet W vs rank) where
   each-there : (ks : List Reference) → Every (HasProof (arranged_world α W) []) (map (arranged_reference α) ks) → Every (HasProof W []) ks
   each-there [] h = tt
-  each-there (k ∷ ks) h = (proof-unarranged α W l.joined.dyns_hold_bounds [] k h.0, each-there ks h.1)
+  each-there (k ∷ ks) h = (proof-unarranged α W (dyns-hold-bounds W l.joined.rules) [] k h.0, each-there ks h.1)
 
   each-back : (ks : List Reference) → Every (HasProof W []) ks → Every (HasProof (arranged_world α W) []) (map (arranged_reference α) ks)
   each-back [] h = tt
-  each-back (k ∷ ks) h = (proof-arranged α W (bound-world W l.joined.dyns_hold_bounds) [] k h.0, each-back ks h.1)
+  each-back (k ∷ ks) h = (proof-arranged α W (bound-world W (dyns-hold-bounds W l.joined.rules)) [] k h.0, each-back ks h.1)
 
   -- what a linked set is, it is in the other order too
   pub arranged-linked : LinkedSet (arranged_world α W) [] rank
   arranged-linked = record { joined = arranged-joined α W vs rank l.joined; supers_proved = λ i m B c f p. by i m B c f p (map-in (arranged_impl α) W.impls i m) }
     where
       w : BoundWorld W
-      w = bound-world W l.joined.dyns_hold_bounds
+      w = bound-world W (dyns-hold-bounds W l.joined.rules)
 
       by : (i : ImplDecl) → In i (arranged_world α W).impls → (B : Trees) → is_closed B ≡ true → Fits B i.header.args → Every (HasProof (arranged_world α W) []) (all_with_args B i.clauses)
           → (x : ImplDecl) × In x W.impls × (arranged_impl α x ≡ i) → Every (HasProof (arranged_world α W) []) (strict_supertraits (arranged_world α W) (with_args B i.header))

@@ -4,12 +4,14 @@ use Rattle.std.specs.List.{list_all}
 use Rattle.type_terms.specs.Promised.Label.{dynamic}
 use Rattle.type_terms.specs.Promised.Trees.{Trees, none, tree}
 use Rattle.type_terms.specs.Promised.Worlds.{World, Reference, StructDecl, TraitDecl, ImplDecl}
-use Rattle.type_terms.specs.Promised.LinkedSet.{all_args, all_written, dyns_rise, DynsInOneOrder}
+use Rattle.type_terms.specs.Promised.LinkedSet.{dyns_rise, DynsInOneOrder}
+use Rattle.type_terms.specs.LinkedSet.{all_args, all_written}
 use Rattle.type_terms.specs.Promised.Arranging.{Arrangement, autos_in, with_autos, arranged, arranged_reference, arranged_struct, arranged_trait, arranged_impl, arranged_world}
 use Rattle.type_terms.proofs.RenumberedTrees.{and-same}
 use Rattle.type_terms.proofs.RenumberedRules.{all-over}
 use Rattle.type_terms.proofs.ArrangedTrees.{fill-own, fill-fill, over-fill, autos-now, as-many}
 use Rattle.type_terms.proofs.TermBasics.{node}
+use Rattle.type_terms.proofs.JoinedParts.{each-written, all-written}
 
 -- As they are listed
 abbrev as-listed : Arrangement
@@ -68,13 +70,13 @@ written-over α W p q h =
 
 -- By their numbers they stand in one order
 pub rising-in-order : (W : World) → all_written dyns_rise W ≡ true → DynsInOneOrder W
-rising-in-order W h = (as-listed, written-over as-listed W dyns_rise dyns_rise (λ t. ap dyns_rise (listed t)) ∙ h)
+rising-in-order W h = (as-listed, each-written dyns_rise (arranged_world as-listed W) (written-over as-listed W dyns_rise dyns_rise (λ t. ap dyns_rise (listed t)) ∙ h))
 
 pub order-stays : (α : Arrangement) (W : World) → DynsInOneOrder W → DynsInOneOrder (arranged_world α W)
 order-stays α W (β, h) = (
   from α β,
-  written-over (from α β) (arranged_world α W) dyns_rise (λ t. dyns_rise (arranged (from α β) t)) (λ t. refl)
+  each-written dyns_rise (arranged_world (from α β) (arranged_world α W))
+      (written-over (from α β) (arranged_world α W) dyns_rise (λ t. dyns_rise (arranged (from α β) t)) (λ t. refl)
       ∙ written-over α W (λ t. dyns_rise (arranged (from α β) t)) (λ t. dyns_rise (arranged β t)) (λ t. ap dyns_rise (led-on α β t))
-      ∙ sym (written-over β W dyns_rise (λ t. dyns_rise (arranged β t)) (λ t. refl))
-      ∙ h,
+      ∙ sym (written-over β W dyns_rise (λ t. dyns_rise (arranged β t)) (λ t. refl)) ∙ all-written dyns_rise (arranged_world β W) h),
 )

@@ -11,7 +11,8 @@ use Rattle.type_terms.specs.Promised.Walks.{Met, local, struct_leaf, dyn_leaf, e
 use Rattle.type_terms.specs.Promised.Answers.{is_closed}
 use Rattle.type_terms.specs.Promised.Supers.{dyns_of_bounds}
 use Rattle.type_terms.specs.Promised.Versions.{in_scope, Added}
-use Rattle.type_terms.specs.Promised.LinkedSet.{LinkedSet, Cleared, all_written}
+use Rattle.type_terms.specs.Promised.LinkedSet.{LinkedSet, Cleared}
+use Rattle.type_terms.specs.LinkedSet.{all_written}
 use Rattle.type_terms.specs.LinkedSet.{Unknown}
 use Rattle.type_terms.specs.Promised.Renumbering.{View, HoldsView, asker_in_set, renumbered_reference, renumbered_impl}
 use Rattle.type_terms.specs.Renumbering.{renumbered_rule}
@@ -31,6 +32,7 @@ use Rattle.type_terms.proofs.ArrangedRules.{BoundWorld, rules-arranged, over-sup
 use Rattle.type_terms.proofs.ArrangedProofs.{bound-world, written-stays, world-back, proof-arranged, proof-unarranged}
 use Rattle.type_terms.proofs.ArrangedAnswers.{over-closed, over-visited}
 use Rattle.type_terms.proofs.ArrangedSets.{sees-same, struct-so, trait-so, scope-there, keeps-there, added-there, arranged-linked}
+use Rattle.type_terms.proofs.JoinedParts.{dyns-hold-bounds}
 
 module _ (α : Arrangement) (W : World) (h : all_written dyns_of_bounds W ≡ true) where
   abbrev Z : World
@@ -149,7 +151,7 @@ in-any-order W vs rank l α v s = record {
 }
   where
     h : all_written dyns_of_bounds W ≡ true
-    h = l.joined.dyns_hold_bounds
+    h = dyns-hold-bounds W l.joined.rules
 
     w : BoundWorld W
     w = bound-world W h

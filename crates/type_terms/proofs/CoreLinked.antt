@@ -8,15 +8,15 @@ use Rattle.type_terms.specs.Codes.{same}
 use Rattle.type_terms.specs.Promised.Trees.{Trees, none, tree, ◌+++◌, instantiate, some_node, Fits, is_sort}
 use Rattle.type_terms.specs.Trees.{arguments}
 use Rattle.type_terms.specs.Promised.Worlds.{World, Reference, CrateDecl, StructDecl, TraitDecl, ImplDecl, core, structs_named, traits_named, view_of, with_args, all_with_args}
-use Rattle.type_terms.specs.Promised.Erased.{IsTerms}
-use Rattle.type_terms.specs.Erased.{IsCovered}
+use Rattle.type_terms.specs.Erased.{IsTerms, IsErasedTerm, IsCovered}
 use Rattle.type_terms.specs.Promised.Rules.{sized_leaf, sized_struct, built_in, by_impl, Rule, row, impl_rules, sized_rules, is_auto, is_coinductive, same_reference, sized, clone, copy, asked, last_asked, each_asked, fields_of, strict_supertraits}
 use Rattle.type_terms.specs.Promised.Proofs.{In, Every, HasProof}
 use Rattle.type_terms.specs.Promised.Walks.{keeps_orphan_rule}
 use Rattle.type_terms.specs.Promised.Answers.{is_closed}
 use Rattle.type_terms.specs.Promised.Core.{core_world, box, box_impl, copy_impls, type_param}
 use Rattle.type_terms.specs.Promised.Supers.{mentions_as, dyns_of_bounds}
-use Rattle.type_terms.specs.Promised.LinkedSet.{LinkedSet, is_stray, dyns_rise, all_written}
+use Rattle.type_terms.specs.Promised.LinkedSet.{LinkedSet, AllWritten, is_stray, dyns_rise}
+use Rattle.type_terms.specs.LinkedSet.{all_written}
 use Rattle.type_terms.specs.Promised.Versions.{in_scope}
 use Rattle.type_terms.proofs.Members.{here, there, in-cases, in-nothing, in-append, in-left, in-filter, flat-in, some-member, member-some, same-number, self-number, not-both}
 use Rattle.type_terms.proofs.Walking.{left, right, both, or-cases}
@@ -30,6 +30,7 @@ use Rattle.type_terms.proofs.Applies.{applies, fits-complete, same-reference-com
 use Rattle.type_terms.proofs.SupersProved.{CoreLike, Supers, in-sized, clone-supers, copy-supers, copy-has, copy-inductive, supers-of-all}
 use Rattle.type_terms.proofs.CoreThere.{whole-there, whole-later}
 use Rattle.type_terms.proofs.ArrangedTwice.{rising-in-order}
+use Rattle.type_terms.proofs.JoinedParts.{terms-written, each-written}
 
 -- Tests
 -- no two have one key
@@ -131,35 +132,61 @@ pub tested-linked : (W : World) → Tested W
     → LinkedSet W [] (λ n. n)
 tested-linked W t supers = record {
   joined = record {
-    terms = t.terms;
-    core_there = whole-there W t.core_there;
-    core_later = whole-later W t.core_there;
-    one_struct = distinct-one (λ (x : StructDecl). x.name) W.structs t.structs;
-    one_trait = distinct-one (λ (x : TraitDecl). x.name) W.traits t.traits;
-    one_impl = distinct-one (λ (x : ImplDecl). x.name) W.impls t.impls;
-    headers_in_scope = λ i h. member-each (λ (j : ImplDecl). in_scope W j.home j.header) W.impls i t.headers h;
-    autos_bare = λ x h e. bare-auto x (member-each (λ (y : TraitDecl). not y.is_auto || nothing-written y.bounds) W.traits x t.autos h) e;
-    bounds_in_scope = λ x b h g. left (in_scope W x.home b) _ (bound x b h g);
-    trait_rank = λ n. n;
-    bounds_before = λ x b h g. less b.trait x.name (left (ltb b.trait x.name) _ (right (in_scope W x.home b) _ (bound x b h g)));
-    autos_at_home = λ i h e. absurd (not-both (is_auto W i.header.trait) e (not-true (is_auto W i.header.trait) (member-each (λ (j : ImplDecl). not (is_auto W j.header.trait)) W.impls i t.not_of_autos h)));
-    plain_headers = λ i h. not-true (some_node is_stray i.header.args) (member-each (λ (j : ImplDecl). not (some_node is_stray j.header.args)) W.impls i t.plain_headers h);
-    clauses_covered = λ i k h g s n. covers-all s n k.args i.header.args (each-each (λ (j : ImplDecl). j.clauses) (λ j q. covers_as q.args j.header.args) W.impls t.covered i k h g);
-    sized_alone = λ i h. not-true (i.header.trait == sized) (member-each (λ (j : ImplDecl). not (j.header.trait == sized)) W.impls i t.sized_alone h);
-    dyns_hold_bounds = t.dyns_hold_bounds;
-    plain_clauses = λ i k h g. not-true (some_node is_stray k.args) (each-each (λ (j : ImplDecl). j.clauses) (λ j q. not (some_node is_stray q.args)) W.impls t.clauses i k h g);
-    plain_fields = λ x y h g. not-true (some_node is_stray y) (each-each (λ (z : StructDecl). z.fields) (λ z q. not (some_node is_stray q)) W.structs t.fields x y h g);
-    plain_bounds = λ x b h g. not-true (some_node is_stray b.args) (right (ltb b.trait x.name) _ (right (in_scope W x.home b) _ (bound x b h g)));
-    dyns_in_order = rising-in-order W t.dyns;
-    core_first = refl;
-    uses_before = λ x u h g. less u x.name (left (ltb u x.name) _ (used x u h g));
-    uses_stand = λ x u h g. right (ltb u x.name) _ (used x u h g);
-    as_answered = tt;
+    rules = record {
+      plain = record {
+        fields = λ x y h g. record {
+          term = e.fields x y h g;
+          open_places = not-true (some_node is_stray y) (each-each (λ (z : StructDecl). z.fields) (λ z q. not (some_node is_stray q)) W.structs t.fields x y h g);
+          dyns = w.fields x y h g;
+        };
+        bounds = λ x b h g. record {
+          term = e.bounds x b h g;
+          open_places = not-true (some_node is_stray b.args) (right (ltb b.trait x.name) _ (right (in_scope W x.home b) _ (bound x b h g)));
+          dyns = w.bounds x b h g;
+        };
+        headers = λ i h. record {
+          term = e.headers i h;
+          open_places = not-true (some_node is_stray i.header.args) (member-each (λ (j : ImplDecl). not (some_node is_stray j.header.args)) W.impls i t.plain_headers h);
+          dyns = w.headers i h;
+        };
+        clauses = λ i k h g. record {
+          term = e.clauses i k h g;
+          open_places = not-true (some_node is_stray k.args) (each-each (λ (j : ImplDecl). j.clauses) (λ j q. not (some_node is_stray q.args)) W.impls t.clauses i k h g);
+          dyns = w.clauses i k h g;
+        };
+      };
+      headers_in_scope = λ i h. member-each (λ (j : ImplDecl). in_scope W j.home j.header) W.impls i t.headers h;
+      bounds_in_scope = λ x b h g. left (in_scope W x.home b) _ (bound x b h g);
+      trait_rank = λ n. n;
+      supers_before = λ x b h g. less b.trait x.name (left (ltb b.trait x.name) _ (right (in_scope W x.home b) _ (bound x b h g)));
+      autos_bare = λ x h e. bare-auto x (member-each (λ (y : TraitDecl). not y.is_auto || nothing-written y.bounds) W.traits x t.autos h) e;
+      autos_at_home = λ i h e. absurd (not-both (is_auto W i.header.trait) e (not-true (is_auto W i.header.trait) (member-each (λ (j : ImplDecl). not (is_auto W j.header.trait)) W.impls i t.not_of_autos h)));
+      clauses_covered = λ i k h g s n. covers-all s n k.args i.header.args (each-each (λ (j : ImplDecl). j.clauses) (λ j q. covers_as q.args j.header.args) W.impls t.covered i k h g);
+      sized_alone = λ i h. not-true (i.header.trait == sized) (member-each (λ (j : ImplDecl). not (j.header.trait == sized)) W.impls i t.sized_alone h);
+    };
+    fits = record {
+      core_there = whole-there W t.core_there;
+      core_later = whole-later W t.core_there;
+      core_first = refl;
+      uses_before = λ x u h g. less u x.name (left (ltb u x.name) _ (used x u h g));
+      uses_stand = λ x u h g. right (ltb u x.name) _ (used x u h g);
+      one_struct = distinct-one (λ (x : StructDecl). x.name) W.structs t.structs;
+      one_trait = distinct-one (λ (x : TraitDecl). x.name) W.traits t.traits;
+      one_impl = distinct-one (λ (x : ImplDecl). x.name) W.impls t.impls;
+      dyns_in_order = rising-in-order W t.dyns;
+    };
     orphan_rule = λ i h. member-each (λ (j : ImplDecl). keeps_orphan_rule W j.home j.header) W.impls i t.orphans h;
+    as_answered = tt;
   };
   supers_proved = supers;
 }
   where
+    e : AllWritten IsErasedTerm W
+    e = terms-written W t.terms
+
+    w : AllWritten (λ t. dyns_of_bounds t ≡ true) W
+    w = each-written dyns_of_bounds W t.dyns_hold_bounds
+
     bound : (x : TraitDecl) (b : Reference) → In x W.traits → In b x.bounds → in_scope W x.home b && (ltb b.trait x.name && not (some_node is_stray b.args)) ≡ true
     bound x b h g = each-each (λ (y : TraitDecl). y.bounds) (λ y q. in_scope W y.home q && (ltb q.trait y.name && not (some_node is_stray q.args))) W.traits t.bounds x b h g
 

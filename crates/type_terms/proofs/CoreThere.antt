@@ -20,7 +20,7 @@ whole-later W e = record { stand = λ i h. subst (λ (V : World). In i V.impls) 
 module _ (W : World) (vs : List View) (rank : ℕ → ℕ) (l : JoinedSet W vs rank) where
   -- a trait of core stands in W
   pub core-stands : (x : TraitDecl) → In x core_world.traits → In x W.traits × (sees W core x.home ≡ true)
-  core-stands x h = in-filter (λ (y : TraitDecl). sees W core y.home) W.traits x (subst (λ (V : World). In x V.traits) (sym l.core_there) h)
+  core-stands x h = in-filter (λ (y : TraitDecl). sees W core y.home) W.traits x (subst (λ (V : World). In x V.traits) (sym l.fits.core_there) h)
 
   pub core-seen : (x : TraitDecl) → In x core_world.traits → sees_trait W core x.name ≡ true
   core-seen x h =
@@ -29,7 +29,7 @@ module _ (W : World) (vs : List View) (rank : ℕ → ℕ) (l : JoinedSet W vs r
 
   -- and is what its name stands for
   pub core-is : (x y : TraitDecl) → In x core_world.traits → In y W.traits → y.name ≡ x.name → y ≡ x
-  core-is x y h g e = l.one_trait y x g (core-stands x h).0 e
+  core-is x y h g e = l.fits.one_trait y x g (core-stands x h).0 e
 
   pub sized-bare : (y : TraitDecl) → In y W.traits → y.name ≡ sized → y.bounds ≡ []
   sized-bare y g e = ap (λ (z : TraitDecl). z.bounds) (core-is (core_trait true sized []) y (0, refl) g e)

@@ -8,6 +8,7 @@ use Rattle.type_terms.specs.Trees.{arguments, fits}
 use Rattle.type_terms.specs.Promised.Worlds.{World, Reference, StructDecl, TraitDecl, ImplDecl, structs_named, traits_named, with_args, all_with_args}
 use Rattle.type_terms.specs.Promised.Rules.{Rule, BuiltIn, by_impl, built_in, row, impl_rules, built_in_rules, plain_rules, sized_rules, copy_rules, tuple_rules, fn_ptr_rules, call_rules, but_last, auto_rules, auto_rules_plain, is_written, unsize_rules, unsize_array_rules, unsize_to_dyn_rules, unsize_upcast_rules, unsize_struct_rules, upcasts_principal, upcasts_autos, is_unsizing, some_unsizing, with_unsizing, last_unsizes, object_rules, object_bound_rules, principal_with, autos_with, equal_rows, elaborated, are_declared, are_dyn_compatible, is_declared, is_auto, is_fn_trait, is_dyn, same_reference, asked, each_asked, last_asked, together, fields_of, written_supertraits, strict_supertraits, strict_supertraits_within, sized, clone, copy, tuple_trait, fn_ptr_trait, unsize, sized_tuple, sized_struct, copy_tuple, auto_tuple, auto_struct, fn_ptr_call, object_auto, object_principal, unsize_array, unsize_to_dyn, unsize_dyn, unsize_upcast, unsize_struct}
 use Rattle.type_terms.specs.Promised.Proofs.{In}
+use Rattle.type_terms.specs.Promised.LinkedSet.{AllWritten}
 use Rattle.type_terms.proofs.Members.{here, there, in-cases, in-nothing, in-append, in-left, in-right, in-flat, flat-in, in-map, in-filter, some-member, member-some}
 use Rattle.type_terms.proofs.Walking.{left, right, both}
 use Rattle.type_terms.proofs.RenumberedTrees.{and-same}
@@ -19,11 +20,8 @@ use Rattle.type_terms.proofs.FilledTrees.{Filling, new_label, new_inner, put, Wr
 use Rattle.type_terms.proofs.ArrangedTrees.{reference-at as reference-with}
 
 -- The world's declarations may be put into
-pub record PlainWorld (W : World) : Type 0 where
-  pub headers : (i : ImplDecl) → In i W.impls → Written i.header.args
-  pub clauses : (i : ImplDecl) (k : Reference) → In i W.impls → In k i.clauses → Written k.args
-  pub fields : (x : StructDecl) (t : Trees) → In x W.structs → In t x.fields → Written t
-  pub bounds : (x : TraitDecl) (b : Reference) → In x W.traits → In b x.bounds → Written b.args
+abbrev pub PlainWorld : World → Type 0
+PlainWorld W = AllWritten Written W
 
 flat-into : {A B C : Type 0} (m : B → C) (f : A → List B) (g : A → List C) (xs : List A) → ((x : A) → In x xs → map m (f x) ≡ g x) → map m (flat_map f xs) ≡ flat_map g xs
 flat-into m f g [] h = refl

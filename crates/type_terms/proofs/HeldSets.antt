@@ -1,23 +1,21 @@
 -- A joined set of crates whose headers have checked supertraits is a linked set.
-use Rattle.std.proofs.Common.{◌≡◌, ℕ, zero, suc, true, false, List, [], ◌∷◌, refl, ap, sym, ◌∙◌, ◌&&◌, ◌==◌, subst, ◌⊎◌, inl, inr, map, length, Some}
-use Rattle.std.specs.List.{list_all}
+use Rattle.std.proofs.Common.{◌≡◌, ℕ, zero, suc, true, false, List, [], ◌∷◌, refl, ap, sym, ◌∙◌, ◌==◌, subst, ◌⊎◌, inl, inr, map, length, Some}
 use Rattle.type_terms.specs.Promised.Label.{param, placeholder, adt}
-use Rattle.type_terms.specs.Promised.Trees.{Trees, none, tree, some_node, erase, Fits}
-use Rattle.type_terms.specs.Promised.Worlds.{World, Reference, StructDecl, TraitDecl, ImplDecl, core, sees, view_of, structs_named, with_args, all_with_args}
-use Rattle.type_terms.specs.Promised.Erased.{erased_impl, erased_reference}
+use Rattle.type_terms.specs.Promised.Trees.{Trees, none, tree, some_node, Fits}
+use Rattle.type_terms.specs.Promised.Worlds.{World, Reference, StructDecl, ImplDecl, core, sees, view_of, structs_named, with_args, all_with_args}
 use Rattle.type_terms.specs.Promised.Rules.{Rule, impl_rules, strict_supertraits, is_coinductive, is_auto, sized}
 use Rattle.type_terms.specs.Promised.Proofs.{In, Every, HasProof}
 use Rattle.type_terms.specs.Promised.Answers.{is_open, is_closed}
 use Rattle.type_terms.specs.Promised.Core.{core_world, box}
 use Rattle.type_terms.specs.Promised.Renumbering.{Renumbering, View, HoldsView, view_before, asker_in_set, renumbered_label, renumbered, renumbered_reference, renumbered_impl}
-use Rattle.type_terms.specs.Promised.LinkedSet.{JoinedSet, LinkedSet, IsOfAnAnsweredCrate, is_stray, all_args}
+use Rattle.type_terms.specs.Promised.LinkedSet.{JoinedSet, LinkedSet, IsOfAnAnsweredCrate, is_stray}
 use Rattle.type_terms.specs.Promised.Versions.{sees_trait}
-use Rattle.type_terms.specs.Promised.Supers.{opaque, opaque_reference, dyns_of_bounds, SupersHold, IsHeld}
+use Rattle.type_terms.specs.Promised.Supers.{opaque, opaque_reference, SupersHold, IsHeld}
 use Rattle.type_terms.proofs.Members.{in-filter, filter-in, same-number, true-or-false}
-use Rattle.type_terms.proofs.Walking.{left, right, or-cases}
+use Rattle.type_terms.proofs.Walking.{left, or-cases}
 use Rattle.type_terms.proofs.ProofEntries.{map-in}
 use Rattle.type_terms.proofs.Fitting.{ByImpl, impl-rule, closed-arguments, not-true}
-use Rattle.type_terms.proofs.NoHolds.{member-each, every-member, all-plain-shut, closed-by}
+use Rattle.type_terms.proofs.NoHolds.{every-member, all-plain-shut, closed-by}
 use Rattle.type_terms.proofs.Supertraits.{filters, same-supers}
 use Rattle.type_terms.proofs.OtherImpls.{supers-same}
 use Rattle.type_terms.proofs.LaterVersions.{proof-before}
@@ -28,9 +26,9 @@ use Rattle.type_terms.proofs.CoreLinked.{core-impl, core-covered}
 use Rattle.type_terms.proofs.RenumberedTrees.{injective}
 use Rattle.type_terms.proofs.RenumberedRules.{over-supers}
 use Rattle.type_terms.proofs.RenumberedAnswers.{proof-there}
-use Rattle.type_terms.proofs.FilledRules.{PlainWorld}
 use Rattle.type_terms.proofs.SupersFromChecks.{Judged, checked-instance, checked-rule}
 use Rattle.type_terms.proofs.ArrangedTrees.{reference-at as reference-with}
+use Rattle.type_terms.proofs.JoinedParts.{map-written}
 
 -- Other numbers leave parameters and placeholders as they are
 over-opaque-numbers : (ρ : Renumbering) (t : Trees) → renumbered ρ (opaque t) ≡ opaque (renumbered ρ t)
@@ -58,73 +56,14 @@ map-two f g h k e (r ∷ rs) = two (e r) (map-two f g h k e rs)
     two : {a b : Reference} {c d : List Reference} → a ≡ b → c ≡ d → a ∷ c ≡ b ∷ d
     two p q = cc
 
--- Members of lists that are one
-term-of : (rs : List Reference) (r : Reference) → map erased_reference rs ≡ rs → In r rs → erase r.args ≡ r.args
-term-of [] r e h = cc (h.1)
-term-of (x ∷ xs) r e (zero, q) = subst (λ (y : Reference). erase y.args ≡ y.args) (head-of q) (ap (λ (y : Reference). y.args) (first-of e))
-  where
-    first : List Reference → Reference
-    first [] = x
-    first (y ∷ ys) = y
-
-    first-of : erased_reference x ∷ map erased_reference xs ≡ x ∷ xs → erased_reference x ≡ x
-    first-of e = cc
-
-    head-of : Some x ≡ Some r → x ≡ r
-    head-of q = cc
-term-of (x ∷ xs) r e (suc k, q) = term-of xs r (rest-of e) (k, q)
-  where
-    rest-of : erased_reference x ∷ map erased_reference xs ≡ x ∷ xs → map erased_reference xs ≡ xs
-    rest-of e = cc
-
-impl-term : (is : List ImplDecl) (i : ImplDecl) → map erased_impl is ≡ is → In i is → erased_impl i ≡ i
-impl-term [] i e h = cc (h.1)
-impl-term (x ∷ xs) i e (zero, q) = subst (λ y. erased_impl y ≡ y) (head-of q) (first-of e)
-  where
-    first-of : erased_impl x ∷ map erased_impl xs ≡ x ∷ xs → erased_impl x ≡ x
-    first-of e = cc
-
-    head-of : Some x ≡ Some i → x ≡ i
-    head-of q = cc
-impl-term (x ∷ xs) i e (suc k, q) = impl-term xs i (rest-of e) (k, q)
-  where
-    rest-of : erased_impl x ∷ map erased_impl xs ≡ x ∷ xs → map erased_impl xs ≡ xs
-    rest-of e = cc
-
 module _ (W : World) (vs : List View) (rank : ℕ → ℕ) (l : JoinedSet W vs rank) where
-  -- what is written holds no parameter in the place of a bound
-  fields-so : list_all (λ (x : StructDecl). list_all dyns_of_bounds x.fields) W.structs ≡ true
-  fields-so = left (list_all (λ (x : StructDecl). list_all dyns_of_bounds x.fields) W.structs) _ l.dyns_hold_bounds
-
-  bounds-so : list_all (λ (x : TraitDecl). all_args dyns_of_bounds x.bounds) W.traits ≡ true
-  bounds-so =
-      left (list_all (λ (x : TraitDecl). all_args dyns_of_bounds x.bounds) W.traits) _ (right (list_all (λ (x : StructDecl). list_all dyns_of_bounds x.fields) W.structs) _ l.dyns_hold_bounds)
-
-  impls-so : list_all (λ (i : ImplDecl). dyns_of_bounds i.header.args && all_args dyns_of_bounds i.clauses) W.impls ≡ true
-  impls-so =
-      right (list_all (λ (x : TraitDecl). all_args dyns_of_bounds x.bounds) W.traits) _ (right (list_all (λ (x : StructDecl). list_all dyns_of_bounds x.fields) W.structs) _ l.dyns_hold_bounds)
-
-  impl-so : (i : ImplDecl) → In i W.impls → dyns_of_bounds i.header.args && all_args dyns_of_bounds i.clauses ≡ true
-  impl-so i h = member-each (λ (j : ImplDecl). dyns_of_bounds j.header.args && all_args dyns_of_bounds j.clauses) W.impls i impls-so h
-
-  plain : PlainWorld W
-  plain = record {
-    headers = λ i h. (l.plain_headers i h, left (dyns_of_bounds i.header.args) _ (impl-so i h));
-    clauses = λ i k h g. (l.plain_clauses i k h g, member-each (λ (r : Reference). dyns_of_bounds r.args) i.clauses k (right (dyns_of_bounds i.header.args) _ (impl-so i h)) g);
-    fields = λ x t h g. (l.plain_fields x t h g, member-each dyns_of_bounds x.fields t (member-each (λ (y : StructDecl). list_all dyns_of_bounds y.fields) W.structs x fields-so h) g);
-    bounds = λ x b h g. (l.plain_bounds x b h g, member-each (λ (r : Reference). dyns_of_bounds r.args) x.bounds b (member-each (λ (y : TraitDecl). all_args dyns_of_bounds y.bounds) W.traits x bounds-so h) g);
-  }
-
-  erased-so : (i : ImplDecl) → In i W.impls → erased_impl i ≡ i
-  erased-so i h = impl-term W.impls i (ap (λ (V : World). V.impls) l.terms) h
-
   judged : Judged W
   judged = record {
-    plain = plain;
-    header_terms = λ i h. ap (λ (x : ImplDecl). x.header.args) (erased-so i h);
-    clause_terms = λ i k h g. term-of i.clauses k (ap (λ (x : ImplDecl). x.clauses) (erased-so i h)) g;
-    covered = l.clauses_covered;
-    sized_alone = l.sized_alone;
+    plain = map-written W (λ t p. (p.open_places, p.dyns)) l.rules.plain;
+    header_terms = λ i h. (l.rules.plain.headers i h).term;
+    clause_terms = λ i k h g. (l.rules.plain.clauses i k h g).term;
+    covered = l.rules.clauses_covered;
+    sized_alone = l.rules.sized_alone;
   }
 
   -- what a check says of the view of an answer, it says of the set
@@ -145,7 +84,7 @@ module _ (W : World) (vs : List View) (rank : ℕ → ℕ) (l : JoinedSet W vs r
       seen : sees_trait W c (ρ.traits.to x.header.trait) ≡ true
       seen =
           subst (λ d. sees_trait W d (ρ.traits.to x.header.trait) ≡ true) (ap ρ.crates.to own)
-          (left (sees_trait W (ρ.crates.to x.home) (ρ.traits.to x.header.trait)) _ (l.headers_in_scope (renumbered_impl ρ x) stands))
+          (left (sees_trait W (ρ.crates.to x.home) (ρ.traits.to x.header.trait)) _ (l.rules.headers_in_scope (renumbered_impl ρ x) stands))
 
       supers-are : map (renumbered_reference ρ) (strict_supertraits v.world (opaque_reference x.header)) ≡ strict_supertraits W (opaque_reference (renumbered_reference ρ x.header))
       supers-are =
@@ -165,19 +104,19 @@ module _ (W : World) (vs : List View) (rank : ℕ → ℕ) (l : JoinedSet W vs r
 
   -- Core
   of-core : (i : ImplDecl) → In i core_world.impls → In i W.impls
-  of-core i h = (in-filter (λ (x : ImplDecl). sees W core x.home) W.impls i (l.core_later.stand i h)).0
+  of-core i h = (in-filter (λ (x : ImplDecl). sees W core x.home) W.impls i (l.fits.core_later.stand i h)).0
 
   boxes : structs_named W box ≡ structs_named core_world box
-  boxes = sym (filters (λ (x : StructDecl). x.name == box) (λ (x : StructDecl). sees W core x.home) W.structs seen) ∙ ap (λ (V : World). structs_named V box) l.core_there
+  boxes = sym (filters (λ (x : StructDecl). x.name == box) (λ (x : StructDecl). sees W core x.home) W.structs seen) ∙ ap (λ (V : World). structs_named V box) l.fits.core_there
     where
       box-there : (x : StructDecl) × In x core_world.structs × (x.name ≡ box)
       box-there = (_, (0, refl), refl)
 
       stands : In box-there.0 W.structs × (sees W core box-there.0.home ≡ true)
-      stands = in-filter (λ (x : StructDecl). sees W core x.home) W.structs box-there.0 (subst (λ (V : World). In box-there.0 V.structs) (sym l.core_there) box-there.1)
+      stands = in-filter (λ (x : StructDecl). sees W core x.home) W.structs box-there.0 (subst (λ (V : World). In box-there.0 V.structs) (sym l.fits.core_there) box-there.1)
 
       seen : (x : StructDecl) → In x W.structs → (x.name == box) ≡ true → sees W core x.home ≡ true
-      seen x h e = subst (λ (y : StructDecl). sees W core y.home ≡ true) (l.one_struct box-there.0 x stands.0 h (box-there.2 ∙ sym (same-number x.name box e))) stands.1
+      seen x h e = subst (λ (y : StructDecl). sees W core y.home ≡ true) (l.fits.one_struct box-there.0 x stands.0 h (box-there.2 ∙ sym (same-number x.name box e))) stands.1
 
   k : CoreLike W
   k = core-like W vs rank l
@@ -192,7 +131,7 @@ module _ (W : World) (vs : List View) (rank : ℕ → ℕ) (l : JoinedSet W vs r
   -- where each impl is one of core, or was checked
   module _ (judged-impl : (i : ImplDecl) → In i W.impls → In i core_world.impls ⊎ SupersHold W i) where
     closed-clause : (i : ImplDecl) (A : Trees) → In i W.impls → is_closed A ≡ true → (p : Reference) → In p (all_with_args A i.clauses) → is_closed p.args ≡ true
-    closed-clause i A h c p g = closed-by p.args (all-plain-shut A i.clauses (not-true (some_node is_open A) c) (λ q m. l.plain_clauses i q h m) p g)
+    closed-clause i A h c p g = closed-by p.args (all-plain-shut A i.clauses (not-true (some_node is_open A) c) (λ q m. (l.rules.plain.clauses i q h m).open_places) p g)
 
     step : (r : Reference) (i : ImplDecl) (u : Rule) → In i W.impls → In u (impl_rules r i) → is_closed r.args ≡ true → Every (HasProof W []) u.premises
         → (is_coinductive W r.trait ≡ false → (p : Reference) → In p u.premises → is_closed p.args ≡ true → Supers W p) → Supers W r
@@ -224,7 +163,7 @@ module _ (W : World) (vs : List View) (rank : ℕ → ℕ) (l : JoinedSet W vs r
             (applies W i h (core-covered i m) A c f p)
           where
             one : (q : Reference) → In q (i.header ∷ []) → some_node is_stray q.args ≡ false
-            one q (zero, e) = subst (λ (x : Reference). some_node is_stray x.args ≡ false) (head-of e) (l.plain_headers i h)
+            one q (zero, e) = subst (λ (x : Reference). some_node is_stray x.args ≡ false) (head-of e) (l.rules.plain.headers i h).open_places
               where
                 head-of : Some i.header ≡ Some q → i.header ≡ q
                 head-of e = cc

@@ -142,7 +142,7 @@ module _ (W : World) (vs : List View) (rank : ℕ → ℕ) (l : JoinedSet W vs r
   U = with_impls V is
 
   one : OneEach W
-  one = (l.one_struct, l.one_trait)
+  one = (l.fits.one_struct, l.fits.one_trait)
 
   seen-home : (i : ImplDecl) → In i V.impls → In i W.impls × (sees W c i.home ≡ true)
   seen-home i h = in-filter (λ (x : ImplDecl). sees W c x.home) W.impls i h
@@ -260,7 +260,7 @@ module _ (W : World) (vs : List View) (rank : ℕ → ℕ) (l : JoinedSet W vs r
   pub added-apart : (i j : ImplDecl) → In i W.impls → i.home ≡ c → In j V.impls → (j.home ≡ c → ⊥) → Added W j.home j → CommonInstance i j → ⊥
   added-apart i j hi e hj ne a m =
       later-version W vs rank l c j.home (seen-home j hj).1 (λ q. ne (sym q)) j i a
-      (subst (λ n. in_scope W n i.header ≡ true) e (l.headers_in_scope i hi)) (subst (λ n. keeps_orphan_rule W n i.header ≡ true) e (l.orphan_rule i hi))
+      (subst (λ n. in_scope W n i.header ≡ true) e (l.rules.headers_in_scope i hi)) (subst (λ n. keeps_orphan_rule W n i.header ≡ true) e (l.orphan_rule i hi))
       (record { left = m.right; right = m.left; left_closed = m.right_closed; right_closed = m.left_closed; left_fits = m.right_fits; right_fits = m.left_fits; equal = sym m.equal })
 
 -- the same in a linked set
@@ -281,7 +281,7 @@ module _ (W : World) (vs : List View) (rank : ℕ → ℕ) (l : LinkedSet W vs r
               let b = impl-rule r i u q.4 in
               let A = arguments i.params i.header.args r.args in
               inr (record {
-                unknown = subst (λ (x : Reference). is_known W c x ≡ false) b.is-instance (added-unknown W (l.joined.one_struct, l.joined.one_trait) c i.home i q.3 (never-back W vs rank l.joined c is s i.home m.1 q.2) A b.fitting);
+                unknown = subst (λ (x : Reference). is_known W c x ≡ false) b.is-instance (added-unknown W (l.joined.fits.one_struct, l.joined.fits.one_trait) c i.home i q.3 (never-back W vs rank l.joined c is s i.home m.1 q.2) A b.fitting);
                 supers_stand =
                     subst (λ (x : Reference). Every (HasProof W []) (strict_supertraits W x)) b.is-instance
                     (l.supers_proved i m.0 A (closed-arguments i.params i.header.args r.args z) b.fitting (subst (λ (v : Rule). Every (HasProof W []) v.premises) (sym b.is-rule) ps));
@@ -297,4 +297,4 @@ module _ (W : World) (vs : List View) (rank : ℕ → ℕ) (l : LinkedSet W vs r
 -- as a law
 pub later-unknown : (W : World) (vs : List View) (rank : ℕ → ℕ) → LinkedSet W vs rank → (c d : ℕ) (i : ImplDecl) → sees W d c ≡ false → Added W d i → (A : Trees) → Fits A i.header.args
     → is_known W c (with_args A i.header) ≡ false
-later-unknown W vs rank l c d i e a A f = added-unknown W (l.joined.one_struct, l.joined.one_trait) c d i a e A f
+later-unknown W vs rank l c d i e a A f = added-unknown W (l.joined.fits.one_struct, l.joined.fits.one_trait) c d i a e A f

@@ -26,6 +26,7 @@ pub mod CoreThere
 pub mod ProofLists
 pub mod Applies
 pub mod SupersProved
+pub mod JoinedParts
 pub mod CoreLinked
 pub mod RenumberedTrees
 pub mod RenumberedRules

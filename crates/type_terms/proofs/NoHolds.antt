@@ -449,17 +449,20 @@ shut W vs rank l c r s z h = by (in-append s (flat_map (λ (u : Rule). u.premise
     rs = not-true (some_node is_open r.args) z
 
     fields : (x : StructDecl) (t : Trees) → In x V.structs → In t x.fields → some_node is_stray t ≡ false
-    fields x t g k = l.plain_fields x t (in-filter (λ (y : StructDecl). sees W c y.home) W.structs x g).0 k
+    fields x t g k = (l.rules.plain.fields x t (in-filter (λ (y : StructDecl). sees W c y.home) W.structs x g).0 k).open_places
+
+    bounds : (x : TraitDecl) (b : Reference) → In x W.traits → In b x.bounds → some_node is_stray b.args ≡ false
+    bounds x b g k = (l.rules.plain.bounds x b g k).open_places
 
     of-supers : In s (if is_known_in V c r then [] else strict_supertraits V r) → is_closed s.args ≡ true
-    of-supers g = closed-by s.args (supers-shut W c l.plain_bounds (length V.traits) r s rs (pick (is_known_in V c r) g))
+    of-supers g = closed-by s.args (supers-shut W c bounds (length V.traits) r s rs (pick (is_known_in V c r) g))
       where
         pick : (b : Bool) → In s (if b then [] else strict_supertraits V r) → In s (strict_supertraits V r)
         pick true q = absurd (in-nothing s q)
         pick false q = q
 
     supers-closed : list_all (λ (p : Reference). is_closed p.args) (strict_supertraits V r) ≡ true
-    supers-closed = each-member (λ (p : Reference). is_closed p.args) (strict_supertraits V r) (λ x g. closed-by x.args (supers-shut W c l.plain_bounds (length V.traits) r x rs g))
+    supers-closed = each-member (λ (p : Reference). is_closed p.args) (strict_supertraits V r) (λ x g. closed-by x.args (supers-shut W c bounds (length V.traits) r x rs g))
 
     built-in-closed : premises-closed (built_in_rules V r) ≡ true
     built-in-closed =
@@ -480,7 +483,7 @@ shut W vs rank l c r s z h = by (in-append s (flat_map (λ (u : Rule). u.premise
         let A = arguments m.0.params m.0.header.args r.args in
         closed-by s.args
         (all-plain-shut A m.0.clauses (not-true (some_node is_open A) (closed-arguments m.0.params m.0.header.args r.args z))
-        (λ q j. l.plain_clauses m.0 q i.0 j) s (subst (λ (v : Rule). In s v.premises) (sym b.is-rule) k))
+        (λ q j. (l.rules.plain.clauses m.0 q i.0 j).open_places) s (subst (λ (v : Rule). In s v.premises) (sym b.is-rule) k))
 
     of-rules : (u : Rule) × In u (rules V [] r) × In s u.premises → is_closed s.args ≡ true
     of-rules m = pick (in-append m.0 (flat_map (impl_rules r) V.impls) (built_in_rules V r ++ []) m.1)

@@ -81,14 +81,14 @@ meet W r n k x y = record {
 pub unseen-unknown : (W : World) (vs : List View) (rank : ℕ → ℕ) → JoinedSet W vs rank → (c : ℕ) (i : ImplDecl) → In i W.impls → sees W c i.home ≡ false
     → (A : Trees) → Fits A i.header.args → is_known W c (with_args A i.header) ≡ false
 unseen-unknown W vs rank l c i m e A f =
-    walk-lemma W (l.one_struct, l.one_trait) c i.home (sees_struct W i.home) (sees_trait W i.home) i.header A f
-    (right (sees_trait W i.home i.header.trait) _ (l.headers_in_scope i m)) (l.orphan_rule i m) e
+    walk-lemma W (l.fits.one_struct, l.fits.one_trait) c i.home (sees_struct W i.home) (sees_trait W i.home) i.header A f
+    (right (sees_trait W i.home i.header.trait) _ (l.rules.headers_in_scope i m)) (l.orphan_rule i m) e
 
 pub common-apart : (W : World) (vs : List View) (rank : ℕ → ℕ) → JoinedSet W vs rank → (i j : ImplDecl) → In i W.impls → In j W.impls → CommonInstance i j
     → (sees W j.home i.home ≡ true) ⊎ (sees W i.home j.home ≡ true)
 common-apart W vs rank l i j hi hj m =
-    apart W (l.one_struct, l.one_trait) i.home j.home i.header j.header m.left m.right m.left_fits m.right_fits
-    (l.headers_in_scope i hi) (l.headers_in_scope j hj) (l.orphan_rule i hi) (l.orphan_rule j hj) m.equal
+    apart W (l.fits.one_struct, l.fits.one_trait) i.home j.home i.header j.header m.left m.right m.left_fits m.right_fits
+    (l.rules.headers_in_scope i hi) (l.rules.headers_in_scope j hj) (l.orphan_rule i hi) (l.orphan_rule j hj) m.equal
 
 -- As the theorem says it
 pub no-common-instance : (W : World) (vs : List View) (rank : ℕ → ℕ) → JoinedSet W vs rank → (i j : ImplDecl) → In i W.impls → In j W.impls
@@ -192,10 +192,10 @@ sees-order (suc n) W rank o c d h = by (or-cases ((c == d) || (d == core)) (list
         far (inr (inr q)) = inr (inr (omega (arith, q, below)))
 
 pub one-way : (W : World) (vs : List View) (rank : ℕ → ℕ) → JoinedSet W vs rank → (c d : ℕ) → sees W c d ≡ true → sees W d c ≡ true → c ≡ d
-one-way W vs rank l c d a b = by (sees-order (length W.crates) W rank l.uses_before c d a) (sees-order (length W.crates) W rank l.uses_before d c b)
+one-way W vs rank l c d a b = by (sees-order (length W.crates) W rank l.fits.uses_before c d a) (sees-order (length W.crates) W rank l.fits.uses_before d c b)
   where
     bottom : (e : ℕ) → e ≡ core → rank e ≡ 0
-    bottom e q = ap rank q ∙ l.core_first
+    bottom e q = ap rank q ∙ l.fits.core_first
 
     by : (c ≡ d) ⊎ ((d ≡ core) ⊎ (rank d < rank c)) → (d ≡ c) ⊎ ((c ≡ core) ⊎ (rank c < rank d)) → c ≡ d
     by (inl e) q = e
@@ -314,4 +314,4 @@ later-apart W one c d i j a sj oj m = by (or-cases (trait_is (λ x. x.home == c)
 pub later-version : (W : World) (vs : List View) (rank : ℕ → ℕ) → JoinedSet W vs rank → (c d : ℕ) → sees W c d ≡ true → (c ≡ d → ⊥)
     → (i j : ImplDecl) → Added W d i → in_scope W c j.header ≡ true → keeps_orphan_rule W c j.header ≡ true → CommonInstance i j → ⊥
 later-version W vs rank l c d s ne i j a scope keeps m =
-    ne (one-way W vs rank l c d s (later-apart W (l.one_struct, l.one_trait) c d i j a scope keeps m))
+    ne (one-way W vs rank l c d s (later-apart W (l.fits.one_struct, l.fits.one_trait) c d i j a scope keeps m))

@@ -298,7 +298,7 @@ unsize-row W vs rank l c t b a u z h =
     (parts X u (unsize_to_dyn_rules W a) (unsize_upcast_rules W a ++ unsize_struct_rules W a) (unsize_to_dyn_rules V a) (unsize_upcast_rules V a ++ unsize_struct_rules V a)
     (unsize-to-dyn-row W vs rank l c t b a u z)
     (parts X u (unsize_upcast_rules W a) (unsize_struct_rules W a) (unsize_upcast_rules V a) (unsize_struct_rules V a)
-    (unsize-upcast-row W vs rank l c t b a u) (unsize-struct-row W (l.one_struct, l.one_trait) c t b a u)))
+    (unsize-upcast-row W vs rank l c t b a u) (unsize-struct-row W (l.fits.one_struct, l.fits.one_trait) c t b a u)))
     h
   where
     X : Type 0
@@ -315,7 +315,7 @@ built-in-split W vs rank l c t a u z ps h =
     (parts X u (s1 W) (s2 W ++ (s3 W ++ object_rules W r a)) (s1 V) (s2 V ++ (s3 V ++ object_rules V r a))
     (when (t == sized) (sized_rules W a) (sized_rules V a) u X (λ e g. sized-row W one c t (λ x m n. sized-bare W vs rank l x m (n ∙ same-number t sized e)) a u g))
     (parts X u (s2 W) (s3 W ++ object_rules W r a) (s2 V) (s3 V ++ object_rules V r a)
-    (auto-part W one l.autos_bare c t a u)
+    (auto-part W one l.rules.autos_bare c t a u)
     (parts X u (s3 W) (object_rules W r a) (s3 V) (object_rules V r a)
     (when (t == unsize) (unsize_rules W a) (unsize_rules V a) u X (λ e g. unsize-row W vs rank l c t (λ x m n. unsize-bare W vs rank l x m (n ∙ same-number t unsize e)) a u z g))
     (object-row W vs rank l c t a u ps))))
@@ -331,7 +331,7 @@ built-in-split W vs rank l c t a u z ps h =
     V = view_of W c
 
     one : OneEach W
-    one = (l.one_struct, l.one_trait)
+    one = (l.fits.one_struct, l.fits.one_trait)
 
     s1 : World → List Rule
     s1 U = if t == sized then sized_rules U a else []
@@ -352,7 +352,7 @@ open-world W vs rank l c r z u h ps =
     h
   where
     one : OneEach W
-    one = (l.joined.one_struct, l.joined.one_trait)
+    one = (l.joined.fits.one_struct, l.joined.fits.one_trait)
 
     by-an-impl : In u (flat_map (impl_rules r) W.impls) → In u (flat_map (impl_rules r) (view_of W c).impls) ⊎ Unknown W c r
     by-an-impl g = pick (true-or-false (sees W c i.home))
@@ -373,7 +373,7 @@ open-world W vs rank l c r z u h ps =
         clauses = subst (λ (v : Rule). Every (HasProof W []) v.premises) (sym b.is-rule) ps
 
         scope : in_scope W i.home i.header ≡ true
-        scope = l.joined.headers_in_scope i m.1
+        scope = l.joined.rules.headers_in_scope i m.1
 
         pick : (sees W c i.home ≡ true) ⊎ (sees W c i.home ≡ false) → In u (flat_map (impl_rules r) (view_of W c).impls) ⊎ Unknown W c r
         pick (inl e) = inl (flat-in (impl_rules r) (view_of W c).impls i u (filter-in (λ (x : ImplDecl). sees W c x.home) W.impls i m.1 e) m.2)

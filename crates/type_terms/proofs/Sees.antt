@@ -85,13 +85,13 @@ enough W vs rank l (suc n) c d h = by (split n W c d h) (enough W vs rank l n)
     by (inr e) f = one-up (below (crate-rank rank) (rank e.way) W.crates) (below (crate-rank rank) (rank c) W.crates) fewer W c d e.crate e.way e.stands e.named e.used (f e.way d e.sees-on)
       where
         y : (y : CrateDecl) × In y W.crates × ((y.name == e.way) ≡ true)
-        y = some-member (λ (z : CrateDecl). z.name == e.way) W.crates (l.uses_stand e.crate e.way e.stands e.used)
+        y = some-member (λ (z : CrateDecl). z.name == e.way) W.crates (l.fits.uses_stand e.crate e.way e.stands e.used)
 
         name : y.0.name ≡ e.way
         name = same-number y.0.name e.way y.2
 
         down : rank e.way < rank c
-        down = subst (λ v. rank e.way < rank v) e.named (l.uses_before e.crate e.way e.stands e.used)
+        down = subst (λ v. rank e.way < rank v) e.named (l.fits.uses_before e.crate e.way e.stands e.used)
 
         fewer : below (crate-rank rank) (rank e.way) W.crates < below (crate-rank rank) (rank c) W.crates
         fewer =
@@ -100,12 +100,12 @@ enough W vs rank l (suc n) c d h = by (split n W c d h) (enough W vs rank l n)
 
 -- core sees only itself
 core-alone : (W : World) (vs : List View) (rank : ℕ → ℕ) → JoinedSet W vs rank → (m e : ℕ) → sees_within m W core e ≡ true → e ≡ core
-core-alone W vs rank l m e g = by (sees-order m W rank l.uses_before core e g)
+core-alone W vs rank l m e g = by (sees-order m W rank l.fits.uses_before core e g)
   where
     by : (core ≡ e) ⊎ ((e ≡ core) ⊎ (rank e < rank core)) → e ≡ core
     by (inl q) = sym q
     by (inr (inl q)) = q
-    by (inr (inr q)) = absurd (omega (arith, q, l.core_first))
+    by (inr (inr q)) = absurd (omega (arith, q, l.fits.core_first))
 
 near-chain : (W : World) (vs : List View) (rank : ℕ → ℕ) → JoinedSet W vs rank → (m c d e : ℕ) → (c ≡ d) ⊎ (d ≡ core) → sees_within m W d e ≡ true
     → (k : ℕ) × (sees_within k W c e ≡ true)

@@ -354,16 +354,16 @@ module _ (W : World) (vs : List View) (rank : ℕ → ℕ) (l : JoinedSet W vs r
   core-supers r h =
       sym (same-supers W vs rank l core r (sees-core r.trait h))
       ∙ sym (supers-same (view_of W core) (view_of W core).crates core_world.impls r)
-      ∙ ap (λ (V : World). strict_supertraits V r) l.core_there
+      ∙ ap (λ (V : World). strict_supertraits V r) l.fits.core_there
 
   core-autos : (t : ℕ) → is_declared core_world t ≡ true → is_auto W t ≡ is_auto core_world t
-  core-autos t h = ap (list_any (λ (x : TraitDecl). x.is_auto)) (sym (same-named W vs rank l core t (sees-core t h)) ∙ ap (λ (V : World). traits_named V t) l.core_there)
+  core-autos t h = ap (list_any (λ (x : TraitDecl). x.is_auto)) (sym (same-named W vs rank l core t (sees-core t h)) ∙ ap (λ (V : World). traits_named V t) l.fits.core_there)
 
   auto-bare : (t : ℕ) → is_auto W t ≡ true → Bare W t
   auto-bare t h y g n =
       let x = some-member (λ (x : TraitDecl). x.is_auto) (traits_named W t) h in
       let m = in-filter (λ (y : TraitDecl). y.name == t) W.traits x.0 x.1 in
-      l.autos_bare y g (ap (λ (z : TraitDecl). z.is_auto) (l.one_trait y x.0 g m.0 (n ∙ sym (same-number x.0.name t m.1))) ∙ x.2)
+      l.rules.autos_bare y g (ap (λ (z : TraitDecl). z.is_auto) (l.fits.one_trait y x.0 g m.0 (n ∙ sym (same-number x.0.name t m.1))) ∙ x.2)
 
   pub core-like : CoreLike W
   core-like = record {

@@ -46,7 +46,7 @@ module _ (W : World) (vs : List View) (rank : ℕ → ℕ) (l : JoinedSet W vs r
   seen-here : (t : ℕ) → sees_trait W c t ≡ true → (x : TraitDecl) → In x W.traits → (x.name == t) ≡ true → sees W c x.home ≡ true
   seen-here t h x g e =
       let y = trait-there (λ z. sees W c z.home) W t h in
-      subst (λ (z : TraitDecl). sees W c z.home ≡ true) (l.one_trait y.0 x y.1 g (y.2 ∙ sym (same-number x.name t e))) y.3
+      subst (λ (z : TraitDecl). sees W c z.home ≡ true) (l.fits.one_trait y.0 x y.1 g (y.2 ∙ sym (same-number x.name t e))) y.3
 
   pub same-named : (t : ℕ) → sees_trait W c t ≡ true → traits_named (view_of W c) t ≡ traits_named W t
   same-named t h = filters (λ (x : TraitDecl). x.name == t) (λ (x : TraitDecl). sees W c x.home) W.traits (λ x g e. seen-here t h x g e)
@@ -78,7 +78,7 @@ module _ (W : World) (vs : List View) (rank : ℕ → ℕ) (l : JoinedSet W vs r
   bound-seen r s h f = subst (λ t. sees_trait W c t ≡ true) (bound-trait r s f) at
     where
       y : (y : TraitDecl) × In y W.traits × (y.name ≡ f.bound.trait) × (sees W f.decl.home y.home ≡ true)
-      y = trait-there (λ z. sees W f.decl.home z.home) W f.bound.trait (left (sees_trait W f.decl.home f.bound.trait) _ (l.bounds_in_scope f.decl f.bound f.stands f.written))
+      y = trait-there (λ z. sees W f.decl.home z.home) W f.bound.trait (left (sees_trait W f.decl.home f.bound.trait) _ (l.rules.bounds_in_scope f.decl f.bound f.stands f.written))
 
       home : sees W c f.decl.home ≡ true
       home = seen-here r.trait h f.decl f.stands (subst (λ t. (f.decl.name == t) ≡ true) f.named (self-number f.decl.name))
@@ -88,33 +88,33 @@ module _ (W : World) (vs : List View) (rank : ℕ → ℕ) (l : JoinedSet W vs r
           (filter-in (λ (z : TraitDecl). z.name == f.bound.trait) W.traits y.0 y.1 (subst (λ t. (y.0.name == t) ≡ true) y.2 (self-number y.0.name)))
           (sees-through W vs rank l c f.decl.home y.0.home home y.3)
 
-  bound-less : (r s : Reference) → FromBound r s → l.trait_rank s.trait < l.trait_rank r.trait
-  bound-less r s f = subst (λ t. l.trait_rank t < l.trait_rank r.trait) (bound-trait r s f) (subst (λ t. l.trait_rank f.bound.trait < l.trait_rank t) f.named (l.bounds_before f.decl f.bound f.stands f.written))
+  bound-less : (r s : Reference) → FromBound r s → l.rules.trait_rank s.trait < l.rules.trait_rank r.trait
+  bound-less r s f = subst (λ t. l.rules.trait_rank t < l.rules.trait_rank r.trait) (bound-trait r s f) (subst (λ t. l.rules.trait_rank f.bound.trait < l.rules.trait_rank t) f.named (l.rules.supers_before f.decl f.bound f.stands f.written))
 
   -- how many traits of the view, and of the set, stand before a trait
   place : TraitDecl → ℕ
-  place x = l.trait_rank x.name
+  place x = l.rules.trait_rank x.name
 
   before-view : ℕ → ℕ
-  before-view t = below place (l.trait_rank t) (view_of W c).traits
+  before-view t = below place (l.rules.trait_rank t) (view_of W c).traits
 
   before-set : ℕ → ℕ
-  before-set t = below place (l.trait_rank t) W.traits
+  before-set t = below place (l.rules.trait_rank t) W.traits
 
-  fewer-in-view : (r s : Reference) → sees_trait W c s.trait ≡ true → l.trait_rank s.trait < l.trait_rank r.trait → before-view s.trait < before-view r.trait
+  fewer-in-view : (r s : Reference) → sees_trait W c s.trait ≡ true → l.rules.trait_rank s.trait < l.rules.trait_rank r.trait → before-view s.trait < before-view r.trait
   unfolding place before-view
   fewer-in-view r s h less =
       let y = trait-there (λ z. sees W c z.home) W s.trait h in
-      subst (λ t. below place (l.trait_rank t) (view_of W c).traits < below place (l.trait_rank r.trait) (view_of W c).traits) y.2
-      (below-strict place (l.trait_rank r.trait) (view_of W c).traits y.0 (filter-in (λ (z : TraitDecl). sees W c z.home) W.traits y.0 y.1 y.3)
-      (subst (λ t. l.trait_rank t < l.trait_rank r.trait) (sym y.2) less))
+      subst (λ t. below place (l.rules.trait_rank t) (view_of W c).traits < below place (l.rules.trait_rank r.trait) (view_of W c).traits) y.2
+      (below-strict place (l.rules.trait_rank r.trait) (view_of W c).traits y.0 (filter-in (λ (z : TraitDecl). sees W c z.home) W.traits y.0 y.1 y.3)
+      (subst (λ t. l.rules.trait_rank t < l.rules.trait_rank r.trait) (sym y.2) less))
 
-  fewer-in-set : (r s : Reference) → sees_trait W c s.trait ≡ true → l.trait_rank s.trait < l.trait_rank r.trait → before-set s.trait < before-set r.trait
+  fewer-in-set : (r s : Reference) → sees_trait W c s.trait ≡ true → l.rules.trait_rank s.trait < l.rules.trait_rank r.trait → before-set s.trait < before-set r.trait
   unfolding place before-set
   fewer-in-set r s h less =
       let y = trait-there (λ z. sees W c z.home) W s.trait h in
-      subst (λ t. below place (l.trait_rank t) W.traits < below place (l.trait_rank r.trait) W.traits) y.2
-      (below-strict place (l.trait_rank r.trait) W.traits y.0 y.1 (subst (λ t. l.trait_rank t < l.trait_rank r.trait) (sym y.2) less))
+      subst (λ t. below place (l.rules.trait_rank t) W.traits < below place (l.rules.trait_rank r.trait) W.traits) y.2
+      (below-strict place (l.rules.trait_rank r.trait) W.traits y.0 y.1 (subst (λ t. l.rules.trait_rank t < l.rules.trait_rank r.trait) (sym y.2) less))
 
   none-flat : {A B : Type 0} (f : A → List B) (xs : List A) → ((x : A) → In x xs → ⊥) → flat_map f xs ≡ []
   none-flat f [] h = refl
@@ -148,7 +148,7 @@ module _ (W : World) (vs : List View) (rank : ℕ → ℕ) (l : JoinedSet W vs r
   pub same-supers : (r : Reference) → sees_trait W c r.trait ≡ true → strict_supertraits (view_of W c) r ≡ strict_supertraits W r
   unfolding place before-view before-set
   same-supers r h =
-      same-within (length (view_of W c).traits) (length W.traits) r h (below-length place (l.trait_rank r.trait) (view_of W c).traits) (below-length place (l.trait_rank r.trait) W.traits)
+      same-within (length (view_of W c).traits) (length W.traits) r h (below-length place (l.rules.trait_rank r.trait) (view_of W c).traits) (below-length place (l.rules.trait_rank r.trait) W.traits)
 
 -- what the view declares, c sees
 pub view-declares : (W : World) (c t : ℕ) → list_any (λ (x : TraitDecl). true) (traits_named (view_of W c) t) ≡ true → sees_trait W c t ≡ true

@@ -6,8 +6,8 @@ use Rattle.type_terms.specs.Promised.Label.{Label, of_type, of_const, of_lifetim
 use Rattle.type_terms.specs.Promised.Trees.{Trees, none, tree, ◌+++◌, leaf, instantiate, shift, nth, some_node, erase, erase_label}
 use Rattle.type_terms.specs.Trees.{arguments, arguments_from, standing_at, first_of}
 use Rattle.type_terms.specs.Promised.Worlds.{World, Reference, CrateDecl, StructDecl, TraitDecl, ImplDecl, structs_named, traits_named, crates_named, sees, sees_within, view_of, with_args, all_with_args}
-use Rattle.type_terms.specs.Erased.{IsErasedTerm}
-use Rattle.type_terms.specs.Promised.Erased.{IsTerms, erased_reference, erased_struct, erased_trait, erased_impl, erased_world}
+use Rattle.type_terms.specs.Erased.{IsErasedTerm, IsTerms}
+use Rattle.type_terms.specs.Promised.Erased.{erased_reference, erased_struct, erased_trait, erased_impl, erased_world}
 use Rattle.type_terms.specs.Promised.Rules.{BuiltIn, sized_tuple, sized_struct, copy_tuple, auto_element, auto_tuple, auto_struct, fn_ptr_call, object_auto, object_principal, equal_rows, upcasts_principal, upcasts_autos, are_declared, unsize_array, unsize_to_dyn, unsize_dyn, unsize_upcast, unsize_struct, Rule, rules, impl_rules, built_in_rules, plain_rules, sized_rules, copy_rules, tuple_rules, fn_ptr_rules, call_rules, but_last, auto_rules, auto_rules_plain, unsize_rules, unsize_array_rules, unsize_to_dyn_rules, unsize_upcast_rules, unsize_struct_rules, some_unsizing, with_unsizing, last_unsizes, object_rules, principal_with, autos_with, elaborated, is_declared, are_dyn_compatible, is_dyn, same_reference, is_auto, is_written, is_fn_trait, sized, copy, clone, tuple_trait, fn_ptr_trait, unsize, row, asked, last_asked, each_asked, together, fields_of, strict_supertraits, strict_supertraits_within, written_supertraits, clause_rules, super_rules, by_clause, by_super}
 use Rattle.type_terms.specs.Promised.Proofs.{In, Every}
 use Rattle.type_terms.proofs.Members.{here, there, in-cases, in-nothing, in-filter, in-append, in-flat}

@@ -164,33 +164,7 @@ proved i h A = by (in-cases i a-impl (b-impl ∷ []) h)
 -- the same set with answers
 pub with-answers : (W : World) (vs : List View) (rank : ℕ → ℕ) → LinkedSet W [] rank → Every (HoldsView W) vs → LinkedSet W vs rank
 with-answers W vs rank l e = record {
-  joined = record {
-    terms = l.joined.terms;
-    core_there = l.joined.core_there;
-    core_later = l.joined.core_later;
-    one_struct = l.joined.one_struct;
-    one_trait = l.joined.one_trait;
-    one_impl = l.joined.one_impl;
-    headers_in_scope = l.joined.headers_in_scope;
-    autos_bare = l.joined.autos_bare;
-    bounds_in_scope = l.joined.bounds_in_scope;
-    trait_rank = l.joined.trait_rank;
-    bounds_before = l.joined.bounds_before;
-    autos_at_home = l.joined.autos_at_home;
-    plain_headers = l.joined.plain_headers;
-    clauses_covered = l.joined.clauses_covered;
-    sized_alone = l.joined.sized_alone;
-    dyns_hold_bounds = l.joined.dyns_hold_bounds;
-    plain_clauses = l.joined.plain_clauses;
-    plain_fields = l.joined.plain_fields;
-    plain_bounds = l.joined.plain_bounds;
-    dyns_in_order = l.joined.dyns_in_order;
-    core_first = l.joined.core_first;
-    uses_before = l.joined.uses_before;
-    uses_stand = l.joined.uses_stand;
-    as_answered = e;
-    orphan_rule = l.joined.orphan_rule;
-  };
+  joined = record { rules = l.joined.rules; fits = l.joined.fits; orphan_rule = l.joined.orphan_rule; as_answered = e };
   supers_proved = l.supers_proved;
 }
 

@@ -181,12 +181,12 @@ module _ (W : World) (vs : List View) (rank : ℕ → ℕ) (l : LinkedSet W vs r
 
   -- core sees itself alone
   pub core-alone : (d : ℕ) → sees W core d ≡ true → d ≡ core
-  core-alone d h = by (sees-order (length W.crates) W rank l.joined.uses_before core d h)
+  core-alone d h = by (sees-order (length W.crates) W rank l.joined.fits.uses_before core d h)
     where
       by : (core ≡ d) ⊎ ((d ≡ core) ⊎ (rank d < rank core)) → d ≡ core
       by (inl e) = sym e
       by (inr (inl e)) = e
-      by (inr (inr e)) = let z : rank core ≡ 0 = l.joined.core_first in absurd (omega (arith, e, z))
+      by (inr (inr e)) = let z : rank core ≡ 0 = l.joined.fits.core_first in absurd (omega (arith, e, z))
 
   visited-cleared : ((i : ImplDecl) → In i W.impls → IsOfAnAnsweredCrate vs i)
       → ((v : View) → In v vs → (i j : ImplDecl) → IsPair v.world v.asker i j → Cleared W (renumbered_impl v.numbers i) (renumbered_impl v.numbers j))

@@ -225,7 +225,7 @@ rules-up W vs rank l c E r u =
     a = r.args
 
     one : OneEach W
-    one = (l.one_struct, l.one_trait)
+    one = (l.fits.one_struct, l.fits.one_trait)
 
     s1 : World → List Rule
     s1 U = if t == sized then sized_rules U a else []
@@ -243,7 +243,7 @@ rules-up W vs rank l c E r u =
         (cond-up (t == sized) (t == sized) (sized_rules V a) (sized_rules W a) u (λ e. e) (λ e h. sized-up W c a u h))
         (ups (s2 V) (s3 V ++ object_rules V r a) (s2 W) (s3 W ++ object_rules W r a) u
         (cond-up (is_auto V t) (is_auto W t) (auto_rules V t a) (auto_rules W t a) u (auto-up W c t)
-        (λ e h. auto-rules-up W one l.autos_at_home c t (auto-up W c t e) a u h))
+        (λ e h. auto-rules-up W one l.rules.autos_at_home c t (auto-up W c t e) a u h))
         (ups (s3 V) (object_rules V r a) (s3 W) (object_rules W r a) u
         (cond-up (t == unsize) (t == unsize) (unsize_rules V a) (unsize_rules W a) u (λ e. e) (λ e h. unsize-up W vs rank l c a u h))
         (object-up W vs rank l c r a u))))

@@ -134,7 +134,7 @@ module _ (W : World) (vs : List View) (rank : ℕ → ℕ) (l : LinkedSet W vs r
   supers-closed r closed s i =
       sym (over-closed v.numbers s.args)
       ∙ closed-by (Q s).args
-      (supers-shut W (asker_in_set v) l.joined.plain_bounds (length seen.traits) (Q r) (Q s) (not-true _ (over-closed v.numbers r.args ∙ closed))
+      (supers-shut W (asker_in_set v) (λ x b g k. (l.joined.rules.plain.bounds x b g k).open_places) (length seen.traits) (Q r) (Q s) (not-true _ (over-closed v.numbers r.args ∙ closed))
       (subst (In (Q s)) (over-supers v.numbers V (view_before W v) holds.renumbers r ∙ supers-same seen seen.crates (view_before W v).impls (Q r))
       (in-map (renumbered_reference v.numbers) (strict_supertraits V r) s i)))
 

@@ -9,7 +9,8 @@ use Rattle.type_terms.specs.Promised.Walks.{is_known, is_known_in, keeps_orphan_
 use Rattle.type_terms.specs.Promised.Answers.{is_closed, is_bounded, is_possible, CommonInstance, IsFixedClause}
 use Rattle.type_terms.specs.Promised.Supers.{IsHeld, dyns_of_bounds}
 use Rattle.type_terms.specs.Promised.Core.{core_world}
-use Rattle.type_terms.specs.Promised.LinkedSet.{JoinedSet, LinkedSet, Cleared, IsPair, all_written, autos_rise, dyns_rise}
+use Rattle.type_terms.specs.Promised.LinkedSet.{JoinedSet, LinkedSet, Cleared, IsPair, autos_rise, dyns_rise}
+use Rattle.type_terms.specs.LinkedSet.{all_written}
 use Rattle.type_terms.specs.LinkedSet.{Unknown}
 use Rattle.type_terms.specs.Promised.Renumbering.{Renumbering, SameMembers, View, HoldsView, asker_in_set, renumbered_reference, renumbered_impl}
 use Rattle.type_terms.specs.Renumbering.{renumbered_rule}

@@ -2,13 +2,19 @@
 use Rattle.std.specs.Prelude.{◌≡◌, ℕ, ◌<◌, Bool, true, false, ◌||◌, ◌==◌}
 use Rattle.type_terms.specs.Promised.Label.{param}
 use Rattle.type_terms.specs.Promised.Trees.{Trees, none, tree, erase}
-use Rattle.type_terms.specs.Promised.Worlds.{Reference, ImplDecl}
+use Rattle.type_terms.specs.Promised.Worlds.{World, Reference, ImplDecl}
+use Rattle.type_terms.specs.Promised.Erased.{erased_world}
 use Rattle.type_terms.specs.Promised.Proofs.{In}
 
 -- The terms have no lifetimes but `'static`, and no binder of lifetimes. For example, `fn(&'static u8)`, but not
 -- `for<'a> fn(&'a u8)`.
 abbrev pub IsErasedTerm : Trees → Type 0
 IsErasedTerm t = erase t ≡ t
+
+-- No term of the world has lifetimes. Otherwise `impl Show for for<'a> fn(&'a u8)` and `impl Show for fn(&'static u8)`
+-- would have no common instance.
+abbrev pub IsTerms : World → Type 0
+IsTerms W = erased_world W ≡ W
 
 -- The terms mention parameter i.
 abbrev pub mentions : ℕ → Trees → Bool

@@ -5,8 +5,8 @@ use Rattle.std.specs.List.{list_all}
 use Rattle.type_terms.specs.Promised.Trees.{Trees, Fits, erase}
 use Rattle.type_terms.specs.Trees.{outer_binder}
 use Rattle.type_terms.specs.Promised.Worlds.{World, Reference, ImplDecl, core, sees, view_of, with_args, all_with_args}
-use Rattle.type_terms.specs.Erased.{IsErasedTerm, IsCovered}
-use Rattle.type_terms.specs.Promised.Erased.{IsTerms, erased_reference, erased_impl, erased_world}
+use Rattle.type_terms.specs.Erased.{IsErasedTerm, IsTerms, IsCovered}
+use Rattle.type_terms.specs.Promised.Erased.{erased_reference, erased_impl, erased_world}
 use Rattle.type_terms.specs.Promised.Rules.{Rule, by_impl, rules, strict_supertraits}
 use Rattle.type_terms.specs.Promised.Proofs.{In, Every, HasProof, HasProofByImpl}
 use Rattle.type_terms.specs.Promised.Walks.{open_walk, keeps_orphan_rule, is_known, is_known_in}

@@ -14,7 +14,8 @@ use Rattle.type_terms.specs.Promised.Proofs.{Every, HasProof}
 use Rattle.type_terms.specs.Promised.Walks.{local, struct_leaf, dyn_leaf, entered, other_leaf, open_place, walk, open_walk, keeps_orphan_rule, is_known}
 use Rattle.type_terms.specs.Promised.Answers.{is_bounded, is_possible, IsDeterminate, Overlaps, IsRealOverlap, IsFixedClause}
 use Rattle.type_terms.specs.Promised.Core.{core_world, box, type_param}
-use Rattle.type_terms.specs.Promised.Erased.{IsTerms, erased_world, erased_impl}
+use Rattle.type_terms.specs.Erased.{IsTerms}
+use Rattle.type_terms.specs.Promised.Erased.{erased_world, erased_impl}
 use Rattle.type_terms.specs.Promised.Renumbering.{Renumbering}
 use Rattle.type_terms.specs.Promised.LinkedSet.{LinkedSet}
 use Rattle.type_terms.specs.Promised.Versions.{in_scope, well_written, open_walk_meets_param, is_addable}

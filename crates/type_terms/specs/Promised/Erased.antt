@@ -1,6 +1,6 @@
 -- Erased worlds: declarations whose terms have no lifetimes. A text's declarations have lifetimes. They are erased
 -- before rules read them.
-use Rattle.std.specs.Prelude.{◌≡◌, map}
+use Rattle.std.specs.Prelude.{map}
 use Rattle.type_terms.specs.Promised.Trees.{erase}
 use Rattle.type_terms.specs.Promised.Worlds.{World, Reference, StructDecl, TraitDecl, ImplDecl}
 
@@ -25,8 +25,3 @@ erased_impl x = record x { header = erased_reference x.header; clauses = map era
 -- where T is still parameter 1.
 abbrev pub erased_world : World → World
 erased_world W = record { crates = W.crates; structs = map erased_struct W.structs; traits = map erased_trait W.traits; impls = map erased_impl W.impls }
-
--- No term of the world has lifetimes. Otherwise `impl Show for for<'a> fn(&'a u8)` and `impl Show for fn(&'static u8)`
--- would have no common instance.
-abbrev pub IsTerms : World → Type 0
-IsTerms W = erased_world W ≡ W

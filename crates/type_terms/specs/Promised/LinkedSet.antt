@@ -1,11 +1,10 @@
 -- Linked sets: crates, possibly of different texts, that together obey the rules of a text and keep the orphan rule.
 use Rattle.std.specs.Prelude.{◌≡◌, ◌⊎◌, ℕ, zero, suc, ◌<◌, Bool, true, false, IsTrue, ◌&&◌, ◌==◌, List, [], map, nat_le}
-use Rattle.std.specs.List.{list_any, list_all}
+use Rattle.std.specs.List.{list_any}
 use Rattle.type_terms.specs.Promised.Label.{Label, Sort, dynamic, auto_trait, adt, param}
-use Rattle.type_terms.specs.Promised.Trees.{Trees, none, tree, Fits, some_node}
+use Rattle.type_terms.specs.Promised.Trees.{Trees, none, tree, Fits, some_node, erase}
 use Rattle.type_terms.specs.Promised.Worlds.{World, CrateDecl, Reference, StructDecl, TraitDecl, ImplDecl, core, view_of, with_args}
 use Rattle.type_terms.specs.Promised.Rules.{strict_supertraits, is_auto, sized}
-use Rattle.type_terms.specs.Promised.Erased.{IsTerms}
 use Rattle.type_terms.specs.Promised.Supers.{mentions_as, dyns_of_bounds}
 use Rattle.type_terms.specs.Promised.Core.{core_world}
 use Rattle.type_terms.specs.Promised.Renumbering.{View, HoldsView, asker_in_set}
@@ -26,16 +25,12 @@ abbrev pub is_stray : Label → Bool
 is_stray (param _ _) = false
 is_stray l = is_open l
 
--- The arguments of all trait references pass the test.
-abbrev pub all_args : (Trees → Bool) → List Reference → Bool
-all_args p rs = list_all (λ r. p r.args) rs
-
--- All terms in the declarations of W pass the test: fields, supertraits, headers and where-clauses.
-abbrev pub all_written : (Trees → Bool) → World → Bool
-all_written p W =
-    list_all (λ x. list_all p x.fields) W.structs
-    && (list_all (λ x. all_args p x.bounds) W.traits
-    && list_all (λ i. p i.header.args && all_args p i.clauses) W.impls)
+-- P holds of all terms in the declarations of W: fields, supertraits, headers and where-clauses.
+pub record AllWritten (P : Trees → Type 0) (W : World) : Type 0 where
+  pub fields : (x : StructDecl) (t : Trees) → In x W.structs → In t x.fields → P t
+  pub bounds : (x : TraitDecl) (b : Reference) → In x W.traits → In b x.bounds → P b.args
+  pub headers : (i : ImplDecl) → In i W.impls → P i.header.args
+  pub clauses : (i : ImplDecl) (k : Reference) → In i W.impls → In k i.clauses → P k.args
 
 -- The auto traits in these bounds have strictly rising numbers, from n.
 abbrev pub autos_rise : ℕ → Trees → Bool
@@ -54,63 +49,49 @@ dyns_rise (tree l c o) = dyns_rise c && dyns_rise o
 -- them list the same auto traits in different orders, because an arrangement turns different lists into different
 -- lists.
 abbrev pub DynsInOneOrder : World → Type 0
-DynsInOneOrder W = (α : Arrangement) × IsTrue (all_written dyns_rise (arranged_world α W))
+DynsInOneOrder W = (α : Arrangement) × AllWritten (λ t. IsTrue (dyns_rise t)) (arranged_world α W)
 
--- W is a joined set: its crates obey the rules of their texts and keep the orphan rule. `views` are the crates with an
--- answer or a verdict, each with the view of that answer. `rank` is an order of crates. The comment above each field
--- says what it means and gives a case that it rules out.
-pub record JoinedSet (W : World) (views : List View) (rank : ℕ → ℕ) : Type 0 where
-  -- Terms have no lifetimes. Ruled out: `impl Show for for<'a> fn(&'a u8)` and `impl Show for fn(&'static u8)`, taken
-  -- for different impls.
-  pub terms : IsTerms W
-  -- The set has `core`, with its structs and its traits in their order. Ruled out: a set in which `Copy` has no
-  -- supertrait.
-  pub core_there : with_impls (view_of W core) core_world.impls ≡ core_world
-  -- It has the impls of `core`, or of a later version of it. Ruled out: a set without `impl Clone for u8`.
-  pub core_later : HasLaterImpls W core core_world.impls
-  -- A name is that of one struct. Ruled out: struct 10 of crate first and another one of crate second, so that second
-  -- has the impls of first.
-  pub one_struct : (x y : StructDecl) → In x W.structs → In y W.structs → x.name ≡ y.name → x ≡ y
-  -- A name is that of one trait. Ruled out: trait 20 of crate first and another one of crate second, so that each may
-  -- write `impl 20 for u8`.
-  pub one_trait : (x y : TraitDecl) → In x W.traits → In y W.traits → x.name ≡ y.name → x ≡ y
-  -- A number is that of one impl. Ruled out: a proof by impl 100 that may be either of two impls.
-  pub one_impl : (x y : ImplDecl) → In x W.impls → In y W.impls → x.name ≡ y.name → x ≡ y
+-- A term as declarations hold it. Ruled out: `for<'a> fn(&'a u8)`, which has a lifetime; `?x`, for which `Sized` is
+-- undetermined; `dyn T`, where a parameter stands for a bound.
+pub record IsPlainTerm (t : Trees) : Type 0 where
+  pub term : erase t ≡ t
+  pub open_places : some_node is_stray t ≡ false
+  pub dyns : IsTrue (dyns_of_bounds t)
+
+-- The crates of W obey the rules of their texts. The comment above each field says what it means and gives a case that
+-- it rules out.
+pub record ObeysTextRules (W : World) : Type 0 where
+  -- Ruled out: `impl Show for ?x`, whose instances are undetermined.
+  pub plain : AllWritten IsPlainTerm W
   -- Headers name what their crate sees, and are as the grammar has them. Ruled out: `impl Tr for A` in a crate that
   -- does not see Tr, next to `impl<T> Tr for T`.
   pub headers_in_scope : (i : ImplDecl) → In i W.impls → IsTrue (in_scope W i.home i.header)
+  -- Supertraits name what their crate sees. Ruled out: a crate that uses `trait Sub: Sup` and sees Sub, but not Sup.
+  pub bounds_in_scope : (x : TraitDecl) (b : Reference) → In x W.traits → In b x.bounds → IsTrue (in_scope W x.home b)
+  -- The supertraits of a trait precede it in some order, for example that of a text. Ruled out: `trait A: B` together
+  -- with `trait B: A`.
+  pub trait_rank : ℕ → ℕ
+  pub supers_before : (x : TraitDecl) (b : Reference) → In x W.traits → In b x.bounds → trait_rank b.trait < trait_rank x.name
   -- Auto traits have no supertraits. Ruled out: `auto trait Safe: Show`, where the fields of a struct prove Safe, but
   -- nothing proves Show.
   pub autos_bare : (x : TraitDecl) → In x W.traits → x.is_auto ≡ true → x.bounds ≡ []
-  -- Supertraits name what their crate sees. Ruled out: a crate that uses `trait Sub: Sup` and sees Sub, but not Sup.
-  pub bounds_in_scope : (x : TraitDecl) (b : Reference) → In x W.traits → In b x.bounds → IsTrue (in_scope W x.home b)
-  -- An order of traits, for example that of their declarations in a text. This field alone rules nothing out.
-  pub trait_rank : ℕ → ℕ
-  -- The supertraits of a trait precede it in this order. Ruled out: `trait A: B` together with `trait B: A`.
-  pub bounds_before : (x : TraitDecl) (b : Reference) → In x W.traits → In b x.bounds → trait_rank b.trait < trait_rank x.name
   -- Impls of auto traits are for structs of their crate. Ruled out: `impl Safe for S` in a crate that the crate of S
   -- does not see. It would disable a rule that the crate of S has.
   pub autos_at_home : AutoAtHome W
-  -- Headers have parameters, but no variables and no bound variables. Ruled out: `impl Show for ?x`, whose instances
-  -- are undetermined.
-  pub plain_headers : (i : ImplDecl) → In i W.impls → some_node is_stray i.header.args ≡ false
-  -- Where-clauses have none either. Ruled out: `impl Show for u8 where ?x: Num`.
-  pub plain_clauses : (i : ImplDecl) (k : Reference) → In i W.impls → In k i.clauses → some_node is_stray k.args ≡ false
-  -- Fields have none either. Ruled out: `struct S(?x)`, for which `Sized` is undetermined.
-  pub plain_fields : (x : StructDecl) (t : Trees) → In x W.structs → In t x.fields → some_node is_stray t ≡ false
-  -- Supertraits have none either. Ruled out: `trait Sub: Sup<?x>`.
-  pub plain_bounds : (x : TraitDecl) (b : Reference) → In x W.traits → In b x.bounds → some_node is_stray b.args ≡ false
   -- A parameter that a where-clause mentions is also in the header, with the same kind. Ruled out:
   -- `impl<T> Show for u8 where T: Num`.
   pub clauses_covered : (i : ImplDecl) (k : Reference) → In i W.impls → In k i.clauses → (s : Sort) (n : ℕ) → mentions_as s n k.args ≡ true → mentions_as s n i.header.args ≡ true
   -- `Sized` has built-in rules only. Ruled out: `impl Sized for dyn Show`. With it, `T: Unsize<dyn Num>` would follow
   -- from `T: Sized` and `T: Num` for every T but `dyn Show`.
   pub sized_alone : (i : ImplDecl) → In i W.impls → (i.header.trait == sized) ≡ false
-  -- The children of a `dyn` are bounds and a lifetime. Ruled out: `struct S<T>(dyn T)`.
-  pub dyns_hold_bounds : IsTrue (all_written dyns_of_bounds W)
-  -- All crates list the auto traits of a `dyn` in one order, so that equal types are equal terms. Ruled out:
-  -- `impl Show for dyn A + B` of one text and `impl Show for dyn B + A` of another.
-  pub dyns_in_order : DynsInOneOrder W
+
+-- The crates of W fit together. `rank` is an order of crates.
+pub record OrderedCrates (W : World) (rank : ℕ → ℕ) : Type 0 where
+  -- The set has `core`, with its structs and its traits in their order. Ruled out: a set in which `Copy` has no
+  -- supertrait.
+  pub core_there : with_impls (view_of W core) core_world.impls ≡ core_world
+  -- It has the impls of `core`, or of a later version of it. Ruled out: a set without `impl Clone for u8`.
+  pub core_later : HasLaterImpls W core core_world.impls
   -- `core` is the first crate. Ruled out: a `core` that uses another crate.
   pub core_first : rank core ≡ 0
   -- Crates use crates that precede them. Ruled out: two crates that use each other, each of which could implement the
@@ -118,12 +99,25 @@ pub record JoinedSet (W : World) (views : List View) (rank : ℕ → ℕ) : Type
   pub uses_before : (x : CrateDecl) (u : ℕ) → In x W.crates → In u x.uses → rank u < rank x.name
   -- Crates use crates that are in the set. Ruled out: `crate first uses base` in a set without base.
   pub uses_stand : (x : CrateDecl) (u : ℕ) → In x W.crates → In u x.uses → IsTrue (list_any (λ (y : CrateDecl). y.name == u) W.crates)
-  -- The set has each answer's crate with the view of that answer. Ruled out: a crate that has one more impl here than
-  -- where `no` was answered.
-  pub as_answered : Every (HoldsView W) views
+  -- A name is that of one struct, one trait or one impl. Ruled out: trait 20 of crate first and another one of crate
+  -- second, so that each may write `impl 20 for u8`.
+  pub one_struct : (x y : StructDecl) → In x W.structs → In y W.structs → x.name ≡ y.name → x ≡ y
+  pub one_trait : (x y : TraitDecl) → In x W.traits → In y W.traits → x.name ≡ y.name → x ≡ y
+  pub one_impl : (x y : ImplDecl) → In x W.impls → In y W.impls → x.name ≡ y.name → x ≡ y
+  -- All crates list the auto traits of a `dyn` in one order, so that equal types are equal terms. Ruled out:
+  -- `impl Show for dyn A + B` of one text and `impl Show for dyn B + A` of another.
+  pub dyns_in_order : DynsInOneOrder W
+
+-- W is a joined set of crates. `views` are those with an answer or a verdict, each with the view of that answer.
+pub record JoinedSet (W : World) (views : List View) (rank : ℕ → ℕ) : Type 0 where
+  pub rules : ObeysTextRules W
+  pub fits : OrderedCrates W rank
   -- Each header keeps the orphan rule of its crate. Ruled out: `impl Show for u8` in two crates that do not declare
   -- Show.
   pub orphan_rule : (i : ImplDecl) → In i W.impls → IsTrue (keeps_orphan_rule W i.home i.header)
+  -- The set has each answer's crate with the view of that answer. Ruled out: a crate that has one more impl here than
+  -- where `no` was answered.
+  pub as_answered : Every (HoldsView W) views
 
 -- For each closed instance of an impl whose where-clauses have proofs, the supertraits of its header have proofs.
 abbrev pub HeadersHaveSupertraits : World → Type 0

@@ -1,13 +1,13 @@
 use Rattle.std.proofs.Common.{sym, subst, ap, ◌∙◌, inl, inr, refl, ◌≡◌, true, false}
 use Rattle.std.specs.Prelude.{bit_and}
-use Rattle.type_terms.specs.Promised.Label.{of_type}
 use Rattle.type_terms.specs.Promised.Handles.{types, trees_at}
 use Rattle.type_terms.specs.Kinds.{args_trees}
 use Rattle.infer_table.specs.Content.{content, variables_of, IsProper}
 use Rattle.infer_table.specs.Occurring.{Pushes}
-use Rattle.infer_table.proofs.ContentFacts.{is-trees}
+use Rattle.infer_table.proofs.ContentFacts.{is-trees, valued}
 use Rattle.infer_table.proofs.OccurFacts.{variable-occurs}
-use Rattle.infer_table.proofs.ResolveFacts.{unknown-free-occurs, unknown-free-proper, proper-through}
+use Rattle.infer_table.proofs.Places.{type-proper}
+use Rattle.infer_table.proofs.ResolveFacts.{value-free-occurs, proper-through}
 use Rattle.infer_table.proofs.Occurring.{looked-at, looked-past, type-filled}
 use Rattle.infer_table.proofs.infer_ctxt.InferCtxt.look_at.Goals as goal
 
@@ -15,9 +15,9 @@ pub returns-then-flags-eq0-clause-looked : goal.returns-then-flags-eq0-clause-lo
 returns-then-flags-eq0-clause-looked c = λ _.
     let es = c.args.cx.now.entries in
     let bs = content es c.args.self.now.values in
-    let none-there = ap (λ n. bit_and n 546) (sym c.flags.ensures) ∙ c.if-flags-eq0.true in
+    let none-there = ap (λ n. bit_and n 514) (sym c.flags.ensures) ∙ c.if-flags-eq0.true in
     looked-past es bs c.args.variable.index c.args.ty c.args.entered.now c.args.entered.now c.args.todo.now.items (type-filled es (variables_of c.args.self.now) bs c.args.ty c.lawful.ensures c.requires.ready.older c.requires.held)
-    (inr (λ _. (sym (unknown-free-occurs bs of_type c.args.variable.index (trees_at es c.args.ty.0) none-there), unknown-free-proper (trees_at es c.args.ty.0) none-there))) (λ i h. inl h)
+    (inr (λ _. (value-free-occurs bs (valued es c.args.self.now.values) c.args.variable.index (trees_at es c.args.ty.0) none-there, type-proper es c.lawful.ensures c.args.ty.0 c.requires.held))) (λ i h. inl h)
 
 pub returns-then-enter-clause-looked : goal.returns-then-enter-clause-looked
 returns-then-enter-clause-looked c = λ _.

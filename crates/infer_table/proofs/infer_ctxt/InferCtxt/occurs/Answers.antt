@@ -1,21 +1,21 @@
 use Rattle.std.proofs.Common.{sym, subst, ap, ◌∙◌, ◌<◌}
 use Rattle.std.specs.Prelude.{bit_and}
-use Rattle.type_terms.specs.Promised.Label.{of_type}
 use Rattle.type_terms.specs.Promised.Handles.{trees_at}
 use Rattle.infer_table.specs.Content.{content}
 use Rattle.infer_table.specs.Occurring.{weight}
 use Rattle.infer_table.proofs.Occurring.{Searches, searches-on, searches-found, searches-next}
-use Rattle.infer_table.proofs.ResolveFacts.{unknown-free-occurs, unknown-free-proper}
+use Rattle.infer_table.proofs.ContentFacts.{valued}
+use Rattle.infer_table.proofs.ResolveFacts.{value-free-occurs}
+use Rattle.infer_table.proofs.Places.{type-proper}
 use Rattle.infer_table.proofs.infer_ctxt.InferCtxt.occurs.Goals as goal
 
 pub returns-then-flags-eq0-clause-found : goal.returns-then-flags-eq0-clause-found
 returns-then-flags-eq0-clause-found c =
     let es = c.args.cx.now.entries in
-    unknown-free-occurs (content es c.args.self.now.values) of_type c.args.variable.index (trees_at es c.args.ty.0) (ap (λ n. bit_and n 546) (sym c.flags-flags.ensures) ∙ c.if-flags-eq0.true)
+    sym (value-free-occurs (content es c.args.self.now.values) (valued es c.args.self.now.values) c.args.variable.index (trees_at es c.args.ty.0) (ap (λ n. bit_and n 514) (sym c.flags-flags.ensures) ∙ c.if-flags-eq0.true))
 
 pub returns-then-flags-eq0-clause-proper : goal.returns-then-flags-eq0-clause-proper
-returns-then-flags-eq0-clause-proper c = λ _.
-    unknown-free-proper (trees_at c.args.cx.now.entries c.args.ty.0) (ap (λ n. bit_and n 546) (sym c.flags-flags.ensures) ∙ c.if-flags-eq0.true)
+returns-then-flags-eq0-clause-proper c = λ _. type-proper c.args.cx.now.entries c.lawful.ensures c.args.ty.0 c.requires.held
 
 pub look_at-requires-clause-held : goal.look_at-requires-clause-held
 look_at-requires-clause-held c =
