@@ -65,14 +65,15 @@ goals-are-lawful = record {
       let wide : widest_of s.view q.form ≤ widest_of s.view g = greater-first (number_of q) (number_of (record { form = g; coinductive = false })) (declared_width s.view) h in
       (wide, number-grows s.view (widest_of s.view q.form) (widest_of s.view g) wide);
   worlds = by;
-  outside = λ s g x. x;
 }
   where
     by : (s : Solving) (mode : TypingMode) (g : CanonicalForm) (heard : History frame_tables (solver_for s mode g)) (q : NestedQuestion)
         → CameInOrder (Anything frame_tables (solver_for s mode g)) (frame_of_goal frame_tables (solver_for s mode g)) heard
         → asks (frame_of_goal frame_tables (solver_for s mode g)) heard ≡ evaluate q
         → (x : (solver_for s mode g).World) → (y : (solver_for s mode q.form).World) × ((f : Fact) → (solver_for s mode g).Proves x f → (solver_for s mode q.form).Proves y f)
-    by s PostAnalysis g heard q came e x = absurd x
+    by s PostAnalysis g heard q came e x =
+        let k = keep-worlds applies_always same_answer (meaning_for s g) PostAnalysis g heard q came e x in
+        (record { crates = k.0.crates; begin = k.0.begin; sized_alone = k.0.sized_alone; no_clauses = k.0.no_clauses; no_placeholders = k.0.no_placeholders }, k.1)
     by s Coherence g heard q came e x =
         let k = keep-worlds applies_always same_answer (meaning_for s g) Coherence g heard q came e x in
         let p = same-place s.view s.crate (meaning_for s g).is_sound (meaning_for s q.form).is_sound k.0.place in (

@@ -25,7 +25,7 @@ use Rattle.candidate_model.specs.Solver.{IsSolution}
 use Rattle.candidate_model.specs.Cover.{slots, nested_at, SolvesEquations, all_candidates}
 use Rattle.candidate_model.proofs.Reading.{read_reference}
 use Rattle.candidate_model.proofs.Supers.{Proved, open-none}
-use Rattle.candidate_model.proofs.HavingViews.{ProvesBy}
+use Rattle.candidate_model.proofs.HavingViews.{LeadsOn}
 use Rattle.candidate_model.proofs.Rows.{read_rule, sized-natural, copy-natural, auto-natural, tuple-natural, fn-ptr-natural}
 use Rattle.type_terms.proofs.BooleanBasics.{true-false}
 
@@ -59,9 +59,9 @@ rigid-head (bound s k i) r = absurd (true-false (sym (right (is_sort s of_type) 
 rigid-head l r = r
 
 -- each premise of a rule that concludes what is closed is closed
-pub premises-proved : (V : World) (crate : ℕ) (H : Reference → Type 0) → ProvesBy V crate H → (r : Reference) (u : Rule) → is_closed r.args ≡ true → In u (rules V [] r) → (ps : List Reference) → ((p : Reference) → In p ps → In p u.premises) → Model.Every H ps → Every (Proved H) ps
-premises-proved V crate H l r u z i [] among e = tt
-premises-proved V crate H l r u z i (p ∷ ps) among e = ((l.shut r u z i p (among p (here p ps)), e.0), premises-proved V crate H l r u z i ps (λ q j. among q (there q p ps j)) e.1)
+pub premises-proved : (V : World) (H : Reference → Type 0) → LeadsOn V → (r : Reference) (u : Rule) → is_closed r.args ≡ true → In u (rules V [] r) → (ps : List Reference) → ((p : Reference) → In p ps → In p u.premises) → Model.Every H ps → Every (Proved H) ps
+premises-proved V H l r u z i [] among e = tt
+premises-proved V H l r u z i (p ∷ ps) among e = ((l.shut r u z i p (among p (here p ps)), e.0), premises-proved V H l r u z i ps (λ q j. among q (there q p ps j)) e.1)
 
 module _ (H : Reference → Type 0) (V : World) (declared : is_declared_view V ≡ true) (a : GoalOverKinds) (v : Values) where
   abbrev xs : List Trees

@@ -84,7 +84,7 @@ module _ (m : ViewMeaning) (declared : is_declared_view m.view ≡ true) (comple
       by-view k =
           let r = subst (λ z. is_known_in m.view m.crate z ≡ true) (sym reference-is) (instances-are-known (is_variable_over a.kinds) m.view m.crate a.reference is.over k v.terms) in
           let u = w.linked.rule (reference_in (goal_fact f v)) s.closed r s.proof in
-          complete H f a e known w v s u.0 u.1 u.2
+          complete H f a e known w.linked.leads w.no_placeholders v s u.0 u.1 u.2
 
       goal-proved : Proved H (read_reference (slots a.kinds v []) a.reference)
       goal-proved =

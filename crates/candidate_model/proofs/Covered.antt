@@ -55,7 +55,7 @@ module _ (applicable : AnswerTrees → Bool) (same : AnswerTrees → AnswerTrees
   start = begin (kinds_known f.kinds)
 
   complete : IsAsMeant m → SolutionsAreCandidates m
-  complete x = solutions-by m x.declared x.determined x.erased x.rank x.acyclic
+  complete x = (solutions-by m x.declared x.determined x.erased x.rank x.acyclic).0
 
   -- ---- the law of cover
   module _ (w : Searched m f) (v : Values) (s : IsSolution (proved_at w.place) (goal_fact f v)) where

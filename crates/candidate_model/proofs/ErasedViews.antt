@@ -7,7 +7,7 @@ use Rattle.type_terms.specs.Promised.Label.{static}
 use Rattle.type_terms.specs.Promised.Trees.{Trees, none, tree, some_node, erase, erase_label}
 use Rattle.type_terms.specs.Promised.Worlds.{World, CrateDecl, Reference, StructDecl, TraitDecl, ImplDecl, structs_named}
 use Rattle.type_terms.specs.Promised.Erased.{erased_reference, erased_struct, erased_trait, erased_impl, erased_world}
-use Rattle.type_terms.specs.Promised.Rules.{unsize}
+use Rattle.type_terms.specs.Promised.Rules.{unsize, rules}
 use Rattle.type_terms.specs.Promised.Proofs.{In}
 use Rattle.type_terms.specs.Promised.Proofs.{HasElaboratedProof}
 use Rattle.type_terms.specs.Promised.Answers.{written_in, is_undeclared}
@@ -16,6 +16,7 @@ use Rattle.type_terms.specs.Promised.Walks.{Met, local, entered, struct_leaf, op
 use Rattle.type_terms.proofs.Members.{here, there, in-map}
 use Rattle.type_terms.proofs.ProofEntries.{map-in}
 use Rattle.type_terms.proofs.NoHolds.{each-member}
+use Rattle.type_terms.proofs.WorkedProofs.{needs-rule}
 use Rattle.type_terms.proofs.Fitting.{child-shut, next-shut}
 use Rattle.type_terms.proofs.Walking.{left, right, both}
 use Rattle.type_terms.proofs.RenumberedRules.{any-over}
@@ -27,15 +28,16 @@ use Rattle.goal_evaluator.specs.Lists.{SomeOf}
 use Rattle.goal_evaluator.specs.Content.{Values}
 use Rattle.goal_evaluator.specs.FrameTables.{kinds_known}
 use Rattle.goal_evaluator.specs.Variables.{is_variable_over}
-use Rattle.candidate_model.specs.Declared.{are_terms, are_references, is_declared_view, is_lifetime_parameter, BoundsAreErased}
+use Rattle.candidate_model.specs.Declared.{are_terms, are_references, is_declared_view, is_lifetime_parameter, BoundsAreErased, LeadDown}
+use Rattle.candidate_model.specs.Facts.{reference_in}
 use Rattle.candidate_model.specs.Determined.{ImplsAreDetermined}
-use Rattle.candidate_model.specs.Meaning.{ViewMeaning, SolutionPlace, by_view, in_set, proved_in, proved_at}
+use Rattle.candidate_model.specs.Meaning.{ViewMeaning, SolutionPlace, by_view, in_set, proved_in, proved_at, proved_alone}
 use Rattle.candidate_model.specs.Knowing.{is_knowable}
 use Rattle.candidate_model.specs.Lifetimes.{goal_gives_lifetimes}
 use Rattle.candidate_model.specs.Solver.{has_placeholder, IsSolution}
 use Rattle.candidate_model.specs.Asking.{GoalOverKinds, goal_over_kinds, asked_if, asked_with, all_known, are_clauses, begins_with_type, next_of, self_of, begins_unknown}
 use Rattle.candidate_model.specs.Candidates.{is_this_param, unknowable}
-use Rattle.candidate_model.specs.Cover.{SolutionsAreByCandidates, SolvesEquations, all_candidates, goal_fact}
+use Rattle.candidate_model.specs.Cover.{SolutionsAreCandidates, SolutionsAloneAreCandidates, SolutionsAreByCandidates, SolvesEquations, all_candidates, goal_fact}
 use Rattle.candidate_model.proofs.DeclaredParts.{header-declared, bound-declared}
 use Rattle.candidate_model.proofs.Instances.{none-either}
 use Rattle.candidate_model.proofs.ErasedTerms.{declared-stays, erased-lifetimes}
@@ -44,9 +46,9 @@ use Rattle.candidate_model.proofs.ErasedCandidates.{without_lifetimes, types-sam
 use Rattle.candidate_model.proofs.ErasedRows.{HeadsStay, struct-head, declared-head, label-stays, candidates-so}
 use Rattle.candidate_model.proofs.HavingViews.{ProvesBy, SearchedThere}
 use Rattle.candidate_model.proofs.NumberedViews.{proves-by, auto-of-struct}
-use Rattle.candidate_model.proofs.ViewProofs.{view-proves}
+use Rattle.candidate_model.proofs.ViewProofs.{leads-on, view-proves}
 use Rattle.type_terms.specs.Promised.Renumbering.{HoldsView}
-use Rattle.candidate_model.proofs.Solver.{solutions-by-candidates}
+use Rattle.candidate_model.proofs.Solver.{view-rules, solutions-by-candidates}
 use Rattle.type_terms.proofs.Matching.{or-false-left as no-left}
 use Rattle.type_terms.proofs.BooleanBasics.{true-false}
 use Rattle.type_terms.proofs.TermBasics.{if-same}
@@ -244,8 +246,21 @@ module _ (m : ViewMeaning) (declared : is_declared_view m.view ≡ true) (determ
         unknowable-gives H m.view cs a v found.1,
       )
 
-pub solutions-by : SolutionsAreByCandidates
-solutions-by m declared determined erased rank down f a e known fits w v s = by w.place s
+-- ---- what has a proof by the view alone
+module _ (m : ViewMeaning) (declared : is_declared_view m.view ≡ true) (determined : ImplsAreDetermined m.view) (erased : BoundsAreErased m.view) (rank : ℕ → ℕ) (down : LeadDown m.view rank) where
+  -- each rule of the view is a candidate, also of a goal that is not knowable
+  solutions-alone : SolutionsAloneAreCandidates m
+  solutions-alone f a e known fits w v s =
+      let cs = w.crates in
+      let Alone = proved_alone m cs in
+      let u = needs-rule (record (erased_world m.view) { crates = cs }) [] (reference_in (goal_fact f v)) s.proof in
+      candidates-so Alone m.view cs a v (λ i j auto l. declared-head l i.header.args (header-declared m.view declared i j) (w.begin i j)) (headers-so m.view cs declared) fits
+      (view-rules (meaning_there m cs) (declared-so m.view cs declared) (determined-so m.view cs determined) Alone f a (asked-same m.view cs f ∙ e) known
+      (leads-on (without_lifetimes m.view cs) m.crate (declared-so m.view cs declared) rank down) w.no_placeholders v s u.0
+      (subst (λ (X : World). In u.0 (rules X [] (reference_in (goal_fact f v)))) (erased-is m.view declared erased cs) u.1) u.2)
+
+solutions-at : (m : ViewMeaning) → is_declared_view m.view ≡ true → ImplsAreDetermined m.view → BoundsAreErased m.view → (rank : ℕ → ℕ) → LeadDown m.view rank → SolutionsAreCandidates m
+solutions-at m declared determined erased rank down f a e known fits w v s = by w.place s
   where
     by : (p : SolutionPlace m) → IsSolution (proved_at p) (goal_fact f v)
         → (is_knowable m.view m.crate a.reference ≡ true → SomeOf (SolvesEquations (proved_at p) a.kinds v) (all_candidates m.view a)) × SolvesEquations (proved_at p) a.kinds v (unknowable m.view a)
@@ -263,3 +278,6 @@ solutions-by m declared determined erased rank down f a e known fits w v s = by 
         given-by m declared determined cs (proved_in x) (proves-by m x V holds)
         (λ i j auto l. let y = auto-of-struct m x V holds (erased_impl i) (in-map erased_impl m.view.impls i j) auto in struct-head l i.header.args y.0 y.1 y.2 y.3)
         f a e known fits w.no_clauses w.no_placeholders v s
+
+pub solutions-by : SolutionsAreByCandidates
+solutions-by m declared determined erased rank down = (solutions-at m declared determined erased rank down, solutions-alone m declared determined erased rank down)

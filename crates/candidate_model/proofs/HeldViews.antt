@@ -6,7 +6,8 @@ use Rattle.type_terms.specs.Promised.Trees.{Trees, none, tree, erase, some_node,
 use Rattle.type_terms.specs.Trees.{Single}
 use Rattle.type_terms.specs.Promised.Worlds.{World, Reference, StructDecl, TraitDecl, ImplDecl}
 use Rattle.type_terms.specs.Promised.Erased.{erased_reference, erased_struct, erased_trait, erased_impl}
-use Rattle.type_terms.specs.Promised.LinkedSet.{is_stray, all_args, all_written}
+use Rattle.type_terms.specs.Promised.LinkedSet.{is_stray}
+use Rattle.type_terms.specs.LinkedSet.{all_args, all_written}
 use Rattle.type_terms.specs.Promised.Proofs.{In}
 use Rattle.type_terms.proofs.Members.{here, there, in-nothing, in-cases}
 use Rattle.type_terms.proofs.ProofEntries.{map-in}

@@ -1,11 +1,12 @@
 -- The solver is a lawful handler, where its candidates are lawful, cover each solution and are not too many.
-use Rattle.std.proofs.Common.{◌≡◌, suc, ◌+◌, ◌≤◌, Bool, true, false, not, ◌||◌, if◌then◌else◌, List, [], ◌∷◌, ◌++◌, length, inl, refl, subst, arith, Option, Some, None}
+use Rattle.std.proofs.Common.{◌≡◌, suc, ◌+◌, ◌≤◌, Bool, true, false, not, ◌||◌, if◌then◌else◌, List, [], ◌∷◌, ◌++◌, length, inl, refl, ap, subst, arith, Option, Some, None}
 use Rattle.infer_table.specs.Canonical.{CanonicalForm}
 use Rattle.infer_table.specs.declared.certainty.Certainty.{Certainty}
 use Rattle.infer_table.specs.declared.certainty.TypingMode.{TypingMode}
 use Rattle.infer_table.specs.declared.certainty.TypingMode.TheVariants.{Coherence, PostAnalysis}
 use Rattle.infer_table.specs.Responses.{AnswerTrees}
-use Rattle.goal_evaluator.specs.Lists.{Every}
+use Rattle.goal_evaluator.specs.Lists.{Every, SomeOf}
+use Rattle.goal_evaluator.proofs.Basics.{some-parts}
 use Rattle.goal_evaluator.specs.Law.{Realizes}
 use Rattle.goal_evaluator.specs.Handler.{Handled, IsHandler}
 use Rattle.goal_evaluator.specs.Content.{Values, fits}
@@ -18,18 +19,22 @@ use Rattle.goal_evaluator.specs.Plans.{KeepsLaws, nested_in, each_of}
 use Rattle.goal_evaluator.specs.Merge.{IsTest, TellsResponsesApart}
 use Rattle.goal_evaluator.proofs.Plans.{plan_is_lawful}
 use Rattle.goal_evaluator.proofs.PlanAnswers.{list_keeps}
-use Rattle.candidate_model.specs.Meaning.{ViewMeaning, proved_at}
+use Rattle.candidate_model.specs.Facts.{clauses_of}
+use Rattle.candidate_model.specs.Meaning.{ViewMeaning, proved_at, proved_alone}
 use Rattle.candidate_model.specs.Lifetimes.{GivesLifetimes, goal_gives_lifetimes}
 use Rattle.candidate_model.specs.Asking.{GoalOverKinds, goal_over_kinds, clauses, self_of, begins_unknown}
 use Rattle.candidate_model.specs.Candidates.{Candidate, unsure, unknowable, by_clauses, built_in, by_impls, by_objects}
-use Rattle.candidate_model.specs.Solver.{solver_planned, solver_handled, most_candidates, widest_of, plan_for, by_mode, everything, in_coherence, outside_coherence}
+use Rattle.candidate_model.specs.Slots.{with_slots}
+use Rattle.candidate_model.specs.Solver.{SearchedAlone, IsSolution, solver_planned, solver_handled, most_candidates, widest_of, plan_for, by_mode, everything, in_coherence, outside_coherence}
 use Rattle.candidate_model.specs.Promised.Widths.{number_at}
 use Rattle.candidate_model.proofs.CandidateKinds.{every-split}
-use Rattle.candidate_model.proofs.Realizing.{by-candidates, by-unknowable, unsure-realizes}
-use Rattle.candidate_model.specs.Cover.{AreTermsOf, GivenIsRealized, all_candidates, SolutionsAreCandidates}
+use Rattle.candidate_model.proofs.Realizing.{by-candidates, by-unknowable, solution, some-realized, unsure-realizes}
+use Rattle.candidate_model.proofs.Sources.{clauseless, trivial-or-not}
+use Rattle.candidate_model.proofs.Worlds.{asked-bare}
+use Rattle.candidate_model.specs.Cover.{AreTermsOf, GivenIsRealized, all_candidates, SolutionsAreCandidates, SolutionsAloneAreCandidates}
 use Rattle.candidate_model.proofs.Premises.{SolverPremises, SolverIsLawful}
 use Rattle.goal_evaluator.proofs.FirstAnswers.{begin-says-nothing}
-use Rattle.candidate_model.proofs.Plans.{coherence_keeps, outside_keeps, Realized}
+use Rattle.candidate_model.proofs.Plans.{coherence_keeps, outside_keeps, Realized, RealizedOutside}
 use Rattle.type_terms.proofs.BooleanBasics.{true-false}
 use Rattle.candidate_model.proofs.Basics.{append-assoc}
 use Rattle.candidate_model.proofs.CandidateNumbers.{nested-append}
@@ -57,7 +62,8 @@ module _ (applicable : AnswerTrees → Bool) (is_test : IsTest frame_tables appl
             → Realizes frame_tables ((solver_handled applicable same m mo f).Proves w) h.begin v unsure
         by Coherence e w s =
             unsure-realizes (proved_at w.place) (kinds_known f.kinds) v w.no_placeholders
-        by PostAnalysis e w s = absurd w
+        by PostAnalysis e w s =
+            unsure-realizes (proved_alone m w.crates) (kinds_known f.kinds) v w.no_placeholders
 
     unsure-keeps : KeepsLaws frame_tables h h.candidates h.number [] (plan_for applicable same h.begin m mode None)
     unsure-keeps = list_keeps frame_tables tables_are_lawful applicable is_test same is_same h says_nothing begins_within (unsure ∷ []) (unsure-lawful h, tt) (λ w v p. inl (unsure-realized w v p)) (few) (omega arith)
@@ -66,7 +72,7 @@ module _ (applicable : AnswerTrees → Bool) (is_test : IsTest frame_tables appl
         few = omega arith
 
     -- ---- goals that are decided
-    module _ (a : GoalOverKinds) (is : goal_over_kinds m.view f ≡ Some a) (known : begins_unknown a.kinds (self_of a) ≡ false) (given : goal_gives_lifetimes m.view a ≡ true) (covers : SolutionsAreCandidates m) (terms : Every AreTermsOf (all_candidates m.view a)) where
+    module _ (a : GoalOverKinds) (is : goal_over_kinds m.view f ≡ Some a) (known : begins_unknown a.kinds (self_of a) ≡ false) (given : goal_gives_lifetimes m.view a ≡ true) (covers : SolutionsAreCandidates m) (alone : SolutionsAloneAreCandidates m) (terms : Every AreTermsOf (all_candidates m.view a)) where
       abbrev inside : Handled frame_tables
       inside = solver_handled applicable same m Coherence f
 
@@ -97,11 +103,28 @@ module _ (applicable : AnswerTrees → Bool) (is_test : IsTest frame_tables appl
         all-is : all_candidates m.view a ≡ early ++ late
         all-is = append-assoc (by_clauses m.view a (clauses a)) (built_in m.view a) late
 
+        found : (w : SearchedAlone m f) (v : Values) → IsSolution (proved_alone m w.crates) (outside.goal v) → SomeOf (Realizes frame_tables (IsSolution (proved_alone m w.crates)) outside.begin v) (all_candidates m.view a)
+        found w v s =
+            some-realized m f a is (proved_alone m w.crates) w.no_clauses w.no_placeholders v s terms
+            (alone f a is known given w (with_slots a.kinds v) (solution m f a is (proved_alone m w.crates) w.no_clauses w.no_placeholders v s))
+
+        bare : SearchedAlone m f → clauses a ≡ []
+        bare w = ap clauses_of (asked-bare m f w.no_clauses a is)
+
+        realized-outside : RealizedOutside tables_are_lawful applicable is_test same is_same outside says_nothing begins_within m.view m.crate a
+        realized-outside = record {
+          covers = λ w v s. some-parts (Realizes frame_tables (IsSolution (proved_alone m w.crates)) outside.begin v) early late
+              (subst (SomeOf (Realizes frame_tables (IsSolution (proved_alone m w.crates)) outside.begin v)) all-is (found w v s));
+          clauseless = λ w. clauseless m.view a (bare w);
+          trivial = λ w. trivial-or-not m.view a (bare w) w.sized_alone;
+        }
+
         outside-keeps : Every (CandidateIsLawful frame_tables outside) (unknowable m.view a ∷ all_candidates m.view a)
             → KeepsLaws frame_tables outside outside.candidates outside.number [] (outside_coherence applicable same outside.begin m.view a)
         outside-keeps each =
             let e = subst (Every (CandidateIsLawful frame_tables outside)) all-is each.1 in
-            outside_keeps tables_are_lawful applicable is_test same is_same outside says_nothing begins_within m.view m.crate a (λ w. w) (every-split (CandidateIsLawful frame_tables outside) early late e).0 (every-split (CandidateIsLawful frame_tables outside) early late e).1
+            outside_keeps tables_are_lawful applicable is_test same is_same outside says_nothing begins_within m.view m.crate a (every-split (CandidateIsLawful frame_tables outside) early late e).0 (every-split (CandidateIsLawful frame_tables outside) early late e).1
+            realized-outside
             (let l = length-append early late in let q : suc (length (early ++ late)) ≤ most_candidates m.view f = subst (λ (cs : List Candidate). suc (length cs) ≤ most_candidates m.view f) all-is few in omega (arith, l, q))
             (let l = nested-append early late in let q : nested_in frame_tables (unknowable m.view a ∷ (early ++ late)) ≤ number_at m.view (widest_of m.view f) = subst (λ (cs : List Candidate). nested_in frame_tables (unknowable m.view a ∷ cs) ≤ number_at m.view (widest_of m.view f)) all-is asks in omega (arith, l, q))
 
@@ -113,8 +136,8 @@ module _ (applicable : AnswerTrees → Bool) (is_test : IsTest frame_tables appl
     module _ (p : SolverPremises m) (fits : GivesLifetimes m f) where
       decided-keeps : (a : GoalOverKinds) → goal_over_kinds m.view f ≡ Some a → m.is_sound ≡ true → begins_unknown a.kinds (self_of a) ≡ false → (mo : TypingMode) → mode ≡ mo
           → KeepsLaws frame_tables (solver_handled applicable same m mo f) h.candidates h.number [] (by_mode applicable same h.begin m mo a)
-      decided-keeps a is sound known Coherence e = inside-keeps a is known (fits sound a is) (p.covers sound) (p.terms sound f a is) (p.few sound f a is) (p.asks sound f a is) (p.lawful sound applicable same Coherence f a is known)
-      decided-keeps a is sound known PostAnalysis e = outside-keeps a is known (fits sound a is) (p.covers sound) (p.terms sound f a is) (p.few sound f a is) (p.asks sound f a is) (p.lawful sound applicable same PostAnalysis f a is known)
+      decided-keeps a is sound known Coherence e = inside-keeps a is known (fits sound a is) (p.covers sound) (p.covers_alone sound) (p.terms sound f a is) (p.few sound f a is) (p.asks sound f a is) (p.lawful sound applicable same Coherence f a is known)
+      decided-keeps a is sound known PostAnalysis e = outside-keeps a is known (fits sound a is) (p.covers sound) (p.covers_alone sound) (p.terms sound f a is) (p.few sound f a is) (p.asks sound f a is) (p.lawful sound applicable same PostAnalysis f a is known)
 
       plan-keeps : (o : Option GoalOverKinds) → goal_over_kinds m.view f ≡ o → KeepsLaws frame_tables h h.candidates h.number [] (plan_for applicable same h.begin m mode o)
       plan-keeps None e = unsure-keeps

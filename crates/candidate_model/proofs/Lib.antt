@@ -9,6 +9,8 @@ pub mod Instances
 pub mod Supers
 pub mod Agreeing
 pub mod Cover
+pub mod Sources
+pub mod CoveringMerges
 pub mod Plans
 pub mod Rows
 pub mod ByView
@@ -35,7 +37,6 @@ pub mod Objects
 pub mod Upcasts
 pub mod StructUnsizing
 pub mod ErasedHeads
-pub mod LinkedBounds
 pub mod EqualRows
 pub mod WorkedUnsizing
 pub mod LawfulSolver

@@ -100,11 +100,14 @@ module _ (m : ViewMeaning) (w : LinkedWith m) (V : World) (holds : HoldsView w.s
   pub proves-by : ProvesBy V m.crate (proved_in w)
   proves-by = record {
     rule = by-rule;
-    shut = by-shut;
     supers = by-supers;
-    trait_rank = λ t. w.linked.joined.trait_rank (ρ.traits.to t);
-    down = λ x b i j. w.linked.joined.bounds_before (renumbered_trait ρ x) (Q b) (trait-there x i) (in-map (renumbered_reference ρ) x.bounds b j);
-    plain = λ x b i j. sym (over-some ρ is_stray is_stray (stray-same ρ) b.args) ∙ w.linked.joined.plain_bounds (renumbered_trait ρ x) (Q b) (trait-there x i) (in-map (renumbered_reference ρ) x.bounds b j);
+    leads =
+        record {
+          shut = by-shut;
+          trait_rank = λ t. w.linked.joined.rules.trait_rank (ρ.traits.to t);
+          down = λ x b i j. w.linked.joined.rules.supers_before (renumbered_trait ρ x) (Q b) (trait-there x i) (in-map (renumbered_reference ρ) x.bounds b j);
+          plain = λ x b i j. sym (over-some ρ is_stray is_stray (stray-same ρ) b.args) ∙ (w.linked.joined.rules.plain.bounds (renumbered_trait ρ x) (Q b) (trait-there x i) (in-map (renumbered_reference ρ) x.bounds b j)).open_places;
+        };
   }
 
   -- an auto trait of the view is one in the set
@@ -119,5 +122,5 @@ module _ (m : ViewMeaning) (w : LinkedWith m) (V : World) (holds : HoldsView w.s
   pub auto-of-struct : (i : ImplDecl) → In i V.impls → is_auto V i.header.trait ≡ true → (s : ℕ) × (ks : Trees) × (os : Trees) × (i.header.args ≡ tree (adt s) ks os)
   auto-of-struct i j auto =
       let there = (in-filter (λ (x : ImplDecl). sees W (ρ.crates.to m.crate) x.home) W.impls (renumbered_impl ρ i) (holds.later.later.stand (renumbered_impl ρ i) (in-map (renumbered_impl ρ) V.impls i j))).0 in
-      let home = w.linked.joined.autos_at_home (renumbered_impl ρ i) there (auto-there i.header.trait auto) in
+      let home = w.linked.joined.rules.autos_at_home (renumbered_impl ρ i) there (auto-there i.header.trait auto) in
       begins-struct ρ i.header.args home.0 home.1 home.2 home.3

@@ -18,6 +18,7 @@ use Rattle.type_terms.proofs.Walking.{left, right}
 use Rattle.type_terms.specs.Made.{bounds}
 use Rattle.type_terms.specs.Made.{is_made}
 use Rattle.goal_evaluator.specs.Lists.{Every, SomeOf}
+use Rattle.goal_evaluator.proofs.ListLaws.{Every-map}
 use Rattle.goal_evaluator.specs.declared.candidate.CandidateSource.{CandidateSource}
 use Rattle.goal_evaluator.specs.Instances.{read_with}
 use Rattle.goal_evaluator.specs.Content.{Values, given}
@@ -32,10 +33,11 @@ use Rattle.candidate_model.proofs.Unsizing.{map-append, compatible-same, princip
 use Rattle.candidate_model.proofs.Impls.{pairwise}
 use Rattle.candidate_model.proofs.Apart.{reads-can-be}
 use Rattle.candidate_model.proofs.Calls.{gives-equal}
-use Rattle.candidate_model.proofs.EqualRows.{one-row, each-row}
+use Rattle.candidate_model.proofs.Elaborating.{every-in}
+use Rattle.candidate_model.proofs.EqualRows.{row-premises, equal-premises, one-row, each-row}
 use Rattle.candidate_model.proofs.ByView.{some-left, some-right}
 use Rattle.candidate_model.specs.Declared.{LeadDown}
-use Rattle.candidate_model.proofs.Stack.{elaborated-all}
+use Rattle.candidate_model.proofs.Stack.{elaborated-all, supertraits-only}
 use Rattle.type_terms.proofs.BooleanBasics.{true-false}
 
 -- declarations hold no open place but parameters
@@ -115,6 +117,43 @@ principal-shut self (tree l c o) p g h i = absurd (in-nothing p i)
 
 pub dyn-shut : (c o : Trees) → Shut (tree dynamic c o) → Shut (tree dynamic c none)
 dyn-shut c o h = or-no (is_open dynamic || some_node is_open c) false (child-shut is_open dynamic c o h) refl
+
+-- ---- what the rows ask
+-- the rules of object bounds ask the strict supertraits
+pub object-premises : (V : World) (r : Reference) (t : Trees) (u : Rule) → In u (object_rules V r t) → u.premises ≡ strict_supertraits V r
+object-premises V r none u i = absurd (in-nothing u i)
+object-premises V r (tree dynamic c o) u i = by (in-append u autos principals (was-true (is_declared V r.trait && are_dyn_compatible V ps) (autos ++ principals) u i).1)
+  where
+    ps : List Reference
+    ps = principal_with (tree dynamic c none) c
+
+    autos : List Rule
+    autos = if not (r.trait == sized) && list_any (same_reference r) (autos_with (tree dynamic c none) c) then row object_auto (strict_supertraits V r) else []
+
+    principals : List Rule
+    principals = if not (r.trait == sized) then equal_rows object_principal (strict_supertraits V r) r 0 (elaborated V ps) else []
+
+    by : In u autos ⊎ In u principals → u.premises ≡ strict_supertraits V r
+    by (inl j) =
+        row-premises object_auto (strict_supertraits V r) u
+        (was-true (not (r.trait == sized) && list_any (same_reference r) (autos_with (tree dynamic c none) c)) (row object_auto (strict_supertraits V r)) u j).1
+    by (inr j) =
+        equal-premises object_principal (strict_supertraits V r) r 0 (elaborated V ps) u
+        (was-true (not (r.trait == sized)) (equal_rows object_principal (strict_supertraits V r) r 0 (elaborated V ps)) u j).1
+object-premises V r (tree l c o) u i = absurd (in-nothing u i)
+
+every-has : {A : Type 0} (P : A → Type 0) (xs : List A) → Every P xs → (x : A) → In x xs → P x
+every-has P [] e x i = absurd (in-nothing x i)
+every-has P (y ∷ xs) e x i = elim (in-cases x y xs i) [ inl q ↦ subst P q e.0 | inr j ↦ every-has P xs e.1 x j ]
+
+-- so the supertraits as the candidates list them have proofs
+pub supers-proved : (H : Reference → Type 0) (V : World) → is_declared_view V ≡ true → BoundsArePlain V → (rank : ℕ → ℕ) → LeadDown V rank → (xs : List Trees) (r : Reference) → Shut (read_with (given xs) r.args)
+    → Every (Proved H) (strict_supertraits V (read_reference xs r)) → Every (Proved H) (map (read_reference xs) (supertraits V r))
+supers-proved H V declared plain rank down xs r shut e =
+    Every-map (Proved H) (read_reference xs) (supertraits V r)
+    (every-in (λ s. Proved H (read_reference xs s)) (supertraits V r)
+    (λ s i. every-has (Proved H) (strict_supertraits V (read_reference xs r)) e (read_reference xs s)
+    (subst (In (read_reference xs s)) (sym (strict-read V declared plain xs r shut)) (in-map (read_reference xs) (strict_supertraits V r) s (supertraits-only V rank down r s i)))))
 
 -- ---- rows
 module _ (H : Reference → Type 0) (V : World) (declared : is_declared_view V ≡ true) (plain : BoundsArePlain V) (rank : ℕ → ℕ) (down : LeadDown V rank) (a : GoalOverKinds) (v : Values) where

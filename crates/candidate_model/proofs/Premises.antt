@@ -18,7 +18,7 @@ use Rattle.candidate_model.specs.Declared.{is_declared_view}
 use Rattle.candidate_model.specs.Determined.{ImplsAreDetermined}
 use Rattle.candidate_model.specs.Solver.{solver_handled, most_candidates, widest_of}
 use Rattle.candidate_model.specs.Promised.Widths.{number_at}
-use Rattle.candidate_model.specs.Cover.{AreTermsOf, GivenIsRealized, all_candidates, SolutionsAreCandidates}
+use Rattle.candidate_model.specs.Cover.{AreTermsOf, GivenIsRealized, all_candidates, SolutionsAreCandidates, SolutionsAloneAreCandidates}
 use Rattle.candidate_model.specs.Lawful.{IsSoundFor, CandidatesAreLawful}
 
 -- the terms of all equations are made terms
@@ -61,6 +61,7 @@ pub record SolverPremises (m : ViewMeaning) : Type 0 where
   pub realized : GivenIsRealized
   -- solutions are by candidates (`SolutionsAreByCandidates` gives it from a declared view, determined impls and the left rows)
   pub covers : m.is_sound ≡ true → SolutionsAreCandidates m
+  pub covers_alone : m.is_sound ≡ true → SolutionsAloneAreCandidates m
   pub terms : m.is_sound ≡ true → EquationsAreTerms m
   pub lawful : m.is_sound ≡ true → CandidatesAreLawful m
   pub few : m.is_sound ≡ true → CandidatesAreFew m

@@ -32,7 +32,7 @@ use Rattle.candidate_model.proofs.Cover.{IsAsked, asked-by, known-kinds}
 use Rattle.candidate_model.proofs.Filled.{no-placeholder, filled, filled-allowed}
 use Rattle.goal_evaluator.proofs.Unplaced.{IsNotPlace}
 use Rattle.candidate_model.proofs.ImplSlots.{sort-again, params-no-places}
-use Rattle.candidate_model.proofs.Given.{given-is-realized}
+use Rattle.candidate_model.proofs.Given.{given-realizes}
 use Rattle.candidate_model.proofs.Rowwise.{AreRows, all-so}
 use Rattle.candidate_model.proofs.EquationTerms.{IsOpenTerms, all-are-terms}
 use Rattle.candidate_model.proofs.Worlds.{asked-bare}
@@ -134,11 +134,9 @@ pub asked-terms : (m : ViewMeaning) → is_declared_view m.view ≡ true → (f 
 asked-terms m declared f a e bounds_are w =
     all-are-terms m.view declared a (asked-by m.view f.goal.environment f.goal.predicate (all_known f.kinds) a e).over (subst (λ (rs : List Reference). Every (λ (r : Reference). IsOpenTerms r.args) rs) (sym (ap clauses_of (asked-bare m f w.no_clauses a e))) tt) bounds_are
 
-module _ (m : ViewMeaning) (complete : SolutionsAreCandidates m) (f : CanonicalForm) (a : GoalOverKinds) (e : goal_over_kinds m.view f ≡ Some a)
-    (known : begins_unknown a.kinds (self_of a) ≡ false) (given-lifetimes : goal_gives_lifetimes m.view a ≡ true) (w : Searched m f) (v : Values) (s : IsSolution (proved_at w.place) (goal_fact f v)) (are : Every AreTermsOf (all_candidates m.view a)) where
-  abbrev pub H : Reference → Type 0
-  H = proved_at w.place
-
+-- ---- a goal that is decided, without where-clauses and placeholders, and a solution
+module _ (m : ViewMeaning) (f : CanonicalForm) (a : GoalOverKinds) (e : goal_over_kinds m.view f ≡ Some a) (H : Reference → Type 0) (no_clauses : f.goal.environment ≡ none)
+    (no_places : has_placeholder (kinds_known f.kinds) ≡ false) (v : Values) (s : IsSolution H (goal_fact f v)) where
   is : IsAsked m.view f.goal.environment f.goal.predicate (all_known f.kinds) a
   is = asked-by m.view f.goal.environment f.goal.predicate (all_known f.kinds) a e
 
@@ -146,7 +144,7 @@ module _ (m : ViewMeaning) (complete : SolutionsAreCandidates m) (f : CanonicalF
   kinds-are = known-kinds f.kinds a.kinds is.kinds_are
 
   no_placeholders : has_placeholder a.kinds ≡ false
-  no_placeholders = ap has_placeholder (sym kinds-are) ∙ w.no_placeholders
+  no_placeholders = ap has_placeholder (sym kinds-are) ∙ no_places
 
   proper-is : (v.proper && fits (map Some a.kinds) v.terms) ≡ true
   proper-is = ap (λ z. v.proper && fits z v.terms) (sym (known-are f.kinds a.kinds is.kinds_are)) ∙ s.proper
@@ -157,7 +155,7 @@ module _ (m : ViewMeaning) (complete : SolutionsAreCandidates m) (f : CanonicalF
   same-goal : goal_fact f (with_slots a.kinds v) ≡ goal_fact f v
   same-goal =
       same-fact f v (as_slots a.kinds v.terms) (v.proper && fits f.kinds (as_slots a.kinds v.terms)) (v.proper && fits f.kinds v.terms)
-      (ap (read_with (given (as_slots a.kinds v.terms))) w.no_clauses ∙ sym (ap (read_with (given v.terms)) w.no_clauses))
+      (ap (read_with (given (as_slots a.kinds v.terms))) no_clauses ∙ sym (ap (read_with (given v.terms)) no_clauses))
       (ap (read_with (given (as_slots a.kinds v.terms))) is.predicate_is ∙ ap (λ z. tree (predicate (of_trait a.reference.trait)) z none) args-same ∙ sym (ap (read_with (given v.terms)) is.predicate_is))
       (both v.proper (fits f.kinds (as_slots a.kinds v.terms)) (left-of v.proper (fits f.kinds v.terms) s.proper)
       (ap (λ z. fits z (as_slots a.kinds v.terms)) (known-are f.kinds a.kinds is.kinds_are) ∙ slots-fit a.kinds (no-placeholder a.kinds no_placeholders) v.terms) ∙ sym s.proper)
@@ -166,22 +164,36 @@ module _ (m : ViewMeaning) (complete : SolutionsAreCandidates m) (f : CanonicalF
       left-of true y h = refl
       left-of false y h = absurd (true-false (sym h))
 
-  solution : IsSolution H (goal_fact f (with_slots a.kinds v))
+  -- the values as slots have them are one too
+  pub solution : IsSolution H (goal_fact f (with_slots a.kinds v))
   solution = subst (IsSolution H) (sym same-goal) s
 
-  realized : (c : Candidate) → AreTermsOf c → has_placeholder c.kinds ≡ false → SolvesEquations H a.kinds (with_slots a.kinds v) c → Realizes frame_tables (IsSolution H) (begin (kinds_known f.kinds)) v c
-  realized c are own gives = subst (λ ks. Realizes frame_tables (IsSolution H) (begin ks) v c) (sym kinds-are) (given-is-realized m w.place a.kinds v c are no_placeholders own proper-is gives)
+  pub realized : (c : Candidate) → AreTermsOf c → has_placeholder c.kinds ≡ false → SolvesEquations H a.kinds (with_slots a.kinds v) c → Realizes frame_tables (IsSolution H) (begin (kinds_known f.kinds)) v c
+  realized c are own gives = subst (λ ks. Realizes frame_tables (IsSolution H) (begin ks) v c) (sym kinds-are) (given-realizes H a.kinds v c are no_placeholders own proper-is gives)
 
-  pub by-candidates : is_knowable m.view m.crate a.reference ≡ true → SomeOf (Realizes frame_tables (IsSolution H) (begin (kinds_known f.kinds)) v) (all_candidates m.view a)
-  by-candidates k =
+  pub some-realized : Every AreTermsOf (all_candidates m.view a) → SomeOf (SolvesEquations H a.kinds (with_slots a.kinds v)) (all_candidates m.view a)
+      → SomeOf (Realizes frame_tables (IsSolution H) (begin (kinds_known f.kinds)) v) (all_candidates m.view a)
+  some-realized are gives =
       SomeOf-both (λ c. AreTermsOf c × HasNone c) (SolvesEquations H a.kinds (with_slots a.kinds v)) (Realizes frame_tables (IsSolution H) (begin (kinds_known f.kinds)) v)
       (λ c h g. realized c h.0 h.1 g) (all_candidates m.view a)
       (Every-both AreTermsOf HasNone (λ c. AreTermsOf c × HasNone c) (λ c x y. (x, y)) (all_candidates m.view a)
       are (none-own m.view a))
-      ((complete f a e known given-lifetimes w (with_slots a.kinds v) solution).0 k)
+      gives
+
+-- ---- in coherence
+module _ (m : ViewMeaning) (complete : SolutionsAreCandidates m) (f : CanonicalForm) (a : GoalOverKinds) (e : goal_over_kinds m.view f ≡ Some a)
+    (known : begins_unknown a.kinds (self_of a) ≡ false) (given-lifetimes : goal_gives_lifetimes m.view a ≡ true) (w : Searched m f) (v : Values) (s : IsSolution (proved_at w.place) (goal_fact f v)) (are : Every AreTermsOf (all_candidates m.view a)) where
+  abbrev pub H : Reference → Type 0
+  H = proved_at w.place
+
+  found : (is_knowable m.view m.crate a.reference ≡ true → SomeOf (SolvesEquations H a.kinds (with_slots a.kinds v)) (all_candidates m.view a)) × SolvesEquations H a.kinds (with_slots a.kinds v) (unknowable m.view a)
+  found = complete f a e known given-lifetimes w (with_slots a.kinds v) (solution m f a e H w.no_clauses w.no_placeholders v s)
+
+  pub by-candidates : is_knowable m.view m.crate a.reference ≡ true → SomeOf (Realizes frame_tables (IsSolution H) (begin (kinds_known f.kinds)) v) (all_candidates m.view a)
+  by-candidates k = some-realized m f a e H w.no_clauses w.no_placeholders v s are (found.0 k)
 
   pub by-unknowable : Realizes frame_tables (IsSolution H) (begin (kinds_known f.kinds)) v (unknowable m.view a)
-  by-unknowable = realized (unknowable m.view a) tt refl (complete f a e known given-lifetimes w (with_slots a.kinds v) solution).1
+  by-unknowable = realized m f a e H w.no_clauses w.no_placeholders v s (unknowable m.view a) tt refl found.1
 
 -- what is not decided is open to all values
 pub unsure-realizes : (H : Reference → Type 0) (ks : List CanonicalVarKind) (v : Values) → has_placeholder ks ≡ false → Realizes frame_tables (IsSolution H) (begin ks) v unsure

@@ -39,8 +39,7 @@ use Rattle.candidate_model.proofs.Rows.{read_rule}
 use Rattle.candidate_model.proofs.Unsizing.{unsize-natural}
 use Rattle.candidate_model.proofs.Calls.{arrays-at, arrays-other, call-under}
 use Rattle.candidate_model.proofs.ErasedHeads.{erased-dynamic, erased-struct}
-use Rattle.candidate_model.proofs.LinkedBounds.{goal-supers}
-use Rattle.candidate_model.proofs.Objects.{objects-at}
+use Rattle.candidate_model.proofs.Objects.{object-premises, supers-proved, objects-at}
 use Rattle.candidate_model.proofs.Upcasts.{upcasts-at, upcasts-other}
 use Rattle.candidate_model.proofs.StructUnsizing.{structs-at, structs-other}
 use Rattle.type_terms.proofs.Members.{in-nothing, in-append}
@@ -166,13 +165,13 @@ natural-target V d xs good l c o r m h =
 
 module _ (m : ViewMeaning) (declared : is_declared_view m.view ≡ true) (determined : ImplsAreDetermined m.view) where
   pub view-rules : ViewRulesAreCandidates m
-  view-rules H f a e known w v s u i ps = by-view H m.view declared a v head.label head.children head.others head.is head.rigid closed other u in_rules proved
+  view-rules H f a e known leads no_placeholders v s u i ps = by-view H m.view declared a v head.label head.children head.others head.is head.rigid closed other u in_rules proved
     where
       is : IsAsked m.view f.goal.environment f.goal.predicate (all_known f.kinds) a
       is = asked-by m.view f.goal.environment f.goal.predicate (all_known f.kinds) a e
 
       no_place : has_placeholder a.kinds ≡ false
-      no_place = ap has_placeholder (sym (known-kinds f.kinds a.kinds is.kinds_are)) ∙ w.no_placeholders
+      no_place = ap has_placeholder (sym (known-kinds f.kinds a.kinds is.kinds_are)) ∙ no_placeholders
 
       head : Head a.reference.args
       head = head-of a.kinds a.reference.args is.begins is.over known no_place
@@ -193,7 +192,7 @@ module _ (m : ViewMeaning) (declared : is_declared_view m.view ≡ true) (determ
 
       proved : Every (Proved H) u.premises
       proved =
-          premises-proved m.view m.crate H w.linked (read_reference xs a.reference) u closed in_rules u.premises (λ p j. j) ps
+          premises-proved m.view H leads (read_reference xs a.reference) u closed in_rules u.premises (λ p j. j) ps
 
       read : Trees → Trees
       read t = read_with (given xs) t
@@ -266,11 +265,11 @@ module _ (m : ViewMeaning) (declared : is_declared_view m.view ≡ true) (determ
       to-upcast : (target : Head head.others) (x : Rule) → In x (unsize_upcast_rules m.view (tree (erase_label head.label) (read head.children) (read head.others))) → SomeOf (SolvesEquations H a.kinds v) (unsize_known m.view a plain)
       to-upcast target x j =
           let k = subst (λ t. In x (unsize_upcast_rules m.view (tree (erase_label head.label) (read head.children) t))) (others-read target) j in
-          let same : erase_label target.label ≡ dynamic = upcasts-other H m.view declared w.linked.plain w.linked.trait_rank w.linked.down a v (erase_label head.label) (read head.children) (erase_label target.label) (read target.children) (read target.others) x k in
+          let same : erase_label target.label ≡ dynamic = upcasts-other H m.view declared leads.plain leads.trait_rank leads.down a v (erase_label head.label) (read head.children) (erase_label target.label) (read target.children) (read target.others) x k in
           let o_is : head.others ≡ tree dynamic target.children target.others = target.is ∙ ap (λ l. tree l target.children target.others) (erased-dynamic target.label same) in
           let made = left (is_made (is_variable_over a.kinds) bounds target.children) (is_made (is_variable_over a.kinds) terms target.others) (subst (λ t. is_made (is_variable_over a.kinds) terms t ≡ true) o_is over-others) in
           upcast-given (subst (λ o. SomeOf (SolvesEquations H a.kinds v) (upcasts_of m.view a (tree (erase_label head.label) head.children o))) (sym o_is)
-          (upcasts-at H m.view declared w.linked.plain w.linked.trait_rank w.linked.down a v (is_variable_over a.kinds) (erase_label head.label) head.children target.children target.others
+          (upcasts-at H m.view declared leads.plain leads.trait_rank leads.down a v (is_variable_over a.kinds) (erase_label head.label) head.children target.children target.others
           bounds-made made (subst (λ t. some_node is_open (tree (erase_label head.label) (read head.children) (read t)) ≡ false) o_is shut) x
           (subst (λ l. In x (unsize_upcast_rules m.view (tree (erase_label head.label) (read head.children) (tree l (read target.children) (read target.others))))) same k)))
 
@@ -329,13 +328,14 @@ module _ (m : ViewMeaning) (declared : is_declared_view m.view ≡ true) (determ
           (subst (λ t. SomeOf (SolvesEquations H a.kinds v) (if begins_unknown a.kinds (next_of t) then unsure ∷ [] else map (recording (unsizing_outlives a.reference.args)) (unsize_known m.view a t))) (sym self-is)
           (known-or-not x q (begins_unknown a.kinds head.others) refl (subst (λ t. In x (unsize_rules m.view t)) read-is j) y))
 
-      goal-proved : Proved H (read_reference xs a.reference)
-      goal-proved = subst (Proved H) reference-is (s.closed, s.proof)
-
-      objects-row : (x : Rule) → In x (object_rules m.view (read_reference xs a.reference) (read a.reference.args)) → SomeOf (SolvesEquations H a.kinds v) (by_objects m.view a)
-      objects-row x j =
+      -- the rules of object bounds ask the goal's supertraits
+      objects-row : (x : Rule) → In x (object_rules m.view (read_reference xs a.reference) (read a.reference.args)) → Every (Proved H) x.premises → SomeOf (SolvesEquations H a.kinds v) (by_objects m.view a)
+      objects-row x j q =
           subst (λ t. SomeOf (SolvesEquations H a.kinds v) (objects_of m.view a t)) (sym self-is)
-          (objects-at H m.view declared w.linked.plain w.linked.trait_rank w.linked.down a v (goal-supers m.view m.crate H w.linked declared xs a.reference goal-proved) (is_variable_over a.kinds)
+          (objects-at H m.view declared leads.plain leads.trait_rank leads.down a v
+          (supers-proved H m.view declared leads.plain leads.trait_rank leads.down xs a.reference (open-none (read a.reference.args) closed)
+          (subst (Every (Proved H)) (object-premises m.view (read_reference xs a.reference) (read a.reference.args) x j) q))
+          (is_variable_over a.kinds)
           (erase_label head.label) head.children head.others bounds-made shut x (subst (λ t. In x (object_rules m.view (read_reference xs a.reference) t)) read-is j))
 
       other : OtherRows H m.view declared a v
@@ -348,7 +348,7 @@ module _ (m : ViewMeaning) (declared : is_declared_view m.view ≡ true) (determ
             (call-under H m.view a v (is_fn_trait a.reference.trait) (erase_label head.label) head.children head.others x
             (subst (λ t. In x (if is_fn_trait a.reference.trait then call_rules t else [])) read-is j) q);
         unsizes = λ x j q. unsizes-at x (a.reference.trait == unsize) refl j q;
-        objects = λ x j q. objects-row x j;
+        objects = λ x j q. objects-row x j q;
       }
 
   -- each solution in a linked set is one by a considered candidate

@@ -18,7 +18,8 @@ solver-is-lawful-and-covers applicable is_test same is_same m well f fits = (
   λ mode. solver-is-lawful applicable is_test same is_same m
       (record {
         realized = given-is-realized;
-        covers = λ e. solutions-by m (well e).terms (well e).determined (well e).erased (well e).rank (well e).acyclic;
+        covers = λ e. (solutions-by m (well e).terms (well e).determined (well e).erased (well e).rank (well e).acyclic).0;
+        covers_alone = λ e. (solutions-by m (well e).terms (well e).determined (well e).erased (well e).rank (well e).acyclic).1;
         terms = λ e. equations-are-terms m (well e).terms (well e).erased;
         lawful = λ e. well-declared-is-lawful m (well e);
         few = λ e. (candidates-are-few m (well e).one_struct (well e).rank (well e).acyclic).0;

@@ -127,7 +127,7 @@ module _ (V : World) (crate : ℕ) (H : Reference → Type 0) (l : ProvesBy V cr
           let written : In (with_args A b.0) (written_supertraits V (read_reference ts s))
           = flat-in (λ (t : TraitDecl). all_with_args A t.bounds) (traits_named V s.trait) m.0 (with_args A b.0) m.1 (in-map (with_args A) m.0.bounds b.0 b.1) in
           subst (Proved H) same (
-            none-open (instantiate zero A b.0.args) (plain-shut zero A b.0.args (open-none A p.0) (l.plain m.0 b.0 named.0 b.1)),
+            none-open (instantiate zero A b.0.args) (plain-shut zero A b.0.args (open-none A p.0) (l.leads.plain m.0 b.0 named.0 b.1)),
             l.supers (read_reference ts s) p.0 p.1 (with_args A b.0) (written-strict V (read_reference ts s) (with_args A b.0) written),
           )
 

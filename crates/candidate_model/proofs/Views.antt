@@ -1,11 +1,11 @@
 -- What is proved in a linked set, by a crate's view.
-use Rattle.std.proofs.Common.{◌≡◌, false, List, [], ◌∷◌, ◌⊎◌, inl, inr, subst}
+use Rattle.std.proofs.Common.{◌≡◌, false, [], ◌⊎◌, inl, inr, subst}
 use Rattle.type_terms.specs.Promised.Worlds.{World, view_of}
 use Rattle.type_terms.specs.Promised.Rules.{Rule, rules, strict_supertraits}
 use Rattle.type_terms.specs.Promised.Proofs.{In, Every, HasProof}
 use Rattle.type_terms.specs.Promised.Walks.{is_known_in}
 use Rattle.type_terms.specs.LinkedSet.{Unknown}
-use Rattle.type_terms.proofs.Members.{here, there, in-nothing, in-cases, not-both}
+use Rattle.type_terms.proofs.Members.{not-both}
 use Rattle.type_terms.proofs.WorkedProofs.{needs-rule}
 use Rattle.type_terms.proofs.OpenWorld.{open-world}
 use Rattle.type_terms.proofs.ViewKnown.{unknown-by-view}
@@ -22,7 +22,7 @@ known-by-view-rule W vs rank l c V e r z known p = by (open-world W vs rank l c 
 
     by : In u.0 (rules (view_of W c) [] r) ⊎ Unknown W c r → (u : Rule) × In u (rules V [] r) × Every (HasProof W []) u.premises
     by (inl i) = (u.0, subst (λ (X : World). In u.0 (rules X [] r)) e i, u.2)
-    by (inr g) = absurd (not-both (is_known_in V c r) known (subst (λ (X : World). is_known_in X c r ≡ false) e (unknown-by-view W (l.joined.one_struct, l.joined.one_trait) c r g.unknown)))
+    by (inr g) = absurd (not-both (is_known_in V c r) known (subst (λ (X : World). is_known_in X c r ≡ false) e (unknown-by-view W (l.joined.fits.one_struct, l.joined.fits.one_trait) c r g.unknown)))
 
 pub supers-by-view : SupertraitsByTheViewStand
 supers-by-view W stand c V e r z p =

@@ -1,5 +1,5 @@
--- In coherence the questions of a goal without where-clauses and placeholders have none.
-use Rattle.std.proofs.Common.{◌≡◌, ℕ, Bool, true, false, not, ◌||◌, if◌then◌else◌, List, [], ◌∷◌, map, length, refl, sym, ◌∙◌, ap, Option, Some, None}
+-- The questions of a goal without where-clauses and placeholders have none.
+use Rattle.std.proofs.Common.{◌≡◌, ℕ, Bool, true, false, not, ◌||◌, if◌then◌else◌, List, [], ◌∷◌, ◌++◌, filter, map, length, refl, sym, ◌∙◌, ap, subst, Option, Some, None}
 use Rattle.std.specs.Prelude.{option_map}
 use Rattle.type_terms.specs.Promised.Label.{Label, of_type, of_const, of_lifetime, infer, param, placeholder, static}
 use Rattle.type_terms.specs.Promised.Trees.{none}
@@ -25,14 +25,19 @@ use Rattle.goal_evaluator.specs.Tables.{frame_tables}
 use Rattle.goal_evaluator.proofs.FrameTableLaws.{tables_are_lawful}
 use Rattle.goal_evaluator.proofs.Kept.{AreKept, AreSo, questions_so, made_kept}
 use Rattle.goal_evaluator.specs.Plans.{Plan, each_of, first_alone, after}
+use Rattle.goal_evaluator.specs.PlanAnswers.{first_passing, first_taken, taken_or_merged}
+use Rattle.goal_evaluator.specs.Table.{workings}
+use Rattle.goal_evaluator.specs.Candidate.{Considered}
 use Rattle.declarations.specs.Promised.Elaboration.{supertraits}
 use Rattle.candidate_model.specs.Meaning.{ViewMeaning, SolutionPlace, by_view, in_set, proved_at}
 use Rattle.candidate_model.specs.Knowing.{is_knowable}
 use Rattle.candidate_model.specs.Asking.{GoalOverKinds, goal_over_kinds, clauses, self_of, begins_unknown, all_known}
-use Rattle.candidate_model.specs.Candidates.{Candidate, premise, unsure, unknowable, rules_behind}
-use Rattle.candidate_model.specs.Solver.{SolverPast, everything, in_coherence, by_mode, plan_for, has_placeholder, solver_handled}
+use Rattle.candidate_model.specs.Candidates.{Candidate, premise, unsure, unknowable, rules_behind, by_clauses, built_in, by_impls, by_objects}
+use Rattle.candidate_model.specs.Solver.{SolverPast, from, holds_from, is_clause, is_non_global, is_settled, is_trivial, merged, preferred, remains, everything, in_coherence, outside_coherence, by_mode, plan_for, has_placeholder, solver_handled}
 use Rattle.candidate_model.specs.Cover.{all_candidates}
 use Rattle.candidate_model.specs.Worlds.{KeepWorlds}
+use Rattle.candidate_model.proofs.Basics.{append-assoc}
+use Rattle.candidate_model.proofs.CandidateKinds.{every-split}
 use Rattle.candidate_model.proofs.Cover.{asked-by}
 use Rattle.candidate_model.proofs.Filled.{no-placeholder}
 use Rattle.goal_evaluator.proofs.Unplaced.{place-kind}
@@ -143,6 +148,45 @@ module _ (applicable : AnswerTrees → Bool) (same : AnswerTrees → AnswerTrees
       by true = unsure-only
       by false = asked-only a (f a refl)
 
+-- ---- the plan outside it
+module _ (applicable : AnswerTrees → Bool) (same : AnswerTrees → AnswerTrees → Bool) (start : FrameTable) (m : ViewMeaning) where
+  taken-only : (xs : SolverPast) (o : Option (Considered (workings frame_tables))) → ConsidersOnly frame_tables AreBare (taken_or_merged frame_tables applicable same start xs o)
+  taken-only xs None = tt
+  taken-only xs (Some c) = tt
+
+  preferred-only : (seen : SolverPast) → ConsidersOnly frame_tables AreBare (preferred applicable same start seen)
+  preferred-only seen = by (holds_from is_trivial seen) (holds_from is_non_global seen)
+    where
+      by : (b c : Bool) → ConsidersOnly frame_tables AreBare (if b then merged applicable same start is_trivial seen
+          else if c then first_taken frame_tables applicable same start (from is_clause) seen else merged applicable same start (remains seen) seen)
+      by true c = tt
+      by false true = taken-only (filter (from is_clause) seen) (first_passing frame_tables applicable same start (filter (from is_clause) seen))
+      by false false = tt
+
+  outside-only : (a : GoalOverKinds) → a.environment ≡ none → ConsidersOnly frame_tables AreBare (outside_coherence applicable same start m.view a)
+  outside-only a e =
+      let parts = every-split AreBare early late (subst (Every AreBare) (append-assoc (by_clauses m.view a (clauses a)) (built_in m.view a) late) (all-bare m.view a e)) in
+      each-only frame_tables AreBare early (λ seen. if is_settled seen then preferred applicable same start seen else each_of frame_tables late (preferred applicable same start) seen) [] parts.0
+      (λ later. by later (is_settled later) parts.1)
+    where
+      early : List Candidate
+      early = by_clauses m.view a (clauses a) ++ built_in m.view a
+
+      late : List Candidate
+      late = by_impls m.view a m.view.impls ++ by_objects m.view a
+
+      by : (later : SolverPast) (b : Bool) → Every AreBare late → ConsidersOnly frame_tables AreBare (if b then preferred applicable same start later else each_of frame_tables late (preferred applicable same start) later)
+      by later true h = preferred-only later
+      by later false h = each-only frame_tables AreBare late (preferred applicable same start) later h (λ seen. preferred-only seen)
+
+  plain-only : (o : Option GoalOverKinds) → ((a : GoalOverKinds) → o ≡ Some a → a.environment ≡ none) → ConsidersOnly frame_tables AreBare (plan_for applicable same start m PostAnalysis o)
+  plain-only None f = each-only frame_tables AreBare (unsure ∷ []) (everything applicable same start) [] (tt, tt) (λ later. tt)
+  plain-only (Some a) f = by (not m.is_sound || begins_unknown a.kinds (self_of a))
+    where
+      by : (b : Bool) → ConsidersOnly frame_tables AreBare (if b then each_of frame_tables (unsure ∷ []) (everything applicable same start) [] else by_mode applicable same start m PostAnalysis a)
+      by true = each-only frame_tables AreBare (unsure ∷ []) (everything applicable same start) [] (tt, tt) (λ later. tt)
+      by false = outside-only a (f a refl)
+
 -- ---- the questions
 pub asked-bare : (m : ViewMeaning) (f : CanonicalForm) → f.goal.environment ≡ none → (a : GoalOverKinds) → goal_over_kinds m.view f ≡ Some a → a.environment ≡ none
 asked-bare m f e a is = sym (asked-by m.view f.goal.environment f.goal.predicate (all_known f.kinds) a is).environment_is ∙ e
@@ -154,7 +198,14 @@ same-place V crate x y (by_view crates begin) = (by_view crates begin, λ r h. h
 same-place V crate x y (in_set w) = (in_set (record { set = w.set; views = w.views; rank = w.rank; linked = w.linked; numbers = w.numbers; crates = w.crates; holds = w.holds }), λ r h. h)
 
 pub keep-worlds : KeepWorlds
-keep-worlds applicable same m PostAnalysis f heard q came e x = absurd x
+keep-worlds applicable same m PostAnalysis f heard q came e x =
+    let start = begin (kinds_known f.kinds) in
+    let plan = plan_for applicable same start m PostAnalysis (goal_over_kinds m.view f) in
+    let only = plain-only applicable same start m (goal_over_kinds m.view f) (λ a is. asked-bare m f x.no_clauses a is) in
+    let bare =
+    questions_so frame_tables IsBare HasNone kept-tables (solver_handled applicable same m PostAnalysis f) (begin-made (kinds_known f.kinds), x.no_placeholders)
+    (λ seen c is. wanted-only frame_tables AreBare (after frame_tables plan seen) c (after-only frame_tables AreBare plan seen only) is) heard q came e in
+    (record { crates = x.crates; begin = x.begin; sized_alone = x.sized_alone; no_clauses = bare.0; no_placeholders = bare.1 }, λ g p. p)
 keep-worlds applicable same m Coherence f heard q came e x =
     let start = begin (kinds_known f.kinds) in
     let plan = plan_for applicable same start m Coherence (goal_over_kinds m.view f) in

@@ -18,14 +18,14 @@ use Rattle.goal_evaluator.specs.TableOperations.{begin}
 use Rattle.goal_evaluator.specs.Tables.{frame_tables}
 use Rattle.candidate_model.specs.Slots.{as_slots, with_slots}
 use Rattle.declarations.specs.Promised.Elaboration.{elaborate}
-use Rattle.candidate_model.specs.Meaning.{ViewMeaning, SolutionPlace, proved_at}
+use Rattle.candidate_model.specs.Meaning.{ViewMeaning, SolutionPlace, proved_at, proved_alone}
 use Rattle.candidate_model.specs.Lifetimes.{goal_gives_lifetimes}
 use Rattle.candidate_model.specs.Knowing.{is_knowable}
 use Rattle.candidate_model.specs.Declared.{is_declared_view, BoundsAreErased, LeadDown}
 use Rattle.candidate_model.specs.Asking.{GoalOverKinds, goal_over_kinds, clauses, self_of, begins_unknown}
 use Rattle.candidate_model.specs.Candidates.{Candidate, unknowable, by_clauses, built_in, by_impls, by_objects}
 use Rattle.candidate_model.specs.Determined.{ImplsAreDetermined}
-use Rattle.candidate_model.specs.Solver.{Searched, IsSolution, has_placeholder}
+use Rattle.candidate_model.specs.Solver.{Searched, SearchedAlone, IsSolution, has_placeholder}
 
 -- The terms, cut or filled up so that there is one for each kind.
 abbrev pub padded : List CanonicalVarKind → List Trees → List Trees
@@ -77,6 +77,13 @@ SolutionsAreCandidates m =
     → (w : Searched m f) (v : Values) → IsSolution (proved_at w.place) (goal_fact f v)
     → (is_knowable m.view m.crate a.reference ≡ true → SomeOf (SolvesEquations (proved_at w.place) a.kinds v) (all_candidates m.view a)) × SolvesEquations (proved_at w.place) a.kinds v (unknowable m.view a)
 
+-- The same for what has a proof by the view alone: each solution is one by a candidate that is not the unknowable one, also if the goal is not
+-- knowable.
+abbrev pub SolutionsAloneAreCandidates : ViewMeaning → Type 0
+SolutionsAloneAreCandidates m =
+    (f : CanonicalForm) (a : GoalOverKinds) → goal_over_kinds m.view f ≡ Some a → begins_unknown a.kinds (self_of a) ≡ false → goal_gives_lifetimes m.view a ≡ true
+    → (w : SearchedAlone m f) (v : Values) → IsSolution (proved_alone m w.crates) (goal_fact f v) → SomeOf (SolvesEquations (proved_alone m w.crates) a.kinds v) (all_candidates m.view a)
+
 -- The trait reference with terms for its variables.
 abbrev pub read_reference : List Trees → Reference → Reference
 read_reference ts r = record { trait = r.trait; args = read_with (given ts) r.args }
@@ -88,4 +95,5 @@ Proved H r = (is_closed r.args ≡ true) × H r
 -- Each solution is one by the candidates that are considered, both by the crate's view alone and in every linked set with it.
 abbrev pub SolutionsAreByCandidates : Type 0
 SolutionsAreByCandidates =
-    (m : ViewMeaning) → is_declared_view m.view ≡ true → ImplsAreDetermined m.view → BoundsAreErased m.view → (rank : ℕ → ℕ) → LeadDown m.view rank → SolutionsAreCandidates m
+    (m : ViewMeaning) → is_declared_view m.view ≡ true → ImplsAreDetermined m.view → BoundsAreErased m.view → (rank : ℕ → ℕ) → LeadDown m.view rank
+    → SolutionsAreCandidates m × SolutionsAloneAreCandidates m

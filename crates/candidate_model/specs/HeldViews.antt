@@ -2,7 +2,8 @@
 use Rattle.std.specs.Prelude.{◌≡◌, Bool, true, ◌&&◌, not, List, map}
 use Rattle.type_terms.specs.Promised.Trees.{some_node}
 use Rattle.type_terms.specs.Promised.Worlds.{World, StructDecl}
-use Rattle.type_terms.specs.Promised.LinkedSet.{is_stray, all_written}
+use Rattle.type_terms.specs.Promised.LinkedSet.{is_stray}
+use Rattle.type_terms.specs.LinkedSet.{all_written}
 use Rattle.type_terms.specs.Promised.Handles.{Entry}
 use Rattle.type_terms.specs.Terms.{Lawful}
 use Rattle.declarations.specs.Items.{Items, declared}

@@ -45,3 +45,7 @@ pub data SolutionPlace (m : ViewMeaning) : Type 0 where
 abbrev pub proved_at : {m : ViewMeaning} → SolutionPlace m → Reference → Type 0
 proved_at {m = m} (by_view crates begin) r = HasElaboratedProof (record (erased_world m.view) { crates = crates }) [] r
 proved_at (in_set w) r = proved_in w r
+
+-- What has a proof by the view alone, with this list of crates, whatever the supertraits have.
+abbrev pub proved_alone : ViewMeaning → List CrateDecl → Reference → Type 0
+proved_alone m crates r = HasProof (record (erased_world m.view) { crates = crates }) [] r

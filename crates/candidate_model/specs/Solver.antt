@@ -1,9 +1,11 @@
 -- The solver: the plan of each goal, and what it means.
-use Rattle.std.specs.Prelude.{◌≡◌, ℕ, ◌+◌, ◌*◌, max, Bool, true, false, ◌||◌, ◌&&◌, not, if◌then◌else◌, List, [], ◌∷◌, ◌++◌, length, Option, Some, None, is_some}
+use Rattle.std.specs.Prelude.{◌≡◌, ◌==◌, ℕ, ◌+◌, ◌*◌, max, Bool, true, false, ◌||◌, ◌&&◌, not, if◌then◌else◌, List, [], ◌∷◌, ◌++◌, length, Option, Some, None, is_some}
 use Rattle.std.specs.List.{list_any}
 use Rattle.type_terms.specs.Promised.Trees.{none}
 use Rattle.type_terms.specs.Trees.{is_no_tree}
-use Rattle.type_terms.specs.Promised.Worlds.{World, Reference}
+use Rattle.type_terms.specs.Promised.Proofs.{In}
+use Rattle.type_terms.specs.Promised.Rules.{is_auto, sized}
+use Rattle.type_terms.specs.Promised.Worlds.{World, CrateDecl, Reference, ImplDecl}
 use Rattle.type_terms.specs.Promised.Answers.{is_closed}
 use Rattle.infer_table.specs.Canonical.{CanonicalForm}
 use Rattle.infer_table.specs.declared.canonical.CanonicalVarKind.{CanonicalVarKind}
@@ -28,7 +30,7 @@ use Rattle.goal_evaluator.specs.Tables.{frame_tables}
 use Rattle.goal_evaluator.specs.Plans.{Plan, Planned, planned, each_of, first_alone}
 use Rattle.goal_evaluator.specs.PlanAnswers.{all_merged, kept_merged, first_taken}
 use Rattle.candidate_model.specs.Facts.{FollowsByView, is_coinductive_trait, reference_in, beside}
-use Rattle.candidate_model.specs.Meaning.{ViewMeaning, SolutionPlace, proved_at}
+use Rattle.candidate_model.specs.Meaning.{ViewMeaning, SelfTypesBegin, SolutionPlace, proved_at, proved_alone}
 use Rattle.candidate_model.specs.Knowing.{is_knowable}
 use Rattle.candidate_model.specs.Asking.{GoalOverKinds, goal_over_kinds, clauses, self_of, begins_unknown}
 use Rattle.candidate_model.specs.Candidates.{unsure, unknowable, by_clauses, built_in, by_impls, by_objects}
@@ -150,15 +152,29 @@ has_placeholder (PlaceholderConst ∷ ks) = true
 has_placeholder (k ∷ ks) = has_placeholder ks
 
 -- In coherence, solutions are looked for by the crate's view and in every linked set with the crate. The goal has no where-clauses and no
--- placeholders. Outside coherence they are not looked for.
+-- placeholders.
 pub record Searched (m : ViewMeaning) (f : CanonicalForm) : Type 0 where
   pub place : SolutionPlace m
   pub no_clauses : f.goal.environment ≡ none
   pub no_placeholders : has_placeholder (kinds_known f.kinds) ≡ false
 
+-- `Sized` has its built-in rule alone.
+pub record SizedIsBuiltIn (V : World) : Type 0 where
+  pub no_impls : (i : ImplDecl) → In i V.impls → (i.header.trait == sized) ≡ false
+  pub no_auto : is_auto V sized ≡ false
+
+-- Outside coherence, solutions are looked for by the crate's view alone, with any list of crates. The goal has no where-clauses, since these
+-- are preferred to other candidates, and no placeholders.
+pub record SearchedAlone (m : ViewMeaning) (f : CanonicalForm) : Type 0 where
+  pub crates : List CrateDecl
+  pub begin : SelfTypesBegin m.view
+  pub sized_alone : SizedIsBuiltIn m.view
+  pub no_clauses : f.goal.environment ≡ none
+  pub no_placeholders : has_placeholder (kinds_known f.kinds) ≡ false
+
 abbrev pub searched_world : ViewMeaning → TypingMode → CanonicalForm → Type 0
 searched_world m Coherence f = Searched m f
-searched_world m PostAnalysis f = ⊥
+searched_world m PostAnalysis f = SearchedAlone m f
 
 -- A proper fact of a concrete trait reference that has a proof.
 pub record IsSolution (H : Reference → Type 0) (f : Fact) : Type 0 where
@@ -169,7 +185,7 @@ pub record IsSolution (H : Reference → Type 0) (f : Fact) : Type 0 where
 
 abbrev pub proves_in : (m : ViewMeaning) (mode : TypingMode) (f : CanonicalForm) → searched_world m mode f → Fact → Type 0
 proves_in m Coherence f w g = IsSolution (proved_at w.place) g
-proves_in m PostAnalysis f w g = ⊥
+proves_in m PostAnalysis f w g = IsSolution (proved_alone m w.crates) g
 
 -- ---- the handler
 module _ (applicable : AnswerTrees → Bool) (same : AnswerTrees → AnswerTrees → Bool) where

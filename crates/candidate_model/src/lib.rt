@@ -33,7 +33,8 @@ pub fn views_tell()
 ///
 /// The goal has no where-clauses and no placeholders, and its structs have arguments for the lifetimes that their fields name. Solutions
 /// are those by the crate's view alone, with proofs that contain the supertraits of all that they conclude, and those in each linked set
-/// with the view, without lifetimes and by other numbers.
+/// with the view, without lifetimes and by other numbers. With any proofs by the view alone, each solution is one by such a candidate, also
+/// of a goal that is not knowable.
 pub fn solutions_are_by_candidates()
     ensures { SolutionsAreByCandidates }
 {}
@@ -90,8 +91,9 @@ pub fn rows_are_sound()
 
 /// If the view is declared well, the solver satisfies the laws of handlers in both modes, for each goal whose structs have arguments for
 /// the lifetimes that their fields name. In coherence, a candidate that was considered before the answer realizes each solution, by the
-/// view and in every linked set with the crate. If the view fails the tests, no goal is decided. Each candidate of a goal satisfies the
-/// laws of candidates, if the self type is no inference variable.
+/// view and in every linked set with the crate. Outside coherence one realizes each solution by the view alone, if there are no where-clauses
+/// and no placeholders, and the candidates that are left out lose none. If the view fails the tests, no goal is decided. Each candidate of a
+/// goal satisfies the laws of candidates, if the self type is no inference variable.
 pub fn solver_is_lawful()
     ensures handler { SolverIsLawfulAndCovers }
     ensures candidates { WellDeclaredIsLawful }

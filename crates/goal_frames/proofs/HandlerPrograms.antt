@@ -4,10 +4,9 @@ use Rattle.search_graph.specs.SearchPaths.declared.path_kind.PathKind.{PathKind}
 use Rattle.search_graph.specs.SearchPaths.declared.path_kind.PathKind.TheVariants.{Inductive, Unknown, Coinductive, ForcedAmbiguity}
 use Rattle.infer_table.specs.Canonical.{CanonicalForm}
 use Rattle.infer_table.specs.declared.certainty.Certainty.{Certainty}
-use Rattle.infer_table.specs.declared.certainty.Certainty.TheVariants.{Yes, Maybe}
+use Rattle.infer_table.specs.declared.certainty.Certainty.TheVariants.{Maybe}
 use Rattle.infer_table.specs.declared.certainty.MaybeCause.TheVariants.{Overflow}
 use Rattle.infer_table.specs.declared.certainty.TypingMode.{TypingMode}
-use Rattle.infer_table.specs.declared.certainty.TypingMode.TheVariants.{Coherence, PostAnalysis}
 use Rattle.infer_table.specs.Responses.{AnswerTrees}
 use Rattle.goal_evaluator.specs.Law.{IsYes}
 use Rattle.goal_evaluator.specs.TableAnswers.{respond, has_values}
@@ -19,17 +18,16 @@ use Rattle.goal_evaluator.specs.Tables.{frame_tables}
 use Rattle.goal_frames.specs.Programs.{SaysNothing}
 use Rattle.goal_evaluator.specs.FrameTables.{kinds_known}
 use Rattle.goal_frames.specs.Meanings.{Goals}
-use Rattle.goal_frames.specs.HandlerPrograms.{silent, overflow_answer, cycle_answer, programs_of, HandlersArePrograms, AreLawfulGoals}
+use Rattle.goal_frames.specs.HandlerPrograms.{silent, overflow_answer, cycle_certainty, cycle_answer, programs_of, HandlersArePrograms, AreLawfulGoals}
 
 no-yes : (f : CanonicalForm) → IsYes frame_tables (overflow_answer f) → ⊥
 no-yes f y = cc
 
-cycle-yes : (mode : TypingMode) (f : CanonicalForm) (k : PathKind) → IsYes frame_tables (cycle_answer mode f k) → k ≡ Coinductive
-cycle-yes mode f Coinductive y = refl
-cycle-yes mode f Unknown y = absurd (no-yes f y)
-cycle-yes mode f ForcedAmbiguity y = absurd (no-yes f y)
-cycle-yes Coherence f Inductive y = absurd (no-yes f y)
-cycle-yes PostAnalysis f Inductive y = absurd y
+cycle-yes : (f : CanonicalForm) (k : PathKind) → IsYes frame_tables (cycle_answer f k) → k ≡ Coinductive
+cycle-yes f Coinductive y = refl
+cycle-yes f Unknown y = absurd (no-yes f y)
+cycle-yes f ForcedAmbiguity y = absurd (no-yes f y)
+cycle-yes f Inductive y = absurd (no-yes f y)
 
 module _ (m : Goals) (laws : AreLawfulGoals m) where
   abbrev pub IsSilent : m.World → TypingMode → CanonicalForm → Option AnswerTrees → Type 0
@@ -40,13 +38,6 @@ module _ (m : Goals) (laws : AreLawfulGoals m) where
     subst (λ t. has_values (respond t c) ≡ false) (laws.begins w mode f) ((laws.handlers w mode f).says_nothing c),
     respond_within (m.handled w mode f).widest (begin (kinds_known f.kinds)) c (subst (TableWithin (m.handled w mode f).widest) (laws.begins w mode f) (laws.handlers w mode f).begins_within),
   )
-
-  cycle-silent : (w : m.World) (mode : TypingMode) (f : CanonicalForm) (k : PathKind) → IsSilent w mode f (cycle_answer mode f k)
-  cycle-silent w mode f Coinductive = is-silent w mode f Yes
-  cycle-silent w mode f Unknown = is-silent w mode f (Maybe Overflow)
-  cycle-silent w mode f ForcedAmbiguity = is-silent w mode f (Maybe Overflow)
-  cycle-silent w Coherence f Inductive = is-silent w Coherence f (Maybe Overflow)
-  cycle-silent w PostAnalysis f Inductive = laws.outside w f
 
   pub handlers-are-programs : HandlersArePrograms m
   handlers-are-programs = record {
@@ -61,8 +52,8 @@ module _ (m : Goals) (laws : AreLawfulGoals m) where
         };
     numbers = laws.numbers;
     worlds = laws.worlds;
-    initial_yes = λ w mode f k y. cycle-yes mode f k y;
+    initial_yes = λ w mode f k y. cycle-yes f k y;
     overflow_yes = λ w mode f y. no-yes f y;
-    initial = λ w mode f k. cycle-silent w mode f k;
+    initial = λ w mode f k. is-silent w mode f (cycle_certainty k);
     overflow = λ w mode f. is-silent w mode f (Maybe Overflow);
   }

@@ -27,7 +27,6 @@ rules-are-programs =
       kinds = λ w mode f v. refl;
       numbers = λ w mode f q h. (less _ _ _ h, less _ _ _ h);
       worlds = λ w mode f heard q came e x. (decided-searched mode f q (questions-decided (book_of w) w.made mode f heard q came e) x, λ g p. p);
-      outside = λ w f x. x;
     })
   where
     less : (q g r : ℕ) → q ≤ max g r → max q r ≤ max g r

@@ -1,13 +1,12 @@
 -- The goals of a handler as the programs of a search.
-use Rattle.std.specs.Prelude.{◌≡◌, ◌≤◌, false, List, [], Option, Some, None}
+use Rattle.std.specs.Prelude.{◌≡◌, ◌≤◌, false, List, [], Option, Some}
 use Rattle.search_graph.specs.SearchPaths.declared.path_kind.PathKind.{PathKind}
-use Rattle.search_graph.specs.SearchPaths.declared.path_kind.PathKind.TheVariants.{Inductive, Unknown, Coinductive, ForcedAmbiguity}
+use Rattle.search_graph.specs.SearchPaths.declared.path_kind.PathKind.TheVariants.{Coinductive}
 use Rattle.infer_table.specs.Canonical.{CanonicalForm}
 use Rattle.infer_table.specs.declared.certainty.Certainty.{Certainty}
 use Rattle.infer_table.specs.declared.certainty.Certainty.TheVariants.{Yes, Maybe}
 use Rattle.infer_table.specs.declared.certainty.MaybeCause.TheVariants.{Overflow}
 use Rattle.infer_table.specs.declared.certainty.TypingMode.{TypingMode}
-use Rattle.infer_table.specs.declared.certainty.TypingMode.TheVariants.{Coherence, PostAnalysis}
 use Rattle.infer_table.specs.Responses.{AnswerTrees}
 use Rattle.goal_evaluator.specs.Handler.{IsHandler}
 use Rattle.type_terms.specs.Promised.Handles.{Entry, Keeps}
@@ -32,22 +31,14 @@ silent f c = Some (respond (begin (kinds_known f.kinds)) c)
 abbrev pub overflow_answer : CanonicalForm → Option AnswerTrees
 overflow_answer f = silent f (Maybe Overflow)
 
--- The certainty of a goal that recurs by a path of this kind, or `None` if it has no solution. A coinductive cycle holds, and an
--- inductive one has no proof. In coherence it is an overflow, since other crates may add impls.
-abbrev pub cycle_certainty : TypingMode → PathKind → Option Certainty
-cycle_certainty mode Coinductive = Some Yes
-cycle_certainty mode Unknown = Some (Maybe Overflow)
-cycle_certainty mode ForcedAmbiguity = Some (Maybe Overflow)
-cycle_certainty Coherence Inductive = Some (Maybe Overflow)
-cycle_certainty PostAnalysis Inductive = None
-
-abbrev pub silent_if : CanonicalForm → Option Certainty → Option AnswerTrees
-silent_if f None = None
-silent_if f (Some c) = silent f c
+-- The certainty of a goal that recurs by a path of this kind. A coinductive cycle holds, and any other is an overflow.
+abbrev pub cycle_certainty : PathKind → Certainty
+cycle_certainty Coinductive = Yes
+cycle_certainty k = Maybe Overflow
 
 -- for a goal that recurs by a path of this kind
-abbrev pub cycle_answer : TypingMode → CanonicalForm → PathKind → Option AnswerTrees
-cycle_answer mode f k = silent_if f (cycle_certainty mode k)
+abbrev pub cycle_answer : CanonicalForm → PathKind → Option AnswerTrees
+cycle_answer f k = silent f (cycle_certainty k)
 
 -- ---- all goals
 module _ (m : Goals) where
@@ -62,7 +53,7 @@ module _ (m : Goals) where
     Rule = m.Rule;
     coinductive = m.coinductive;
     made_of = λ f v. made_of (record { form = f; coinductive = false }) v;
-    initial = λ w mode f k. cycle_answer mode f k;
+    initial = λ w mode f k. cycle_answer f k;
     overflow = λ w mode f. overflow_answer f;
   }
 
@@ -90,8 +81,6 @@ module _ (m : Goals) where
         → CameInOrder (Anything frame_tables (m.handled w mode g)) (frame_of_goal frame_tables (m.handled w mode g)) heard
         → asks (frame_of_goal frame_tables (m.handled w mode g)) heard ≡ evaluate q
         → (x : (m.handled w mode g).World) → (y : (m.handled w mode q.form).World) × ((f : Fact) → (m.handled w mode g).Proves x f → (m.handled w mode q.form).Proves y f)
-    -- outside coherence no sets of crates are considered
-    pub outside : (w : m.World) (g : CanonicalForm) → (m.handled w PostAnalysis g).World → ⊥
 
 -- the laws of a handler
 pub record HandlerIsLawful {Handler : Type 0} (m : HandlerMeaning Handler) : Type 0 where

@@ -135,7 +135,7 @@ module _ (V : World) (r : Reference) where
   abbrev is_r : Reference → Bool
   is_r s = same_reference s r
 
-  clause-copies : (ss : List Reference) → clause_ways r ss ≡ copies (hits is_r ss) []
+  pub clause-copies : (ss : List Reference) → clause_ways r ss ≡ copies (hits is_r ss) []
   clause-copies [] = refl
   clause-copies (s ∷ ss) = by (same_reference s r) (clause-copies ss)
     where

@@ -1,5 +1,5 @@
 -- The frame of a list of candidates: it evaluates the first ones, or all, and then its result is made of their responses.
-use Rattle.std.proofs.Common.{◌≡◌, ◌<◌, ℕ, zero, suc, arith, List, [], ◌∷◌, ◌++◌, length, refl, sym, ◌∙◌, ap, subst, Option}
+use Rattle.std.proofs.Common.{◌≡◌, ◌<◌, ℕ, zero, suc, arith, Bool, true, false, if◌then◌else◌, List, [], ◌∷◌, ◌++◌, filter, length, refl, sym, ◌∙◌, ap, subst, Option}
 use Rattle.goal_evaluator.specs.Lists.{Every, Pairwise}
 use Rattle.goal_evaluator.specs.Frame.{Frame}
 use Rattle.goal_evaluator.specs.Table.{Tables, workings}
@@ -7,7 +7,7 @@ use Rattle.goal_evaluator.specs.Candidate.{Spec, Considered, Next, consider, ans
 use Rattle.goal_evaluator.specs.Merge.{if_there, responses}
 use Rattle.solver_completeness.specs.Plays.{Ends, FrameEnds, CanEnd}
 use Rattle.solver_completeness.specs.Exact.{WereConsidered, GoesTo}
-use Rattle.solver_completeness.proofs.Merging.{present}
+use Rattle.solver_completeness.proofs.Merging.{present, present_in}
 use Rattle.type_terms.proofs.ListBasics.{append-empty as append-nil, append-assoc as append-all}
 
 -- the second list is the first with some left out, up to where the third begins
@@ -59,6 +59,7 @@ module _ {Question Response : Type 0} (t : Tables Question Response) (P : Questi
     pub ignored : List ℕ
     pub answered : next last ≡ answer a ignored
     pub heard : responses t last ≡ responses t seen ++ present results
+    pub heard_from : (p : Spec (workings t) → Bool) → responses t (filter (λ c. p c.spec) last) ≡ responses t (filter (λ c. p c.spec) seen) ++ present_in p taken results
 
   abbrev Onward : ℕ → Type 0
   Onward fuel =
@@ -73,6 +74,14 @@ module _ {Question Response : Type 0} (t : Tables Question Response) (P : Questi
 
   heard-on : (seen now more all : List Response) → all ≡ (seen ++ now) ++ more → all ≡ seen ++ (now ++ more)
   heard-on seen now more all e = e ∙ append-all seen now more
+
+  heard-here : (p : Spec (workings t) → Bool) (c : Considered (workings t)) (seen : List (Considered (workings t)))
+      → responses t (filter (λ d. p d.spec) (c ∷ seen)) ≡ responses t (filter (λ d. p d.spec) seen) ++ (if p c.spec then if_there c.response else [])
+  heard-here p c seen = by (p c.spec)
+    where
+      by : (b : Bool) → responses t (if b then c ∷ filter (λ d. p d.spec) seen else filter (λ d. p d.spec) seen) ≡ responses t (filter (λ d. p d.spec) seen) ++ (if b then if_there c.response else [])
+      by true = refl
+      by false = sym (append-nil (responses t (filter (λ d. p d.spec) seen)))
 
   whole-on : (c : Spec (workings t)) (cs skipped rest taken left : List (Spec (workings t))) (seen now more all : List Response) → cs ≡ skipped ++ c ∷ rest → (seen ≡ [] → skipped ≡ []) → all ≡ (seen ++ now) ++ more
       → (all ≡ [] → rest ≡ taken ++ left) → all ≡ [] → cs ≡ c ∷ (taken ++ left)
@@ -92,6 +101,7 @@ module _ {Question Response : Type 0} (t : Tables Question Response) (P : Questi
     ignored = ignored;
     answered = subst (λ z. next seen ≡ answer z ignored) f q;
     heard = sym (append-nil (responses t seen));
+    heard_from = λ p. sym (append-nil (responses t (filter (λ c. p c.spec) seen)));
   }
   considers-one fuel go cs seen l w e a (consider c) q f =
       let x = considered seen c w q in
@@ -108,6 +118,9 @@ module _ {Question Response : Type 0} (t : Tables Question Response) (P : Questi
         ignored = y.ignored;
         answered = y.answered;
         heard = heard-on (responses t seen) (if_there f.0) (present y.results) (responses t y.last) y.heard;
+        heard_from = λ p.
+            heard-on (responses t (filter (λ d. p d.spec) seen)) (if p c then if_there f.0 else []) (present_in p y.taken y.results) (responses t (filter (λ d. p d.spec) y.last))
+            (y.heard_from p ∙ ap (λ z. z ++ present_in p y.taken y.results) (heard-here p (record { spec = c; response = f.0; number = f.1 }) seen));
       }
 
   pub considers_some : (fuel : ℕ) (cs : List (Spec (workings t))) (seen : List (Considered (workings t))) → length cs < fuel → WereConsidered t next seen → left_of seen ≡ cs

@@ -4,7 +4,7 @@ use Rattle.goal_evaluator.specs.Lists.{Every}
 use Rattle.goal_evaluator.specs.Table.{Tables, workings}
 use Rattle.goal_evaluator.specs.Candidate.{Spec, Considered, Next, consider, answer}
 use Rattle.goal_evaluator.specs.Merge.{responses}
-use Rattle.goal_evaluator.specs.Plans.{Plan, considers, answers, told, after, wanted, came, Planned, planned}
+use Rattle.goal_evaluator.specs.Plans.{Plan, considers, answers, told, after, wanted, came, each_of, Planned, planned}
 use Rattle.solver_completeness.specs.Closed.{Closing, AreWays, DeterminesNested, AsksSuch}
 use Rattle.solver_completeness.specs.Ways.{IsSelection}
 use Rattle.solver_completeness.specs.Exact.{WereConsidered, GoesTo, IsMadeOfResponses, IsExactHandler}
@@ -121,3 +121,30 @@ module _ {Question Response : Type 0} (t : Tables Question Response) where
     applies = is.applies;
     selects = is.selects;
   }
+
+  -- ---- what holds of each leaf
+  module _ (Ends : List (Considered (workings t)) → Option Response → Type 0) where
+    abbrev pub EndsSo : List (Considered (workings t)) → Plan t → Type 0
+    EndsSo seen (answers a ignored) = Ends seen a
+    EndsSo seen (considers s go) = (a : Option Response) (n : ℕ) → EndsSo (came t s a n ∷ seen) (go a n)
+
+    pub each-ends : (specs : List (Spec (workings t))) (go : List (Considered (workings t)) → Plan t) (seen : List (Considered (workings t)))
+        → ((later : List (Considered (workings t))) → EndsSo later (go later)) → EndsSo seen (each_of t specs go seen)
+    each-ends [] go seen h = h seen
+    each-ends (s ∷ specs) go seen h = λ a n. each-ends specs go (came t s a n ∷ seen) h
+
+    told-ends : (c : Considered (workings t)) (p : Plan t) (seen : List (Considered (workings t))) → EndsSo seen p → wanted t p ≡ consider c.spec → EndsSo (c ∷ seen) (told t c p)
+    told-ends c (considers s go) seen e h = subst (λ z. EndsSo (z ∷ seen) (go c.response c.number)) (came-is c s (consider-is s c.spec h)) (e c.response c.number)
+    told-ends c (answers a ignored) seen e h = absurd (cc)
+
+    after-ends : (p : Plan t) → EndsSo [] p → (seen : List (Considered (workings t))) → WereConsidered t (λ before. wanted t (after t p before)) seen → EndsSo seen (after t p seen)
+    after-ends p e [] w = e
+    after-ends p e (c ∷ seen) w = told-ends c (after t p seen) seen (after-ends p e seen w.1) w.0
+
+    at-leaf : (p : Plan t) (seen : List (Considered (workings t))) (a : Option Response) (ignored : List ℕ) → EndsSo seen p → wanted t p ≡ answer a ignored → Ends seen a
+    at-leaf (answers b ns) seen a ignored e h = subst (Ends seen) (answer-is b a ns ignored h) e
+    at-leaf (considers s go) seen a ignored e h = absurd (cc)
+
+    pub ends-so : (p : Plan t) → EndsSo [] p → (seen : List (Considered (workings t))) (a : Option Response) (ignored : List ℕ)
+        → WereConsidered t (λ before. wanted t (after t p before)) seen → wanted t (after t p seen) ≡ answer a ignored → Ends seen a
+    ends-so p e seen a ignored w h = at-leaf (after t p seen) seen a ignored (after-ends p e seen w) h

@@ -1,5 +1,5 @@
 -- Plain recursion over goals without inference variables, by induction on the length of chains.
-use Rattle.std.proofs.Common.{◌≡◌, ◌⊎◌, inl, inr, ℕ, ◌<◌, ◌≤◌, arith, zero, suc, ◌++◌, true, false, List, [], ◌∷◌, length, refl, sym, ◌∙◌, ap, subst, Option, Some, None}
+use Rattle.std.proofs.Common.{◌≡◌, ◌⊎◌, inl, inr, ℕ, ◌<◌, ◌≤◌, arith, zero, suc, ◌++◌, Bool, true, false, not, List, [], ◌∷◌, length, refl, sym, ◌∙◌, ap, subst, Option, Some, None}
 use Rattle.infer_table.specs.declared.certainty.Certainty.{Certainty}
 use Rattle.infer_table.specs.declared.certainty.Certainty.TheVariants.{Yes}
 use Rattle.search_graph.specs.declared.delegate.Reply.{Reply}
@@ -21,7 +21,9 @@ use Rattle.solver_completeness.specs.Ways.{AtMostOneHolds, IsSelection, HasShort
 use Rattle.solver_completeness.specs.Exact.{IsMadeOfResponses, IsExactHandler, AnswersExactly, AreSure, Plain, PlainIsExact, PlainIsRight, PlainAnswers}
 use Rattle.solver_completeness.proofs.Merging.{present}
 use Rattle.solver_completeness.proofs.Considering.{IsThinned, stop, take, skip, ConsideredSome, CandidateEnds, considers_some, can_consider}
-use Rattle.solver_completeness.proofs.Rounds.{Says, SaysSome}
+use Rattle.solver_completeness.proofs.Rounds.{Says, SaysSome, SaysMaybe}
+use Rattle.solver_completeness.proofs.MovedWays.{possible_holds}
+use Rattle.solver_completeness.proofs.FewWays.{part-every, part-one, sorted-parts, all-yes, first-alone, second-alone, judged, IsSorted, HasFewWaysWithin}
 use Rattle.solver_completeness.proofs.Verdicts.{Tells, tells, tells_bare, tells_none, tells_some, tells_settled}
 use Rattle.solver_completeness.proofs.Plainly.{plays, completes}
 use Rattle.solver_completeness.proofs.Answering.{can_all}
@@ -248,6 +250,49 @@ module _ {Question Response : Type 0} (t : Tables Question Response) (laws : IsT
     pub plain_right : (n : ℕ) → Right n
     plain_right zero q v a asked closed apart i x = absurd x
     plain_right (suc n) q v a asked closed apart i x = right_step n (λ q v a j c d l y. plain_right n q v a j c d l y) q v a asked closed apart i x
+
+    -- ---- no maybe if of each of two groups of candidates at most one rule instance holds
+    true-false : (b : Bool) → b ≡ true → b ≡ false → ⊥
+    true-false b y n = cc
+
+    module _ (g : Spec (workings t) → Bool) (own others : t.Fact → List (List t.Fact))
+        (sorted : (q : Question) (v : t.Values) (i : e.IsAsked q v) (c : k.IsClosed (k.shape_of q)) (d : k.IsApart (k.shape_of q) v) → IsSorted t g e.ways own others (t.fact_of q v) v (handled_of q) (e.exact q v i c d).specs) where
+      abbrev Few : ℕ → t.Fact → Type 0
+      Few n f = HasFewWaysWithin e.ways own others Holds n f
+
+      abbrev NoMaybe : ℕ → Type 0
+      NoMaybe n =
+          (q : Question) (v : t.Values) (a : Option Response) → e.IsAsked q v → k.IsClosed (k.shape_of q) → k.IsApart (k.shape_of q) v
+          → Few n (t.fact_of q v) → By n q a → (r : Response) → a ≡ Some r → is_yes (operations t) r ≡ true
+
+      says-no-maybe : (n : ℕ) → NoMaybe n → (f : t.Fact) → Few n f → SaysMaybe t laws k closing e.IsAsked (By n) f → ⊥
+      says-no-maybe n ih f i s =
+          true-false (is_yes (operations t) s.0) (ih s.1.question s.1.values (Some s.0) s.1.asked s.1.closed s.1.apart (subst (Few n) (sym s.1.fact) i) s.1.says s.0 refl) s.2
+
+      no_maybe_step : (n : ℕ) → NoMaybe n → NoMaybe (suc n)
+      no_maybe_step n ih q v a asked closed apart few x r is_some =
+          let h = heard q v asked closed apart n a x in
+          let bare = bare_by n (λ q v a j c d y. plain_is_exact n q v a j c d y) in
+          let z = sorted q v asked closed apart in
+          let begin = (handled_of q).begin in
+          let left = (is q v asked closed apart).left h.last in
+          let specs = (is q v asked closed apart).specs in
+          let y = sorted-parts t begin v g left specs h.taken z.first z.second h.thinned z.are in
+          let j =
+          judged t laws k closing e.IsAsked (By n) Holds (Few n) (λ f s. possible_holds e.ways Holds ways n f (says_some n (λ q v a j c d y. plain_is_exact n q v a j c d y) f s)) (λ f i s. says-no-maybe n ih f i s)
+          bare 7 begin (is q v asked closed apart).made v (begin_closed q v asked closed apart) (begin_apart q v asked closed apart) g h.taken y.first y.second y.are
+          (thin-every (DeterminesNested t begin) left specs h.taken h.thinned (is q v asked closed apart).determined)
+          (thin-every (AsksSuch t k e.IsAsked begin v) left specs h.taken h.thinned (is q v asked closed apart).nested)
+          (thin-every (λ (c : Spec (workings t)). c.certainty ≡ Yes) left specs h.taken h.thinned (sure q v asked closed apart))
+          (part-every (Every (Few n)) y.first z.first y.of_first (z.every_first (Few n) few.2)) (part-every (Every (Few n)) y.second z.second y.of_second (z.every_second (Few n) few.2)) h.results h.each in
+          z.merges h.last a h.ignored h.were h.answered (subst (Every (λ r. is_yes (operations t) r ≡ true)) (sym h.heard) (all-yes t Holds g h.taken y.first y.second h.results j))
+          (subst (λ rs. length rs ≤ 1) (sym (h.heard_from g)) (first-alone t Holds g h.taken y.first y.second h.results j (part-one (Every Holds) y.first z.first y.of_first (z.one_first Holds few.0))))
+          (subst (λ rs. length rs ≤ 1) (sym (h.heard_from (λ c. not (g c)))) (second-alone t Holds g h.taken y.first y.second h.results j (part-one (Every Holds) y.second z.second y.of_second (z.one_second Holds few.1))))
+          r is_some
+
+      pub no_maybe : (n : ℕ) → NoMaybe n
+      no_maybe zero q v a asked closed apart few x r is_some = absurd x
+      no_maybe (suc n) q v a asked closed apart few x r is_some = no_maybe_step n (λ q v a j c d l y r s. no_maybe n q v a j c d l y r s) q v a asked closed apart few x r is_some
 
   pub plain_is_right : AreSure t k p w mode e → (Holds : t.Fact → Type 0) → HoldsByWays e.ways Holds → PlainIsRight t k p w mode e handles Holds
   plain_is_right sure Holds ways = plain_right sure Holds ways

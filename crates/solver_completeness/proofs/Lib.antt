@@ -15,6 +15,7 @@ pub mod Verdicts
 pub mod Plainly
 pub mod Answering
 pub mod Ordered
+pub mod FewWays
 pub mod Induction
 pub mod Found
 pub mod ExactPlans

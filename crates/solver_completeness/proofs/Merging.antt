@@ -12,6 +12,12 @@ abbrev pub present : {A : Type 0} → List (Option A) → List A
 present [] = []
 present (x ∷ xs) = if_there x ++ present xs
 
+-- those of the candidates that pass a test
+abbrev pub present_in : {A B : Type 0} → (B → Bool) → List B → List (Option A) → List A
+present_in p [] xs = []
+present_in p (c ∷ cs) [] = []
+present_in p (c ∷ cs) (x ∷ xs) = (if p c then if_there x else []) ++ present_in p cs xs
+
 module _ {Question Response : Type 0} (t : Tables Question Response) (applicable : Response → Bool) (same : Response → Response → Bool) (begin : t.Table) where
   abbrev pub merged : List Response → Option Response
   merged rs = merge_or_flounder t applicable same begin rs

@@ -159,7 +159,7 @@ proofs_are_by_ways W E = record {
 
 -- ---- one way at most
 module _ (W : World) (E : List Reference) where
-  at-most : (us : List Rule) → Answers.AtMostOne W E us → AtMostOneHolds (Every (HasProof W E)) (map (λ u. u.premises) us)
+  pub at-most : (us : List Rule) → Answers.AtMostOne W E us → AtMostOneHolds (Every (HasProof W E)) (map (λ u. u.premises) us)
   at-most [] h = tt
   at-most (u ∷ us) h = (
     λ p s.
@@ -174,7 +174,7 @@ module _ (W : World) (E : List Reference) where
       less : {i j : ℕ} → suc i ≡ suc j → i ≡ j
       less e = cc
 
-  every-mapped : (P : List Reference → Type 0) (us : List Rule) → Every (λ (u : Rule). P u.premises) us → Every P (map (λ u. u.premises) us)
+  pub every-mapped : (P : List Reference → Type 0) (us : List Rule) → Every (λ (u : Rule). P u.premises) us → Every P (map (λ u. u.premises) us)
   every-mapped P [] h = tt
   every-mapped P (u ∷ us) h = (h.0, every-mapped P us h.1)
 

@@ -1,6 +1,7 @@
 -- What is preserved from rule instances of one kind to those of another.
 use Rattle.std.proofs.Common.{◌≡◌, ℕ, zero, suc, List, [], ◌∷◌, map, sym, subst, inl, inr}
 use Rattle.goal_evaluator.specs.Lists.{Every, SomeOf}
+use Rattle.goal_evaluator.proofs.ListLaws.{Every-mono, Every-both, SomeOf-mono}
 use Rattle.solver_completeness.specs.Ways.{AtMostOneHolds, HasShortChains, IsPossible, HasOneWayWithin, HoldsByWays}
 
 module _ {A B : Type 0} (read : A → B) (ways : A → List (List A)) (others : B → List (List B)) where
@@ -66,3 +67,21 @@ module _ {A B : Type 0} (read : A → B) (ways : A → List (List A)) (others : 
       by_way = λ a s. h.by_way (read a) (subst (SomeOf (Every Holds)) (are a) (some-to (map read) (Every Holds) (Every Held) (λ ps i. every-to read Holds Held (λ b j. j) ps i) (ways a) s));
       has_way = λ a p. some-from (map read) (Every Holds) (Every Held) (λ ps i. every-from read Holds Held (λ b j. j) ps i) (ways a) (subst (SomeOf (Every Holds)) (sym (are a)) (h.has_way (read a) p));
     }
+
+-- ---- what holds is what is possible, if chains are short
+module _ {Fact : Type 0} (ways : Fact → List (List Fact)) (Holds : Fact → Type 0) (by : HoldsByWays ways Holds) where
+  pub possible_holds : (n : ℕ) (f : Fact) → IsPossible ways n f → Holds f
+  possible_holds zero f s = absurd s
+  possible_holds (suc n) f s =
+      by.by_way f (SomeOf-mono (Every (IsPossible ways n)) (Every Holds) (λ ps i. Every-mono (IsPossible ways n) Holds (λ g j. possible_holds n g j) ps i) (ways f) s)
+
+  pub holds_possible : (n : ℕ) (f : Fact) → HasShortChains ways n f → Holds f → IsPossible ways n f
+  holds_possible zero f h p = absurd h
+  holds_possible (suc n) f h p =
+      some-both (Every (HasShortChains ways n)) (Every Holds) (Every (IsPossible ways n))
+      (λ ps i j. Every-both (HasShortChains ways n) Holds (IsPossible ways n) (λ g x y. holds_possible n g x y) ps i j) (ways f) h (by.has_way f p)
+    where
+      some-both : {A : Type 0} (P Q R : A → Type 0) → ((x : A) → P x → Q x → R x) → (xs : List A) → Every P xs → SomeOf Q xs → SomeOf R xs
+      some-both P Q R f [] h s = absurd s
+      some-both P Q R f (x ∷ xs) h (inl q) = inl (f x h.0 q)
+      some-both P Q R f (x ∷ xs) h (inr s) = inr (some-both P Q R f xs h.1 s)

@@ -1,20 +1,23 @@
 -- The solver's merge of responses outside coherence is lawful: no preference drops all of them, and a single one is the result.
 use Rattle.solver_completeness.specs.Closed.{IsBare}
-use Rattle.std.proofs.Common.{◌≡◌, ◌≤◌, arith, Bool, true, false, not, ◌&&◌, ◌||◌, if◌then◌else◌, List, [], ◌∷◌, ◌++◌, length, length-append, filter, ◌⊎◌, inl, inr, refl, sym, ◌∙◌, ap, subst, Option, Some, None, is_some}
+use Rattle.std.proofs.Common.{◌≡◌, ◌≤◌, ◌+◌, ℕ, arith, Bool, true, false, not, ◌&&◌, ◌||◌, if◌then◌else◌, List, [], ◌∷◌, ◌++◌, length, length-append, filter, ◌⊎◌, inl, inr, refl, sym, ◌∙◌, ap, subst, Option, Some, None, is_some}
 use Rattle.infer_table.specs.Responses.{AnswerTrees}
 use Rattle.infer_table.specs.declared.certainty.Certainty.{Certainty}
 use Rattle.goal_evaluator.specs.declared.candidate.CandidateSource.{CandidateSource}
 use Rattle.goal_evaluator.specs.declared.candidate.CandidateSource.TheVariants.{Impl, BuiltinImpl, ParamEnv, CoherenceUnknowable}
 use Rattle.goal_evaluator.specs.Lists.{Every, SomeOf}
-use Rattle.goal_evaluator.specs.Table.{workings}
+use Rattle.goal_evaluator.specs.declared.candidate.ParamEnvSource.TheVariants.{Global, NonGlobal}
+use Rattle.goal_evaluator.specs.Operations.{is_yes}
+use Rattle.goal_evaluator.specs.Table.{operations, workings}
 use Rattle.goal_evaluator.specs.Candidate.{Considered}
 use Rattle.goal_evaluator.specs.Merge.{responses, if_there, or_else}
 use Rattle.goal_evaluator.specs.PlanAnswers.{passes, first_passing, if_so, taken_or_merged, first_taken}
-use Rattle.goal_evaluator.proofs.ListLaws.{SomeOf-mono}
+use Rattle.goal_evaluator.proofs.ListLaws.{Every-mono, SomeOf-mono}
 use Rattle.goal_evaluator.specs.FrameTables.{FrameTable}
 use Rattle.goal_evaluator.specs.Tables.{frame_tables}
 use Rattle.solver_completeness.specs.Exact.{IsMadeOfResponses}
-use Rattle.solver_completeness.proofs.ExactPlans.{IsExactFrom}
+use Rattle.solver_completeness.proofs.ExactPlans.{IsExactFrom, EndsSo}
+use Rattle.solver_completeness.proofs.FewWays.{MergesEach}
 use Rattle.solver_completeness.proofs.Merging.{merged, merged-one, merged-some, merged-bare}
 use Rattle.candidate_model.specs.Candidates.{Candidate}
 use Rattle.candidate_model.specs.Solver.{SolverPast, from, holds_from, is_clause, is_non_global, is_global, is_impl, is_object, is_trivial, gives_none, oldest_gives_none, remain, remains, says_nothing, is_settled, preferred}
@@ -146,6 +149,43 @@ one-kept p seen r e h =
     by (y ∷ []) x xs f g n = ap (λ z. z ∷ []) g.0
     by (y ∷ z ∷ ys) x xs f g n = absurd (omega (arith, n))
 
+-- if those of the first sources that have a response are of the second sources, they are no more than these
+fewer-kept : (p q : CandidateSource → Bool) (seen : SolverPast) → Every (λ (c : Heed). from p c ≡ true → is_some c.response ≡ true → from q c ≡ true) seen
+    → length (responses frame_tables (filter (from p) seen)) ≤ length (responses frame_tables (filter (from q) seen))
+fewer-kept p q [] h = omega arith
+fewer-kept p q (c ∷ seen) h =
+    subst (λ rs. length rs ≤ length (responses frame_tables (filter (from q) (c ∷ seen)))) (sym (pushed (filter (from p) seen) (from p c)))
+    (subst (λ rs. length (if from p c then xs ++ if_there c.response else xs) ≤ length rs) (sym (pushed (filter (from q) seen) (from q c))) (by (from p c) (from q c) c.response h.0 (fewer-kept p q seen h.1)))
+  where
+    xs : List AnswerTrees
+    xs = responses frame_tables (filter (from p) seen)
+
+    ys : List AnswerTrees
+    ys = responses frame_tables (filter (from q) seen)
+
+    pushed : (before : SolverPast) (b : Bool) → responses frame_tables (if b then c ∷ before else before) ≡ (if b then responses frame_tables before ++ if_there c.response else responses frame_tables before)
+    pushed before true = refl
+    pushed before false = refl
+
+    by : (b d : Bool) (o : Option AnswerTrees) → (b ≡ true → is_some o ≡ true → d ≡ true) → length xs ≤ length ys → length (if b then xs ++ if_there o else xs) ≤ length (if d then ys ++ if_there o else ys)
+    by true true o h l = omega (arith, l, length-append xs (if_there o), length-append ys (if_there o))
+    by true false None h l =
+        let e : length (xs ++ []) ≡ length xs + 0 = length-append xs [] in
+        omega (arith, l, e)
+    by true false (Some r) h l = false-is-true (h refl refl)
+    by false true o h l = omega (arith, l, length-append ys (if_there o))
+    by false false o h l = l
+
+-- no candidate from there has a response
+none-from : (p : CandidateSource → Bool) (seen : SolverPast) → holds_from p seen ≡ false → Every (λ (c : Heed). (from p c && is_some c.response) ≡ false) seen
+none-from p [] e = tt
+none-from p (c ∷ seen) e = let x = neither (from p c && is_some c.response) (holds_from p seen) e in (x.0, none-from p seen x.1)
+  where
+    neither : (a b : Bool) → (a || b) ≡ false → (a ≡ false) × (b ≡ false)
+    neither false false e = (refl, refl)
+    neither true b e = absurd (cc)
+    neither false true e = absurd (cc)
+
 -- ---- which are merged where no where-clause is preferred
 oldest-heard : (p : CandidateSource → Bool) (b : Bool) (seen : SolverPast) → oldest_gives_none p b seen ≡ true → (b ≡ true) ⊎ Heard p seen
 oldest-heard p b [] e = inl e
@@ -221,6 +261,14 @@ remains-heard seen h = by (heard-either (remain seen) seen h)
     by (inr x) =
         remains-local seen
         (heard-more is_object (local_remain seen) (object-stays (oldest_gives_none is_object false seen)) seen (object-heard seen (dropped-by (oldest_gives_none is_object false seen) seen x)))
+
+-- a candidate by a where-clause
+abbrev pub is_by_clause : Candidate → Bool
+is_by_clause c = is_clause c.source
+
+-- one definite yes of a where-clause, and one of another candidate, are merged to a definite yes
+abbrev pub MergesSo : SolverPast → Option AnswerTrees → Type 0
+MergesSo seen a = MergesEach frame_tables is_by_clause seen a
 
 -- ---- plans that end
 module _ (applicable : AnswerTrees → Bool) (same : AnswerTrees → AnswerTrees → Bool) (begin : FrameTable) (silent : (c : Certainty) → frame_tables.has_values (frame_tables.respond begin c) ≡ false) where
@@ -300,6 +348,113 @@ module _ (applicable : AnswerTrees → Bool) (same : AnswerTrees → AnswerTrees
           taken-made is_clause left seen none_left (λ h. heard-more is_non_global is_clause non-global-clause seen (heard-from is_non_global seen f))
           (first_passing frame_tables applicable same begin (filter (from is_clause) seen)) refl
       by false e false f = kept-made (remains seen) left seen none_left (remains-heard seen)
+
+  -- ---- where-clauses and other candidates, of each of which at most one has a response, and that is a definite yes
+  abbrev IsYes : AnswerTrees → Type 0
+  IsYes r = is_yes (operations frame_tables) r ≡ true
+
+  some-same : (r x : AnswerTrees) → ◌≡◌ {A = Option AnswerTrees} (Some r) (Some x) → r ≡ x
+  some-same r x e = cc
+
+  none-some : (x : AnswerTrees) → ◌≡◌ {A = Option AnswerTrees} None (Some x) → ⊥
+  none-some x e = cc
+
+  one-yes : (rs : List AnswerTrees) → Every IsYes rs → length rs ≤ 1 → (x : AnswerTrees) → Joined rs ≡ Some x → IsYes x
+  one-yes [] h l x e = absurd (none-some x e)
+  one-yes (r ∷ []) h l x e = subst IsYes (some-same r x (sym (merged-one frame_tables applicable same begin r) ∙ e)) h.0
+  one-yes (r ∷ s ∷ rs) h l x e = absurd (omega (arith, l))
+
+  kept-yes : (p : CandidateSource → Bool) (seen : SolverPast) → Every IsYes (responses frame_tables seen) → length (responses frame_tables (filter (from p) seen)) ≤ 1
+      → (x : AnswerTrees) → Joined (responses frame_tables (filter (from p) seen)) ≡ Some x → IsYes x
+  kept-yes p seen h l x e = one-yes (responses frame_tables (filter (from p) seen)) (kept-every IsYes p seen h) l x e
+
+  under : (a b c : ℕ) → a ≤ b → b ≤ c → a ≤ c
+  under a b c h g = omega (arith, h, g)
+
+  trivial-other : (s : CandidateSource) → is_trivial s ≡ true → not (is_clause s) ≡ true
+  trivial-other (ParamEnv g) e = false-is-true e
+  trivial-other (Impl i) e = refl
+  trivial-other (BuiltinImpl x) e = refl
+  trivial-other CoherenceUnknowable e = refl
+
+  global-is-clause : (s : CandidateSource) → is_global s ≡ true → is_clause s ≡ true
+  global-is-clause (ParamEnv g) e = refl
+  global-is-clause (Impl i) e = false-is-true e
+  global-is-clause (BuiltinImpl x) e = false-is-true e
+  global-is-clause CoherenceUnknowable e = false-is-true e
+
+  no-clause : (s : CandidateSource) → is_global s ≡ false → is_non_global s ≡ false → not (is_clause s) ≡ true
+  no-clause (ParamEnv Global) e f = false-is-true (sym e)
+  no-clause (ParamEnv NonGlobal) e f = false-is-true (sym f)
+  no-clause (Impl i) e f = refl
+  no-clause (BuiltinImpl x) e f = refl
+  no-clause CoherenceUnknowable e f = refl
+
+  -- those that remain beside another candidate are not global, and alone they are
+  beside-local : (x g b : Bool) → (x && (not g || not b)) ≡ true → b ≡ true → g ≡ false
+  beside-local true false b e f = refl
+  beside-local true true true e f = false-is-true e
+  beside-local true true false e f = false-is-true f
+  beside-local false g b e f = false-is-true e
+
+  alone-global : (x g i b : Bool) → ((x && not g) && i) ≡ false → i ≡ true → (x && (not g || not b)) ≡ true → g ≡ true
+  alone-global true true i b e f h = refl
+  alone-global true false true b e f h = false-is-true (sym e)
+  alone-global true false false b e f h = false-is-true f
+  alone-global false g i b e f h = false-is-true h
+
+  not-both : (a b : Bool) → (a && b) ≡ false → b ≡ true → a ≡ false
+  not-both false b e f = refl
+  not-both true true e f = false-is-true (sym e)
+  not-both true false e f = false-is-true f
+
+  all-sources : (p q : CandidateSource → Bool) → ((s : CandidateSource) → p s ≡ true → q s ≡ true) → (seen : SolverPast) → Every (λ (c : Heed). from p c ≡ true → is_some c.response ≡ true → from q c ≡ true) seen
+  all-sources p q f [] = tt
+  all-sources p q f (c ∷ seen) = (λ e i. f c.spec.source e, all-sources p q f seen)
+
+  module _ (seen : SolverPast) where
+    abbrev Own : Type 0
+    Own = length (responses frame_tables (filter (from is_clause) seen)) ≤ 1
+
+    abbrev Others : Type 0
+    Others = length (responses frame_tables (filter (from (λ s. not (is_clause s))) seen)) ≤ 1
+
+    remaining : holds_from is_non_global seen ≡ false → Own → Others → length (responses frame_tables (filter (from (remains seen)) seen)) ≤ 1
+    remaining quiet own others = by (holds_from (local_remain seen) seen) refl
+      where
+        by : (b : Bool) → holds_from (local_remain seen) seen ≡ b → length (responses frame_tables (filter (from (remains seen)) seen)) ≤ 1
+        by true e =
+            under _ _ 1
+            (fewer-kept (remains seen) (λ s. not (is_clause s)) seen
+            (Every-mono (λ (c : Heed). (from is_non_global c && is_some c.response) ≡ false) (λ (c : Heed). from (remains seen) c ≡ true → is_some c.response ≡ true → from (λ s. not (is_clause s)) c ≡ true)
+            (λ c n q i. no-clause c.spec.source (beside-local (remain seen c.spec.source) (is_global c.spec.source) (holds_from (local_remain seen) seen) q e) (not-both (is_non_global c.spec.source) (is_some c.response) n i))
+            seen (none-from is_non_global seen quiet)))
+            others
+        by false e =
+            under _ _ 1
+            (fewer-kept (remains seen) is_clause seen
+            (Every-mono (λ (c : Heed). (from (local_remain seen) c && is_some c.response) ≡ false) (λ (c : Heed). from (remains seen) c ≡ true → is_some c.response ≡ true → from is_clause c ≡ true)
+            (λ c n q i. global-is-clause c.spec.source (alone-global (remain seen c.spec.source) (is_global c.spec.source) (is_some c.response) (holds_from (local_remain seen) seen) n i q))
+            seen (none-from (local_remain seen) seen e)))
+            own
+
+    taken-ends : (o : Option Heed) → first_passing frame_tables applicable same begin (filter (from is_clause) seen) ≡ o
+        → EndsSo frame_tables MergesSo seen (taken_or_merged frame_tables applicable same begin (filter (from is_clause) seen) o)
+    taken-ends (Some c) e = λ h own others x q.
+        let y = passing-holds IsYes (filter (from is_clause) seen) c e (kept-every IsYes is_clause seen h) in
+        subst IsYes (some-same y.0 x (sym y.1 ∙ q)) y.2
+    taken-ends None e = λ h own others x q. kept-yes is_clause seen h own x q
+
+    pub preferred-ends : EndsSo frame_tables MergesSo seen (preferred applicable same begin seen)
+    preferred-ends = by (holds_from is_trivial seen) (holds_from is_non_global seen) refl
+      where
+        by : (b d : Bool) → holds_from is_non_global seen ≡ d
+            → EndsSo frame_tables MergesSo seen (if b then Rattle.candidate_model.specs.Solver.merged applicable same begin is_trivial seen
+            else if d then first_taken frame_tables applicable same begin (from is_clause) seen
+            else Rattle.candidate_model.specs.Solver.merged applicable same begin (remains seen) seen)
+        by true d f = λ h own others x q. kept-yes is_trivial seen h (under _ _ 1 (fewer-kept is_trivial (λ s. not (is_clause s)) seen (all-sources is_trivial (λ s. not (is_clause s)) trivial-other seen)) others) x q
+        by false true f = taken-ends (first_passing frame_tables applicable same begin (filter (from is_clause) seen)) refl
+        by false false f = λ h own others x q. kept-yes (remains seen) seen h (remaining f own others) x q
 
 -- a where-clause that settles the goal was not refused
 pub settled-heard : (seen : SolverPast) → is_settled seen ≡ true → responses frame_tables seen ≡ [] → ⊥

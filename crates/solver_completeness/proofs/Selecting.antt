@@ -217,6 +217,19 @@ which p (x ∷ xs) l = by (p x) refl l (λ k. which p xs k)
     by true q k go = (x, here x xs, q)
     by false q k go = let z = go k in (z.0, there z.0 x xs z.1, z.2)
 
+-- of what stands once, and is one where the test holds, the test holds at most once
+pub once-hit : {A : Type 0} (p : A → Bool) (xs : List A) → AreOnce xs → ((x y : A) → p x ≡ true → p y ≡ true → x ≡ y) → hits p xs ≤ 1
+once-hit p [] once same_one = omega arith
+once-hit p (x ∷ xs) once same_one = by (p x) refl (once-hit p xs once.1 same_one)
+  where
+    alone : (n : ℕ) → (1 ≤ n → ⊥) → suc n ≤ 1
+    alone zero h = omega arith
+    alone (suc n) h = absurd (h (omega arith))
+
+    by : (b : Bool) → p x ≡ b → hits p xs ≤ 1 → (if b then suc (hits p xs) else hits p xs) ≤ 1
+    by true q l = alone (hits p xs) (λ k. let w = which p xs k in once.0 (subst (λ z. In z xs) (same_one w.0 x w.2 q) w.1))
+    by false q l = l
+
 -- ---- one way for each of some references
 reference-swap : (r s : Reference) → same_reference r s ≡ same_reference s r
 reference-swap r s = ap (λ b. b && same r.args s.args) (sym (number-swap r.trait s.trait (r.trait == s.trait) refl)) ∙ ap (λ b. (s.trait == r.trait) && b) (sym (same-swap r.args s.args (same r.args s.args) refl))

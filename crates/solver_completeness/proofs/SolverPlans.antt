@@ -9,6 +9,7 @@ use Rattle.infer_table.specs.declared.canonical.CanonicalVarKind.{CanonicalVarKi
 use Rattle.infer_table.specs.declared.canonical.CanonicalVarKind.TheVariants.{Ty, PlaceholderTy, Const, PlaceholderConst, Region}
 use Rattle.infer_table.specs.declared.certainty.Certainty.{Certainty}
 use Rattle.infer_table.specs.declared.certainty.TypingMode.TheVariants.{Coherence, PostAnalysis}
+use Rattle.goal_evaluator.specs.Candidate.{answer}
 use Rattle.goal_evaluator.specs.Plans.{Plan, each_of, came, if_refused, first_alone}
 use Rattle.goal_evaluator.specs.Merge.{responses}
 use Rattle.goal_evaluator.specs.FrameTables.{FrameTable, kind_at, kinds_known}
@@ -16,9 +17,9 @@ use Rattle.goal_evaluator.specs.TableOperations.{begin}
 use Rattle.goal_evaluator.proofs.TableBeginning.{begin-made}
 use Rattle.goal_evaluator.specs.Tables.{frame_tables}
 use Rattle.solver_completeness.specs.ClosedTables.{AreClosed, IsClosedKind}
-use Rattle.solver_completeness.specs.Exact.{IsMadeOfResponses}
+use Rattle.solver_completeness.specs.Exact.{WereConsidered, IsMadeOfResponses}
 use Rattle.solver_completeness.proofs.ClosedLaws.{closed_tables_are_lawful}
-use Rattle.solver_completeness.proofs.ExactPlans.{IsExactFrom, left_at, goes, makes}
+use Rattle.solver_completeness.proofs.ExactPlans.{IsExactFrom, left_at, goes, makes, EndsSo, each-ends, ends-so}
 use Rattle.solver_completeness.proofs.Listed.{each-exact}
 use Rattle.solver_completeness.proofs.Merging.{merged, merged-one, merged-some, merged-bare}
 use Rattle.candidate_model.specs.Meaning.{ViewMeaning}
@@ -30,7 +31,7 @@ use Rattle.candidate_model.specs.Solver.{SolverPast, everything, preferred, is_s
 use Rattle.candidate_model.proofs.Cover.{asked-by, known-kinds}
 use Rattle.candidate_model.proofs.SoundCandidates.{kinds-whole}
 use Rattle.solver_completeness.specs.SolverPlans.{specs_in_coherence, specs_outside, GoesThrough, PlansAreExact}
-use Rattle.solver_completeness.proofs.Preferences.{preferred-exact, settled-heard}
+use Rattle.solver_completeness.proofs.Preferences.{preferred-exact, settled-heard, MergesSo, preferred-ends}
 
 -- some are considered, and then the plan goes on with others
 pub each-then : (first others : List Candidate) (go : SolverPast → Plan frame_tables) (seen : SolverPast) → ((later : SolverPast) → IsExactFrom frame_tables others later (go later))
@@ -95,6 +96,17 @@ module _ (applicable : AnswerTrees → Bool) (same : AnswerTrees → AnswerTrees
         (λ seen. if is_settled seen then preferred applicable same begin_table seen else each_of frame_tables late (preferred applicable same begin_table) seen) []
         (λ later. after-early later (is_settled later) refl)
 
+    -- each leaf merges one definite yes of a where-clause, and one of another candidate, to a definite yes
+    pub outside-ends : EndsSo frame_tables MergesSo [] (outside_coherence applicable same begin_table m.view a)
+    outside-ends =
+        each-ends frame_tables MergesSo (by_clauses m.view a (clauses a) ++ built_in m.view a)
+        (λ seen. if is_settled seen then preferred applicable same begin_table seen else each_of frame_tables late (preferred applicable same begin_table) seen) []
+        (λ later. by later (is_settled later))
+      where
+        by : (seen : SolverPast) (b : Bool) → EndsSo frame_tables MergesSo seen (if b then preferred applicable same begin_table seen else each_of frame_tables late (preferred applicable same begin_table) seen)
+        by seen true = preferred-ends applicable same begin_table silent seen
+        by seen false = each-ends frame_tables MergesSo late (preferred applicable same begin_table) seen (λ later. preferred-ends applicable same begin_table silent later)
+
 -- ---- goals without unknowns
 pub closed-at : (ks : List CanonicalVarKind) → AreClosed (map Some ks) → (i : ℕ) (k : CanonicalVarKind) → kind_at ks i ≡ Some k → IsClosedKind (Some k)
 closed-at [] c i k e = absurd (cc)
@@ -143,6 +155,11 @@ module _ (applicable : AnswerTrees → Bool) (same : AnswerTrees → AnswerTrees
     plan-is =
         ap (plan_for applicable same table m mode) is_asked
         ∙ decided m.is_sound (begins_unknown a.kinds (self_of a)) sound (begins-known a.kinds kinds-closed (self_of a)) _ by_its_mode
+
+    pub ends-through : EndsSo frame_tables MergesSo [] by_its_mode → (seen : SolverPast) (b : Option AnswerTrees) (ignored : List ℕ)
+        → WereConsidered frame_tables (solver_handled applicable same m mode f).next seen → (solver_handled applicable same m mode f).next seen ≡ answer b ignored → MergesSo seen b
+    ends-through e seen b ignored w q =
+        ends-so frame_tables MergesSo (solver_planned applicable same m mode f).plan (subst (EndsSo frame_tables MergesSo []) (sym plan-is) e) seen b ignored w q
 
     pub goes-through : (specs : List Candidate) → IsExactFrom frame_tables specs [] by_its_mode → GoesThrough (solver_handled applicable same m mode f) specs
     goes-through specs e =
