@@ -10,3 +10,5 @@ pub record SearchState : Type 0 where
   pub frames : ℕ
   -- whether the limit of the depth or of the runs gave a result, or a call was given up
   pub limits_met : Bool
+  -- what calls have counted, less what each takes off the count of earlier ones
+  pub spent : ℕ

@@ -1,18 +1,17 @@
 //! What is counted in a call from outside, and what goals may still evaluate once they have run out.
 
 ghost use Rattle.std.specs.Prelude.{◌≡◌, ◌+◌, ◌-◌, ◌^◌, ◌<◌, ◌≤◌, [], min, Some, None, IfSome, IfNone, IsSome, cond, true, false};
-ghost use Rattle.search_graph.specs.Bound.{uncached_questions_limit, local_questions_limit, least_share, share_of};
+ghost use Rattle.search_graph.specs.Bound.{uncached_questions_limit, counted_before, least_share, share_of, spare_of};
 
 use crate::delegate::Delegate;
 use crate::search::nested_depth;
 use search_paths::Dependencies;
 
-/// A call from outside is given up when uncached goals have evaluated this many nested goals in it. When they have evaluated
-/// `LOCAL_QUESTIONS_LIMIT`, the goals of the stack run out.
+/// A call from outside is given up when uncached goals have evaluated this many nested goals, in it and in earlier calls.
 ///
 /// A goal is uncached if its result depends on goals of the stack, or if it met an overflow by depth. The goal is counted when it ends,
 /// with the nested goals of all its runs. Each counts once, and `Delegate::cost_of` times more for the goal's own types. A goal that
-/// has run out is not counted. The count begins anew with each call.
+/// has run out is not counted.
 ///
 /// An uncached result is stored for one run of its nearest head at most. It is computed again if its goal is evaluated after that run.
 /// If goals reach each other by many paths, that may happen exponentially often in the number of goals. All other goals are cached, so
@@ -20,9 +19,13 @@ use search_paths::Dependencies;
 /// that grow at each step reach the number: in two ways within a depth of 139, in three within 100, in sixteen within 16.
 pub(crate) const UNCACHED_QUESTIONS_LIMIT: usize = 65536;
 
-/// When the count reaches this number, the goals of the stack have run out: each has met an overflow by depth. They continue with their
-/// other nested goals and candidates, each of which has a share of what is left up to `UNCACHED_QUESTIONS_LIMIT`.
-pub(crate) const LOCAL_QUESTIONS_LIMIT: usize = 61440;
+/// Each call from outside takes so many off the count of earlier calls, so it may count as many at least. Where each call counts fewer,
+/// none is given up for what others counted.
+const QUESTIONS_OF_A_CALL: usize = 64;
+
+/// The goals of the stack run out when only this part of what a call may count is left: each has met an overflow by depth. They continue
+/// with their other nested goals and candidates, each of which has a share of that part. If it is no share, the call is given up at once.
+const PARTS_OF_A_CALL: usize = 16;
 
 /// A nested goal of the oldest goal of the stack gets this part of what is left, and of the next goals half of it, a third and so on.
 const PARTS_OF_A_LEVEL: usize = 16;
@@ -36,7 +39,8 @@ const QUESTIONS_OF_A_LEVEL: usize = 8;
 /// The count of a call from outside, and how far it may go.
 #[derive(Drop)]
 pub struct Budget {
-    /// The number of nested goals of the uncached goals that ended in this call, as `UNCACHED_QUESTIONS_LIMIT` counts them.
+    /// The number of nested goals of the uncached goals that ended in this call, as `UNCACHED_QUESTIONS_LIMIT` counts them, and what is
+    /// left of the count of earlier calls.
     pub(crate) counted: usize,
     /// The goals that are evaluated now have run out when the count reaches this number.
     pub(crate) allowance: usize,
@@ -45,15 +49,21 @@ pub struct Budget {
 }
 
 impl Budget {
-    /// Returns the budget of a call in which no goal has ended.
-    pub(crate) fn new() -> Self
-        ensures uncounted { result.counted ≡ 0 }
-        ensures whole { result.allowance ≡ local_questions_limit }
+    /// Returns the budget of a call in which no goal has ended, after earlier calls have counted `spent`.
+    pub(crate) fn after(spent: usize) -> Self
+        ensures count { result.counted ≡ counted_before spent }
+        ensures spare { least_share ≤ spare_of (counted_before spent) → result.allowance ≡ uncached_questions_limit - spare_of (counted_before spent) }
+        ensures no_spare { spare_of (counted_before spent) < least_share → result.allowance ≡ uncached_questions_limit }
         ensures unshared { result.sharing ≡ 0 }
     {
+        let counted = spent
+            .min(UNCACHED_QUESTIONS_LIMIT)
+            .saturating_sub(QUESTIONS_OF_A_CALL);
+        let spare = UNCACHED_QUESTIONS_LIMIT.saturating_sub(counted) / PARTS_OF_A_CALL;
+        let kept = if spare < LEAST_SHARE { 0 } else { spare };
         Budget {
-            counted: 0,
-            allowance: LOCAL_QUESTIONS_LIMIT,
+            counted,
+            allowance: UNCACHED_QUESTIONS_LIMIT.saturating_sub(kept),
             sharing: 0,
         }
     }

@@ -7,7 +7,7 @@ ghost use Rattle.search_paths.specs.Nested.{covered, one_goal};
 ghost use Rattle.search_graph.specs.Computed.{MakesMisstep};
 ghost use Rattle.search_graph.specs.Cache.{known_results, HasConflict, IsNumberOf, KeepsNumbers, KeepsResults, HoldsResult};
 ghost use Rattle.search_graph.specs.Promised.FrameBound.{frame_bound};
-ghost use Rattle.search_graph.specs.Bound.{question_bound, IsCounted};
+ghost use Rattle.search_graph.specs.Bound.{question_bound, counted_before, IsCounted};
 ghost use Rattle.search_paths.specs.KeptPaths.{AreBelow, indices};
 ghost use Rattle.search_graph.specs.Stack.{steps_of, span_of_newest, IsStack, IsEntry, AreCached, IfUsable, IfUsableAlone};
 ghost use Rattle.search_graph.specs.Question.{AllDescendTo, AreEntriesOver, AreEntriesStill, AreLeftOver, IsReplyOver, IsRunOver, IsFaithfulOver, IsUntouchedOver, IsNotPlainOver, AreFramesWithin, StaysWithin};
@@ -37,7 +37,7 @@ pub(crate) fn evaluate_root<D: Delegate>(
     depth: usize,
 ) -> Evaluation<D>
     requires empty { search.old.stack.items ≡ [] }
-    requires uncounted { search.old.budget.counted ≡ 0 }
+    requires begun { search.old.budget.counted ≡ counted_before search.old.spent }
     requires cache { AreCached D.meaning (D.meaning.world cx.old) cx.old cache.old.entries.items }
     requires input { D.meaning.IsInput cx.old input }
     ensures keeps { KeepsContext D.meaning cx.old cx.new }

@@ -6,7 +6,7 @@ ghost use Rattle.search_graph.specs.Computed.{IsComputedOrGiven, MakesMisstep};
 ghost use Rattle.search_graph.specs.Answer.{IsSound};
 ghost use Rattle.search_graph.specs.Plain.{IsPlain, IsNotPlain};
 ghost use Rattle.search_graph.specs.Promised.FrameBound.{frame_bound};
-ghost use Rattle.search_graph.specs.Bound.{IsCounted};
+ghost use Rattle.search_graph.specs.Bound.{IsCounted, counted_before};
 ghost use Rattle.search_graph.specs.Cache.{AreJustified, AreConsistent, KeepsResults, HasConflict, IsKnown, IfKnown};
 ghost use Rattle.search_graph.specs.Question.{AreFramesWithin, IsWithinKnown};
 
@@ -23,7 +23,7 @@ use type_terms::Fault;
 /// A search with its stack.
 ///
 /// In clauses it is a `SearchState`: its depth, the number of goals that are being evaluated, the number of frames that were started,
-/// and whether a limit gave a result. `SearchGraph` of `rustc_type_ir::search_graph`.
+/// whether a limit gave a result, and what was counted. `SearchGraph` of `rustc_type_ir::search_graph`.
 pub struct SearchGraph<D: Delegate> {
     root_depth: usize,
     search: Search<D>,
@@ -40,6 +40,7 @@ impl<D: Delegate> Model for SearchGraph<D> {
       current_depth = length graph.search.stack.items;
       frames = graph.search.frames;
       limits_met = graph.search.limits_met;
+      spent = graph.search.spent;
     } };
 }
 
@@ -56,7 +57,8 @@ impl<D: Delegate> SearchGraph<D> {
     /// Returns a search whose root goals have this depth, without allocating.
     pub fn new(alloc: Global, root_depth: usize) -> Result<Self, Fault>
         requires { 1 ≤ root_depth }
-        ensures { IsOkAnd result (λ graph. graph ≡ record { root_depth = root_depth; current_depth = 0; frames = 0; limits_met = false }) }
+        ensures { IsOkAnd result
+            (λ graph. graph ≡ record { root_depth = root_depth; current_depth = 0; frames = 0; limits_met = false; spent = 0 }) }
     {
         Ok(SearchGraph {
             root_depth,
@@ -85,6 +87,20 @@ impl<D: Delegate> SearchGraph<D> {
         self.search.frames
     }
 
+    /// Returns what calls have counted, less 64 for each.
+    pub fn spent(&self) -> usize
+        ensures { result ≡ self.now.spent }
+    {
+        self.search.spent
+    }
+
+    /// Counts on from this number in the next call: what an earlier search has counted, or nothing.
+    pub fn count_from(&mut self, spent: usize)
+        ensures { self.new ≡ record self.old { spent = spent } }
+    {
+        self.search.spent = spent;
+    }
+
     /// Returns whether a limit was met since `new`: a goal of depth 0 had a nested goal, goals ran out, the limit of runs gave a result, or
     /// a call was given up.
     pub fn limits_met(&self) -> bool
@@ -95,11 +111,12 @@ impl<D: Delegate> SearchGraph<D> {
 
     /// Returns the result of a root goal. The kind of the step has no effect, since the root has no parent.
     ///
-    /// The goals that are evaluated run out when uncached goals have evaluated 61,440 nested goals in the call. A goal is uncached if its
-    /// result depends on goals that are still evaluated, or if it met an overflow by depth. A nested goal of a large goal counts more than
-    /// once (`Delegate::cost_of`). Goals that have run out have met an overflow by depth, and `limits_met` is set. Each continues with its
-    /// other nested goals. At 65,536 the call is given up: its result is `stack_overflow_result`. rustc has no such limit. A goal that plain
-    /// recursion answers within the depth never sets `limits_met`.
+    /// The call is given up when uncached goals have evaluated 65,536 nested goals: its result is `stack_overflow_result`. A goal is uncached
+    /// if its result depends on goals that are still evaluated, or if it met an overflow by depth. A nested goal of a large goal counts more
+    /// than once (`Delegate::cost_of`). The count goes on from call to call, and goes down by 64 with each. When a sixteenth is left of what
+    /// the call may count, and it is 16 or more, the goals that are evaluated have run out: they have met an overflow by depth, and
+    /// `limits_met` is set. Each continues with its other nested goals. rustc has no such limit. A goal that plain recursion answers within
+    /// the depth never sets `limits_met`.
     ///
     /// The call fails in these cases:
     ///
@@ -157,6 +174,9 @@ impl<D: Delegate> SearchGraph<D> {
 
         ensures depth { self.new.root_depth ≡ self.old.root_depth }
 
+        // The count goes on from earlier calls.
+        ensures spent { counted_before self.old.spent ≤ self.new.spent }
+
         // `limits_met` stays set, after a failure too. A goal that plain recursion answers within the depth never sets it. If it is
         // not set, the result depends on no overflow, except through results that were cached before.
         ensures noted { self.old.limits_met ≡ true → self.new.limits_met ≡ true }
@@ -166,9 +186,10 @@ impl<D: Delegate> SearchGraph<D> {
     {
         let depth = self.root_depth;
         let results = &mut cache.results;
-        self.search.count_anew();
+        let before = self.search.begin_call();
         match evaluate_root(&mut self.search, results, cx, input, step_kind, depth) {
             Ok(evaluation) => {
+                self.search.spent = self.search.budget.counted.max(before);
                 let EvaluationResult {
                     result: answer,
                     dependencies: _,
@@ -177,6 +198,7 @@ impl<D: Delegate> SearchGraph<D> {
             }
             Err(fault) => {
                 self.search.clear();
+                self.search.spent = self.search.budget.counted.max(before);
                 Err(fault)
             }
         }

@@ -9,7 +9,7 @@ ghost use Rattle.search_graph.specs.Chain.{AreInRange, AreInRanges, IsUsableAt, 
 ghost use Rattle.search_graph.specs.Meaning.{KeepsContext};
 ghost use Rattle.search_paths.specs.Heads.{RestsOn};
 ghost use Rattle.search_paths.specs.KeptPaths.{indices, AreBelow};
-ghost use Rattle.search_graph.specs.Bound.{uncached_questions_limit, local_questions_limit};
+ghost use Rattle.search_graph.specs.Bound.{uncached_questions_limit, counted_before, least_share, spare_of};
 ghost use Rattle.search_graph.specs.Cache.{known_results, HasConflict, IsNumberOf, KeepsResults, IsReplyOf, AddsAsked, AddsEvaluation, SaysSame};
 ghost use Rattle.search_graph.specs.Plain.{IsNotPlain};
 ghost use Rattle.search_graph.specs.Stack.{place_of, oldest_of, span_of_newest, IsStack, IsProvisional, IsUnread, IsSettled, AreCached, IsOnStack, IsClosedBy};
@@ -56,8 +56,10 @@ pub struct Search<D: Delegate> {
     pub(crate) overflow_met: bool,
     /// The number of frames that were started, at most `u64::MAX`.
     pub frames: u64,
-    /// What was counted in this call from outside, and how far it may go.
+    /// What was counted up to this call from outside, and how far it may go.
     pub(crate) budget: Budget,
+    /// What was counted up to the end of the call before it.
+    pub(crate) spent: usize,
 }
 
 impl<D: Delegate> Drop for Search<D> {
@@ -71,6 +73,7 @@ impl<D: Delegate> Drop for Search<D> {
             overflow_met: _,
             frames: _,
             budget: _,
+            spent: _,
         } = self;
     }
 }
@@ -82,6 +85,7 @@ impl<D: Delegate> Search<D> {
         ensures unlisted { result.entries.lists.items ≡ [] }
         ensures frames { result.frames ≡ 0 }
         ensures limits { result.limits_met ≡ false }
+        ensures spent { result.spent ≡ 0 }
     {
         Search {
             alloc,
@@ -91,7 +95,8 @@ impl<D: Delegate> Search<D> {
             limits_met: false,
             overflow_met: false,
             frames: 0,
-            budget: Budget::new(),
+            budget: Budget::after(0),
+            spent: 0,
         }
     }
 
@@ -107,19 +112,23 @@ impl<D: Delegate> Search<D> {
         self.entries.clear();
     }
 
-    /// Begins a call from outside. No goal has ended in it, and no overflow was met.
-    pub(crate) fn count_anew(&mut self)
-        ensures count { self.new.budget.counted ≡ 0 }
-        ensures whole { self.new.budget.allowance ≡ local_questions_limit }
+    /// Begins a call from outside. No goal has ended in it, and no overflow was met. Returns what earlier calls count for it.
+    pub(crate) fn begin_call(&mut self) -> usize
+        ensures before { result ≡ counted_before self.old.spent }
+        ensures count { self.new.budget.counted ≡ result }
+        ensures spare { least_share ≤ spare_of result → self.new.budget.allowance ≡ uncached_questions_limit - spare_of result }
+        ensures no_spare { spare_of result < least_share → self.new.budget.allowance ≡ uncached_questions_limit }
         ensures unshared { self.new.budget.sharing ≡ 0 }
+        ensures spent { self.new.spent ≡ self.old.spent }
         ensures calm { self.new.overflow_met ≡ false }
         ensures stack { self.new.stack.items ≡ self.old.stack.items }
         ensures entries { self.new.entries ≡ self.old.entries }
         ensures frames { self.new.frames ≡ self.old.frames }
         ensures limits { self.new.limits_met ≡ self.old.limits_met }
     {
-        self.budget = Budget::new();
+        self.budget = Budget::after(self.spent);
         self.overflow_met = false;
+        self.budget.counted
     }
 
     /// Adds `cost` for a goal that ended, if the goal is uncached and has not run out. Returns whether the call may continue.

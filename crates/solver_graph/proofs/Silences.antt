@@ -1,10 +1,7 @@
 -- The response without values to a stored goal: each variable is its own value.
 use Rattle.std.proofs.Common.{◌≡◌, List, ◌∙◌, ap, Some, Result, Ok, Err, IfOk, subst}
-use Rattle.search_graph.specs.SearchPaths.declared.path_kind.PathKind.{PathKind}
-use Rattle.infer_table.specs.Canonical.{CanonicalForm}
 use Rattle.infer_table.specs.declared.canonical.CanonicalVarKind.{CanonicalVarKind}
 use Rattle.infer_table.specs.declared.certainty.Certainty.{Certainty}
-use Rattle.infer_table.specs.declared.certainty.TypingMode.{TypingMode}
 use Rattle.infer_table.specs.declared.input.CanonicalInput.{CanonicalInput}
 use Rattle.goal_evaluator.specs.TableAnswers.{IsWellFormed, without_values, respond}
 use Rattle.goal_evaluator.specs.TableOperations.{begin}
@@ -12,7 +9,7 @@ use Rattle.goal_evaluator.proofs.TableBeginning.{begin-made}
 use Rattle.goal_evaluator.proofs.WellFormed.{answers_well_formed}
 use Rattle.goal_frames.specs.declared.store.InputId.{InputId}
 use Rattle.goal_frames.specs.Stores.{input_at}
-use Rattle.goal_frames.specs.HandlerPrograms.{silent, silent_if, cycle_certainty, cycle_answer}
+use Rattle.goal_frames.specs.HandlerPrograms.{silent}
 use Rattle.goal_frames.proofs.Silences.{silent-is}
 use Rattle.goal_frames.proofs.KnownKinds.{all-known}
 use Rattle.solver_graph.specs.declared.context.SolverCx.{SolverCx}
@@ -23,15 +20,8 @@ pub silent-to : {Handler : Type 0} (c : SolverCx Handler) (i : InputId) (a : Can
 silent-to c i a at k =
     ap (λ o. silent (asked_or_none (entries_of c) o).1 k) at ∙ ap (λ ks. Some (respond (begin ks) k)) (all-known a.variables.items) ∙ ap Some (silent-is a.variables.items k)
 
-pub mode-of : {Handler : Type 0} (c : SolverCx Handler) (i : InputId) (a : CanonicalInput) → input_at c.store i ≡ Some a → (goal_of c i).0 ≡ a.mode
-mode-of c i a at = ap (λ o. (asked_or_none (entries_of c) o).0) at
-
 pub silent-fits : (ks : List CanonicalVarKind) (k : Certainty) → IsWellFormed (without_values ks k)
 silent-fits ks k = subst IsWellFormed (silent-is ks k) (answers_well_formed (begin ks) (begin-made ks) k)
-
--- what a goal is answered that is asked under itself
-pub cycle-some : (mode : TypingMode) (f : CanonicalForm) (kind : PathKind) (k : Certainty) → cycle_certainty mode kind ≡ Some k → cycle_answer mode f kind ≡ silent f k
-cycle-some mode f kind k e = ap (silent_if f) e
 
 -- ---- what holds of a result where it is one
 pub one-ok : {T E : Type 0} (P R : T → Type 0) (r : Result T E) → ((x : T) → P x → R x) → IfOk r P → IfOk r R

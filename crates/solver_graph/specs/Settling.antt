@@ -21,7 +21,7 @@ use Rattle.solver_graph.specs.Contexts.{entries_of, IsReady}
 use Rattle.solver_graph.specs.Evaluations.{asked_in, IsFoundBySearch}
 use Rattle.solver_graph.specs.Results.{IsCachedAnswer, IsNotPlainWithin}
 use Rattle.solver_graph.specs.RootEvaluations.{KnownResults}
-use Rattle.solver_graph.specs.Roots.{goal_in, fact_under, left_by}
+use Rattle.solver_graph.specs.Roots.{goal_in, fact_under, left_by, AtProvedSolutions}
 use Rattle.solver_graph.specs.Searching.{solver_meaning, world_in}
 use Rattle.solver_graph.specs.declared.context.SolverCx.{SolverCx}
 use Rattle.goal_frames.specs.Meanings.{HandlerMeaning}
@@ -54,11 +54,13 @@ module _ {Handler : Type 0} (handler : HandlerMeaning Handler) where
       HaveNoCanonical (content (entries_of c) t.values) → IsWithoutCanonical (goal_trees (entries_of c) g)
       → (s : Assignment) → Solves s (content (entries_of d) u.values) → Lists.FactHasProof Fact (handler.goals.Rule w) (handler.goals.coinductive w) (fact_under s (goal_trees (entries_of c) g))
 
-  -- The search of a graph with this depth refuses the goal, or gives an answer that the table refuses.
+  -- The search of a graph with this depth refuses the goal, or gives an answer that the table refuses. Then the goal has a proof at no solution
+  -- of the table.
   abbrev pub GoalIsRefused : SolverCx Handler → SearchState → Table → TypingMode → Goal → Type 0
   GoalIsRefused c graph t mode g =
       (a : Option AnswerTrees) × IsFoundBySearch (solver_meaning handler) (world_in handler c) graph.root_depth (asked_in mode (entries_of c) t g) a
       × (left_by (table_trees (entries_of c) t) (goal_in (entries_of c) t g) a ≡ None)
+      × AtProvedSolutions (handler.goals.handled (world_in handler c)) mode (entries_of c) t g (λ s. ⊥)
 
   -- The cache that the search leaves has a result for the goal that the table refuses. Of a goal that ends in a conflict nothing says so.
   abbrev pub RefusalIsKept : SolverCx Handler → SearchState → Table → TypingMode → Goal → SolverCx Handler → KnownResults → Type 0

@@ -58,17 +58,13 @@ impl<H: GoalHandler> Delegate for SolverGraph<H> {
 
     ghost steps_left = { steps_left H.meaning };
 
-    /// A coinductive cycle holds. A cycle with undecided steps is an overflow. An inductive cycle has no solution, but in
-    /// coherence it is an overflow. The response has no values and no constraints.
+    /// A coinductive cycle holds, and any other is an overflow. The response has no values and no constraints.
     fn initial_provisional_result(
         cx: &mut SolverCx<H>,
         kind: PathKind,
         input: &InputId,
     ) -> Result<Option<ResponseId>, Fault> {
-        match cycle_certainty(cx.store.input(*input).mode, kind) {
-            Some(certainty) => silent_answer(cx, *input, certainty),
-            None => Ok(None),
-        }
+        silent_answer(cx, *input, cycle_certainty(kind))
     }
 
     /// Whether the result is exactly the goal's initial one.
@@ -80,16 +76,20 @@ impl<H: GoalHandler> Delegate for SolverGraph<H> {
     ) -> bool
         requires input { IsInput H.meaning.IsReady cx.now input.now }
         requires known { ResponseIsMade H.meaning.IsReady cx.now of.now }
-        ensures { IsTrue result ↔ (answer_of cx.now of.now ≡ cycle_answer (goal_of cx.now input.now).0 (goal_of cx.now input.now).1 kind) }
+        ensures { IsTrue result ↔ (answer_of cx.now of.now ≡ cycle_answer (goal_of cx.now input.now).1 kind) }
     {
         let goal = cx.store.input(*input);
-        match (cycle_certainty(goal.mode, kind), of) {
-            (Some(certainty), Some(id)) => {
+        match of {
+            Some(id) => {
                 let response = cx.store.response(*id);
-                is_silent(&cx.interner, response, &goal.variables, certainty)
+                is_silent(
+                    &cx.interner,
+                    response,
+                    &goal.variables,
+                    cycle_certainty(kind),
+                )
             }
-            (None, None) => true,
-            (Some(_), None) | (None, Some(_)) => false,
+            None => false,
         }
     }
 

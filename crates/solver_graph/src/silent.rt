@@ -13,29 +13,25 @@ use goal_evaluator::{has_no_inference_or_external_constraints, is_identity_modul
 use goal_frames::GoalHandler;
 use goal_frames::store::{InputId, ResponseId};
 use infer_table::canonical::CanonicalVarKind;
-use infer_table::certainty::{Certainty, MaybeCause, TypingMode};
+use infer_table::certainty::{Certainty, MaybeCause};
 use infer_table::raw::response_no_constraints_raw;
 use infer_table::response::CanonicalResponse;
 use search_graph::PathKind;
 use type_terms::Fault;
 use type_terms::interner::Interner;
 
-/// The certainty of a goal that recurs by a path of this kind, or `None` if it has no solution.
+/// The certainty of a goal that recurs by a path of this kind.
 ///
-/// A coinductive cycle holds. An inductive cycle has no proof. Any other cycle is not decided, and counts as an overflow. In
-/// coherence an inductive cycle counts as an overflow too, since a wrong `None` would be unsound there.
-pub(crate) fn cycle_certainty(mode: TypingMode, kind: PathKind) -> Option<Certainty>
-    ensures { result ≡ cycle_certainty mode kind }
+/// A coinductive cycle holds. Any other is not decided, and counts as an overflow. Outside coherence rustc refuses an inductive
+/// one, but no step of a frame is inductive, so there is none.
+pub(crate) fn cycle_certainty(kind: PathKind) -> Certainty
+    ensures { result ≡ cycle_certainty kind }
 {
     match kind {
-        PathKind::Coinductive => Some(Certainty::Yes),
-        PathKind::Unknown | PathKind::ForcedAmbiguity => {
-            Some(Certainty::Maybe(MaybeCause::Overflow))
+        PathKind::Coinductive => Certainty::Yes,
+        PathKind::Inductive | PathKind::Unknown | PathKind::ForcedAmbiguity => {
+            Certainty::Maybe(MaybeCause::Overflow)
         }
-        PathKind::Inductive => match mode {
-            TypingMode::Coherence => Some(Certainty::Maybe(MaybeCause::Overflow)),
-            TypingMode::PostAnalysis => None,
-        },
     }
 }
 

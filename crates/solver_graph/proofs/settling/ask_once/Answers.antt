@@ -94,7 +94,7 @@ returns-in-Err-clause-unsure g c = λ e. inl (c.in-Err.ensures.faults.not_plain 
 pub returns-in-Err-clause-refused : goal.returns-in-Err-clause-refused
 returns-in-Err-clause-refused g c = λ e.
     let a = c.in-Err.ensures.refusal.answer (ap Err (c.read_error.ensures.refused e)) in
-    (a.0, a.1.found, a.2)
+    (a.0, a.1.found, a.2, c.in-Err.ensures.refusal.no_proof (ap Err (c.read_error.ensures.refused e)))
 
 pub returns-in-Err-clause-kept : goal.returns-in-Err-clause-kept
 returns-in-Err-clause-kept g c = λ e.
